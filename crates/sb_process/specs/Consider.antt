@@ -1,0 +1,77 @@
+-- One consideration of a rule.
+use Rattle.std.specs.Prelude.{ℕ, Bool, true, false, List, [], ◌∷◌, ◌++◌, Option, Some, None, Result, Ok, Err}
+use Rattle.sb_value.specs.declared.value.Value.{Value}
+use Rattle.sb_value.specs.declared.change.Change.{Change}
+use Rattle.sb_value.specs.declared.net.Transition.{Transition}
+use Rattle.sb_value.specs.declared.lock.Mode.{Mode}
+use Rattle.sb_value.specs.declared.refusal.Refusal.{Refusal}
+use Rattle.sb_value.specs.declared.refusal.Refusal.TheVariants.{Locked}
+use Rattle.sb_value.specs.Table.{name_at}
+use Rattle.sb_value.specs.Locks.{first_conflict, with_locks}
+use Rattle.sb_check.specs.declared.tree.Query.{Query}
+use Rattle.sb_check.specs.declared.tree.Statement.{Statement}
+use Rattle.sb_check.specs.declared.tree.Action.{Action}
+use Rattle.sb_check.specs.declared.tree.Action.TheVariants as action
+use Rattle.sb_catalog.specs.declared.Rule.{Rule}
+use Rattle.sb_eval.specs.Meaning.{has_row}
+use Rattle.sb_eval.specs.Statement.{query_locks, statement_locks, condition_rows, statement_changes}
+use Rattle.sb_process.specs.Setting.{Setting, Progress, rule_tables, marked, seen_with}
+
+-- the locks are asked for; what follows is done with them, and not at all where a table conflicts
+abbrev pub with_request : {A : Type 0} → Setting → Progress → List (ℕ × Mode) → (Progress → Result A Refusal) → Result A Refusal
+with_request setting progress request next =
+    elim (first_conflict progress.locks setting.who.session request) [
+      | Some table ↦ Err (Locked (name_at setting.base table))
+      | None ↦ next (record progress { locks = with_locks progress.locks setting.who.session request })
+    ]
+
+abbrev pub with_changes : Progress → Result (List Change) Refusal → Result Progress Refusal
+with_changes progress (Err refusal) = Err refusal
+with_changes progress (Ok changes) = Ok (record progress { changes = progress.changes ++ changes })
+
+-- a statement is requested and evaluated over the tables as they are seen now; its changes are appended
+abbrev pub run_statement : Setting → Transition → Statement → Progress → Result Progress Refusal
+run_statement setting tables statement progress =
+    with_request setting progress (statement_locks statement) (λ p. with_changes p (statement_changes (seen_with setting tables p) statement))
+
+-- how a rule's actions end
+pub data Ending : Type 0 where
+  ran : Progress → Ending
+  rolled_back : Ending
+  refused : Refusal → Ending
+
+abbrev pub run_actions : Setting → Transition → List Action → Progress → Ending
+run_actions setting tables [] progress = ran progress
+run_actions setting tables (action.Rollback ∷ actions) progress = rolled_back
+run_actions setting tables (action.Change statement ∷ actions) progress =
+    elim (run_statement setting tables statement progress) [
+      | Err refusal ↦ refused refusal
+      | Ok p ↦ run_actions setting tables actions p
+    ]
+
+-- whether the condition is true, and the progress with its locks
+abbrev pub test_rows : Progress → Result (List (List Value)) Refusal → Result (Bool × Progress) Refusal
+test_rows progress (Err refusal) = Err refusal
+test_rows progress (Ok rows) = Ok (has_row rows, progress)
+
+abbrev pub test_condition : Setting → Transition → Option Query → Progress → Result (Bool × Progress) Refusal
+test_condition setting tables None progress = Ok (true, progress)
+test_condition setting tables (Some q) progress =
+    with_request setting progress (query_locks q) (λ p. test_rows p (condition_rows (seen_with setting tables p) q))
+
+pub data Considered : Type 0 where
+  was_false : Progress → Considered
+  was_true : Ending → Considered
+  was_refused : Refusal → Considered
+
+-- the transition tables are taken and stay; the mark is set; then the condition and, where it is true, the actions
+abbrev pub consider : Setting → Rule → Progress → Considered
+consider setting rule progress =
+    let tables = rule_tables progress rule in
+    elim (test_condition setting tables rule.condition (marked rule progress)) [
+      | Err refusal ↦ was_refused refusal
+      | Ok tested ↦ elim tested.0 [
+        | true ↦ was_true (run_actions setting tables rule.actions tested.1)
+        | false ↦ was_false tested.1
+      ]
+    ]

@@ -1,0 +1,107 @@
+-- What a resolved command does, and its reply.
+use Rattle.std.specs.Prelude.{ℕ, Bool, true, false, ◌&&◌, ◌==◌, List, [], ◌++◌, map, length, Some, None, Result, Ok, Err}
+use Rattle.sb_value.specs.declared.value.Value.{Value}
+use Rattle.sb_value.specs.declared.change.Change.{Change}
+use Rattle.sb_value.specs.declared.lock.Mode.{Mode}
+use Rattle.sb_value.specs.declared.refusal.Verdict.{Verdict}
+use Rattle.sb_value.specs.declared.refusal.Refusal.{Refusal}
+use Rattle.sb_value.specs.declared.refusal.Refusal.TheVariants.{Locked}
+use Rattle.sb_value.specs.Table.{name_at}
+use Rattle.sb_value.specs.Locks.{first_conflict, with_locks}
+use Rattle.sb_check.specs.declared.tree.Query.{Query}
+use Rattle.sb_check.specs.declared.tree.Statement.{Statement}
+use Rattle.sb_eval.specs.Seen.{no_transition}
+use Rattle.sb_eval.specs.Statement.{query_locks, statement_locks, select_rows, statement_changes}
+use Rattle.sb_process.specs.Setting.{Progress, seen_with}
+use Rattle.sb_process.specs.Process.{Processing, process}
+use Rattle.sb_process.specs.declared.Outcome.{Outcome}
+use Rattle.sb_process.specs.declared.Outcome.TheVariants.{Done, ByRule, ByError, ByLimit}
+use Rattle.sb_tenant.specs.declared.Reply.{Reply}
+use Rattle.sb_tenant.specs.declared.Reply.TheVariants as reply
+use Rattle.sb_tenant.specs.State.{State, closed, idle, active, Catalog, with_session, setting_of, progress_of, with_progress, rolled_back, committed}
+use Rattle.sb_tenant.specs.Catalog.{with_table, without_table, with_rule, without_rule, with_active, with_ruleset, without_ruleset, with_members, is_active, is_member, rule_name}
+use Rattle.sb_tenant.specs.Resolved.{Resolved, open_session, end_session, begin, commit, rollback, process_rules, process_ruleset, process_rule, create_table, drop_table, create_rule, drop_rule, activate_rule, deactivate_rule, create_ruleset, drop_ruleset, add_rules, del_rules, select, change}
+
+-- ---- statements
+
+abbrev pub reply_rows : Result (List (List Value)) Refusal → Reply
+reply_rows (Err refusal) = reply.No refusal
+reply_rows (Ok rows) = reply.Rows rows
+
+abbrev pub select_seen : ℕ → State → ℕ → Query → Progress → State × Reply
+select_seen tenant state s q progress =
+    (with_progress state s progress, reply_rows (select_rows (seen_with (setting_of tenant state s) no_transition progress) q))
+
+-- a refused statement keeps its locks
+abbrev pub change_seen : State → ℕ → Progress → Result (List Change) Refusal → State × Reply
+change_seen state s progress (Err refusal) = (with_progress state s progress, reply.No refusal)
+change_seen state s progress (Ok changes) =
+    (with_progress state s (record progress { changes = progress.changes ++ changes }), reply.Count (length changes))
+
+-- the locks are asked for first; a conflict takes none
+abbrev pub with_request : State → ℕ → List (ℕ × Mode) → (Progress → State × Reply) → State × Reply
+with_request state s request next =
+    elim (first_conflict state.locks s request) [
+      | Some table ↦ (state, reply.No (Locked (name_at state.catalog.tables table)))
+      | None ↦ next (record (progress_of state s) { locks = with_locks state.locks s request })
+    ]
+
+abbrev pub perform_change : ℕ → State → ℕ → Statement → Progress → State × Reply
+perform_change tenant state s statement progress =
+    change_seen state s progress (statement_changes (seen_with (setting_of tenant state s) no_transition progress) statement)
+
+-- ---- assertion points
+
+abbrev pub named : Catalog → List (ℕ × Verdict) → List (List ℕ × Verdict)
+named catalog trace = map (λ v. (rule_name catalog v.0, v.1)) trace
+
+abbrev pub reply_of : Catalog → Outcome → List (List ℕ × Verdict) → Reply
+reply_of catalog Done trace = reply.Done trace
+reply_of catalog (ByRule r) trace = reply.ByRule (rule_name catalog r) trace
+reply_of catalog (ByError r refusal) trace = reply.ByError (rule_name catalog r) refusal trace
+reply_of catalog ByLimit trace = reply.ByLimit trace
+
+-- each outcome but Done rolls back
+abbrev pub stands_after : State → ℕ → (State → State) → Outcome → Progress → State
+stands_after state s finish Done progress = finish (with_progress state s progress)
+stands_after state s finish (ByRule r) progress = rolled_back state s
+stands_after state s finish (ByError r refusal) progress = rolled_back state s
+stands_after state s finish ByLimit progress = rolled_back state s
+
+abbrev pub after_processing : State → ℕ → (State → State) → Processing → State × Reply
+after_processing state s finish p =
+    (stands_after state s finish p.outcome p.progress, reply_of state.catalog p.outcome (named state.catalog p.trace))
+
+abbrev pub process_at : ℕ → ℕ → State → ℕ → (ℕ → Bool) → (State → State) → State × Reply
+process_at tenant bound state s eligible finish =
+    after_processing state s finish (process bound (setting_of tenant state s) eligible (progress_of state s))
+
+abbrev pub stays : State → State
+stays state = state
+
+-- ---- all commands
+
+abbrev pub defined : State → Catalog → State × Reply
+defined state catalog = (record state { catalog = catalog }, reply.Ok)
+
+abbrev pub perform : ℕ → ℕ → State → ℕ → Resolved → State × Reply
+perform tenant bound state s open_session = (with_session state s idle, reply.Ok)
+perform tenant bound state s end_session = (with_session (rolled_back state s) s closed, reply.Ok)
+perform tenant bound state s begin = (with_session state s (active [] (λ id. 0)), reply.Ok)
+perform tenant bound state s commit = process_at tenant bound state s (is_active state.catalog) (λ after. committed after s)
+perform tenant bound state s rollback = (rolled_back state s, reply.Ok)
+perform tenant bound state s process_rules = process_at tenant bound state s (is_active state.catalog) stays
+perform tenant bound state s (process_ruleset name) = process_at tenant bound state s (λ id. is_active state.catalog id && is_member state.catalog name id) stays
+perform tenant bound state s (process_rule r) = process_at tenant bound state s (λ id. (id == r) && is_active state.catalog id) stays
+perform tenant bound state s (create_table name columns) = defined state (with_table state.catalog name columns)
+perform tenant bound state s (drop_table id) = defined state (without_table state.catalog id)
+perform tenant bound state s (create_rule new) = defined state (with_rule state.catalog new)
+perform tenant bound state s (drop_rule id) = defined state (without_rule state.catalog id)
+perform tenant bound state s (activate_rule id) = defined state (with_active state.catalog id true)
+perform tenant bound state s (deactivate_rule id) = defined state (with_active state.catalog id false)
+perform tenant bound state s (create_ruleset name) = defined state (with_ruleset state.catalog name)
+perform tenant bound state s (drop_ruleset name) = defined state (without_ruleset state.catalog name)
+perform tenant bound state s (add_rules name ids) = defined state (with_members state.catalog name ids true)
+perform tenant bound state s (del_rules name ids) = defined state (with_members state.catalog name ids false)
+perform tenant bound state s (select q) = with_request state s (query_locks q) (select_seen tenant state s q)
+perform tenant bound state s (change statement) = with_request state s (statement_locks statement) (perform_change tenant state s statement)

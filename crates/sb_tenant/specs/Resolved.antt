@@ -1,0 +1,55 @@
+-- Commands whose names are resolved, and what a language of commands has to give.
+use Rattle.std.specs.Prelude.{ℕ, List, Option, Result}
+use Rattle.sb_value.specs.declared.value.ColumnDefinition.{ColumnDefinition}
+use Rattle.sb_value.specs.declared.net.Triggers.{Triggers}
+use Rattle.sb_value.specs.declared.refusal.Refusal.{Refusal}
+use Rattle.sb_check.specs.declared.tree.Query.{Query}
+use Rattle.sb_check.specs.declared.tree.Statement.{Statement}
+use Rattle.sb_check.specs.declared.tree.Action.{Action}
+use Rattle.sb_tenant.specs.State.{Catalog}
+
+-- a rule as a command gives it
+pub record NewRule : Type 0 where
+  pub name : List ℕ
+  pub table : ℕ
+  pub triggers : Triggers
+  pub condition : Option Query
+  pub actions : List Action
+  pub precedes : List ℕ
+  pub follows : List ℕ
+
+pub data Resolved : Type 0 where
+  open_session : Resolved
+  end_session : Resolved
+  begin : Resolved
+  commit : Resolved
+  rollback : Resolved
+  process_rules : Resolved
+  process_ruleset : List ℕ → Resolved
+  process_rule : ℕ → Resolved
+  create_table : List ℕ → List ColumnDefinition → Resolved
+  drop_table : ℕ → Resolved
+  create_rule : NewRule → Resolved
+  drop_rule : ℕ → Resolved
+  activate_rule : ℕ → Resolved
+  deactivate_rule : ℕ → Resolved
+  create_ruleset : List ℕ → Resolved
+  drop_ruleset : List ℕ → Resolved
+  add_rules : List ℕ → List ℕ → Resolved
+  del_rules : List ℕ → List ℕ → Resolved
+  select : Query → Resolved
+  change : Statement → Resolved
+
+-- what a command asks of its session
+pub data Class : Type 0 where
+  opens : Class
+  ends : Class
+  begins : Class
+  defines : Class
+  works : Class
+
+-- the command of a text, if it has one; its class; and the walk, which gives the first refusal or the resolved command
+pub record Language (C : Type 0) : Type 0 where
+  pub command_of : List ℕ → Option C
+  pub class_of : C → Class
+  pub walk : Catalog → C → Result Resolved Refusal

@@ -1,0 +1,97 @@
+-- The state of a tenant.
+use Rattle.std.specs.Prelude.{ℕ, Bool, true, false, not, ◌==◌, ◌&&◌, List, [], filter, replicate, slice_get, slice_set, flat_map, unwrap_or}
+use Rattle.std.specs.List.{list_any}
+use Rattle.sb_value.specs.declared.change.Change.{Change}
+use Rattle.sb_value.specs.Table.{Entry, after_all}
+use Rattle.sb_value.specs.Locks.{Locks, no_locks, released, sessions}
+use Rattle.sb_catalog.specs.declared.Rule.{Rule}
+use Rattle.sb_process.specs.Setting.{Setting, Progress}
+use Rattle.sb_tenant.specs.Limits.{session_count}
+
+-- closed; open with no transaction; or with one: its changes, and a mark for each rule
+pub data Session : Type 0 where
+  closed : Session
+  idle : Session
+  active : List Change → (ℕ → ℕ) → Session
+
+-- what has a name: tables with their committed rows, rules in order of creation, rulesets; and the pairs of precedence
+pub record Catalog : Type 0 where
+  pub tables : List Entry
+  pub rules : List Rule
+  pub rulesets : List (List ℕ × List Bool)
+  pub pairs : List (ℕ × ℕ)
+
+pub record State : Type 0 where
+  pub catalog : Catalog
+  pub locks : Locks
+  pub sessions : List Session
+  -- how many steps were made
+  pub steps : ℕ
+
+abbrev pub opening : State
+opening = record {
+  catalog = record { tables = []; rules = []; rulesets = []; pairs = [] };
+  locks = no_locks;
+  sessions = replicate session_count closed;
+  steps = 0;
+}
+
+abbrev pub session_at : State → ℕ → Session
+session_at state s = unwrap_or (slice_get state.sessions s) closed
+
+abbrev pub with_session : State → ℕ → Session → State
+with_session state s session = record state { sessions = slice_set state.sessions s session }
+
+abbrev pub is_open : Session → Bool
+is_open closed = false
+is_open idle = true
+is_open (active changes marks) = true
+
+abbrev pub has_transaction : Session → Bool
+has_transaction closed = false
+has_transaction idle = false
+has_transaction (active changes marks) = true
+
+abbrev pub changes_of : Session → List Change
+changes_of closed = []
+changes_of idle = []
+changes_of (active changes marks) = changes
+
+abbrev pub marks_of : Session → ℕ → ℕ
+marks_of closed id = 0
+marks_of idle id = 0
+marks_of (active changes marks) id = marks id
+
+abbrev pub another_has_transaction : State → ℕ → Bool
+another_has_transaction state s = list_any (λ o. not (o == s) && has_transaction (session_at state o)) sessions
+
+-- the tables seen: the committed ones with the changes of every transaction, since one session at most has changed a table
+abbrev pub tables_without : State → ℕ → List Entry
+tables_without state s = after_all (flat_map (λ o. changes_of (session_at state o)) (filter (λ o. not (o == s)) sessions)) state.catalog.tables
+
+abbrev pub tables_seen : State → List Entry
+tables_seen state = after_all (flat_map (λ o. changes_of (session_at state o)) sessions) state.catalog.tables
+
+abbrev pub setting_of : ℕ → State → ℕ → Setting
+setting_of tenant state s = record {
+  who = record { tenant = tenant; session = s };
+  rules = state.catalog.rules;
+  pairs = state.catalog.pairs;
+  base = tables_without state s;
+}
+
+abbrev pub progress_of : State → ℕ → Progress
+progress_of state s = record { changes = changes_of (session_at state s); marks = marks_of (session_at state s); locks = state.locks }
+
+-- the transaction goes on as the progress has it
+abbrev pub with_progress : State → ℕ → Progress → State
+with_progress state s progress = record (with_session state s (active progress.changes progress.marks)) { locks = progress.locks }
+
+-- the session without a transaction: its changes are dropped and its locks released
+abbrev pub rolled_back : State → ℕ → State
+rolled_back state s = record (with_session state s idle) { locks = released state.locks s }
+
+-- its changes are applied to the committed tables
+abbrev pub committed : State → ℕ → State
+committed state s =
+    record (rolled_back state s) { catalog = record state.catalog { tables = after_all (changes_of (session_at state s)) state.catalog.tables } }

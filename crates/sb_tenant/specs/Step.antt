@@ -1,0 +1,60 @@
+-- One step of a tenant: a line of a session.
+use Rattle.std.specs.Prelude.{ℕ, ◌+◌, Bool, true, false, not, ◌&&◌, nat_le, List, Option, Some, None, Ok, Err, codes}
+use Rattle.sb_value.specs.declared.refusal.Refusal.{Refusal}
+use Rattle.sb_value.specs.declared.refusal.Refusal.TheVariants as refusal
+use Rattle.sb_tenant.specs.declared.Reply.{Reply}
+use Rattle.sb_tenant.specs.declared.Reply.TheVariants.{No}
+use Rattle.sb_tenant.specs.declared.Answer.{Answer}
+use Rattle.sb_tenant.specs.Limits.{trail_limit}
+use Rattle.sb_tenant.specs.State.{State, session_at, is_open, has_transaction, another_has_transaction}
+use Rattle.sb_value.specs.Name.{same_name}
+use Rattle.sb_tenant.specs.Resolved.{Language, Class, opens, ends, begins, defines, works}
+use Rattle.sb_tenant.specs.Perform.{perform}
+
+-- the line `end` of an open session always has a place
+abbrev pub is_end_of_open : State → ℕ → List ℕ → Bool
+is_end_of_open state s line = is_open (session_at state s) && same_name line (codes "end")
+
+abbrev pub is_full_for : State → ℕ → List ℕ → Bool
+is_full_for state s line = nat_le trail_limit state.steps && not (is_end_of_open state s line)
+
+-- the session's refusals, in order: not open, already open, in a transaction, without one, another's transaction
+abbrev pub first_of : Bool → Refusal → Option Refusal → Option Refusal
+first_of true r others = Some r
+first_of false r others = others
+
+abbrev pub session_refusal : Class → State → ℕ → Option Refusal
+session_refusal opens state s = first_of (is_open (session_at state s)) refusal.AlreadyOpen None
+session_refusal ends state s = first_of (not (is_open (session_at state s))) refusal.NotOpen None
+session_refusal begins state s =
+    first_of (not (is_open (session_at state s))) refusal.NotOpen (first_of (has_transaction (session_at state s)) refusal.InTransaction None)
+session_refusal defines state s =
+    first_of (not (is_open (session_at state s))) refusal.NotOpen
+    (first_of (has_transaction (session_at state s)) refusal.InTransaction (first_of (another_has_transaction state s) refusal.Busy None))
+session_refusal works state s =
+    first_of (not (is_open (session_at state s))) refusal.NotOpen (first_of (not (has_transaction (session_at state s))) refusal.NoTransaction None)
+
+-- the number of steps goes up by one and is the answer's number
+abbrev pub numbered : State × Reply → State × Answer
+numbered r = let n = r.0.steps + 1 in (record r.0 { steps = n }, record { number = Some n; reply = r.1 })
+
+module _ {C : Type 0} (language : Language C) (tenant bound : ℕ) where
+  abbrev pub reply_to : State → ℕ → List ℕ → State × Reply
+  reply_to state s line =
+      elim (language.command_of line) [
+        | None ↦ (state, No refusal.Syntax)
+        | Some command ↦ elim (session_refusal (language.class_of command) state s) [
+          | Some r ↦ (state, No r)
+          | None ↦ elim (language.walk state.catalog command) [
+            | Err r ↦ (state, No r)
+            | Ok resolved ↦ perform tenant bound state s resolved
+          ]
+        ]
+      ]
+
+  abbrev pub step : State → ℕ → List ℕ → State × Answer
+  step state s line =
+      elim (is_full_for state s line) [
+        | true ↦ (state, record { number = None; reply = No refusal.TrailFull })
+        | false ↦ numbered (reply_to state s line)
+      ]

@@ -1,0 +1,84 @@
+-- The table of net effects on small lists, by computation.
+use Rattle.std.specs.Prelude.{◌≡◌, ℕ, true, false, List, [], ◌∷◌, Some, None, refl, pos}
+use Rattle.sb_value.specs.declared.value.Value.{Value}
+use Rattle.sb_value.specs.declared.value.Value.TheVariants.{Int}
+use Rattle.sb_value.specs.declared.change.Change.{Change}
+use Rattle.sb_value.specs.declared.change.Kind.TheVariants as kind
+use Rattle.sb_value.specs.declared.net.Net.TheVariants as net
+use Rattle.sb_value.specs.declared.net.Triggers.{Triggers}
+use Rattle.sb_value.specs.Columns.{set_of}
+use Rattle.sb_value.specs.NetEffect.{net_effect, is_triggered, transition_tables, tuples_of}
+use Rattle.sb_value.specs.Order.{precedes, chosen}
+use Rattle.sb_value.specs.Log.{Log, empty_log, appended, records_of_kind, records_of_tuple, mark_at, forgotten}
+use Rattle.sb_value.specs.declared.id.Who.{Who}
+
+abbrev row : ℕ → List Value
+row n = Int (pos n) ∷ []
+
+abbrev inserted : ℕ → ℕ → Change
+inserted x n = record { tenant = 0; session = 0; table = 0; tuple = x; kind = kind.Inserted; old = None; new = Some (row n); columns = set_of [] }
+
+abbrev deleted : ℕ → ℕ → Change
+deleted x n = record { tenant = 0; session = 0; table = 0; tuple = x; kind = kind.Deleted; old = Some (row n); new = None; columns = set_of [] }
+
+abbrev updated : ℕ → ℕ → ℕ → List ℕ → Change
+updated x n m places = record { tenant = 0; session = 0; table = 0; tuple = x; kind = kind.Updated; old = Some (row n); new = Some (row m); columns = set_of places }
+
+pub none : net_effect (inserted 2 1 ∷ []) 0 1 ≡ None
+none = refl
+
+pub insert_delete : net_effect (inserted 1 5 ∷ updated 1 5 6 (0 ∷ []) ∷ deleted 1 6 ∷ []) 0 1 ≡ None
+insert_delete = refl
+
+pub insert_update : net_effect (inserted 1 5 ∷ updated 1 5 6 (0 ∷ []) ∷ []) 0 1 ≡ Some (net.Inserted (row 6))
+insert_update = refl
+
+pub update_delete : net_effect (updated 1 5 6 (0 ∷ []) ∷ deleted 1 6 ∷ []) 0 1 ≡ Some (net.Deleted (row 5))
+update_delete = refl
+
+pub delete_alone : net_effect (deleted 1 6 ∷ []) 0 1 ≡ Some (net.Deleted (row 6))
+delete_alone = refl
+
+pub update_update : net_effect (updated 1 5 6 (0 ∷ []) ∷ updated 2 1 1 (3 ∷ []) ∷ updated 1 6 7 (2 ∷ []) ∷ []) 0 1 ≡ Some (net.Updated (row 5) (row 7) (set_of (0 ∷ 2 ∷ [])))
+update_update = refl
+
+pub rising : tuples_of (updated 7 1 2 [] ∷ inserted 9 1 ∷ updated 3 1 2 [] ∷ updated 7 2 3 [] ∷ []) 0 ≡ 3 ∷ 7 ∷ 9 ∷ []
+rising = refl
+
+abbrev on_column_0 : Triggers
+on_column_0 = record { inserted = false; deleted = false; updated = false; columns = set_of (0 ∷ []) }
+
+pub other_column : is_triggered on_column_0 0 (updated 1 1 1 (1 ∷ []) ∷ updated 2 2 2 (1 ∷ []) ∷ []) ≡ false
+other_column = refl
+
+pub listed_column : (transition_tables on_column_0 0 (updated 1 1 1 (0 ∷ []) ∷ updated 1 1 1 (1 ∷ []) ∷ updated 2 2 2 (1 ∷ []) ∷ [])).old_updated ≡ row 1 ∷ []
+listed_column = refl
+
+-- a pair leads from 1 to 3 and one from 3 to 0: so 1 precedes 0, though 3 is not in the set
+pub through_another : chosen ((2, 0) ∷ (3, 0) ∷ (1, 3) ∷ []) (0 ∷ 1 ∷ []) ≡ Some 1
+through_another = refl
+
+pub earliest : chosen ((2, 0) ∷ []) (0 ∷ 1 ∷ 2 ∷ []) ≡ Some 1
+earliest = refl
+
+pub cycle : precedes ((1, 0) ∷ (2, 1) ∷ (0, 2) ∷ []) 0 0 ≡ true
+cycle = refl
+
+-- a log of three changes of two tenants
+abbrev one_log : Log
+one_log = appended (appended (appended empty_log (inserted 1 5)) (record (inserted 1 5) { tenant = 8 })) (updated 1 5 6 (0 ∷ []))
+
+abbrev session_of : ℕ → Who
+session_of tenant = record { tenant = tenant; session = 0 }
+
+pub by_tuple : records_of_tuple (session_of 0) 0 1 0 one_log ≡ (2, updated 1 5 6 (0 ∷ [])) ∷ (0, inserted 1 5) ∷ []
+by_tuple = refl
+
+pub by_kind : records_of_kind (session_of 8) 0 kind.Inserted 0 one_log ≡ (1, record (inserted 1 5) { tenant = 8 }) ∷ []
+by_kind = refl
+
+pub mark : mark_at (session_of 0) one_log 2 ≡ 1
+mark = refl
+
+pub after_forget : (forgotten (session_of 8) one_log).records ≡ (0, inserted 1 5) ∷ (2, updated 1 5 6 (0 ∷ [])) ∷ []
+after_forget = refl

@@ -1,0 +1,55 @@
+-- Laws of net effects and of the order, as statements.
+use Rattle.std.specs.Prelude.{◌≡◌, ℕ, Bool, true, false, ◌&&◌, List, [], ◌∷◌, ◌++◌, IsTrue, IsFalse, ◌↔◌}
+use Rattle.sb_value.specs.NetEffect.{history, net_effect, then_net, has_update, is_triggered}
+use Rattle.sb_value.specs.Table.{Entry, table_at, IsTable, IsProper}
+use Rattle.sb_value.specs.Order.{Precedes, precedes}
+use Rattle.sb_value.specs.declared.change.Change.{Change}
+use Rattle.sb_value.specs.declared.change.Kind.{Kind}
+use Rattle.sb_value.specs.declared.change.Kind.TheVariants.{Inserted, Deleted, Updated}
+use Rattle.sb_value.specs.declared.net.Triggers.{Triggers}
+
+-- what may come next on one tuple: nothing after its delete, and its insert after nothing
+abbrev pub may_follow : Kind → Kind → Bool
+may_follow Inserted Inserted = false
+may_follow Inserted Updated = true
+may_follow Inserted Deleted = true
+may_follow Updated Inserted = false
+may_follow Updated Updated = true
+may_follow Updated Deleted = true
+may_follow Deleted next = false
+
+-- the changes of one tuple, as a proper list has them
+abbrev pub is_life : List Change → Bool
+is_life [] = true
+is_life (c ∷ []) = true
+is_life (c ∷ d ∷ ds) = may_follow c.kind d.kind && is_life (d ∷ ds)
+
+-- the net effect of two lists, one after the other, is the two net effects composed
+abbrev pub NetEffectsCompose : Type 0
+NetEffectsCompose =
+    (xs ys : List Change) (table tuple : ℕ) → IsTrue (is_life (history (xs ++ ys) table tuple)) →
+    net_effect (xs ++ ys) table tuple ≡ then_net (net_effect xs table tuple) (net_effect ys table tuple)
+
+-- whether a change is one of the triggering operations
+abbrev pub kind_triggers : Kind → Triggers → Change → Bool
+kind_triggers Inserted triggers c = triggers.inserted
+kind_triggers Deleted triggers c = triggers.deleted
+kind_triggers Updated triggers c = has_update triggers c.columns
+
+-- a rule that a list does not trigger and the list with one more change does has an operation of that change
+abbrev pub LastChangeTriggers : Type 0
+LastChangeTriggers =
+    (triggers : Triggers) (table : ℕ) (xs : List Change) (c : Change) →
+    ((tuple : ℕ) → IsTrue (is_life (history (xs ++ c ∷ []) table tuple))) →
+    IsFalse (is_triggered triggers table xs) → IsTrue (is_triggered triggers table (xs ++ c ∷ [])) →
+    (c.table ≡ table) × IsTrue (kind_triggers c.kind triggers c)
+
+-- the test is the transitive closure of the pairs
+abbrev pub PrecedesIsClosure : Type 0
+PrecedesIsClosure = (pairs : List (ℕ × ℕ)) (a b : ℕ) → Precedes pairs a b ↔ IsTrue (precedes pairs a b)
+
+-- in a proper list the changes of one tuple are: its insert first, then updates, its delete last
+abbrev pub ProperListsHaveLives : Type 0
+ProperListsHaveLives =
+    (tables : List Entry) (changes : List Change) (table tuple : ℕ) → IsTable (table_at tables table) → IsProper tables changes →
+    IsTrue (is_life (history changes table tuple))

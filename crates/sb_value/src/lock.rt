@@ -1,0 +1,8 @@
+//! How a table is locked.
+
+/// Whether a statement reads a table or writes it.
+#[derive(Clone, Copy, Debug, PartialEq, Eq)]
+pub enum Mode {
+    Read,
+    Write,
+}
