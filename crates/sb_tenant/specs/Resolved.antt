@@ -3,7 +3,7 @@ use Rattle.std.specs.Prelude.{ℕ, List, Option, Result}
 use Rattle.sb_value.specs.declared.value.ColumnDefinition.{ColumnDefinition}
 use Rattle.sb_value.specs.declared.net.Triggers.{Triggers}
 use Rattle.sb_value.specs.declared.refusal.Refusal.{Refusal}
-use Rattle.sb_check.specs.declared.tree.Query.{Query}
+use Rattle.sb_check.specs.Condition.{Query}
 use Rattle.sb_check.specs.declared.tree.Statement.{Statement}
 use Rattle.sb_check.specs.declared.tree.Action.{Action}
 use Rattle.sb_tenant.specs.State.{Catalog}
@@ -37,7 +37,7 @@ pub data Resolved : Type 0 where
   drop_ruleset : List ℕ → Resolved
   add_rules : List ℕ → List ℕ → Resolved
   del_rules : List ℕ → List ℕ → Resolved
-  select : Query → Resolved
+  query : Query → Resolved
   change : Statement → Resolved
 
 -- what a command asks of its session
