@@ -21,7 +21,7 @@ use Rattle.sb_eval.specs.Statement.{query_locks, statement_locks}
 use Rattle.sb_tenant.specs.Limits.{table_limit, rule_limit, ruleset_limit}
 use Rattle.sb_tenant.specs.State.{Catalog}
 use Rattle.sb_tenant.specs.Catalog.{free_rule, pairs_from}
-use Rattle.sb_tenant.specs.Resolved.{Language, Class, opens, ends, begins, defines, works, NewRule, Resolved, open_session, end_session, begin, commit, rollback, process_rules, process_ruleset, process_rule, create_table, drop_table, create_rule, drop_rule, activate_rule, deactivate_rule, create_ruleset, drop_ruleset, add_rules, del_rules, query, change}
+use Rattle.sb_tenant.specs.Resolved.{Class, opens, ends, begins, defines, works, NewRule, Resolved, open_session, end_session, begin, commit, rollback, process_rules, process_ruleset, process_rule, create_table, drop_table, create_rule, drop_rule, activate_rule, deactivate_rule, create_ruleset, drop_ruleset, add_rules, del_rules, query, change}
 
 abbrev pub rule_named : Catalog → Name → Result ℕ Refusal
 rule_named catalog name = some_or refusal.NoRule (option_map (λ r. r.id) (find (λ r. same_name r.name name) catalog.rules))
@@ -180,7 +180,3 @@ class_of (text.add_rules name rules) = defines
 class_of (text.del_rules name rules) = defines
 class_of (text.query q) = works
 class_of (text.change c) = works
-
--- the language of commands, once the grammar says which text has which command
-abbrev pub commands : (List ℕ → Option Command) → Language Command
-commands command_of = record { command_of = command_of; class_of = class_of; walk = walk }
