@@ -1,5 +1,5 @@
 -- One step of a tenant: a line of a session.
-use Rattle.std.specs.Prelude.{ℕ, ◌+◌, Bool, true, false, not, ◌&&◌, nat_le, List, Option, Some, None, Ok, Err, codes}
+use Rattle.std.specs.Prelude.{ℕ, ◌+◌, Bool, true, false, not, ◌&&◌, nat_le, List, Option, Some, None, Result, Ok, Err, codes}
 use Rattle.sb_value.specs.declared.refusal.Refusal.{Refusal}
 use Rattle.sb_value.specs.declared.refusal.Refusal.TheVariants as refusal
 use Rattle.sb_tenant.specs.declared.Reply.{Reply}
@@ -9,7 +9,7 @@ use Rattle.sb_tenant.specs.Limits.{trail_limit}
 use Rattle.sb_tenant.specs.State.{State, session_at, is_open, has_transaction, another_has_transaction}
 use Rattle.sb_value.specs.Name.{same_name}
 use Rattle.sb_syntax.specs.Tree.{Command}
-use Rattle.sb_tenant.specs.Resolved.{Class, opens, ends, begins, defines, works}
+use Rattle.sb_tenant.specs.Resolved.{Resolved, Class, opens, ends, begins, defines, works}
 use Rattle.sb_tenant.specs.Walk.{class_of, walk}
 use Rattle.sb_tenant.specs.Perform.{perform}
 
@@ -45,15 +45,14 @@ abbrev pub Language : Type 0
 Language = List ℕ → Option Command
 
 module _ (language : Language) (tenant bound : ℕ) where
+  -- a command is refused by its session, or else by its walk, or else is performed
+  abbrev pub outcome_of : State → ℕ → Option Refusal → Result Resolved Refusal → State × Reply
+  outcome_of state s (Some r) walked = (state, No r)
+  outcome_of state s None (Err r) = (state, No r)
+  outcome_of state s None (Ok resolved) = perform tenant bound state s resolved
+
   abbrev pub reply_to_command : State → ℕ → Command → State × Reply
-  reply_to_command state s command =
-      elim (session_refusal (class_of command) state s) [
-        | Some r ↦ (state, No r)
-        | None ↦ elim (walk state.catalog command) [
-          | Err r ↦ (state, No r)
-          | Ok resolved ↦ perform tenant bound state s resolved
-        ]
-      ]
+  reply_to_command state s command = outcome_of state s (session_refusal (class_of command) state s) (walk state.catalog command)
 
   abbrev pub reply_to : State → ℕ → List ℕ → State × Reply
   reply_to state s line =
