@@ -1,5 +1,5 @@
 -- What a step does to its own session and to the others.
-use Rattle.std.proofs.Common.{◌≡◌, ℕ, Bool, true, false, not, cond, ◌&&◌, ◌==◌, List, [], ◌∷◌, ◌++◌, Option, Some, None, Result, Ok, Err, refl, sym, ◌∙◌, ap}
+use Rattle.std.proofs.Common.{◌≡◌, ℕ, Bool, true, false, not, cond, ◌&&◌, ◌==◌, List, [], ◌++◌, Option, Some, None, Result, Ok, Err, refl, sym, ◌∙◌, ap}
 use Rattle.std.proofs.lemmas.Bool.{eq-eqb}
 use Rattle.sb_value.specs.declared.change.Change.{Change}
 use Rattle.sb_value.specs.declared.lock.Mode.{Mode}
@@ -20,8 +20,8 @@ use Rattle.sb_tenant.specs.declared.Reply.{Reply}
 use Rattle.sb_tenant.specs.declared.Reply.TheVariants as reply
 use Rattle.sb_value.specs.declared.refusal.Refusal.TheVariants.{Locked}
 use Rattle.sb_value.specs.declared.refusal.Refusal.TheVariants as refusal
-use Rattle.sb_tenant.specs.State.{State, Session, idle, closed, active, session_at, is_open, has_transaction, with_session, with_progress, progress_of, setting_of, rolled_back, committed}
-use Rattle.sb_tenant.specs.Resolved.{Resolved, open_session, end_session, begin, commit, rollback, process_rules, process_ruleset, process_rule, create_table, drop_table, create_rule, drop_rule, activate_rule, deactivate_rule, create_ruleset, drop_ruleset, add_rules, del_rules, query, change, Class, begins, defines, works}
+use Rattle.sb_tenant.specs.State.{State, Session, idle, closed, active, session_at, is_open, with_session, with_progress, progress_of, setting_of, rolled_back, committed}
+use Rattle.sb_tenant.specs.Resolved.{Resolved, open_session, end_session, begin, commit, rollback, process_rules, process_ruleset, process_rule, create_table, drop_table, create_rule, drop_rule, activate_rule, deactivate_rule, create_ruleset, drop_ruleset, add_rules, del_rules, query, change, begins, defines, works}
 use Rattle.sb_tenant.specs.Walk.{walk, class_of}
 use Rattle.sb_tenant.specs.Perform.{with_request, change_seen, select_seen, perform_change, stands_after, stays, process_at, perform}
 use Rattle.sb_tenant.specs.Catalog.{is_active, is_member}

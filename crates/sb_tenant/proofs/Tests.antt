@@ -1,8 +1,8 @@
 -- Facts on tests.
-use Rattle.std.proofs.Common.{◌≡◌, ℕ, Bool, true, false, ◌&&◌, not, List, codes, sym, ◌∙◌, refl, ap}
+use Rattle.std.proofs.Common.{◌≡◌, ℕ, Bool, true, false, ◌&&◌, not, List, sym, ◌∙◌, refl}
 use Rattle.std.proofs.lemmas.Bool.{true≢false}
 use Rattle.std.proofs.lemmas.Map.Text.{is_eq-slice_cmp}
-use Rattle.std.specs.Str.{bytes_eq}
+use Rattle.std.proofs.lemmas.Slice.Eq.{bytes_eq-Decides}
 use Rattle.sb_value.specs.Name.{same_name}
 
 pub no_way : {A : Type 0} → false ≡ true → A
@@ -23,3 +23,6 @@ not_true false h = refl
 pub not_false : (b : Bool) → not b ≡ false → b ≡ true
 not_false true h = refl
 not_false false h = no_way (sym h)
+
+pub same_text : (line text : List ℕ) → same_name line text ≡ true → line ≡ text
+same_text line text h = (bytes_eq-Decides line text).0 (sym (is_eq-slice_cmp line text) ∙ h)

@@ -1,6 +1,6 @@
 -- The commands that the engine handles so far. The others are refused as Syntax.
-use Rattle.std.specs.Prelude.{Bool, true, false, ◌&&◌, List, [], ◌∷◌, Option, Some, None, is_none, if◌then◌else◌}
-use Rattle.sb_syntax.specs.Tree.{Command, open_session, end_session, begin, commit, rollback, create_table, query, change, Query, select, Items, all, Filter, everything, Change, insert_rows}
+use Rattle.std.specs.Prelude.{Bool, true, false, ◌&&◌, [], ◌∷◌, Option, Some, None, is_none, if◌then◌else◌}
+use Rattle.sb_syntax.specs.Tree.{Command, open_session, end_session, begin, commit, rollback, create_table, query, change, Query, select, all, everything, Change, insert_rows}
 use Rattle.sb_syntax.specs.declared.ast.SourceReference.{SourceReference}
 use Rattle.sb_syntax.specs.declared.ast.TableReference.{TableReference}
 use Rattle.sb_syntax.specs.declared.ast.TableReference.TheVariants.{Named}

@@ -1,5 +1,5 @@
 -- Laws of trails, as statements.
-use Rattle.std.specs.Prelude.{◌≡◌, ℕ, ◌+◌, ◌≤◌, Bool, true, false, ◌==◌, List, ◌∷◌, [], ◌++◌, length, Option, Some, None, IsFalse, codes}
+use Rattle.std.specs.Prelude.{◌≡◌, ℕ, ◌+◌, ◌≤◌, Bool, true, false, ◌==◌, List, length, Option, Some, IsFalse, codes}
 use Rattle.sb_syntax.specs.Tree.{Command, open_session, end_session}
 use Rattle.sb_tenant.specs.declared.Entry.{Entry}
 use Rattle.sb_tenant.specs.State.{State, opening, session_at, is_open, open_count}
