@@ -7,7 +7,11 @@ use Rattle.sb_value.specs.declared.value.ColumnDefinition.{ColumnDefinition}
 use Rattle.sb_value.specs.declared.refusal.Refusal.{Refusal}
 use Rattle.sb_value.specs.declared.refusal.Refusal.TheVariants as refusal
 use Rattle.sb_check.specs.declared.tree.Column.{Column}
-use Rattle.sb_syntax.specs.Command.{Name, TableRef, named, inserted, deleted, old_updated, new_updated, ColumnRef, plain, qualified}
+use Rattle.sb_syntax.specs.Tree.{Name}
+use Rattle.sb_syntax.specs.declared.ast.TableReference.{TableReference}
+use Rattle.sb_syntax.specs.declared.ast.TableReference.TheVariants.{Named, Inserted, Deleted, OldUpdated, NewUpdated}
+use Rattle.sb_syntax.specs.declared.ast.ColumnReference.{ColumnReference}
+use Rattle.sb_syntax.specs.declared.ast.ColumnReference.TheVariants.{Plain, Qualified}
 
 -- the first refusal, or what follows
 abbrev pub and_then : {A B : Type 0} → Result A Refusal → (A → Result B Refusal) → Result B Refusal
@@ -28,13 +32,13 @@ abbrev pub some_or : {A : Type 0} → Refusal → Option A → Result A Refusal
 some_or e None = Err e
 some_or e (Some a) = Ok a
 
-abbrev pub same_ref : TableRef → TableRef → Bool
-same_ref (named a) (named b) = same_name a b
-same_ref inserted inserted = true
-same_ref deleted deleted = true
-same_ref old_updated old_updated = true
-same_ref new_updated new_updated = true
-same_ref a b = false
+abbrev pub same_table : TableReference → TableReference → Bool
+same_table (Named a) (Named b) = same_name a b
+same_table Inserted Inserted = true
+same_table Deleted Deleted = true
+same_table OldUpdated OldUpdated = true
+same_table NewUpdated NewUpdated = true
+same_table a b = false
 
 abbrev pub same_type : ColumnType → ColumnType → Bool
 same_type Int Int = true
@@ -44,7 +48,7 @@ same_type Text Text = true
 
 -- a source as a query sees it: its visible name and its columns
 pub record Visible : Type 0 where
-  pub name : TableRef
+  pub name : TableReference
   pub columns : List ColumnDefinition
 
 -- the sources of the queries around an expression, the innermost first
@@ -83,23 +87,23 @@ plain_column depth (sources ∷ outer) name =
     ]
 
 -- the source with that visible name, from source i on
-abbrev pub source_named : ℕ → List Visible → TableRef → Option (ℕ × List ColumnDefinition)
-source_named i [] ref = None
-source_named i (v ∷ vs) ref = if same_ref v.name ref then Some (i, v.columns) else source_named (i + 1) vs ref
+abbrev pub source_named : ℕ → List Visible → TableReference → Option (ℕ × List ColumnDefinition)
+source_named i [] table = None
+source_named i (v ∷ vs) table = if same_table v.name table then Some (i, v.columns) else source_named (i + 1) vs table
 
 abbrev pub column_of_source : ℕ → ℕ × List ColumnDefinition → Name → Result (Column × ColumnType) Refusal
 column_of_source depth s name =
     and_then (some_or refusal.NoColumn (column_in s.1 name)) (λ c. Ok (record { depth = depth; source = s.0; place = c.0 }, c.1))
 
 -- a qualified name: of the innermost place with a source of that visible name
-abbrev pub qualified_column : ℕ → Scope → TableRef → Name → Result (Column × ColumnType) Refusal
-qualified_column depth [] ref name = Err refusal.NoColumn
-qualified_column depth (sources ∷ outer) ref name =
-    elim (source_named 0 sources ref) [
-      | None ↦ qualified_column (depth + 1) outer ref name
+abbrev pub qualified_column : ℕ → Scope → TableReference → Name → Result (Column × ColumnType) Refusal
+qualified_column depth [] table name = Err refusal.NoColumn
+qualified_column depth (sources ∷ outer) table name =
+    elim (source_named 0 sources table) [
+      | None ↦ qualified_column (depth + 1) outer table name
       | Some s ↦ column_of_source depth s name
     ]
 
-abbrev pub column_named : Scope → ColumnRef → Result (Column × ColumnType) Refusal
-column_named scope (plain name) = plain_column 0 scope name
-column_named scope (qualified ref name) = qualified_column 0 scope ref name
+abbrev pub column_named : Scope → ColumnReference → Result (Column × ColumnType) Refusal
+column_named scope (Plain name) = plain_column 0 scope name
+column_named scope (Qualified table name) = qualified_column 0 scope table name

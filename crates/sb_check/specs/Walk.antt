@@ -9,27 +9,26 @@ use Rattle.sb_value.specs.declared.value.ColumnDefinition.{ColumnDefinition}
 use Rattle.sb_value.specs.declared.refusal.Refusal.{Refusal}
 use Rattle.sb_value.specs.declared.refusal.Refusal.TheVariants as refusal
 use Rattle.sb_value.specs.declared.net.Triggers.{Triggers}
+use Rattle.sb_value.specs.Name.{same_name}
 use Rattle.sb_value.specs.Table.{Entry}
-use Rattle.sb_syntax.specs.Command.{Name, TableRef, named, inserted, deleted, old_updated, new_updated, SourceRef}
-use Rattle.sb_syntax.specs.Command as text
-use Rattle.sb_check.specs.Expr.{Expr, literal, column, add, subtract, multiply}
-use Rattle.sb_check.specs.Condition.{Condition, always, disjunction, conjunction, negation, compare, compare_query, is_in, exists}
-use Rattle.sb_check.specs.declared.tree.Query.{Query}
+use Rattle.sb_syntax.specs.Tree.{Name}
+use Rattle.sb_syntax.specs.Tree as text
+use Rattle.sb_syntax.specs.declared.ast.Arithmetic.{Arithmetic}
+use Rattle.sb_syntax.specs.declared.ast.SourceReference.{SourceReference}
+use Rattle.sb_syntax.specs.declared.ast.TableReference.{TableReference}
+use Rattle.sb_syntax.specs.declared.ast.TableReference.TheVariants.{Named, Inserted, Deleted, OldUpdated, NewUpdated}
+use Rattle.sb_check.specs.Expression.{Expression, literal, column, binary}
+use Rattle.sb_check.specs.Condition.{Condition, always, disjunction, conjunction, negation, compare, is_in, exists, Operand, expression, answer, Query, select}
 use Rattle.sb_check.specs.declared.tree.Items.{Items}
 use Rattle.sb_check.specs.declared.tree.Items.TheVariants as items
 use Rattle.sb_check.specs.declared.tree.Source.{Source}
 use Rattle.sb_check.specs.declared.tree.Source.TheVariants as source
-use Rattle.sb_check.specs.declared.tree.Comparison.{Comparison}
-use Rattle.sb_check.specs.declared.tree.Comparison.TheVariants as comparison
-use Rattle.sb_check.specs.declared.tree.Operand.{Operand}
-use Rattle.sb_check.specs.declared.tree.Operand.TheVariants as operand
 use Rattle.sb_check.specs.declared.tree.Assignment.{Assignment}
 use Rattle.sb_check.specs.declared.tree.Statement.{Statement}
 use Rattle.sb_check.specs.declared.tree.Statement.TheVariants.{InsertRows, InsertQuery, Delete, Update}
 use Rattle.sb_check.specs.declared.tree.Action.{Action}
 use Rattle.sb_check.specs.declared.tree.Action.TheVariants as action
-use Rattle.sb_value.specs.Name.{same_name}
-use Rattle.sb_check.specs.Names.{and_then, in_order, required, some_or, same_ref, same_type, Visible, Scope, column_in, column_named}
+use Rattle.sb_check.specs.Names.{and_then, in_order, required, some_or, same_table, same_type, Visible, Scope, column_in, column_named}
 
 -- what a statement may name: the tables, and in a rule its table's columns and its triggers
 pub record Schema : Type 0 where
@@ -45,16 +44,15 @@ abbrev pub type_of : Value → ColumnType
 type_of (value.Int z) = Int
 type_of (value.Text t) = Text
 
-abbrev pub of_integers : (Expr → Expr → Expr) → Result (Expr × ColumnType) Refusal → Result (Expr × ColumnType) Refusal → Result (Expr × ColumnType) Refusal
-of_integers form a b =
-    and_then a (λ x. and_then b (λ y. required (same_type x.1 Int && same_type y.1 Int) refusal.BadType (Ok (form x.0 y.0, Int))))
+-- both sides are walked, and then are integers
+abbrev pub of_integers : Arithmetic → Result (Expression × ColumnType) Refusal → Result (Expression × ColumnType) Refusal → Result (Expression × ColumnType) Refusal
+of_integers op a b =
+    and_then a (λ x. and_then b (λ y. required (same_type x.1 Int && same_type y.1 Int) refusal.BadType (Ok (binary x.0 op y.0, Int))))
 
-abbrev pub walk_expr : Scope → text.Expr → Result (Expr × ColumnType) Refusal
-walk_expr scope (text.literal v) = Ok (literal v, type_of v)
-walk_expr scope (text.column c) = and_then (column_named scope c) (λ p. Ok (column p.0, p.1))
-walk_expr scope (text.add a b) = of_integers add (walk_expr scope a) (walk_expr scope b)
-walk_expr scope (text.subtract a b) = of_integers subtract (walk_expr scope a) (walk_expr scope b)
-walk_expr scope (text.multiply a b) = of_integers multiply (walk_expr scope a) (walk_expr scope b)
+abbrev pub walk_expression : Scope → text.Expression → Result (Expression × ColumnType) Refusal
+walk_expression scope (text.literal v) = Ok (literal v, type_of v)
+walk_expression scope (text.column c) = and_then (column_named scope c) (λ p. Ok (column p.0, p.1))
+walk_expression scope (text.binary a op b) = of_integers op (walk_expression scope a) (walk_expression scope b)
 
 -- ---- sources
 
@@ -69,22 +67,22 @@ transition_source schema has form =
 abbrev pub has_updates : Triggers → Bool
 has_updates triggers = triggers.updated || list_any (λ b. b) triggers.columns
 
-abbrev pub walk_table : Schema → TableRef → Result (Source × List ColumnDefinition) Refusal
-walk_table schema (named name) = and_then (table_named schema name) (λ e. Ok (source.Table e.id, e.table.columns))
-walk_table schema inserted = transition_source schema (λ t. t.inserted) source.Inserted
-walk_table schema deleted = transition_source schema (λ t. t.deleted) source.Deleted
-walk_table schema old_updated = transition_source schema has_updates source.OldUpdated
-walk_table schema new_updated = transition_source schema has_updates source.NewUpdated
+abbrev pub walk_table : Schema → TableReference → Result (Source × List ColumnDefinition) Refusal
+walk_table schema (Named name) = and_then (table_named schema name) (λ e. Ok (source.Table e.id, e.table.columns))
+walk_table schema Inserted = transition_source schema (λ t. t.inserted) source.Inserted
+walk_table schema Deleted = transition_source schema (λ t. t.deleted) source.Deleted
+walk_table schema OldUpdated = transition_source schema has_updates source.OldUpdated
+walk_table schema NewUpdated = transition_source schema has_updates source.NewUpdated
 
-abbrev pub visible_name : SourceRef → TableRef
-visible_name s = elim s.alias [ Some a ↦ named a | None ↦ s.table ]
+abbrev pub visible_name : SourceReference → TableReference
+visible_name s = elim s.alias [ Some a ↦ Named a | None ↦ s.table ]
 
 -- each source in order; its visible name is not taken in this query
-abbrev pub walk_sources : Schema → List TableRef → List SourceRef → Result (List (Source × Visible)) Refusal
+abbrev pub walk_sources : Schema → List TableReference → List SourceReference → Result (List (Source × Visible)) Refusal
 walk_sources schema taken [] = Ok []
 walk_sources schema taken (s ∷ ss) =
     and_then (walk_table schema s.table) (λ t.
-    required (not (list_any (same_ref (visible_name s)) taken)) refusal.Ambiguous
+    required (not (list_any (same_table (visible_name s)) taken)) refusal.Ambiguous
     (and_then (walk_sources schema (visible_name s ∷ taken) ss) (λ rest.
     Ok ((t.0, record { name = visible_name s; columns = t.1 }) ∷ rest))))
 
@@ -98,33 +96,28 @@ abbrev pub walk_items : Scope → List Visible → text.Items → Result (Items 
 walk_items scope sources text.all = Ok (items.All, flat_map (λ v. map (λ c. c.of) v.columns) sources)
 walk_items scope sources text.count = Ok (items.Count, Int ∷ [])
 walk_items scope sources (text.sum_of e) =
-    and_then (walk_expr scope e) (λ x. required (same_type x.1 Int) refusal.BadType (Ok (items.Sum x.0, Int ∷ [])))
+    and_then (walk_expression scope e) (λ x. required (same_type x.1 Int) refusal.BadType (Ok (items.Sum x.0, Int ∷ [])))
 walk_items scope sources (text.each_of es) =
-    and_then (in_order (walk_expr scope) es) (λ xs. Ok (items.Each (map (λ x. x.0) xs), map (λ x. x.1) xs))
+    and_then (in_order (walk_expression scope) es) (λ xs. Ok (items.Each (map (λ x. x.0) xs), map (λ x. x.1) xs))
 
 -- the sources, the items, and the condition, whose walk is given
-abbrev pub walk_with : Schema → text.Items → List SourceRef → (Scope → Result Condition Refusal) → Scope → Result Walked Refusal
-walk_with schema its sources test scope =
+abbrev pub walk_select : Schema → text.Items → List SourceReference → (Scope → Result Condition Refusal) → Scope → Result Walked Refusal
+walk_select schema its sources filter scope =
     and_then (walk_sources schema [] sources) (λ ss.
     let seen = map (λ s. s.1) ss in
     and_then (walk_items (seen ∷ scope) seen its) (λ i.
-    and_then (test (seen ∷ scope)) (λ c.
-    Ok (record { items = i.0; sources = map (λ s. s.0) ss; condition = c }, i.1))))
-
-abbrev pub comparison_of : text.Comparison → Comparison
-comparison_of text.equal = comparison.Equal
-comparison_of text.not_equal = comparison.NotEqual
-comparison_of text.less = comparison.Less
-comparison_of text.less_equal = comparison.LessEqual
-comparison_of text.greater = comparison.Greater
-comparison_of text.greater_equal = comparison.GreaterEqual
+    and_then (filter (seen ∷ scope)) (λ c.
+    Ok (select i.0 (map (λ s. s.0) ss) c, i.1))))
 
 -- a query as an operand has `count` or `sum`
-abbrev pub is_aggregate : Items → Bool
-is_aggregate items.All = false
-is_aggregate items.Count = true
-is_aggregate (items.Sum e) = true
-is_aggregate (items.Each es) = false
+abbrev pub is_aggregate : text.Items → Bool
+is_aggregate text.all = false
+is_aggregate text.count = true
+is_aggregate (text.sum_of e) = true
+is_aggregate (text.each_of es) = false
+
+abbrev pub has_aggregate : text.Query → Bool
+has_aggregate (text.select its sources filter) = is_aggregate its
 
 -- the query of `in` has exactly one column, of the type of the left side
 abbrev pub in_type : ColumnType → List ColumnType → Result Bool Refusal
@@ -132,34 +125,38 @@ in_type k [] = Err refusal.WrongCount
 in_type k (t ∷ []) = required (same_type k t) refusal.BadType (Ok true)
 in_type k (t ∷ u ∷ ts) = Err refusal.WrongCount
 
-abbrev pub membership : Result (Expr × ColumnType) Refusal → Result Walked Refusal → Result Condition Refusal
-membership a q = and_then a (λ x. and_then q (λ w. and_then (in_type x.1 w.1) (λ _. Ok (is_in x.0 w.0.items w.0.sources w.0.condition))))
+-- with `not` where it is written
+abbrev pub with_not : Bool → Condition → Condition
+with_not true c = negation c
+with_not false c = c
 
 module _ (schema : Schema) where
-  abbrev pub walk_condition : text.Condition → Scope → Result Condition Refusal
-  walk_condition text.always scope = Ok always
-  walk_condition (text.disjunction a b) scope = and_then (walk_condition a scope) (λ x. and_then (walk_condition b scope) (λ y. Ok (disjunction x y)))
-  walk_condition (text.conjunction a b) scope = and_then (walk_condition a scope) (λ x. and_then (walk_condition b scope) (λ y. Ok (conjunction x y)))
-  walk_condition (text.negation a) scope = and_then (walk_condition a scope) (λ x. Ok (negation x))
-  walk_condition (text.compare a op b) scope =
-      and_then (walk_expr scope a) (λ x. and_then (walk_expr scope b) (λ y. required (same_type x.1 y.1) refusal.BadType (Ok (compare x.0 (comparison_of op) y.0))))
-  walk_condition (text.compare_query a op its sources c) scope =
-      and_then (walk_expr scope a) (λ x. and_then (walk_with schema its sources (walk_condition c) scope) (λ w.
-      required (is_aggregate w.0.items) refusal.WrongCount (required (same_type x.1 Int) refusal.BadType
-      (Ok (compare_query x.0 (comparison_of op) w.0.items w.0.sources w.0.condition)))))
-  walk_condition (text.is_in a its sources c) scope = membership (walk_expr scope a) (walk_with schema its sources (walk_condition c) scope)
-  walk_condition (text.is_not_in a its sources c) scope =
-      and_then (membership (walk_expr scope a) (walk_with schema its sources (walk_condition c) scope)) (λ x. Ok (negation x))
-  walk_condition (text.exists its sources c) scope =
-      and_then (walk_with schema its sources (walk_condition c) scope) (λ w. Ok (exists w.0.items w.0.sources w.0.condition))
+  abbrev mutual
+    pub walk_condition : text.Condition → Scope → Result Condition Refusal
+    walk_condition (text.disjunction a b) scope = and_then (walk_condition a scope) (λ x. and_then (walk_condition b scope) (λ y. Ok (disjunction x y)))
+    walk_condition (text.conjunction a b) scope = and_then (walk_condition a scope) (λ x. and_then (walk_condition b scope) (λ y. Ok (conjunction x y)))
+    walk_condition (text.negation a) scope = and_then (walk_condition a scope) (λ x. Ok (negation x))
+    walk_condition (text.compare a op b) scope =
+        and_then (walk_expression scope a) (λ x. and_then (walk_operand b scope) (λ y. required (same_type x.1 y.1) refusal.BadType (Ok (compare x.0 op y.0))))
+    walk_condition (text.is_in a has_not q) scope =
+        and_then (walk_expression scope a) (λ x. and_then (walk_query q scope) (λ w. and_then (in_type x.1 w.1) (λ _. Ok (with_not has_not (is_in x.0 w.0)))))
+    walk_condition (text.exists q) scope = and_then (walk_query q scope) (λ w. Ok (exists w.0))
 
-  abbrev pub walk_query : text.Query → Scope → Result Walked Refusal
-  walk_query q scope = walk_with schema q.items q.sources (walk_condition q.condition) scope
+    pub walk_operand : text.Operand → Scope → Result (Operand × ColumnType) Refusal
+    walk_operand (text.expression e) scope = and_then (walk_expression scope e) (λ x. Ok (expression x.0, x.1))
+    walk_operand (text.answer q) scope = and_then (walk_query q scope) (λ w. required (has_aggregate q) refusal.WrongCount (Ok (answer w.0, Int)))
+
+    pub walk_filter : text.Filter → Scope → Result Condition Refusal
+    walk_filter text.everything scope = Ok always
+    walk_filter (text.those c) scope = walk_condition c scope
+
+    pub walk_query : text.Query → Scope → Result Walked Refusal
+    walk_query (text.select its sources filter) scope = walk_select schema its sources (walk_filter filter) scope
 
   -- ---- statements
 
   abbrev pub visible_table : Entry → Scope
-  visible_table e = (record { name = named e.name; columns = e.table.columns } ∷ []) ∷ []
+  visible_table e = (record { name = Named e.name; columns = e.table.columns } ∷ []) ∷ []
 
   -- as many as the columns, and then of their types in order
   abbrev pub fitting : List ColumnType → List ColumnDefinition → Result Bool Refusal
@@ -169,11 +166,6 @@ module _ (schema : Schema) where
       types [] cs = Ok true
       types (k ∷ ks) [] = Ok true
       types (k ∷ ks) (c ∷ cs) = required (same_type k c.of) refusal.BadType (types ks cs)
-
-  abbrev pub walk_operand : text.Operand → Scope → Result (Operand × ColumnType) Refusal
-  walk_operand (text.expr e) scope = and_then (walk_expr scope e) (λ x. Ok (operand.Expr x.0, x.1))
-  walk_operand (text.query q) scope =
-      and_then (walk_query q scope) (λ w. required (is_aggregate w.0.items) refusal.WrongCount (Ok (operand.Query w.0, Int)))
 
   abbrev pub walk_assignments : Entry → List ℕ → List text.Assignment → Result (List Assignment) Refusal
   walk_assignments e taken [] = Ok []
@@ -190,11 +182,11 @@ module _ (schema : Schema) where
       and_then (table_named schema name) (λ e. and_then (in_order (λ row. fitting (map type_of row) e.table.columns) rows) (λ _. Ok (InsertRows e.id rows)))
   walk_change (text.insert_query name q) =
       and_then (table_named schema name) (λ e. and_then (walk_query q []) (λ w. and_then (fitting w.1 e.table.columns) (λ _. Ok (InsertQuery e.id w.0))))
-  walk_change (text.delete name c) =
-      and_then (table_named schema name) (λ e. and_then (walk_condition c (visible_table e)) (λ x. Ok (Delete e.id x)))
-  walk_change (text.update name assignments c) =
+  walk_change (text.delete name filter) =
+      and_then (table_named schema name) (λ e. and_then (walk_filter filter (visible_table e)) (λ c. Ok (Delete e.id c)))
+  walk_change (text.update name assignments filter) =
       and_then (table_named schema name) (λ e. and_then (walk_assignments e [] assignments) (λ places.
-      and_then (walk_condition c (visible_table e)) (λ x. Ok (Update e.id places x))))
+      and_then (walk_filter filter (visible_table e)) (λ c. Ok (Update e.id places c))))
 
   abbrev pub walk_action : text.Action → Result Action Refusal
   walk_action (text.changes c) = and_then (walk_change c) (λ s. Ok (action.Change s))

@@ -9,38 +9,35 @@ use Rattle.sb_value.specs.declared.refusal.Refusal.{Refusal}
 use Rattle.sb_value.specs.declared.refusal.Refusal.TheVariants.{TooBig, Overflow, TooManyRows}
 use Rattle.sb_value.specs.Columns.{set_of}
 use Rattle.sb_value.specs.Table.{table_at}
-use Rattle.sb_check.specs.Condition.{Condition, always, disjunction, conjunction, negation, compare, compare_query, is_in, exists}
-use Rattle.sb_check.specs.declared.tree.Query.{Query}
+use Rattle.sb_check.specs.Condition.{Condition, always, disjunction, conjunction, negation, compare, is_in, exists, Operand, expression, answer, Query, select}
 use Rattle.sb_check.specs.declared.tree.Source.{Source}
 use Rattle.sb_check.specs.declared.tree.Source.TheVariants as source
-use Rattle.sb_check.specs.declared.tree.Operand.{Operand}
-use Rattle.sb_check.specs.declared.tree.Operand.TheVariants as operand
 use Rattle.sb_check.specs.declared.tree.Assignment.{Assignment}
 use Rattle.sb_check.specs.declared.tree.Statement.{Statement}
 use Rattle.sb_check.specs.declared.tree.Statement.TheVariants.{InsertRows, InsertQuery, Delete, Update}
 use Rattle.sb_eval.specs.Seen.{Seen, rows_in}
-use Rattle.sb_eval.specs.Meaning.{Scope, both, each, passing, value_of, only_value, holds, rows_of}
-use Rattle.sb_eval.specs.Cost.{subquery_cost, query_cost}
+use Rattle.sb_eval.specs.Meaning.{Scope, both, each, passing, holds, operand_value, rows_of}
+use Rattle.sb_eval.specs.Cost.{subquery_cost, operand_cost, query_cost}
 
 -- ---- the lock list: the tables in the order of their places in the text
 
--- the sources of the subqueries of a condition
-abbrev pub sources_of : Condition → List Source
-sources_of always = []
-sources_of (disjunction a b) = sources_of a ++ sources_of b
-sources_of (conjunction a b) = sources_of a ++ sources_of b
-sources_of (negation a) = sources_of a
-sources_of (compare a op b) = []
-sources_of (compare_query a op items sources c) = sources ++ sources_of c
-sources_of (is_in a items sources c) = sources ++ sources_of c
-sources_of (exists items sources c) = sources ++ sources_of c
+-- the sources of a query, and then those of the subqueries of its condition
+abbrev mutual
+  pub sources_of : Condition → List Source
+  sources_of always = []
+  sources_of (disjunction a b) = sources_of a ++ sources_of b
+  sources_of (conjunction a b) = sources_of a ++ sources_of b
+  sources_of (negation a) = sources_of a
+  sources_of (compare a op b) = operand_sources b
+  sources_of (is_in a q) = query_sources q
+  sources_of (exists q) = query_sources q
 
-abbrev pub query_sources : Query → List Source
-query_sources q = q.sources ++ sources_of q.condition
+  pub operand_sources : Operand → List Source
+  operand_sources (expression e) = []
+  operand_sources (answer q) = query_sources q
 
-abbrev pub operand_sources : Operand → List Source
-operand_sources (operand.Expr e) = []
-operand_sources (operand.Query q) = query_sources q
+  pub query_sources : Query → List Source
+  query_sources (select items sources c) = sources ++ sources_of c
 
 abbrev pub assignment_sources : List Assignment → List Source
 assignment_sources [] = []
@@ -81,10 +78,6 @@ row_limit = 4096
 abbrev pub row_count : Seen → Source → ℕ
 row_count seen s = length (rows_in seen s)
 
-abbrev pub operand_cost : Seen → Operand → ℕ
-operand_cost seen (operand.Expr e) = 0
-operand_cost seen (operand.Query q) = query_cost (row_count seen) q
-
 abbrev pub target_cost : Seen → ℕ → ℕ → ℕ
 target_cost seen t subqueries = length (table_at seen.tables t).rows * (1 + subqueries)
 
@@ -92,7 +85,7 @@ abbrev pub statement_cost : Seen → Statement → ℕ
 statement_cost seen (InsertRows t rows) = 0
 statement_cost seen (InsertQuery t q) = query_cost (row_count seen) q
 statement_cost seen (Delete t c) = target_cost seen t (subquery_cost (row_count seen) c)
-statement_cost seen (Update t assignments c) = target_cost seen t (sum (map (λ a. operand_cost seen a.operand) assignments) + subquery_cost (row_count seen) c)
+statement_cost seen (Update t assignments c) = target_cost seen t (sum (map (λ a. operand_cost (row_count seen) a.operand) assignments) + subquery_cost (row_count seen) c)
 
 -- ---- rows and changes
 
@@ -100,9 +93,9 @@ abbrev pub or_overflow : {A : Type 0} → Option A → Result A Refusal
 or_overflow None = Err Overflow
 or_overflow (Some a) = Ok a
 
--- the answer within the cost, or the refusal
+-- what is given within the cost, or the refusal
 abbrev pub within_cost : {A : Type 0} → ℕ → Option A → Result A Refusal
-within_cost cost answer = if nat_lt cost_limit cost then Err TooBig else or_overflow answer
+within_cost cost given = if nat_lt cost_limit cost then Err TooBig else or_overflow given
 
 abbrev pub within_rows : {A : Type 0} → (A → ℕ) → Result A Refusal → Result A Refusal
 within_rows count (Err e) = Err e
@@ -164,14 +157,10 @@ scope_of r = (r.1 ∷ []) ∷ []
 abbrev pub found : Seen → ℕ → Condition → Option (List (ℕ × List Value))
 found seen t c = passing (λ r. holds (rows_in seen) c (scope_of r)) (table_at seen.tables t).rows
 
-abbrev pub operand_value : Seen → Scope → Operand → Option Value
-operand_value seen scope (operand.Expr e) = value_of scope e
-operand_value seen scope (operand.Query q) = option_map only_value (rows_of (rows_in seen) q scope)
-
 -- the row with each assignment's value, all of them evaluated on the row as it was
 abbrev pub assigned : Seen → Scope → List Assignment → List Value → Option (List Value)
 assigned seen scope [] row = Some row
-assigned seen scope (a ∷ rest) row = both (λ v new. Some (slice_set new a.place v)) (operand_value seen scope a.operand) (assigned seen scope rest row)
+assigned seen scope (a ∷ rest) row = both (λ v new. Some (slice_set new a.place v)) (operand_value (rows_in seen) a.operand scope) (assigned seen scope rest row)
 
 abbrev pub places_of : List Assignment → List Bool
 places_of assignments = set_of (map (λ a. a.place) assignments)

@@ -8,13 +8,11 @@ use Rattle.sb_value.specs.declared.net.Triggers.{Triggers}
 use Rattle.sb_value.specs.Columns.{set_of}
 use Rattle.sb_value.specs.Table.{Entry, empty_table}
 use Rattle.sb_value.specs.Locks.{no_locks}
-use Rattle.sb_check.specs.Expr.{Expr, literal, column}
-use Rattle.sb_check.specs.Condition.{Condition, always, compare}
-use Rattle.sb_check.specs.declared.tree.Query.{Query}
-use Rattle.sb_check.specs.declared.tree.Comparison.TheVariants.{Less}
+use Rattle.sb_syntax.specs.declared.ast.Comparison.TheVariants.{Less}
+use Rattle.sb_check.specs.Expression.{Expression, literal, column}
+use Rattle.sb_check.specs.Condition.{Condition, always, compare, Query, select, expression}
 use Rattle.sb_check.specs.declared.tree.Source.{Source}
 use Rattle.sb_check.specs.declared.tree.Items.TheVariants as items
-use Rattle.sb_check.specs.declared.tree.Operand.TheVariants as operand
 use Rattle.sb_check.specs.declared.tree.Statement.{Statement}
 use Rattle.sb_check.specs.declared.tree.Statement.TheVariants.{InsertRows, Update}
 use Rattle.sb_check.specs.declared.tree.Action.{Action}
@@ -43,20 +41,20 @@ on inserted deleted updated = record { inserted = inserted; deleted = deleted; u
 abbrev pub rule_of : ℕ → List ℕ → Triggers → Option Query → List Action → Rule
 rule_of id name triggers condition actions = record { id = id; name = name; table = 0; triggers = triggers; condition = condition; actions = actions; active = true }
 
-abbrev pub a : Expr
+abbrev pub a : Expression
 a = column (record { depth = 0; source = 0; place = 0 })
 
-abbrev pub number : ℕ → Expr
+abbrev pub number : ℕ → Expression
 number n = literal (Int (pos n))
 
 abbrev pub select_a : Source → Query
-select_a s = record { items = items.Each (a ∷ []); sources = s ∷ []; condition = always }
+select_a s = select (items.Each (a ∷ [])) (s ∷ []) always
 
-abbrev pub set_a : Expr → Condition → Statement
-set_a e c = Update 0 (record { place = 0; operand = operand.Expr e } ∷ []) c
+abbrev pub set_a : Expression → Condition → Statement
+set_a e c = Update 0 (record { place = 0; operand = expression e } ∷ []) c
 
 abbrev pub below : ℕ → Condition
-below n = compare a Less (number n)
+below n = compare a Less (expression (number n))
 
 abbrev pub insert_t : ℕ → Statement
 insert_t n = InsertRows 0 (int n ∷ [])

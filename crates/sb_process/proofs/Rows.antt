@@ -2,8 +2,9 @@
 use Rattle.std.specs.Prelude.{◌≡◌, ℕ, Bool, true, false, List, [], ◌∷◌, Some, None, Ok, Err, refl, codes, ◌==◌}
 use Rattle.sb_value.specs.declared.refusal.Verdict.TheVariants as verdict
 use Rattle.sb_value.specs.Table.{table_at}
-use Rattle.sb_check.specs.Expr.{add}
-use Rattle.sb_check.specs.Condition.{always}
+use Rattle.sb_syntax.specs.declared.ast.Arithmetic.TheVariants.{Add}
+use Rattle.sb_check.specs.Expression.{binary}
+use Rattle.sb_check.specs.Condition.{always, select}
 use Rattle.sb_check.specs.declared.tree.Source.TheVariants as source
 use Rattle.sb_check.specs.declared.tree.Items.TheVariants as items
 use Rattle.sb_check.specs.declared.tree.Statement.{Statement}
@@ -23,7 +24,7 @@ after_statements setting [] p = p
 after_statements setting (s ∷ ss) p = elim (run_statement setting no_transition s p) [ Ok q ↦ after_statements setting ss q | Err e ↦ after_statements setting ss p ]
 
 abbrev pub rule_c : Rule
-rule_c = rule_of 0 (codes "c") (on true false true) (Some (record { items = items.All; sources = source.Table 0 ∷ []; condition = below 3 })) (Change (set_a (add a (number 1)) (below 3)) ∷ [])
+rule_c = rule_of 0 (codes "c") (on true false true) (Some (select items.All (source.Table 0 ∷ []) (below 3))) (Change (set_a (binary a Add (number 1)) (below 3)) ∷ [])
 
 abbrev pub counting : Setting
 counting = setting_of (rule_c ∷ []) []
@@ -68,7 +69,7 @@ abbrev pub with_u_and_i : Setting
 with_u_and_i = setting_of (rule_u ∷ rule_i ∷ []) []
 
 abbrev pub insert_then_updates : Processing
-insert_then_updates = processed with_u_and_i (insert_t 1 ∷ set_a (number 2) always ∷ set_a (add a (number 1)) always ∷ [])
+insert_then_updates = processed with_u_and_i (insert_t 1 ∷ set_a (number 2) always ∷ set_a (binary a Add (number 1)) always ∷ [])
 
 pub insert_then_updates-trace : insert_then_updates.trace ≡ (1, verdict.True) ∷ []
 insert_then_updates-trace = refl
@@ -127,7 +128,7 @@ precedence-through_untriggered = refl
 -- the transition tables stay fixed while the actions run
 abbrev pub rule_f : Rule
 rule_f = rule_of 0 (codes "f") (on true false false)
-    (Some (record { items = items.All; sources = source.Inserted ∷ []; condition = below 5 }))
+    (Some (select items.All (source.Inserted ∷ []) (below 5)))
     (Change (insert_t 9) ∷ Change (InsertQuery 1 (select_a source.Inserted)) ∷ [])
 
 pub fixed_tables : (processed (setting_of (rule_f ∷ []) []) (insert_t 1 ∷ [])).trace ≡ (0, verdict.True) ∷ (0, verdict.False) ∷ []

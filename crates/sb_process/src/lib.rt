@@ -1,22 +1,22 @@
 //! Rule processing.
 #![tactic(auto)]
 
-use sb_value::{Refusal, Verdict};
+use sb_value::{Refusal, RuleId, Verdict};
 use std::marker::Model;
 
 /// How rule processing ended.
 #[derive(Drop)]
 pub enum Outcome {
     Done,
-    ByRule(u8),
-    ByError(u8, Refusal),
+    ByRule(RuleId),
+    ByError(RuleId, Refusal),
     ByLimit,
 }
 
 /// The considered rules with their verdicts, in order.
 #[derive(Drop)]
 pub struct Trace {
-    list: Vec<(u8, Verdict)>,
+    list: Vec<(RuleId, Verdict)>,
 }
 
 impl Model for Trace {
@@ -28,6 +28,7 @@ impl Model for Trace {
     ghost view = { λ t. t.list.items };
 }
 
+/// The outcome, and the rules that were considered.
 #[derive(Drop)]
 pub struct Processed {
     pub outcome: Outcome,

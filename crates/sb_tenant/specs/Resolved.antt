@@ -1,12 +1,10 @@
--- Commands whose names are resolved, and what a language of commands has to give.
-use Rattle.std.specs.Prelude.{ℕ, List, Option, Result}
+-- Commands whose names are resolved, and what a command asks of its session.
+use Rattle.std.specs.Prelude.{ℕ, List, Option}
 use Rattle.sb_value.specs.declared.value.ColumnDefinition.{ColumnDefinition}
 use Rattle.sb_value.specs.declared.net.Triggers.{Triggers}
-use Rattle.sb_value.specs.declared.refusal.Refusal.{Refusal}
-use Rattle.sb_check.specs.declared.tree.Query.{Query}
+use Rattle.sb_check.specs.Condition.{Query}
 use Rattle.sb_check.specs.declared.tree.Statement.{Statement}
 use Rattle.sb_check.specs.declared.tree.Action.{Action}
-use Rattle.sb_tenant.specs.State.{Catalog}
 
 -- a rule as a command gives it
 pub record NewRule : Type 0 where
@@ -37,19 +35,13 @@ pub data Resolved : Type 0 where
   drop_ruleset : List ℕ → Resolved
   add_rules : List ℕ → List ℕ → Resolved
   del_rules : List ℕ → List ℕ → Resolved
-  select : Query → Resolved
+  query : Query → Resolved
   change : Statement → Resolved
 
--- what a command asks of its session
+-- what a command asks of its session: `open`, `end` and `begin` have a class each; the others define what has a name, or work in a transaction
 pub data Class : Type 0 where
   opens : Class
   ends : Class
   begins : Class
   defines : Class
   works : Class
-
--- the command of a text, if it has one; its class; and the walk, which gives the first refusal or the resolved command
-pub record Language (C : Type 0) : Type 0 where
-  pub command_of : List ℕ → Option C
-  pub class_of : C → Class
-  pub walk : Catalog → C → Result Resolved Refusal

@@ -1,12 +1,11 @@
 -- The state of a tenant.
-use Rattle.std.specs.Prelude.{ℕ, Bool, true, false, not, ◌==◌, ◌&&◌, List, [], filter, replicate, slice_get, slice_set, flat_map, unwrap_or}
+use Rattle.std.specs.Prelude.{ℕ, Bool, true, false, not, ◌==◌, ◌&&◌, if◌then◌else◌, List, [], filter, count_by, flat_map}
 use Rattle.std.specs.List.{list_any}
 use Rattle.sb_value.specs.declared.change.Change.{Change}
 use Rattle.sb_value.specs.Table.{Entry, after_all}
 use Rattle.sb_value.specs.Locks.{Locks, no_locks, released, sessions}
 use Rattle.sb_catalog.specs.declared.Rule.{Rule}
 use Rattle.sb_process.specs.Setting.{Setting, Progress}
-use Rattle.sb_tenant.specs.Limits.{session_count}
 
 -- closed; open with no transaction; or with one: its changes, and a mark for each rule
 pub data Session : Type 0 where
@@ -24,7 +23,7 @@ pub record Catalog : Type 0 where
 pub record State : Type 0 where
   pub catalog : Catalog
   pub locks : Locks
-  pub sessions : List Session
+  pub sessions : ℕ → Session
   -- how many steps were made
   pub steps : ℕ
 
@@ -32,15 +31,15 @@ abbrev pub opening : State
 opening = record {
   catalog = record { tables = []; rules = []; rulesets = []; pairs = [] };
   locks = no_locks;
-  sessions = replicate session_count closed;
+  sessions = λ s. closed;
   steps = 0;
 }
 
 abbrev pub session_at : State → ℕ → Session
-session_at state s = unwrap_or (slice_get state.sessions s) closed
+session_at state s = state.sessions s
 
 abbrev pub with_session : State → ℕ → Session → State
-with_session state s session = record state { sessions = slice_set state.sessions s session }
+with_session state s session = record state { sessions = λ o. if o == s then session else session_at state o }
 
 abbrev pub is_open : Session → Bool
 is_open closed = false
@@ -51,6 +50,10 @@ abbrev pub has_transaction : Session → Bool
 has_transaction closed = false
 has_transaction idle = false
 has_transaction (active changes marks) = true
+
+-- how many sessions are open
+abbrev pub open_count : State → ℕ
+open_count state = count_by (λ s. is_open (session_at state s)) sessions
 
 abbrev pub changes_of : Session → List Change
 changes_of closed = []

@@ -1,5 +1,5 @@
 -- One step of a tenant: a line of a session.
-use Rattle.std.specs.Prelude.{ℕ, ◌+◌, Bool, true, false, not, ◌&&◌, nat_le, List, Option, Some, None, Ok, Err, codes}
+use Rattle.std.specs.Prelude.{ℕ, ◌+◌, Bool, true, false, not, ◌&&◌, nat_le, List, Option, Some, None, Result, Ok, Err, codes}
 use Rattle.sb_value.specs.declared.refusal.Refusal.{Refusal}
 use Rattle.sb_value.specs.declared.refusal.Refusal.TheVariants as refusal
 use Rattle.sb_tenant.specs.declared.Reply.{Reply}
@@ -8,7 +8,9 @@ use Rattle.sb_tenant.specs.declared.Answer.{Answer}
 use Rattle.sb_tenant.specs.Limits.{trail_limit}
 use Rattle.sb_tenant.specs.State.{State, session_at, is_open, has_transaction, another_has_transaction}
 use Rattle.sb_value.specs.Name.{same_name}
-use Rattle.sb_tenant.specs.Resolved.{Language, Class, opens, ends, begins, defines, works}
+use Rattle.sb_syntax.specs.Tree.{Command}
+use Rattle.sb_tenant.specs.Resolved.{Resolved, Class, opens, ends, begins, defines, works}
+use Rattle.sb_tenant.specs.Walk.{class_of, walk}
 use Rattle.sb_tenant.specs.Perform.{perform}
 
 -- the line `end` of an open session always has a place
@@ -35,26 +37,33 @@ session_refusal works state s =
     first_of (not (is_open (session_at state s))) refusal.NotOpen (first_of (not (has_transaction (session_at state s))) refusal.NoTransaction None)
 
 -- the number of steps goes up by one and is the answer's number
-abbrev pub numbered : State × Reply → State × Answer
-numbered r = let n = r.0.steps + 1 in (record r.0 { steps = n }, record { number = Some n; reply = r.1 })
+abbrev pub numbered : State → State × Reply → State × Answer
+numbered before r = let n = before.steps + 1 in (record r.0 { steps = n }, record { number = Some n; reply = r.1 })
 
-module _ {C : Type 0} (language : Language C) (tenant bound : ℕ) where
+-- which command a text has, if it has one
+abbrev pub Language : Type 0
+Language = List ℕ → Option Command
+
+module _ (language : Language) (tenant bound : ℕ) where
+  -- a command is refused by its session, or else by its walk, or else is performed
+  abbrev pub outcome_of : State → ℕ → Option Refusal → Result Resolved Refusal → State × Reply
+  outcome_of state s (Some r) walked = (state, No r)
+  outcome_of state s None (Err r) = (state, No r)
+  outcome_of state s None (Ok resolved) = perform tenant bound state s resolved
+
+  abbrev pub reply_to_command : State → ℕ → Command → State × Reply
+  reply_to_command state s command = outcome_of state s (session_refusal (class_of command) state s) (walk state.catalog command)
+
   abbrev pub reply_to : State → ℕ → List ℕ → State × Reply
   reply_to state s line =
-      elim (language.command_of line) [
+      elim (language line) [
         | None ↦ (state, No refusal.Syntax)
-        | Some command ↦ elim (session_refusal (language.class_of command) state s) [
-          | Some r ↦ (state, No r)
-          | None ↦ elim (language.walk state.catalog command) [
-            | Err r ↦ (state, No r)
-            | Ok resolved ↦ perform tenant bound state s resolved
-          ]
-        ]
+        | Some command ↦ reply_to_command state s command
       ]
 
   abbrev pub step : State → ℕ → List ℕ → State × Answer
   step state s line =
       elim (is_full_for state s line) [
         | true ↦ (state, record { number = None; reply = No refusal.TrailFull })
-        | false ↦ numbered (reply_to state s line)
+        | false ↦ numbered state (reply_to state s line)
       ]

@@ -1,12 +1,13 @@
--- Runs of steps, aborts, and legal trails.
-use Rattle.std.specs.Prelude.{◌≡◌, ℕ, ◌+◌, true, false, ◌⊎◌, List, [], ◌∷◌, Some, IsFalse}
-use Rattle.sb_value.specs.declared.refusal.Refusal.TheVariants.{NoMemory}
+-- Trails: an abort, which entry may come next, the legal trails, and the state that a trail gives.
+use Rattle.std.specs.Prelude.{◌≡◌, ℕ, ◌+◌, Bool, true, false, ◌⊎◌, List, [], ◌∷◌, ◌++◌, length, Some, None, IsTrue, IsFalse}
+use Rattle.sb_value.specs.declared.refusal.Refusal.TheVariants.{NoMemory, TrailFull}
+use Rattle.sb_tenant.specs.declared.Reply.{Reply}
 use Rattle.sb_tenant.specs.declared.Reply.TheVariants.{No}
 use Rattle.sb_tenant.specs.declared.Answer.{Answer}
 use Rattle.sb_tenant.specs.declared.Entry.{Entry}
-use Rattle.sb_tenant.specs.State.{State, session_at, has_transaction, rolled_back}
-use Rattle.sb_tenant.specs.Resolved.{Language}
-use Rattle.sb_tenant.specs.Step.{step, is_full_for, is_end_of_open}
+use Rattle.sb_tenant.specs.Limits.{is_session}
+use Rattle.sb_tenant.specs.State.{State, opening, session_at, has_transaction, rolled_back}
+use Rattle.sb_tenant.specs.Step.{Language, step, is_full_for, is_end_of_open}
 
 -- the session's transaction, if there is one, is rolled back; the abort is a step
 abbrev pub after_abort : State → ℕ → State
@@ -16,7 +17,11 @@ after_abort state s = record (elim (has_transaction (session_at state s)) [ true
 abbrev pub MayAbort : State → ℕ → List ℕ → Type 0
 MayAbort state s line = IsFalse (is_full_for state s line) × IsFalse (is_end_of_open state s line)
 
-module _ {C : Type 0} (language : Language C) (tenant bound : ℕ) where
+abbrev pub is_no_memory : Reply → Bool
+is_no_memory (No NoMemory) = true
+is_no_memory reply = false
+
+module _ (language : Language) (tenant bound : ℕ) where
   -- an entry as a step with its number, or as an abort
   abbrev pub IsStep : State → Entry → State → Type 0
   IsStep before entry after =
@@ -26,13 +31,51 @@ module _ {C : Type 0} (language : Language C) (tenant bound : ℕ) where
   IsAbort before entry after =
       (entry.reply ≡ No NoMemory) × (after ≡ after_abort before entry.session) × MayAbort before entry.session entry.line
 
+  -- the entry of one of the tenant's sessions that may come next, and the state after it
+  abbrev pub IsNext : State → Entry → State → Type 0
+  IsNext before entry after = IsTrue (is_session entry.session) × (IsStep before entry after ⊎ IsAbort before entry after)
+
   abbrev pub IsLegal : State → List Entry → State → Type 0
   IsLegal before [] after = after ≡ before
-  IsLegal before (entry ∷ entries) after = (mid : State) × (IsStep before entry mid ⊎ IsAbort before entry mid) × IsLegal mid entries after
+  IsLegal before (entry ∷ entries) after = (mid : State) × IsNext before entry mid × IsLegal mid entries after
 
-  -- a legal trail fixes the state after it
-  abbrev pub TrailsFixStates : Type 0
-  TrailsFixStates = (before : State) (entries : List Entry) (one other : State) → IsLegal before entries one → IsLegal before entries other → one ≡ other
+  -- ---- the state that a trail gives: it is replayed
+
+  -- an entry is a step, or an abort where its reply says so
+  abbrev pub after_entry : State → Entry → State
+  after_entry state entry =
+      elim (is_no_memory entry.reply) [ true ↦ after_abort state entry.session | false ↦ (step language tenant bound state entry.session entry.line).0 ]
+
+  abbrev pub replayed : State → List Entry → State
+  replayed state [] = state
+  replayed state (entry ∷ entries) = replayed (after_entry state entry) entries
+
+  abbrev pub state_of : List Entry → State
+  state_of trail = replayed opening trail
+
+  -- a trail that is legal from the opening state
+  abbrev pub IsTrail : List Entry → Type 0
+  IsTrail trail = IsLegal opening trail (state_of trail)
+
+  -- ---- what a call does to the trail
+
+  abbrev pub entry_of : ℕ → List ℕ → Reply → Entry
+  entry_of s line reply = record { session = s; line = line; reply = reply }
+
+  -- one entry more, whose number is the trail's new length
+  abbrev pub Extends : List Entry → ℕ → List ℕ → Answer → List Entry → Type 0
+  Extends trail s line answer new =
+      (new ≡ trail ++ entry_of s line answer.reply ∷ []) × (answer.number ≡ Some (length new)) × IsNext (state_of trail) (entry_of s line answer.reply) (state_of new)
+
+  -- or the trail is full, and nothing changes
+  abbrev pub IsFull : List Entry → ℕ → List ℕ → Answer → List Entry → Type 0
+  IsFull trail s line answer new =
+      IsTrue (is_full_for (state_of trail) s line) × (answer ≡ record { number = None; reply = No TrailFull }) × (new ≡ trail)
+
+  abbrev pub Steps : List Entry → ℕ → List ℕ → Answer → List Entry → Type 0
+  Steps trail s line answer new = Extends trail s line answer new ⊎ IsFull trail s line answer new
+
+  -- ---- runs without want of memory
 
   -- the answers to these lines of these sessions, one after another, and the state after them
   abbrev pub answers : State → List (ℕ × List ℕ) → List Answer

@@ -8,9 +8,9 @@ use Rattle.sb_value.specs.declared.net.Triggers.{Triggers}
 use Rattle.sb_value.specs.Columns.{set_of}
 use Rattle.sb_value.specs.Order.{precedes}
 use Rattle.sb_value.specs.Table.{Entry}
-use Rattle.sb_syntax.specs.Command.{Name, Command, RuleText, Trigger, on_insert, on_delete, on_update, on_update_of}
-use Rattle.sb_syntax.specs.Command as text
-use Rattle.sb_check.specs.declared.tree.Query.{Query}
+use Rattle.sb_syntax.specs.Tree.{Name, Command, RuleText, Trigger, on_insert, on_delete, on_update, on_update_of}
+use Rattle.sb_syntax.specs.Tree as text
+use Rattle.sb_check.specs.Condition.{Query}
 use Rattle.sb_check.specs.declared.tree.Action.{Action}
 use Rattle.sb_check.specs.declared.tree.Action.TheVariants as action
 use Rattle.sb_value.specs.Name.{same_name}
@@ -21,7 +21,7 @@ use Rattle.sb_eval.specs.Statement.{query_locks, statement_locks}
 use Rattle.sb_tenant.specs.Limits.{table_limit, rule_limit, ruleset_limit}
 use Rattle.sb_tenant.specs.State.{Catalog}
 use Rattle.sb_tenant.specs.Catalog.{free_rule, pairs_from}
-use Rattle.sb_tenant.specs.Resolved.{Language, Class, opens, ends, begins, defines, works, NewRule, Resolved, open_session, end_session, begin, commit, rollback, process_rules, process_ruleset, process_rule, create_table, drop_table, create_rule, drop_rule, activate_rule, deactivate_rule, create_ruleset, drop_ruleset, add_rules, del_rules, select, change}
+use Rattle.sb_tenant.specs.Resolved.{Class, opens, ends, begins, defines, works, NewRule, Resolved, open_session, end_session, begin, commit, rollback, process_rules, process_ruleset, process_rule, create_table, drop_table, create_rule, drop_rule, activate_rule, deactivate_rule, create_ruleset, drop_ruleset, add_rules, del_rules, query, change}
 
 abbrev pub rule_named : Catalog → Name → Result ℕ Refusal
 rule_named catalog name = some_or refusal.NoRule (option_map (λ r. r.id) (find (λ r. same_name r.name name) catalog.rules))
@@ -156,7 +156,7 @@ walk catalog (text.create_ruleset name) =
 walk catalog (text.drop_ruleset name) = of_ruleset catalog name (drop_ruleset name)
 walk catalog (text.add_rules name rules) = of_members catalog name rules (add_rules name)
 walk catalog (text.del_rules name rules) = of_members catalog name rules (del_rules name)
-walk catalog (text.select q) = and_then (walk_query (outside_rules catalog) q []) (λ w. Ok (select w.0))
+walk catalog (text.query q) = and_then (walk_query (outside_rules catalog) q []) (λ w. Ok (query w.0))
 walk catalog (text.change c) = and_then (walk_change (outside_rules catalog) c) (λ s. Ok (change s))
 
 abbrev pub class_of : Command → Class
@@ -178,9 +178,5 @@ class_of (text.create_ruleset name) = defines
 class_of (text.drop_ruleset name) = defines
 class_of (text.add_rules name rules) = defines
 class_of (text.del_rules name rules) = defines
-class_of (text.select q) = works
+class_of (text.query q) = works
 class_of (text.change c) = works
-
--- the language of commands, once the grammar says which text has which command
-abbrev pub commands : (List ℕ → Option Command) → Language Command
-commands command_of = record { command_of = command_of; class_of = class_of; walk = walk }

@@ -1,7 +1,7 @@
 //! One tenant's steps.
 #![tactic(auto)]
 
-use sb_value::{Name, Refusal, RowList, Verdict};
+use sb_value::{Name, Refusal, RowList, SessionId, Verdict};
 use std::marker::Model;
 
 /// A command line's bytes, without its newline.
@@ -55,7 +55,7 @@ pub struct Answer {
 /// A step of the trail.
 #[derive(Drop)]
 pub struct Entry {
-    pub session: u8,
+    pub session: SessionId,
     pub line: Line,
     pub reply: Reply,
 }
