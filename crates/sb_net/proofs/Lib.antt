@@ -1,3 +1,5 @@
 mod Folds
 mod Hits
 pub mod Proper
+mod Tables
+mod Tuples

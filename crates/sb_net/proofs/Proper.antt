@@ -1,6 +1,5 @@
 -- The changes of a proper list have their rows.
-use Rattle.std.proofs.Common.{◌≡◌, ℕ, Bool, List, [], ◌∷◌, sym, subst}
-use Rattle.std.specs.List.{All}
+use Rattle.std.proofs.Common.{ℕ, Bool, List, [], ◌∷◌, sym, subst}
 use Rattle.std.proofs.lemmas.List.Elements.{All-nil, All-cons, All-head, All-tail, All-filter}
 use Rattle.sb_value.specs.Table.{Table, Entry, fits_kind, table_at, after, IsProper}
 use Rattle.sb_value.specs.NetEffect.{is_of, history, last_of}

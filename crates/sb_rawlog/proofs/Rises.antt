@@ -1,5 +1,5 @@
 -- What holds of the records of a log, whose times rise.
-use Rattle.std.proofs.Common.{◌≡◌, ℕ, zero, suc, ◌+◌, ◌<◌, ◌≤◌, Bool, true, false, not, cond, ◌&&◌, ◌==◌, eqb, List, [], ◌∷◌, ◌++◌, reverse, append-nil, length, take, drop, eq-eqb, ne_eqb, Option, Some, None, slice_get, nat_lt, nat_le, refl, sym, ap, ◌∙◌, arith, add-one, subst}
+use Rattle.std.proofs.Common.{◌≡◌, ℕ, zero, suc, ◌+◌, ◌<◌, ◌≤◌, Bool, true, false, cond, ◌&&◌, ◌==◌, List, [], ◌∷◌, ◌++◌, reverse, append-nil, length, take, drop, eq-eqb, ne_eqb, Option, Some, None, slice_get, nat_lt, nat_le, refl, sym, ap, ◌∙◌, arith, subst}
 use Rattle.std.specs.List.{filter}
 use Rattle.std.proofs.lemmas.List.{reverse-append}
 use Rattle.std.proofs.lemmas.List.Elements.{filter-append}

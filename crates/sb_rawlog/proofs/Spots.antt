@@ -1,5 +1,5 @@
 -- What the steps of a plain log answer, from the index that was found.
-use Rattle.std.proofs.Common.{◌≡◌, ℕ, ◌+◌, ◌-◌, Bool, true, false, not, ◌&&◌, ◌==◌, List, [], ◌∷◌, ◌++◌, length, take, drop, Option, Some, slice_get, refl, sym, ap, ◌∙◌, subst, arith, eqb-true}
+use Rattle.std.proofs.Common.{◌≡◌, ℕ, ◌+◌, Bool, true, not, ◌&&◌, ◌==◌, List, [], ◌∷◌, ◌++◌, take, drop, Some, slice_get, refl, sym, ap, ◌∙◌, subst, arith, eqb-true}
 use Rattle.sb_value.specs.declared.id.Who.{Who}
 use Rattle.sb_value.specs.declared.change.Kind.{Kind}
 use Rattle.sb_value.specs.declared.change.Kind.TheVariants.{Inserted, Deleted, Updated}
@@ -8,7 +8,7 @@ use Rattle.sb_rawlog.specs.Changes.{same_kind, is_op, is_tuple, is_by}
 use Rattle.sb_rawlog.specs.declared.spot.Spot.{Spot}
 use Rattle.sb_rawlog.specs.Records.{Record, Rising, walk, before, without, others, change_at}
 use Rattle.sb_rawlog.specs.Found.{Found}
-use Rattle.sb_rawlog.specs.Steps.{Comes, OpSpot, TupleSpot, Newest}
+use Rattle.sb_rawlog.specs.Steps.{OpSpot, TupleSpot, Newest}
 use Rattle.sb_rawlog.proofs.Rises.{and_right, before-all, split_at, without-split, rising-filter}
 
 pub same_kind-eq : (a b : Kind) → same_kind a b ≡ true → a ≡ b

@@ -1,4 +1,4 @@
-use Rattle.std.proofs.Common.{◌∙◌, ◌-◌, ◌+◌, ◌≡◌, ◌<◌, sym, length, arith}
+use Rattle.std.proofs.Common.{◌∙◌, ◌-◌, sym, arith}
 use Rattle.sb_rawlog.specs.Keys.{fits}
 use Rattle.sb_rawlog.proofs.Rises.{read, passed, found, walk-nil}
 use Rattle.sb_rawlog.proofs.find.newest_before.Goals as goal

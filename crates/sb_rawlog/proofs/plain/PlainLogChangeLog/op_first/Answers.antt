@@ -1,7 +1,7 @@
-use Rattle.sb_rawlog.specs.Changes.{is_op, is_tuple, is_by}
-use Rattle.sb_rawlog.specs.Records.{walk, before}
+use Rattle.sb_rawlog.specs.Changes.{is_op}
+use Rattle.sb_rawlog.specs.Records.{walk}
 use Rattle.sb_rawlog.proofs.Rises.{read}
-use Rattle.sb_rawlog.proofs.Spots.{op_spot, tuple_spot, newest_found, from_clock, from_list, none_from_clock}
+use Rattle.sb_rawlog.proofs.Spots.{op_spot, from_clock, none_from_clock}
 use Rattle.sb_rawlog.proofs.plain.PlainLogChangeLog.op_first.Goals as goal
 
 pub returns : goal.returns
