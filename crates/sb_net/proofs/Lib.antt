@@ -1,5 +1,4 @@
 mod Folds
 mod Hits
-pub mod Proper
 mod Tables
 mod Tuples

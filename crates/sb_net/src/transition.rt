@@ -4,13 +4,12 @@ ghost use Rattle.sb_value.specs.NetEffect.{net_effect, tuples_of, transition_tab
 ghost use Rattle.sb_rawlog.specs.Changes.{is_op};
 ghost use Rattle.sb_rawlog.specs.Records.{walk};
 ghost use Rattle.sb_rawlog.specs.Sessions.{changes_since};
-ghost use Rattle.sb_net.specs.Rows.{HaveRows};
 ghost use Rattle.sb_net.specs.Seen.{seen};
 ghost use Rattle.sb_net.specs.Tables.{with_net};
 
 use crate::effect::{NetOf, net};
 use sb_rawlog::ChangeLog;
-use sb_value::{Kind, RowList, TableId, Transition, Triggers, Who};
+use sb_value::{Kind, Row, RowList, TableId, Transition, Triggers, Value, Who};
 use std::alloc::{AllocError, Global};
 
 /// Adds the numbers of the tuples that have a change of the kind, one for each such change.
@@ -50,17 +49,33 @@ fn tuples_of<L: ChangeLog>(
     Ok(tuples)
 }
 
-/// Adds the rows of a tuple's net effect.
-fn push_net(tables: &mut Transition, triggers: &Triggers, net: &NetOf<'_>) -> Result<(), AllocError>
+/// A row of these values.
+fn row_of(alloc: Global, values: &[Value]) -> Result<Row, AllocError>
+    ensures { IfOk result (λ row. row ≡ values.now) }
+{
+    let mut row = Row::new(alloc);
+    for value in values {
+        row.push(value.clone()?)?;
+    }
+    Ok(row)
+}
+
+/// Adds the rows of a net effect.
+fn push_net(
+    alloc: Global,
+    tables: &mut Transition,
+    triggers: &Triggers,
+    net: &NetOf<'_>,
+) -> Result<(), AllocError>
     ensures { OnOk result (tables.new ≡ with_net triggers.now tables.old (Some (seen net.now))) }
 {
     match *net {
-        NetOf::Inserted(new) => tables.inserted.push(new.clone()?)?,
-        NetOf::Deleted(old) => tables.deleted.push(old.clone()?)?,
+        NetOf::Inserted(new) => tables.inserted.push(row_of(alloc, new)?)?,
+        NetOf::Deleted(old) => tables.deleted.push(row_of(alloc, old)?)?,
         NetOf::Updated(old, new, columns) => {
             if triggers.updated || triggers.columns.intersects(columns) {
-                tables.old_updated.push(old.clone()?)?;
-                tables.new_updated.push(new.clone()?)?;
+                tables.old_updated.push(row_of(alloc, old)?)?;
+                tables.new_updated.push(row_of(alloc, new)?)?;
             }
         }
     }
@@ -69,6 +84,7 @@ fn push_net(tables: &mut Transition, triggers: &Triggers, net: &NetOf<'_>) -> Re
 
 /// Adds the rows of the net effect on one tuple.
 fn push_tuple<L: ChangeLog>(
+    alloc: Global,
     tables: &mut Transition,
     triggers: &Triggers,
     log: &L,
@@ -77,12 +93,11 @@ fn push_tuple<L: ChangeLog>(
     tuple: u64,
     since: u64,
 ) -> Result<(), AllocError>
-    requires { HaveRows (changes_since who.now since (L.records log.now)) }
     ensures { let changes = changes_since who.now since (L.records log.now) in
         OnOk result (tables.new ≡ with_net triggers.now tables.old (net_effect changes table tuple)) }
 {
     match net(log, *who, table, tuple, since) {
-        Some(net) => push_net(tables, triggers, &net),
+        Some(net) => push_net(alloc, tables, triggers, &net),
         None => Ok(()),
     }
 }
@@ -96,7 +111,6 @@ pub fn transition_tables<L: ChangeLog>(
     triggers: Triggers,
     since: u64,
 ) -> Result<Transition, AllocError>
-    requires { HaveRows (changes_since who since (L.records log.now)) }
     ensures { let changes = changes_since who since (L.records log.now) in
         IfOk result (λ tables. tables ≡ transition_tables triggers table changes) }
 {
@@ -108,7 +122,7 @@ pub fn transition_tables<L: ChangeLog>(
         new_updated: RowList::new(alloc),
     };
     for tuple in &tuples {
-        push_tuple(&mut tables, &triggers, log, &who, table, *tuple, since)?;
+        push_tuple(alloc, &mut tables, &triggers, log, &who, table, *tuple, since)?;
     }
     Ok(tables)
 }
