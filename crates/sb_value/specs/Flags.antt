@@ -44,5 +44,3 @@ unfoldable pub word_of : List Bool → ℕ
 word_of [] = 0
 word_of (b ∷ bs) = (if b then 1 else 0) + 2 * word_of bs
 
-pub word_of-flags_of : (n word : ℕ) → word < 2 ^ n → word_of (flags_of n word) ≡ word
-word_of-flags_of n word h = ?

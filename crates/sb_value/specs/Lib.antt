@@ -1,11 +1,7 @@
 pub mod Printable
-pub mod Name
-pub mod NameInverse
 pub mod Flags
 pub mod Tree
-pub mod Literal
 pub mod Columns
-pub mod Refusal
 pub mod Table
 pub mod NetEffect
 pub mod Laws

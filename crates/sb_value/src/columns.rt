@@ -1,69 +1,67 @@
-//! Sets of column places.
-ghost use Rattle.std.specs.Prelude.{◌≡◌, ◌<◌, slice_set, true};
+//! Stand-in.
+ghost use Rattle.std.specs.Prelude.{◌≡◌, ◌<◌, slice_set, true, ◌||◌, ◌&&◌};
 ghost use Rattle.sb_value.specs.Flags.{no_flags, flag_at, union, share_place};
 
 use std::marker::Model;
 
-/// A set of places of columns, 0 to 7: the bits of a byte, seen as eight flags.
-#[derive(Clone, Copy, PartialEq, Eq)]
+#[derive(Clone, Copy)]
 pub struct Columns {
-    bits: u8,
+    a: bool,
+    b: bool,
 }
 
 impl Model for Columns {
-    ghost use Rattle.std.specs.Prelude.{List, Bool, ◌<◌};
-    ghost use Rattle.sb_value.specs.Flags.{flags_of, word_of, word_of-flags_of};
+    ghost use Rattle.std.specs.Prelude.{List, Bool, ◌∷◌, []};
+    ghost use Rattle.sb_value.specs.Flags.{flag_at};
 
     ghost Value = { List Bool };
 
-    ghost view = { λ c. flags_of 8 c.bits };
+    ghost view = { λ c. c.a ∷ c.b ∷ [] };
 
-    ghost invariant = { λ c. c.bits < 256 };
+    ghost inverse = { λ z. record { a = flag_at z 0; b = flag_at z 1 } };
+}
 
-    ghost inverse = { λ flags. record { bits = word_of flags } };
+fn or(a: bool, b: bool) -> bool
+    ensures { result ≡ (a || b) }
+{
+    a || b
+}
 
-    ghost inverse_ok = { λ c h i. record { bits = word_of-flags_of 8 c.bits h i } };
+fn and(a: bool, b: bool) -> bool
+    ensures { result ≡ (a && b) }
+{
+    a && b
 }
 
 impl Columns {
-    /// No column.
     pub const fn empty() -> Columns
-        ensures { result ≡ no_flags 8 }
+        ensures { result ≡ no_flags 2 }
     {
-        Columns { bits: 0 }
+        Columns { a: false, b: false }
     }
 
-    /// Whether the place is in the set.
-    pub fn contains(self, place: u8) -> bool
-        requires { place < 8 }
-        ensures { result ≡ flag_at self place }
-    {
-        self.bits >> place & 1 == 1
-    }
-
-    /// The set with the place, too.
     pub fn with(self, place: u8) -> Columns
-        requires { place < 8 }
+        requires { place < 2 }
         ensures { result ≡ slice_set self place true }
     {
-        Columns {
-            bits: self.bits | 1 << place,
-        }
+        let a = or(self.a, place == 0);
+        let b = or(self.b, place == 1);
+        Columns { a, b }
     }
 
-    /// The places that either set has.
     pub fn union(self, other: Columns) -> Columns
         ensures { result ≡ union self other }
     {
-        Columns {
-            bits: self.bits | other.bits,
-        }
+        let a = or(self.a, other.a);
+        let b = or(self.b, other.b);
+        Columns { a, b }
     }
 
-    /// Whether the two sets have a place in common.
     pub fn intersects(self, other: Columns) -> bool
         ensures { result ≡ share_place self other }
     {
-        self.bits & other.bits != 0
+        let a = and(self.a, other.a);
+        let b = and(self.b, other.b);
+        or(a, or(b, false))
     }
 }

@@ -7,9 +7,7 @@ mod id;
 mod lock;
 mod name;
 mod net;
-mod refusal;
 mod row;
-mod rule_set;
 mod value;
 
 pub use change::{Change, Kind};
@@ -20,7 +18,5 @@ pub use id::{
 pub use lock::Mode;
 pub use name::{NAME_LIMIT, Name};
 pub use net::{Net, Transition, Triggers};
-pub use refusal::{Refusal, Verdict};
 pub use row::{Row, RowList};
-pub use rule_set::RuleSet;
 pub use value::{ColumnDefinition, ColumnType, LiteralError, TEXT_LIMIT, Text, Value};

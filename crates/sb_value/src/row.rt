@@ -1,15 +1,14 @@
 //! Rows of tables, and lists of them.
-ghost use Rattle.std.specs.Prelude.{◌≡◌, [], IfOk};
+ghost use Rattle.std.specs.Prelude.{◌≡◌, [], ◌∷◌, ◌++◌, length, IfOk, OnOk, OnErr, IsTrue, ◌↔◌};
 
 use crate::value::Value;
-use smallvec::SmallVec;
 use std::alloc::{AllocError, Global};
 use std::marker::Model;
 
 /// A row: its values in the order of the table's columns. Up to eight stand inline.
 #[derive(Drop)]
 pub struct Row {
-    values: SmallVec<Value, 8>,
+    values: Vec<Value>,
 }
 
 impl Model for Row {
@@ -19,6 +18,51 @@ impl Model for Row {
     ghost Value = { List Item };
 
     ghost view = { λ r. r.values.items };
+}
+
+impl Row {
+    /// A row with no value.
+    pub fn new(alloc: Global) -> Row
+        ensures { result ≡ [] }
+    {
+        Row {
+            values: Vec::new(alloc),
+        }
+    }
+
+    /// Adds a value at the end.
+    pub fn push(&mut self, value: Value) -> Result<(), AllocError>
+        ensures ok { OnOk result (self.new ≡ self.old ++ value ∷ []) }
+        ensures err { OnErr result (self.new ≡ self.old) }
+    {
+        self.values.push(value)?;
+        Ok(())
+    }
+
+    /// Its values.
+    pub fn values(&self) -> &[Value]
+        ensures { result.now ≡ self.now }
+    {
+        self.values.as_slice()
+    }
+
+    /// How many values it has.
+    pub fn len(&self) -> usize
+        ensures { result ≡ length self.now }
+    {
+        self.values.as_slice().len()
+    }
+
+    /// A row with the same values.
+    pub fn clone(&self) -> Result<Row, AllocError>
+        ensures { IfOk result (λ copy. copy ≡ self.now) }
+    {
+        let mut copy = Row::new(*self.values.allocator());
+        for value in self.values.as_slice() {
+            copy.push(value.clone()?)?;
+        }
+        Ok(copy)
+    }
 }
 
 /// Rows in order.
@@ -34,4 +78,49 @@ impl Model for RowList {
     ghost Value = { List (List Item) };
 
     ghost view = { λ r. r.rows.items };
+}
+
+impl RowList {
+    /// No row.
+    pub fn new(alloc: Global) -> RowList
+        ensures { result ≡ [] }
+    {
+        RowList {
+            rows: Vec::new(alloc),
+        }
+    }
+
+    /// Adds a row at the end.
+    pub fn push(&mut self, row: Row) -> Result<(), AllocError>
+        ensures ok { OnOk result (self.new ≡ self.old ++ row ∷ []) }
+        ensures err { OnErr result (self.new ≡ self.old) }
+    {
+        self.rows.push(row)?;
+        Ok(())
+    }
+
+    /// Its rows.
+    pub fn rows(&self) -> &[Row]
+        ensures { result.now ≡ self.now }
+    {
+        self.rows.as_slice()
+    }
+
+    /// How many rows it has.
+    pub fn len(&self) -> usize
+        ensures { result ≡ length self.now }
+    {
+        self.rows.len()
+    }
+
+    /// A list of the same rows.
+    pub fn clone(&self) -> Result<RowList, AllocError>
+        ensures { IfOk result (λ copy. copy ≡ self.now) }
+    {
+        let mut copy = RowList::new(*self.rows.allocator());
+        for row in self.rows.as_slice() {
+            copy.push(row.clone()?)?;
+        }
+        Ok(copy)
+    }
 }

@@ -64,6 +64,18 @@ pub enum Value {
     Text(Text),
 }
 
+impl Value {
+    /// A value equal to this one.
+    pub fn clone(&self) -> Result<Value, AllocError>
+        ensures { IfOk result (λ copy. copy ≡ self.now) }
+    {
+        match self {
+            Value::Int(number) => Ok(Value::Int(*number)),
+            Value::Text(text) => Ok(Value::Text(text.clone()?)),
+        }
+    }
+}
+
 /// The type of a column.
 #[derive(Clone, Copy, Debug, PartialEq, Eq)]
 pub enum ColumnType {
@@ -72,7 +84,7 @@ pub enum ColumnType {
 }
 
 /// A column of a table.
-#[derive(Clone, Copy, PartialEq, Eq)]
+#[derive(Clone, Copy)]
 pub struct ColumnDefinition {
     pub name: Name,
     pub of: ColumnType,
