@@ -1,13 +1,14 @@
 -- Times as marks in a session's changes.
-use Rattle.std.proofs.Common.{◌≡◌, ◌≢◌, ℕ, zero, suc, ◌+◌, ◌<◌, ◌≤◌, Bool, true, false, cond, ◌&&◌, List, [], ◌∷◌, ◌++◌, map, append-nil, length, drop, nat_lt, nat_le, refl, sym, ap, ◌∙◌, arith, subst, length-append}
+use Rattle.std.proofs.Common.{◌≡◌, ℕ, ◌+◌, ◌<◌, ◌≤◌, true, false, cond, ◌&&◌, List, [], ◌∷◌, ◌++◌, append-nil, length, drop, nat_lt, nat_le, refl, sym, ap, ◌∙◌, arith}
 use Rattle.std.specs.List.{filter}
+use Rattle.std.proofs.lemmas.List.{drop-map}
 use Rattle.std.proofs.lemmas.List.Elements.{filter-append}
 use Rattle.std.proofs.lemmas.Bool.{lt-leb, le-leb, ltb-true, ltb-false, lt-ltb, le-ltb}
 use Rattle.sb_value.specs.declared.id.Who.{Who}
 use Rattle.sb_value.specs.declared.change.Change.{Change}
 use Rattle.sb_rawlog.specs.Changes.{is_by}
 use Rattle.sb_rawlog.specs.Records.{Record, Rising, selected}
-use Rattle.sb_rawlog.specs.Sessions.{records_by, changes, changes_by, changes_since, mark_at, OthersStay, MarksCut}
+use Rattle.sb_rawlog.specs.Sessions.{records_by, changes, changes_since, mark_at, MarksCut}
 use Rattle.sb_rawlog.proofs.Rises.{rising-filter}
 use Rattle.sb_rawlog.proofs.Sessions.{filter-swap}
 
@@ -38,11 +39,6 @@ newer-drop time low (r ∷ rs) clock up =
           ∙ sym (ap (λ l. drop (length l) (r ∷ rs)) none)
     ] refl
 
-drop-changes : (n : ℕ) (rs : List Record) → changes (drop n rs) ≡ drop n (changes rs)
-drop-changes zero rs = refl
-drop-changes (suc n) [] = refl
-drop-changes (suc n) (r ∷ rs) = drop-changes n rs
-
 -- the session's records alone say which of its changes are no older than a time
 selected-by : (who : Who) (time : ℕ) (rs : List Record) → selected (is_by who) time rs ≡ newer time (records_by who rs)
 unfolding selected records_by
@@ -65,7 +61,7 @@ rising-by who rs clock up = rising-filter (λ r. is_by who r.1) 0 rs clock up
 
 pub marks_cut : (rs : List Record) (clock : ℕ) → Rising 0 rs clock → MarksCut rs
 marks_cut rs clock up who time =
-    ap changes (selected-by who time rs ∙ newer-drop time 0 (records_by who rs) clock (rising-by who rs clock up)) ∙ drop-changes (mark_at who time rs) (records_by who rs)
+    ap changes (selected-by who time rs ∙ newer-drop time 0 (records_by who rs) clock (rising-by who rs clock up)) ∙ sym (drop-map (λ (r : Record). r.1) (mark_at who time rs) (records_by who rs))
 
 -- ---- what a change of the log does to them
 
