@@ -7,33 +7,25 @@ use Rattle.std.proofs.lemmas.Bool.{lt-leb, le-leb, ltb-true, ltb-false, lt-ltb, 
 use Rattle.sb_value.specs.declared.id.Who.{Who}
 use Rattle.sb_value.specs.declared.change.Change.{Change}
 use Rattle.sb_rawlog.specs.Changes.{is_by}
-use Rattle.sb_rawlog.specs.Records.{Record, Rising, selected}
+use Rattle.sb_rawlog.specs.Records.{Record, Rising, selected, before}
 use Rattle.sb_rawlog.specs.Sessions.{records_by, changes, changes_since, mark_at, MarksCut}
-use Rattle.sb_rawlog.proofs.Rises.{rising-filter}
+use Rattle.sb_rawlog.proofs.Rises.{rising-filter, before-none, before-all}
 use Rattle.sb_rawlog.proofs.Sessions.{filter-swap}
-
-abbrev older : ℕ → List Record → List Record
-older time rs = filter (λ r. nat_lt r.0 time) rs
 
 abbrev newer : ℕ → List Record → List Record
 newer time rs = filter (λ r. nat_le time r.0) rs
 
-older-none : (time low : ℕ) (rs : List Record) (clock : ℕ) → time ≤ low → Rising low rs clock → older time rs ≡ []
-older-none time low [] clock le up = refl
-older-none time low (r ∷ rs) clock le up =
-    let at : low ≤ r.0 = up.0 in
-    rw (le-ltb r.0 time (omega arith)) (older-none time (r.0 + 1) rs clock (omega arith) up.1)
-
 -- in rising time those that are no older than a time follow those that are
-newer-drop : (time low : ℕ) (rs : List Record) (clock : ℕ) → Rising low rs clock → newer time rs ≡ drop (length (older time rs)) rs
+newer-drop : (time low : ℕ) (rs : List Record) (clock : ℕ) → Rising low rs clock → newer time rs ≡ drop (length (before time rs)) rs
+unfolding before
 newer-drop time low [] clock up = refl
 newer-drop time low (r ∷ rs) clock up =
-    elim (nat_lt r.0 time) as (λ b. nat_lt r.0 time ≡ b → cond (nat_le time r.0) (r ∷ newer time rs) (newer time rs) ≡ drop (length (cond b (r ∷ older time rs) (older time rs))) (r ∷ rs)) [
+    elim (nat_lt r.0 time) as (λ b. nat_lt r.0 time ≡ b → cond (nat_le time r.0) (r ∷ newer time rs) (newer time rs) ≡ drop (length (cond b (r ∷ before time rs) (before time rs))) (r ∷ rs)) [
       | true ↦ λ e.
           ap (λ b. cond b (r ∷ newer time rs) (newer time rs)) (lt-leb time r.0 (ltb-true r.0 time e)) ∙ newer-drop time (r.0 + 1) rs clock up.1
       | false ↦ λ e.
           let from : time ≤ r.0 = ltb-false r.0 time e in
-          let none : older time rs ≡ [] = older-none time (r.0 + 1) rs clock (omega arith) up.1 in
+          let none : before time rs ≡ [] = before-none time (r.0 + 1) rs clock (omega arith) up.1 in
           ap (λ b. cond b (r ∷ newer time rs) (newer time rs)) (le-leb time r.0 from)
           ∙ ap (λ l. r ∷ l) (newer-drop time (r.0 + 1) rs clock up.1 ∙ ap (λ l. drop (length l) rs) none)
           ∙ sym (ap (λ l. drop (length l) (r ∷ rs)) none)
@@ -69,31 +61,21 @@ pub changes_since-kept : (who : Who) (old new : List Record) → records_by who 
 changes_since-kept who old new same time = ap changes (selected-by who time new ∙ ap (newer time) same ∙ sym (selected-by who time old))
 
 pub mark_at-kept : (who : Who) (old new : List Record) → records_by who new ≡ records_by who old → (time : ℕ) → mark_at who time new ≡ mark_at who time old
-mark_at-kept who old new same time = ap (λ l. length (older time l)) same
+mark_at-kept who old new same time = ap (λ l. length (before time l)) same
 
 -- at the start every mark is 0
 pub mark_at-zero : (who : Who) (rs : List Record) (clock : ℕ) → Rising 0 rs clock → mark_at who 0 rs ≡ 0
-mark_at-zero who rs clock up = ap length (older-none 0 0 (records_by who rs) clock (omega arith) (rising-by who rs clock up))
-
-older-all : (time low : ℕ) (rs : List Record) (clock : ℕ) → clock ≤ time → Rising low rs clock → older time rs ≡ rs
-older-all time low [] clock le up = refl
-older-all time low (r ∷ rs) clock le up =
-    let lt : r.0 < time = omega (arith, below (r.0 + 1) rs clock up.1) in
-    rw (lt-ltb r.0 time lt) (ap (λ l. r ∷ l) (older-all time (r.0 + 1) rs clock le up.1))
-  where
-    below : (low : ℕ) (rs : List Record) (clock : ℕ) → Rising low rs clock → low ≤ clock
-    below low [] clock h = h
-    below low (q ∷ qs) clock h = omega (arith, h.0, below (q.0 + 1) qs clock h.1)
+mark_at-zero who rs clock up = ap length (before-none 0 0 (records_by who rs) clock (omega arith) (rising-by who rs clock up))
 
 -- the clock marks all of a session's changes
 pub mark_at-now : (who : Who) (rs : List Record) (clock : ℕ) → Rising 0 rs clock → mark_at who clock rs ≡ length (records_by who rs)
-mark_at-now who rs clock up = ap length (older-all clock 0 (records_by who rs) clock (omega arith) (rising-by who rs clock up))
+mark_at-now who rs clock up = ap length (before-all clock 0 (records_by who rs) clock (omega arith) (rising-by who rs clock up))
 
 -- a further change leaves the marks of times up to its own
 pub mark_at-push : (who : Who) (rs : List Record) (clock : ℕ) (c : Change) (time : ℕ) → time ≤ clock → mark_at who time (rs ++ (clock, c) ∷ []) ≡ mark_at who time rs
-unfolding records_by
+unfolding records_by before
 mark_at-push who rs clock c time le =
     ap length
     (filter-swap (λ (r : Record). nat_lt r.0 time) (λ r. is_by who r.1) (rs ++ (clock, c) ∷ [])
-    ∙ ap (filter (λ (r : Record). is_by who r.1)) (filter-append (λ (r : Record). nat_lt r.0 time) rs ((clock, c) ∷ []) ∙ ap (λ b. older time rs ++ cond b ((clock, c) ∷ []) []) (le-ltb clock time le) ∙ append-nil (older time rs))
+    ∙ ap (filter (λ (r : Record). is_by who r.1)) (filter-append (λ (r : Record). nat_lt r.0 time) rs ((clock, c) ∷ []) ∙ ap (λ b. before time rs ++ cond b ((clock, c) ∷ []) []) (le-ltb clock time le) ∙ append-nil (before time rs))
     ∙ filter-swap (λ (r : Record). is_by who r.1) (λ r. nat_lt r.0 time) rs)

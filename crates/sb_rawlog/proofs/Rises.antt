@@ -62,14 +62,6 @@ module _ (r : Record) (ys : List Record) where
       let a : x.0 + 1 ≤ r.0 = first_below (x.0 + 1) xs clock h.1 in
       rw (lt-ltb x.0 r.0 (omega arith)) (ap (λ l. x ∷ l) (before-split (x.0 + 1) xs clock h.1))
 
-  -- they are all before any later time
-  pub before-front : (t low : ℕ) (xs : List Record) (clock : ℕ) → r.0 ≤ t → Rising low (xs ++ r ∷ ys) clock → before t xs ≡ xs
-  unfolding before
-  before-front t low [] clock le h = refl
-  before-front t low (x ∷ xs) clock le h =
-      let a : x.0 + 1 ≤ r.0 = first_below (x.0 + 1) xs clock h.1 in
-      rw (lt-ltb x.0 t (omega arith)) (ap (λ l. x ∷ l) (before-front t (x.0 + 1) xs clock le h.1))
-
   pub change_at-split : (low : ℕ) (xs : List Record) (clock : ℕ) → Rising low (xs ++ r ∷ ys) clock → change_at r.0 (xs ++ r ∷ ys) ≡ Some r.1
   unfolding change_at
   change_at-split low [] clock h = let e = eq-eqb r.0 r.0 refl in rw e refl
