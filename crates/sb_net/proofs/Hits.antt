@@ -1,10 +1,10 @@
 -- A rule is triggered where a walk over the changes of one of its kinds meets a tuple with one of its operations.
-use Rattle.std.proofs.Common.{◌≡◌, ℕ, Bool, true, false, ◌||◌, ◌&&◌, ◌==◌, cond, nat_le, nat_lt, List, [], ◌∷◌, ◌++◌, map, reverse, Option, Some, None, refl, sym, ap, ◌∙◌, subst, ◌⊎◌, inl, inr, eqb-true}
+use Rattle.std.proofs.Common.{◌≡◌, ℕ, Bool, true, false, ◌||◌, ◌&&◌, ◌==◌, cond, nat_le, nat_lt, List, [], ◌∷◌, map, reverse, refl, sym, ap, ◌∙◌, ◌⊎◌, inl, inr, eqb-true}
 use Rattle.std.specs.List.{list_any, filter}
 use Rattle.std.proofs.lemmas.List.{reverse-append}
 use Rattle.std.proofs.lemmas.List.Folds.{list_any-append}
 use Rattle.sb_value.specs.Flags.{share_place}
-use Rattle.sb_value.specs.NetEffect.{is_of, history, last_of, all_columns, net_between, net_of, net_effect, with_number, tuples_of, has_update, is_operation, is_triggered}
+use Rattle.sb_value.specs.NetEffect.{is_of, history, last_of, all_columns, net_between, net_of, with_number, tuples_of, has_update, is_operation, is_triggered}
 use Rattle.sb_value.specs.declared.id.Who.{Who}
 use Rattle.sb_value.specs.declared.change.Kind.{Kind}
 use Rattle.sb_value.specs.declared.change.Kind.TheVariants.{Inserted, Deleted, Updated}
@@ -12,7 +12,7 @@ use Rattle.sb_value.specs.declared.change.Change.{Change}
 use Rattle.sb_value.specs.declared.net.Triggers.{Triggers}
 use Rattle.sb_rawlog.specs.Changes.{is_by, same_kind, is_op, is_tuple}
 use Rattle.sb_rawlog.specs.Records.{Record, selected, walk}
-use Rattle.sb_rawlog.specs.Sessions.{changes, changes_since}
+use Rattle.sb_rawlog.specs.Sessions.{changes_since}
 use Rattle.sb_net.specs.Hits.{is_hit, any_hit, names_kind}
 use Rattle.sb_net.proofs.Folds.{history-since}
 
@@ -46,7 +46,7 @@ or_swap true false c = refl
 or_swap false true c = refl
 or_swap false false c = refl
 
-or_twice : (a c : Bool) → (a || c) ≡ (a || (a || c))
+pub or_twice : (a c : Bool) → (a || c) ≡ (a || (a || c))
 or_twice true c = refl
 or_twice false c = refl
 
@@ -62,7 +62,7 @@ or_false false = refl
 
 -- ---- lists
 
-any-reverse : {X : Type 0} (p : X → Bool) (xs : List X) → list_any p (reverse xs) ≡ list_any p xs
+pub any-reverse : {X : Type 0} (p : X → Bool) (xs : List X) → list_any p (reverse xs) ≡ list_any p xs
 any-reverse p [] = refl
 any-reverse p (x ∷ xs) =
     ap (list_any p) (reverse-append (x ∷ []) xs) ∙ list_any-append p (reverse xs) (x ∷ []) ∙ or_comm (list_any p (reverse xs)) (p x || false)
@@ -83,7 +83,7 @@ any_from {X} f p g q on (x ∷ xs) e =
       | false ↦ (λ _ r. rest r)
     ] refl e
 
-list_any-map : {X Y : Type 0} (p : Y → Bool) (f : X → Y) (xs : List X) → list_any p (map f xs) ≡ list_any (λ x. p (f x)) xs
+pub list_any-map : {X Y : Type 0} (p : Y → Bool) (f : X → Y) (xs : List X) → list_any p (map f xs) ≡ list_any (λ x. p (f x)) xs
 list_any-map p f [] = refl
 list_any-map p f (x ∷ xs) = ap (λ b. p (f x) || b) (list_any-map p f xs)
 

@@ -1,3 +1,4 @@
 mod Folds
 mod Hits
-pub mod Proper
+mod Tables
+mod Tuples

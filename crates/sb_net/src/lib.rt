@@ -3,7 +3,9 @@
 
 mod effect;
 mod span;
+mod transition;
 mod triggers;
 
 pub use effect::{NetOf, net};
+pub use transition::transition_tables;
 pub use triggers::is_triggered;

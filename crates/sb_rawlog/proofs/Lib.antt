@@ -1,3 +1,4 @@
 pub mod Spots
 pub mod Rises
 pub mod Sessions
+pub mod Marks

@@ -1,9 +1,9 @@
 -- What holds of the records of a log, whose times rise.
-use Rattle.std.proofs.Common.{◌≡◌, ℕ, zero, suc, ◌+◌, ◌<◌, ◌≤◌, Bool, true, false, not, cond, ◌&&◌, ◌==◌, eqb, List, [], ◌∷◌, ◌++◌, reverse, append-nil, length, take, drop, eq-eqb, ne_eqb, Option, Some, None, slice_get, nat_lt, nat_le, refl, sym, ap, ◌∙◌, arith, add-one, subst}
+use Rattle.std.proofs.Common.{◌≡◌, ℕ, zero, suc, ◌+◌, ◌<◌, ◌≤◌, Bool, true, false, cond, ◌&&◌, ◌==◌, List, [], ◌∷◌, ◌++◌, reverse, append-nil, length, take, drop, eq-eqb, ne_eqb, Option, Some, None, slice_get, nat_le, refl, sym, ap, ◌∙◌, arith, subst}
 use Rattle.std.specs.List.{filter}
 use Rattle.std.proofs.lemmas.List.{reverse-append}
 use Rattle.std.proofs.lemmas.List.Elements.{filter-append}
-use Rattle.std.proofs.lemmas.Bool.{lt-ltb, le-ltb, ltb-true}
+use Rattle.std.proofs.lemmas.Bool.{lt-ltb, le-ltb, lt-leb}
 use Rattle.std.proofs.lemmas.Option.{slice_get_within, slice_get-get_or}
 use Rattle.std.proofs.Math.ListN.{drop_of_length-le, get_or}
 use native.Mathlib.Numerals.{unary_clauses}
@@ -62,14 +62,6 @@ module _ (r : Record) (ys : List Record) where
       let a : x.0 + 1 ≤ r.0 = first_below (x.0 + 1) xs clock h.1 in
       rw (lt-ltb x.0 r.0 (omega arith)) (ap (λ l. x ∷ l) (before-split (x.0 + 1) xs clock h.1))
 
-  -- they are all before any later time
-  pub before-front : (t low : ℕ) (xs : List Record) (clock : ℕ) → r.0 ≤ t → Rising low (xs ++ r ∷ ys) clock → before t xs ≡ xs
-  unfolding before
-  before-front t low [] clock le h = refl
-  before-front t low (x ∷ xs) clock le h =
-      let a : x.0 + 1 ≤ r.0 = first_below (x.0 + 1) xs clock h.1 in
-      rw (lt-ltb x.0 t (omega arith)) (ap (λ l. x ∷ l) (before-front t (x.0 + 1) xs clock le h.1))
-
   pub change_at-split : (low : ℕ) (xs : List Record) (clock : ℕ) → Rising low (xs ++ r ∷ ys) clock → change_at r.0 (xs ++ r ∷ ys) ≡ Some r.1
   unfolding change_at
   change_at-split low [] clock h = let e = eq-eqb r.0 r.0 refl in rw e refl
@@ -111,6 +103,17 @@ split_at (y ∷ xs) (suc i) x e = let on = split_at xs i x e in (simp unary_clau
 pub read : {X : Type 0} (xs : List X) (i : ℕ) (x : X) → x ≡ get_or xs i x → i < length xs → slice_get xs i ≡ Some x
 read xs i x e lt = slice_get-get_or xs i x lt ∙ ap Some (sym e)
 
+module _ (rs : List Record) (i : ℕ) (r : Record) (clock : ℕ) (up : Rising 0 rs clock) (e : slice_get rs i ≡ Some r) where
+  cut_up : Rising 0 (take i rs ++ r ∷ drop (i + 1) rs) clock
+  cut_up = subst (λ l. Rising 0 l clock) (split_at rs i r e).0 up
+
+  -- the records before the time of one are those in front of it
+  pub before-index : before r.0 rs ≡ take i rs
+  before-index = ap (before r.0) (split_at rs i r e).0 ∙ before-split r (drop (i + 1) rs) 0 (take i rs) clock cut_up
+
+  pub change_at-index : change_at r.0 rs ≡ Some r.1
+  change_at-index = ap (change_at r.0) (split_at rs i r e).0 ∙ change_at-split r (drop (i + 1) rs) 0 (take i rs) clock cut_up
+
 module _ (t : ℕ) where
   ahead_step : (rs : List Record) (i : ℕ) (r : Record) → slice_get rs i ≡ Some r → drop i rs ≡ r ∷ drop (i + 1) rs
   ahead_step [] i r e = absurd (cc)
@@ -138,47 +141,45 @@ module _ (p : Change → Bool) (since : ℕ) where
         | false ↦ ap reverse (append-nil (filter f xs))
       ]
 
-  before-push : (t : ℕ) (xs : List Record) (r : Record) → before t (xs ++ r ∷ []) ≡ before t xs ++ cond (nat_lt r.0 t) (r ∷ []) []
-  unfolding before
-  before-push t xs r = filter-append (λ q. nat_lt q.0 t) xs (r ∷ [])
-
   -- a record that is not selected, at the end
-  pub passed : (until : ℕ) (rs : List Record) (n i : ℕ) (r : Record) → n ≡ i + 1 → slice_get rs i ≡ Some r → (nat_lt r.0 until && (nat_le since r.0 && p r.1)) ≡ false
-      → walk p since (before until (take n rs)) ≡ walk p since (before until (take i rs))
-  passed until rs n i r next e not_so =
-      ap (λ m. walk p since (before until (take m rs))) next ∙ ap (λ l. walk p since (before until l)) (split_at rs i r e).1 ∙ ap (walk p since) (before-push until (take i rs) r) ∙
-      elim (nat_lt r.0 until) as (λ b. (b && (nat_le since r.0 && p r.1)) ≡ false → walk p since (before until (take i rs) ++ cond b (r ∷ []) []) ≡ walk p since (before until (take i rs))) [
-        | true ↦ (λ n. walk-push (before until (take i rs)) r ∙ ap (λ b. cond b (r ∷ walk p since (before until (take i rs))) (walk p since (before until (take i rs)))) n)
-        | false ↦ (λ n. ap (walk p since) (append-nil (before until (take i rs))))
-      ] not_so
+  pub passed : (rs : List Record) (n i : ℕ) (r : Record) → n ≡ i + 1 → slice_get rs i ≡ Some r → (nat_le since r.0 && p r.1) ≡ false → walk p since (take n rs) ≡ walk p since (take i rs)
+  passed rs n i r next e not_so =
+      ap (λ m. walk p since (take m rs)) next ∙ ap (walk p since) (split_at rs i r e).1 ∙ walk-push (take i rs) r ∙ ap (λ b. cond b (r ∷ walk p since (take i rs)) (walk p since (take i rs))) not_so
 
   -- one that is
-  pub found : (until : ℕ) (rs todo : List Record) (clock n i : ℕ) (r : Record) → n ≡ i + 1 → Rising 0 rs clock → slice_get rs i ≡ Some r → (nat_lt r.0 until && (nat_le since r.0 && p r.1)) ≡ true
-      → todo ≡ walk p since (before until (take n rs)) → Found p since rs todo i
-  found until rs todo clock n i r next up e chosen so =
+  pub found : (rs todo : List Record) (clock n i : ℕ) (r : Record) → n ≡ i + 1 → Rising 0 rs clock → slice_get rs i ≡ Some r → (nat_le since r.0 && p r.1) ≡ true
+      → todo ≡ walk p since (take n rs) → Found p since rs todo i
+  found rs todo clock n i r next up e chosen so =
       let cut = split_at rs i r e in
-      let up2 : Rising 0 (take i rs ++ r ∷ drop (i + 1) rs) clock = subst (λ l. Rising 0 l clock) cut.0 up in
       let front : List Record = take i rs in
-      let lt : nat_lt r.0 until ≡ true = and_left (nat_lt r.0 until) (nat_le since r.0 && p r.1) chosen in
-      let sel : (nat_le since r.0 && p r.1) ≡ true = and_right (nat_lt r.0 until) (nat_le since r.0 && p r.1) chosen in
-      let later : r.0 < until = ltb-true r.0 until lt in
-      let here : before r.0 rs ≡ front = ap (before r.0) cut.0 ∙ before-split r (drop (i + 1) rs) 0 front clock up2 in
-      let lies : before until front ≡ front = before-front r (drop (i + 1) rs) until 0 front clock (omega arith) up2 in
       record {
         within = slice_get_within rs i r e;
         record_at = r;
         is = e;
-        fits = and_right (nat_le since r.0) (p r.1) sel;
-        here = ap (change_at r.0) cut.0 ∙ change_at-split r (drop (i + 1) rs) 0 front clock up2;
-        first = so ∙ ap (λ m. walk p since (before until (take m rs))) next ∙ ap (λ l. walk p since (before until l)) cut.1 ∙ ap (walk p since) (before-push until front r)
-            ∙ ap (λ b. walk p since (before until front ++ cond b (r ∷ []) [])) lt ∙ walk-push (before until front) r
-            ∙ ap (λ b. cond b (r ∷ walk p since (before until front)) (walk p since (before until front))) sel
-            ∙ ap (λ l. r ∷ walk p since l) (lies ∙ sym here);
+        fits = and_right (nat_le since r.0) (p r.1) chosen;
+        here = change_at-index rs i r clock up e;
+        first = so ∙ ap (λ m. walk p since (take m rs)) next ∙ ap (walk p since) cut.1 ∙ walk-push front r ∙ ap (λ b. cond b (r ∷ walk p since front) (walk p since front)) chosen
+            ∙ ap (λ l. r ∷ walk p since l) (sym (before-index rs i r clock up e));
       }
 
-  pub walk-nil : (until : ℕ) (rs : List Record) (n : ℕ) → n ≡ 0 → walk p since (before until (take n rs)) ≡ []
-  unfolding walk selected before
-  walk-nil until rs n e = ap (λ m. walk p since (before until (take m rs))) e
+  -- those in front of one that is too old are too old
+  too_old : (r : Record) (ys : List Record) → r.0 < since → (low : ℕ) (xs : List Record) (clock : ℕ) → Rising low (xs ++ r ∷ ys) clock → selected p since (xs ++ r ∷ []) ≡ []
+  unfolding selected
+  too_old r ys old low [] clock up = ap (λ b. cond (b && p r.1) (r ∷ []) []) (lt-leb since r.0 old)
+  too_old r ys old low (x ∷ xs) clock up =
+      let a : x.0 + 1 ≤ r.0 = first_below r ys (x.0 + 1) xs clock up.1 in
+      ap (λ b. cond (b && p x.1) (x ∷ selected p since (xs ++ r ∷ [])) (selected p since (xs ++ r ∷ []))) (lt-leb since x.0 (omega arith)) ∙ too_old r ys old (x.0 + 1) xs clock up.1
+
+  pub none_older : (rs : List Record) (clock n i : ℕ) (r : Record) → n ≡ i + 1 → Rising 0 rs clock → slice_get rs i ≡ Some r → r.0 < since → walk p since (take n rs) ≡ []
+  unfolding walk
+  none_older rs clock n i r next up e old =
+      let cut = split_at rs i r e in
+      ap (λ m. walk p since (take m rs)) next ∙ ap (walk p since) cut.1
+      ∙ ap reverse (too_old r (drop (i + 1) rs) old 0 (take i rs) clock (subst (λ l. Rising 0 l clock) cut.0 up))
+
+  pub walk-nil : (rs : List Record) (n : ℕ) → n ≡ 0 → walk p since (take n rs) ≡ []
+  unfolding walk selected
+  walk-nil rs n e = ap (λ m. walk p since (take m rs)) e
 
 pub same_record : (r : Record) (t : ℕ) (c : Change) → r.0 ≡ t → Some r.1 ≡ Some c → r ≡ (t, c)
 same_record r t c e f = let g : r.1 ≡ c = cc in λ j. (e j, g j)

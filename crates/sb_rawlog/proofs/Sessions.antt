@@ -1,17 +1,17 @@
 -- What a log holds of one session, after a change of the log.
-use Rattle.std.proofs.Common.{◌≡◌, ◌≢◌, ℕ, zero, ◌+◌, ◌<◌, ◌≤◌, Bool, true, false, not, cond, ◌&&◌, ◌==◌, eqb, List, [], ◌∷◌, ◌++◌, map, reverse, append-nil, length, take, drop, eq-eqb, eqb-true, Option, Some, None, slice_get, nat_lt, nat_le, refl, sym, ap, ◌∙◌, arith, subst}
+use Rattle.std.proofs.Common.{◌≡◌, ◌≢◌, ℕ, ◌+◌, ◌<◌, Bool, true, false, not, cond, ◌&&◌, ◌==◌, List, [], ◌∷◌, ◌++◌, reverse, append-nil, eq-eqb, eqb-true, Option, Some, None, nat_lt, nat_le, refl, sym, ap, ◌∙◌, arith}
 use Rattle.std.specs.List.{filter, list_all}
 use Rattle.std.proofs.lemmas.List.{reverse-append, reverse-reverse, map-append}
 use Rattle.std.proofs.lemmas.List.Elements.{filter-append}
 use Rattle.std.proofs.lemmas.List.Folds.{list_all-append}
-use Rattle.std.proofs.lemmas.Bool.{lt-ltb, le-leb, ltb-true, le-ltb}
+use Rattle.std.proofs.lemmas.Bool.{le-leb, ltb-true}
 use Rattle.sb_value.specs.declared.id.Who.{Who}
 use Rattle.sb_value.specs.declared.change.Change.{Change}
 use Rattle.sb_rawlog.specs.Changes.{author, is_by}
 use Rattle.sb_rawlog.specs.Records.{Record, Rising, selected, walk, before, without, others, change_at}
-use Rattle.sb_rawlog.specs.Sessions.{records_by, changes, changes_by, changes_since, mark_at, OthersStay, TakesLast}
+use Rattle.sb_rawlog.specs.Sessions.{records_by, changes, changes_by, OthersStay, TakesLast}
 use Rattle.sb_rawlog.specs.Steps.{Newest, TakesNewest}
-use Rattle.sb_rawlog.proofs.Rises.{and_left, and_right, rising_lower, without-above, before-none}
+use Rattle.sb_rawlog.proofs.Rises.{and_left, and_right, without-above}
 
 -- ---- whose change it is
 

@@ -1,5 +1,6 @@
 -- What the steps of a plain log answer, from the index that was found.
-use Rattle.std.proofs.Common.{◌≡◌, ℕ, ◌+◌, ◌-◌, Bool, true, false, not, ◌&&◌, ◌==◌, List, [], ◌∷◌, ◌++◌, length, take, drop, Option, Some, slice_get, refl, sym, ap, ◌∙◌, subst, arith, eqb-true}
+use Rattle.std.proofs.Common.{◌≡◌, ℕ, ◌+◌, Bool, true, not, ◌&&◌, ◌==◌, List, [], ◌∷◌, ◌++◌, length, take, drop, Some, slice_get, refl, sym, ap, ◌∙◌, subst, eqb-true}
+use Rattle.std.proofs.Math.Seq.{take-length}
 use Rattle.sb_value.specs.declared.id.Who.{Who}
 use Rattle.sb_value.specs.declared.change.Kind.{Kind}
 use Rattle.sb_value.specs.declared.change.Kind.TheVariants.{Inserted, Deleted, Updated}
@@ -8,8 +9,8 @@ use Rattle.sb_rawlog.specs.Changes.{same_kind, is_op, is_tuple, is_by}
 use Rattle.sb_rawlog.specs.declared.spot.Spot.{Spot}
 use Rattle.sb_rawlog.specs.Records.{Record, Rising, walk, before, without, others, change_at}
 use Rattle.sb_rawlog.specs.Found.{Found}
-use Rattle.sb_rawlog.specs.Steps.{Comes, OpSpot, TupleSpot, Newest}
-use Rattle.sb_rawlog.proofs.Rises.{and_right, before-all, split_at, without-split, rising-filter}
+use Rattle.sb_rawlog.specs.Steps.{OpSpot, TupleSpot, Newest}
+use Rattle.sb_rawlog.proofs.Rises.{and_right, before-index, split_at, without-split, rising-filter}
 
 pub same_kind-eq : (a b : Kind) → same_kind a b ≡ true → a ≡ b
 same_kind-eq Inserted Inserted e = refl
@@ -72,17 +73,23 @@ tuple_spot ok rs todo who table tuple since i r f e fine =
 abbrev pub newest_found : (who : Who) (rs todo : List Record) (i : ℕ) (r : Record) → Found (is_by who) 0 rs todo i → todo ≡ walk (is_by who) 0 rs → slice_get rs i ≡ Some r → Newest who rs r.1
 newest_found who rs todo i r f is e = record { time = r.0; here = it_here (is_by who) 0 rs todo i r f e; first = sym is ∙ it_first (is_by who) 0 rs todo i r f e }
 
-pub from_list : (p : Change → Bool) (since : ℕ) (ds rs : List Record) (until i : ℕ) → ds ≡ rs → Found p since ds (walk p since (before until ds)) i → Found p since rs (walk p since (before until rs)) i
-from_list p since ds rs until i same f = subst (λ (l : List Record). Found p since l (walk p since (before until l)) i) same f
+-- what was found in a list that is the log's: in all of it, or before a time
+pub from_all : (p : Change → Bool) (since : ℕ) (ds rs : List Record) (end i : ℕ) → ds ≡ rs → end ≡ length rs → Found p since ds (walk p since (take end ds)) i → Found p since rs (walk p since rs) i
+from_all p since ds rs end i same whole f =
+    subst (λ (l : List Record). Found p since rs (walk p since l) i) (ap (λ n. take n rs) whole ∙ take-length rs) (subst (λ (l : List Record). Found p since l (walk p since (take end l)) i) same f)
 
--- what was found in a list that is the log's, from its clock on
-pub from_clock : (p : Change → Bool) (since : ℕ) (ds rs : List Record) (clock i : ℕ) → ds ≡ rs → Rising 0 rs clock → Found p since ds (walk p since (before clock ds)) i → Found p since rs (walk p since rs) i
-from_clock p since ds rs clock i same up f =
-    subst (λ (l : List Record). Found p since rs (walk p since l) i) (before-all clock 0 rs clock (omega arith) up) (from_list p since ds rs clock i same f)
+pub none_from_all : (p : Change → Bool) (since : ℕ) (ds rs : List Record) (end : ℕ) → ds ≡ rs → end ≡ length rs → walk p since (take end ds) ≡ [] → walk p since rs ≡ []
+none_from_all p since ds rs end same whole none = ap (walk p since) (sym (take-length rs) ∙ (λ j. take (sym whole j) (sym same j))) ∙ none
 
-pub none_from_clock : (p : Change → Bool) (since : ℕ) (ds rs : List Record) (clock : ℕ) → ds ≡ rs → Rising 0 rs clock → walk p since (before clock ds) ≡ [] → walk p since rs ≡ []
-none_from_clock p since ds rs clock same up none =
-    ap (walk p since) (sym (ap (before clock) same ∙ before-all clock 0 rs clock (omega arith) up)) ∙ none
+module _ (p : Change → Bool) (since : ℕ) (ds rs : List Record) (end time : ℕ) (c : Change) (clock : ℕ) (same : ds ≡ rs) (up : Rising 0 rs clock) (e : slice_get rs end ≡ Some (time, c)) where
+  front : take end ds ≡ before time rs
+  front = ap (take end) same ∙ sym (before-index rs end (time, c) clock up e)
+
+  pub from_time : (i : ℕ) → Found p since ds (walk p since (take end ds)) i → Found p since rs (walk p since (before time rs)) i
+  from_time i f = subst (λ (l : List Record). Found p since rs (walk p since l) i) front (subst (λ (l : List Record). Found p since l (walk p since (take end ds)) i) same f)
+
+  pub none_from_time : walk p since (take end ds) ≡ [] → walk p since (before time rs) ≡ []
+  none_from_time none = ap (walk p since) (sym front) ∙ none
 
 -- what is left when a record is taken out
 pub removed : (rs news : List Record) (clock i : ℕ) (r : Record) → Rising 0 rs clock → slice_get rs i ≡ Some r → news ≡ take i rs ++ drop (i + 1) rs → news ≡ without r.0 rs

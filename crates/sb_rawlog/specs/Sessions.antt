@@ -1,10 +1,10 @@
 -- What a log holds of one session.
-use Rattle.std.specs.Prelude.{◌≡◌, ◌≢◌, ℕ, ◌&&◌, nat_lt, nat_le, List, [], ◌∷◌, ◌++◌, map, length, Option, Some, None}
+use Rattle.std.specs.Prelude.{◌≡◌, ◌≢◌, ℕ, nat_lt, List, [], ◌∷◌, ◌++◌, map, length, drop, Option, Some, None}
 use Rattle.std.specs.List.{filter}
 use Rattle.sb_value.specs.declared.id.Who.{Who}
 use Rattle.sb_value.specs.declared.change.Change.{Change}
 use Rattle.sb_rawlog.specs.Changes.{is_by}
-use Rattle.sb_rawlog.specs.Records.{Record, selected}
+use Rattle.sb_rawlog.specs.Records.{Record, selected, before}
 
 -- a session's records, oldest first
 unfoldable pub records_by : Who → List Record → List Record
@@ -23,7 +23,11 @@ changes_since who since rs = changes (selected (is_by who) since rs)
 
 -- a time as a mark: how many of the session's changes are older
 abbrev pub mark_at : Who → ℕ → List Record → ℕ
-mark_at who time rs = length (filter (λ r. nat_lt r.0 time) (records_by who rs))
+mark_at who time rs = length (before time (records_by who rs))
+
+-- the changes that are no older than a time are the session's without as many as the time marks
+abbrev pub MarksCut : List Record → Type 0
+MarksCut rs = (who : Who) (time : ℕ) → changes_since who time rs ≡ drop (mark_at who time rs) (changes_by who rs)
 
 -- the records of every other session are as before
 abbrev pub OthersStay : Who → List Record → List Record → Type 0

@@ -1,5 +1,5 @@
 //! What a walk looks for.
-ghost use Rattle.std.specs.Prelude.{◌≡◌, ◌&&◌, nat_lt, nat_le};
+ghost use Rattle.std.specs.Prelude.{◌≡◌};
 ghost use Rattle.sb_rawlog.specs.Changes.{is_by, same_kind};
 ghost use Rattle.sb_rawlog.specs.Keys.{fits};
 
@@ -45,12 +45,5 @@ impl Key {
             }
             Key::Session(who) => is_by(change, *who),
         }
-    }
-
-    /// Whether the record fits, is no older than `since` and lies before `until`.
-    pub(crate) fn selects(&self, entry: &(u64, Change), until: u64, since: u64) -> bool
-        ensures { result ≡ (nat_lt entry.now.0 until && (nat_le since entry.now.0 && fits self.now entry.now.1)) }
-    {
-        entry.0 < until && since <= entry.0 && self.fits(&entry.1)
     }
 }

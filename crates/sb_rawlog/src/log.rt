@@ -3,7 +3,7 @@ ghost use Rattle.std.specs.Prelude.{◌≡◌, ℕ, ◌+◌, ◌-◌, ◌<◌, �
 ghost use Rattle.sb_rawlog.specs.Changes.{author, is_op, is_tuple};
 ghost use Rattle.sb_rawlog.specs.declared.spot.Spot.{Spot};
 ghost use Rattle.sb_rawlog.specs.Records.{Record, Rising, walk, others, change_at};
-ghost use Rattle.sb_rawlog.specs.Sessions.{changes_by, OthersStay, TakesLast};
+ghost use Rattle.sb_rawlog.specs.Sessions.{changes_by, MarksCut, OthersStay, TakesLast};
 ghost use Rattle.sb_rawlog.specs.Steps.{OpFirst, OpNext, TupleFirst, TupleNext, SpotsStay, IsNewest, TakesNewest, op_todo, tuple_todo};
 
 use crate::spot::Spot;
@@ -53,7 +53,8 @@ pub trait ChangeLog {
     /// The time of the next change.
     fn now(&self) -> u64
         ensures clock { result ≡ clock self.now }
-        ensures rising { Rising 0 (records self.now) result };
+        ensures rising { Rising 0 (records self.now) result }
+        ensures marks { MarksCut (records self.now) };
 
     /// The number of changes.
     fn len(&self) -> usize

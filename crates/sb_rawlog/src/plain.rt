@@ -75,7 +75,7 @@ impl ChangeLog for PlainLog {
     fn op_first(&self, who: Who, table: TableId, kind: Kind, since: u64) -> Option<Spot> {
         let session = who;
         let key = Key::Op(session, table, kind);
-        let Some(i) = newest_before(&self.items, self.clock, since, &key) else {
+        let Some(i) = newest_before(&self.items, self.items.len(), since, &key) else {
             return None;
         };
         let (time, change) = &self.items[i];
@@ -92,7 +92,8 @@ impl ChangeLog for PlainLog {
 
     fn op_next(&self, spot: Spot) -> Option<Spot> {
         let key = Key::Op(spot.who, spot.table, spot.kind);
-        let Some(i) = newest_before(&self.items, spot.time, spot.since, &key) else {
+        let end = index_of(&self.items, spot.place, spot.time);
+        let Some(i) = newest_before(&self.items, end, spot.since, &key) else {
             return None;
         };
         let (time, change) = &self.items[i];
@@ -110,7 +111,7 @@ impl ChangeLog for PlainLog {
     fn tuple_first(&self, who: Who, table: TableId, tuple: u64, since: u64) -> Option<Spot> {
         let session = who;
         let key = Key::Tuple(session, table, tuple);
-        let Some(i) = newest_before(&self.items, self.clock, since, &key) else {
+        let Some(i) = newest_before(&self.items, self.items.len(), since, &key) else {
             return None;
         };
         let (time, change) = &self.items[i];
@@ -127,7 +128,8 @@ impl ChangeLog for PlainLog {
 
     fn tuple_next(&self, spot: Spot) -> Option<Spot> {
         let key = Key::Tuple(spot.who, spot.table, spot.tuple);
-        let Some(i) = newest_before(&self.items, spot.time, spot.since, &key) else {
+        let end = index_of(&self.items, spot.place, spot.time);
+        let Some(i) = newest_before(&self.items, end, spot.since, &key) else {
             return None;
         };
         let (time, change) = &self.items[i];
@@ -143,12 +145,12 @@ impl ChangeLog for PlainLog {
     }
 
     fn get(&self, spot: Spot) -> (u64, &Change) {
-        let (time, change) = &self.items[index_of(&self.items, spot.time)];
+        let (time, change) = &self.items[index_of(&self.items, spot.place, spot.time)];
         (*time, change)
     }
 
     fn newest(&self, who: Who) -> Option<&Change> {
-        let Some(i) = newest_before(&self.items, self.clock, 0, &Key::Session(who)) else {
+        let Some(i) = newest_before(&self.items, self.items.len(), 0, &Key::Session(who)) else {
             return None;
         };
         let (_, change) = &self.items[i];
@@ -156,7 +158,7 @@ impl ChangeLog for PlainLog {
     }
 
     fn take_newest(&mut self, who: Who) -> Option<Change> {
-        let Some(i) = newest_before(&self.items, self.clock, 0, &Key::Session(who)) else {
+        let Some(i) = newest_before(&self.items, self.items.len(), 0, &Key::Session(who)) else {
             return None;
         };
         let (_, change) = self.items.remove(i);

@@ -1,6 +1,4 @@
-use Rattle.std.proofs.Common.{◌≡◌, ◌∷◌, sym, ap, ◌∙◌}
-use Rattle.sb_rawlog.specs.Changes.{is_tuple}
-use Rattle.sb_rawlog.specs.Records.{walk}
+use Rattle.std.proofs.Common.{◌∷◌, sym, ap, ◌∙◌}
 use Rattle.sb_rawlog.specs.Steps.{tuple_todo}
 use Rattle.sb_net.proofs.Folds.{begun, none_since}
 use Rattle.sb_net.proofs.span.span_of.Goals as goal

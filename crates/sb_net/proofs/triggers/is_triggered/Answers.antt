@@ -1,5 +1,5 @@
 use Rattle.std.proofs.Common.{sym, ◌∙◌}
-use Rattle.sb_value.specs.declared.change.Kind.TheVariants.{Inserted, Deleted, Updated}
+use Rattle.sb_value.specs.declared.change.Kind.TheVariants.{Inserted, Deleted}
 use Rattle.sb_net.proofs.Hits.{some_hit, last_kind}
 use Rattle.sb_net.proofs.triggers.is_triggered.Goals as goal
 

@@ -1,5 +1,6 @@
-use Rattle.std.proofs.Common.{Some, ◌∙◌, sym, ap, ne_eqb, eq-eqb}
-use Rattle.sb_rawlog.proofs.Rises.{read, ahead_passed, ahead_here, ahead-none, same_record, not_both}
+use Rattle.std.proofs.Common.{◌≡◌, Some, ◌∙◌, sym, ap, ne_eqb, eq-eqb}
+use Rattle.sb_rawlog.specs.Records.{Record, change_at}
+use Rattle.sb_rawlog.proofs.Rises.{change_at-index, read, ahead_passed, ahead_here, ahead-none, same_record, not_both}
 use Rattle.sb_rawlog.proofs.find.index_of.Goals as goal
 
 pub loop-i-preserved : goal.loop-i-preserved
@@ -14,7 +15,16 @@ returns-then-record-time-clause-record c = λ change is.
     e ∙ ap Some (same_record r c.args.time change c.if-record-time.true (sym (c.loop-i.invariant ∙ ahead_here c.args.time c.args.items.now c.loop-i.i r e (eq-eqb r.0 c.args.time c.if-record-time.true)) ∙ is))
 
 pub returns-clause-within : goal.returns-clause-within
-returns-clause-within c = absurd (not_both c.requires.1 (c.loop-i.invariant ∙ ahead-none c.args.time c.args.items.now c.loop-i.i c.loop-i-test.false))
+returns-clause-within c = absurd (not_both c.requires.there.1 (c.loop-i.invariant ∙ ahead-none c.args.time c.args.items.now c.loop-i.i c.loop-i-test.false))
 
 pub returns-clause-record : goal.returns-clause-record
-returns-clause-record c = absurd (not_both c.requires.1 (c.loop-i.invariant ∙ ahead-none c.args.time c.args.items.now c.loop-i.i c.loop-i-test.false))
+returns-clause-record c = absurd (not_both c.requires.there.1 (c.loop-i.invariant ∙ ahead-none c.args.time c.args.items.now c.loop-i.i c.loop-i-test.false))
+
+pub returns-then-items-place-clause-record : goal.returns-then-items-place-clause-record
+returns-then-items-place-clause-record c = λ change is.
+    let rs = c.args.items.now in
+    let r : Record = c.index-items-place.result in
+    let e = read rs c.args.place r c.index-items-place.is c.if-place-items.true in
+    let here = sym (change_at-index rs c.args.place r c.requires.rising.0 c.requires.rising.1 e) in
+    let at : r.0 ≡ c.args.time = ap (λ (q : Record). q.0) c.index-items-place.is ∙ c.if-items-place.true in
+    e ∙ ap Some (same_record r c.args.time change at (here ∙ ap (λ t. change_at t rs) at ∙ is))

@@ -1,5 +1,5 @@
 use Rattle.std.proofs.Common.{◌≡◌, ◌≤◌, length, take}
-use Rattle.sb_rawlog.specs.Records.{walk, before}
+use Rattle.sb_rawlog.specs.Records.{walk}
 use Rattle.sb_rawlog.specs.Keys.{fits}
 use Rattle.sb_rawlog.proofs.find.newest_before.Given as goal
 
@@ -7,7 +7,7 @@ use Rattle.sb_rawlog.proofs.find.newest_before.Given as goal
 abbrev pub invariant-loop-i : goal.invariant-loop-i
 invariant-loop-i l = record {
   within : l.i ≤ length l.items;
-  passed : walk (fits l.key) l.since (before l.until l.items) ≡ walk (fits l.key) l.since (before l.until (take l.i l.items));
+  passed : walk (fits l.key) l.since (take l.end l.items) ≡ walk (fits l.key) l.since (take l.i l.items);
 }
 
 abbrev pub decreases-loop-i : goal.decreases-loop-i

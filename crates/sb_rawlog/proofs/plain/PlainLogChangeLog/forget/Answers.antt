@@ -1,6 +1,5 @@
-use Rattle.std.proofs.Common.{◌≡◌, not, rules, List, sym, ap, ◌∙◌, subst}
+use Rattle.std.proofs.Common.{not, rules, List, sym, ap, ◌∙◌, subst}
 use Rattle.std.proofs.lemmas.Fn.{filter_same}
-use Rattle.sb_value.specs.declared.id.Who.{Who}
 use Rattle.sb_rawlog.specs.Changes.{is_by}
 use Rattle.sb_rawlog.specs.Records.{Record, others}
 use Rattle.sb_rawlog.specs.Sessions.{changes_by, OthersStay}

@@ -1,0 +1,128 @@
+//! A rule's transition tables.
+ghost use Rattle.std.specs.Prelude.{◌≡◌, ◌++◌, map, IfOk, OnOk};
+ghost use Rattle.sb_value.specs.NetEffect.{net_effect, tuples_of, transition_tables};
+ghost use Rattle.sb_rawlog.specs.Changes.{is_op};
+ghost use Rattle.sb_rawlog.specs.Records.{walk};
+ghost use Rattle.sb_rawlog.specs.Sessions.{changes_since};
+ghost use Rattle.sb_net.specs.Seen.{seen};
+ghost use Rattle.sb_net.specs.Tables.{with_net};
+
+use crate::effect::{NetOf, net};
+use sb_rawlog::ChangeLog;
+use sb_value::{Kind, Row, RowList, TableId, Transition, Triggers, Value, Who};
+use std::alloc::{AllocError, Global};
+
+/// Adds the numbers of the tuples that have a change of the kind, one for each such change.
+fn push_tuples<L: ChangeLog>(
+    tuples: &mut Vec<u64>,
+    log: &L,
+    who: &Who,
+    table: TableId,
+    kind: Kind,
+    since: u64,
+) -> Result<(), AllocError>
+    ensures { let found = walk (is_op who.now table kind) since (L.records log.now) in
+        OnOk result (tuples.new.items ≡ tuples.old.items ++ map (λ r. r.1.tuple) found) }
+{
+    for (_, change) in log.by_op(*who, table, kind, since) {
+        tuples.push(change.tuple)?;
+    }
+    Ok(())
+}
+
+/// The numbers of the tuples of the table that the session has changed, rising.
+fn tuples_of<L: ChangeLog>(
+    alloc: Global,
+    log: &L,
+    who: &Who,
+    table: TableId,
+    since: u64,
+) -> Result<Vec<u64>, AllocError>
+    ensures { IfOk result (λ v. v.items ≡ tuples_of (changes_since who.now since (L.records log.now)) table) }
+{
+    let mut tuples = Vec::new(alloc);
+    push_tuples(&mut tuples, log, who, table, Kind::Inserted, since)?;
+    push_tuples(&mut tuples, log, who, table, Kind::Deleted, since)?;
+    push_tuples(&mut tuples, log, who, table, Kind::Updated, since)?;
+    tuples.sort_unstable();
+    tuples.dedup();
+    Ok(tuples)
+}
+
+/// A row of these values.
+fn row_of(alloc: Global, values: &[Value]) -> Result<Row, AllocError>
+    ensures { IfOk result (λ row. row ≡ values.now) }
+{
+    let mut row = Row::new(alloc);
+    for value in values {
+        row.push(value.clone()?)?;
+    }
+    Ok(row)
+}
+
+/// Adds the rows of a net effect.
+fn push_net(
+    alloc: Global,
+    tables: &mut Transition,
+    triggers: &Triggers,
+    net: &NetOf<'_>,
+) -> Result<(), AllocError>
+    ensures { OnOk result (tables.new ≡ with_net triggers.now tables.old (Some (seen net.now))) }
+{
+    match *net {
+        NetOf::Inserted(new) => tables.inserted.push(row_of(alloc, new)?)?,
+        NetOf::Deleted(old) => tables.deleted.push(row_of(alloc, old)?)?,
+        NetOf::Updated(old, new, columns) => {
+            if triggers.updated || triggers.columns.intersects(columns) {
+                tables.old_updated.push(row_of(alloc, old)?)?;
+                tables.new_updated.push(row_of(alloc, new)?)?;
+            }
+        }
+    }
+    Ok(())
+}
+
+/// Adds the rows of the net effect on one tuple.
+fn push_tuple<L: ChangeLog>(
+    alloc: Global,
+    tables: &mut Transition,
+    triggers: &Triggers,
+    log: &L,
+    who: &Who,
+    table: TableId,
+    tuple: u64,
+    since: u64,
+) -> Result<(), AllocError>
+    ensures { let changes = changes_since who.now since (L.records log.now) in
+        OnOk result (tables.new ≡ with_net triggers.now tables.old (net_effect changes table tuple)) }
+{
+    match net(log, *who, table, tuple, since) {
+        Some(net) => push_net(alloc, tables, triggers, &net),
+        None => Ok(()),
+    }
+}
+
+/// The transition tables of the session's changes that are no older than `since`.
+pub fn transition_tables<L: ChangeLog>(
+    alloc: Global,
+    log: &L,
+    who: Who,
+    table: TableId,
+    triggers: Triggers,
+    since: u64,
+) -> Result<Transition, AllocError>
+    ensures { let changes = changes_since who since (L.records log.now) in
+        IfOk result (λ tables. tables ≡ transition_tables triggers table changes) }
+{
+    let tuples = tuples_of(alloc, log, &who, table, since)?;
+    let mut tables = Transition {
+        inserted: RowList::new(alloc),
+        deleted: RowList::new(alloc),
+        old_updated: RowList::new(alloc),
+        new_updated: RowList::new(alloc),
+    };
+    for tuple in &tuples {
+        push_tuple(alloc, &mut tables, &triggers, log, &who, table, *tuple, since)?;
+    }
+    Ok(tables)
+}
