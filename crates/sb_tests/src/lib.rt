@@ -1,0 +1,5 @@
+//! Tests across the crates.
+#![tactic(auto)]
+
+#[cfg(test)]
+mod syntax;
