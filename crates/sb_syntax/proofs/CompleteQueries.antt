@@ -1,4 +1,4 @@
--- The same of conditions, queries, changes and commands.
+-- The same of conditions and queries.
 use Rattle.std.proofs.Common.{◌≡◌, ◌≤◌, ◌<◌, ℕ, suc, Bool, true, false, List, [], ◌∷◌, length, Option, Some, None, ap, sym, ◌∙◌, refl, arith}
 use Rattle.std.proofs.lemmas.Option.{same_Some}
 use Rattle.sb_value.specs.declared.value.Value.{Value}
@@ -37,10 +37,10 @@ pub record StopsQuery (ts : Input) : Type 0 where
   pub no_comma : sees k.Comma ts ≡ false
 
 -- a token that goes on with none of them
-stops : (kind : Kind) (ts rest : Input) → Is kind ts rest → dot (Some kind) ≡ false → r.multiplies (Some kind) ≡ None → r.adds (Some kind) ≡ None → Stops ts
+pub stops : (kind : Kind) (ts rest : Input) → Is kind ts rest → dot (Some kind) ≡ false → r.multiplies (Some kind) ≡ None → r.adds (Some kind) ≡ None → Stops ts
 stops kind ts rest is d a b = record { term = record { no_dot = ap dot (is-kind kind ts rest is) ∙ d; no_product = ap r.multiplies (is-kind kind ts rest is) ∙ a }; no_sum = ap r.adds (is-kind kind ts rest is) ∙ b }
 
-stops-query : (kind : Kind) (ts rest : Input) → Is kind ts rest → dot (Some kind) ≡ false → r.multiplies (Some kind) ≡ None → r.adds (Some kind) ≡ None → r.ands (Some kind) ≡ None → r.ors (Some kind) ≡ None
+pub stops-query : (kind : Kind) (ts rest : Input) → Is kind ts rest → dot (Some kind) ≡ false → r.multiplies (Some kind) ≡ None → r.adds (Some kind) ≡ None → r.ands (Some kind) ≡ None → r.ors (Some kind) ≡ None
     → same_kind kind k.Where ≡ false → same_kind kind k.Name ≡ false → same_kind kind k.Comma ≡ false → StopsQuery ts
 stops-query kind ts rest is d a b c e w n m = record {
   cond = record {
@@ -52,12 +52,12 @@ stops-query kind ts rest is d a b c e w n m = record {
   no_comma = is-other kind k.Comma ts rest is m;
 }
 
-paren-stops : (ts rest : Input) → Is k.RightParen ts rest → StopsQuery ts
+pub paren-stops : (ts rest : Input) → Is k.RightParen ts rest → StopsQuery ts
 unfolding same_kind
 paren-stops ts rest is = stops-query k.RightParen ts rest is refl refl refl refl refl refl refl refl
 
 -- a list ends where no separator stands
-no_separator : {A : Type 0} (sep : Kind) (ts : Input) → sees sep ts ≡ false → pushes {A = A} sep (kind_at ts) ≡ None
+pub no_separator : {A : Type 0} (sep : Kind) (ts : Input) → sees sep ts ≡ false → pushes {A = A} sep (kind_at ts) ≡ None
 no_separator {A = A} sep ts absent = pushes_no sep ts false (sym absent) refl
 
 -- one step after another
@@ -193,10 +193,10 @@ unfolding r.query_to r.inner_query
 subquery-step depth q ts x y rest is h close = subquery-case (r.query_with (r.inner_query depth)) q ts x y rest is h close
 
 -- what stands behind the sources
-filter-first : (depth : ℕ) (f : Filter) (ts rest : Input) → IsFilter depth f ts rest → StopsQuery rest → (sees k.Name ts ≡ false) × (sees k.Comma ts ≡ false)
+pub filter-first : (depth : ℕ) (f : Filter) (ts rest : Input) → IsFilter depth f ts rest → StopsQuery rest → (sees k.Name ts ≡ false) × (sees k.Comma ts ≡ false) × Stops ts
 unfolding same_kind
-filter-first depth f ts rest g.no_filter stop = (stop.no_name, stop.no_comma)
-filter-first depth f ts rest (g.filter {x = x} is d) stop = (is-other k.Where k.Name ts x is refl, is-other k.Where k.Comma ts x is refl)
+filter-first depth f ts rest g.no_filter stop = (stop.no_name, stop.no_comma, stop.cond.conj.expr)
+filter-first depth f ts rest (g.filter {x = x} is d) stop = (is-other k.Where k.Name ts x is refl, is-other k.Where k.Comma ts x is refl, stops k.Where ts x is refl refl refl)
 
 query-step : (depth : ℕ) (i : Items) (ss : List SourceReference) (f : Filter) (ts x y z w rest : Input) → Is k.Select ts x → IsItems i x y → Is k.From y z → IsSources ss z w → sees k.Name w ≡ false → sees k.Comma w ≡ false
     → Reads (r.filter (r.inner_query depth)) f w rest → Reads (r.query_to depth) (tree.select i ss f) ts rest
@@ -230,132 +230,19 @@ mutual
   predicate-reads depth a ts rest (g.member {e = e} {negated = n} {q = q} {x = x} {y = y} {z = z} d m is h) stop = member-case (r.inner_query depth) e n q ts x y z rest d m is (subquery-reads depth q z rest h)
   predicate-reads depth a ts rest (g.exists_one {q = q} {x = x} is h) stop = exists-case (r.inner_query depth) q ts x rest is (subquery-reads depth q x rest h)
 
-  operand-reads : (depth : ℕ) (s : Operand) (ts rest : Input) → IsOperand depth s ts rest → Stops rest → Reads (r.operand (r.inner_query depth)) s ts rest
+  pub operand-reads : (depth : ℕ) (s : Operand) (ts rest : Input) → IsOperand depth s ts rest → Stops rest → Reads (r.operand (r.inner_query depth)) s ts rest
   operand-reads depth s ts rest (g.expr_side {e = e} d) stop = expr_side-case (r.inner_query depth) e ts rest d stop
   operand-reads depth s ts rest (g.query_side {q = q} d) stop = query_side-case (r.inner_query depth) depth q ts rest d (subquery-reads depth q ts rest d)
 
   subquery-reads : (depth : ℕ) (q : Query) (ts rest : Input) → IsSubquery depth q ts rest → Reads (r.subquery (r.inner_query depth)) q ts rest
   subquery-reads depth q ts rest (g.nested {depth = below} {x = x} {y = y} is d close) = subquery-step below q ts x y rest is (query-reads below q x y d (paren-stops y rest close)) close
 
-  filter-reads : (depth : ℕ) (f : Filter) (ts rest : Input) → IsFilter depth f ts rest → StopsQuery rest → Reads (r.filter (r.inner_query depth)) f ts rest
+  pub filter-reads : (depth : ℕ) (f : Filter) (ts rest : Input) → IsFilter depth f ts rest → StopsQuery rest → Reads (r.filter (r.inner_query depth)) f ts rest
   filter-reads depth f ts rest g.no_filter stop = no_filter-case (r.inner_query depth) ts stop.no_where
   filter-reads depth f ts rest (g.filter {a = a} {x = x} is d) stop =
       filter-case (r.inner_query depth) a ts x rest is (cond-end depth max_nesting a x rest (cond-reach depth max_nesting a x rest d stop.cond.conj) stop.cond.no_or)
 
-  query-reads : (depth : ℕ) (q : Query) (ts rest : Input) → IsQuery depth q ts rest → StopsQuery rest → Reads (r.query_to depth) q ts rest
+  pub query-reads : (depth : ℕ) (q : Query) (ts rest : Input) → IsQuery depth q ts rest → StopsQuery rest → Reads (r.query_to depth) q ts rest
   query-reads depth q ts rest (g.selects {i = i} {ss = ss} {f = f} {x = x} {y = y} {z = z} {w = w} a b c d h) stop =
       let n = filter-first depth f w rest h stop in
       query-step depth i ss f ts x y z w rest a b c d n.0 n.1 (filter-reads depth f w rest h stop)
-
--- ---- changes
-
--- these end wherever they end
-ends : Input → Type 0
-ends _ = Unit {0}
-
-comma-ends : (ts rest : Input) → Is k.Comma ts rest → ends ts
-unfolding ends
-comma-ends ts rest is = tt
-
-paren-list : {A : Type 0} (ts rest : Input) → Is k.RightParen ts rest → pushes {A = A} k.Comma (kind_at ts) ≡ None
-unfolding same_kind
-paren-list {A = A} ts rest is = ap (pushes {A = A} k.Comma) (is-kind k.RightParen ts rest is)
-
-tuple-reads : (vs : List Value) (ts rest : Input) → IsTuple vs ts rest → Reads r.tuple vs ts rest
-unfolding r.tuple ends
-tuple-reads vs ts rest (g.tuple {x = x} {y = y} is d close) =
-    let m = separated-reads k.Comma IsLiteral r.literal_value ends comma-ends (λ v a b d _. literal-reads v a b d) vs x y d tt (paren-list y rest close) in
-    (rw (is-expect k.LeftParen ts x is, m.0, is-expect k.RightParen y rest close) refl, omega (arith, is-shorter k.LeftParen ts x is, m.1, is-shorter k.RightParen y rest close))
-
-inserts-reads : (n : Name) (tuples : List (List Value)) (ts x y z u rest : Input) → Is k.Insert ts x → Is k.Into x y → IsName n y z → Is k.Values z u → Separated k.Comma IsTuple tuples u rest → StopsQuery rest → Reads r.inserts (tree.insert_rows n tuples) ts rest
-unfolding r.inserts ends
-inserts-reads n tuples ts x y z u rest a b c d e stop =
-    let l = name-reads n y z c in
-    let m = separated-reads k.Comma IsTuple r.tuple ends comma-ends (λ v a b d _. tuple-reads v a b d) tuples u rest e tt (no_separator k.Comma rest stop.no_comma) in
-    (rw (is-expect k.Insert ts x a, is-expect k.Into x y b, l.0, is-expect k.Values z u d, m.0) refl, omega (arith, is-shorter k.Insert ts x a, is-shorter k.Into x y b, l.1, is-shorter k.Values z u d, m.1))
-
-deletes-reads : (n : Name) (f : Filter) (ts x y z rest : Input) → Is k.Delete ts x → Is k.From x y → IsName n y z → IsFilter max_depth f z rest → StopsQuery rest → Reads r.deletes (tree.delete n f) ts rest
-unfolding r.deletes
-deletes-reads n f ts x y z rest a b c d stop =
-    let l = name-reads n y z c in
-    let m = filter-reads max_depth f z rest d stop in
-    (rw (is-expect k.Delete ts x a, is-expect k.From x y b, l.0, m.0) refl, omega (arith, is-shorter k.Delete ts x a, is-shorter k.From x y b, l.1, m.1))
-
-change-reads : (c : Change) (ts rest : Input) → IsChange c ts rest → StopsQuery rest → Reads r.change c ts rest
-unfolding r.change
-change-reads c ts rest (g.inserts_rows {n = n} {tuples = tuples} {x = x} {y = y} {z = z} {u = u} a b d e f) stop =
-    let m = inserts-reads n tuples ts x y z u rest a b d e f stop in (rw (is-kind k.Insert ts x a) m.0, m.1)
-change-reads c ts rest (g.deletes {n = n} {f = f} {x = x} {y = y} {z = z} a b d e) stop =
-    let m = deletes-reads n f ts x y z rest a b d e stop in (rw (is-kind k.Delete ts x a) m.0, m.1)
-
--- ---- commands
-
-column_type-reads : (u : ColumnType) (ts rest : Input) → IsColumnType u ts rest → Reads r.column_type u ts rest
-unfolding r.column_type same_kind
-column_type-reads u ts rest (g.int_type is) = (rw (is-sees k.IntType ts rest is, is-expect k.IntType ts rest is) refl, omega (arith, is-shorter k.IntType ts rest is))
-column_type-reads u ts rest (g.text_type is) = (rw (is-other k.TextType k.IntType ts rest is refl, is-expect k.TextType ts rest is) refl, omega (arith, is-shorter k.TextType ts rest is))
-
-definition-reads : (y : ColumnDefinition) (ts rest : Input) → IsDefinition y ts rest → Reads r.definition y ts rest
-unfolding r.definition
-definition-reads y ts rest (g.definition {n = n} {type = u} {x = x} d h) =
-    let a = name-reads n ts x d in
-    let b = column_type-reads u x rest h in
-    (rw (a.0, b.0) refl, omega (arith, a.1, b.1))
-
-columns-reads : (cs : List ColumnDefinition) (ts rest : Input) → Separated k.Comma IsDefinition cs ts rest → length cs ≤ max_columns → pushes {A = ColumnDefinition} k.Comma (kind_at rest) ≡ None → Reads r.columns cs ts rest
-unfolding r.columns ends
-columns-reads cs ts rest d le none = separated_to-reads k.Comma IsDefinition r.definition ends comma-ends (λ v a b d _. definition-reads v a b d) 7 cs ts rest d le tt none
-
-nothing-follows : (ts : Input) → kind_at ts ≡ None → StopsQuery ts
-unfolding r.kind_at r.sees
-nothing-follows [] e = record { cond = record { conj = record { expr = record { term = record { no_dot = refl; no_product = refl }; no_sum = refl }; no_and = refl }; no_or = refl }; no_where = refl; no_name = refl; no_comma = refl }
-nothing-follows (t ∷ ts) e = cc
-
-creates_table-reads : (n : Name) (cs : List ColumnDefinition) (ts x y z rest : Input) → IsPhrase k.Create k.Table n ts x → Is k.LeftParen x y → Separated k.Comma IsDefinition cs y z → length cs ≤ max_columns → Is k.RightParen z rest → r.statement ts ≡ Some (tree.create_table n cs, rest)
-unfolding r.statement r.creates r.creates_table
-creates_table-reads n cs ts x y z rest (g.phrase {x = u} {y = v} a b c) d e le close =
-    rw (is-kind k.Create ts u a, is-expect k.Create ts u a, is-kind k.Table u v b, is-expect k.Table u v b, (name-reads n v x c).0, is-expect k.LeftParen x y d, (columns-reads cs y z e le (paren-list z rest close)).0, is-expect k.RightParen z rest close) refl
-
-query-kind : (depth : ℕ) (q : Query) (ts rest : Input) → IsQuery depth q ts rest → kind_at ts ≡ Some k.Select
-query-kind depth q ts rest (g.selects {x = x} a b c d h) = is-kind k.Select ts x a
-
-queries-reads : (q : Query) (ts rest : Input) → IsQuery max_depth q ts rest → kind_at rest ≡ None → r.statement ts ≡ Some (tree.query q, rest)
-unfolding r.statement
-queries-reads q ts rest d none = rw (query-kind max_depth q ts rest d) ((mapped tree.query (r.query_to max_depth) q ts rest (query-reads max_depth q ts rest d (nothing-follows rest none))).0)
-
--- the first words of changes
-change-kind : (c : Change) (ts rest : Input) → IsChange c ts rest → r.statement_by (kind_at ts) ≡ (r.change >>= λ c. pure (tree.change c))
-change-kind c ts rest (g.inserts_rows {x = x} a b d e f) = ap r.statement_by (is-kind k.Insert ts x a)
-change-kind c ts rest (g.deletes {x = x} a b d e) = ap r.statement_by (is-kind k.Delete ts x a)
-
-changes-reads : (c : Change) (ts rest : Input) → IsChange c ts rest → kind_at rest ≡ None → r.statement ts ≡ Some (tree.change c, rest)
-unfolding r.statement
-changes-reads c ts rest d none = ap (λ p. p ts) (change-kind c ts rest d) ∙ (mapped tree.change r.change c ts rest (change-reads c ts rest d (nothing-follows rest none))).0
-
-word-reads : (kind : Kind) (command : Command) (ts rest : Input) → Is kind ts rest → r.statement_by (Some kind) ≡ r.word kind command → r.statement ts ≡ Some (command, rest)
-unfolding r.statement r.word
-word-reads kind command ts rest is by = rw (is-kind kind ts rest is, by, is-expect kind ts rest is) refl
-
-statement-reads : (s : Command) (ts rest : Input) → IsStatement s ts rest → kind_at rest ≡ None → r.statement ts ≡ Some (s, rest)
-statement-reads s ts rest (g.opens is) none = word-reads k.Open tree.open_session ts rest is refl
-statement-reads s ts rest (g.ends is) none = word-reads k.End tree.end_session ts rest is refl
-statement-reads s ts rest (g.begins is) none = word-reads k.Begin tree.begin ts rest is refl
-statement-reads s ts rest (g.commits is) none = word-reads k.Commit tree.commit ts rest is refl
-statement-reads s ts rest (g.rolls_back is) none = word-reads k.Rollback tree.rollback ts rest is refl
-statement-reads s ts rest (g.creates_table {n = n} {columns = cs} {x = x} {y = y} {z = z} a d e le close) none = creates_table-reads n cs ts x y z rest a d e le close
-statement-reads s ts rest (g.queries {q = q} d) none = queries-reads q ts rest d none
-statement-reads s ts rest (g.changes {change = c} d) none = changes-reads c ts rest d none
-
-no_more_kind : kind_at [] ≡ None
-unfolding r.kind_at
-no_more_kind = refl
-
-pub command-reads : (s : Command) (ts : Input) → IsCommand s ts → r.command ts ≡ Some (s, [])
-unfolding r.command
-command-reads s ts d = ap (λ o. and_then o r.ended) (statement-reads s ts [] d no_more_kind)
-
--- a text has at most one command
-pub one_command : (ts : Input) (s z : Command) → IsCommand s ts → IsCommand z ts → s ≡ z
-one_command ts s z d e =
-    let same : Some (s, []) ≡ Some (z, []) = sym (command-reads s ts d) ∙ command-reads z ts e in
-    ap (λ (p : Command × Input). p.0) (same_Some {A = Command × Input} (s, []) (z, []) same)

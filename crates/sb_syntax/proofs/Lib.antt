@@ -5,8 +5,10 @@ pub mod TokenLaws
 pub mod Loops
 pub mod SoundLaws
 pub mod SoundQueries
+pub mod SoundCommands
 pub mod CompleteLaws
 pub mod CompleteQueries
+pub mod CompleteCommands
 pub mod ScanLaws
 pub mod Bytes
 pub mod TokenSound

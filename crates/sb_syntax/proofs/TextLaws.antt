@@ -16,8 +16,8 @@ use Rattle.sb_syntax.specs.Tree.{Command}
 use Rattle.sb_syntax.specs.Grammar.{IsCommand}
 use Rattle.sb_syntax.specs.Reading.{command}
 use Rattle.sb_syntax.specs.Text.{Spells, NoTokens, NoCommand, Reading, command_of, command_by, read_by}
-use Rattle.sb_syntax.proofs.SoundQueries.{command-sound}
-use Rattle.sb_syntax.proofs.CompleteQueries.{command-reads, one_command}
+use Rattle.sb_syntax.proofs.SoundCommands.{command-sound}
+use Rattle.sb_syntax.proofs.CompleteCommands.{command-reads, one_command}
 use Rattle.sb_syntax.proofs.ScanLaws.{put, token-scan, space-scan}
 use Rattle.sb_syntax.proofs.TokenSound.{token-sound}
 use Rattle.sb_syntax.proofs.TokenReads.{token-reads}

@@ -19,7 +19,7 @@ use Rattle.sb_syntax.specs.declared.ast.ColumnReference.TheVariants.{Plain, Qual
 use Rattle.sb_syntax.specs.declared.ast.SourceReference.{SourceReference}
 use Rattle.sb_syntax.specs.Input.{Input, Is}
 use Rattle.sb_syntax.specs.Tree as tree
-use Rattle.sb_syntax.specs.Tree.{Name, Expression, Items, Condition, Operand, Filter, Query, Change, Command}
+use Rattle.sb_syntax.specs.Tree.{Name, Expression, Items, Condition, Operand, Filter, Query, Assignment, Change, Action, Trigger, RuleText, Command}
 use Rattle.sb_syntax.specs.Literal.{decimal, negative, unquoted}
 
 -- x {sep x}, as a list of one or more
@@ -161,13 +161,61 @@ pub data IsTuple : List Value → Input → Input → Type 0 where
 abbrev pub max_depth : ℕ
 max_depth = 4
 
+pub data IsAssignment : Assignment → Input → Input → Type 0 where
+  assigns : {n : Name} {s : Operand} {ts x y rest : Input} → IsName n ts x → Is k.Equal x y → IsOperand max_depth s y rest → IsAssignment (record { column = n; operand = s }) ts rest
+
 pub data IsChange : Change → Input → Input → Type 0 where
   inserts_rows : {n : Name} {tuples : List (List Value)} {ts x y z u rest : Input} → Is k.Insert ts x → Is k.Into x y → IsName n y z → Is k.Values z u → Separated k.Comma IsTuple tuples u rest → IsChange (tree.insert_rows n tuples) ts rest
+  inserts_query : {n : Name} {q : Query} {ts x y z rest : Input} → Is k.Insert ts x → Is k.Into x y → IsName n y z → IsQuery max_depth q z rest → IsChange (tree.insert_query n q) ts rest
   deletes : {n : Name} {f : Filter} {ts x y z rest : Input} → Is k.Delete ts x → Is k.From x y → IsName n y z → IsFilter max_depth f z rest → IsChange (tree.delete n f) ts rest
+  updates : {n : Name} {all : List Assignment} {f : Filter} {ts x y z u rest : Input} → Is k.Update ts x → IsName n x y → Is k.Set y z → Separated k.Comma IsAssignment all z u → IsFilter max_depth f u rest → IsChange (tree.update n all f) ts rest
+
+-- ---- rules
+
+abbrev pub IsNames : List Name → Input → Input → Type 0
+IsNames = Separated k.Comma IsName
+
+pub data IsTrigger : Trigger → Input → Input → Type 0 where
+  at_insert : {ts rest : Input} → Is k.Inserted ts rest → IsTrigger tree.on_insert ts rest
+  at_delete : {ts rest : Input} → Is k.Deleted ts rest → IsTrigger tree.on_delete ts rest
+  at_update : {ts rest : Input} → Is k.Updated ts rest → IsTrigger tree.on_update ts rest
+  at_update_of : {columns : List Name} {ts x y z rest : Input} → Is k.Updated ts x → Is k.LeftParen x y → IsNames columns y z → Is k.RightParen z rest → IsTrigger (tree.on_update_of columns) ts rest
+
+pub data IsAction : Action → Input → Input → Type 0 where
+  changes : {change : Change} {ts rest : Input} → IsChange change ts rest → IsAction (tree.changes change) ts rest
+  rolls_back : {ts rest : Input} → Is k.Rollback ts rest → IsAction tree.rolls_back ts rest
+
+-- how many actions a rule has
+abbrev pub max_actions : ℕ
+max_actions = 8
+
+-- the query behind `if`, or nothing
+pub data IsIf : Option Query → Input → Input → Type 0 where
+  always : {ts : Input} → IsIf None ts ts
+  if_query : {q : Query} {ts x rest : Input} → Is k.If ts x → IsQuery max_depth q x rest → IsIf (Some q) ts rest
+
+-- the names behind this word, or nothing
+pub data IsListed (kind : Kind) : List Name → Input → Input → Type 0 where
+  not_listed : {ts : Input} → IsListed kind [] ts ts
+  listed : {names : List Name} {ts x rest : Input} → Is kind ts x → IsNames names x rest → IsListed kind names ts rest
 
 -- two words and a name
 pub data IsPhrase (first second : Kind) : Name → Input → Input → Type 0 where
   phrase : {n : Name} {ts x y rest : Input} → Is first ts x → Is second x y → IsName n y rest → IsPhrase first second n ts rest
+
+-- a rule up to its triggers, and what stands behind them
+pub data IsRuleHead : Name → Name → List Trigger → Input → Input → Type 0 where
+  rule_head : {n on : Name} {triggers : List Trigger} {ts x y z w rest : Input} → IsPhrase k.Create k.Rule n ts x → Is k.On x y → IsName on y z → Is k.When z w → Separated k.Comma IsTrigger triggers w rest → IsRuleHead n on triggers ts rest
+
+pub data IsRuleBody : Option Query → List Action → List Name → List Name → Input → Input → Type 0 where
+  rule_body : {condition : Option Query} {actions : List Action} {precedes follows : List Name} {ts x y z w rest : Input} → IsIf condition ts x → Is k.Then x y → Separated k.Semicolon IsAction actions y z → length actions ≤ max_actions
+      → IsListed k.Precedes precedes z w → IsListed k.Follows follows w rest → IsRuleBody condition actions precedes follows ts rest
+
+pub data IsRule : RuleText → Input → Input → Type 0 where
+  rule : {n on : Name} {all : List Trigger} {query : Option Query} {steps : List Action} {before after : List Name} {ts x rest : Input} → IsRuleHead n on all ts x → IsRuleBody query steps before after x rest
+      → IsRule (record { name = n; table = on; triggers = all; condition = query; actions = steps; precedes = before; follows = after }) ts rest
+
+-- ---- commands
 
 pub data IsStatement : Command → Input → Input → Type 0 where
   opens : {ts rest : Input} → Is k.Open ts rest → IsStatement tree.open_session ts rest
@@ -177,6 +225,18 @@ pub data IsStatement : Command → Input → Input → Type 0 where
   rolls_back : {ts rest : Input} → Is k.Rollback ts rest → IsStatement tree.rollback ts rest
   creates_table : {n : Name} {columns : List ColumnDefinition} {ts x y z rest : Input} → IsPhrase k.Create k.Table n ts x → Is k.LeftParen x y → Separated k.Comma IsDefinition columns y z → length columns ≤ max_columns → Is k.RightParen z rest
       → IsStatement (tree.create_table n columns) ts rest
+  drops_table : {n : Name} {ts rest : Input} → IsPhrase k.Drop k.Table n ts rest → IsStatement (tree.drop_table n) ts rest
+  creates_rule : {r : RuleText} {ts rest : Input} → IsRule r ts rest → IsStatement (tree.create_rule r) ts rest
+  drops_rule : {n : Name} {ts rest : Input} → IsPhrase k.Drop k.Rule n ts rest → IsStatement (tree.drop_rule n) ts rest
+  activates : {n : Name} {ts rest : Input} → IsPhrase k.Activate k.Rule n ts rest → IsStatement (tree.activate_rule n) ts rest
+  deactivates : {n : Name} {ts rest : Input} → IsPhrase k.Deactivate k.Rule n ts rest → IsStatement (tree.deactivate_rule n) ts rest
+  creates_ruleset : {n : Name} {ts rest : Input} → IsPhrase k.Create k.Ruleset n ts rest → IsStatement (tree.create_ruleset n) ts rest
+  drops_ruleset : {n : Name} {ts rest : Input} → IsPhrase k.Drop k.Ruleset n ts rest → IsStatement (tree.drop_ruleset n) ts rest
+  adds_rules : {n : Name} {rules : List Name} {ts x y rest : Input} → IsPhrase k.Alter k.Ruleset n ts x → Is k.AddRules x y → IsNames rules y rest → IsStatement (tree.add_rules n rules) ts rest
+  removes_rules : {n : Name} {rules : List Name} {ts x y rest : Input} → IsPhrase k.Alter k.Ruleset n ts x → Is k.DelRules x y → IsNames rules y rest → IsStatement (tree.del_rules n rules) ts rest
+  processes : {ts x rest : Input} → Is k.Process ts x → Is k.Rules x rest → IsStatement tree.process_rules ts rest
+  processes_ruleset : {n : Name} {ts rest : Input} → IsPhrase k.Process k.Ruleset n ts rest → IsStatement (tree.process_ruleset n) ts rest
+  processes_rule : {n : Name} {ts rest : Input} → IsPhrase k.Process k.Rule n ts rest → IsStatement (tree.process_rule n) ts rest
   queries : {q : Query} {ts rest : Input} → IsQuery max_depth q ts rest → IsStatement (tree.query q) ts rest
   changes : {change : Change} {ts rest : Input} → IsChange change ts rest → IsStatement (tree.change change) ts rest
 

@@ -23,7 +23,7 @@ use Rattle.sb_syntax.specs.Input.{Input, same_kind}
 use Rattle.sb_syntax.specs.Literal.{decimal, negative, unquoted}
 use Rattle.sb_syntax.specs.Grammar.{max_nesting, max_depth}
 use Rattle.sb_syntax.specs.Tree as tree
-use Rattle.sb_syntax.specs.Tree.{Name, Expression, Items, Condition, Operand, Filter, Query, Change, Command}
+use Rattle.sb_syntax.specs.Tree.{Name, Expression, Items, Condition, Operand, Filter, Query, Assignment, Change, Action, Trigger, RuleText, Command}
 
 abbrev pub Reader : Type 0 → Type 0
 Reader A = Input → Option (A × Input)
@@ -344,14 +344,38 @@ tuple = do
   expect k.RightParen
   pure vs
 
+unfoldable pub inserts_rows : Name → Reader Change
+inserts_rows n = do
+  expect k.Values
+  tuples ← separated k.Comma tuple
+  pure (tree.insert_rows n tuples)
+
+-- behind the table's name
+unfoldable pub inserts_into : Name → Reader Change
+inserts_into n ts = if sees k.Values ts then inserts_rows n ts else (do q ← query_to max_depth; pure (tree.insert_query n q)) ts
+
 unfoldable pub inserts : Reader Change
 inserts = do
   expect k.Insert
   expect k.Into
   n ← name
-  expect k.Values
-  tuples ← separated k.Comma tuple
-  pure (tree.insert_rows n tuples)
+  inserts_into n
+
+unfoldable pub assignment : Reader Assignment
+assignment = do
+  n ← name
+  expect k.Equal
+  s ← operand (inner_query max_depth)
+  pure (record { column = n; operand = s })
+
+unfoldable pub updates : Reader Change
+updates = do
+  expect k.Update
+  n ← name
+  expect k.Set
+  all ← separated k.Comma assignment
+  f ← filter (inner_query max_depth)
+  pure (tree.update n all f)
 
 unfoldable pub deletes : Reader Change
 deletes = do
@@ -365,10 +389,85 @@ deletes = do
 abbrev pub change_by : Option Kind → Reader Change
 change_by (Some k.Insert) = inserts
 change_by (Some k.Delete) = deletes
+change_by (Some k.Update) = updates
 change_by _ = refuse
 
 unfoldable pub change : Reader Change
 change ts = change_by (kind_at ts) ts
+
+-- ---- rules
+
+unfoldable pub names : Reader (List Name)
+names = separated k.Comma name
+
+-- behind `updated`
+unfoldable pub updated_of : Reader Trigger
+updated_of ts = if sees k.LeftParen ts then (do expect k.LeftParen; ns ← names; expect k.RightParen; pure (tree.on_update_of ns)) ts else Some (tree.on_update, ts)
+
+unfoldable pub updated : Reader Trigger
+updated = do
+  expect k.Updated
+  updated_of
+
+-- a word alone
+unfoldable pub word : {A : Type 0} → Kind → A → Reader A
+word kind x = do
+  expect kind
+  pure x
+
+abbrev pub trigger_by : Option Kind → Reader Trigger
+trigger_by (Some k.Inserted) = word k.Inserted tree.on_insert
+trigger_by (Some k.Deleted) = word k.Deleted tree.on_delete
+trigger_by _ = updated
+
+unfoldable pub trigger : Reader Trigger
+trigger ts = trigger_by (kind_at ts) ts
+
+unfoldable pub condition_if : Reader (Option Query)
+condition_if ts = if sees k.If ts then (do expect k.If; q ← query_to max_depth; pure (Some q)) ts else Some (None, ts)
+
+unfoldable pub action : Reader Action
+action ts = if sees k.Rollback ts then word k.Rollback tree.rolls_back ts else (do c ← change; pure (tree.changes c)) ts
+
+-- at most eight
+unfoldable pub actions : Reader (List Action)
+actions = separated_to 7 k.Semicolon action
+
+unfoldable pub listed : Kind → Reader (List Name)
+listed kind ts = if sees kind ts then (do expect kind; names) ts else Some ([], ts)
+
+unfoldable pub name_after : Kind → Reader Name
+name_after kind = do
+  expect kind
+  name
+
+abbrev pub RuleHead : Type 0
+RuleHead = Name × Name × List Trigger
+
+unfoldable pub rule_head : Reader RuleHead
+rule_head = do
+  n ← name_after k.Rule
+  on ← name_after k.On
+  expect k.When
+  all ← separated k.Comma trigger
+  pure (n, on, all)
+
+abbrev pub rule_of : RuleHead → Option Query → List Action → List Name → List Name → RuleText
+rule_of head query steps before after = record { name = head.0; table = head.1; triggers = head.2; condition = query; actions = steps; precedes = before; follows = after }
+
+unfoldable pub rule_body : RuleHead → Reader RuleText
+rule_body head = do
+  query ← condition_if
+  expect k.Then
+  steps ← actions
+  before ← listed k.Precedes
+  after ← listed k.Follows
+  pure (rule_of head query steps before after)
+
+unfoldable pub rule : Reader RuleText
+rule = do
+  head ← rule_head
+  rule_body head
 
 -- ---- commands
 
@@ -396,18 +495,66 @@ creates_table = do
 
 abbrev pub creates_by : Option Kind → Reader Command
 creates_by (Some k.Table) = creates_table
-creates_by _ = refuse
+creates_by (Some k.Ruleset) = do n ← name_after k.Ruleset; pure (tree.create_ruleset n)
+creates_by _ = do r ← rule; pure (tree.create_rule r)
 
 unfoldable pub creates : Reader Command
 creates = do
   expect k.Create
   (λ ts. creates_by (kind_at ts) ts)
 
--- a command of one word
-unfoldable pub word : Kind → Command → Reader Command
-word kind command = do
-  expect kind
-  pure command
+abbrev pub drops_by : Option Kind → Reader Command
+drops_by (Some k.Table) = do n ← name_after k.Table; pure (tree.drop_table n)
+drops_by (Some k.Rule) = do n ← name_after k.Rule; pure (tree.drop_rule n)
+drops_by _ = do n ← name_after k.Ruleset; pure (tree.drop_ruleset n)
+
+unfoldable pub drops : Reader Command
+drops = do
+  expect k.Drop
+  (λ ts. drops_by (kind_at ts) ts)
+
+abbrev pub processes_by : Option Kind → Reader Command
+processes_by (Some k.Rules) = word k.Rules tree.process_rules
+processes_by (Some k.Rule) = do n ← name_after k.Rule; pure (tree.process_rule n)
+processes_by _ = do n ← name_after k.Ruleset; pure (tree.process_ruleset n)
+
+unfoldable pub processes : Reader Command
+processes = do
+  expect k.Process
+  (λ ts. processes_by (kind_at ts) ts)
+
+unfoldable pub adds_rules : Name → Reader Command
+adds_rules n = do
+  expect k.AddRules
+  ns ← names
+  pure (tree.add_rules n ns)
+
+unfoldable pub removes_rules : Name → Reader Command
+removes_rules n = do
+  expect k.DelRules
+  ns ← names
+  pure (tree.del_rules n ns)
+
+unfoldable pub alters_from : Name → Reader Command
+alters_from n ts = if sees k.AddRules ts then adds_rules n ts else removes_rules n ts
+
+unfoldable pub alters : Reader Command
+alters = do
+  expect k.Alter
+  n ← name_after k.Ruleset
+  alters_from n
+
+unfoldable pub activates : Reader Command
+activates = do
+  expect k.Activate
+  n ← name_after k.Rule
+  pure (tree.activate_rule n)
+
+unfoldable pub deactivates : Reader Command
+deactivates = do
+  expect k.Deactivate
+  n ← name_after k.Rule
+  pure (tree.deactivate_rule n)
 
 abbrev pub statement_by : Option Kind → Reader Command
 statement_by (Some k.Open) = word k.Open tree.open_session
@@ -416,6 +563,11 @@ statement_by (Some k.Begin) = word k.Begin tree.begin
 statement_by (Some k.Commit) = word k.Commit tree.commit
 statement_by (Some k.Rollback) = word k.Rollback tree.rollback
 statement_by (Some k.Create) = creates
+statement_by (Some k.Drop) = drops
+statement_by (Some k.Alter) = alters
+statement_by (Some k.Activate) = activates
+statement_by (Some k.Deactivate) = deactivates
+statement_by (Some k.Process) = processes
 statement_by (Some k.Select) = do q ← query_to max_depth; pure (tree.query q)
 statement_by _ = do c ← change; pure (tree.change c)
 

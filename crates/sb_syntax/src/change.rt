@@ -5,12 +5,12 @@ ghost use Rattle.sb_syntax.specs.Reading as spec;
 ghost use Rattle.sb_syntax.specs.Reading.{Gives};
 ghost use Rattle.sb_syntax.specs.Views as view;
 
-use crate::command::Change;
+use crate::command::{Assignment, Change};
 use crate::cursor::{Cursor, Fault};
 use crate::kind::Kind;
 use crate::literal::{literal_value, name};
-use crate::query::filter;
-use sb_value::Value;
+use crate::query::{filter, operand, query};
+use sb_value::{Name, Value};
 use std::alloc::Global;
 
 /// How deep subqueries nest.
@@ -56,16 +56,64 @@ fn tuples(alloc: Global, tokens: &mut Cursor<'_>) -> Result<Vec<Vec<Value>>, Fau
     Ok(all)
 }
 
-#[tactic(auto, unfolding(crate::specs::Reading::inserts))]
+#[tactic(auto, unfolding(crate::specs::Reading::inserts_rows))]
+fn insert_rows(alloc: Global, tokens: &mut Cursor<'_>, table: Name) -> Result<Change, Fault>
+    ensures { Gives view.change (spec.inserts_rows table tokens.old) result tokens.old tokens.new }
+{
+    tokens.expect(Kind::Values)?;
+    let tuples = tuples(alloc, tokens)?;
+    Ok(Change::InsertRows(table, tuples))
+}
+
+#[tactic(auto, unfolding(crate::specs::Reading::inserts, crate::specs::Reading::inserts_into))]
 fn insert(alloc: Global, tokens: &mut Cursor<'_>) -> Result<Change, Fault>
     ensures { Gives view.change (spec.inserts tokens.old) result tokens.old tokens.new }
 {
     tokens.expect(Kind::Insert)?;
     tokens.expect(Kind::Into)?;
     let table = name(tokens)?;
-    tokens.expect(Kind::Values)?;
-    let tuples = tuples(alloc, tokens)?;
-    Ok(Change::InsertRows(table, tuples))
+    if tokens.sees(Kind::Values) {
+        insert_rows(alloc, tokens, table)
+    } else {
+        Ok(Change::InsertQuery(table, query(alloc, tokens, MAX_DEPTH)?))
+    }
+}
+
+#[tactic(auto, unfolding(crate::specs::Reading::assignment))]
+fn assignment(alloc: Global, tokens: &mut Cursor<'_>) -> Result<Assignment, Fault>
+    ensures { Gives view.assignment (spec.assignment tokens.old) result tokens.old tokens.new }
+{
+    let column = name(tokens)?;
+    tokens.expect(Kind::Equal)?;
+    let operand = operand(alloc, tokens, MAX_DEPTH)?;
+    Ok(Assignment { column, operand })
+}
+
+#[tactic(auto, unfolding(crate::specs::Reading::separated))]
+fn assignments(alloc: Global, tokens: &mut Cursor<'_>) -> Result<Vec<Assignment>, Fault>
+    ensures { Gives (λ v. map view.assignment v.items) (spec.separated Kind.Comma spec.assignment tokens.old) result tokens.old tokens.new }
+{
+    let mut all = Vec::new(alloc);
+    let first = assignment(alloc, tokens)?;
+    all.push(first)?;
+    'more: while tokens.sees(Kind::Comma) {
+        tokens.skip();
+        let item = assignment(alloc, tokens)?;
+        all.push(item)?;
+    }
+    Ok(all)
+}
+
+#[tactic(auto, unfolding(crate::specs::Reading::updates))]
+fn update(alloc: Global, tokens: &mut Cursor<'_>) -> Result<Change, Fault>
+    ensures { Gives view.change (spec.updates tokens.old) result tokens.old tokens.new }
+{
+    tokens.expect(Kind::Update)?;
+    let table = name(tokens)?;
+    tokens.expect(Kind::Set)?;
+    let assignments = assignments(alloc, tokens)?;
+    let filter = filter(alloc, tokens, MAX_DEPTH)?;
+    Ok(Change::Update(table, assignments, filter))
 }
 
 #[tactic(auto, unfolding(crate::specs::Reading::deletes))]
@@ -86,6 +134,7 @@ pub fn change(alloc: Global, tokens: &mut Cursor<'_>) -> Result<Change, Fault>
     match tokens.peek() {
         Some(Kind::Insert) => insert(alloc, tokens),
         Some(Kind::Delete) => delete(alloc, tokens),
+        Some(Kind::Update) => update(alloc, tokens),
         _ => Err(Fault::Refused),
     }
 }

@@ -10,6 +10,7 @@ mod kind;
 mod lex;
 mod literal;
 mod query;
+mod rule;
 mod select;
 mod statement;
 mod token;

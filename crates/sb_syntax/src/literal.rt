@@ -26,6 +26,30 @@ pub fn name(tokens: &mut Cursor<'_>) -> Result<Name, Fault>
     Ok(Name::new(bytes))
 }
 
+/// A name behind this word.
+#[tactic(auto, unfolding(crate::specs::Reading::name_after))]
+pub fn name_after(tokens: &mut Cursor<'_>, kind: Kind) -> Result<Name, Fault>
+    ensures { Gives (λ n. n) (spec.name_after kind tokens.old) result tokens.old tokens.new }
+{
+    tokens.expect(kind)?;
+    name(tokens)
+}
+
+#[tactic(auto, unfolding(crate::specs::Reading::names, crate::specs::Reading::separated))]
+pub fn names(alloc: Global, tokens: &mut Cursor<'_>) -> Result<Vec<Name>, Fault>
+    ensures { Gives (λ v. v.items) (spec.names tokens.old) result tokens.old tokens.new }
+{
+    let mut all = Vec::new(alloc);
+    let first = name(tokens)?;
+    all.push(first)?;
+    'more: while tokens.sees(Kind::Comma) {
+        tokens.skip();
+        let item = name(tokens)?;
+        all.push(item)?;
+    }
+    Ok(all)
+}
+
 const LIMIT: u64 = 0x8000_0000_0000_0000;
 
 /// The value of the digits, or 2^63 + 1 where it is larger.

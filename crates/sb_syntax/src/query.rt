@@ -83,7 +83,7 @@ fn subquery(alloc: Global, tokens: &mut Cursor<'_>, depth: usize) -> Result<Quer
 
 #[cycle(query)]
 #[tactic(auto, unfolding(crate::specs::Reading::operand))]
-fn operand(alloc: Global, tokens: &mut Cursor<'_>, depth: usize) -> Result<Operand, Fault>
+pub fn operand(alloc: Global, tokens: &mut Cursor<'_>, depth: usize) -> Result<Operand, Fault>
     ensures { Gives view.operand (spec.operand (spec.inner_query depth) tokens.old) result tokens.old tokens.new }
 {
     if tokens.sees(Kind::LeftParen) {

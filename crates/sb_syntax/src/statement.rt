@@ -9,9 +9,10 @@ use crate::change::{MAX_DEPTH, change};
 use crate::command::Command;
 use crate::cursor::{Cursor, Fault};
 use crate::kind::Kind;
-use crate::literal::name;
+use crate::literal::{name, name_after, names};
 use crate::query::query;
-use sb_value::{ColumnDefinition, ColumnType};
+use crate::rule::rule;
+use sb_value::{ColumnDefinition, ColumnType, Name};
 use std::alloc::Global;
 
 /// How many columns a table has.
@@ -76,8 +77,85 @@ fn create(alloc: Global, tokens: &mut Cursor<'_>) -> Result<Command, Fault>
     tokens.expect(Kind::Create)?;
     match tokens.peek() {
         Some(Kind::Table) => create_table(alloc, tokens),
-        _ => Err(Fault::Refused),
+        Some(Kind::Ruleset) => Ok(Command::CreateRuleset(name_after(tokens, Kind::Ruleset)?)),
+        _ => Ok(Command::CreateRule(rule(alloc, tokens)?)),
     }
+}
+
+#[tactic(auto, unfolding(crate::specs::Reading::drops))]
+fn drop_named(tokens: &mut Cursor<'_>) -> Result<Command, Fault>
+    ensures { Gives view.command (spec.drops tokens.old) result tokens.old tokens.new }
+{
+    tokens.expect(Kind::Drop)?;
+    match tokens.peek() {
+        Some(Kind::Table) => Ok(Command::DropTable(name_after(tokens, Kind::Table)?)),
+        Some(Kind::Rule) => Ok(Command::DropRule(name_after(tokens, Kind::Rule)?)),
+        _ => Ok(Command::DropRuleset(name_after(tokens, Kind::Ruleset)?)),
+    }
+}
+
+#[tactic(auto, unfolding(crate::specs::Reading::processes, crate::specs::Reading::word))]
+fn process(tokens: &mut Cursor<'_>) -> Result<Command, Fault>
+    ensures { Gives view.command (spec.processes tokens.old) result tokens.old tokens.new }
+{
+    tokens.expect(Kind::Process)?;
+    match tokens.peek() {
+        Some(Kind::Rules) => {
+            tokens.expect(Kind::Rules)?;
+            Ok(Command::ProcessRules)
+        }
+        Some(Kind::Rule) => Ok(Command::ProcessRule(name_after(tokens, Kind::Rule)?)),
+        _ => Ok(Command::ProcessRuleset(name_after(tokens, Kind::Ruleset)?)),
+    }
+}
+
+#[tactic(auto, unfolding(crate::specs::Reading::adds_rules))]
+fn add_rules(alloc: Global, tokens: &mut Cursor<'_>, target: Name) -> Result<Command, Fault>
+    ensures { Gives view.command (spec.adds_rules target tokens.old) result tokens.old tokens.new }
+{
+    tokens.expect(Kind::AddRules)?;
+    let rules = names(alloc, tokens)?;
+    Ok(Command::AddRules(target, rules))
+}
+
+#[tactic(auto, unfolding(crate::specs::Reading::removes_rules))]
+fn remove_rules(alloc: Global, tokens: &mut Cursor<'_>, target: Name) -> Result<Command, Fault>
+    ensures { Gives view.command (spec.removes_rules target tokens.old) result tokens.old tokens.new }
+{
+    tokens.expect(Kind::DelRules)?;
+    let rules = names(alloc, tokens)?;
+    Ok(Command::DelRules(target, rules))
+}
+
+#[tactic(auto, unfolding(crate::specs::Reading::alters, crate::specs::Reading::alters_from))]
+fn alter(alloc: Global, tokens: &mut Cursor<'_>) -> Result<Command, Fault>
+    ensures { Gives view.command (spec.alters tokens.old) result tokens.old tokens.new }
+{
+    tokens.expect(Kind::Alter)?;
+    let ruleset = name_after(tokens, Kind::Ruleset)?;
+    if tokens.sees(Kind::AddRules) {
+        add_rules(alloc, tokens, ruleset)
+    } else {
+        remove_rules(alloc, tokens, ruleset)
+    }
+}
+
+#[tactic(auto, unfolding(crate::specs::Reading::activates))]
+fn activate(tokens: &mut Cursor<'_>) -> Result<Command, Fault>
+    ensures { Gives view.command (spec.activates tokens.old) result tokens.old tokens.new }
+{
+    tokens.expect(Kind::Activate)?;
+    let rule = name_after(tokens, Kind::Rule)?;
+    Ok(Command::ActivateRule(rule))
+}
+
+#[tactic(auto, unfolding(crate::specs::Reading::deactivates))]
+fn deactivate(tokens: &mut Cursor<'_>) -> Result<Command, Fault>
+    ensures { Gives view.command (spec.deactivates tokens.old) result tokens.old tokens.new }
+{
+    tokens.expect(Kind::Deactivate)?;
+    let rule = name_after(tokens, Kind::Rule)?;
+    Ok(Command::DeactivateRule(rule))
 }
 
 /// A command of one word.
@@ -100,6 +178,11 @@ fn statement(alloc: Global, tokens: &mut Cursor<'_>) -> Result<Command, Fault>
         Some(Kind::Commit) => word(tokens, Kind::Commit, Command::Commit),
         Some(Kind::Rollback) => word(tokens, Kind::Rollback, Command::Rollback),
         Some(Kind::Create) => create(alloc, tokens),
+        Some(Kind::Drop) => drop_named(tokens),
+        Some(Kind::Alter) => alter(alloc, tokens),
+        Some(Kind::Activate) => activate(tokens),
+        Some(Kind::Deactivate) => deactivate(tokens),
+        Some(Kind::Process) => process(tokens),
         Some(Kind::Select) => Ok(Command::Query(query(alloc, tokens, MAX_DEPTH)?)),
         _ => Ok(Command::Change(change(alloc, tokens)?)),
     }

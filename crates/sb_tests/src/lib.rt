@@ -1,4 +1,4 @@
-//! Tests across the crates, a module for each.
+//! Tests of all crates, a module for each.
 #![tactic(auto)]
 
 #[cfg(test)]
@@ -7,3 +7,7 @@ mod changes;
 mod net;
 #[cfg(test)]
 mod rawlog;
+#[cfg(test)]
+mod syntax;
+#[cfg(test)]
+mod value;

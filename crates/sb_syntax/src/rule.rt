@@ -1,0 +1,172 @@
+//! The text of a rule.
+
+ghost use Rattle.std.specs.Prelude.{◌≡◌, map, option_map, length};
+ghost use Rattle.sb_syntax.specs.Reading as spec;
+ghost use Rattle.sb_syntax.specs.Reading.{Gives};
+ghost use Rattle.sb_syntax.specs.Views as view;
+
+use crate::ast::Query;
+use crate::change::{MAX_DEPTH, change};
+use crate::command::{Action, RuleText, Trigger};
+use crate::cursor::{Cursor, Fault};
+use crate::kind::Kind;
+use crate::literal::{name_after, names};
+use crate::query::query;
+use sb_value::Name;
+use std::alloc::Global;
+
+/// How many actions a rule has.
+const MAX_ACTIONS: usize = 8;
+
+/// What stands behind `updated`.
+#[tactic(auto, unfolding(crate::specs::Reading::updated_of))]
+fn updated_of(alloc: Global, tokens: &mut Cursor<'_>) -> Result<Trigger, Fault>
+    ensures { Gives view.trigger (spec.updated_of tokens.old) result tokens.old tokens.new }
+{
+    if !tokens.sees(Kind::LeftParen) {
+        return Ok(Trigger::Update);
+    }
+    tokens.expect(Kind::LeftParen)?;
+    let columns = names(alloc, tokens)?;
+    tokens.expect(Kind::RightParen)?;
+    Ok(Trigger::UpdateOf(columns))
+}
+
+#[tactic(auto, unfolding(crate::specs::Reading::trigger, crate::specs::Reading::updated, crate::specs::Reading::word))]
+fn trigger(alloc: Global, tokens: &mut Cursor<'_>) -> Result<Trigger, Fault>
+    ensures { Gives view.trigger (spec.trigger tokens.old) result tokens.old tokens.new }
+{
+    match tokens.peek() {
+        Some(Kind::Inserted) => {
+            tokens.expect(Kind::Inserted)?;
+            Ok(Trigger::Insert)
+        }
+        Some(Kind::Deleted) => {
+            tokens.expect(Kind::Deleted)?;
+            Ok(Trigger::Delete)
+        }
+        _ => {
+            tokens.expect(Kind::Updated)?;
+            updated_of(alloc, tokens)
+        }
+    }
+}
+
+#[tactic(auto, unfolding(crate::specs::Reading::separated))]
+fn triggers(alloc: Global, tokens: &mut Cursor<'_>) -> Result<Vec<Trigger>, Fault>
+    ensures { Gives (λ v. map view.trigger v.items) (spec.separated Kind.Comma spec.trigger tokens.old) result tokens.old tokens.new }
+{
+    let mut all = Vec::new(alloc);
+    let first = trigger(alloc, tokens)?;
+    all.push(first)?;
+    'more: while tokens.sees(Kind::Comma) {
+        tokens.skip();
+        let item = trigger(alloc, tokens)?;
+        all.push(item)?;
+    }
+    Ok(all)
+}
+
+#[tactic(auto, unfolding(crate::specs::Reading::condition_if))]
+fn condition(alloc: Global, tokens: &mut Cursor<'_>) -> Result<Option<Query>, Fault>
+    ensures { Gives (option_map view.query) (spec.condition_if tokens.old) result tokens.old tokens.new }
+{
+    if !tokens.sees(Kind::If) {
+        return Ok(None);
+    }
+    tokens.expect(Kind::If)?;
+    Ok(Some(query(alloc, tokens, MAX_DEPTH)?))
+}
+
+#[tactic(auto, unfolding(crate::specs::Reading::action, crate::specs::Reading::word))]
+fn action(alloc: Global, tokens: &mut Cursor<'_>) -> Result<Action, Fault>
+    ensures { Gives view.action (spec.action tokens.old) result tokens.old tokens.new }
+{
+    if tokens.sees(Kind::Rollback) {
+        tokens.expect(Kind::Rollback)?;
+        Ok(Action::Rollback)
+    } else {
+        Ok(Action::Change(change(alloc, tokens)?))
+    }
+}
+
+#[tactic(auto, unfolding(crate::specs::Reading::actions, crate::specs::Reading::separated_to))]
+fn actions(alloc: Global, tokens: &mut Cursor<'_>) -> Result<Vec<Action>, Fault>
+    ensures { Gives (λ v. map view.action v.items) (spec.actions tokens.old) result tokens.old tokens.new }
+{
+    let mut all = Vec::new(alloc);
+    let first = action(alloc, tokens)?;
+    all.push(first)?;
+    'more: while tokens.sees(Kind::Semicolon) {
+        if all.len() >= MAX_ACTIONS {
+            return Ok(all);
+        }
+        tokens.skip();
+        let item = action(alloc, tokens)?;
+        all.push(item)?;
+    }
+    Ok(all)
+}
+
+/// The names behind this word, if it stands there.
+#[tactic(auto, unfolding(crate::specs::Reading::listed))]
+fn listed(alloc: Global, tokens: &mut Cursor<'_>, kind: Kind) -> Result<Vec<Name>, Fault>
+    ensures { Gives (λ v. v.items) (spec.listed kind tokens.old) result tokens.old tokens.new }
+{
+    if !tokens.sees(kind) {
+        return Ok(Vec::new(alloc));
+    }
+    tokens.expect(kind)?;
+    names(alloc, tokens)
+}
+
+/// A rule up to its triggers.
+#[derive(Drop)]
+struct RuleHead {
+    name: Name,
+    table: Name,
+    triggers: Vec<Trigger>,
+}
+
+#[tactic(auto, unfolding(crate::specs::Reading::rule_head))]
+fn head(alloc: Global, tokens: &mut Cursor<'_>) -> Result<RuleHead, Fault>
+    ensures { Gives (λ h. (h.name, h.table, map view.trigger h.triggers.items)) (spec.rule_head tokens.old) result tokens.old tokens.new }
+{
+    let name = name_after(tokens, Kind::Rule)?;
+    let table = name_after(tokens, Kind::On)?;
+    tokens.expect(Kind::When)?;
+    let triggers = triggers(alloc, tokens)?;
+    Ok(RuleHead {
+        name,
+        table,
+        triggers,
+    })
+}
+
+#[tactic(auto, unfolding(crate::specs::Reading::rule_body))]
+fn body(alloc: Global, tokens: &mut Cursor<'_>, head: RuleHead) -> Result<RuleText, Fault>
+    ensures { Gives view.rule (spec.rule_body (head.name, head.table, map view.trigger head.triggers.items) tokens.old) result tokens.old tokens.new }
+{
+    let condition = condition(alloc, tokens)?;
+    tokens.expect(Kind::Then)?;
+    let actions = actions(alloc, tokens)?;
+    let precedes = listed(alloc, tokens, Kind::Precedes)?;
+    let follows = listed(alloc, tokens, Kind::Follows)?;
+    Ok(RuleText {
+        name: head.name,
+        table: head.table,
+        triggers: head.triggers,
+        condition,
+        actions,
+        precedes,
+        follows,
+    })
+}
+
+#[tactic(auto, unfolding(crate::specs::Reading::rule))]
+pub fn rule(alloc: Global, tokens: &mut Cursor<'_>) -> Result<RuleText, Fault>
+    ensures { Gives view.rule (spec.rule tokens.old) result tokens.old tokens.new }
+{
+    let head = head(alloc, tokens)?;
+    body(alloc, tokens, head)
+}
