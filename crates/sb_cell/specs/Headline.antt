@@ -4,8 +4,7 @@ use Rattle.sb_value.specs.declared.refusal.Refusal.TheVariants.{NoMemory}
 use Rattle.sb_tenant.specs.declared.Answer.{Answer}
 use Rattle.sb_tenant.specs.declared.Reply.TheVariants.{No}
 use Rattle.sb_tenant.specs.State.{State}
-use Rattle.sb_tenant.specs.Resolved.{Language}
-use Rattle.sb_tenant.specs.Step.{step}
+use Rattle.sb_tenant.specs.Step.{Language, step}
 use Rattle.sb_tenant.specs.Trail.{answers, state_after, after_abort, MayAbort}
 use Rattle.sb_cell.specs.declared.Event.{Event}
 use Rattle.sb_cell.specs.declared.StepError.{StepError}
@@ -34,7 +33,7 @@ IsServed [] = ⊤
 IsServed (Err e ∷ rest) = ⊥
 IsServed (Ok a ∷ rest) = (a.reply ≡ No NoMemory → ⊥) × IsServed rest
 
-module _ {C : Type 0} (language : Language C) (bound : ℕ) where
+module _ (language : Language) (bound : ℕ) where
   -- The theorem on whole runs: for every list of events of all tenants' sessions, and for every tenant that the cell hosts and that met no want of memory,
   -- its answers and its state are those of the tenant alone, which sees its own events and nothing else.
   abbrev pub RunsAlone : (ℕ → Bool) → (ℕ → State) → List Event → List (Result Answer StepError) → (ℕ → State) → Type 0
@@ -67,7 +66,7 @@ module _ {C : Type 0} (language : Language C) (bound : ℕ) where
 abbrev pub with_state : (ℕ → State) → ℕ → State → ℕ → State
 with_state states t state u = if u == t then state else states u
 
-module _ {C : Type 0} (language : Language C) (hosts : ℕ → Bool) (bound : ℕ) where
+module _ (language : Language) (hosts : ℕ → Bool) (bound : ℕ) where
   -- by whether the cell hosts the tenant, and whether the session is one
   abbrev pub step_if : Bool → Bool → (ℕ → State) → Event → Result Answer StepError × (ℕ → State)
   step_if false is_session states e = (Err NoTenant, states)
