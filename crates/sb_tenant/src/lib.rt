@@ -1,6 +1,8 @@
 //! One tenant's steps.
 #![tactic(auto)]
 
+pub mod laws;
+
 use sb_value::{Name, Refusal, RowList, SessionId, Verdict};
 use std::marker::Model;
 
