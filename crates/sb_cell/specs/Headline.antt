@@ -1,8 +1,9 @@
 -- Each tenant's answers and state are those of a tenant that is alone.
-use Rattle.std.specs.Prelude.{true, false, ◌≡◌, ℕ, ◌+◌, Bool, ◌&&◌, ◌==◌, nat_lt, if◌then◌else◌, ◌⊎◌, List, [], ◌∷◌, map, zip, filter_map, Option, Some, None, Result, Ok, Err, IsTrue, ⊤}
+use Rattle.std.specs.Prelude.{true, false, ◌≡◌, ℕ, ◌+◌, Bool, ◌&&◌, ◌==◌, if◌then◌else◌, ◌⊎◌, List, [], ◌∷◌, map, zip, filter_map, Option, Some, None, Result, Ok, Err, IsTrue, ⊤}
 use Rattle.sb_value.specs.declared.refusal.Refusal.TheVariants.{NoMemory}
 use Rattle.sb_tenant.specs.declared.Answer.{Answer}
 use Rattle.sb_tenant.specs.declared.Reply.TheVariants.{No}
+use Rattle.sb_tenant.specs.Limits.{is_session}
 use Rattle.sb_tenant.specs.State.{State}
 use Rattle.sb_tenant.specs.Step.{Language, step}
 use Rattle.sb_tenant.specs.Trail.{answers, state_after, after_abort, MayAbort}
@@ -12,7 +13,7 @@ use Rattle.sb_cell.specs.declared.StepError.TheVariants.{NoTenant, NoSession, No
 
 -- the events that name the tenant and one of its sessions
 abbrev pub is_own : ℕ → Event → Bool
-is_own t e = (e.tenant == t) && nat_lt e.session 8
+is_own t e = (e.tenant == t) && is_session e.session
 
 abbrev pub own_event : ℕ → Event → Option (ℕ × List ℕ)
 own_event t e = if is_own t e then Some (e.session, e.line) else None
@@ -76,7 +77,7 @@ module _ (language : Language) (hosts : ℕ → Bool) (bound : ℕ) where
       (Ok r.1, with_state states e.tenant r.0)
 
   abbrev pub event_step : (ℕ → State) → Event → Result Answer StepError × (ℕ → State)
-  event_step states e = step_if (hosts e.tenant) (nat_lt e.session 8) states e
+  event_step states e = step_if (hosts e.tenant) (is_session e.session) states e
 
   abbrev pub cell_answers : (ℕ → State) → List Event → List (Result Answer StepError)
   cell_answers states [] = []
