@@ -2,7 +2,9 @@ pub mod Printable
 pub mod Name
 pub mod NameInverse
 pub mod Flags
+pub mod FlagsInverse
 pub mod Tree
+pub mod Values
 pub mod Literal
 pub mod Columns
 pub mod Refusal

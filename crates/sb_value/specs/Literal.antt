@@ -1,5 +1,5 @@
 -- Values as text.
-use Rattle.std.specs.Prelude.{ℕ, ◌-◌, ◌^◌, Bool, ◌&&◌, ◌==◌, nat_le, nat_lt, if◌then◌else◌, List, [], ◌∷◌, ◌++◌, length, flat_map, Option, Some, None, option_map, Result, Ok, Err, pos, negsuc, neg_ℤ, int_le}
+use Rattle.std.specs.Prelude.{◌≡◌, ◌<◌, true, ℕ, ◌-◌, ◌^◌, ◌&&◌, ◌==◌, nat_lt, if◌then◌else◌, List, [], ◌∷◌, ◌++◌, length, flat_map, Option, Some, None, option_map, Result, Ok, Err, pos, negsuc, neg_ℤ, int_le}
 use Rattle.std.specs.List.{list_all}
 use Rattle.std.specs.Char.{is_ascii_digit}
 use Rattle.std.specs.Fmt.{signed_decimal}
@@ -7,8 +7,8 @@ use Rattle.std.specs.Str.Parse.{digits_value}
 use Rattle.sb_value.specs.Printable.{is_printable}
 use Rattle.sb_value.specs.declared.value.Value.{Value}
 use Rattle.sb_value.specs.declared.value.Value.TheVariants.{Int, Text}
-use Rattle.sb_value.specs.declared.value.LiteralError.{LiteralError}
-use Rattle.sb_value.specs.declared.value.LiteralError.TheVariants as error
+use Rattle.sb_value.specs.declared.literal.LiteralError.{LiteralError}
+use Rattle.sb_value.specs.declared.literal.LiteralError.TheVariants as error
 
 abbrev pub quote : ℕ
 quote = 39
@@ -21,9 +21,12 @@ minus = 45
 abbrev pub doubled : ℕ → List ℕ
 doubled b = if b == quote then quote ∷ quote ∷ [] else b ∷ []
 
+abbrev pub quoted_text : List ℕ → List ℕ
+quoted_text bytes = quote ∷ flat_map doubled bytes ++ quote ∷ []
+
 abbrev pub value_text : Value → List ℕ
 value_text (Int z) = signed_decimal z
-value_text (Text bytes) = quote ∷ flat_map doubled bytes ++ quote ∷ []
+value_text (Text bytes) = quoted_text bytes
 
 -- ---- what is read
 
@@ -38,6 +41,18 @@ text_of (b ∷ []) = if b == quote then Some [] else None
 text_of (b ∷ c ∷ bytes) =
     if b == quote then (if c == quote then option_map (λ t. quote ∷ t) (text_of bytes) else None)
     else (if is_printable b then option_map (λ t. b ∷ t) (text_of (c ∷ bytes)) else None)
+
+-- at the last byte, or where no part of a text stands: the end of the text, or none
+abbrev pub end_of : List ℕ → Option (List ℕ)
+end_of [] = None
+end_of (b ∷ []) = if b == quote then Some [] else None
+end_of (b ∷ c ∷ bytes) = None
+
+-- the byte is the first of the text, and the tail is what stands behind it
+pub record IsPart (quoted : List ℕ) (byte : ℕ) (tail : List ℕ) : Type 0 where
+  pub first : text_of quoted ≡ option_map (λ t. byte ∷ t) (text_of tail)
+  pub printable : is_printable byte ≡ true
+  pub shorter : length tail < length quoted
 
 -- the value of a literal, with no limit on a text's length or an integer's size
 abbrev pub literal_of : List ℕ → Option Value
@@ -57,3 +72,11 @@ limited (Some v) = within_limits v
 
 abbrev pub literal_value : List ℕ → Result Value LiteralError
 literal_value bytes = limited (literal_of bytes)
+
+-- what is read is what the literal says, unless memory ran out
+abbrev pub IsReading : Result Value LiteralError → Result Value LiteralError → Type 0
+IsReading said (Ok v) = said ≡ Ok v
+IsReading said (Err error.NoMemory) = Unit {0}
+IsReading said (Err error.BadType) = said ≡ Err error.BadType
+IsReading said (Err error.TextTooLong) = said ≡ Err error.TextTooLong
+IsReading said (Err error.Overflow) = said ≡ Err error.Overflow

@@ -12,7 +12,8 @@ pub struct Columns {
 
 impl Model for Columns {
     ghost use Rattle.std.specs.Prelude.{List, Bool, ◌<◌};
-    ghost use Rattle.sb_value.specs.Flags.{flags_of, word_of, word_of-flags_of};
+    ghost use Rattle.sb_value.specs.Flags.{flags_of, word_of};
+    ghost use Rattle.sb_value.specs.FlagsInverse.{word_of-flags_of};
 
     ghost Value = { List Bool };
 

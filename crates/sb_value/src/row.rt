@@ -1,5 +1,5 @@
 //! Rows of tables, and lists of them.
-ghost use Rattle.std.specs.Prelude.{◌≡◌, [], IfOk};
+ghost use Rattle.std.specs.Prelude.{◌≡◌, [], ◌∷◌, ◌++◌, length, IfOk, OnOk, OnErr, IsTrue, ◌↔◌};
 
 use crate::value::Value;
 use smallvec::SmallVec;
@@ -21,6 +21,52 @@ impl Model for Row {
     ghost view = { λ r. r.values.items };
 }
 
+impl Row {
+    /// A row with no value.
+    pub fn new(alloc: Global) -> Row
+        ensures { result ≡ [] }
+    {
+        Row {
+            values: SmallVec::new(alloc),
+        }
+    }
+
+    /// Adds a value at the end.
+    pub fn push(&mut self, value: Value) -> Result<(), AllocError>
+        ensures ok { OnOk result (self.new ≡ self.old ++ value ∷ []) }
+        ensures err { OnErr result (self.new ≡ self.old) }
+    {
+        self.values.push(value)?;
+        Ok(())
+    }
+
+    /// Its values.
+    pub fn values(&self) -> &[Value]
+        ensures { result.now ≡ self.now }
+    {
+        self.values.as_slice()
+    }
+
+    /// How many values it has.
+    pub fn len(&self) -> usize
+        ensures { result ≡ length self.now }
+    {
+        self.values.as_slice().len()
+    }
+
+    /// A row with the same values.
+    pub fn clone(&self) -> Result<Row, AllocError>
+        ensures { IfOk result (λ copy. copy ≡ self.now) }
+    {
+        let values = self.values();
+        let mut copy = Row::new(*self.values.allocator());
+        for value in values {
+            copy.push(value.clone()?)?;
+        }
+        Ok(copy)
+    }
+}
+
 /// Rows in order.
 #[derive(Drop)]
 pub struct RowList {
@@ -34,4 +80,50 @@ impl Model for RowList {
     ghost Value = { List (List Item) };
 
     ghost view = { λ r. r.rows.items };
+}
+
+impl RowList {
+    /// No row.
+    pub fn new(alloc: Global) -> RowList
+        ensures { result ≡ [] }
+    {
+        RowList {
+            rows: Vec::new(alloc),
+        }
+    }
+
+    /// Adds a row at the end.
+    pub fn push(&mut self, row: Row) -> Result<(), AllocError>
+        ensures ok { OnOk result (self.new ≡ self.old ++ row ∷ []) }
+        ensures err { OnErr result (self.new ≡ self.old) }
+    {
+        self.rows.push(row)?;
+        Ok(())
+    }
+
+    /// Its rows.
+    pub fn rows(&self) -> &[Row]
+        ensures { result.now ≡ self.now }
+    {
+        self.rows.as_slice()
+    }
+
+    /// How many rows it has.
+    pub fn len(&self) -> usize
+        ensures { result ≡ length self.now }
+    {
+        self.rows.len()
+    }
+
+    /// A list of the same rows.
+    pub fn clone(&self) -> Result<RowList, AllocError>
+        ensures { IfOk result (λ copy. copy ≡ self.now) }
+    {
+        let rows = self.rows();
+        let mut copy = RowList::new(*self.rows.allocator());
+        for row in rows {
+            copy.push(row.clone()?)?;
+        }
+        Ok(copy)
+    }
 }

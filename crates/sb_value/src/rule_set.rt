@@ -13,7 +13,8 @@ pub struct RuleSet {
 
 impl Model for RuleSet {
     ghost use Rattle.std.specs.Prelude.{List, Bool, ◌<◌, ◌^◌};
-    ghost use Rattle.sb_value.specs.Flags.{flags_of, word_of, word_of-flags_of};
+    ghost use Rattle.sb_value.specs.Flags.{flags_of, word_of};
+    ghost use Rattle.sb_value.specs.FlagsInverse.{word_of-flags_of};
 
     ghost Value = { List Bool };
 

@@ -5,6 +5,7 @@ ghost use Rattle.sb_value.specs.Printable.{is_printable};
 
 use crate::name::Name;
 use std::alloc::AllocError;
+use std::cmp::Ordering;
 use std::marker::Model;
 
 /// The most bytes that a text value has.
@@ -64,6 +65,49 @@ pub enum Value {
     Text(Text),
 }
 
+impl Value {
+    ghost use Rattle.sb_value.specs.Values.{type_of, value_cmp};
+
+    /// A value equal to this one.
+    pub fn clone(&self) -> Result<Value, AllocError>
+        ensures { IfOk result (λ copy. copy ≡ self.now) }
+    {
+        match self {
+            Value::Int(number) => Ok(Value::Int(*number)),
+            Value::Text(text) => Ok(Value::Text(text.clone()?)),
+        }
+    }
+
+    /// How it compares with another value.
+    pub fn compare(&self, other: &Value) -> Ordering
+        ensures { result ≡ value_cmp self.now other.now }
+    {
+        match (self, other) {
+            (Value::Int(one), Value::Int(two)) => one.cmp(two),
+            (Value::Text(one), Value::Text(two)) => one.as_slice().cmp(two.as_slice()),
+            (Value::Int(_), Value::Text(_)) => Ordering::Less,
+            (Value::Text(_), Value::Int(_)) => Ordering::Greater,
+        }
+    }
+
+    /// The type of the columns that hold it.
+    pub fn column_type(&self) -> ColumnType
+        ensures { result ≡ type_of self.now }
+    {
+        match self {
+            Value::Int(_) => ColumnType::Int,
+            Value::Text(_) => ColumnType::Text,
+        }
+    }
+}
+
+/// Zero. An unused place of a row holds it.
+impl Default for Value {
+    fn default() -> Value {
+        Value::Int(0)
+    }
+}
+
 /// The type of a column.
 #[derive(Clone, Copy, Debug, PartialEq, Eq)]
 pub enum ColumnType {
@@ -76,13 +120,4 @@ pub enum ColumnType {
 pub struct ColumnDefinition {
     pub name: Name,
     pub of: ColumnType,
-}
-
-/// Why bytes give no value.
-#[derive(Clone, Copy, Debug, PartialEq, Eq)]
-pub enum LiteralError {
-    BadType,
-    TextTooLong,
-    Overflow,
-    NoMemory,
 }

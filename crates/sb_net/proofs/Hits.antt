@@ -1,0 +1,243 @@
+-- A rule is triggered where a walk over the changes of one of its kinds meets a tuple with one of its operations.
+use Rattle.std.proofs.Common.{◌≡◌, ℕ, Bool, true, false, ◌||◌, ◌&&◌, ◌==◌, cond, nat_le, nat_lt, List, [], ◌∷◌, ◌++◌, map, reverse, Option, Some, None, refl, sym, ap, ◌∙◌, subst, ◌⊎◌, inl, inr, eqb-true}
+use Rattle.std.specs.List.{list_any, filter}
+use Rattle.std.proofs.lemmas.List.{reverse-append}
+use Rattle.std.proofs.lemmas.List.Folds.{list_any-append}
+use Rattle.sb_value.specs.Flags.{share_place}
+use Rattle.sb_value.specs.NetEffect.{is_of, history, last_of, all_columns, net_between, net_of, net_effect, with_number, tuples_of, has_update, is_operation, is_triggered}
+use Rattle.sb_value.specs.declared.id.Who.{Who}
+use Rattle.sb_value.specs.declared.change.Kind.{Kind}
+use Rattle.sb_value.specs.declared.change.Kind.TheVariants.{Inserted, Deleted, Updated}
+use Rattle.sb_value.specs.declared.change.Change.{Change}
+use Rattle.sb_value.specs.declared.net.Triggers.{Triggers}
+use Rattle.sb_rawlog.specs.Changes.{is_by, same_kind, is_op, is_tuple}
+use Rattle.sb_rawlog.specs.Records.{Record, selected, walk}
+use Rattle.sb_rawlog.specs.Sessions.{changes, changes_since}
+use Rattle.sb_net.specs.Hits.{is_hit, any_hit, names_kind}
+use Rattle.sb_net.proofs.Folds.{history-since}
+
+-- ---- tests
+
+and_left : (a b : Bool) → (a && b) ≡ true → a ≡ true
+and_left true b e = refl
+and_left false b e = absurd (cc)
+
+and_right : (a b : Bool) → (a && b) ≡ true → b ≡ true
+and_right true b e = e
+and_right false b e = absurd (cc)
+
+and_both : (a b : Bool) → a ≡ true → b ≡ true → (a && b) ≡ true
+and_both a b p q = ap (λ x. x && b) p ∙ q
+
+or_left : (a b : Bool) → a ≡ true → (a || b) ≡ true
+or_left a b p = ap (λ x. x || b) p
+
+or_right : (a b : Bool) → b ≡ true → (a || b) ≡ true
+or_right true b p = refl
+or_right false b p = p
+
+or_cases : (a b : Bool) → (a || b) ≡ true → (a ≡ true) ⊎ (b ≡ true)
+or_cases true b h = inl refl
+or_cases false b h = inr h
+
+or_swap : (a b c : Bool) → (a || (b || c)) ≡ (b || (a || c))
+or_swap true true c = refl
+or_swap true false c = refl
+or_swap false true c = refl
+or_swap false false c = refl
+
+or_twice : (a c : Bool) → (a || c) ≡ (a || (a || c))
+or_twice true c = refl
+or_twice false c = refl
+
+or_comm : (a b : Bool) → (a || b) ≡ (b || a)
+or_comm true true = refl
+or_comm true false = refl
+or_comm false true = refl
+or_comm false false = refl
+
+or_false : (b : Bool) → (b || false) ≡ b
+or_false true = refl
+or_false false = refl
+
+-- ---- lists
+
+any-reverse : {X : Type 0} (p : X → Bool) (xs : List X) → list_any p (reverse xs) ≡ list_any p xs
+any-reverse p [] = refl
+any-reverse p (x ∷ xs) =
+    ap (list_any p) (reverse-append (x ∷ []) xs) ∙ list_any-append p (reverse xs) (x ∷ []) ∙ or_comm (list_any p (reverse xs)) (p x || false)
+    ∙ ap (λ b. b || list_any p (reverse xs)) (or_false (p x)) ∙ ap (λ b. p x || b) (any-reverse p xs)
+
+-- what passes p among those that f selects passes q among those that g selects
+any_from : {X : Type 0} (f p g q : X → Bool) → ((x : X) → f x ≡ true → p x ≡ true → (g x ≡ true) × (q x ≡ true)) → (xs : List X) → list_any p (filter f xs) ≡ true
+    → list_any q (filter g xs) ≡ true
+any_from f p g q on [] e = absurd (cc)
+any_from {X} f p g q on (x ∷ xs) e =
+    let rest : list_any p (filter f xs) ≡ true → list_any q (cond (g x) (x ∷ filter g xs) (filter g xs)) ≡ true = λ r.
+    let more = any_from f p g q on xs r in
+    elim (g x) as (λ b. list_any q (cond b (x ∷ filter g xs) (filter g xs)) ≡ true) [ true ↦ or_right (q x) (list_any q (filter g xs)) more | false ↦ more ] in
+    let here : f x ≡ true → p x ≡ true → list_any q (cond (g x) (x ∷ filter g xs) (filter g xs)) ≡ true = λ fx px.
+    let two = on x fx px in ap (λ b. list_any q (cond b (x ∷ filter g xs) (filter g xs))) two.0 ∙ or_left (q x) (list_any q (filter g xs)) two.1 in
+    elim (f x) as (λ b. (f x ≡ b) → list_any p (cond b (x ∷ filter f xs) (filter f xs)) ≡ true → list_any q (cond (g x) (x ∷ filter g xs) (filter g xs)) ≡ true) [
+      | true ↦ (λ fx r. elim (or_cases (p x) (list_any p (filter f xs)) r) [ inl px ↦ here fx px | inr more ↦ rest more ])
+      | false ↦ (λ _ r. rest r)
+    ] refl e
+
+list_any-map : {X Y : Type 0} (p : Y → Bool) (f : X → Y) (xs : List X) → list_any p (map f xs) ≡ list_any (λ x. p (f x)) xs
+list_any-map p f [] = refl
+list_any-map p f (x ∷ xs) = ap (λ b. p (f x) || b) (list_any-map p f xs)
+
+some_of : {X : Type 0} (p : X → Bool) (xs : List X) → list_any p xs ≡ true → (x : X) × (p x ≡ true)
+some_of p [] e = absurd (cc)
+some_of {X} p (x ∷ xs) e = elim (or_cases (p x) (list_any p xs) e) [ inl here ↦ (x, here) | inr there ↦ some_of p xs there ]
+
+-- ---- the tuples of a list of changes
+
+module _ (p : ℕ → Bool) where
+  any-with_number : (n : ℕ) (ms : List ℕ) → list_any p (with_number n ms) ≡ (p n || list_any p ms)
+  any-with_number n [] = refl
+  any-with_number n (m ∷ ms) =
+      elim (n == m) as (λ b. (n == m) ≡ b → list_any p (cond b (m ∷ ms) (cond (nat_lt n m) (n ∷ m ∷ ms) (m ∷ with_number n ms))) ≡ (p n || (p m || list_any p ms))) [
+        | true ↦ λ e. let same : m ≡ n = sym (eqb-true n m e) in ap (λ k. p k || list_any p ms) same ∙ or_twice (p n) (list_any p ms) ∙ ap (λ k. p n || (p k || list_any p ms)) (sym same)
+        | false ↦ λ _. elim (nat_lt n m) as (λ b. list_any p (cond b (n ∷ m ∷ ms) (m ∷ with_number n ms)) ≡ (p n || (p m || list_any p ms))) [
+          | true ↦ refl
+          | false ↦ ap (λ b. p m || b) (any-with_number n ms) ∙ or_swap (p m) (p n) (list_any p ms)
+        ]
+      ] refl
+
+  pub any-tuples_of : (table : ℕ) (cs : List Change) → list_any p (tuples_of cs table) ≡ list_any (λ c. (c.table == table) && p c.tuple) cs
+  any-tuples_of table [] = refl
+  any-tuples_of table (c ∷ cs) =
+      elim (c.table == table) as (λ b. list_any p (cond b (with_number c.tuple (tuples_of cs table)) (tuples_of cs table)) ≡ ((b && p c.tuple) || list_any (λ d. (d.table == table) && p d.tuple) cs)) [
+        | true ↦ any-with_number c.tuple (tuples_of cs table) ∙ ap (λ b. p c.tuple || b) (any-tuples_of table cs)
+        | false ↦ any-tuples_of table cs
+      ]
+
+-- ---- kinds
+
+same_kind_self : (k : Kind) → same_kind k k ≡ true
+same_kind_self Inserted = refl
+same_kind_self Deleted = refl
+same_kind_self Updated = refl
+
+share_own : (xs ys : List Bool) → share_place xs ys ≡ true → share_place xs xs ≡ true
+share_own [] ys h = h
+share_own (x ∷ xs) [] h = absurd (cc)
+share_own (x ∷ xs) (y ∷ ys) h = elim (or_cases (x && y) (share_place xs ys) h) [
+  | inl here ↦ or_left (x && x) (share_place xs xs) (and_both x x (and_left x y here) (and_left x y here))
+  | inr there ↦ or_right (x && x) (share_place xs xs) (share_own xs ys there)
+]
+
+update_named : (triggers : Triggers) (columns : List Bool) → has_update triggers columns ≡ true → has_update triggers triggers.columns ≡ true
+update_named triggers columns h = elim (or_cases triggers.updated (share_place triggers.columns columns) h) [
+  | inl any ↦ or_left triggers.updated (share_place triggers.columns triggers.columns) any
+  | inr listed ↦ or_right triggers.updated (share_place triggers.columns triggers.columns) (share_own triggers.columns columns listed)
+]
+
+-- an operation comes from a change of its kind, the first or the last
+by_ends : (triggers : Triggers) (a b : Kind) (first last : Change) (columns : List Bool) → is_operation triggers (net_between a b first last columns) ≡ true
+    → (k : Kind) × ((names_kind triggers k ≡ true) × ((same_kind a k ≡ true) ⊎ (same_kind b k ≡ true)))
+by_ends triggers Inserted Deleted first last columns h = absurd (cc)
+by_ends triggers Inserted Inserted first last columns h = (Inserted, (h, inl refl))
+by_ends triggers Inserted Updated first last columns h = (Inserted, (h, inl refl))
+by_ends triggers Deleted Deleted first last columns h = (Deleted, (h, inl refl))
+by_ends triggers Updated Deleted first last columns h = (Deleted, (h, inr refl))
+by_ends triggers Updated Updated first last columns h = (Updated, (update_named triggers columns h, inl refl))
+by_ends triggers Deleted Inserted first last columns h = absurd (cc)
+by_ends triggers Deleted Updated first last columns h = absurd (cc)
+by_ends triggers Updated Inserted first last columns h = absurd (cc)
+
+any_last : (p : Change → Bool) (c : Change) (cs : List Change) → p (last_of c cs) ≡ true → list_any p (c ∷ cs) ≡ true
+any_last p c [] e = or_left (p c) false e
+any_last p c (d ∷ ds) e = or_right (p c) (p d || list_any p ds) (any_last p d ds e)
+
+by_kind : (triggers : Triggers) (cs : List Change) → is_operation triggers (net_of cs) ≡ true → (k : Kind) × ((names_kind triggers k ≡ true) × (list_any (λ c. same_kind c.kind k) cs ≡ true))
+by_kind triggers [] h = absurd (cc)
+by_kind triggers (c ∷ cs) h =
+    let found = by_ends triggers c.kind (last_of c cs).kind c (last_of c cs) (all_columns (c ∷ cs)) h in
+    let k = found.0 in (
+      k,
+      (
+        found.1.0,
+        elim found.1.1 [
+          | inl first ↦ or_left (same_kind c.kind k) (list_any (λ d. same_kind d.kind k) cs) first
+          | inr last ↦ any_last (λ d. same_kind d.kind k) c cs last
+        ],
+      ),
+    )
+
+-- ---- the walks of a log
+
+module _ (triggers : Triggers) (who : Who) (table since : ℕ) (rs : List Record) where
+  abbrev all : List Change
+  all = changes_since who since rs
+
+  abbrev hit : ℕ → Bool
+  hit = is_hit triggers table all
+
+  abbrev pub found : Kind → Bool
+  found k = any_hit triggers table all (walk (is_op who table k) since rs)
+
+  triggered_as : is_triggered triggers table all ≡ list_any (λ r. (r.1.table == table) && hit r.1.tuple) (selected (is_by who) since rs)
+  triggered_as = any-tuples_of hit table all ∙ list_any-map (λ (c : Change). (c.table == table) && hit c.tuple) (λ (r : Record). r.1) (selected (is_by who) since rs)
+
+  of_op : (k : Kind) (r : Record) → (nat_le since r.0 && is_op who table k r.1) ≡ true → hit r.1.tuple ≡ true
+      → ((nat_le since r.0 && is_by who r.1) ≡ true) × (((r.1.table == table) && hit r.1.tuple) ≡ true)
+  of_op k r sel h =
+      let c = r.1 in
+      let op = and_right (nat_le since r.0) (is_op who table k c) sel in
+      let here = and_right (is_by who c) ((c.table == table) && same_kind c.kind k) op in (
+        and_both (nat_le since r.0) (is_by who c) (and_left (nat_le since r.0) (is_op who table k c) sel) (and_left (is_by who c) ((c.table == table) && same_kind c.kind k) op),
+        and_both (c.table == table) (hit c.tuple) (and_left (c.table == table) (same_kind c.kind k) here) h,
+      )
+
+  pub some_hit : (k : Kind) → (names_kind triggers k && found k) ≡ true → is_triggered triggers table all ≡ true
+  unfolding walk selected
+  some_hit k e =
+      let seen : list_any (λ (r : Record). hit r.1.tuple) (selected (is_op who table k) since rs) ≡ true =
+      sym (any-reverse (λ (r : Record). hit r.1.tuple) (selected (is_op who table k) since rs)) ∙ and_right (names_kind triggers k) (found k) e in
+      triggered_as ∙ any_from (λ (r : Record). nat_le since r.0 && is_op who table k r.1) (λ r. hit r.1.tuple) (λ r. nat_le since r.0 && is_by who r.1)
+      (λ r. (r.1.table == table) && hit r.1.tuple) (of_op k) rs seen
+
+  of_tuple : (x : ℕ) (k : Kind) → hit x ≡ true → (r : Record) → (nat_le since r.0 && is_tuple who table x r.1) ≡ true → same_kind r.1.kind k ≡ true
+      → ((nat_le since r.0 && is_op who table k r.1) ≡ true) × (hit r.1.tuple ≡ true)
+  of_tuple x k hx r sel same =
+      let c = r.1 in
+      let it = and_right (nat_le since r.0) (is_tuple who table x c) sel in
+      let here = and_right (is_by who c) (is_of table x c) it in (
+        and_both (nat_le since r.0) (is_op who table k c) (and_left (nat_le since r.0) (is_tuple who table x c) sel)
+            (and_both (is_by who c) ((c.table == table) && same_kind c.kind k) (and_left (is_by who c) (is_of table x c) it)
+            (and_both (c.table == table) (same_kind c.kind k) (and_left (c.table == table) (c.tuple == x) here) same)),
+        ap hit (eqb-true c.tuple x (and_right (c.table == table) (c.tuple == x) here)) ∙ hx,
+      )
+
+  kind_found : (x : ℕ) (k : Kind) → hit x ≡ true → list_any (λ c. same_kind c.kind k) (history all table x) ≡ true → found k ≡ true
+  unfolding walk selected
+  kind_found x k hx h =
+      let sel : list_any (λ (r : Record). same_kind r.1.kind k) (selected (is_tuple who table x) since rs) ≡ true =
+      sym (list_any-map (λ (c : Change). same_kind c.kind k) (λ (r : Record). r.1) (selected (is_tuple who table x) since rs))
+      ∙ ap (list_any (λ c. same_kind c.kind k)) (sym (history-since who table x since rs)) ∙ h in
+      any-reverse (λ (r : Record). hit r.1.tuple) (selected (is_op who table k) since rs)
+      ∙ any_from (λ (r : Record). nat_le since r.0 && is_tuple who table x r.1) (λ r. same_kind r.1.kind k) (λ r. nat_le since r.0 && is_op who table k r.1) (λ r. hit r.1.tuple)
+      (of_tuple x k hx) rs sel
+
+  some_kind : is_triggered triggers table all ≡ true → (k : Kind) × ((names_kind triggers k && found k) ≡ true)
+  some_kind h =
+      let x = some_of hit (tuples_of all table) h in
+      let kind = by_kind triggers (history all table x.0) x.1 in
+      (kind.0, and_both (names_kind triggers kind.0) (found kind.0) kind.1.0 (kind_found x.0 kind.0 x.1 kind.1.1))
+
+  -- with no tuple found by inserts and by deletes, those found by updates decide
+  pub last_kind : (names_kind triggers Inserted && found Inserted) ≡ false → (names_kind triggers Deleted && found Deleted) ≡ false
+      → (names_kind triggers Updated && found Updated) ≡ is_triggered triggers table all
+  last_kind i d = by_both (names_kind triggers Updated && found Updated) (is_triggered triggers table all) (some_hit Updated) (λ h. left (some_kind h).0 (some_kind h).1)
+    where
+      by_both : (a b : Bool) → (a ≡ true → b ≡ true) → (b ≡ true → a ≡ true) → a ≡ b
+      by_both true b f g = sym (f refl)
+      by_both false true f g = g refl
+      by_both false false f g = refl
+
+      left : (k : Kind) → (names_kind triggers k && found k) ≡ true → (names_kind triggers Updated && found Updated) ≡ true
+      left Inserted e = absurd (cc)
+      left Deleted e = absurd (cc)
+      left Updated e = e

@@ -1,0 +1,3 @@
+mod Folds
+mod Hits
+pub mod Proper

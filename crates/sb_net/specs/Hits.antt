@@ -1,0 +1,23 @@
+-- Which tuples trigger a rule.
+use Rattle.std.specs.Prelude.{ℕ, Bool, List}
+use Rattle.std.specs.List.{list_any}
+use Rattle.sb_value.specs.NetEffect.{net_effect, has_update, is_operation}
+use Rattle.sb_value.specs.declared.change.Kind.{Kind}
+use Rattle.sb_value.specs.declared.change.Kind.TheVariants.{Inserted, Deleted, Updated}
+use Rattle.sb_value.specs.declared.change.Change.{Change}
+use Rattle.sb_value.specs.declared.net.Triggers.{Triggers}
+use Rattle.sb_rawlog.specs.Records.{Record}
+
+-- the net effect of the changes on the tuple is one of the operations
+abbrev pub is_hit : Triggers → ℕ → List Change → ℕ → Bool
+is_hit triggers table changes tuple = is_operation triggers (net_effect changes table tuple)
+
+-- that is so of a tuple of one of the records
+abbrev pub any_hit : Triggers → ℕ → List Change → List Record → Bool
+any_hit triggers table changes records = list_any (λ r. is_hit triggers table changes r.1.tuple) records
+
+-- an operation of the kind is among the triggers
+abbrev pub names_kind : Triggers → Kind → Bool
+names_kind triggers Inserted = triggers.inserted
+names_kind triggers Deleted = triggers.deleted
+names_kind triggers Updated = has_update triggers triggers.columns

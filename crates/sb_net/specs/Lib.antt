@@ -1,0 +1,4 @@
+pub mod Spans
+pub mod Seen
+pub mod Rows
+pub mod Hits

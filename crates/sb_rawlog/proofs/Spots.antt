@@ -1,0 +1,99 @@
+-- What the steps of a plain log answer, from the index that was found.
+use Rattle.std.proofs.Common.{◌≡◌, ℕ, ◌+◌, ◌-◌, Bool, true, false, not, ◌&&◌, ◌==◌, List, [], ◌∷◌, ◌++◌, length, take, drop, Option, Some, slice_get, refl, sym, ap, ◌∙◌, subst, arith, eqb-true}
+use Rattle.sb_value.specs.declared.id.Who.{Who}
+use Rattle.sb_value.specs.declared.change.Kind.{Kind}
+use Rattle.sb_value.specs.declared.change.Kind.TheVariants.{Inserted, Deleted, Updated}
+use Rattle.sb_value.specs.declared.change.Change.{Change}
+use Rattle.sb_rawlog.specs.Changes.{same_kind, is_op, is_tuple, is_by}
+use Rattle.sb_rawlog.specs.declared.spot.Spot.{Spot}
+use Rattle.sb_rawlog.specs.Records.{Record, Rising, walk, before, without, others, change_at}
+use Rattle.sb_rawlog.specs.Found.{Found}
+use Rattle.sb_rawlog.specs.Steps.{Comes, OpSpot, TupleSpot, Newest}
+use Rattle.sb_rawlog.proofs.Rises.{and_right, before-all, split_at, without-split, rising-filter}
+
+pub same_kind-eq : (a b : Kind) → same_kind a b ≡ true → a ≡ b
+same_kind-eq Inserted Inserted e = refl
+same_kind-eq Inserted Deleted e = absurd (cc)
+same_kind-eq Inserted Updated e = absurd (cc)
+same_kind-eq Deleted Inserted e = absurd (cc)
+same_kind-eq Deleted Deleted e = refl
+same_kind-eq Deleted Updated e = absurd (cc)
+same_kind-eq Updated Inserted e = absurd (cc)
+same_kind-eq Updated Deleted e = absurd (cc)
+same_kind-eq Updated Updated e = refl
+
+pub is_op-kind : (who : Who) (table : ℕ) (kind : Kind) (c : Change) → is_op who table kind c ≡ true → c.kind ≡ kind
+is_op-kind who table kind c e =
+    same_kind-eq c.kind kind (and_right (c.table == table) (same_kind c.kind kind) (and_right (is_by who c) ((c.table == table) && same_kind c.kind kind) e))
+
+pub is_tuple-tuple : (who : Who) (table tuple : ℕ) (c : Change) → is_tuple who table tuple c ≡ true → c.tuple ≡ tuple
+is_tuple-tuple who table tuple c e =
+    eqb-true c.tuple tuple (and_right (c.table == table) (c.tuple == tuple) (and_right (is_by who c) ((c.table == table) && (c.tuple == tuple)) e))
+
+module _ (p : Change → Bool) (since : ℕ) (rs todo : List Record) (i : ℕ) (r : Record) (f : Found p since rs todo i) (e : slice_get rs i ≡ Some r) where
+  is_it : f.record_at ≡ r
+  is_it = let a = f.is in cc
+
+  pub it_here : change_at r.0 rs ≡ Some r.1
+  it_here = subst (λ (q : Record). change_at q.0 rs ≡ Some q.1) is_it f.here
+
+  pub it_first : todo ≡ (r.0, r.1) ∷ walk p since (before r.0 rs)
+  it_first = subst (λ (q : Record). todo ≡ q ∷ walk p since (before q.0 rs)) is_it f.first
+
+  pub it_fits : p r.1 ≡ true
+  it_fits = subst (λ (q : Record). p q.1 ≡ true) is_it f.fits
+
+pub op_spot : (ok : Spot → Type 0) (rs todo : List Record) (who : Who) (table : ℕ) (kind : Kind) (since i : ℕ) (r : Record) → Found (is_op who table kind) since rs todo i → slice_get rs i ≡ Some r
+    → ((s : Spot) → change_at s.time rs ≡ Some r.1 → ok s) → OpSpot ok rs who table kind since todo (record { place = i; time = r.0; since = since; who = who; table = table; kind = kind; tuple = r.1.tuple })
+op_spot ok rs todo who table kind since i r f e fine =
+    let p = is_op who table kind in let here = it_here p since rs todo i r f e in
+    record {
+      stands = fine _ here;
+      who_is = refl;
+      table_is = refl;
+      kind_is = refl;
+      since_is = refl;
+      comes = record { change = r.1; here = here; first = it_first p since rs todo i r f e; kind = sym (is_op-kind who table kind r.1 (it_fits p since rs todo i r f e)); tuple = refl };
+    }
+
+pub tuple_spot : (ok : Spot → Type 0) (rs todo : List Record) (who : Who) (table tuple since i : ℕ) (r : Record) → Found (is_tuple who table tuple) since rs todo i → slice_get rs i ≡ Some r
+    → ((s : Spot) → change_at s.time rs ≡ Some r.1 → ok s) → TupleSpot ok rs who table tuple since todo (record { place = i; time = r.0; since = since; who = who; table = table; kind = r.1.kind; tuple = tuple })
+tuple_spot ok rs todo who table tuple since i r f e fine =
+    let p = is_tuple who table tuple in let here = it_here p since rs todo i r f e in
+    record {
+      stands = fine _ here;
+      who_is = refl;
+      table_is = refl;
+      tuple_is = refl;
+      since_is = refl;
+      comes = record { change = r.1; here = here; first = it_first p since rs todo i r f e; kind = refl; tuple = sym (is_tuple-tuple who table tuple r.1 (it_fits p since rs todo i r f e)) };
+    }
+
+abbrev pub newest_found : (who : Who) (rs todo : List Record) (i : ℕ) (r : Record) → Found (is_by who) 0 rs todo i → todo ≡ walk (is_by who) 0 rs → slice_get rs i ≡ Some r → Newest who rs r.1
+newest_found who rs todo i r f is e = record { time = r.0; here = it_here (is_by who) 0 rs todo i r f e; first = sym is ∙ it_first (is_by who) 0 rs todo i r f e }
+
+pub from_list : (p : Change → Bool) (since : ℕ) (ds rs : List Record) (until i : ℕ) → ds ≡ rs → Found p since ds (walk p since (before until ds)) i → Found p since rs (walk p since (before until rs)) i
+from_list p since ds rs until i same f = subst (λ (l : List Record). Found p since l (walk p since (before until l)) i) same f
+
+-- what was found in a list that is the log's, from its clock on
+pub from_clock : (p : Change → Bool) (since : ℕ) (ds rs : List Record) (clock i : ℕ) → ds ≡ rs → Rising 0 rs clock → Found p since ds (walk p since (before clock ds)) i → Found p since rs (walk p since rs) i
+from_clock p since ds rs clock i same up f =
+    subst (λ (l : List Record). Found p since rs (walk p since l) i) (before-all clock 0 rs clock (omega arith) up) (from_list p since ds rs clock i same f)
+
+pub none_from_clock : (p : Change → Bool) (since : ℕ) (ds rs : List Record) (clock : ℕ) → ds ≡ rs → Rising 0 rs clock → walk p since (before clock ds) ≡ [] → walk p since rs ≡ []
+none_from_clock p since ds rs clock same up none =
+    ap (walk p since) (sym (ap (before clock) same ∙ before-all clock 0 rs clock (omega arith) up)) ∙ none
+
+-- what is left when a record is taken out
+pub removed : (rs news : List Record) (clock i : ℕ) (r : Record) → Rising 0 rs clock → slice_get rs i ≡ Some r → news ≡ take i rs ++ drop (i + 1) rs → news ≡ without r.0 rs
+removed rs news clock i r up e is =
+    let cut = (split_at rs i r e).0 in
+    is ∙ sym (ap (without r.0) cut ∙ without-split r (drop (i + 1) rs) 0 (take i rs) clock (subst (λ (l : List Record). Rising 0 l clock) cut up))
+
+pub rising-without : (t : ℕ) (rs news : List Record) (clock : ℕ) → news ≡ without t rs → Rising 0 rs clock → Rising 0 news clock
+unfolding without
+rising-without t rs news clock is up = subst (λ (l : List Record). Rising 0 l clock) (sym is) (rising-filter (λ r. not (r.0 == t)) 0 rs clock up)
+
+pub rising-others : (who : Who) (rs news : List Record) (clock : ℕ) → news ≡ others who rs → Rising 0 rs clock → Rising 0 news clock
+unfolding others
+rising-others who rs news clock is up = subst (λ (l : List Record). Rising 0 l clock) (sym is) (rising-filter (λ r. not (is_by who r.1)) 0 rs clock up)

@@ -1,0 +1,6 @@
+pub mod Changes
+pub mod Records
+pub mod Sessions
+pub mod Keys
+pub mod Found
+pub mod Steps

@@ -1,0 +1,35 @@
+-- What a log holds of one session.
+use Rattle.std.specs.Prelude.{◌≡◌, ◌≢◌, ℕ, ◌&&◌, nat_lt, nat_le, List, [], ◌∷◌, ◌++◌, map, length, Option, Some, None}
+use Rattle.std.specs.List.{filter}
+use Rattle.sb_value.specs.declared.id.Who.{Who}
+use Rattle.sb_value.specs.declared.change.Change.{Change}
+use Rattle.sb_rawlog.specs.Changes.{is_by}
+use Rattle.sb_rawlog.specs.Records.{Record, selected}
+
+-- a session's records, oldest first
+unfoldable pub records_by : Who → List Record → List Record
+records_by who rs = filter (λ r. is_by who r.1) rs
+
+abbrev pub changes : List Record → List Change
+changes rs = map (λ r. r.1) rs
+
+-- a session's changes: the list that its transaction stands for
+abbrev pub changes_by : Who → List Record → List Change
+changes_by who rs = changes (records_by who rs)
+
+-- those that are no older than a time
+abbrev pub changes_since : Who → ℕ → List Record → List Change
+changes_since who since rs = changes (selected (is_by who) since rs)
+
+-- a time as a mark: how many of the session's changes are older
+abbrev pub mark_at : Who → ℕ → List Record → ℕ
+mark_at who time rs = length (filter (λ r. nat_lt r.0 time) (records_by who rs))
+
+-- the records of every other session are as before
+abbrev pub OthersStay : Who → List Record → List Record → Type 0
+OthersStay who old new = (other : Who) → other ≢ who → records_by other new ≡ records_by other old
+
+-- the change is the last of what the session had, and the others of them are left
+abbrev pub TakesLast : Who → List Record → List Record → Option Change → Type 0
+TakesLast who old new None = (changes_by who old ≡ []) × (new ≡ old)
+TakesLast who old new (Some c) = changes_by who old ≡ changes_by who new ++ c ∷ []

@@ -1,0 +1,14 @@
+//! The log of changes: what every log promises, specified as a list of changes in rising time, and a log kept as a plain list.
+#![tactic(auto)]
+
+mod find;
+mod key;
+mod log;
+mod plain;
+mod spot;
+mod walks;
+
+pub use log::ChangeLog;
+pub use plain::PlainLog;
+pub use spot::Spot;
+pub use walks::{ByOp, ByTuple};

@@ -1,0 +1,173 @@
+//! A log kept as a plain list.
+ghost use Rattle.std.specs.Prelude.{◌≡◌, ◌+◌, ◌≤◌, [], Some, length, slice_get, vec_capacity, MatchOption};
+ghost use Rattle.sb_value.specs.declared.change.Change.{Change};
+ghost use Rattle.sb_rawlog.specs.Records.{Rising, Rising-prop, walk, before, change_at};
+ghost use Rattle.sb_rawlog.specs.Found.{Found};
+ghost use Rattle.sb_rawlog.specs.Keys.{fits};
+
+use crate::find::{index_of, newest_before};
+use crate::key::Key;
+use crate::log::ChangeLog;
+use crate::spot::Spot;
+use sb_value::{Change, Kind, TableId, Who};
+use std::alloc::{AllocError, Global};
+
+/// A log that keeps its changes in a list.
+#[derive(Drop)]
+pub struct PlainLog {
+    items: Vec<(u64, Change)>,
+    clock: u64,
+    room: usize,
+    ghost rising: { Rising 0 items.items clock } by { Rising-prop _ _ _ },
+    ghost within: { length items.items + room ≤ vec_capacity items },
+}
+
+impl PlainLog {
+    /// An empty log, whose clock stands at 0.
+    pub fn new(alloc: Global) -> Self
+        ensures records { ⟦<PlainLog as ChangeLog>⟧.records result ≡ [] }
+        ensures clock { ⟦<PlainLog as ChangeLog>⟧.clock result ≡ 0 }
+        ensures spare { ⟦<PlainLog as ChangeLog>⟧.room result ≡ 0 }
+    {
+        PlainLog {
+            items: Vec::new(alloc),
+            clock: 0,
+            room: 0,
+        }
+    }
+}
+
+impl ChangeLog for PlainLog {
+    ghost records = { λ l. l.items.items };
+
+    ghost clock = { λ l. l.clock };
+
+    ghost room = { λ l. l.room };
+
+    ghost stands = { λ l s. (c : Change) × (change_at s.time l.items.items ≡ Some c) };
+
+    fn reserve(&mut self, n: usize) -> Result<(), AllocError> {
+        if n > self.room {
+            self.items.reserve(n)?;
+            self.room = n;
+        }
+        Ok(())
+    }
+
+    fn spare(&self) -> usize {
+        self.room
+    }
+
+    fn append(&mut self, change: Change) {
+        let _ = self.items.push((self.clock, change));
+        self.clock += 1;
+        self.room -= 1;
+    }
+
+    fn now(&self) -> u64 {
+        self.clock
+    }
+
+    fn len(&self) -> usize {
+        self.items.len()
+    }
+
+    fn op_first(&self, who: Who, table: TableId, kind: Kind, since: u64) -> Option<Spot> {
+        let session = who;
+        let key = Key::Op(session, table, kind);
+        let Some(i) = newest_before(&self.items, self.clock, since, &key) else {
+            return None;
+        };
+        let (time, change) = &self.items[i];
+        Some(Spot {
+            place: i,
+            time: *time,
+            since,
+            who,
+            table,
+            kind,
+            tuple: change.tuple,
+        })
+    }
+
+    fn op_next(&self, spot: Spot) -> Option<Spot> {
+        let key = Key::Op(spot.who, spot.table, spot.kind);
+        let Some(i) = newest_before(&self.items, spot.time, spot.since, &key) else {
+            return None;
+        };
+        let (time, change) = &self.items[i];
+        Some(Spot {
+            place: i,
+            time: *time,
+            since: spot.since,
+            who: spot.who,
+            table: spot.table,
+            kind: spot.kind,
+            tuple: change.tuple,
+        })
+    }
+
+    fn tuple_first(&self, who: Who, table: TableId, tuple: u64, since: u64) -> Option<Spot> {
+        let session = who;
+        let key = Key::Tuple(session, table, tuple);
+        let Some(i) = newest_before(&self.items, self.clock, since, &key) else {
+            return None;
+        };
+        let (time, change) = &self.items[i];
+        Some(Spot {
+            place: i,
+            time: *time,
+            since,
+            who,
+            table,
+            kind: change.kind,
+            tuple,
+        })
+    }
+
+    fn tuple_next(&self, spot: Spot) -> Option<Spot> {
+        let key = Key::Tuple(spot.who, spot.table, spot.tuple);
+        let Some(i) = newest_before(&self.items, spot.time, spot.since, &key) else {
+            return None;
+        };
+        let (time, change) = &self.items[i];
+        Some(Spot {
+            place: i,
+            time: *time,
+            since: spot.since,
+            who: spot.who,
+            table: spot.table,
+            kind: change.kind,
+            tuple: spot.tuple,
+        })
+    }
+
+    fn get(&self, spot: Spot) -> (u64, &Change) {
+        let (time, change) = &self.items[index_of(&self.items, spot.time)];
+        (*time, change)
+    }
+
+    fn newest(&self, who: Who) -> Option<&Change> {
+        let Some(i) = newest_before(&self.items, self.clock, 0, &Key::Session(who)) else {
+            return None;
+        };
+        let (_, change) = &self.items[i];
+        Some(change)
+    }
+
+    fn take_newest(&mut self, who: Who) -> Option<Change> {
+        let Some(i) = newest_before(&self.items, self.clock, 0, &Key::Session(who)) else {
+            return None;
+        };
+        let (_, change) = self.items.remove(i);
+        self.room += 1;
+        Some(change)
+    }
+
+    fn forget(&mut self, who: Who) {
+        let len = self.items.len();
+        let session = Key::Session(who);
+        self.items.retain(|(_, change)| !session.fits(change));
+        self.room += len - self.items.len();
+    }
+}
