@@ -6,24 +6,20 @@ ghost use Rattle.sb_tenant.specs.TrailLaws.{TrailsFixStates, LegalStatesAreRepla
 /// A legal trail fixes the state after it.
 pub fn trails_fix_states()
     ensures { (language : Language) (tenant bound : ℕ) → TrailsFixStates language tenant bound }
-{
-}
+{}
 
 /// The state after a legal trail is the trail's replay, and its steps are the trail's entries.
 pub fn legal_states_are_replayed()
     ensures { (language : Language) (tenant bound : ℕ) → LegalStatesAreReplayed language tenant bound }
-{
-}
+{}
 
 /// An entry changes no session but its own, and opens or closes that one as its command says.
 pub fn entries_open_and_close()
     ensures others { (language : Language) (tenant bound : ℕ) → OthersStay language tenant bound }
     ensures own { (language : Language) (tenant bound : ℕ) → OwnOpens language tenant bound }
-{
-}
+{}
 
 /// A legal trail has at most 65,536 entries and one more for the end of each open session.
 pub fn trails_are_bounded()
     ensures { (language : Language) (tenant bound : ℕ) → TrailsAreBounded language tenant bound }
-{
-}
+{}
