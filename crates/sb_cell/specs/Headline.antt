@@ -1,8 +1,8 @@
 -- Each tenant's answers and state are those of a tenant that is alone.
 use Rattle.std.specs.Prelude.{true, false, ◌≡◌, ℕ, ◌+◌, Bool, ◌&&◌, ◌==◌, if◌then◌else◌, ◌⊎◌, List, [], ◌∷◌, map, zip, filter_map, Option, Some, None, Result, Ok, Err, IsTrue, ⊤}
 use Rattle.sb_value.specs.declared.refusal.Refusal.TheVariants.{NoMemory}
-use Rattle.sb_tenant.specs.declared.Answer.{Answer}
-use Rattle.sb_tenant.specs.declared.Reply.TheVariants.{No}
+use Rattle.sb_tenant.specs.declared.reply.Answer.{Answer}
+use Rattle.sb_tenant.specs.declared.reply.Reply.TheVariants.{No}
 use Rattle.sb_tenant.specs.Limits.{is_session}
 use Rattle.sb_tenant.specs.State.{State}
 use Rattle.sb_tenant.specs.Step.{Language, step}

@@ -130,18 +130,15 @@ abbrev pub with_not : Bool → Condition → Condition
 with_not true c = negation c
 with_not false c = c
 
--- values or columns of these types fit a table's columns: as many, and then of their types in order
+-- values of these types fit the columns in order
 abbrev pub of_types : List ColumnType → List ColumnDefinition → Result Bool Refusal
 of_types [] cs = Ok true
 of_types (k ∷ ks) [] = Ok true
 of_types (k ∷ ks) (c ∷ cs) = required (same_type k c.of) refusal.BadType (of_types ks cs)
 
+-- as many as the columns, and then of their types in order
 abbrev pub fitting : List ColumnType → List ColumnDefinition → Result Bool Refusal
 fitting kinds columns = required (length kinds == length columns) refusal.WrongCount (of_types kinds columns)
-
--- what a delete or an update sees outside of its subqueries
-abbrev pub visible_table : Entry → Scope
-visible_table e = (record { name = Named e.name; columns = e.table.columns } ∷ []) ∷ []
 
 module _ (schema : Schema) where
   abbrev mutual
@@ -167,6 +164,9 @@ module _ (schema : Schema) where
     walk_query (text.select its sources filter) scope = walk_select schema its sources (walk_filter filter) scope
 
   -- ---- statements
+
+  abbrev pub visible_table : Entry → Scope
+  visible_table e = (record { name = Named e.name; columns = e.table.columns } ∷ []) ∷ []
 
   abbrev pub walk_assignments : Entry → List ℕ → List text.Assignment → Result (List Assignment) Refusal
   walk_assignments e taken [] = Ok []

@@ -1,0 +1,15 @@
+pub mod Printable
+pub mod Turns
+pub mod Depth
+pub mod TokenLaws
+pub mod Loops
+pub mod SoundLaws
+pub mod SoundQueries
+pub mod CompleteLaws
+pub mod CompleteQueries
+pub mod ScanLaws
+pub mod Bytes
+pub mod TokenSound
+pub mod TokenReads
+pub mod TextLaws
+pub mod Worked

@@ -2,10 +2,10 @@
 use Rattle.std.proofs.Common.{◌≡◌, ℕ, ◌+◌, Bool, true, false, List, [], ◌∷◌, ◌++◌, length, Some, None, inl, inr, IsTrue, refl, sym, ◌∙◌, ap, arith, length-append}
 use Rattle.std.proofs.lemmas.Bool.{true≢false}
 use Rattle.sb_value.specs.declared.refusal.Refusal.TheVariants as refusal
-use Rattle.sb_tenant.specs.declared.Answer.{Answer}
-use Rattle.sb_tenant.specs.declared.Entry.{Entry}
-use Rattle.sb_tenant.specs.declared.Reply.{Reply}
-use Rattle.sb_tenant.specs.declared.Reply.TheVariants as reply
+use Rattle.sb_tenant.specs.declared.reply.Answer.{Answer}
+use Rattle.sb_tenant.specs.declared.reply.Entry.{Entry}
+use Rattle.sb_tenant.specs.declared.reply.Reply.{Reply}
+use Rattle.sb_tenant.specs.declared.reply.Reply.TheVariants as reply
 use Rattle.sb_tenant.specs.Limits.{is_session}
 use Rattle.sb_tenant.specs.State.{State, opening}
 use Rattle.sb_tenant.specs.Step.{Language, is_full_for, is_end_of_open, reply_to, numbered, step}

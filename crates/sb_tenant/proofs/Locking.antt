@@ -3,7 +3,7 @@ use Rattle.std.specs.Prelude.{◌≡◌, ℕ, List, [], ◌∷◌, ◌++◌, map
 use Rattle.sb_value.specs.declared.refusal.Refusal.TheVariants as refusal
 use Rattle.sb_syntax.specs.declared.ast.TableReference.TheVariants.{Named, Inserted}
 use Rattle.sb_syntax.specs.Tree.{on_insert, insert_query, Command, open_session, begin, commit, change}
-use Rattle.sb_tenant.specs.declared.Reply.TheVariants as reply
+use Rattle.sb_tenant.specs.declared.reply.Reply.TheVariants as reply
 use Rattle.sb_tenant.proofs.Script.{replies_in_sessions, row, t, h, a_of, show, insert, start, started, rule, copies, no, refused, done}
 
 abbrev first : List Command → List (ℕ × Command)

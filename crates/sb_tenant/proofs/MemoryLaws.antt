@@ -40,9 +40,9 @@ use Rattle.sb_process.specs.Setting.{Progress, seen_with}
 use Rattle.sb_process.specs.Process.{process}
 use Rattle.sb_process.specs.declared.Outcome.{Outcome}
 use Rattle.sb_process.specs.declared.Outcome.TheVariants.{Done, ByRule, ByError, ByLimit}
-use Rattle.sb_tenant.specs.declared.Answer.{Answer}
-use Rattle.sb_tenant.specs.declared.Reply.{Reply}
-use Rattle.sb_tenant.specs.declared.Reply.TheVariants as reply
+use Rattle.sb_tenant.specs.declared.reply.Answer.{Answer}
+use Rattle.sb_tenant.specs.declared.reply.Reply.{Reply}
+use Rattle.sb_tenant.specs.declared.reply.Reply.TheVariants as reply
 use Rattle.sb_tenant.specs.State.{State, Catalog, session_at, is_open, has_transaction, another_has_transaction, setting_of, progress_of, committed}
 use Rattle.sb_tenant.specs.Catalog.{is_active, is_member}
 use Rattle.sb_tenant.specs.Resolved.{Class, opens, ends, begins, defines, works, Resolved, NewRule, open_session, end_session, begin, commit, rollback, process_rules, process_ruleset, process_rule, create_table, drop_table, create_rule, drop_rule, activate_rule, deactivate_rule, create_ruleset, drop_ruleset, add_rules, del_rules, query, change}

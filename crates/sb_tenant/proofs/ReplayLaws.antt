@@ -6,10 +6,10 @@ use Rattle.std.proofs.lemmas.List.Sums.{count_by-le-length}
 use Rattle.sb_value.specs.Locks.{sessions}
 use Rattle.sb_syntax.specs.Tree.{end_session}
 use Rattle.sb_value.specs.declared.refusal.Refusal.TheVariants as refusal
-use Rattle.sb_tenant.specs.declared.Answer.{Answer}
-use Rattle.sb_tenant.specs.declared.Entry.{Entry}
-use Rattle.sb_tenant.specs.declared.Reply.{Reply}
-use Rattle.sb_tenant.specs.declared.Reply.TheVariants as reply
+use Rattle.sb_tenant.specs.declared.reply.Answer.{Answer}
+use Rattle.sb_tenant.specs.declared.reply.Entry.{Entry}
+use Rattle.sb_tenant.specs.declared.reply.Reply.{Reply}
+use Rattle.sb_tenant.specs.declared.reply.Reply.TheVariants as reply
 use Rattle.sb_tenant.specs.Limits.{is_session, trail_limit}
 use Rattle.sb_tenant.specs.State.{State, Session, closed, idle, active, opening, session_at, is_open, open_count, has_transaction, rolled_back}
 use Rattle.sb_tenant.specs.Step.{Language, is_full_for, is_end_of_open, reply_to, numbered, step}

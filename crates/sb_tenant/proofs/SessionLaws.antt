@@ -15,9 +15,9 @@ use Rattle.sb_process.specs.Setting.{Progress, seen_with}
 use Rattle.sb_process.specs.Process.{process}
 use Rattle.sb_process.specs.declared.Outcome.{Outcome}
 use Rattle.sb_process.specs.declared.Outcome.TheVariants.{Done, ByRule, ByError, ByLimit}
-use Rattle.sb_tenant.specs.declared.Answer.{Answer}
-use Rattle.sb_tenant.specs.declared.Reply.{Reply}
-use Rattle.sb_tenant.specs.declared.Reply.TheVariants as reply
+use Rattle.sb_tenant.specs.declared.reply.Answer.{Answer}
+use Rattle.sb_tenant.specs.declared.reply.Reply.{Reply}
+use Rattle.sb_tenant.specs.declared.reply.Reply.TheVariants as reply
 use Rattle.sb_value.specs.declared.refusal.Refusal.TheVariants.{Locked}
 use Rattle.sb_value.specs.declared.refusal.Refusal.TheVariants as refusal
 use Rattle.sb_tenant.specs.State.{State, Session, idle, closed, active, session_at, is_open, with_session, with_progress, progress_of, setting_of, rolled_back, committed}

@@ -16,8 +16,8 @@ use Rattle.sb_process.specs.Setting.{Progress, seen_with}
 use Rattle.sb_process.specs.Process.{Processing, process}
 use Rattle.sb_process.specs.declared.Outcome.{Outcome}
 use Rattle.sb_process.specs.declared.Outcome.TheVariants.{Done, ByRule, ByError, ByLimit}
-use Rattle.sb_tenant.specs.declared.Reply.{Reply}
-use Rattle.sb_tenant.specs.declared.Reply.TheVariants as reply
+use Rattle.sb_tenant.specs.declared.reply.Reply.{Reply}
+use Rattle.sb_tenant.specs.declared.reply.Reply.TheVariants as reply
 use Rattle.sb_tenant.specs.State.{State, closed, idle, active, Catalog, with_session, setting_of, progress_of, with_progress, rolled_back, committed}
 use Rattle.sb_tenant.specs.Catalog.{with_table, without_table, with_rule, without_rule, with_active, with_ruleset, without_ruleset, with_members, is_active, is_member, rule_name}
 use Rattle.sb_tenant.specs.Resolved.{Resolved, open_session, end_session, begin, commit, rollback, process_rules, process_ruleset, process_rule, create_table, drop_table, create_rule, drop_rule, activate_rule, deactivate_rule, create_ruleset, drop_ruleset, add_rules, del_rules, query, change}

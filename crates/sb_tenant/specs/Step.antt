@@ -2,9 +2,9 @@
 use Rattle.std.specs.Prelude.{ℕ, ◌+◌, Bool, true, false, not, ◌&&◌, nat_le, List, Option, Some, None, Result, Ok, Err, codes}
 use Rattle.sb_value.specs.declared.refusal.Refusal.{Refusal}
 use Rattle.sb_value.specs.declared.refusal.Refusal.TheVariants as refusal
-use Rattle.sb_tenant.specs.declared.Reply.{Reply}
-use Rattle.sb_tenant.specs.declared.Reply.TheVariants.{No}
-use Rattle.sb_tenant.specs.declared.Answer.{Answer}
+use Rattle.sb_tenant.specs.declared.reply.Reply.{Reply}
+use Rattle.sb_tenant.specs.declared.reply.Reply.TheVariants.{No}
+use Rattle.sb_tenant.specs.declared.reply.Answer.{Answer}
 use Rattle.sb_tenant.specs.Limits.{trail_limit}
 use Rattle.sb_tenant.specs.State.{State, session_at, is_open, has_transaction, another_has_transaction}
 use Rattle.sb_value.specs.Name.{same_name}

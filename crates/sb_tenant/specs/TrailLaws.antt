@@ -1,7 +1,7 @@
 -- Laws of trails, as statements.
 use Rattle.std.specs.Prelude.{◌≡◌, ℕ, ◌+◌, ◌≤◌, Bool, true, false, ◌==◌, List, length, Option, Some, IsFalse, codes}
 use Rattle.sb_syntax.specs.Tree.{Command, open_session, end_session}
-use Rattle.sb_tenant.specs.declared.Entry.{Entry}
+use Rattle.sb_tenant.specs.declared.reply.Entry.{Entry}
 use Rattle.sb_tenant.specs.State.{State, opening, session_at, is_open, open_count}
 use Rattle.sb_tenant.specs.Step.{Language}
 use Rattle.sb_tenant.specs.Trail.{is_no_memory, IsNext, IsLegal, after_entry, state_of}

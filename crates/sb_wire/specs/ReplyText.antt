@@ -8,8 +8,8 @@ use Rattle.sb_value.specs.declared.refusal.Refusal.{Refusal}
 use Rattle.sb_value.specs.declared.refusal.Refusal.TheVariants as refusal
 use Rattle.sb_value.specs.Literal.{value_text}
 use Rattle.sb_value.specs.Refusal.{refusal_number, refusal_name}
-use Rattle.sb_tenant.specs.declared.Reply.{Reply}
-use Rattle.sb_tenant.specs.declared.Reply.TheVariants as reply
+use Rattle.sb_tenant.specs.declared.reply.Reply.{Reply}
+use Rattle.sb_tenant.specs.declared.reply.Reply.TheVariants as reply
 
 -- words with a space between each two
 abbrev pub words : List (List ℕ) → List ℕ

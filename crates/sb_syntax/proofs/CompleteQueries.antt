@@ -1,0 +1,361 @@
+-- The same of conditions, queries, changes and commands.
+use Rattle.std.proofs.Common.{◌≡◌, ◌≤◌, ◌<◌, ℕ, suc, Bool, true, false, List, [], ◌∷◌, length, Option, Some, None, ap, sym, ◌∙◌, refl, arith}
+use Rattle.std.proofs.lemmas.Option.{same_Some}
+use Rattle.sb_value.specs.declared.value.Value.{Value}
+use Rattle.sb_value.specs.declared.value.ColumnType.{ColumnType}
+use Rattle.sb_value.specs.declared.value.ColumnDefinition.{ColumnDefinition}
+use Rattle.sb_syntax.specs.declared.kind.Kind.{Kind}
+use Rattle.sb_syntax.specs.declared.kind.Kind.TheVariants as k
+use Rattle.sb_syntax.specs.declared.ast.Comparison.{Comparison}
+use Rattle.sb_syntax.specs.declared.ast.SourceReference.{SourceReference}
+use Rattle.sb_syntax.specs.Input.{Input, Is, same_kind}
+use Rattle.sb_syntax.specs.Tree as tree
+use Rattle.sb_syntax.specs.Tree.{Name, Expression, Items, Condition, Operand, Filter, Query, Change, Command}
+use Rattle.sb_syntax.specs.Grammar as g
+use Rattle.sb_syntax.specs.Grammar.{IsName, IsLiteral, IsExpr, IsItems, IsSources, IsComparison, IsNot, IsCond, IsConj, IsNeg, IsPredicate, IsOperand, IsSubquery, IsFilter, IsQuery, IsColumnType, IsDefinition, IsTuple, IsChange, IsPhrase, IsStatement, Separated, IsCommand, max_nesting, max_depth, max_columns}
+use Rattle.sb_syntax.specs.Reading as r
+use Rattle.sb_syntax.specs.Reading.{Reader, Joins, and_then, kind_at, sees, next, expect, bytes_of, ◌>>=◌, ◌>>◌, pure, pushes}
+use Rattle.sb_syntax.specs.Turns.{GoesOn}
+use Rattle.sb_syntax.proofs.Turns.{goes_on-end, pushes_no}
+use Rattle.sb_syntax.proofs.TokenLaws.{Reads, is-kind, is-sees, is-other, is-next, is-shorter, is-expect}
+use Rattle.sb_syntax.proofs.Loops.{chained-start, goes_on-token, separated-reads, separated_to-reads}
+use Rattle.sb_syntax.proofs.CompleteLaws.{mapped, name-reads, literal-reads, expr-reads, expr-begins, Stops, dot, begins-no, items-reads, sources-reads}
+
+pub record StopsConj (ts : Input) : Type 0 where
+  pub expr : Stops ts
+  pub no_and : r.ands (kind_at ts) ≡ None
+
+pub record StopsCond (ts : Input) : Type 0 where
+  pub conj : StopsConj ts
+  pub no_or : r.ors (kind_at ts) ≡ None
+
+-- where a command's part ends: neither a filter, nor a further item or source, nor an alias goes on
+pub record StopsQuery (ts : Input) : Type 0 where
+  pub cond : StopsCond ts
+  pub no_where : sees k.Where ts ≡ false
+  pub no_name : sees k.Name ts ≡ false
+  pub no_comma : sees k.Comma ts ≡ false
+
+-- a token that goes on with none of them
+stops : (kind : Kind) (ts rest : Input) → Is kind ts rest → dot (Some kind) ≡ false → r.multiplies (Some kind) ≡ None → r.adds (Some kind) ≡ None → Stops ts
+stops kind ts rest is d a b = record { term = record { no_dot = ap dot (is-kind kind ts rest is) ∙ d; no_product = ap r.multiplies (is-kind kind ts rest is) ∙ a }; no_sum = ap r.adds (is-kind kind ts rest is) ∙ b }
+
+stops-query : (kind : Kind) (ts rest : Input) → Is kind ts rest → dot (Some kind) ≡ false → r.multiplies (Some kind) ≡ None → r.adds (Some kind) ≡ None → r.ands (Some kind) ≡ None → r.ors (Some kind) ≡ None
+    → same_kind kind k.Where ≡ false → same_kind kind k.Name ≡ false → same_kind kind k.Comma ≡ false → StopsQuery ts
+stops-query kind ts rest is d a b c e w n m = record {
+  cond = record {
+    conj = record { expr = stops kind ts rest is d a b; no_and = ap r.ands (is-kind kind ts rest is) ∙ c };
+    no_or = ap r.ors (is-kind kind ts rest is) ∙ e;
+  };
+  no_where = is-other kind k.Where ts rest is w;
+  no_name = is-other kind k.Name ts rest is n;
+  no_comma = is-other kind k.Comma ts rest is m;
+}
+
+paren-stops : (ts rest : Input) → Is k.RightParen ts rest → StopsQuery ts
+unfolding same_kind
+paren-stops ts rest is = stops-query k.RightParen ts rest is refl refl refl refl refl refl refl refl
+
+-- a list ends where no separator stands
+no_separator : {A : Type 0} (sep : Kind) (ts : Input) → sees sep ts ≡ false → pushes {A = A} sep (kind_at ts) ≡ None
+no_separator {A = A} sep ts absent = pushes_no sep ts false (sym absent) refl
+
+-- one step after another
+then : {A B : Type 0} (p : Reader A) (f : A → Reader B) (x : A) (ts mid : Input) (o : Option (B × Input)) → p ts ≡ Some (x, mid) → f x mid ≡ o → (p >>= f) ts ≡ o
+then p f x ts mid o e h = ap (λ q. and_then q f) e ∙ h
+
+-- ---- comparisons
+
+comparison-kind : (op : Comparison) (ts rest : Input) → IsComparison op ts rest → (r.comparison_of (kind_at ts) ≡ Some op) × (next ts ≡ rest) × Stops ts
+comparison-kind op ts rest (g.equal is) = (ap r.comparison_of (is-kind k.Equal ts rest is), is-next k.Equal ts rest is, stops k.Equal ts rest is refl refl refl)
+comparison-kind op ts rest (g.not_equal is) = (ap r.comparison_of (is-kind k.NotEqual ts rest is), is-next k.NotEqual ts rest is, stops k.NotEqual ts rest is refl refl refl)
+comparison-kind op ts rest (g.less_than is) = (ap r.comparison_of (is-kind k.Less ts rest is), is-next k.Less ts rest is, stops k.Less ts rest is refl refl refl)
+comparison-kind op ts rest (g.at_most is) = (ap r.comparison_of (is-kind k.LessEqual ts rest is), is-next k.LessEqual ts rest is, stops k.LessEqual ts rest is refl refl refl)
+comparison-kind op ts rest (g.greater_than is) = (ap r.comparison_of (is-kind k.Greater ts rest is), is-next k.Greater ts rest is, stops k.Greater ts rest is refl refl refl)
+comparison-kind op ts rest (g.at_least is) = (ap r.comparison_of (is-kind k.GreaterEqual ts rest is), is-next k.GreaterEqual ts rest is, stops k.GreaterEqual ts rest is refl refl refl)
+
+comparison-shorter : (op : Comparison) (ts rest : Input) → IsComparison op ts rest → length rest < length ts
+comparison-shorter op ts rest (g.equal is) = is-shorter _ ts rest is
+comparison-shorter op ts rest (g.not_equal is) = is-shorter _ ts rest is
+comparison-shorter op ts rest (g.less_than is) = is-shorter _ ts rest is
+comparison-shorter op ts rest (g.at_most is) = is-shorter _ ts rest is
+comparison-shorter op ts rest (g.greater_than is) = is-shorter _ ts rest is
+comparison-shorter op ts rest (g.at_least is) = is-shorter _ ts rest is
+
+-- ---- each production, given its parts
+
+module _ (sub : Reader Query) where
+  not-case : (deeper : Reader Condition) (a : Condition) (ts x rest : Input) → Is k.Not ts x → Reads deeper a x rest → Reads (r.neg_with sub deeper) (tree.negation a) ts rest
+  unfolding r.neg_with
+  not-case deeper a ts x rest is d = (rw (is-sees k.Not ts x is, is-expect k.Not ts x is, d.0) refl, omega (arith, is-shorter k.Not ts x is, d.1))
+
+  group-case : (deeper : Reader Condition) (a : Condition) (ts x y rest : Input) → Is k.LeftParen ts x → Reads (r.cond deeper) a x y → Is k.RightParen y rest → Reads (r.neg_with sub deeper) a ts rest
+  unfolding r.neg_with r.group same_kind
+  group-case deeper a ts x y rest is d close = (
+    rw (is-other k.LeftParen k.Not ts x is refl, is-sees k.LeftParen ts x is, is-expect k.LeftParen ts x is, d.0, is-expect k.RightParen y rest close) refl,
+    omega (arith, is-shorter k.LeftParen ts x is, d.1, is-shorter k.RightParen y rest close),
+  )
+
+  predicate-case : (deeper : Reader Condition) (a : Condition) (ts rest : Input) → sees k.Not ts ≡ false → sees k.LeftParen ts ≡ false → Reads (r.predicate sub) a ts rest → Reads (r.neg_with sub deeper) a ts rest
+  unfolding r.neg_with
+  predicate-case deeper a ts rest no_not no_paren d = (rw (no_not, no_paren) d.0, d.1)
+
+  comparison-case : (e : Expression) (op : Comparison) (s : Operand) (ts x y rest : Input) → IsExpr e ts x → IsComparison op x y → Reads (r.operand sub) s y rest → Reads (r.predicate sub) (tree.compare e op s) ts rest
+  unfolding r.predicate r.compared_by
+  comparison-case e op s ts x y rest d is h =
+      let o = comparison-kind op x y is in
+      let m = expr-reads e ts x d o.2 in
+      (rw (begins-no k.Exists ts refl (expr-begins e ts x d), m.0, o.0, o.1, h.0) refl, omega (arith, m.1, comparison-shorter op x y is, h.1))
+
+  member-case : (e : Expression) (negated : Bool) (q : Query) (ts x y z rest : Input) → IsExpr e ts x → IsNot negated x y → Is k.In y z → Reads (r.subquery sub) q z rest → Reads (r.predicate sub) (tree.is_in e negated q) ts rest
+  unfolding r.predicate r.compared_by r.member same_kind
+  member-case e negated q ts x y z rest d g.plain is h =
+      let m = expr-reads e ts x d (stops k.In x z is refl refl refl) in
+      (rw (begins-no k.Exists ts refl (expr-begins e ts x d), m.0, is-kind k.In x z is, is-other k.In k.Not x z is refl, is-expect k.In x z is, h.0) refl, omega (arith, m.1, is-shorter k.In x z is, h.1))
+  member-case e negated q ts x y z rest d (g.not n) is h =
+      let m = expr-reads e ts x d (stops k.Not x y n refl refl refl) in
+      (rw (begins-no k.Exists ts refl (expr-begins e ts x d), m.0, is-kind k.Not x y n, is-sees k.Not x y n, is-next k.Not x y n, is-expect k.In y z is, h.0) refl, omega (arith, m.1, is-shorter k.Not x y n, is-shorter k.In y z is, h.1))
+
+  exists-case : (q : Query) (ts x rest : Input) → Is k.Exists ts x → Reads (r.subquery sub) q x rest → Reads (r.predicate sub) (tree.exists q) ts rest
+  unfolding r.predicate
+  exists-case q ts x rest is h = (rw (is-sees k.Exists ts x is, is-expect k.Exists ts x is, h.0) refl, omega (arith, is-shorter k.Exists ts x is, h.1))
+
+  subquery-case : (q : Query) (ts x y rest : Input) → Is k.LeftParen ts x → Reads sub q x y → Is k.RightParen y rest → Reads (r.subquery sub) q ts rest
+  unfolding r.subquery
+  subquery-case q ts x y rest is h close = (rw (is-expect k.LeftParen ts x is, h.0, is-expect k.RightParen y rest close) refl, omega (arith, is-shorter k.LeftParen ts x is, h.1, is-shorter k.RightParen y rest close))
+
+  subquery-paren : (depth : ℕ) (q : Query) (ts rest : Input) → IsSubquery depth q ts rest → sees k.LeftParen ts ≡ true
+  subquery-paren depth q ts rest (g.nested is d close) = is-sees k.LeftParen ts _ is
+
+  query_side-case : (depth : ℕ) (q : Query) (ts rest : Input) → IsSubquery depth q ts rest → Reads (r.subquery sub) q ts rest → Reads (r.operand sub) (tree.answer q) ts rest
+  unfolding r.operand
+  query_side-case depth q ts rest d h = let m = mapped tree.answer (r.subquery sub) q ts rest h in (rw (subquery-paren depth q ts rest d) m.0, m.1)
+
+  expr_side-case : (e : Expression) (ts rest : Input) → IsExpr e ts rest → Stops rest → Reads (r.operand sub) (tree.expression e) ts rest
+  unfolding r.operand
+  expr_side-case e ts rest d stops = let m = mapped tree.expression r.expr e ts rest (expr-reads e ts rest d stops) in (rw (begins-no k.LeftParen ts refl (expr-begins e ts rest d)) m.0, m.1)
+
+  no_filter-case : (ts : Input) → sees k.Where ts ≡ false → Reads (r.filter sub) tree.everything ts ts
+  unfolding r.filter
+  no_filter-case ts e = (rw e refl, omega arith)
+
+  filter-case : (a : Condition) (ts x rest : Input) → Is k.Where ts x → Reads (r.cond (r.neg sub max_nesting)) a x rest → Reads (r.filter sub) (tree.those a) ts rest
+  unfolding r.filter
+  filter-case a ts x rest is h = (rw (is-sees k.Where ts x is, is-expect k.Where ts x is, h.0) refl, omega (arith, is-shorter k.Where ts x is, h.1))
+
+  query-case : (depth : ℕ) (i : Items) (ss : List SourceReference) (f : Filter) (ts x y z w rest : Input) → Is k.Select ts x → IsItems i x y → Is k.From y z → IsSources ss z w → sees k.Name w ≡ false → sees k.Comma w ≡ false
+      → Reads (r.filter sub) f w rest → Reads (r.query_with sub) (tree.select i ss f) ts rest
+  unfolding r.query_with same_kind
+  query-case depth i ss f ts x y z w rest a b c d no_name no_comma h =
+      let m = items-reads i x y b (stops k.From y z c refl refl refl) (no_separator k.Comma y (is-other k.From k.Comma y z c refl)) in
+      let n = sources-reads ss z w d no_name no_comma in
+      (rw (is-expect k.Select ts x a, m.0, is-expect k.From y z c, n.0, h.0) refl, omega (arith, is-shorter k.Select ts x a, m.1, is-shorter k.From y z c, n.1, h.1))
+
+pub predicate-begins : (depth : ℕ) (a : Condition) (ts rest : Input) → IsPredicate depth a ts rest → (sees k.Not ts ≡ false) × (sees k.LeftParen ts ≡ false)
+unfolding same_kind
+predicate-begins depth a ts rest (g.comparison d is h) = (begins-no k.Not ts refl (expr-begins _ ts _ d), begins-no k.LeftParen ts refl (expr-begins _ ts _ d))
+predicate-begins depth a ts rest (g.member d n is h) = (begins-no k.Not ts refl (expr-begins _ ts _ d), begins-no k.LeftParen ts refl (expr-begins _ ts _ d))
+predicate-begins depth a ts rest (g.exists_one is h) = (is-other k.Exists k.Not ts _ is refl, is-other k.Exists k.LeftParen ts _ is refl)
+
+-- ---- all together, by recursion on how the grammar has it
+
+or-conj : (ts rest : Input) → Is k.Or ts rest → StopsConj ts
+or-conj ts rest is = record { expr = stops k.Or ts rest is refl refl refl; no_and = ap r.ands (is-kind k.Or ts rest is) }
+
+cond-end : (depth nesting : ℕ) (a : Condition) (ts rest : Input) → GoesOn r.ors (r.conj (r.neg (r.inner_query depth) nesting)) (r.cond (r.neg (r.inner_query depth) nesting) ts) (length ts) a rest → r.ors (kind_at rest) ≡ None → Reads (r.cond (r.neg (r.inner_query depth) nesting)) a ts rest
+cond-end depth nesting a ts rest h stop = goes_on-end r.ors (r.conj (r.neg (r.inner_query depth) nesting)) _ _ _ rest _ h refl stop
+
+conj-end : (depth nesting : ℕ) (a : Condition) (ts rest : Input) → GoesOn r.ands (r.neg (r.inner_query depth) nesting) (r.conj (r.neg (r.inner_query depth) nesting) ts) (length ts) a rest → r.ands (kind_at rest) ≡ None → Reads (r.conj (r.neg (r.inner_query depth) nesting)) a ts rest
+conj-end depth nesting a ts rest h stop = goes_on-end r.ands (r.neg (r.inner_query depth) nesting) _ _ _ rest _ h refl stop
+
+cond-first : (neg : Reader Condition) (a : Condition) (ts rest : Input) → Reads (r.conj neg) a ts rest → GoesOn r.ors (r.conj neg) (r.cond neg ts) (length ts) a rest
+unfolding r.cond
+cond-first neg a ts rest h = chained-start r.ors (r.conj neg) a ts rest h
+
+conj-first : (neg : Reader Condition) (a : Condition) (ts rest : Input) → Reads neg a ts rest → GoesOn r.ands neg (r.conj neg ts) (length ts) a rest
+unfolding r.conj
+conj-first neg a ts rest h = chained-start r.ands neg a ts rest h
+
+neg-step : (sub : Reader Query) (nesting : ℕ) (a : Condition) (ts x rest : Input) → Is k.Not ts x → Reads (r.neg sub nesting) a x rest → Reads (r.neg sub (suc nesting)) (tree.negation a) ts rest
+unfolding r.neg r.inner_neg
+neg-step sub nesting a ts x rest is h = not-case sub (r.neg_with sub (r.inner_neg sub nesting)) a ts x rest is h
+
+group-step : (sub : Reader Query) (nesting : ℕ) (a : Condition) (ts x y rest : Input) → Is k.LeftParen ts x → Reads (r.cond (r.neg sub nesting)) a x y → Is k.RightParen y rest → Reads (r.neg sub (suc nesting)) a ts rest
+unfolding r.neg r.inner_neg
+group-step sub nesting a ts x y rest is h close = group-case sub (r.neg_with sub (r.inner_neg sub nesting)) a ts x y rest is h close
+
+predicate-step : (sub : Reader Query) (nesting depth : ℕ) (a : Condition) (ts rest : Input) → IsPredicate depth a ts rest → Reads (r.predicate sub) a ts rest → Reads (r.neg sub nesting) a ts rest
+unfolding r.neg
+predicate-step sub nesting depth a ts rest d h = let b = predicate-begins depth a ts rest d in predicate-case sub (r.inner_neg sub nesting) a ts rest b.0 b.1 h
+
+subquery-step : (depth : ℕ) (q : Query) (ts x y rest : Input) → Is k.LeftParen ts x → Reads (r.query_to depth) q x y → Is k.RightParen y rest → Reads (r.subquery (r.inner_query (suc depth))) q ts rest
+unfolding r.query_to r.inner_query
+subquery-step depth q ts x y rest is h close = subquery-case (r.query_with (r.inner_query depth)) q ts x y rest is h close
+
+-- what stands behind the sources
+filter-first : (depth : ℕ) (f : Filter) (ts rest : Input) → IsFilter depth f ts rest → StopsQuery rest → (sees k.Name ts ≡ false) × (sees k.Comma ts ≡ false)
+unfolding same_kind
+filter-first depth f ts rest g.no_filter stop = (stop.no_name, stop.no_comma)
+filter-first depth f ts rest (g.filter {x = x} is d) stop = (is-other k.Where k.Name ts x is refl, is-other k.Where k.Comma ts x is refl)
+
+query-step : (depth : ℕ) (i : Items) (ss : List SourceReference) (f : Filter) (ts x y z w rest : Input) → Is k.Select ts x → IsItems i x y → Is k.From y z → IsSources ss z w → sees k.Name w ≡ false → sees k.Comma w ≡ false
+    → Reads (r.filter (r.inner_query depth)) f w rest → Reads (r.query_to depth) (tree.select i ss f) ts rest
+unfolding r.query_to
+query-step depth = query-case (r.inner_query depth) depth
+
+mutual
+  cond-reach : (depth nesting : ℕ) (a : Condition) (ts rest : Input) → IsCond depth nesting a ts rest → StopsConj rest
+      → GoesOn r.ors (r.conj (r.neg (r.inner_query depth) nesting)) (r.cond (r.neg (r.inner_query depth) nesting) ts) (length ts) a rest
+  cond-reach depth nesting a ts rest (g.conj d) stop = cond-first (r.neg (r.inner_query depth) nesting) a ts rest (conj-end depth nesting a ts rest (conj-reach depth nesting a ts rest d stop.expr) stop.no_and)
+  cond-reach depth nesting a ts rest (g.or {a = b} {b = c} {x = x} {y = y} d is f) stop =
+      goes_on-token r.ors (r.conj (r.neg (r.inner_query depth) nesting)) _ _ b x y rest k.Or tree.disjunction c refl refl (cond-reach depth nesting b ts x d (or-conj x y is)) is
+      (conj-end depth nesting c y rest (conj-reach depth nesting c y rest f stop.expr) stop.no_and)
+
+  conj-reach : (depth nesting : ℕ) (a : Condition) (ts rest : Input) → IsConj depth nesting a ts rest → Stops rest
+      → GoesOn r.ands (r.neg (r.inner_query depth) nesting) (r.conj (r.neg (r.inner_query depth) nesting) ts) (length ts) a rest
+  conj-reach depth nesting a ts rest (g.neg d) stop = conj-first (r.neg (r.inner_query depth) nesting) a ts rest (neg-reads depth nesting a ts rest d stop)
+  conj-reach depth nesting a ts rest (g.and {a = b} {b = c} {x = x} {y = y} d is f) stop =
+      goes_on-token r.ands (r.neg (r.inner_query depth) nesting) _ _ b x y rest k.And tree.conjunction c refl refl (conj-reach depth nesting b ts x d (stops k.And x y is refl refl refl)) is
+      (neg-reads depth nesting c y rest f stop)
+
+  neg-reads : (depth nesting : ℕ) (a : Condition) (ts rest : Input) → IsNeg depth nesting a ts rest → Stops rest → Reads (r.neg (r.inner_query depth) nesting) a ts rest
+  neg-reads depth nesting a ts rest (g.not_neg {nesting = n} {a = b} {x = x} is d) stop = neg-step (r.inner_query depth) n b ts x rest is (neg-reads depth n b x rest d stop)
+  neg-reads depth nesting a ts rest (g.group {nesting = n} {x = x} {y = y} is d close) stop =
+      let s = paren-stops y rest close in
+      group-step (r.inner_query depth) n a ts x y rest is (cond-end depth n a x y (cond-reach depth n a x y d s.cond.conj) s.cond.no_or) close
+  neg-reads depth nesting a ts rest (g.predicate d) stop = predicate-step (r.inner_query depth) nesting depth a ts rest d (predicate-reads depth a ts rest d stop)
+
+  predicate-reads : (depth : ℕ) (a : Condition) (ts rest : Input) → IsPredicate depth a ts rest → Stops rest → Reads (r.predicate (r.inner_query depth)) a ts rest
+  predicate-reads depth a ts rest (g.comparison {e = e} {op = op} {s = s} {x = x} {y = y} d is h) stop = comparison-case (r.inner_query depth) e op s ts x y rest d is (operand-reads depth s y rest h stop)
+  predicate-reads depth a ts rest (g.member {e = e} {negated = n} {q = q} {x = x} {y = y} {z = z} d m is h) stop = member-case (r.inner_query depth) e n q ts x y z rest d m is (subquery-reads depth q z rest h)
+  predicate-reads depth a ts rest (g.exists_one {q = q} {x = x} is h) stop = exists-case (r.inner_query depth) q ts x rest is (subquery-reads depth q x rest h)
+
+  operand-reads : (depth : ℕ) (s : Operand) (ts rest : Input) → IsOperand depth s ts rest → Stops rest → Reads (r.operand (r.inner_query depth)) s ts rest
+  operand-reads depth s ts rest (g.expr_side {e = e} d) stop = expr_side-case (r.inner_query depth) e ts rest d stop
+  operand-reads depth s ts rest (g.query_side {q = q} d) stop = query_side-case (r.inner_query depth) depth q ts rest d (subquery-reads depth q ts rest d)
+
+  subquery-reads : (depth : ℕ) (q : Query) (ts rest : Input) → IsSubquery depth q ts rest → Reads (r.subquery (r.inner_query depth)) q ts rest
+  subquery-reads depth q ts rest (g.nested {depth = below} {x = x} {y = y} is d close) = subquery-step below q ts x y rest is (query-reads below q x y d (paren-stops y rest close)) close
+
+  filter-reads : (depth : ℕ) (f : Filter) (ts rest : Input) → IsFilter depth f ts rest → StopsQuery rest → Reads (r.filter (r.inner_query depth)) f ts rest
+  filter-reads depth f ts rest g.no_filter stop = no_filter-case (r.inner_query depth) ts stop.no_where
+  filter-reads depth f ts rest (g.filter {a = a} {x = x} is d) stop =
+      filter-case (r.inner_query depth) a ts x rest is (cond-end depth max_nesting a x rest (cond-reach depth max_nesting a x rest d stop.cond.conj) stop.cond.no_or)
+
+  query-reads : (depth : ℕ) (q : Query) (ts rest : Input) → IsQuery depth q ts rest → StopsQuery rest → Reads (r.query_to depth) q ts rest
+  query-reads depth q ts rest (g.selects {i = i} {ss = ss} {f = f} {x = x} {y = y} {z = z} {w = w} a b c d h) stop =
+      let n = filter-first depth f w rest h stop in
+      query-step depth i ss f ts x y z w rest a b c d n.0 n.1 (filter-reads depth f w rest h stop)
+
+-- ---- changes
+
+-- these end wherever they end
+ends : Input → Type 0
+ends _ = Unit {0}
+
+comma-ends : (ts rest : Input) → Is k.Comma ts rest → ends ts
+unfolding ends
+comma-ends ts rest is = tt
+
+paren-list : {A : Type 0} (ts rest : Input) → Is k.RightParen ts rest → pushes {A = A} k.Comma (kind_at ts) ≡ None
+unfolding same_kind
+paren-list {A = A} ts rest is = ap (pushes {A = A} k.Comma) (is-kind k.RightParen ts rest is)
+
+tuple-reads : (vs : List Value) (ts rest : Input) → IsTuple vs ts rest → Reads r.tuple vs ts rest
+unfolding r.tuple ends
+tuple-reads vs ts rest (g.tuple {x = x} {y = y} is d close) =
+    let m = separated-reads k.Comma IsLiteral r.literal_value ends comma-ends (λ v a b d _. literal-reads v a b d) vs x y d tt (paren-list y rest close) in
+    (rw (is-expect k.LeftParen ts x is, m.0, is-expect k.RightParen y rest close) refl, omega (arith, is-shorter k.LeftParen ts x is, m.1, is-shorter k.RightParen y rest close))
+
+inserts-reads : (n : Name) (tuples : List (List Value)) (ts x y z u rest : Input) → Is k.Insert ts x → Is k.Into x y → IsName n y z → Is k.Values z u → Separated k.Comma IsTuple tuples u rest → StopsQuery rest → Reads r.inserts (tree.insert_rows n tuples) ts rest
+unfolding r.inserts ends
+inserts-reads n tuples ts x y z u rest a b c d e stop =
+    let l = name-reads n y z c in
+    let m = separated-reads k.Comma IsTuple r.tuple ends comma-ends (λ v a b d _. tuple-reads v a b d) tuples u rest e tt (no_separator k.Comma rest stop.no_comma) in
+    (rw (is-expect k.Insert ts x a, is-expect k.Into x y b, l.0, is-expect k.Values z u d, m.0) refl, omega (arith, is-shorter k.Insert ts x a, is-shorter k.Into x y b, l.1, is-shorter k.Values z u d, m.1))
+
+deletes-reads : (n : Name) (f : Filter) (ts x y z rest : Input) → Is k.Delete ts x → Is k.From x y → IsName n y z → IsFilter max_depth f z rest → StopsQuery rest → Reads r.deletes (tree.delete n f) ts rest
+unfolding r.deletes
+deletes-reads n f ts x y z rest a b c d stop =
+    let l = name-reads n y z c in
+    let m = filter-reads max_depth f z rest d stop in
+    (rw (is-expect k.Delete ts x a, is-expect k.From x y b, l.0, m.0) refl, omega (arith, is-shorter k.Delete ts x a, is-shorter k.From x y b, l.1, m.1))
+
+change-reads : (c : Change) (ts rest : Input) → IsChange c ts rest → StopsQuery rest → Reads r.change c ts rest
+unfolding r.change
+change-reads c ts rest (g.inserts_rows {n = n} {tuples = tuples} {x = x} {y = y} {z = z} {u = u} a b d e f) stop =
+    let m = inserts-reads n tuples ts x y z u rest a b d e f stop in (rw (is-kind k.Insert ts x a) m.0, m.1)
+change-reads c ts rest (g.deletes {n = n} {f = f} {x = x} {y = y} {z = z} a b d e) stop =
+    let m = deletes-reads n f ts x y z rest a b d e stop in (rw (is-kind k.Delete ts x a) m.0, m.1)
+
+-- ---- commands
+
+column_type-reads : (u : ColumnType) (ts rest : Input) → IsColumnType u ts rest → Reads r.column_type u ts rest
+unfolding r.column_type same_kind
+column_type-reads u ts rest (g.int_type is) = (rw (is-sees k.IntType ts rest is, is-expect k.IntType ts rest is) refl, omega (arith, is-shorter k.IntType ts rest is))
+column_type-reads u ts rest (g.text_type is) = (rw (is-other k.TextType k.IntType ts rest is refl, is-expect k.TextType ts rest is) refl, omega (arith, is-shorter k.TextType ts rest is))
+
+definition-reads : (y : ColumnDefinition) (ts rest : Input) → IsDefinition y ts rest → Reads r.definition y ts rest
+unfolding r.definition
+definition-reads y ts rest (g.definition {n = n} {type = u} {x = x} d h) =
+    let a = name-reads n ts x d in
+    let b = column_type-reads u x rest h in
+    (rw (a.0, b.0) refl, omega (arith, a.1, b.1))
+
+columns-reads : (cs : List ColumnDefinition) (ts rest : Input) → Separated k.Comma IsDefinition cs ts rest → length cs ≤ max_columns → pushes {A = ColumnDefinition} k.Comma (kind_at rest) ≡ None → Reads r.columns cs ts rest
+unfolding r.columns ends
+columns-reads cs ts rest d le none = separated_to-reads k.Comma IsDefinition r.definition ends comma-ends (λ v a b d _. definition-reads v a b d) 7 cs ts rest d le tt none
+
+nothing-follows : (ts : Input) → kind_at ts ≡ None → StopsQuery ts
+unfolding r.kind_at r.sees
+nothing-follows [] e = record { cond = record { conj = record { expr = record { term = record { no_dot = refl; no_product = refl }; no_sum = refl }; no_and = refl }; no_or = refl }; no_where = refl; no_name = refl; no_comma = refl }
+nothing-follows (t ∷ ts) e = cc
+
+creates_table-reads : (n : Name) (cs : List ColumnDefinition) (ts x y z rest : Input) → IsPhrase k.Create k.Table n ts x → Is k.LeftParen x y → Separated k.Comma IsDefinition cs y z → length cs ≤ max_columns → Is k.RightParen z rest → r.statement ts ≡ Some (tree.create_table n cs, rest)
+unfolding r.statement r.creates r.creates_table
+creates_table-reads n cs ts x y z rest (g.phrase {x = u} {y = v} a b c) d e le close =
+    rw (is-kind k.Create ts u a, is-expect k.Create ts u a, is-kind k.Table u v b, is-expect k.Table u v b, (name-reads n v x c).0, is-expect k.LeftParen x y d, (columns-reads cs y z e le (paren-list z rest close)).0, is-expect k.RightParen z rest close) refl
+
+query-kind : (depth : ℕ) (q : Query) (ts rest : Input) → IsQuery depth q ts rest → kind_at ts ≡ Some k.Select
+query-kind depth q ts rest (g.selects {x = x} a b c d h) = is-kind k.Select ts x a
+
+queries-reads : (q : Query) (ts rest : Input) → IsQuery max_depth q ts rest → kind_at rest ≡ None → r.statement ts ≡ Some (tree.query q, rest)
+unfolding r.statement
+queries-reads q ts rest d none = rw (query-kind max_depth q ts rest d) ((mapped tree.query (r.query_to max_depth) q ts rest (query-reads max_depth q ts rest d (nothing-follows rest none))).0)
+
+-- the first words of changes
+change-kind : (c : Change) (ts rest : Input) → IsChange c ts rest → r.statement_by (kind_at ts) ≡ (r.change >>= λ c. pure (tree.change c))
+change-kind c ts rest (g.inserts_rows {x = x} a b d e f) = ap r.statement_by (is-kind k.Insert ts x a)
+change-kind c ts rest (g.deletes {x = x} a b d e) = ap r.statement_by (is-kind k.Delete ts x a)
+
+changes-reads : (c : Change) (ts rest : Input) → IsChange c ts rest → kind_at rest ≡ None → r.statement ts ≡ Some (tree.change c, rest)
+unfolding r.statement
+changes-reads c ts rest d none = ap (λ p. p ts) (change-kind c ts rest d) ∙ (mapped tree.change r.change c ts rest (change-reads c ts rest d (nothing-follows rest none))).0
+
+word-reads : (kind : Kind) (command : Command) (ts rest : Input) → Is kind ts rest → r.statement_by (Some kind) ≡ r.word kind command → r.statement ts ≡ Some (command, rest)
+unfolding r.statement r.word
+word-reads kind command ts rest is by = rw (is-kind kind ts rest is, by, is-expect kind ts rest is) refl
+
+statement-reads : (s : Command) (ts rest : Input) → IsStatement s ts rest → kind_at rest ≡ None → r.statement ts ≡ Some (s, rest)
+statement-reads s ts rest (g.opens is) none = word-reads k.Open tree.open_session ts rest is refl
+statement-reads s ts rest (g.ends is) none = word-reads k.End tree.end_session ts rest is refl
+statement-reads s ts rest (g.begins is) none = word-reads k.Begin tree.begin ts rest is refl
+statement-reads s ts rest (g.commits is) none = word-reads k.Commit tree.commit ts rest is refl
+statement-reads s ts rest (g.rolls_back is) none = word-reads k.Rollback tree.rollback ts rest is refl
+statement-reads s ts rest (g.creates_table {n = n} {columns = cs} {x = x} {y = y} {z = z} a d e le close) none = creates_table-reads n cs ts x y z rest a d e le close
+statement-reads s ts rest (g.queries {q = q} d) none = queries-reads q ts rest d none
+statement-reads s ts rest (g.changes {change = c} d) none = changes-reads c ts rest d none
+
+no_more_kind : kind_at [] ≡ None
+unfolding r.kind_at
+no_more_kind = refl
+
+pub command-reads : (s : Command) (ts : Input) → IsCommand s ts → r.command ts ≡ Some (s, [])
+unfolding r.command
+command-reads s ts d = ap (λ o. and_then o r.ended) (statement-reads s ts [] d no_more_kind)
+
+-- a text has at most one command
+pub one_command : (ts : Input) (s z : Command) → IsCommand s ts → IsCommand z ts → s ≡ z
+one_command ts s z d e =
+    let same : Some (s, []) ≡ Some (z, []) = sym (command-reads s ts d) ∙ command-reads z ts e in
+    ap (λ (p : Command × Input). p.0) (same_Some {A = Command × Input} (s, []) (z, []) same)

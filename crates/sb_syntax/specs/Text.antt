@@ -1,0 +1,49 @@
+-- Texts and commands.
+use Rattle.std.specs.Prelude.{◌≡◌, ◌≤◌, ℕ, List, length, Option, Some, None, Result, Ok, Err}
+use Rattle.sb_syntax.specs.declared.cursor.Token.{Token}
+use Rattle.sb_syntax.specs.declared.token.ParseError.{ParseError}
+use Rattle.sb_syntax.specs.declared.token.ParseError.TheVariants.{Syntax, NoMemory}
+use Rattle.sb_syntax.specs.Cursor.{lexemes}
+use Rattle.sb_syntax.specs.Lex.{AreTokens}
+use Rattle.sb_syntax.specs.Tree.{Command}
+use Rattle.sb_syntax.specs.Grammar.{IsCommand}
+use Rattle.sb_syntax.specs.Input.{Input, same_kind}
+use Rattle.sb_syntax.specs.Lex as l
+use Rattle.sb_syntax.specs.Scan as s
+use Rattle.sb_syntax.specs.Scan.{scan}
+use Rattle.sb_syntax.specs.Reading as r
+use Rattle.sb_syntax.specs.Reading.{command}
+
+-- the text is made of tokens and spaces, and the tokens spell the command
+pub record Spells (text : List ℕ) (s : Command) : Type 0 where
+  pub tokens : List Token
+  pub are : AreTokens 0 text tokens
+  pub spell : IsCommand s (lexemes text tokens)
+
+abbrev pub read_by : Option (Command × Input) → Option Command
+read_by None = None
+read_by (Some p) = Some p.0
+
+abbrev pub command_by : List ℕ → Option (List Token) → Option Command
+command_by text None = None
+command_by text (Some tokens) = read_by (command (lexemes text tokens))
+
+-- The command that a text spells, as a reader finds it. To unfold it is to unfold all that it uses, so that it computes.
+unfoldable pub command_of : List ℕ → Option Command
+unfolding same_kind l.word_kind l.transition s.word_at s.integer_at s.text_at s.symbol_at s.token_at s.scan r.kind_at r.sees r.next r.expect r.bytes_of r.chain r.separated r.separated_to r.name r.integer r.minus r.text r.literal_value r.table_by r.table r.column_from r.column_after r.column_by r.column r.factor r.term r.expr r.all_columns r.count_rows r.sum_rows r.expressions r.items r.alias r.source r.sources_after r.sources r.conj r.cond r.group r.subquery r.operand r.member r.compared_by r.predicate r.neg_with r.inner_neg r.neg r.filter r.query_with r.inner_query r.query_to r.tuple r.inserts r.deletes r.change r.column_type r.definition r.columns r.creates_table r.creates r.word r.statement r.command
+command_of text = command_by text (scan 0 0 text)
+
+-- what the error says of a text
+abbrev pub NoTokens : List ℕ → ParseError → Type 0
+NoTokens text NoMemory = Unit {0}
+NoTokens text (Syntax place) = (place ≤ length text) × ((tokens : List Token) → AreTokens 0 text tokens → ⊥)
+
+abbrev pub NoCommand : List ℕ → ParseError → Type 0
+NoCommand text NoMemory = Unit {0}
+NoCommand text (Syntax place) = (place ≤ length text) × ((s : Command) → Spells text s → ⊥) × (command_of text ≡ None)
+
+-- what a function gives: what is read of a text of this length, seen by view, unless memory runs out
+abbrev pub Reading : {X A : Type 0} → (X → A) → Option A → ℕ → Result X ParseError → Type 0
+Reading view read limit (Ok x) = read ≡ Some (view x)
+Reading view read limit (Err NoMemory) = Unit {0}
+Reading view read limit (Err (Syntax place)) = (read ≡ None) × (place ≤ limit)

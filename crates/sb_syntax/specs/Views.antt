@@ -1,0 +1,106 @@
+-- The tree that a value of the program stands for.
+use Rattle.std.specs.Prelude.{map, option_map, List, Option, None, Some}
+use Rattle.sb_syntax.specs.declared.ast.Expr.{Expr, Literal, Column, Binary'}
+use Rattle.sb_syntax.specs.declared.ast.Items.{Items}
+use Rattle.sb_syntax.specs.declared.ast.Items.TheVariants.{All, Count, Sum, Each}
+use Rattle.sb_syntax.specs.declared.ast.Condition.{Condition, Disjunction', Conjunction', Negation', Compare, In', Exists', Held-Query-filter, None', Some'}
+use Rattle.sb_syntax.specs.declared.ast.Operand.{Operand, Expression, Answer'}
+use Rattle.sb_syntax.specs.declared.ast.Query.{Query}
+use Rattle.sb_syntax.specs.declared.command.Assignment.{Assignment}
+use Rattle.sb_syntax.specs.declared.command.Change.{Change}
+use Rattle.sb_syntax.specs.declared.command.Change.TheVariants.{InsertRows, InsertQuery, Delete, Update}
+use Rattle.sb_syntax.specs.declared.command.Action.{Action}
+use Rattle.sb_syntax.specs.declared.command.Action.TheVariants as actions
+use Rattle.sb_syntax.specs.declared.command.Trigger.{Trigger}
+use Rattle.sb_syntax.specs.declared.command.Trigger.TheVariants as triggers
+use Rattle.sb_syntax.specs.declared.command.RuleText.{RuleText}
+use Rattle.sb_syntax.specs.declared.command.Command.{Command}
+use Rattle.sb_syntax.specs.declared.command.Command.TheVariants as commands
+use Rattle.sb_syntax.specs.Tree as tree
+
+abbrev pub expression : Expr → tree.Expression
+expression (Literal v) = tree.literal v
+expression (Column c) = tree.column c
+expression (Binary' p a op q b) = tree.binary (expression a) op (expression b)
+
+abbrev pub items : Items → tree.Items
+items All = tree.all
+items Count = tree.count
+items (Sum e) = tree.sum_of (expression e)
+items (Each es) = tree.each_of (map expression es.items)
+
+abbrev mutual
+  pub condition : Condition → tree.Condition
+  condition (Disjunction' p a q b) = tree.disjunction (condition a) (condition b)
+  condition (Conjunction' p a q b) = tree.conjunction (condition a) (condition b)
+  condition (Negation' p a) = tree.negation (condition a)
+  condition (Compare e op s) = tree.compare (expression e) op (operand s)
+  condition (In' e n p i sources f) = tree.is_in (expression e) n (tree.select (items i) sources.items (held_filter f))
+  condition (Exists' p i sources f) = tree.exists (tree.select (items i) sources.items (held_filter f))
+
+  pub operand : Operand → tree.Operand
+  operand (Expression e) = tree.expression (expression e)
+  operand (Answer' p i sources f) = tree.answer (tree.select (items i) sources.items (held_filter f))
+
+  pub held_filter : Held-Query-filter → tree.Filter
+  held_filter None' = tree.everything
+  held_filter (Some' a) = tree.those (condition a)
+
+abbrev pub filter : Option Condition → tree.Filter
+filter None = tree.everything
+filter (Some a) = tree.those (condition a)
+
+abbrev pub query : Query → tree.Query
+query q = tree.select (items q.items) q.sources.items (filter q.filter)
+
+abbrev pub assignment : Assignment → tree.Assignment
+assignment a = record { column = a.column; operand = operand a.operand }
+
+abbrev pub change : Change → tree.Change
+change (InsertRows n tuples) = tree.insert_rows n (map (λ vs. vs.items) tuples.items)
+change (InsertQuery n q) = tree.insert_query n (query q)
+change (Delete n f) = tree.delete n (filter f)
+change (Update n assignments f) = tree.update n (map assignment assignments.items) (filter f)
+
+abbrev pub action : Action → tree.Action
+action (actions.Change c) = tree.changes (change c)
+action actions.Rollback = tree.rolls_back
+
+abbrev pub trigger : Trigger → tree.Trigger
+trigger triggers.Insert = tree.on_insert
+trigger triggers.Delete = tree.on_delete
+trigger triggers.Update = tree.on_update
+trigger (triggers.UpdateOf columns) = tree.on_update_of columns.items
+
+abbrev pub rule : RuleText → tree.RuleText
+rule r = record {
+  name = r.name;
+  table = r.table;
+  triggers = map trigger r.triggers.items;
+  condition = option_map query r.condition;
+  actions = map action r.actions.items;
+  precedes = r.precedes.items;
+  follows = r.follows.items;
+}
+
+abbrev pub command : Command → tree.Command
+command commands.OpenSession = tree.open_session
+command commands.EndSession = tree.end_session
+command commands.Begin = tree.begin
+command commands.Commit = tree.commit
+command commands.Rollback = tree.rollback
+command commands.ProcessRules = tree.process_rules
+command (commands.ProcessRuleset n) = tree.process_ruleset n
+command (commands.ProcessRule n) = tree.process_rule n
+command (commands.CreateTable n columns) = tree.create_table n columns.items
+command (commands.DropTable n) = tree.drop_table n
+command (commands.CreateRule r) = tree.create_rule (rule r)
+command (commands.DropRule n) = tree.drop_rule n
+command (commands.ActivateRule n) = tree.activate_rule n
+command (commands.DeactivateRule n) = tree.deactivate_rule n
+command (commands.CreateRuleset n) = tree.create_ruleset n
+command (commands.DropRuleset n) = tree.drop_ruleset n
+command (commands.AddRules n rules) = tree.add_rules n rules.items
+command (commands.DelRules n rules) = tree.del_rules n rules.items
+command (commands.Query q) = tree.query (query q)
+command (commands.Change c) = tree.change (change c)

@@ -1,0 +1,91 @@
+//! Changes of tables.
+
+ghost use Rattle.std.specs.Prelude.{◌≡◌, map, length};
+ghost use Rattle.sb_syntax.specs.Reading as spec;
+ghost use Rattle.sb_syntax.specs.Reading.{Gives};
+ghost use Rattle.sb_syntax.specs.Views as view;
+
+use crate::command::Change;
+use crate::cursor::{Cursor, Fault};
+use crate::kind::Kind;
+use crate::literal::{literal_value, name};
+use crate::query::filter;
+use sb_value::Value;
+use std::alloc::Global;
+
+/// How deep subqueries nest.
+pub const MAX_DEPTH: usize = 4;
+
+#[tactic(auto, unfolding(crate::specs::Reading::separated))]
+fn literals(alloc: Global, tokens: &mut Cursor<'_>) -> Result<Vec<Value>, Fault>
+    ensures { Gives (λ v. v.items) (spec.separated Kind.Comma spec.literal_value tokens.old) result tokens.old tokens.new }
+{
+    let mut all = Vec::new(alloc);
+    let first = literal_value(alloc, tokens)?;
+    all.push(first)?;
+    'more: while tokens.sees(Kind::Comma) {
+        tokens.skip();
+        let item = literal_value(alloc, tokens)?;
+        all.push(item)?;
+    }
+    Ok(all)
+}
+
+#[tactic(auto, unfolding(crate::specs::Reading::tuple))]
+fn tuple(alloc: Global, tokens: &mut Cursor<'_>) -> Result<Vec<Value>, Fault>
+    ensures { Gives (λ v. v.items) (spec.tuple tokens.old) result tokens.old tokens.new }
+{
+    tokens.expect(Kind::LeftParen)?;
+    let values = literals(alloc, tokens)?;
+    tokens.expect(Kind::RightParen)?;
+    Ok(values)
+}
+
+#[tactic(auto, unfolding(crate::specs::Reading::separated))]
+fn tuples(alloc: Global, tokens: &mut Cursor<'_>) -> Result<Vec<Vec<Value>>, Fault>
+    ensures { Gives (λ v. map (λ t. t.items) v.items) (spec.separated Kind.Comma spec.tuple tokens.old) result tokens.old tokens.new }
+{
+    let mut all = Vec::new(alloc);
+    let first = tuple(alloc, tokens)?;
+    all.push(first)?;
+    'more: while tokens.sees(Kind::Comma) {
+        tokens.skip();
+        let item = tuple(alloc, tokens)?;
+        all.push(item)?;
+    }
+    Ok(all)
+}
+
+#[tactic(auto, unfolding(crate::specs::Reading::inserts))]
+fn insert(alloc: Global, tokens: &mut Cursor<'_>) -> Result<Change, Fault>
+    ensures { Gives view.change (spec.inserts tokens.old) result tokens.old tokens.new }
+{
+    tokens.expect(Kind::Insert)?;
+    tokens.expect(Kind::Into)?;
+    let table = name(tokens)?;
+    tokens.expect(Kind::Values)?;
+    let tuples = tuples(alloc, tokens)?;
+    Ok(Change::InsertRows(table, tuples))
+}
+
+#[tactic(auto, unfolding(crate::specs::Reading::deletes))]
+fn delete(alloc: Global, tokens: &mut Cursor<'_>) -> Result<Change, Fault>
+    ensures { Gives view.change (spec.deletes tokens.old) result tokens.old tokens.new }
+{
+    tokens.expect(Kind::Delete)?;
+    tokens.expect(Kind::From)?;
+    let table = name(tokens)?;
+    let filter = filter(alloc, tokens, MAX_DEPTH)?;
+    Ok(Change::Delete(table, filter))
+}
+
+#[tactic(auto, unfolding(crate::specs::Reading::change))]
+pub fn change(alloc: Global, tokens: &mut Cursor<'_>) -> Result<Change, Fault>
+    ensures { Gives view.change (spec.change tokens.old) result tokens.old tokens.new }
+{
+    match tokens.peek() {
+        Some(Kind::Insert) => insert(alloc, tokens),
+        Some(Kind::Delete) => delete(alloc, tokens),
+        _ => Err(Fault::Refused),
+    }
+}

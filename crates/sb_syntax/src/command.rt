@@ -1,0 +1,70 @@
+//! Commands, as trees.
+
+use crate::ast::{Condition, Operand, Query};
+use sb_value::{ColumnDefinition, Name, Value};
+
+/// A column of an update, and what it becomes.
+#[derive(Drop)]
+pub struct Assignment {
+    pub column: Name,
+    pub operand: Operand,
+}
+
+#[derive(Drop)]
+pub enum Change {
+    InsertRows(Name, Vec<Vec<Value>>),
+    InsertQuery(Name, Query),
+    Delete(Name, Option<Condition>),
+    Update(Name, Vec<Assignment>, Option<Condition>),
+}
+
+#[derive(Drop)]
+pub enum Action {
+    Change(Change),
+    Rollback,
+}
+
+#[derive(Drop)]
+pub enum Trigger {
+    Insert,
+    Delete,
+    Update,
+    /// An update of one of these columns.
+    UpdateOf(Vec<Name>),
+}
+
+#[derive(Drop)]
+pub struct RuleText {
+    pub name: Name,
+    pub table: Name,
+    pub triggers: Vec<Trigger>,
+    /// The query behind `if`.
+    pub condition: Option<Query>,
+    pub actions: Vec<Action>,
+    pub precedes: Vec<Name>,
+    pub follows: Vec<Name>,
+}
+
+#[derive(Drop)]
+pub enum Command {
+    OpenSession,
+    EndSession,
+    Begin,
+    Commit,
+    Rollback,
+    ProcessRules,
+    ProcessRuleset(Name),
+    ProcessRule(Name),
+    CreateTable(Name, Vec<ColumnDefinition>),
+    DropTable(Name),
+    CreateRule(RuleText),
+    DropRule(Name),
+    ActivateRule(Name),
+    DeactivateRule(Name),
+    CreateRuleset(Name),
+    DropRuleset(Name),
+    AddRules(Name, Vec<Name>),
+    DelRules(Name, Vec<Name>),
+    Query(Query),
+    Change(Change),
+}

@@ -1,0 +1,151 @@
+//! A cursor over the tokens of a text.
+
+ghost use Rattle.std.specs.Prelude.{◌≡◌, ◌≤◌, length, OnSome, IfSome, option_map};
+ghost use Rattle.sb_syntax.specs.Reading as spec;
+ghost use Rattle.sb_syntax.specs.Reading.{Gives};
+ghost use Rattle.sb_syntax.specs.Cursor.{AllWithin, lexemes};
+
+use crate::kind::{Kind, same_kind};
+use std::alloc::{AllocError, AllocFailed};
+use std::marker::Model;
+
+/// A token: its kind, and where its bytes begin and end.
+#[derive(Clone, Copy, Debug, PartialEq, Eq)]
+pub struct Token {
+    pub kind: Kind,
+    pub start: usize,
+    pub end: usize,
+}
+
+/// Why nothing was read.
+#[derive(Clone, Copy, Debug, PartialEq, Eq)]
+pub enum Fault {
+    Refused,
+    NoMemory,
+}
+
+impl From<AllocError> for Fault {
+    ghost use Rattle.std.specs.Prelude.{◌≡◌};
+    ghost use Rattle.sb_syntax.specs.declared.cursor.Fault.TheVariants.{NoMemory};
+
+    ghost from_gives = { λ _ e. e ≡ NoMemory };
+
+    fn from(_: AllocError) -> Fault {
+        Fault::NoMemory
+    }
+}
+
+impl<T: Drop> From<AllocFailed<T>> for Fault {
+    ghost use Rattle.std.specs.Prelude.{◌≡◌};
+    ghost use Rattle.sb_syntax.specs.declared.cursor.Fault.TheVariants.{NoMemory};
+
+    ghost from_gives = { λ _ e. e ≡ NoMemory };
+
+    fn from(_: AllocFailed<T>) -> Fault {
+        Fault::NoMemory
+    }
+}
+
+/// The tokens of a text that are still to be read.
+#[derive(Drop)]
+pub struct Cursor<'a> {
+    text: &'a [u8],
+    tokens: &'a [Token],
+}
+
+impl<'a> Model for Cursor<'a> {
+    ghost use Rattle.std.specs.Prelude.{List};
+    ghost use Rattle.sb_syntax.specs.Input.{Lexeme};
+
+    ghost Value = { List Lexeme };
+
+    ghost use Rattle.sb_syntax.specs.Cursor.{AllWithin, lexemes};
+
+    ghost view = { λ c. lexemes c.text.now c.tokens.now };
+
+    ghost invariant = { λ c. AllWithin c.text.now c.tokens.now };
+}
+
+impl<'a> Cursor<'a> {
+    pub fn new(text: &'a [u8], tokens: &'a [Token]) -> Cursor<'a>
+        requires { AllWithin text.now tokens.now }
+        ensures { result ≡ lexemes text.now tokens.now }
+    {
+        Cursor { text, tokens }
+    }
+
+    /// Where the next token begins, or the length of the text at its end.
+    pub fn place(&self) -> usize {
+        match self.tokens {
+            [token, ..] => token.start,
+            [] => self.text.len(),
+        }
+    }
+
+    #[tactic(auto, unfolding(crate::specs::Reading::kind_at))]
+    pub fn peek(&self) -> Option<Kind>
+        ensures { result ≡ spec.kind_at self.now }
+    {
+        match self.tokens {
+            [token, ..] => Some(token.kind),
+            [] => None,
+        }
+    }
+
+    #[tactic(auto, unfolding(crate::specs::Reading::sees))]
+    pub fn sees(&self, kind: Kind) -> bool
+        ensures { result ≡ spec.sees kind self.now }
+    {
+        match self.tokens {
+            [token, ..] => same_kind(token.kind, kind),
+            [] => false,
+        }
+    }
+
+    /// Goes past the next token.
+    #[tactic(auto, unfolding(crate::specs::Reading::next))]
+    pub fn skip(&mut self)
+        ensures value { self.new ≡ spec.next self.old }
+        ensures shorter { length self.new ≤ length self.old }
+    {
+        if let [_, rest @ ..] = self.tokens {
+            self.tokens = rest;
+        }
+    }
+
+    #[tactic(auto, unfolding(crate::specs::Reading::sees, crate::specs::Reading::next))]
+    pub fn eat(&mut self, kind: Kind) -> bool
+        ensures found { result ≡ spec.sees kind self.old }
+        ensures after { self.new ≡ spec.after kind self.old }
+        ensures shorter { length self.new ≤ length self.old }
+    {
+        let found = self.sees(kind);
+        if found {
+            self.skip();
+        }
+        found
+    }
+
+    #[tactic(auto, unfolding(crate::specs::Reading::expect))]
+    pub fn expect(&mut self, kind: Kind) -> Result<(), Fault>
+        ensures { Gives (λ _. tt) (spec.expect kind self.old) result self.old self.new }
+    {
+        if self.sees(kind) {
+            self.skip();
+            Ok(())
+        } else {
+            Err(Fault::Refused)
+        }
+    }
+
+    /// The bytes of the next token, if it is of this kind.
+    #[tactic(auto, unfolding(crate::specs::Reading::bytes_of, crate::specs::Reading::next))]
+    pub fn bytes_of(&self, kind: Kind) -> Option<&'a [u8]>
+        ensures { spec.bytes_of kind self.now ≡ option_map (λ bytes. (bytes.now, spec.next self.now)) result }
+    {
+        match self.tokens {
+            [token, ..] if same_kind(token.kind, kind) => Some(&self.text[token.start..token.end]),
+            _ => None,
+        }
+    }
+}

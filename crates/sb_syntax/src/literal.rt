@@ -1,0 +1,134 @@
+//! Names and literals.
+
+ghost use Rattle.std.specs.Prelude.{min, ◌+◌, ◌≡◌, ◌<◌, ◌≤◌, ◌^◌, pos, length, IfOk, IsTrue, ◌↔◌, option_map};
+ghost use Rattle.std.specs.List.{list_all};
+ghost use Rattle.sb_value.specs.Printable.{is_printable};
+ghost use Rattle.sb_syntax.specs.Literal as lit;
+ghost use Rattle.sb_syntax.specs.Reading as spec;
+ghost use Rattle.sb_syntax.specs.Reading.{Gives};
+
+use crate::cursor::{Cursor, Fault};
+use crate::kind::Kind;
+use sb_value::{NAME_LIMIT, Name, TEXT_LIMIT, Text, Value};
+use std::alloc::{AllocError, Global};
+
+#[tactic(auto, unfolding(crate::specs::Reading::name))]
+pub fn name(tokens: &mut Cursor<'_>) -> Result<Name, Fault>
+    ensures { Gives (λ n. n) (spec.name tokens.old) result tokens.old tokens.new }
+{
+    let Some(bytes) = tokens.bytes_of(Kind::Name) else {
+        return Err(Fault::Refused);
+    };
+    if bytes.is_empty() || bytes.len() > NAME_LIMIT {
+        return Err(Fault::Refused);
+    }
+    tokens.skip();
+    Ok(Name::new(bytes))
+}
+
+const LIMIT: u64 = 0x8000_0000_0000_0000;
+
+/// The value of the digits, or 2^63 + 1 where it is larger.
+fn decimal(digits: &[u8]) -> u64
+    ensures { result ≡ min (lit.decimal digits.now) (2 ^ 63 + 1) }
+{
+    let mut n: u128 = 0;
+    for b in digits {
+        n = (10 * n + u128::from(b.saturating_sub(b'0'))).min(0x8000_0000_0000_0001);
+    }
+    n as u64
+}
+
+#[tactic(auto, unfolding(crate::specs::Reading::integer))]
+fn integer(tokens: &mut Cursor<'_>) -> Result<Value, Fault>
+    ensures { Gives (λ v. v) (spec.integer tokens.old) result tokens.old tokens.new }
+{
+    let Some(digits) = tokens.bytes_of(Kind::Integer) else {
+        return Err(Fault::Refused);
+    };
+    let n = decimal(digits);
+    if n >= LIMIT {
+        return Err(Fault::Refused);
+    }
+    tokens.skip();
+    Ok(Value::Int(n as i64))
+}
+
+#[tactic(auto, unfolding(crate::specs::Reading::minus))]
+fn minus(tokens: &mut Cursor<'_>) -> Result<Value, Fault>
+    ensures { Gives (λ v. v) (spec.minus tokens.old) result tokens.old tokens.new }
+{
+    tokens.expect(Kind::Minus)?;
+    let Some(digits) = tokens.bytes_of(Kind::Integer) else {
+        return Err(Fault::Refused);
+    };
+    let n = decimal(digits);
+    if n > LIMIT {
+        return Err(Fault::Refused);
+    }
+    tokens.skip();
+    if n == 0 {
+        return Ok(Value::Int(0));
+    }
+    Ok(Value::Int(-1 - (n - 1) as i64))
+}
+
+/// The text between the quotes, of which each pair is one.
+fn unquoted(alloc: Global, quoted: &[u8]) -> Result<Vec<u8>, AllocError>
+    ensures { IfOk result (λ v. v.items ≡ lit.unquoted quoted.now) }
+{
+    let mut value = Vec::new(alloc);
+    let mut rest = if let [_, rest @ ..] = quoted {
+        rest
+    } else {
+        &[]
+    };
+    while let [b, after @ ..] = rest {
+        if after.is_empty() {
+            break;
+        }
+        value.push(*b)?;
+        rest = if *b == 39 { &after[1..] } else { after };
+    }
+    Ok(value)
+}
+
+fn is_printable(b: u8) -> bool
+    ensures { result ≡ is_printable b }
+{
+    32 <= b && b <= 126
+}
+
+fn all_printable(bytes: &[u8]) -> bool
+    ensures { result ≡ list_all is_printable bytes.now }
+{
+    bytes.iter().all(|b| is_printable(*b))
+}
+
+#[tactic(auto, using(crate::proofs::Printable::printable), unfolding(crate::specs::Reading::text))]
+fn text(alloc: Global, tokens: &mut Cursor<'_>) -> Result<Value, Fault>
+    ensures { Gives (λ v. v) (spec.text tokens.old) result tokens.old tokens.new }
+{
+    let Some(quoted) = tokens.bytes_of(Kind::Text) else {
+        return Err(Fault::Refused);
+    };
+    let bytes = unquoted(alloc, quoted)?;
+    if bytes.len() > TEXT_LIMIT || !all_printable(bytes.as_slice()) {
+        return Err(Fault::Refused);
+    }
+    tokens.skip();
+    Ok(Value::Text(Text::new(bytes)))
+}
+
+#[tactic(auto, unfolding(crate::specs::Reading::literal_value))]
+pub fn literal_value(alloc: Global, tokens: &mut Cursor<'_>) -> Result<Value, Fault>
+    ensures { Gives (λ v. v) (spec.literal_value tokens.old) result tokens.old tokens.new }
+{
+    if tokens.sees(Kind::Integer) {
+        integer(tokens)
+    } else if tokens.sees(Kind::Minus) {
+        minus(tokens)
+    } else {
+        text(alloc, tokens)
+    }
+}

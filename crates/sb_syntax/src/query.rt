@@ -1,0 +1,260 @@
+//! Conditions and queries.
+
+ghost use Rattle.std.specs.Prelude.{◌≡◌, IfOk, option_map, true, false, Some, None};
+ghost use Rattle.sb_syntax.specs.Reading as spec;
+ghost use Rattle.sb_syntax.specs.Reading.{Gives};
+ghost use Rattle.sb_syntax.specs.Tree as tree;
+ghost use Rattle.sb_syntax.specs.Views as view;
+
+use crate::ast::{Comparison, Condition, Expr, Operand, Query};
+use crate::cursor::{Cursor, Fault};
+use crate::expr::expr;
+use crate::kind::Kind;
+use crate::select::{items, sources};
+use std::alloc::{AllocError, Global};
+
+/// How deep `not` and parentheses nest in one condition.
+const MAX_NESTING: usize = 32;
+
+fn comparison_of(kind: Option<Kind>) -> Option<Comparison>
+    ensures { result ≡ spec.comparison_of kind }
+{
+    match kind {
+        Some(Kind::Equal) => Some(Comparison::Equal),
+        Some(Kind::NotEqual) => Some(Comparison::NotEqual),
+        Some(Kind::Less) => Some(Comparison::Less),
+        Some(Kind::LessEqual) => Some(Comparison::LessEqual),
+        Some(Kind::Greater) => Some(Comparison::Greater),
+        Some(Kind::GreaterEqual) => Some(Comparison::GreaterEqual),
+        _ => None,
+    }
+}
+
+fn disjunction(alloc: Global, a: Condition, b: Condition) -> Result<Condition, AllocError>
+    ensures { IfOk result (λ c. view.condition c ≡ tree.disjunction (view.condition a) (view.condition b)) }
+{
+    Ok(Condition::Disjunction(Box::new(alloc, a)?, Box::new(alloc, b)?))
+}
+
+fn conjunction(alloc: Global, a: Condition, b: Condition) -> Result<Condition, AllocError>
+    ensures { IfOk result (λ c. view.condition c ≡ tree.conjunction (view.condition a) (view.condition b)) }
+{
+    Ok(Condition::Conjunction(Box::new(alloc, a)?, Box::new(alloc, b)?))
+}
+
+fn negation(alloc: Global, a: Condition) -> Result<Condition, AllocError>
+    ensures { IfOk result (λ c. view.condition c ≡ tree.negation (view.condition a)) }
+{
+    Ok(Condition::Negation(Box::new(alloc, a)?))
+}
+
+fn exists(alloc: Global, query: Query) -> Result<Condition, AllocError>
+    ensures { IfOk result (λ c. view.condition c ≡ tree.exists (view.query query)) }
+{
+    Ok(Condition::Exists(Box::new(alloc, query)?))
+}
+
+fn within(alloc: Global, e: Expr, negated: bool, query: Query) -> Result<Condition, AllocError>
+    ensures { IfOk result (λ c. view.condition c ≡ tree.is_in (view.expression e) negated (view.query query)) }
+{
+    Ok(Condition::In(e, negated, Box::new(alloc, query)?))
+}
+
+fn answer(alloc: Global, query: Query) -> Result<Operand, AllocError>
+    ensures { IfOk result (λ s. view.operand s ≡ tree.answer (view.query query)) }
+{
+    Ok(Operand::Answer(Box::new(alloc, query)?))
+}
+
+/// A query in parentheses, where one may still nest.
+#[cycle(query)]
+#[tactic(auto, using(crate::proofs::Depth::one_deeper_query, crate::proofs::Depth::no_deeper_query), unfolding(crate::specs::Reading::subquery))]
+fn subquery(alloc: Global, tokens: &mut Cursor<'_>, depth: usize) -> Result<Query, Fault>
+    ensures { Gives view.query (spec.subquery (spec.inner_query depth) tokens.old) result tokens.old tokens.new }
+{
+    if depth == 0 {
+        return Err(Fault::Refused);
+    }
+    tokens.expect(Kind::LeftParen)?;
+    let inner = query(alloc, tokens, depth - 1)?;
+    tokens.expect(Kind::RightParen)?;
+    Ok(inner)
+}
+
+#[cycle(query)]
+#[tactic(auto, unfolding(crate::specs::Reading::operand))]
+fn operand(alloc: Global, tokens: &mut Cursor<'_>, depth: usize) -> Result<Operand, Fault>
+    ensures { Gives view.operand (spec.operand (spec.inner_query depth) tokens.old) result tokens.old tokens.new }
+{
+    if tokens.sees(Kind::LeftParen) {
+        let inner = subquery(alloc, tokens, depth)?;
+        Ok(answer(alloc, inner)?)
+    } else {
+        Ok(Operand::Expression(expr(alloc, tokens)?))
+    }
+}
+
+#[cycle(query)]
+#[tactic(auto, unfolding(crate::specs::Reading::member))]
+fn member(
+    alloc: Global,
+    tokens: &mut Cursor<'_>,
+    depth: usize,
+    left: Expr,
+) -> Result<Condition, Fault>
+    ensures { Gives view.condition (spec.member (spec.inner_query depth) (view.expression left) tokens.old) result tokens.old tokens.new }
+{
+    let is_negated = tokens.eat(Kind::Not);
+    tokens.expect(Kind::In)?;
+    let inner = subquery(alloc, tokens, depth)?;
+    Ok(within(alloc, left, is_negated, inner)?)
+}
+
+#[cycle(query)]
+#[tactic(auto, unfolding(crate::specs::Reading::predicate, crate::specs::Reading::compared_by))]
+fn predicate(alloc: Global, tokens: &mut Cursor<'_>, depth: usize) -> Result<Condition, Fault>
+    ensures { Gives view.condition (spec.predicate (spec.inner_query depth) tokens.old) result tokens.old tokens.new }
+{
+    if tokens.sees(Kind::Exists) {
+        tokens.expect(Kind::Exists)?;
+        let inner = subquery(alloc, tokens, depth)?;
+        return Ok(exists(alloc, inner)?);
+    }
+    let left = expr(alloc, tokens)?;
+    let Some(op) = comparison_of(tokens.peek()) else {
+        return member(alloc, tokens, depth, left);
+    };
+    tokens.skip();
+    let right = operand(alloc, tokens, depth)?;
+    Ok(Condition::Compare(left, op, right))
+}
+
+#[cycle(query)]
+#[tactic(auto, using(crate::proofs::Depth::one_deeper_neg, crate::proofs::Depth::no_deeper_neg), unfolding(crate::specs::Reading::neg, crate::specs::Reading::neg_with))]
+fn neg(
+    alloc: Global,
+    tokens: &mut Cursor<'_>,
+    depth: usize,
+    nesting: usize,
+) -> Result<Condition, Fault>
+    ensures { Gives view.condition (spec.neg (spec.inner_query depth) nesting tokens.old) result tokens.old tokens.new }
+{
+    if tokens.sees(Kind::Not) {
+        if nesting == 0 {
+            return Err(Fault::Refused);
+        }
+        tokens.expect(Kind::Not)?;
+        let inner = neg(alloc, tokens, depth, nesting - 1)?;
+        Ok(negation(alloc, inner)?)
+    } else if tokens.sees(Kind::LeftParen) {
+        group(alloc, tokens, depth, nesting)
+    } else {
+        predicate(alloc, tokens, depth)
+    }
+}
+
+/// A condition in parentheses.
+#[cycle(query)]
+#[tactic(auto, using(crate::proofs::Depth::one_deeper_neg, crate::proofs::Depth::no_deeper_cond), unfolding(crate::specs::Reading::group))]
+fn group(
+    alloc: Global,
+    tokens: &mut Cursor<'_>,
+    depth: usize,
+    nesting: usize,
+) -> Result<Condition, Fault>
+    ensures { Gives view.condition (spec.group (spec.inner_neg (spec.inner_query depth) nesting) tokens.old) result tokens.old tokens.new }
+{
+    if nesting == 0 {
+        return Err(Fault::Refused);
+    }
+    tokens.expect(Kind::LeftParen)?;
+    let inner = cond(alloc, tokens, depth, nesting - 1)?;
+    tokens.expect(Kind::RightParen)?;
+    Ok(inner)
+}
+
+fn ands(kind: Option<Kind>) -> bool
+    ensures yes { result ≡ true → spec.ands kind ≡ Some tree.conjunction }
+    ensures no { result ≡ false → spec.ands kind ≡ None }
+{
+    matches!(kind, Some(Kind::And))
+}
+
+fn ors(kind: Option<Kind>) -> bool
+    ensures yes { result ≡ true → spec.ors kind ≡ Some tree.disjunction }
+    ensures no { result ≡ false → spec.ors kind ≡ None }
+{
+    matches!(kind, Some(Kind::Or))
+}
+
+#[cycle(query)]
+#[tactic(auto, unfolding(crate::specs::Reading::conj))]
+fn conj(
+    alloc: Global,
+    tokens: &mut Cursor<'_>,
+    depth: usize,
+    nesting: usize,
+) -> Result<Condition, Fault>
+    ensures { Gives view.condition (spec.conj (spec.neg (spec.inner_query depth) nesting) tokens.old) result tokens.old tokens.new }
+{
+    let mut left = neg(alloc, tokens, depth, nesting)?;
+    'more: while ands(tokens.peek()) {
+        tokens.skip();
+        let right = neg(alloc, tokens, depth, nesting)?;
+        left = conjunction(alloc, left, right)?;
+    }
+    Ok(left)
+}
+
+#[cycle(query)]
+#[tactic(auto, unfolding(crate::specs::Reading::cond))]
+fn cond(
+    alloc: Global,
+    tokens: &mut Cursor<'_>,
+    depth: usize,
+    nesting: usize,
+) -> Result<Condition, Fault>
+    ensures { Gives view.condition (spec.cond (spec.neg (spec.inner_query depth) nesting) tokens.old) result tokens.old tokens.new }
+{
+    let mut left = conj(alloc, tokens, depth, nesting)?;
+    'more: while ors(tokens.peek()) {
+        tokens.skip();
+        let right = conj(alloc, tokens, depth, nesting)?;
+        left = disjunction(alloc, left, right)?;
+    }
+    Ok(left)
+}
+
+#[cycle(query)]
+#[tactic(auto, unfolding(crate::specs::Reading::filter))]
+pub fn filter(
+    alloc: Global,
+    tokens: &mut Cursor<'_>,
+    depth: usize,
+) -> Result<Option<Condition>, Fault>
+    ensures { Gives view.filter (spec.filter (spec.inner_query depth) tokens.old) result tokens.old tokens.new }
+{
+    if !tokens.sees(Kind::Where) {
+        return Ok(None);
+    }
+    tokens.expect(Kind::Where)?;
+    Ok(Some(cond(alloc, tokens, depth, MAX_NESTING)?))
+}
+
+/// A query in which subqueries nest at most `depth` deep.
+#[cycle(query)]
+#[tactic(auto, unfolding(crate::specs::Reading::query_to, crate::specs::Reading::query_with))]
+pub fn query(alloc: Global, tokens: &mut Cursor<'_>, depth: usize) -> Result<Query, Fault>
+    ensures { Gives view.query (spec.query_to depth tokens.old) result tokens.old tokens.new }
+{
+    tokens.expect(Kind::Select)?;
+    let items = items(alloc, tokens)?;
+    tokens.expect(Kind::From)?;
+    let sources = sources(alloc, tokens)?;
+    let filter = filter(alloc, tokens, depth)?;
+    Ok(Query {
+        items,
+        sources,
+        filter,
+    })
+}

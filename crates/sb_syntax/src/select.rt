@@ -1,0 +1,114 @@
+//! What a query lists, and from which sources.
+
+ghost use Rattle.std.specs.Prelude.{◌≡◌, map, length};
+ghost use Rattle.sb_syntax.specs.Reading as spec;
+ghost use Rattle.sb_syntax.specs.Reading.{Gives};
+ghost use Rattle.sb_syntax.specs.Views as view;
+
+use crate::ast::{Expr, Items, SourceReference, TableReference};
+use crate::cursor::{Cursor, Fault};
+use crate::expr::{expr, table};
+use crate::kind::Kind;
+use crate::literal::name;
+use sb_value::Name;
+use std::alloc::Global;
+
+/// How many expressions a query lists.
+const MAX_ITEMS: usize = 16;
+
+#[tactic(auto, unfolding(crate::specs::Reading::all_columns))]
+fn all_columns(tokens: &mut Cursor<'_>) -> Result<Items, Fault>
+    ensures { Gives view.items (spec.all_columns tokens.old) result tokens.old tokens.new }
+{
+    tokens.expect(Kind::Star)?;
+    Ok(Items::All)
+}
+
+#[tactic(auto, unfolding(crate::specs::Reading::count_rows))]
+fn count_rows(tokens: &mut Cursor<'_>) -> Result<Items, Fault>
+    ensures { Gives view.items (spec.count_rows tokens.old) result tokens.old tokens.new }
+{
+    tokens.expect(Kind::Count)?;
+    tokens.expect(Kind::LeftParen)?;
+    tokens.expect(Kind::Star)?;
+    tokens.expect(Kind::RightParen)?;
+    Ok(Items::Count)
+}
+
+#[tactic(auto, unfolding(crate::specs::Reading::sum_rows))]
+fn sum_rows(alloc: Global, tokens: &mut Cursor<'_>) -> Result<Items, Fault>
+    ensures { Gives view.items (spec.sum_rows tokens.old) result tokens.old tokens.new }
+{
+    tokens.expect(Kind::Sum)?;
+    tokens.expect(Kind::LeftParen)?;
+    let summand = expr(alloc, tokens)?;
+    tokens.expect(Kind::RightParen)?;
+    Ok(Items::Sum(summand))
+}
+
+#[tactic(auto, unfolding(crate::specs::Reading::expressions, crate::specs::Reading::separated_to))]
+fn expressions(alloc: Global, tokens: &mut Cursor<'_>) -> Result<Vec<Expr>, Fault>
+    ensures { Gives (λ v. map view.expression v.items) (spec.expressions tokens.old) result tokens.old tokens.new }
+{
+    let mut all = Vec::new(alloc);
+    let first = expr(alloc, tokens)?;
+    all.push(first)?;
+    'more: while tokens.sees(Kind::Comma) {
+        if all.len() >= MAX_ITEMS {
+            return Ok(all);
+        }
+        tokens.skip();
+        let item = expr(alloc, tokens)?;
+        all.push(item)?;
+    }
+    Ok(all)
+}
+
+#[tactic(auto, unfolding(crate::specs::Reading::items))]
+pub fn items(alloc: Global, tokens: &mut Cursor<'_>) -> Result<Items, Fault>
+    ensures { Gives view.items (spec.items tokens.old) result tokens.old tokens.new }
+{
+    match tokens.peek() {
+        Some(Kind::Star) => all_columns(tokens),
+        Some(Kind::Count) => count_rows(tokens),
+        Some(Kind::Sum) => sum_rows(alloc, tokens),
+        _ => Ok(Items::Each(expressions(alloc, tokens)?)),
+    }
+}
+
+#[tactic(auto, unfolding(crate::specs::Reading::alias))]
+fn alias(tokens: &mut Cursor<'_>) -> Result<Option<Name>, Fault>
+    ensures { Gives (λ n. n) (spec.alias tokens.old) result tokens.old tokens.new }
+{
+    if tokens.sees(Kind::Name) {
+        Ok(Some(name(tokens)?))
+    } else {
+        Ok(None)
+    }
+}
+
+#[tactic(auto, unfolding(crate::specs::Reading::source))]
+fn source(tokens: &mut Cursor<'_>) -> Result<SourceReference, Fault>
+    ensures { Gives (λ s. s) (spec.source tokens.old) result tokens.old tokens.new }
+{
+    let table = table(tokens)?;
+    let alias = alias(tokens)?;
+    Ok(SourceReference { table, alias })
+}
+
+#[tactic(auto, unfolding(crate::specs::Reading::sources, crate::specs::Reading::sources_after))]
+pub fn sources(alloc: Global, tokens: &mut Cursor<'_>) -> Result<Vec<SourceReference>, Fault>
+    ensures { Gives (λ v. v.items) (spec.sources tokens.old) result tokens.old tokens.new }
+{
+    let mut all = Vec::new(alloc);
+    let first = source(tokens)?;
+    // The check of a list of these needs the types of both fields among the locals.
+    let (_table, _alias): (TableReference, Option<Name>) = (first.table, first.alias);
+    all.push(first)?;
+    if tokens.sees(Kind::Comma) {
+        tokens.expect(Kind::Comma)?;
+        let second = source(tokens)?;
+        all.push(second)?;
+    }
+    Ok(all)
+}

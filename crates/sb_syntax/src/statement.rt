@@ -1,0 +1,117 @@
+//! Commands.
+
+ghost use Rattle.std.specs.Prelude.{◌≡◌, length};
+ghost use Rattle.sb_syntax.specs.Reading as spec;
+ghost use Rattle.sb_syntax.specs.Reading.{Gives};
+ghost use Rattle.sb_syntax.specs.Views as view;
+
+use crate::change::{MAX_DEPTH, change};
+use crate::command::Command;
+use crate::cursor::{Cursor, Fault};
+use crate::kind::Kind;
+use crate::literal::name;
+use crate::query::query;
+use sb_value::{ColumnDefinition, ColumnType};
+use std::alloc::Global;
+
+/// How many columns a table has.
+const MAX_COLUMNS: usize = 8;
+
+#[tactic(auto, unfolding(crate::specs::Reading::column_type))]
+fn column_type(tokens: &mut Cursor<'_>) -> Result<ColumnType, Fault>
+    ensures { Gives (λ t. t) (spec.column_type tokens.old) result tokens.old tokens.new }
+{
+    if tokens.sees(Kind::IntType) {
+        tokens.expect(Kind::IntType)?;
+        Ok(ColumnType::Int)
+    } else {
+        tokens.expect(Kind::TextType)?;
+        Ok(ColumnType::Text)
+    }
+}
+
+#[tactic(auto, unfolding(crate::specs::Reading::definition))]
+fn definition(tokens: &mut Cursor<'_>) -> Result<ColumnDefinition, Fault>
+    ensures { Gives (λ c. c) (spec.definition tokens.old) result tokens.old tokens.new }
+{
+    let name = name(tokens)?;
+    let of = column_type(tokens)?;
+    Ok(ColumnDefinition { name, of })
+}
+
+#[tactic(auto, unfolding(crate::specs::Reading::columns, crate::specs::Reading::separated_to))]
+fn columns(alloc: Global, tokens: &mut Cursor<'_>) -> Result<Vec<ColumnDefinition>, Fault>
+    ensures { Gives (λ v. v.items) (spec.columns tokens.old) result tokens.old tokens.new }
+{
+    let mut all = Vec::new(alloc);
+    let first = definition(tokens)?;
+    all.push(first)?;
+    'more: while tokens.sees(Kind::Comma) {
+        if all.len() >= MAX_COLUMNS {
+            return Ok(all);
+        }
+        tokens.skip();
+        let item = definition(tokens)?;
+        all.push(item)?;
+    }
+    Ok(all)
+}
+
+#[tactic(auto, unfolding(crate::specs::Reading::creates_table))]
+fn create_table(alloc: Global, tokens: &mut Cursor<'_>) -> Result<Command, Fault>
+    ensures { Gives view.command (spec.creates_table tokens.old) result tokens.old tokens.new }
+{
+    tokens.expect(Kind::Table)?;
+    let table = name(tokens)?;
+    tokens.expect(Kind::LeftParen)?;
+    let columns = columns(alloc, tokens)?;
+    tokens.expect(Kind::RightParen)?;
+    Ok(Command::CreateTable(table, columns))
+}
+
+#[tactic(auto, unfolding(crate::specs::Reading::creates))]
+fn create(alloc: Global, tokens: &mut Cursor<'_>) -> Result<Command, Fault>
+    ensures { Gives view.command (spec.creates tokens.old) result tokens.old tokens.new }
+{
+    tokens.expect(Kind::Create)?;
+    match tokens.peek() {
+        Some(Kind::Table) => create_table(alloc, tokens),
+        _ => Err(Fault::Refused),
+    }
+}
+
+/// A command of one word.
+#[tactic(auto, unfolding(crate::specs::Reading::word))]
+fn word(tokens: &mut Cursor<'_>, kind: Kind, command: Command) -> Result<Command, Fault>
+    ensures { Gives view.command (spec.word kind (view.command command) tokens.old) result tokens.old tokens.new }
+{
+    tokens.expect(kind)?;
+    Ok(command)
+}
+
+#[tactic(auto, unfolding(crate::specs::Reading::statement))]
+fn statement(alloc: Global, tokens: &mut Cursor<'_>) -> Result<Command, Fault>
+    ensures { Gives view.command (spec.statement tokens.old) result tokens.old tokens.new }
+{
+    match tokens.peek() {
+        Some(Kind::Open) => word(tokens, Kind::Open, Command::OpenSession),
+        Some(Kind::End) => word(tokens, Kind::End, Command::EndSession),
+        Some(Kind::Begin) => word(tokens, Kind::Begin, Command::Begin),
+        Some(Kind::Commit) => word(tokens, Kind::Commit, Command::Commit),
+        Some(Kind::Rollback) => word(tokens, Kind::Rollback, Command::Rollback),
+        Some(Kind::Create) => create(alloc, tokens),
+        Some(Kind::Select) => Ok(Command::Query(query(alloc, tokens, MAX_DEPTH)?)),
+        _ => Ok(Command::Change(change(alloc, tokens)?)),
+    }
+}
+
+#[tactic(auto, unfolding(crate::specs::Reading::command, crate::specs::Reading::kind_at))]
+pub fn command(alloc: Global, tokens: &mut Cursor<'_>) -> Result<Command, Fault>
+    ensures { Gives view.command (spec.command tokens.old) result tokens.old tokens.new }
+{
+    let command = statement(alloc, tokens)?;
+    if tokens.peek().is_some() {
+        return Err(Fault::Refused);
+    }
+    Ok(command)
+}

@@ -1,0 +1,107 @@
+//! The tokens of a text, and its command.
+
+ghost use Rattle.std.specs.Prelude.{◌≡◌, ◌≤◌, ◌↔◌, length, IfOk, IfErr, List, ℕ, Some};
+ghost use Rattle.sb_syntax.specs.Cursor.{AllWithin, lexemes};
+ghost use Rattle.sb_syntax.specs.Lex.{AreTokens};
+ghost use Rattle.sb_syntax.specs.Scan.{scan};
+ghost use Rattle.sb_syntax.specs.Text.{Spells, Reading, NoTokens, NoCommand, command_of};
+ghost use Rattle.sb_syntax.specs.Tree as tree;
+ghost use Rattle.sb_syntax.specs.Views as view;
+
+use crate::command::Command;
+use crate::cursor::{Cursor, Fault, Token};
+use crate::lex::token;
+use crate::statement::command;
+use std::alloc::{AllocError, AllocFailed, Global};
+
+/// Why a line has no command.
+#[derive(Clone, Copy, Debug, PartialEq, Eq)]
+pub enum ParseError {
+    Syntax { place: usize },
+    NoMemory,
+}
+
+impl From<AllocError> for ParseError {
+    ghost use Rattle.std.specs.Prelude.{◌≡◌};
+    ghost use Rattle.sb_syntax.specs.declared.token.ParseError.TheVariants.{NoMemory};
+
+    ghost from_gives = { λ _ e. e ≡ NoMemory };
+
+    fn from(_: AllocError) -> ParseError {
+        ParseError::NoMemory
+    }
+}
+
+impl<T: Drop> From<AllocFailed<T>> for ParseError {
+    ghost use Rattle.std.specs.Prelude.{◌≡◌};
+    ghost use Rattle.sb_syntax.specs.declared.token.ParseError.TheVariants.{NoMemory};
+
+    ghost from_gives = { λ _ e. e ≡ NoMemory };
+
+    fn from(_: AllocFailed<T>) -> ParseError {
+        ParseError::NoMemory
+    }
+}
+
+/// Cuts the text into tokens.
+fn cut(alloc: Global, text: &[u8]) -> Result<Vec<Token>, ParseError>
+    ensures { Reading (λ v. v.items) (scan 0 0 text.now) (length text.now) result }
+{
+    let mut all = Vec::new(alloc);
+    let mut at = 0;
+    'more: while at < text.len() {
+        if text[at] == b' ' {
+            at += 1;
+            continue;
+        }
+        let Some((kind, len)) = token(&text[at..]) else {
+            return Err(ParseError::Syntax { place: at });
+        };
+        all.push(Token {
+            kind,
+            start: at,
+            end: at + len,
+        })?;
+        at += len;
+    }
+    Ok(all)
+}
+
+/// The tokens of a text.
+pub fn tokens(alloc: Global, text: &[u8]) -> Result<Vec<Token>, ParseError>
+    // They are the text's, each its slice, in order, with spaces alone between them.
+    ensures found { IfOk result (λ v. AreTokens 0 text.now v.items) }
+    ensures within { IfOk result (λ v. AllWithin text.now v.items) }
+    // Syntax says that the text isn't made of tokens and spaces.
+    ensures none { IfErr result (NoTokens text.now) }
+{
+    cut(alloc, text)
+}
+
+/// The command that the text is.
+pub fn parse(alloc: Global, text: &[u8]) -> Result<Command, ParseError>
+    ensures found { IfOk result (λ c. Spells text.now (view.command c)) }
+    ensures computed { IfOk result (λ c. command_of text.now ≡ Some (view.command c)) }
+    // Syntax says that no command has the text.
+    ensures none { IfErr result (NoCommand text.now) }
+{
+    let tokens = tokens(alloc, text)?;
+    let mut cursor = Cursor::new(text, tokens.as_slice());
+    match command(alloc, &mut cursor) {
+        Ok(command) => Ok(command),
+        Err(Fault::Refused) => Err(ParseError::Syntax {
+            place: cursor.place().min(text.len()),
+        }),
+        Err(Fault::NoMemory) => Err(ParseError::NoMemory),
+    }
+}
+
+/// A text has at most one command.
+pub fn one_command()
+    ensures { (text : List ℕ) (a b : tree.Command) → Spells text a → Spells text b → a ≡ b }
+{}
+
+/// `command_of` computes what the grammar says.
+pub fn command_of_is_the_grammar()
+    ensures { (text : List ℕ) (c : tree.Command) → Spells text c ↔ (command_of text ≡ Some c) }
+{}

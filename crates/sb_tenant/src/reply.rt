@@ -1,0 +1,146 @@
+//! Replies, answers and the entries of a trail.
+ghost use Rattle.std.specs.Prelude.{◌≡◌, [], IfOk};
+
+use sb_value::{Name, Refusal, RowList, SessionId, Verdict};
+use std::alloc::{AllocError, Global};
+use std::marker::Model;
+use std::sync::Arc;
+
+/// A command line's bytes, without its newline. Its copies share them.
+#[derive(Drop)]
+pub struct Line {
+    bytes: Arc<Vec<u8>>,
+}
+
+impl Model for Line {
+    ghost use Rattle.std.specs.Prelude.{List, ℕ};
+    ghost use Rattle.std.specs.Arc.{arc_value};
+
+    ghost Value = { List ℕ };
+
+    ghost view = { λ l. (arc_value l.bytes).items };
+}
+
+impl Line {
+    /// The line with these bytes.
+    pub fn new(alloc: Global, bytes: &[u8]) -> Result<Line, AllocError>
+        ensures { IfOk result (λ line. line ≡ bytes.now) }
+    {
+        Ok(Line {
+            bytes: Arc::new(alloc, Vec::from_slice(alloc, bytes)?)?,
+        })
+    }
+
+    /// Its bytes.
+    pub fn as_slice(&self) -> &[u8]
+        ensures { result.now ≡ self.now }
+    {
+        let bytes: &Vec<u8> = &self.bytes;
+        bytes.as_slice()
+    }
+}
+
+/// The rows of a `select`. Its copies share them.
+#[derive(Drop)]
+pub struct SharedRows {
+    rows: Arc<RowList>,
+}
+
+impl Model for SharedRows {
+    ghost use Rattle.std.specs.Prelude.{List};
+    ghost use Rattle.std.specs.Arc.{arc_value};
+    ghost use Rattle.sb_value.specs.declared.value.Value.{Value as Item};
+
+    ghost Value = { List (List Item) };
+
+    ghost view = { λ r. arc_value r.rows };
+}
+
+impl SharedRows {
+    /// These rows, to be shared.
+    pub fn new(alloc: Global, rows: RowList) -> Result<SharedRows, AllocError>
+        ensures { IfOk result (λ shared. shared ≡ rows) }
+    {
+        Ok(SharedRows {
+            rows: Arc::new(alloc, rows)?,
+        })
+    }
+
+    /// The rows.
+    pub fn as_list(&self) -> &RowList
+        ensures { result.now ≡ self.now }
+    {
+        &self.rows
+    }
+
+    /// The same rows, once more.
+    pub fn share(&self) -> Result<SharedRows, AllocError>
+        ensures { IfOk result (λ shared. shared ≡ self.now) }
+    {
+        Ok(SharedRows {
+            rows: self.rows.clone()?,
+        })
+    }
+}
+
+/// The considered rules by name, with their verdicts, in order.
+#[derive(Drop)]
+pub struct NamedTrace {
+    list: Vec<(Name, Verdict)>,
+}
+
+impl Model for NamedTrace {
+    ghost use Rattle.std.specs.Prelude.{List, ℕ};
+    ghost use Rattle.sb_value.specs.declared.refusal.Verdict.{Verdict};
+
+    ghost Value = { List (List ℕ × Verdict) };
+
+    ghost view = { λ t. t.list.items };
+}
+
+impl NamedTrace {
+    /// No rule was considered.
+    pub fn empty(alloc: Global) -> NamedTrace
+        ensures { result ≡ [] }
+    {
+        NamedTrace {
+            list: Vec::new(alloc),
+        }
+    }
+
+    /// The considerations in order.
+    pub fn as_slice(&self) -> &[(Name, Verdict)]
+        ensures { result.now ≡ self.now }
+    {
+        self.list.as_slice()
+    }
+}
+
+/// What a command is answered.
+#[derive(Drop)]
+pub enum Reply {
+    Ok,
+    /// The number of changes.
+    Count(u64),
+    Rows(SharedRows),
+    Done(NamedTrace),
+    ByRule(Name, NamedTrace),
+    ByError(Name, Refusal, NamedTrace),
+    ByLimit(NamedTrace),
+    No(Refusal),
+}
+
+/// A reply with the number of its step, if it was one.
+#[derive(Drop)]
+pub struct Answer {
+    pub number: Option<u32>,
+    pub reply: Reply,
+}
+
+/// A step of the trail.
+#[derive(Drop)]
+pub struct Entry {
+    pub session: SessionId,
+    pub line: Line,
+    pub reply: Reply,
+}
