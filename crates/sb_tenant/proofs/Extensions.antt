@@ -22,7 +22,7 @@ module _ (language : Language) (tenant bound : ℕ) where
       placed b = elim b [ true ↦ (state, record { number = None; reply = reply.No refusal.TrailFull }) | false ↦ numbered state (reply_to language tenant bound state s line) ]
 
   pub step_is_next : (state : State) (s : ℕ) (line : List ℕ) → IsTrue (is_session s) → is_full_for state s line ≡ false →
-      IsNext language tenant bound state (entry_of language tenant bound s line (step language tenant bound state s line).1.reply) (step language tenant bound state s line).0
+      IsNext language tenant bound state (entry_of s line (step language tenant bound state s line).1.reply) (step language tenant bound state s line).0
   step_is_next state s line is_one room =
       (is_one, inl ((λ told. true≢false (sym (ap is_no_memory told) ∙ fine-step language tenant bound state s line)),
       (λ i. ((step language tenant bound state s line).0, record { number = numbers i; reply = (step language tenant bound state s line).1.reply }))))
@@ -31,24 +31,24 @@ module _ (language : Language) (tenant bound : ℕ) where
       numbers = ap (λ r. r.1.number) (step-numbered state s line room)
 
   pub abort_is_next : (state : State) (s : ℕ) (line : List ℕ) → IsTrue (is_session s) → is_full_for state s line ≡ false → is_end_of_open state s line ≡ false →
-      IsNext language tenant bound state (entry_of language tenant bound s line (reply.No refusal.NoMemory)) (after_abort state s)
+      IsNext language tenant bound state (entry_of s line (reply.No refusal.NoMemory)) (after_abort state s)
   abort_is_next state s line is_one room no_end = (is_one, inr (refl, refl, (room, no_end)))
 
   -- a trail with one more such entry, whose number is its length
   module _ (trail : List Entry) (legal : IsTrail language tenant bound trail) (s : ℕ) (line : List ℕ) (told : Reply) (after : State)
-      (next : IsNext language tenant bound (state_of language tenant bound trail) (entry_of language tenant bound s line told) after) where
+      (next : IsNext language tenant bound (state_of language tenant bound trail) (entry_of s line told) after) where
     longer : List Entry
-    longer = trail ++ entry_of language tenant bound s line told ∷ []
+    longer = trail ++ entry_of s line told ∷ []
 
-    pub extended : IsTrail language tenant bound (trail ++ entry_of language tenant bound s line told ∷ [])
-    extended = trail-one_more language tenant bound trail (entry_of language tenant bound s line told) after legal next
+    pub extended : IsTrail language tenant bound (trail ++ entry_of s line told ∷ [])
+    extended = trail-one_more language tenant bound trail (entry_of s line told) after legal next
 
-    pub state_of-extended : state_of language tenant bound (trail ++ entry_of language tenant bound s line told ∷ []) ≡ after
+    pub state_of-extended : state_of language tenant bound (trail ++ entry_of s line told ∷ []) ≡ after
     state_of-extended =
-        state_of-one_more language tenant bound trail (entry_of language tenant bound s line told)
-        ∙ sym (next_after language tenant bound (state_of language tenant bound trail) (entry_of language tenant bound s line told) after next)
+        state_of-one_more language tenant bound trail (entry_of s line told)
+        ∙ sym (next_after language tenant bound (state_of language tenant bound trail) (entry_of s line told) after next)
 
-    pub length-extended : (state_of language tenant bound trail).steps + 1 ≡ length (trail ++ entry_of language tenant bound s line told ∷ [])
+    pub length-extended : (state_of language tenant bound trail).steps + 1 ≡ length (trail ++ entry_of s line told ∷ [])
     length-extended =
         let steps = legal_steps language tenant bound opening trail (state_of language tenant bound trail) legal in
-        omega (arith, steps, length-append trail (entry_of language tenant bound s line told ∷ []))
+        omega (arith, steps, length-append trail (entry_of s line told ∷ []))

@@ -21,6 +21,9 @@ abbrev pub is_no_memory : Reply → Bool
 is_no_memory (No NoMemory) = true
 is_no_memory reply = false
 
+abbrev pub entry_of : ℕ → List ℕ → Reply → Entry
+entry_of s line reply = record { session = s; line = line; reply = reply }
+
 module _ (language : Language) (tenant bound : ℕ) where
   -- an entry as a step with its number, or as an abort
   abbrev pub IsStep : State → Entry → State → Type 0
@@ -58,9 +61,6 @@ module _ (language : Language) (tenant bound : ℕ) where
   IsTrail trail = IsLegal opening trail (state_of trail)
 
   -- ---- what a call does to the trail
-
-  abbrev pub entry_of : ℕ → List ℕ → Reply → Entry
-  entry_of s line reply = record { session = s; line = line; reply = reply }
 
   -- one entry more, whose number is the trail's new length
   abbrev pub Extends : List Entry → ℕ → List ℕ → Answer → List Entry → Type 0
