@@ -9,7 +9,7 @@ use Rattle.sb_tenant.specs.declared.reply.Reply.TheVariants as reply
 use Rattle.sb_tenant.specs.Limits.{is_session}
 use Rattle.sb_tenant.specs.State.{State, opening}
 use Rattle.sb_tenant.specs.Step.{Language, is_full_for, is_end_of_open, reply_to, numbered, step}
-use Rattle.sb_tenant.specs.Trail.{after_abort, is_no_memory, IsNext, after_entry, state_of, IsTrail, entry_of, Extends}
+use Rattle.sb_tenant.specs.Trail.{after_abort, is_no_memory, IsNext, state_of, IsTrail, entry_of}
 use Rattle.sb_tenant.proofs.MemoryLaws.{fine-step}
 use Rattle.sb_tenant.proofs.ReplayLaws.{next_after, legal_steps, state_of-one_more, trail-one_more}
 
@@ -23,9 +23,13 @@ module _ (language : Language) (tenant bound : ℕ) where
 
   pub step_is_next : (state : State) (s : ℕ) (line : List ℕ) → IsTrue (is_session s) → is_full_for state s line ≡ false →
       IsNext language tenant bound state (entry_of s line (step language tenant bound state s line).1.reply) (step language tenant bound state s line).0
-  step_is_next state s line is_one room =
-      (is_one, inl ((λ told. true≢false (sym (ap is_no_memory told) ∙ fine-step language tenant bound state s line)),
-      (λ i. ((step language tenant bound state s line).0, record { number = numbers i; reply = (step language tenant bound state s line).1.reply }))))
+  step_is_next state s line is_one room = (
+    is_one,
+    inl (
+      (λ told. true≢false (sym (ap is_no_memory told) ∙ fine-step language tenant bound state s line)),
+      (λ i. ((step language tenant bound state s line).0, record { number = numbers i; reply = (step language tenant bound state s line).1.reply })),
+    ),
+  )
     where
       numbers : (step language tenant bound state s line).1.number ≡ Some (state.steps + 1)
       numbers = ap (λ r. r.1.number) (step-numbered state s line room)

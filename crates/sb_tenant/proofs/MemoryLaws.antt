@@ -1,6 +1,5 @@
 -- The definitions never answer that memory ran out: neither a walk, nor a statement, nor a step.
-use Rattle.std.proofs.Common.{◌≡◌, ℕ, ◌+◌, Bool, true, false, not, ◌&&◌, ◌==◌, List, [], ◌∷◌, length, Option, Some, None, Result, Ok, Err, refl, sym, ◌∙◌, ap}
-use Rattle.std.specs.List.{list_any}
+use Rattle.std.proofs.Common.{◌≡◌, ℕ, ◌+◌, Bool, true, false, not, ◌&&◌, ◌==◌, List, [], ◌∷◌, length, Option, Some, None, Result, Ok, Err, refl}
 use Rattle.sb_value.specs.declared.value.ColumnType.{ColumnType}
 use Rattle.sb_value.specs.declared.value.ColumnDefinition.{ColumnDefinition}
 use Rattle.sb_value.specs.declared.net.Triggers.{Triggers}
@@ -20,7 +19,6 @@ use Rattle.sb_check.specs.declared.tree.Source.{Source}
 use Rattle.sb_check.specs.declared.tree.Source.TheVariants as source
 use Rattle.sb_check.specs.Names.{and_then, in_order, required, some_or, Visible, Scope, holders, only_one, plain_column, source_named, column_of_source, qualified_column, column_in, column_named}
 use Rattle.sb_check.specs.Walk.{Schema, table_named, walk_expression, transition_source, has_updates, walk_table, walk_sources, walk_items, walk_select, in_type, walk_condition, walk_operand, walk_filter, walk_query, visible_name, of_types, fitting, walk_assignments, walk_change, walk_action}
-
 use Rattle.std.specs.Prelude.{nat_lt, if◌then◌else◌}
 use Rattle.sb_value.specs.declared.refusal.Refusal.TheVariants.{TooBig, TooManyRows}
 use Rattle.sb_check.specs.Condition.{Query}

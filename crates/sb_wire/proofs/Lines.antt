@@ -1,5 +1,5 @@
 -- Lines and the replies to those that reach no tenant, by computation.
-use Rattle.std.specs.Prelude.{◌≡◌, ℕ, nat_lt, List, [], ◌∷◌, ◌++◌, replicate, None, refl, codes}
+use Rattle.std.specs.Prelude.{◌≡◌, nat_lt, [], ◌∷◌, ◌++◌, replicate, None, refl, codes}
 use Rattle.std.specs.Fmt.{digits}
 use Rattle.sb_tenant.specs.State.{opening}
 use Rattle.sb_tenant.specs.Step.{Language}

@@ -1,5 +1,5 @@
 -- Whole sessions from bytes to bytes, by computation.
-use Rattle.std.specs.Prelude.{◌≡◌, ℕ, nat_lt, List, [], ◌∷◌, map, refl, codes}
+use Rattle.std.specs.Prelude.{◌≡◌, ℕ, nat_lt, List, [], ◌∷◌, refl, codes}
 use Rattle.std.specs.Fmt.{digits}
 use Rattle.sb_syntax.specs.Text.{command_of}
 use Rattle.sb_tenant.specs.State.{opening}
