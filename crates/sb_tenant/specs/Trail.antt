@@ -72,6 +72,10 @@ module _ (language : Language) (tenant bound : ℕ) where
   IsFull trail s line answer new =
       IsTrue (is_full_for (state_of trail) s line) × (answer ≡ record { number = None; reply = No TrailFull }) × (new ≡ trail)
 
+  -- or, in a call that makes no step for want of memory, nothing changes, either
+  abbrev pub IsNotBegun : List Entry → ℕ → List ℕ → List Entry → Type 0
+  IsNotBegun trail s line new = (new ≡ trail) × MayAbort (state_of trail) s line
+
   abbrev pub Steps : List Entry → ℕ → List ℕ → Answer → List Entry → Type 0
   Steps trail s line answer new = Extends trail s line answer new ⊎ IsFull trail s line answer new
 

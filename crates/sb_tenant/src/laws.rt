@@ -1,7 +1,7 @@
 //! What holds of the definitions alone: each law is the contract of a function that does nothing.
 ghost use Rattle.std.specs.Prelude.{ℕ};
 ghost use Rattle.sb_tenant.specs.Step.{Language};
-ghost use Rattle.sb_tenant.specs.TrailLaws.{TrailsFixStates, LegalStatesAreReplayed, OthersStay, OwnOpens, TrailsAreBounded};
+ghost use Rattle.sb_tenant.specs.TrailLaws.{TrailsFixStates, LegalStatesAreReplayed, StepsHaveMemory, OthersStay, OwnOpens, TrailsAreBounded};
 
 /// A legal trail fixes the state after it.
 pub fn trails_fix_states()
@@ -12,6 +12,12 @@ pub fn trails_fix_states()
 pub fn legal_states_are_replayed()
     ensures { (language : Language) (tenant bound : ℕ) → LegalStatesAreReplayed language tenant bound }
 {}
+
+/// The definitions never run out of memory: `NoMemory` is the reply of an abort alone.
+pub fn steps_have_memory()
+    ensures { (language : Language) (tenant bound : ℕ) → StepsHaveMemory language tenant bound }
+{
+}
 
 /// An entry changes no session but its own, and opens or closes that one as its command says.
 pub fn entries_open_and_close()
