@@ -16,8 +16,7 @@ pub fn legal_states_are_replayed()
 /// The definitions never run out of memory: `NoMemory` is the reply of an abort alone.
 pub fn steps_have_memory()
     ensures { (language : Language) (tenant bound : ℕ) → StepsHaveMemory language tenant bound }
-{
-}
+{}
 
 /// An entry changes no session but its own, and opens or closes that one as its command says.
 pub fn entries_open_and_close()
