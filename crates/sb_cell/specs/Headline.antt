@@ -1,11 +1,11 @@
 -- Each tenant's answers and state are those of a tenant that is alone.
-use Rattle.std.specs.Prelude.{true, false, ◌≡◌, ℕ, ◌+◌, Bool, ◌&&◌, ◌==◌, nat_lt, if◌then◌else◌, ◌⊎◌, List, [], ◌∷◌, map, zip, filter_map, Option, Some, None, Result, Ok, Err, IsTrue, ⊤}
+use Rattle.std.specs.Prelude.{true, false, ◌≡◌, ℕ, ◌+◌, Bool, ◌&&◌, ◌==◌, if◌then◌else◌, ◌⊎◌, List, [], ◌∷◌, map, zip, filter_map, Option, Some, None, Result, Ok, Err, IsTrue, ⊤}
 use Rattle.sb_value.specs.declared.refusal.Refusal.TheVariants.{NoMemory}
 use Rattle.sb_tenant.specs.declared.reply.Answer.{Answer}
 use Rattle.sb_tenant.specs.declared.reply.Reply.TheVariants.{No}
+use Rattle.sb_tenant.specs.Limits.{is_session}
 use Rattle.sb_tenant.specs.State.{State}
-use Rattle.sb_tenant.specs.Resolved.{Language}
-use Rattle.sb_tenant.specs.Step.{step}
+use Rattle.sb_tenant.specs.Step.{Language, step}
 use Rattle.sb_tenant.specs.Trail.{answers, state_after, after_abort, MayAbort}
 use Rattle.sb_cell.specs.declared.Event.{Event}
 use Rattle.sb_cell.specs.declared.StepError.{StepError}
@@ -13,7 +13,7 @@ use Rattle.sb_cell.specs.declared.StepError.TheVariants.{NoTenant, NoSession, No
 
 -- the events that name the tenant and one of its sessions
 abbrev pub is_own : ℕ → Event → Bool
-is_own t e = (e.tenant == t) && nat_lt e.session 8
+is_own t e = (e.tenant == t) && is_session e.session
 
 abbrev pub own_event : ℕ → Event → Option (ℕ × List ℕ)
 own_event t e = if is_own t e then Some (e.session, e.line) else None
@@ -34,7 +34,7 @@ IsServed [] = ⊤
 IsServed (Err e ∷ rest) = ⊥
 IsServed (Ok a ∷ rest) = (a.reply ≡ No NoMemory → ⊥) × IsServed rest
 
-module _ {C : Type 0} (language : Language C) (bound : ℕ) where
+module _ (language : Language) (bound : ℕ) where
   -- The theorem on whole runs: for every list of events of all tenants' sessions, and for every tenant that the cell hosts and that met no want of memory,
   -- its answers and its state are those of the tenant alone, which sees its own events and nothing else.
   abbrev pub RunsAlone : (ℕ → Bool) → (ℕ → State) → List Event → List (Result Answer StepError) → (ℕ → State) → Type 0
@@ -67,7 +67,7 @@ module _ {C : Type 0} (language : Language C) (bound : ℕ) where
 abbrev pub with_state : (ℕ → State) → ℕ → State → ℕ → State
 with_state states t state u = if u == t then state else states u
 
-module _ {C : Type 0} (language : Language C) (hosts : ℕ → Bool) (bound : ℕ) where
+module _ (language : Language) (hosts : ℕ → Bool) (bound : ℕ) where
   -- by whether the cell hosts the tenant, and whether the session is one
   abbrev pub step_if : Bool → Bool → (ℕ → State) → Event → Result Answer StepError × (ℕ → State)
   step_if false is_session states e = (Err NoTenant, states)
@@ -77,7 +77,7 @@ module _ {C : Type 0} (language : Language C) (hosts : ℕ → Bool) (bound : �
       (Ok r.1, with_state states e.tenant r.0)
 
   abbrev pub event_step : (ℕ → State) → Event → Result Answer StepError × (ℕ → State)
-  event_step states e = step_if (hosts e.tenant) (nat_lt e.session 8) states e
+  event_step states e = step_if (hosts e.tenant) (is_session e.session) states e
 
   abbrev pub cell_answers : (ℕ → State) → List Event → List (Result Answer StepError)
   cell_answers states [] = []

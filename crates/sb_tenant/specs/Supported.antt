@@ -4,6 +4,7 @@ use Rattle.sb_syntax.specs.Tree.{Command, open_session, end_session, begin, comm
 use Rattle.sb_syntax.specs.declared.ast.SourceReference.{SourceReference}
 use Rattle.sb_syntax.specs.declared.ast.TableReference.{TableReference}
 use Rattle.sb_syntax.specs.declared.ast.TableReference.TheVariants.{Named}
+use Rattle.sb_syntax.specs.Text.{command_of}
 use Rattle.sb_tenant.specs.Step.{Language}
 
 -- a table by its name alone
@@ -38,6 +39,9 @@ abbrev pub if_supported : Option Command → Option Command
 if_supported None = None
 if_supported (Some command) = if is_supported command then Some command else None
 
--- the part of a language that the engine handles
-abbrev pub engine : Language → Language
-engine whole line = if_supported (whole line)
+-- the commands of the grammar, and those of them that the engine handles
+abbrev pub grammar : Language
+grammar line = command_of line
+
+abbrev pub engine : Language
+engine line = if_supported (command_of line)

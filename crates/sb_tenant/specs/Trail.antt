@@ -21,6 +21,9 @@ abbrev pub is_no_memory : Reply → Bool
 is_no_memory (No NoMemory) = true
 is_no_memory reply = false
 
+abbrev pub entry_of : ℕ → List ℕ → Reply → Entry
+entry_of s line reply = record { session = s; line = line; reply = reply }
+
 module _ (language : Language) (tenant bound : ℕ) where
   -- an entry as a step with its number, or as an abort
   abbrev pub IsStep : State → Entry → State → Type 0
@@ -59,9 +62,6 @@ module _ (language : Language) (tenant bound : ℕ) where
 
   -- ---- what a call does to the trail
 
-  abbrev pub entry_of : ℕ → List ℕ → Reply → Entry
-  entry_of s line reply = record { session = s; line = line; reply = reply }
-
   -- one entry more, whose number is the trail's new length
   abbrev pub Extends : List Entry → ℕ → List ℕ → Answer → List Entry → Type 0
   Extends trail s line answer new =
@@ -71,6 +71,10 @@ module _ (language : Language) (tenant bound : ℕ) where
   abbrev pub IsFull : List Entry → ℕ → List ℕ → Answer → List Entry → Type 0
   IsFull trail s line answer new =
       IsTrue (is_full_for (state_of trail) s line) × (answer ≡ record { number = None; reply = No TrailFull }) × (new ≡ trail)
+
+  -- or, in a call that makes no step for want of memory, nothing changes, either
+  abbrev pub IsNotBegun : List Entry → ℕ → List ℕ → List Entry → Type 0
+  IsNotBegun trail s line new = (new ≡ trail) × MayAbort (state_of trail) s line
 
   abbrev pub Steps : List Entry → ℕ → List ℕ → Answer → List Entry → Type 0
   Steps trail s line answer new = Extends trail s line answer new ⊎ IsFull trail s line answer new

@@ -3,7 +3,7 @@ use Rattle.std.specs.Prelude.{◌≡◌, ℕ, ◌+◌, ◌≤◌, Bool, true, fa
 use Rattle.sb_syntax.specs.Tree.{Command, open_session, end_session}
 use Rattle.sb_tenant.specs.declared.reply.Entry.{Entry}
 use Rattle.sb_tenant.specs.State.{State, opening, session_at, is_open, open_count}
-use Rattle.sb_tenant.specs.Step.{Language}
+use Rattle.sb_tenant.specs.Step.{Language, step}
 use Rattle.sb_tenant.specs.Trail.{is_no_memory, IsNext, IsLegal, after_entry, state_of}
 
 -- whether the session is open after an own entry: `open` opens it and `end` closes it
@@ -22,6 +22,10 @@ module _ (language : Language) (tenant bound : ℕ) where
   LegalStatesAreReplayed =
       (trail : List Entry) (state : State) → IsLegal language tenant bound opening trail state →
       (state ≡ state_of language tenant bound trail) × (state.steps ≡ length trail)
+
+  -- a step has another reply than that memory ran out
+  abbrev pub StepsHaveMemory : Type 0
+  StepsHaveMemory = (state : State) (s : ℕ) (line : List ℕ) → IsFalse (is_no_memory (step language tenant bound state s line).1.reply)
 
   -- an entry of another session leaves a session as it was
   abbrev pub OthersStay : Type 0

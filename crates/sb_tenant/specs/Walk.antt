@@ -84,9 +84,9 @@ walk_triggers e triggers =
       columns = set_of (joined places);
     }))
 
-abbrev pub walk_condition : Schema → Option text.Query → Result (Option Query) Refusal
-walk_condition schema None = Ok None
-walk_condition schema (Some q) = and_then (walk_query schema q []) (λ w. Ok (Some w.0))
+abbrev pub rule_condition : Schema → Option text.Query → Result (Option Query) Refusal
+rule_condition schema None = Ok None
+rule_condition schema (Some q) = and_then (walk_query schema q []) (λ w. Ok (Some w.0))
 
 -- the pairs of the new rule close no cycle
 abbrev pub acyclic : Catalog → NewRule → Result Resolved Refusal
@@ -100,7 +100,7 @@ walk_rule catalog r =
     (and_then (table_named (record { tables = catalog.tables; rule = None }) r.table) (λ e.
     and_then (walk_triggers e r.triggers) (λ triggers.
     let schema : Schema = record { tables = catalog.tables; rule = Some (e.table.columns, triggers) } in
-    and_then (walk_condition schema r.condition) (λ condition.
+    and_then (rule_condition schema r.condition) (λ condition.
     and_then (in_order (walk_action schema) r.actions) (λ actions.
     and_then (in_order (rule_named catalog) r.precedes) (λ before.
     and_then (in_order (rule_named catalog) r.follows) (λ after.

@@ -1,0 +1,27 @@
+-- Lines and the replies to those that reach no tenant, by computation.
+use Rattle.std.specs.Prelude.{◌≡◌, nat_lt, [], ◌∷◌, ◌++◌, replicate, None, refl, codes}
+use Rattle.std.specs.Fmt.{digits}
+use Rattle.sb_tenant.specs.State.{opening}
+use Rattle.sb_tenant.specs.Step.{Language}
+use Rattle.sb_wire.specs.Lines.{pieces_of, too_long, line}
+use Rattle.sb_wire.specs.Output.{ended_lines, output}
+
+abbrev no_commands : Language
+no_commands text = None
+
+-- an empty input has no line
+pub empty_input : output no_commands (λ t. nat_lt t 16) 1000 (λ t. opening) [] ≡ []
+empty_input = refl
+
+-- numbers, tenants and sessions that aren't there; the last line has no newline
+pub lines_of_no_tenant : output no_commands (λ t. nat_lt t 16) 1000 (λ t. opening)
+    (ended_lines (codes "x" ∷ [] ∷ codes "00 0 begin" ∷ codes "16 0 begin" ∷ codes "0 8 begin" ∷ codes "0 0" ∷ codes "999999999 0 begin" ∷ codes "1000000000 0 begin" ∷ codes "0 0 " ∷ [])
+    ++ codes "0 0 comm")
+    ≡ ended_lines (codes "- - no 12 BadLine" ∷ codes "- - no 12 BadLine" ∷ codes "- - no 12 BadLine" ∷ codes "16 0 no 13 NoTenant" ∷ codes "0 8 no 14 NoSession"
+    ∷ codes "- - no 12 BadLine" ∷ codes "999999999 0 no 13 NoTenant" ∷ codes "- - no 12 BadLine" ∷ codes "0 0 no 10 Syntax" ∷ codes "0 0 no 10 Syntax" ∷ [])
+unfolding digits
+lines_of_no_tenant = refl
+
+-- a line of 4,097 bytes, and one of 4,096
+pub long_line : pieces_of (replicate 4097 120 ++ 10 ∷ replicate 4096 120) ≡ too_long ∷ line (replicate 4096 120) ∷ []
+long_line = refl
