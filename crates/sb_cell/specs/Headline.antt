@@ -1,5 +1,5 @@
 -- Each tenant's answers and state are those of a tenant that is alone.
-use Rattle.std.specs.Prelude.{true, false, ◌≡◌, ℕ, ◌+◌, Bool, ◌&&◌, ◌==◌, if◌then◌else◌, ◌⊎◌, List, [], ◌∷◌, map, zip, filter_map, Option, Some, None, Result, Ok, Err, IsTrue, ⊤}
+use Rattle.std.specs.Prelude.{true, false, ◌≡◌, ℕ, ◌+◌, Bool, ◌&&◌, ◌==◌, if◌then◌else◌, ◌⊎◌, List, [], ◌∷◌, map, zip, filter_map, Option, Some, None, Result, Ok, Err, IsTrue, IsFalse, ⊤}
 use Rattle.sb_value.specs.declared.refusal.Refusal.TheVariants.{NoMemory}
 use Rattle.sb_tenant.specs.declared.reply.Answer.{Answer}
 use Rattle.sb_tenant.specs.declared.reply.Reply.TheVariants.{No}
@@ -66,6 +66,23 @@ module _ (language : Language) (bound : ℕ) where
   abbrev pub RunsInTurn : (ℕ → Bool) → (ℕ → State) → List Event → List (Result Answer StepError) → (ℕ → State) → Type 0
   RunsInTurn hosts before events given after =
       (t : ℕ) → IsTrue (hosts t) → AreTurns t (before t) (own_events t events) (own_answers t events given) (after t)
+
+  -- ---- event by event
+
+  -- what one event may be answered, and the states after it, by whether the cell hosts the tenant and the session is one: one turn of that tenant, and nothing of the others
+  abbrev pub IsEvent : Bool → Bool → (ℕ → State) → Event → Result Answer StepError → (ℕ → State) → Type 0
+  IsEvent false is_one before e given after = (given ≡ Err NoTenant) × (after ≡ before)
+  IsEvent true false before e given after = (given ≡ Err NoSession) × (after ≡ before)
+  IsEvent true true before e given after =
+      IsTurn e.tenant (before e.tenant) (e.session, e.line) given (after e.tenant) × ((t : ℕ) → IsFalse (t == e.tenant) → after t ≡ before t)
+
+  -- the events in order, each with its answer
+  abbrev pub AreEvents : (ℕ → Bool) → (ℕ → State) → List Event → List (Result Answer StepError) → (ℕ → State) → Type 0
+  AreEvents hosts before [] [] after = after ≡ before
+  AreEvents hosts before (e ∷ es) (a ∷ rest) after =
+      (mid : ℕ → State) × IsEvent (hosts e.tenant) (is_session e.session) before e a mid × AreEvents hosts mid es rest after
+  AreEvents hosts before [] (a ∷ rest) after = ⊥
+  AreEvents hosts before (e ∷ es) [] after = ⊥
 
 -- ---- the plain cell: a state for each tenant, and one step for each event
 
