@@ -10,11 +10,13 @@ use Rattle.sb_syntax.specs.declared.ast.Arithmetic.TheVariants.{Add, Subtract, M
 use Rattle.sb_check.specs.contracts.tree.Column as column_place
 use Rattle.sb_check.specs.declared.tree.Column.{Column}
 
+-- a value, a column, or two expressions and an operator
 pub data Expression : Type 0 where
   literal : Value → Expression
   column : Column → Expression
   binary : Expression → Arithmetic → Expression → Expression
 
+-- how deep an expression is
 abbrev pub depth : Expression → ℕ
 depth (literal v) = 0
 depth (column c) = 0
@@ -22,11 +24,13 @@ depth (binary a op b) = 1 + max (depth a) (depth b)
 
 -- ---- an expression is stored as a tree
 
+-- an operator as a number
 abbrev pub number_of : Arithmetic → ℕ
 number_of Add = 0
 number_of Subtract = 1
 number_of Multiply = 2
 
+-- the operator of a number
 abbrev pub arithmetic_at : ℕ → Arithmetic
 arithmetic_at zero = Add
 arithmetic_at (suc zero) = Subtract
@@ -37,11 +41,13 @@ arithmetic_at-number_of Add = refl
 arithmetic_at-number_of Subtract = refl
 arithmetic_at-number_of Multiply = refl
 
+-- the tree of an expression
 abbrev pub tree_of : Expression → Tree (Value ⊎ Column)
 tree_of (literal v) = leaf (inl v)
 tree_of (column c) = leaf (inr c)
 tree_of (binary a op b) = node (number_of op) (tree_of a) (tree_of b)
 
+-- the expression of a tree
 abbrev pub expression_from : Tree (Value ⊎ Column) → Expression
 expression_from (leaf (inl v)) = literal v
 expression_from (leaf (inr c)) = column c

@@ -28,10 +28,12 @@ abbrev pub required : {A : Type 0} → Bool → Refusal → Result A Refusal →
 required true e next = next
 required false e next = Err e
 
+-- what is there, or the refusal
 abbrev pub some_or : {A : Type 0} → Refusal → Option A → Result A Refusal
 some_or e None = Err e
 some_or e (Some a) = Ok a
 
+-- two references to one table
 abbrev pub same_table : TableReference → TableReference → Bool
 same_table (Named a) (Named b) = same_name a b
 same_table Inserted Inserted = true
@@ -40,6 +42,7 @@ same_table OldUpdated OldUpdated = true
 same_table NewUpdated NewUpdated = true
 same_table a b = false
 
+-- two types that are the same
 abbrev pub same_type : ColumnType → ColumnType → Bool
 same_type Int Int = true
 same_type Int Text = false
@@ -60,6 +63,7 @@ abbrev pub column_from : ℕ → List ColumnDefinition → Name → Option (ℕ 
 column_from k [] name = None
 column_from k (c ∷ cs) name = if same_name c.name name then Some (k, c.of) else column_from (k + 1) cs name
 
+-- the place and the type of a column
 abbrev pub column_in : List ColumnDefinition → Name → Option (ℕ × ColumnType)
 column_in columns name = column_from 0 columns name
 
@@ -72,6 +76,7 @@ holders depth i (v ∷ vs) name =
       | Some c ↦ (record { depth = depth; source = i; place = c.0 }, c.1) ∷ holders depth (i + 1) vs name
     ]
 
+-- two sources that have a column make its name ambiguous
 abbrev pub only_one : List (Column × ColumnType) → Result (Column × ColumnType) Refusal
 only_one [] = Err refusal.NoColumn
 only_one (c ∷ []) = Ok c
@@ -91,6 +96,7 @@ abbrev pub source_named : ℕ → List Visible → TableReference → Option (�
 source_named i [] table = None
 source_named i (v ∷ vs) table = if same_table v.name table then Some (i, v.columns) else source_named (i + 1) vs table
 
+-- the column of that name in one source
 abbrev pub column_of_source : ℕ → ℕ × List ColumnDefinition → Name → Result (Column × ColumnType) Refusal
 column_of_source depth s name =
     and_then (some_or refusal.NoColumn (column_in s.1 name)) (λ c. Ok (record { depth = depth; source = s.0; place = c.0 }, c.1))
@@ -104,6 +110,7 @@ qualified_column depth (sources ∷ outer) table name =
       | Some s ↦ column_of_source depth s name
     ]
 
+-- the column that a name with or without a qualifier means
 abbrev pub column_named : Scope → ColumnReference → Result (Column × ColumnType) Refusal
 column_named scope (Plain name) = plain_column 0 scope name
 column_named scope (Qualified table name) = qualified_column 0 scope table name

@@ -35,11 +35,13 @@ pub record Schema : Type 0 where
   pub tables : List Entry
   pub rule : Option (List ColumnDefinition × Triggers)
 
+-- the table of that name
 abbrev pub table_named : Schema → Name → Result Entry Refusal
 table_named schema name = some_or refusal.NoTable (find (λ e. same_name e.name name) schema.tables)
 
 -- ---- expressions
 
+-- the type of a value
 abbrev pub type_of : Value → ColumnType
 type_of (value.Int z) = Int
 type_of (value.Text t) = Text
@@ -49,6 +51,7 @@ abbrev pub of_integers : Arithmetic → Result (Expression × ColumnType) Refusa
 of_integers op a b =
     and_then a (λ x. and_then b (λ y. required (same_type x.1 Int && same_type y.1 Int) refusal.BadType (Ok (binary x.0 op y.0, Int))))
 
+-- an expression from left to right, with its type
 abbrev pub walk_expression : Scope → text.Expression → Result (Expression × ColumnType) Refusal
 walk_expression scope (text.literal v) = Ok (literal v, type_of v)
 walk_expression scope (text.column c) = and_then (column_named scope c) (λ p. Ok (column p.0, p.1))
@@ -64,9 +67,11 @@ transition_source schema has form =
       | Some rule ↦ required (has rule.1) refusal.BadTransition (Ok (form, rule.0))
     ]
 
+-- whether a rule is triggered by updates of any kind
 abbrev pub has_updates : Triggers → Bool
 has_updates triggers = triggers.updated || list_any (λ b. b) triggers.columns
 
+-- a source and its columns
 abbrev pub walk_table : Schema → TableReference → Result (Source × List ColumnDefinition) Refusal
 walk_table schema (Named name) = and_then (table_named schema name) (λ e. Ok (source.Table e.id, e.table.columns))
 walk_table schema Inserted = transition_source schema (λ t. t.inserted) source.Inserted
@@ -74,6 +79,7 @@ walk_table schema Deleted = transition_source schema (λ t. t.deleted) source.De
 walk_table schema OldUpdated = transition_source schema has_updates source.OldUpdated
 walk_table schema NewUpdated = transition_source schema has_updates source.NewUpdated
 
+-- the alias of a source, or else its own name
 abbrev pub visible_name : SourceReference → TableReference
 visible_name s = elim s.alias [ Some a ↦ Named a | None ↦ s.table ]
 
@@ -92,6 +98,7 @@ walk_sources schema taken (s ∷ ss) =
 abbrev pub Walked : Type 0
 Walked = Query × List ColumnType
 
+-- the items in order, with the types of their columns
 abbrev pub walk_items : Scope → List Visible → text.Items → Result (Items × List ColumnType) Refusal
 walk_items scope sources text.all = Ok (items.All, flat_map (λ v. map (λ c. c.of) v.columns) sources)
 walk_items scope sources text.count = Ok (items.Count, Int ∷ [])
@@ -116,6 +123,7 @@ is_aggregate text.count = true
 is_aggregate (text.sum_of e) = true
 is_aggregate (text.each_of es) = false
 
+-- the same of a query
 abbrev pub has_aggregate : text.Query → Bool
 has_aggregate (text.select its sources filter) = is_aggregate its
 
@@ -142,6 +150,7 @@ fitting kinds columns = required (length kinds == length columns) refusal.WrongC
 
 module _ (schema : Schema) where
   abbrev mutual
+    -- a condition from left to right
     pub walk_condition : text.Condition → Scope → Result Condition Refusal
     walk_condition (text.disjunction a b) scope = and_then (walk_condition a scope) (λ x. and_then (walk_condition b scope) (λ y. Ok (disjunction x y)))
     walk_condition (text.conjunction a b) scope = and_then (walk_condition a scope) (λ x. and_then (walk_condition b scope) (λ y. Ok (conjunction x y)))
@@ -168,6 +177,7 @@ module _ (schema : Schema) where
   abbrev pub visible_table : Entry → Scope
   visible_table e = (record { name = Named e.name; columns = e.table.columns } ∷ []) ∷ []
 
+  -- each assignment in order: its column, which isn't assigned before, its operand, its type
   abbrev pub walk_assignments : Entry → List ℕ → List text.Assignment → Result (List Assignment) Refusal
   walk_assignments e taken [] = Ok []
   walk_assignments e taken (a ∷ rest) =
@@ -178,6 +188,7 @@ module _ (schema : Schema) where
       (and_then (walk_assignments e (c.0 ∷ taken) rest) (λ others.
       Ok (record { place = c.0; operand = x.0 } ∷ others))))))
 
+  -- a statement: its table, and then its rows, its query, or its assignments and its condition
   abbrev pub walk_change : text.Change → Result Statement Refusal
   walk_change (text.insert_rows name rows) =
       and_then (table_named schema name) (λ e. and_then (in_order (λ row. fitting (map type_of row) e.table.columns) rows) (λ _. Ok (InsertRows e.id rows)))
@@ -189,6 +200,7 @@ module _ (schema : Schema) where
       and_then (table_named schema name) (λ e. and_then (walk_assignments e [] assignments) (λ places.
       and_then (walk_filter filter (visible_table e)) (λ c. Ok (Update e.id places c))))
 
+  -- an action of a rule
   abbrev pub walk_action : text.Action → Result Action Refusal
   walk_action (text.changes c) = and_then (walk_change c) (λ s. Ok (action.Change s))
   walk_action text.rolls_back = Ok action.Rollback

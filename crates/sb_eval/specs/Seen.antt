@@ -13,9 +13,11 @@ pub record Seen : Type 0 where
   pub transition : Transition
   pub who : Who
 
+-- outside of a rule there are no transition tables
 abbrev pub no_transition : Transition
 no_transition = record { inserted = []; deleted = []; old_updated = []; new_updated = [] }
 
+-- the rows of a source
 abbrev pub rows_in : Seen → Source → List (List Value)
 rows_in seen (Table t) = values (table_at seen.tables t)
 rows_in seen Inserted = seen.transition.inserted

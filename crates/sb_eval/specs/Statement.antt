@@ -39,6 +39,7 @@ abbrev mutual
   pub query_sources : Query → List Source
   query_sources (select items sources c) = sources ++ sources_of c
 
+-- the sources of the assignments' queries, in order
 abbrev pub assignment_sources : List Assignment → List Source
 assignment_sources [] = []
 assignment_sources (a ∷ rest) = operand_sources a.operand ++ assignment_sources rest
@@ -51,6 +52,7 @@ read_of source.Deleted = None
 read_of source.OldUpdated = None
 read_of source.NewUpdated = None
 
+-- the lock list of a query
 abbrev pub query_locks : Query → List (ℕ × Mode)
 query_locks q = filter_map read_of (query_sources q)
 
@@ -58,9 +60,11 @@ query_locks q = filter_map read_of (query_sources q)
 abbrev pub write_of : ℕ → ℕ × Mode → ℕ × Mode
 write_of target r = if r.0 == target then (target, Write) else r
 
+-- the lock list of a statement with this target and these sources
 abbrev pub target_locks : ℕ → List Source → List (ℕ × Mode)
 target_locks target sources = (target, Write) ∷ map (write_of target) (filter_map read_of sources)
 
+-- the lock list of a statement
 abbrev pub statement_locks : Statement → List (ℕ × Mode)
 statement_locks (InsertRows t rows) = target_locks t []
 statement_locks (InsertQuery t q) = target_locks t (query_sources q)
@@ -69,18 +73,23 @@ statement_locks (Update t assignments c) = target_locks t (assignment_sources as
 
 -- ---- cost
 
+-- the most that a statement may cost
 abbrev pub cost_limit : ℕ
 cost_limit = 2 ^ 20
 
+-- the most rows of a table, and of a select command
 abbrev pub row_limit : ℕ
 row_limit = 4096
 
+-- how many rows a source has
 abbrev pub row_count : Seen → Source → ℕ
 row_count seen s = length (rows_in seen s)
 
+-- so many for each row of the target
 abbrev pub target_cost : Seen → ℕ → ℕ → ℕ
 target_cost seen t subqueries = length (table_at seen.tables t).rows * (1 + subqueries)
 
+-- the cost of a statement
 abbrev pub statement_cost : Seen → Statement → ℕ
 statement_cost seen (InsertRows t rows) = 0
 statement_cost seen (InsertQuery t q) = query_cost (row_count seen) q
@@ -89,6 +98,7 @@ statement_cost seen (Update t assignments c) = target_cost seen t (sum (map (λ 
 
 -- ---- rows and changes
 
+-- what has no value overflows
 abbrev pub or_overflow : {A : Type 0} → Option A → Result A Refusal
 or_overflow None = Err Overflow
 or_overflow (Some a) = Ok a
@@ -97,6 +107,7 @@ or_overflow (Some a) = Ok a
 abbrev pub within_cost : {A : Type 0} → ℕ → Option A → Result A Refusal
 within_cost cost given = if nat_lt cost_limit cost then Err TooBig else or_overflow given
 
+-- what is given within the limit of rows, or the refusal
 abbrev pub within_rows : {A : Type 0} → (A → ℕ) → Result A Refusal → Result A Refusal
 within_rows count (Err e) = Err e
 within_rows count (Ok a) = if nat_lt row_limit (count a) then Err TooManyRows else Ok a
@@ -109,6 +120,7 @@ condition_rows seen q = within_cost (query_cost (row_count seen) q) (rows_of (ro
 abbrev pub select_rows : Seen → Query → Result (List (List Value)) Refusal
 select_rows seen q = within_rows length (condition_rows seen q)
 
+-- the insert of a row under a number
 abbrev pub insert_change : Seen → ℕ → ℕ → List Value → Change
 insert_change seen t number row = record {
   tenant = seen.who.tenant;
@@ -121,6 +133,7 @@ insert_change seen t number row = record {
   columns = set_of [];
 }
 
+-- the delete of a numbered row
 abbrev pub delete_change : Seen → ℕ → ℕ × List Value → Change
 delete_change seen t r = record {
   tenant = seen.who.tenant;
@@ -133,6 +146,7 @@ delete_change seen t r = record {
   columns = set_of [];
 }
 
+-- the update of a numbered row to another row
 abbrev pub update_change : Seen → ℕ → List Bool → ℕ × List Value → List Value → Change
 update_change seen t columns r row = record {
   tenant = seen.who.tenant;
@@ -150,6 +164,7 @@ abbrev pub insert_changes : Seen → ℕ → ℕ → List (List Value) → List 
 insert_changes seen t n [] = []
 insert_changes seen t n (row ∷ rows) = insert_change seen t n row ∷ insert_changes seen t (n + 1) rows
 
+-- what the condition and the operands see of a numbered row
 abbrev pub scope_of : ℕ × List Value → Scope
 scope_of r = (r.1 ∷ []) ∷ []
 
@@ -162,12 +177,15 @@ abbrev pub assigned : Seen → Scope → List Assignment → List Value → Opti
 assigned seen scope [] row = Some row
 assigned seen scope (a ∷ rest) row = both (λ v new. Some (slice_set new a.place v)) (operand_value (rows_in seen) a.operand scope) (assigned seen scope rest row)
 
+-- the columns that an update names
 abbrev pub places_of : List Assignment → List Bool
 places_of assignments = set_of (map (λ a. a.place) assignments)
 
+-- the update of a numbered row
 abbrev pub update_of : Seen → ℕ → List Assignment → ℕ × List Value → Option Change
 update_of seen t assignments r = option_map (update_change seen t (places_of assignments) r) (assigned seen (scope_of r) assignments r.1)
 
+-- the changes of a statement, or none where it overflows
 abbrev pub changes_by : Seen → Statement → Option (List Change)
 changes_by seen (InsertRows t rows) = Some (insert_changes seen t (table_at seen.tables t).next rows)
 changes_by seen (InsertQuery t q) = option_map (insert_changes seen t (table_at seen.tables t).next) (rows_of (rows_in seen) q [])

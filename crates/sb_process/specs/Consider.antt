@@ -25,6 +25,7 @@ with_request setting progress request next =
       | None ↦ next (record progress { locks = with_locks progress.locks setting.who.session request })
     ]
 
+-- the changes of a statement at the end of the list
 abbrev pub with_changes : Progress → Result (List Change) Refusal → Result Progress Refusal
 with_changes progress (Err refusal) = Err refusal
 with_changes progress (Ok changes) = Ok (record progress { changes = progress.changes ++ changes })
@@ -40,6 +41,7 @@ pub data Ending : Type 0 where
   rolled_back : Ending
   refused : Refusal → Ending
 
+-- the actions in order, up to a `rollback` or a refusal
 abbrev pub run_actions : Setting → Transition → List Action → Progress → Ending
 run_actions setting tables [] progress = ran progress
 run_actions setting tables (action.Rollback ∷ actions) progress = rolled_back
@@ -54,11 +56,13 @@ abbrev pub test_rows : Progress → Result (List (List Value)) Refusal → Resul
 test_rows progress (Err refusal) = Err refusal
 test_rows progress (Ok rows) = Ok (has_row rows, progress)
 
+-- a rule without a condition goes on
 abbrev pub test_condition : Setting → Transition → Option Query → Progress → Result (Bool × Progress) Refusal
 test_condition setting tables None progress = Ok (true, progress)
 test_condition setting tables (Some q) progress =
     with_request setting progress (query_locks q) (λ p. test_rows p (condition_rows (seen_with setting tables p) q))
 
+-- what a consideration came to
 pub data Considered : Type 0 where
   was_false : Progress → Considered
   was_true : Ending → Considered

@@ -13,12 +13,15 @@ pub record Processing : Type 0 where
   pub trace : List (ℕ × Verdict)
   pub progress : Progress
 
+-- processing that ends here
 abbrev pub ended : Outcome → List (ℕ × Verdict) → Progress → Processing
 ended outcome trace progress = record { outcome = outcome; trace = trace; progress = progress }
 
+-- a verdict before the others
 abbrev pub after_verdict : ℕ × Verdict → Processing → Processing
 after_verdict v p = record p { trace = v ∷ p.trace }
 
+-- none is triggered: done; no consideration is left: the limit; else the next rule is considered, and so on
 abbrev pub process : ℕ → Setting → (ℕ → Bool) → Progress → Processing
 process zero setting eligible progress =
     elim (next_rule setting eligible progress) [

@@ -24,6 +24,7 @@ pub record Progress : Type 0 where
   pub marks : ℕ → ℕ
   pub locks : Locks
 
+-- the tables with the transaction's changes
 abbrev pub tables_seen : Setting → Progress → List Entry
 tables_seen setting progress = after_all progress.changes setting.base
 
@@ -31,9 +32,11 @@ tables_seen setting progress = after_all progress.changes setting.base
 abbrev pub transition : Progress → Rule → List Change
 transition progress rule = drop (progress.marks rule.id) progress.changes
 
+-- whether a rule is triggered by its transition
 abbrev pub rule_is_triggered : Progress → Rule → Bool
 rule_is_triggered progress rule = is_triggered rule.triggers rule.table (transition progress rule)
 
+-- the transition tables of a rule's transition
 abbrev pub rule_tables : Progress → Rule → Transition
 rule_tables progress rule = transition_tables rule.triggers rule.table (transition progress rule)
 
@@ -41,6 +44,7 @@ rule_tables progress rule = transition_tables rule.triggers rule.table (transiti
 abbrev pub marked : Rule → Progress → Progress
 marked rule progress = record progress { marks = λ id. if id == rule.id then length progress.changes else progress.marks id }
 
+-- what a statement sees, with these transition tables
 abbrev pub seen_with : Setting → Transition → Progress → Seen
 seen_with setting tables progress = record { tables = tables_seen setting progress; transition = tables; who = setting.who }
 
@@ -48,6 +52,7 @@ seen_with setting tables progress = record { tables = tables_seen setting progre
 abbrev pub is_candidate : (ℕ → Bool) → Progress → Rule → Bool
 is_candidate eligible progress rule = eligible rule.id && rule_is_triggered progress rule
 
+-- of the candidates, the earliest created one that no other of them precedes
 abbrev pub next_rule : Setting → (ℕ → Bool) → Progress → Option Rule
 next_rule setting eligible progress =
     option_and_then (λ id. find (λ rule. rule.id == id) setting.rules)

@@ -24,10 +24,12 @@ use Rattle.sb_tenant.specs.Resolved.{Resolved, open_session, end_session, begin,
 
 -- ---- statements
 
+-- the rows of a select, or its refusal
 abbrev pub reply_rows : Result (List (List Value)) Refusal → Reply
 reply_rows (Err refusal) = reply.No refusal
 reply_rows (Ok rows) = reply.Rows rows
 
+-- a select with its locks taken
 abbrev pub select_seen : ℕ → State → ℕ → Query → Progress → State × Reply
 select_seen tenant state s q progress =
     (with_progress state s progress, reply_rows (select_rows (seen_with (setting_of tenant state s) no_transition progress) q))
@@ -46,15 +48,18 @@ with_request state s request next =
       | None ↦ next (record (progress_of state s) { locks = with_locks state.locks s request })
     ]
 
+-- a statement with its locks taken
 abbrev pub perform_change : ℕ → State → ℕ → Statement → Progress → State × Reply
 perform_change tenant state s statement progress =
     change_seen state s progress (statement_changes (seen_with (setting_of tenant state s) no_transition progress) statement)
 
 -- ---- assertion points
 
+-- the trace with the rules' names
 abbrev pub named : Catalog → List (ℕ × Verdict) → List (List ℕ × Verdict)
 named catalog trace = map (λ v. (rule_name catalog v.0, v.1)) trace
 
+-- the reply of an assertion point
 abbrev pub reply_of : Catalog → Outcome → List (List ℕ × Verdict) → Reply
 reply_of catalog Done trace = reply.Done trace
 reply_of catalog (ByRule r) trace = reply.ByRule (rule_name catalog r) trace
@@ -68,22 +73,27 @@ stands_after state s finish (ByRule r) progress = rolled_back state s
 stands_after state s finish (ByError r refusal) progress = rolled_back state s
 stands_after state s finish ByLimit progress = rolled_back state s
 
+-- what stands after processing, and the reply
 abbrev pub after_processing : State → ℕ → (State → State) → Processing → State × Reply
 after_processing state s finish p =
     (stands_after state s finish p.outcome p.progress, reply_of state.catalog p.outcome (named state.catalog p.trace))
 
+-- the rules that are eligible here are processed
 abbrev pub process_at : ℕ → ℕ → State → ℕ → (ℕ → Bool) → (State → State) → State × Reply
 process_at tenant bound state s eligible finish =
     after_processing state s finish (process bound (setting_of tenant state s) eligible (progress_of state s))
 
+-- after `process` the transaction goes on
 abbrev pub stays : State → State
 stays state = state
 
 -- ---- all commands
 
+-- a command that defines something is answered `ok`
 abbrev pub defined : State → Catalog → State × Reply
 defined state catalog = (record state { catalog = catalog }, reply.Ok)
 
+-- what each command does
 abbrev pub perform : ℕ → ℕ → State → ℕ → Resolved → State × Reply
 perform tenant bound state s open_session = (with_session state s idle, reply.Ok)
 perform tenant bound state s end_session = (with_session (rolled_back state s) s closed, reply.Ok)

@@ -16,6 +16,7 @@ pub record NewRule : Type 0 where
   pub precedes : List ℕ
   pub follows : List ℕ
 
+-- tables and rules by their ids, rulesets by their names
 pub data Resolved : Type 0 where
   open_session : Resolved
   end_session : Resolved

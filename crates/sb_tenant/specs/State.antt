@@ -20,6 +20,7 @@ pub record Catalog : Type 0 where
   pub rulesets : List (List ℕ × List Bool)
   pub pairs : List (ℕ × ℕ)
 
+-- the catalog with the committed tables, the locks, the sessions and the number of steps
 pub record State : Type 0 where
   pub catalog : Catalog
   pub locks : Locks
@@ -27,6 +28,7 @@ pub record State : Type 0 where
   -- how many steps were made
   pub steps : ℕ
 
+-- at first there is nothing, and all sessions are closed
 abbrev pub opening : State
 opening = record {
   catalog = record { tables = []; rules = []; rulesets = []; pairs = [] };
@@ -35,17 +37,21 @@ opening = record {
   steps = 0;
 }
 
+-- the session of that number
 abbrev pub session_at : State → ℕ → Session
 session_at state s = state.sessions s
 
+-- the state with one session put anew
 abbrev pub with_session : State → ℕ → Session → State
 with_session state s session = record state { sessions = λ o. if o == s then session else session_at state o }
 
+-- whether a session is open
 abbrev pub is_open : Session → Bool
 is_open closed = false
 is_open idle = true
 is_open (active changes marks) = true
 
+-- whether a session has a transaction
 abbrev pub has_transaction : Session → Bool
 has_transaction closed = false
 has_transaction idle = false
@@ -55,16 +61,19 @@ has_transaction (active changes marks) = true
 abbrev pub open_count : State → ℕ
 open_count state = count_by (λ s. is_open (session_at state s)) sessions
 
+-- the changes of its transaction
 abbrev pub changes_of : Session → List Change
 changes_of closed = []
 changes_of idle = []
 changes_of (active changes marks) = changes
 
+-- the marks of its transaction
 abbrev pub marks_of : Session → ℕ → ℕ
 marks_of closed id = 0
 marks_of idle id = 0
 marks_of (active changes marks) id = marks id
 
+-- whether another session has a transaction
 abbrev pub another_has_transaction : State → ℕ → Bool
 another_has_transaction state s = list_any (λ o. not (o == s) && has_transaction (session_at state o)) sessions
 
@@ -72,9 +81,11 @@ another_has_transaction state s = list_any (λ o. not (o == s) && has_transactio
 abbrev pub tables_without : State → ℕ → List Entry
 tables_without state s = after_all (flat_map (λ o. changes_of (session_at state o)) (filter (λ o. not (o == s)) sessions)) state.catalog.tables
 
+-- with the changes of all sessions
 abbrev pub tables_seen : State → List Entry
 tables_seen state = after_all (flat_map (λ o. changes_of (session_at state o)) sessions) state.catalog.tables
 
+-- what rule processing in a session works on
 abbrev pub setting_of : ℕ → State → ℕ → Setting
 setting_of tenant state s = record {
   who = record { tenant = tenant; session = s };
@@ -83,6 +94,7 @@ setting_of tenant state s = record {
   base = tables_without state s;
 }
 
+-- where its transaction stands
 abbrev pub progress_of : State → ℕ → Progress
 progress_of state s = record { changes = changes_of (session_at state s); marks = marks_of (session_at state s); locks = state.locks }
 

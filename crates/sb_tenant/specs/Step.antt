@@ -17,6 +17,7 @@ use Rattle.sb_tenant.specs.Perform.{perform}
 abbrev pub is_end_of_open : State → ℕ → List ℕ → Bool
 is_end_of_open state s line = is_open (session_at state s) && same_name line (codes "end")
 
+-- the trail has no place for this line
 abbrev pub is_full_for : State → ℕ → List ℕ → Bool
 is_full_for state s line = nat_le trail_limit state.steps && not (is_end_of_open state s line)
 
@@ -25,6 +26,7 @@ abbrev pub first_of : Bool → Refusal → Option Refusal → Option Refusal
 first_of true r others = Some r
 first_of false r others = others
 
+-- by what a command asks of its session
 abbrev pub session_refusal : Class → State → ℕ → Option Refusal
 session_refusal opens state s = first_of (is_open (session_at state s)) refusal.AlreadyOpen None
 session_refusal ends state s = first_of (not (is_open (session_at state s))) refusal.NotOpen None
@@ -51,9 +53,11 @@ module _ (language : Language) (tenant bound : ℕ) where
   outcome_of state s None (Err r) = (state, No r)
   outcome_of state s None (Ok resolved) = perform tenant bound state s resolved
 
+  -- a command, in a session
   abbrev pub reply_to_command : State → ℕ → Command → State × Reply
   reply_to_command state s command = outcome_of state s (session_refusal (class_of command) state s) (walk state.catalog command)
 
+  -- a line, in a session
   abbrev pub reply_to : State → ℕ → List ℕ → State × Reply
   reply_to state s line =
       elim (language line) [
@@ -61,6 +65,7 @@ module _ (language : Language) (tenant bound : ℕ) where
         | Some command ↦ reply_to_command state s command
       ]
 
+  -- a full trail refuses, and nothing changes; else the line is answered, and its answer numbered
   abbrev pub step : State → ℕ → List ℕ → State × Answer
   step state s line =
       elim (is_full_for state s line) [

@@ -12,6 +12,7 @@ abbrev pub is_table : TableReference → Bool
 is_table (Named name) = true
 is_table transition = false
 
+-- a table without an alias
 abbrev pub is_plain_source : SourceReference → Bool
 is_plain_source s = is_table s.table && is_none s.alias
 
@@ -20,10 +21,12 @@ abbrev pub is_whole_table : Query → Bool
 is_whole_table (select all (s ∷ []) everything) = is_plain_source s
 is_whole_table q = false
 
+-- an insert of values
 abbrev pub is_supported_change : Change → Bool
 is_supported_change (insert_rows name rows) = true
 is_supported_change other = false
 
+-- which commands the engine handles
 abbrev pub is_supported : Command → Bool
 is_supported open_session = true
 is_supported end_session = true
@@ -35,6 +38,7 @@ is_supported (query q) = is_whole_table q
 is_supported (change c) = is_supported_change c
 is_supported other = false
 
+-- others are no commands of the engine
 abbrev pub if_supported : Option Command → Option Command
 if_supported None = None
 if_supported (Some command) = if is_supported command then Some command else None

@@ -17,10 +17,12 @@ after_abort state s = record (elim (has_transaction (session_at state s)) [ true
 abbrev pub MayAbort : State → ℕ → List ℕ → Type 0
 MayAbort state s line = IsFalse (is_full_for state s line) × IsFalse (is_end_of_open state s line)
 
+-- the reply of an abort
 abbrev pub is_no_memory : Reply → Bool
 is_no_memory (No NoMemory) = true
 is_no_memory reply = false
 
+-- the entry of a line and its reply
 abbrev pub entry_of : ℕ → List ℕ → Reply → Entry
 entry_of s line reply = record { session = s; line = line; reply = reply }
 
@@ -38,6 +40,7 @@ module _ (language : Language) (tenant bound : ℕ) where
   abbrev pub IsNext : State → Entry → State → Type 0
   IsNext before entry after = IsTrue (is_session entry.session) × (IsStep before entry after ⊎ IsAbort before entry after)
 
+  -- each entry in turn may come next
   abbrev pub IsLegal : State → List Entry → State → Type 0
   IsLegal before [] after = after ≡ before
   IsLegal before (entry ∷ entries) after = (mid : State) × IsNext before entry mid × IsLegal mid entries after
@@ -49,10 +52,12 @@ module _ (language : Language) (tenant bound : ℕ) where
   after_entry state entry =
       elim (is_no_memory entry.reply) [ true ↦ after_abort state entry.session | false ↦ (step language tenant bound state entry.session entry.line).0 ]
 
+  -- one entry after another
   abbrev pub replayed : State → List Entry → State
   replayed state [] = state
   replayed state (entry ∷ entries) = replayed (after_entry state entry) entries
 
+  -- from the opening state
   abbrev pub state_of : List Entry → State
   state_of trail = replayed opening trail
 
@@ -76,6 +81,7 @@ module _ (language : Language) (tenant bound : ℕ) where
   abbrev pub IsNotBegun : List Entry → ℕ → List ℕ → List Entry → Type 0
   IsNotBegun trail s line new = (new ≡ trail) × MayAbort (state_of trail) s line
 
+  -- so a call that makes a step leaves the trail
   abbrev pub Steps : List Entry → ℕ → List ℕ → Answer → List Entry → Type 0
   Steps trail s line answer new = Extends trail s line answer new ⊎ IsFull trail s line answer new
 

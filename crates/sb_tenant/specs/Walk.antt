@@ -23,9 +23,11 @@ use Rattle.sb_tenant.specs.State.{Catalog}
 use Rattle.sb_tenant.specs.Catalog.{free_rule, pairs_from}
 use Rattle.sb_tenant.specs.Resolved.{Class, opens, ends, begins, defines, works, NewRule, Resolved, open_session, end_session, begin, commit, rollback, process_rules, process_ruleset, process_rule, create_table, drop_table, create_rule, drop_rule, activate_rule, deactivate_rule, create_ruleset, drop_ruleset, add_rules, del_rules, query, change}
 
+-- the id of the rule of that name
 abbrev pub rule_named : Catalog → Name → Result ℕ Refusal
 rule_named catalog name = some_or refusal.NoRule (option_map (λ r. r.id) (find (λ r. same_name r.name name) catalog.rules))
 
+-- whether there is a ruleset of that name
 abbrev pub has_ruleset : Catalog → Name → Bool
 has_ruleset catalog name = list_any (λ s. same_name s.0 name) catalog.rulesets
 
@@ -34,25 +36,30 @@ abbrev pub action_names : ℕ → Action → Bool
 action_names id action.Rollback = false
 action_names id (action.Change s) = list_any (λ l. l.0 == id) (statement_locks s)
 
+-- whether a condition names the table
 abbrev pub condition_names : ℕ → Option Query → Bool
 condition_names id None = false
 condition_names id (Some q) = list_any (λ l. l.0 == id) (query_locks q)
 
+-- whether a rule is on the table or names it
 abbrev pub rule_names : ℕ → Rule → Bool
 rule_names id rule = (rule.table == id) || (condition_names id rule.condition || list_any (action_names id) rule.actions)
 
+-- whether a column is named twice
 abbrev pub named_twice : List ColumnDefinition → Bool
 named_twice [] = false
 named_twice (c ∷ cs) = list_any (λ d. same_name c.name d.name) cs || named_twice cs
 
 -- ---- rules
 
+-- the places of the columns that a trigger lists, in order
 abbrev pub trigger_places : Entry → Trigger → Result (List ℕ) Refusal
 trigger_places e on_insert = Ok []
 trigger_places e on_delete = Ok []
 trigger_places e on_update = Ok []
 trigger_places e (on_update_of names) = in_order (λ name. some_or refusal.NoColumn (option_map (λ c. c.0) (column_in e.table.columns name))) names
 
+-- which operation a trigger names
 abbrev pub is_insert : Trigger → Bool
 is_insert on_insert = true
 is_insert on_delete = false
@@ -71,10 +78,12 @@ is_update on_delete = false
 is_update on_update = true
 is_update (on_update_of names) = false
 
+-- the lists, one after another
 abbrev pub joined : List (List ℕ) → List ℕ
 joined [] = []
 joined (p ∷ ps) = p ++ joined ps
 
+-- the triggers as a set of operations and a set of columns
 abbrev pub walk_triggers : Entry → List Trigger → Result Triggers Refusal
 walk_triggers e triggers =
     and_then (in_order (trigger_places e) triggers) (λ places. Ok (record {
@@ -84,6 +93,7 @@ walk_triggers e triggers =
       columns = set_of (joined places);
     }))
 
+-- the condition of a rule, if it has one
 abbrev pub rule_condition : Schema → Option text.Query → Result (Option Query) Refusal
 rule_condition schema None = Ok None
 rule_condition schema (Some q) = and_then (walk_query schema q []) (λ w. Ok (Some w.0))
@@ -94,6 +104,7 @@ acyclic catalog new =
     let id = free_rule catalog in
     required (not (precedes (catalog.pairs ++ pairs_from id new) id id)) refusal.Cycle (Ok (create_rule new))
 
+-- a new rule: its name, its table, its triggers, its condition, its actions, its lists, the limit, a cycle
 abbrev pub walk_rule : Catalog → RuleText → Result Resolved Refusal
 walk_rule catalog r =
     required (not (list_any (λ old. same_name old.name r.name) catalog.rules)) refusal.RuleExists
@@ -117,19 +128,24 @@ walk_rule catalog r =
 
 -- ---- all commands
 
+-- what a statement outside of rules may name
 abbrev pub outside_rules : Catalog → Schema
 outside_rules catalog = record { tables = catalog.tables; rule = None }
 
+-- a command on a rule
 abbrev pub of_rule : Catalog → Name → (ℕ → Resolved) → Result Resolved Refusal
 of_rule catalog name form = and_then (rule_named catalog name) (λ id. Ok (form id))
 
+-- a command on a ruleset
 abbrev pub of_ruleset : Catalog → Name → Resolved → Result Resolved Refusal
 of_ruleset catalog name form = required (has_ruleset catalog name) refusal.NoRuleset (Ok form)
 
+-- a command on members of a ruleset
 abbrev pub of_members : Catalog → Name → List Name → (List ℕ → Resolved) → Result Resolved Refusal
 of_members catalog name rules form =
     required (has_ruleset catalog name) refusal.NoRuleset (and_then (in_order (rule_named catalog) rules) (λ ids. Ok (form ids)))
 
+-- each command, in the order in which it is refused
 abbrev pub walk : Catalog → Command → Result Resolved Refusal
 walk catalog text.open_session = Ok open_session
 walk catalog text.end_session = Ok end_session
@@ -159,6 +175,7 @@ walk catalog (text.del_rules name rules) = of_members catalog name rules (del_ru
 walk catalog (text.query q) = and_then (walk_query (outside_rules catalog) q []) (λ w. Ok (query w.0))
 walk catalog (text.change c) = and_then (walk_change (outside_rules catalog) c) (λ s. Ok (change s))
 
+-- what each command asks of its session
 abbrev pub class_of : Command → Class
 class_of text.open_session = opens
 class_of text.end_session = ends

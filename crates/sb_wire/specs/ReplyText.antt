@@ -19,18 +19,22 @@ words ws = join_with_byte 32 ws
 abbrev pub refusal_words : Refusal → List (List ℕ)
 refusal_words r = decimal (refusal_number r) ∷ refusal_name r ∷ []
 
+-- the table of a refused lock
 abbrev pub table_words : Refusal → List (List ℕ)
 table_words (refusal.Locked table) = table ∷ []
 table_words r = []
 
+-- the values of a row
 abbrev pub row_text : List Value → List ℕ
 row_text row = join_with_byte 44 (map value_text row)
 
+-- the word for a verdict
 abbrev pub verdict_word : Verdict → List ℕ
 verdict_word verdict.True = codes "true"
 verdict_word verdict.False = codes "false"
 verdict_word verdict.Error = codes "error"
 
+-- a considered rule and its verdict
 abbrev pub trace_line : List ℕ × Verdict → List ℕ
 trace_line v = words (v.0 ∷ verdict_word v.1 ∷ [])
 
@@ -38,6 +42,7 @@ trace_line v = words (v.0 ∷ verdict_word v.1 ∷ [])
 abbrev pub counted : List (List ℕ) → List (List ℕ) → List (List ℕ)
 counted first lines = words (first ++ decimal (length lines) ∷ []) ∷ lines
 
+-- the lines of each reply
 abbrev pub reply_lines : Reply → List (List ℕ)
 reply_lines reply.Ok = codes "ok" ∷ []
 reply_lines (reply.Count n) = words (codes "ok" ∷ decimal n ∷ []) ∷ []

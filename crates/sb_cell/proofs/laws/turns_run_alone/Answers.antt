@@ -1,0 +1,5 @@
+use Rattle.sb_cell.proofs.Turns as turns
+use Rattle.sb_cell.proofs.laws.turns_run_alone.Goals as goal
+
+pub returns : goal.returns
+returns c = turns.turns_run_alone
