@@ -11,6 +11,7 @@ pub mod CompleteQueries
 pub mod CompleteCommands
 pub mod ScanLaws
 pub mod Bytes
+pub mod WordLaws
 pub mod TokenSound
 pub mod TokenReads
 pub mod TextLaws

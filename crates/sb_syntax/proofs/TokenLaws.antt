@@ -107,7 +107,3 @@ bytes_of-has kind [] rest text e = absurd (cc)
 bytes_of-has kind (t ∷ ts) rest text e =
     let p = guarded_pair (same_kind t.kind kind) t.text text ts rest e in
     subst (λ (x : List ℕ). Has kind x (t ∷ ts) rest) p.1 (subst (λ (x : Input). Has kind t.text (t ∷ ts) x) p.2 (of_bytes t kind ts (same_kind-true t.kind kind p.0)))
-
-pub has-bytes_of : (kind : Kind) (text : List ℕ) (ts rest : Input) → Has kind text ts rest → bytes_of kind ts ≡ Some (text, rest)
-unfolding bytes_of
-has-bytes_of kind text ts rest has = ap (λ b. cond b (Some (text, rest)) None) (same_kind-refl kind)

@@ -18,7 +18,8 @@ pub const MAX_DEPTH: usize = 4;
 
 #[tactic(auto, unfolding(crate::specs::Reading::separated))]
 fn literals(alloc: Global, tokens: &mut Cursor<'_>) -> Result<Vec<Value>, Fault>
-    ensures { Gives (λ v. v.items) (spec.separated Kind.Comma spec.literal_value tokens.old) result tokens.old tokens.new }
+    ensures { Gives (λ v. v.items)
+        (spec.separated Kind.Comma spec.literal_value tokens.old) result tokens.old tokens.new }
 {
     let mut all = Vec::new(alloc);
     let first = literal_value(alloc, tokens)?;
@@ -43,7 +44,8 @@ fn tuple(alloc: Global, tokens: &mut Cursor<'_>) -> Result<Vec<Value>, Fault>
 
 #[tactic(auto, unfolding(crate::specs::Reading::separated))]
 fn tuples(alloc: Global, tokens: &mut Cursor<'_>) -> Result<Vec<Vec<Value>>, Fault>
-    ensures { Gives (λ v. map (λ t. t.items) v.items) (spec.separated Kind.Comma spec.tuple tokens.old) result tokens.old tokens.new }
+    ensures { Gives (λ v. map (λ t. t.items) v.items)
+        (spec.separated Kind.Comma spec.tuple tokens.old) result tokens.old tokens.new }
 {
     let mut all = Vec::new(alloc);
     let first = tuple(alloc, tokens)?;
@@ -91,7 +93,8 @@ fn assignment(alloc: Global, tokens: &mut Cursor<'_>) -> Result<Assignment, Faul
 
 #[tactic(auto, unfolding(crate::specs::Reading::separated))]
 fn assignments(alloc: Global, tokens: &mut Cursor<'_>) -> Result<Vec<Assignment>, Fault>
-    ensures { Gives (λ v. map view.assignment v.items) (spec.separated Kind.Comma spec.assignment tokens.old) result tokens.old tokens.new }
+    ensures { Gives (λ v. map view.assignment v.items)
+        (spec.separated Kind.Comma spec.assignment tokens.old) result tokens.old tokens.new }
 {
     let mut all = Vec::new(alloc);
     let first = assignment(alloc, tokens)?;

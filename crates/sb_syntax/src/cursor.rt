@@ -141,7 +141,8 @@ impl<'a> Cursor<'a> {
     /// The bytes of the next token, if it is of this kind.
     #[tactic(auto, unfolding(crate::specs::Reading::bytes_of, crate::specs::Reading::next))]
     pub fn bytes_of(&self, kind: Kind) -> Option<&'a [u8]>
-        ensures { spec.bytes_of kind self.now ≡ option_map (λ bytes. (bytes.now, spec.next self.now)) result }
+        ensures { spec.bytes_of kind self.now
+            ≡ option_map (λ bytes. (bytes.now, spec.next self.now)) result }
     {
         match self.tokens {
             [token, ..] if same_kind(token.kind, kind) => Some(&self.text[token.start..token.end]),

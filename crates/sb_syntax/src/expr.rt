@@ -106,7 +106,8 @@ fn adds(kind: Option<Kind>) -> Option<Arithmetic>
 }
 
 fn binary(alloc: Global, a: Expr, op: Arithmetic, b: Expr) -> Result<Expr, AllocError>
-    ensures { IfOk result (λ e. view.expression e ≡ tree.binary (view.expression a) op (view.expression b)) }
+    ensures { IfOk result (λ e. view.expression e
+        ≡ tree.binary (view.expression a) op (view.expression b)) }
 {
     Ok(Expr::Binary(Box::new(alloc, a)?, op, Box::new(alloc, b)?))
 }

@@ -56,11 +56,16 @@ const LIMIT: u64 = 0x8000_0000_0000_0000;
 fn decimal(digits: &[u8]) -> u64
     ensures { result ≡ min (lit.decimal digits.now) (2 ^ 63 + 1) }
 {
-    let mut n: u128 = 0;
+    let mut n: u64 = 0;
     for b in digits {
-        n = (10 * n + u128::from(b.saturating_sub(b'0'))).min(0x8000_0000_0000_0001);
+        let digit = u64::from(b.saturating_sub(b'0'));
+        n = if n > LIMIT / 10 {
+            LIMIT + 1
+        } else {
+            (10 * n + digit).min(LIMIT + 1)
+        };
     }
-    n as u64
+    n
 }
 
 #[tactic(auto, unfolding(crate::specs::Reading::integer))]
@@ -101,7 +106,7 @@ fn minus(tokens: &mut Cursor<'_>) -> Result<Value, Fault>
 fn unquoted(alloc: Global, quoted: &[u8]) -> Result<Vec<u8>, AllocError>
     ensures { IfOk result (λ v. v.items ≡ lit.unquoted quoted.now) }
 {
-    let mut value = Vec::new(alloc);
+    let mut value = Vec::with_capacity(alloc, quoted.len())?;
     let mut rest = if let [_, rest @ ..] = quoted {
         rest
     } else {
@@ -111,7 +116,7 @@ fn unquoted(alloc: Global, quoted: &[u8]) -> Result<Vec<u8>, AllocError>
         if after.is_empty() {
             break;
         }
-        value.push(*b)?;
+        value.push_reserved(*b);
         rest = if *b == 39 { &after[1..] } else { after };
     }
     Ok(value)

@@ -31,13 +31,15 @@ fn comparison_of(kind: Option<Kind>) -> Option<Comparison>
 }
 
 fn disjunction(alloc: Global, a: Condition, b: Condition) -> Result<Condition, AllocError>
-    ensures { IfOk result (λ c. view.condition c ≡ tree.disjunction (view.condition a) (view.condition b)) }
+    ensures { IfOk result (λ c. view.condition c
+        ≡ tree.disjunction (view.condition a) (view.condition b)) }
 {
     Ok(Condition::Disjunction(Box::new(alloc, a)?, Box::new(alloc, b)?))
 }
 
 fn conjunction(alloc: Global, a: Condition, b: Condition) -> Result<Condition, AllocError>
-    ensures { IfOk result (λ c. view.condition c ≡ tree.conjunction (view.condition a) (view.condition b)) }
+    ensures { IfOk result (λ c. view.condition c
+        ≡ tree.conjunction (view.condition a) (view.condition b)) }
 {
     Ok(Condition::Conjunction(Box::new(alloc, a)?, Box::new(alloc, b)?))
 }
@@ -55,7 +57,8 @@ fn exists(alloc: Global, query: Query) -> Result<Condition, AllocError>
 }
 
 fn within(alloc: Global, e: Expr, negated: bool, query: Query) -> Result<Condition, AllocError>
-    ensures { IfOk result (λ c. view.condition c ≡ tree.is_in (view.expression e) negated (view.query query)) }
+    ensures { IfOk result (λ c. view.condition c
+        ≡ tree.is_in (view.expression e) negated (view.query query)) }
 {
     Ok(Condition::In(e, negated, Box::new(alloc, query)?))
 }
@@ -70,7 +73,8 @@ fn answer(alloc: Global, query: Query) -> Result<Operand, AllocError>
 #[cycle(query)]
 #[tactic(auto, using(crate::proofs::Depth::one_deeper_query, crate::proofs::Depth::no_deeper_query), unfolding(crate::specs::Reading::subquery))]
 fn subquery(alloc: Global, tokens: &mut Cursor<'_>, depth: usize) -> Result<Query, Fault>
-    ensures { Gives view.query (spec.subquery (spec.inner_query depth) tokens.old) result tokens.old tokens.new }
+    ensures { Gives view.query
+        (spec.subquery (spec.inner_query depth) tokens.old) result tokens.old tokens.new }
 {
     if depth == 0 {
         return Err(Fault::Refused);
@@ -84,7 +88,8 @@ fn subquery(alloc: Global, tokens: &mut Cursor<'_>, depth: usize) -> Result<Quer
 #[cycle(query)]
 #[tactic(auto, unfolding(crate::specs::Reading::operand))]
 pub fn operand(alloc: Global, tokens: &mut Cursor<'_>, depth: usize) -> Result<Operand, Fault>
-    ensures { Gives view.operand (spec.operand (spec.inner_query depth) tokens.old) result tokens.old tokens.new }
+    ensures { Gives view.operand
+        (spec.operand (spec.inner_query depth) tokens.old) result tokens.old tokens.new }
 {
     if tokens.sees(Kind::LeftParen) {
         let inner = subquery(alloc, tokens, depth)?;
@@ -102,7 +107,9 @@ fn member(
     depth: usize,
     left: Expr,
 ) -> Result<Condition, Fault>
-    ensures { Gives view.condition (spec.member (spec.inner_query depth) (view.expression left) tokens.old) result tokens.old tokens.new }
+    ensures { Gives view.condition
+        (spec.member (spec.inner_query depth) (view.expression left) tokens.old)
+        result tokens.old tokens.new }
 {
     let is_negated = tokens.eat(Kind::Not);
     tokens.expect(Kind::In)?;
@@ -113,7 +120,8 @@ fn member(
 #[cycle(query)]
 #[tactic(auto, unfolding(crate::specs::Reading::predicate, crate::specs::Reading::compared_by))]
 fn predicate(alloc: Global, tokens: &mut Cursor<'_>, depth: usize) -> Result<Condition, Fault>
-    ensures { Gives view.condition (spec.predicate (spec.inner_query depth) tokens.old) result tokens.old tokens.new }
+    ensures { Gives view.condition
+        (spec.predicate (spec.inner_query depth) tokens.old) result tokens.old tokens.new }
 {
     if tokens.sees(Kind::Exists) {
         tokens.expect(Kind::Exists)?;
@@ -137,7 +145,8 @@ fn neg(
     depth: usize,
     nesting: usize,
 ) -> Result<Condition, Fault>
-    ensures { Gives view.condition (spec.neg (spec.inner_query depth) nesting tokens.old) result tokens.old tokens.new }
+    ensures { Gives view.condition
+        (spec.neg (spec.inner_query depth) nesting tokens.old) result tokens.old tokens.new }
 {
     if tokens.sees(Kind::Not) {
         if nesting == 0 {
@@ -162,7 +171,9 @@ fn group(
     depth: usize,
     nesting: usize,
 ) -> Result<Condition, Fault>
-    ensures { Gives view.condition (spec.group (spec.inner_neg (spec.inner_query depth) nesting) tokens.old) result tokens.old tokens.new }
+    ensures { Gives view.condition
+        (spec.group (spec.inner_neg (spec.inner_query depth) nesting) tokens.old)
+        result tokens.old tokens.new }
 {
     if nesting == 0 {
         return Err(Fault::Refused);
@@ -195,7 +206,9 @@ fn conj(
     depth: usize,
     nesting: usize,
 ) -> Result<Condition, Fault>
-    ensures { Gives view.condition (spec.conj (spec.neg (spec.inner_query depth) nesting) tokens.old) result tokens.old tokens.new }
+    ensures { Gives view.condition
+        (spec.conj (spec.neg (spec.inner_query depth) nesting) tokens.old)
+        result tokens.old tokens.new }
 {
     let mut left = neg(alloc, tokens, depth, nesting)?;
     'more: while ands(tokens.peek()) {
@@ -214,7 +227,9 @@ fn cond(
     depth: usize,
     nesting: usize,
 ) -> Result<Condition, Fault>
-    ensures { Gives view.condition (spec.cond (spec.neg (spec.inner_query depth) nesting) tokens.old) result tokens.old tokens.new }
+    ensures { Gives view.condition
+        (spec.cond (spec.neg (spec.inner_query depth) nesting) tokens.old)
+        result tokens.old tokens.new }
 {
     let mut left = conj(alloc, tokens, depth, nesting)?;
     'more: while ors(tokens.peek()) {
@@ -232,7 +247,8 @@ pub fn filter(
     tokens: &mut Cursor<'_>,
     depth: usize,
 ) -> Result<Option<Condition>, Fault>
-    ensures { Gives view.filter (spec.filter (spec.inner_query depth) tokens.old) result tokens.old tokens.new }
+    ensures { Gives view.filter
+        (spec.filter (spec.inner_query depth) tokens.old) result tokens.old tokens.new }
 {
     if !tokens.sees(Kind::Where) {
         return Ok(None);

@@ -54,7 +54,8 @@ fn trigger(alloc: Global, tokens: &mut Cursor<'_>) -> Result<Trigger, Fault>
 
 #[tactic(auto, unfolding(crate::specs::Reading::separated))]
 fn triggers(alloc: Global, tokens: &mut Cursor<'_>) -> Result<Vec<Trigger>, Fault>
-    ensures { Gives (λ v. map view.trigger v.items) (spec.separated Kind.Comma spec.trigger tokens.old) result tokens.old tokens.new }
+    ensures { Gives (λ v. map view.trigger v.items)
+        (spec.separated Kind.Comma spec.trigger tokens.old) result tokens.old tokens.new }
 {
     let mut all = Vec::new(alloc);
     let first = trigger(alloc, tokens)?;
@@ -69,7 +70,8 @@ fn triggers(alloc: Global, tokens: &mut Cursor<'_>) -> Result<Vec<Trigger>, Faul
 
 #[tactic(auto, unfolding(crate::specs::Reading::condition_if))]
 fn condition(alloc: Global, tokens: &mut Cursor<'_>) -> Result<Option<Query>, Fault>
-    ensures { Gives (option_map view.query) (spec.condition_if tokens.old) result tokens.old tokens.new }
+    ensures { Gives (option_map view.query)
+        (spec.condition_if tokens.old) result tokens.old tokens.new }
 {
     if !tokens.sees(Kind::If) {
         return Ok(None);
@@ -92,7 +94,8 @@ fn action(alloc: Global, tokens: &mut Cursor<'_>) -> Result<Action, Fault>
 
 #[tactic(auto, unfolding(crate::specs::Reading::actions, crate::specs::Reading::separated_to))]
 fn actions(alloc: Global, tokens: &mut Cursor<'_>) -> Result<Vec<Action>, Fault>
-    ensures { Gives (λ v. map view.action v.items) (spec.actions tokens.old) result tokens.old tokens.new }
+    ensures { Gives (λ v. map view.action v.items)
+        (spec.actions tokens.old) result tokens.old tokens.new }
 {
     let mut all = Vec::new(alloc);
     let first = action(alloc, tokens)?;
@@ -130,7 +133,8 @@ struct RuleHead {
 
 #[tactic(auto, unfolding(crate::specs::Reading::rule_head))]
 fn head(alloc: Global, tokens: &mut Cursor<'_>) -> Result<RuleHead, Fault>
-    ensures { Gives (λ h. (h.name, h.table, map view.trigger h.triggers.items)) (spec.rule_head tokens.old) result tokens.old tokens.new }
+    ensures { Gives (λ h. (h.name, h.table, map view.trigger h.triggers.items))
+        (spec.rule_head tokens.old) result tokens.old tokens.new }
 {
     let name = name_after(tokens, Kind::Rule)?;
     let table = name_after(tokens, Kind::On)?;
@@ -145,7 +149,9 @@ fn head(alloc: Global, tokens: &mut Cursor<'_>) -> Result<RuleHead, Fault>
 
 #[tactic(auto, unfolding(crate::specs::Reading::rule_body))]
 fn body(alloc: Global, tokens: &mut Cursor<'_>, head: RuleHead) -> Result<RuleText, Fault>
-    ensures { Gives view.rule (spec.rule_body (head.name, head.table, map view.trigger head.triggers.items) tokens.old) result tokens.old tokens.new }
+    ensures { Gives view.rule
+        (spec.rule_body (head.name, head.table, map view.trigger head.triggers.items) tokens.old)
+        result tokens.old tokens.new }
 {
     let condition = condition(alloc, tokens)?;
     tokens.expect(Kind::Then)?;

@@ -48,7 +48,8 @@ fn sum_rows(alloc: Global, tokens: &mut Cursor<'_>) -> Result<Items, Fault>
 
 #[tactic(auto, unfolding(crate::specs::Reading::expressions, crate::specs::Reading::separated_to))]
 fn expressions(alloc: Global, tokens: &mut Cursor<'_>) -> Result<Vec<Expr>, Fault>
-    ensures { Gives (λ v. map view.expression v.items) (spec.expressions tokens.old) result tokens.old tokens.new }
+    ensures { Gives (λ v. map view.expression v.items)
+        (spec.expressions tokens.old) result tokens.old tokens.new }
 {
     let mut all = Vec::new(alloc);
     let first = expr(alloc, tokens)?;

@@ -120,7 +120,8 @@ fn add_rules(alloc: Global, tokens: &mut Cursor<'_>, target: Name) -> Result<Com
 
 #[tactic(auto, unfolding(crate::specs::Reading::removes_rules))]
 fn remove_rules(alloc: Global, tokens: &mut Cursor<'_>, target: Name) -> Result<Command, Fault>
-    ensures { Gives view.command (spec.removes_rules target tokens.old) result tokens.old tokens.new }
+    ensures { Gives view.command
+        (spec.removes_rules target tokens.old) result tokens.old tokens.new }
 {
     tokens.expect(Kind::DelRules)?;
     let rules = names(alloc, tokens)?;
@@ -161,7 +162,8 @@ fn deactivate(tokens: &mut Cursor<'_>) -> Result<Command, Fault>
 /// A command of one word.
 #[tactic(auto, unfolding(crate::specs::Reading::word))]
 fn word(tokens: &mut Cursor<'_>, kind: Kind, command: Command) -> Result<Command, Fault>
-    ensures { Gives view.command (spec.word kind (view.command command) tokens.old) result tokens.old tokens.new }
+    ensures { Gives view.command
+        (spec.word kind (view.command command) tokens.old) result tokens.old tokens.new }
 {
     tokens.expect(kind)?;
     Ok(command)

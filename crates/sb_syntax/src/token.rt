@@ -47,7 +47,8 @@ impl<T: Drop> From<AllocFailed<T>> for ParseError {
 fn cut(alloc: Global, text: &[u8]) -> Result<Vec<Token>, ParseError>
     ensures { Reading (λ v. v.items) (scan 0 0 text.now) (length text.now) result }
 {
-    let mut all = Vec::new(alloc);
+    // Each token has a byte, so that there is room for all of them.
+    let mut all = Vec::with_capacity(alloc, text.len())?;
     let mut at = 0;
     'more: while at < text.len() {
         if text[at] == b' ' {
@@ -57,11 +58,11 @@ fn cut(alloc: Global, text: &[u8]) -> Result<Vec<Token>, ParseError>
         let Some((kind, len)) = token(&text[at..]) else {
             return Err(ParseError::Syntax { place: at });
         };
-        all.push(Token {
+        all.push_reserved(Token {
             kind,
             start: at,
             end: at + len,
-        })?;
+        });
         at += len;
     }
     Ok(all)
