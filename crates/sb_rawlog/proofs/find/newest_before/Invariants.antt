@@ -1,4 +1,4 @@
-use Rattle.std.proofs.Common.{◌≡◌, ◌≤◌, length, take}
+use Rattle.std.proofs.Common.{◌≡◌, ◌≤◌, take}
 use Rattle.sb_rawlog.specs.Records.{walk}
 use Rattle.sb_rawlog.specs.Keys.{fits}
 use Rattle.sb_rawlog.proofs.find.newest_before.Given as goal
@@ -6,7 +6,7 @@ use Rattle.sb_rawlog.proofs.find.newest_before.Given as goal
 -- nothing is selected past the index
 abbrev pub invariant-loop-i : goal.invariant-loop-i
 invariant-loop-i l = record {
-  within : l.i ≤ length l.items;
+  within : l.i ≤ l.end;
   passed : walk (fits l.key) l.since (take l.end l.items) ≡ walk (fits l.key) l.since (take l.i l.items);
 }
 
