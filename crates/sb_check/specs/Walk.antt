@@ -130,14 +130,15 @@ abbrev pub with_not : Bool → Condition → Condition
 with_not true c = negation c
 with_not false c = c
 
+-- values of these types fit the columns in order
+abbrev pub of_types : List ColumnType → List ColumnDefinition → Result Bool Refusal
+of_types [] cs = Ok true
+of_types (k ∷ ks) [] = Ok true
+of_types (k ∷ ks) (c ∷ cs) = required (same_type k c.of) refusal.BadType (of_types ks cs)
+
 -- as many as the columns, and then of their types in order
 abbrev pub fitting : List ColumnType → List ColumnDefinition → Result Bool Refusal
-fitting kinds columns = required (length kinds == length columns) refusal.WrongCount (types kinds columns)
-  where
-    types : List ColumnType → List ColumnDefinition → Result Bool Refusal
-    types [] cs = Ok true
-    types (k ∷ ks) [] = Ok true
-    types (k ∷ ks) (c ∷ cs) = required (same_type k c.of) refusal.BadType (types ks cs)
+fitting kinds columns = required (length kinds == length columns) refusal.WrongCount (of_types kinds columns)
 
 module _ (schema : Schema) where
   abbrev mutual

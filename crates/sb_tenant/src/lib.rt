@@ -1,7 +1,10 @@
 //! One tenant's steps: a database of its own, specified by the replay of its trail.
 #![tactic(auto)]
 
+mod order;
 mod phase;
 mod reply;
+mod store;
+mod table;
 
 pub use reply::{Answer, Entry, Line, NamedTrace, Reply, SharedRows};
