@@ -1,13 +1,15 @@
 //! What a tenant keeps in memory: its tables, and how far its session is.
-ghost use Rattle.std.specs.Prelude.{◌≡◌, [], ◌<◌, length, IfOk, OnErr, map, MatchOption, None, Some};
-ghost use Rattle.sb_tenant.specs.Orders.{order_tree};
-ghost use Rattle.sb_tenant.specs.Stored.{Stored, place_of, dropped, kept, with_phase, created, inserted_at, selected_at, create_refusal, rows_refusal, columns_at, rows_at, with_rows};
-ghost use Rattle.sb_tenant.specs.Orders.{carried_out};
+ghost use Rattle.std.specs.Prelude.{◌≡◌, [], ◌<◌, length, IfOk, OnErr, map, IfSome};
+ghost use Rattle.sb_tenant.specs.Stored.{Stored, place_of, dropped, kept, with_phase, created, inserted_at, selected_at, create_refusal as why_not_created, all_committed, only_committed};
+ghost use Rattle.sb_tenant.specs.Orders.{performed, order_refusal as phase_refusal};
+ghost use Rattle.std.specs.List.{list_any};
+ghost use Rattle.sb_value.specs.Name.{same_name};
+ghost use Rattle.sb_tenant.specs.Walk.{named_twice};
 
 use crate::order::Order;
 use crate::phase::Phase;
 use crate::reply::{NamedTrace, Reply, SharedRows};
-use crate::table::{ROW_LIMIT, StoredTable};
+use crate::table::StoredTable;
 use sb_value::{ColumnDefinition, Name, Refusal, Row, TABLE_LIMIT, Value};
 use std::alloc::{AllocError, Global};
 use std::marker::Model;
@@ -57,9 +59,7 @@ impl Store {
     pub(crate) fn commit(&mut self)
         ensures { self.new ≡ kept self.old Phase.Idle }
     {
-        for table in self.tables.iter_mut() {
-            table.commit();
-        }
+        commit_all(self.tables.as_mut_slice());
         self.phase = Phase::Idle;
     }
 
@@ -67,16 +67,185 @@ impl Store {
     pub(crate) fn roll_back(&mut self, phase: Phase)
         ensures { self.new ≡ dropped self.old phase }
     {
-        for table in self.tables.iter_mut() {
-            table.roll_back();
-        }
+        roll_back_all(self.tables.as_mut_slice());
         self.phase = phase;
+    }
+
+    /// Does what the order says, where the session allows it. Each reply is made before anything changes; where
+    /// memory runs out only rows that aren't committed may have been added.
+    pub(crate) fn perform(&mut self, alloc: Global, order: Order) -> Result<Replies, AllocError>
+        ensures ok { IfOk result (λ r. (performed self.old order ≡ (self.new, r.0)) × (r.1 ≡ r.0)) }
+        ensures err { OnErr result (dropped self.new self.new.phase ≡ dropped self.old self.old.phase) }
+    {
+        if let Some(refusal) = order_refusal(self.phase, &order) {
+            return Ok(refused(refusal));
+        }
+        match order {
+            Order::Open => {
+                self.phase = Phase::Idle;
+                Ok(done())
+            }
+            Order::End => {
+                self.roll_back(Phase::Closed);
+                Ok(done())
+            }
+            Order::Begin => {
+                self.phase = Phase::Active;
+                Ok(done())
+            }
+            Order::Commit => {
+                self.commit();
+                Ok((
+                    Reply::Done(NamedTrace::empty(alloc)),
+                    Reply::Done(NamedTrace::empty(alloc)),
+                ))
+            }
+            Order::Rollback => {
+                self.roll_back(Phase::Idle);
+                Ok(done())
+            }
+            Order::CreateTable(name, columns) => self.create(alloc, name, columns),
+            Order::Insert(name, rows) => self.insert(alloc, name, rows),
+            Order::SelectAll(name) => self.select(alloc, name),
+        }
+    }
+
+    fn create(
+        &mut self,
+        alloc: Global,
+        name: Name,
+        columns: Vec<ColumnDefinition>,
+    ) -> Result<Replies, AllocError>
+        ensures ok { IfOk result (λ r. (created self.old name columns.items ≡ (self.new, r.0)) × (r.1 ≡ r.0)) }
+        ensures err { OnErr result (self.new ≡ self.old) }
+    {
+        if let Some(refusal) = self.create_refusal(name, columns.as_slice()) {
+            return Ok(refused(refusal));
+        }
+        self.tables.push(StoredTable::new(alloc, name, columns))?;
+        Ok(done())
+    }
+
+    /// Why no table of that name and with these columns is created.
+    fn create_refusal(&self, name: Name, columns: &[ColumnDefinition]) -> Option<Refusal>
+        ensures { result ≡ why_not_created self.now name columns.now }
+    {
+        if self.tables.iter().any(|table| table.name().is_same(&name)) {
+            return Some(Refusal::TableExists);
+        }
+        if is_named_twice(columns) {
+            return Some(Refusal::Ambiguous);
+        }
+        if self.tables.len() >= TABLE_LIMIT {
+            return Some(Refusal::TooManyTables);
+        }
+        None
+    }
+
+    fn select(&self, alloc: Global, name: Name) -> Result<Replies, AllocError>
+        ensures { IfOk result (λ r. (selected_at self.now (place_of self.now.tables name) ≡ r.0) × (r.1 ≡ r.0)) }
+    {
+        let Some(place) = self.place_of(name) else {
+            return Ok(refused(Refusal::NoTable));
+        };
+        let rows = SharedRows::new(alloc, self.tables[place].rows(alloc)?)?;
+        let shared = rows.share()?;
+        Ok((Reply::Rows(rows), Reply::Rows(shared)))
+    }
+
+    fn insert(
+        &mut self,
+        alloc: Global,
+        name: Name,
+        rows: Vec<Vec<Value>>,
+    ) -> Result<Replies, AllocError>
+        ensures ok { IfOk result (λ r. (inserted_at self.old (map (λ r. r.items) rows.items) (place_of self.old.tables name) ≡ (self.new, r.0)) × (r.1 ≡ r.0)) }
+        ensures err { OnErr result (dropped self.new self.new.phase ≡ dropped self.old self.old.phase) }
+    {
+        let Some(place) = self.place_of(name) else {
+            return Ok(refused(Refusal::NoTable));
+        };
+        if let Some(refusal) = self.tables[place].insert_refusal(rows.as_slice()) {
+            return Ok(refused(refusal));
+        }
+        let count = rows.len() as u64;
+        self.tables[place].push_all(alloc, rows)?;
+        Ok((Reply::Count(count), Reply::Count(count)))
     }
 
     /// The place of a table's name.
     fn place_of(&self, name: Name) -> Option<usize>
-        ensures { result ≡ place_of self.now.tables name }
+        ensures value { result ≡ place_of self.now.tables name }
+        ensures within { IfSome result (λ place. place < length self.now.tables) }
     {
-        self.tables.iter().position(|table| table.name().is_same(&name))
+        self.tables
+            .iter()
+            .position(|table| table.name().is_same(&name))
+    }
+}
+
+fn done() -> Replies
+    ensures { result ≡ (Reply.Ok, Reply.Ok) }
+{
+    (Reply::Ok, Reply::Ok)
+}
+
+fn refused(refusal: Refusal) -> Replies
+    ensures { result ≡ (Reply.No refusal, Reply.No refusal) }
+{
+    let copy = refusal;
+    (Reply::No(refusal), Reply::No(copy))
+}
+
+/// What the session's phase refuses.
+fn order_refusal(phase: Phase, order: &Order) -> Option<Refusal>
+    ensures { result ≡ phase_refusal phase order.now }
+{
+    match (phase, order) {
+        (Phase::Closed, Order::Open) => None,
+        (Phase::Idle, Order::Open) => Some(Refusal::AlreadyOpen),
+        (Phase::Active, Order::Open) => Some(Refusal::AlreadyOpen),
+        (Phase::Closed, _) => Some(Refusal::NotOpen),
+        (_, Order::End) => None,
+        (Phase::Idle, Order::Begin) => None,
+        (Phase::Active, Order::Begin) => Some(Refusal::InTransaction),
+        (Phase::Idle, Order::CreateTable(_, _)) => None,
+        (Phase::Active, Order::CreateTable(_, _)) => Some(Refusal::InTransaction),
+        (Phase::Active, _) => None,
+        (Phase::Idle, _) => Some(Refusal::NoTransaction),
+    }
+}
+
+/// Whether two columns have one name.
+fn is_named_twice(columns: &[ColumnDefinition]) -> bool
+    ensures { result ≡ named_twice columns.now }
+{
+    match columns {
+        [] => false,
+        [first, rest @ ..] => {
+            has_name(rest, first.name) || is_named_twice(rest)
+        }
+    }
+}
+
+fn has_name(columns: &[ColumnDefinition], name: Name) -> bool
+    ensures { result ≡ list_any (λ c. same_name name c.name) columns.now }
+{
+    columns.iter().any(|column| name.is_same(&column.name))
+}
+
+fn commit_all(tables: &mut [StoredTable])
+    ensures { tables.new ≡ map all_committed tables.old }
+{
+    for table in tables.iter_mut() {
+        table.commit();
+    }
+}
+
+fn roll_back_all(tables: &mut [StoredTable])
+    ensures { tables.new ≡ map only_committed tables.old }
+{
+    for table in tables.iter_mut() {
+        table.roll_back();
     }
 }

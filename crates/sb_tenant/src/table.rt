@@ -1,16 +1,16 @@
 //! A table with the rows that a transaction has inserted behind those that are committed.
-ghost use Rattle.std.specs.Prelude.{◌≡◌, ◌<◌, ◌≤◌, [], ◌∷◌, ◌++◌, length, map, IfOk, OnOk, OnErr};
+ghost use Rattle.std.specs.Prelude.{◌≡◌, ◌+◌, ◌<◌, ◌≤◌, [], ◌∷◌, ◌++◌, length, map, IfOk, OnOk, OnErr, None};
 ghost use Rattle.std.specs.Result.{result_err};
 ghost use Rattle.sb_check.specs.Names.{same_type};
-ghost use Rattle.sb_check.specs.Walk.{of_types, type_of};
-ghost use Rattle.sb_tenant.specs.Stored.{Kept, new_table, only_committed, all_committed, rows_refusal};
+ghost use Rattle.sb_check.specs.Walk.{of_types, fitting, type_of};
+ghost use Rattle.sb_tenant.specs.Stored.{Kept, new_table, only_committed, all_committed, rows_refusal as first_misfit, insert_refusal as why_not_inserted};
 
 use sb_value::{ColumnDefinition, ColumnType, Name, Refusal, Row, RowList, Value};
 use std::alloc::{AllocError, Global};
 use std::marker::Model;
 
 /// The most rows that a table has.
-pub(crate) const ROW_LIMIT: usize = 4096;
+const ROW_LIMIT: usize = 4096;
 
 #[derive(Drop)]
 pub(crate) struct StoredTable {
@@ -50,12 +50,18 @@ impl StoredTable {
         self.name
     }
 
-    /// How many rows there are.
-    pub(crate) fn len(&self) -> usize
-        ensures count { result ≡ length self.now.rows }
-        ensures few { result ≤ 4096 }
+    /// Why these rows aren't inserted.
+    pub(crate) fn insert_refusal(&self, rows: &[Vec<Value>]) -> Option<Refusal>
+        ensures value { result ≡ why_not_inserted self.now (map (λ r. r.items) rows.now) }
+        ensures room { result ≡ None → length self.now.rows + length rows.now ≤ 4096 }
     {
-        self.rows.len()
+        if let Some(refusal) = rows_refusal(rows, self.columns.as_slice()) {
+            return Some(refusal);
+        }
+        if self.rows.len() + rows.len() > ROW_LIMIT {
+            return Some(Refusal::TooManyRows);
+        }
+        None
     }
 
     /// A copy of its rows.
@@ -94,15 +100,49 @@ impl StoredTable {
         self.rows.truncate(self.committed);
     }
 
-    /// Why the values are no row of the table.
-    pub(crate) fn row_refusal(&self, values: &[Value]) -> Option<Refusal>
-        ensures { result ≡ rows_refusal self.now.columns (values.now ∷ []) }
+    /// Adds rows of these values behind the others. Where memory runs out a part of them may have been added.
+    pub(crate) fn push_all(&mut self, alloc: Global, rows: Vec<Vec<Value>>) -> Result<(), AllocError>
+        requires { length self.old.rows + length rows.items ≤ 4096 }
+        ensures ok { OnOk result (self.new ≡ record self.old { rows = self.old.rows ++ map (λ r. r.items) rows.items }) }
+        ensures err { OnErr result (only_committed self.new ≡ only_committed self.old) }
     {
-        if values.len() != self.columns.len() {
-            return Some(Refusal::WrongCount);
+        for values in rows {
+            self.push(row_of(alloc, values)?)?;
         }
-        types_refusal(values, self.columns.as_slice())
+        Ok(())
     }
+}
+
+/// Why the first of these rows that doesn't fit the columns is refused.
+fn rows_refusal(rows: &[Vec<Value>], columns: &[ColumnDefinition]) -> Option<Refusal>
+    ensures { result ≡ first_misfit columns.now (map (λ r. r.items) rows.now) }
+{
+    for row in rows {
+        if let Some(refusal) = row_refusal(row.as_slice(), columns) {
+            return Some(refusal);
+        }
+    }
+    None
+}
+
+fn row_of(alloc: Global, values: Vec<Value>) -> Result<Row, AllocError>
+    ensures { IfOk result (λ row. row ≡ values.items) }
+{
+    let mut row = Row::new(alloc);
+    for value in values {
+        row.push(value)?;
+    }
+    Ok(row)
+}
+
+/// Why the values are no row of these columns.
+fn row_refusal(values: &[Value], columns: &[ColumnDefinition]) -> Option<Refusal>
+    ensures { result ≡ result_err (fitting (map type_of values.now) columns.now) }
+{
+    if values.len() != columns.len() {
+        return Some(Refusal::WrongCount);
+    }
+    types_refusal(values, columns)
 }
 
 /// Why the values aren't of the columns' types.

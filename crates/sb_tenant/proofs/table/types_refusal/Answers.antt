@@ -1,5 +1,5 @@
 -- the first value that isn't of its column's type
-use Rattle.std.proofs.Common.{◌≡◌, ap, sym, ◌∙◌, arith, map, drop, ◌<◌, ◌+◌, length}
+use Rattle.std.proofs.Common.{ap, sym, ◌∙◌, arith, map, drop, ◌<◌, ◌+◌, length}
 use Rattle.std.specs.Result.{result_err}
 use Rattle.sb_value.specs.declared.refusal.Refusal.TheVariants as refusal
 use Rattle.sb_check.specs.Names.{required}

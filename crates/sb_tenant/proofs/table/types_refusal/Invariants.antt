@@ -1,4 +1,4 @@
-use Rattle.std.proofs.Common.{◌≡◌, map, drop, length}
+use Rattle.std.proofs.Common.{◌≡◌, map, drop}
 use Rattle.sb_check.specs.Walk.{of_types, type_of}
 use Rattle.sb_tenant.proofs.table.types_refusal.Given as goal
 
