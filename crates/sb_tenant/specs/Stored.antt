@@ -1,5 +1,5 @@
 -- What a tenant keeps in memory as long as it has one session and rows are only inserted, and what each command does to it.
-use Rattle.std.specs.Prelude.{ℕ, zero, suc, ◌+◌, nat_lt, if◌then◌else◌, List, [], ◌∷◌, ◌++◌, map, length, take, position, Option, Some, None, Ok, Err}
+use Rattle.std.specs.Prelude.{slice_get, slice_set, ℕ, ◌+◌, nat_lt, if◌then◌else◌, List, [], ◌∷◌, ◌++◌, map, length, take, position, Option, Some, None}
 use Rattle.std.specs.List.{list_any}
 use Rattle.std.specs.Result.{result_err}
 use Rattle.sb_value.specs.declared.value.Value.{Value}

@@ -9,7 +9,7 @@ ghost use Rattle.sb_tenant.specs.Walk.{named_twice};
 use crate::order::Order;
 use crate::phase::Phase;
 use crate::reply::{NamedTrace, Reply, SharedRows};
-use crate::table::StoredTable;
+use crate::table::{StoredTable, rows_of};
 use sb_value::{ColumnDefinition, Name, Refusal, Row, TABLE_LIMIT, Value};
 use std::alloc::{AllocError, Global};
 use std::marker::Model;
@@ -71,11 +71,10 @@ impl Store {
         self.phase = phase;
     }
 
-    /// Does what the order says, where the session allows it. Each reply is made before anything changes; where
-    /// memory runs out only rows that aren't committed may have been added.
+    /// Does what the order says, where the session allows it. Each reply is made before anything changes.
     pub(crate) fn perform(&mut self, alloc: Global, order: Order) -> Result<Replies, AllocError>
         ensures ok { IfOk result (λ r. (performed self.old order ≡ (self.new, r.0)) × (r.1 ≡ r.0)) }
-        ensures err { OnErr result (dropped self.new self.new.phase ≡ dropped self.old self.old.phase) }
+        ensures err { OnErr result (self.new ≡ self.old) }
     {
         if let Some(refusal) = order_refusal(self.phase, &order) {
             return Ok(refused(refusal));
@@ -130,7 +129,7 @@ impl Store {
     fn create_refusal(&self, name: Name, columns: &[ColumnDefinition]) -> Option<Refusal>
         ensures { result ≡ why_not_created self.now name columns.now }
     {
-        if self.tables.iter().any(|table| table.name().is_same(&name)) {
+        if has_table(self.tables.as_slice(), name) {
             return Some(Refusal::TableExists);
         }
         if is_named_twice(columns) {
@@ -160,7 +159,7 @@ impl Store {
         rows: Vec<Vec<Value>>,
     ) -> Result<Replies, AllocError>
         ensures ok { IfOk result (λ r. (inserted_at self.old (map (λ r. r.items) rows.items) (place_of self.old.tables name) ≡ (self.new, r.0)) × (r.1 ≡ r.0)) }
-        ensures err { OnErr result (dropped self.new self.new.phase ≡ dropped self.old self.old.phase) }
+        ensures err { OnErr result (self.new ≡ self.old) }
     {
         let Some(place) = self.place_of(name) else {
             return Ok(refused(Refusal::NoTable));
@@ -169,7 +168,7 @@ impl Store {
             return Ok(refused(refusal));
         }
         let count = rows.len() as u64;
-        self.tables[place].push_all(alloc, rows)?;
+        self.tables[place].append(rows_of(alloc, rows)?)?;
         Ok((Reply::Count(count), Reply::Count(count)))
     }
 
@@ -226,6 +225,12 @@ fn is_named_twice(columns: &[ColumnDefinition]) -> bool
             has_name(rest, first.name) || is_named_twice(rest)
         }
     }
+}
+
+fn has_table(tables: &[StoredTable], name: Name) -> bool
+    ensures { result ≡ list_any (λ t. same_name t.name name) tables.now }
+{
+    tables.iter().any(|table| table.name().is_same(&name))
 }
 
 fn has_name(columns: &[ColumnDefinition], name: Name) -> bool

@@ -3,7 +3,7 @@ ghost use Rattle.std.specs.Prelude.{◌≡◌, ◌+◌, ◌<◌, ◌≤◌, [], 
 ghost use Rattle.std.specs.Result.{result_err};
 ghost use Rattle.sb_check.specs.Names.{same_type};
 ghost use Rattle.sb_check.specs.Walk.{of_types, fitting, type_of};
-ghost use Rattle.sb_tenant.specs.Stored.{Kept, new_table, only_committed, all_committed, rows_refusal as first_misfit, insert_refusal as why_not_inserted};
+ghost use Rattle.sb_tenant.specs.Stored.{Kept, new_table, only_committed, all_committed, rows_refusal as first_misfit, insert_refusal as why_not_inserted, with_rows};
 
 use sb_value::{ColumnDefinition, ColumnType, Name, Refusal, Row, RowList, Value};
 use std::alloc::{AllocError, Global};
@@ -76,16 +76,6 @@ impl StoredTable {
         Ok(copy)
     }
 
-    /// Adds a row behind the others.
-    pub(crate) fn push(&mut self, row: Row) -> Result<(), AllocError>
-        requires { length self.old.rows < 4096 }
-        ensures ok { OnOk result (self.new ≡ record self.old { rows = self.old.rows ++ row ∷ [] }) }
-        ensures err { OnErr result (self.new ≡ self.old) }
-    {
-        self.rows.push(row)?;
-        Ok(())
-    }
-
     /// Commits all rows.
     pub(crate) fn commit(&mut self)
         ensures { self.new ≡ all_committed self.old }
@@ -100,17 +90,26 @@ impl StoredTable {
         self.rows.truncate(self.committed);
     }
 
-    /// Adds rows of these values behind the others. Where memory runs out a part of them may have been added.
-    pub(crate) fn push_all(&mut self, alloc: Global, rows: Vec<Vec<Value>>) -> Result<(), AllocError>
+    /// Adds rows behind the others.
+    pub(crate) fn append(&mut self, mut rows: Vec<Row>) -> Result<(), AllocError>
         requires { length self.old.rows + length rows.items ≤ 4096 }
-        ensures ok { OnOk result (self.new ≡ record self.old { rows = self.old.rows ++ map (λ r. r.items) rows.items }) }
-        ensures err { OnErr result (only_committed self.new ≡ only_committed self.old) }
+        ensures ok { OnOk result (self.new ≡ with_rows self.old rows.items) }
+        ensures err { OnErr result (self.new ≡ self.old) }
     {
-        for values in rows {
-            self.push(row_of(alloc, values)?)?;
-        }
+        self.rows.append(&mut rows)?;
         Ok(())
     }
+}
+
+/// The rows of these values.
+pub(crate) fn rows_of(alloc: Global, rows: Vec<Vec<Value>>) -> Result<Vec<Row>, AllocError>
+    ensures { IfOk result (λ made. made.items ≡ map (λ r. r.items) rows.items) }
+{
+    let mut made = Vec::with_capacity(alloc, rows.len())?;
+    for values in rows {
+        made.push(row_of(alloc, values)?)?;
+    }
+    Ok(made)
 }
 
 /// Why the first of these rows that doesn't fit the columns is refused.
