@@ -31,6 +31,8 @@ impl Model for Name {
 }
 
 impl Name {
+    ghost use Rattle.sb_value.specs.Name.{same_name};
+
     /// The name with these bytes.
     pub fn new(bytes: &[u8]) -> Name
         requires not_empty { 0 < length bytes.now }
@@ -53,5 +55,12 @@ impl Name {
         ensures short { length self.now ≤ 32 }
     {
         &self.bytes[..self.len as usize]
+    }
+
+    /// Whether the two names have the same bytes.
+    pub fn is_same(&self, other: &Name) -> bool
+        ensures { result ≡ same_name self.now other.now }
+    {
+        self.as_slice().cmp(other.as_slice()).is_eq()
     }
 }
