@@ -101,3 +101,19 @@ abort_releases_locks = refl
 
 pub abort_is_a_step : aborted.steps ≡ 5
 abort_is_a_step = refl
+
+-- ---- what the engine handles
+
+pub whole_tables_are_handled : engine (codes "select * from t") ≡ Some (show t)
+unfolding command_of
+whole_tables_are_handled = refl
+
+pub other_queries_are_not_handled : map engine (codes "select a from t" ∷ codes "select * from t x" ∷ codes "select * from t, h" ∷ codes "select * from inserted" ∷ codes "select * from t where a = 1" ∷ [])
+    ≡ None ∷ None ∷ None ∷ None ∷ None ∷ []
+unfolding command_of
+other_queries_are_not_handled = refl
+
+pub other_statements_are_not_handled : map engine (codes "insert into t select * from t" ∷ codes "delete from t" ∷ codes "drop table t" ∷ codes "process rules" ∷ [])
+    ≡ None ∷ None ∷ None ∷ None ∷ []
+unfolding command_of
+other_statements_are_not_handled = refl

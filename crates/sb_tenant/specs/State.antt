@@ -1,8 +1,9 @@
 -- The state of a tenant.
-use Rattle.std.specs.Prelude.{ℕ, Bool, true, false, not, ◌==◌, ◌&&◌, if◌then◌else◌, List, [], filter, count_by, flat_map}
+use Rattle.std.specs.Prelude.{ℕ, Bool, true, false, not, ◌==◌, ◌&&◌, if◌then◌else◌, List, [], filter, find, length, count_by, sum_by, flat_map, Option, option_map}
 use Rattle.std.specs.List.{list_any}
 use Rattle.sb_value.specs.declared.change.Change.{Change}
-use Rattle.sb_value.specs.Table.{Entry, after_all}
+use Rattle.sb_value.specs.Name.{same_name}
+use Rattle.sb_value.specs.Table.{Table, Entry, after_all}
 use Rattle.sb_value.specs.Locks.{Locks, no_locks, released, sessions}
 use Rattle.sb_catalog.specs.declared.Rule.{Rule}
 use Rattle.sb_process.specs.Setting.{Setting, Progress}
@@ -84,6 +85,14 @@ tables_without state s = after_all (flat_map (λ o. changes_of (session_at state
 -- with the changes of all sessions
 abbrev pub tables_seen : State → List Entry
 tables_seen state = after_all (flat_map (λ o. changes_of (session_at state o)) sessions) state.catalog.tables
+
+-- the table of that name, as it is seen
+abbrev pub table_seen : State → List ℕ → Option Table
+table_seen state name = option_map (λ e. e.table) (find (λ e. same_name e.name name) (tables_seen state))
+
+-- how many changes the open transactions have
+abbrev pub change_count : State → ℕ
+change_count state = sum_by (λ s. length (changes_of (session_at state s))) sessions
 
 -- what rule processing in a session works on
 abbrev pub setting_of : ℕ → State → ℕ → Setting

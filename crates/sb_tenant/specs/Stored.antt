@@ -1,6 +1,7 @@
 -- What a tenant keeps in memory as long as it has one session and rows are only inserted, and what each command does to it.
-use Rattle.std.specs.Prelude.{ℕ, zero, suc, ◌+◌, nat_lt, if◌then◌else◌, List, [], ◌∷◌, ◌++◌, map, length, take, position, Option, Some, None, Ok, Err}
+use Rattle.std.specs.Prelude.{slice_get, slice_set, ℕ, ◌+◌, nat_lt, if◌then◌else◌, List, [], ◌∷◌, ◌++◌, map, length, take, position, Option, Some, None}
 use Rattle.std.specs.List.{list_any}
+use Rattle.std.specs.Result.{result_err}
 use Rattle.sb_value.specs.declared.value.Value.{Value}
 use Rattle.sb_value.specs.declared.value.ColumnDefinition.{ColumnDefinition}
 use Rattle.sb_value.specs.declared.refusal.Refusal.{Refusal}
@@ -88,35 +89,38 @@ abbrev pub created : Stored → List ℕ → List ColumnDefinition → Stored ×
 created v name columns =
     or_refused v (create_refusal v name columns) (record v { tables = v.tables ++ new_table name columns ∷ [] }, reply.Ok)
 
--- the first row that doesn't fit the columns
+abbrev pub first_refusal : Option Refusal → Option Refusal → Option Refusal
+first_refusal None other = other
+first_refusal (Some r) other = Some r
+
+-- of the first row that doesn't fit the columns
 abbrev pub rows_refusal : List ColumnDefinition → List (List Value) → Option Refusal
 rows_refusal columns [] = None
-rows_refusal columns (row ∷ rows) = elim (fitting (map type_of row) columns) [ Err r ↦ Some r | Ok fits ↦ rows_refusal columns rows ]
+rows_refusal columns (row ∷ rows) = first_refusal (result_err (fitting (map type_of row) columns)) (rows_refusal columns rows)
 
-abbrev pub with_rows : List Kept → ℕ → List (List Value) → List Kept
-with_rows [] i rows = []
-with_rows (t ∷ ts) zero rows = record t { rows = t.rows ++ rows } ∷ ts
-with_rows (t ∷ ts) (suc i) rows = t ∷ with_rows ts i rows
+abbrev pub space_refusal : Kept → List (List Value) → Option Refusal
+space_refusal t rows = if nat_lt row_limit (length t.rows + length rows) then Some refusal.TooManyRows else None
 
-abbrev pub rows_at : List Kept → ℕ → List (List Value)
-rows_at [] i = []
-rows_at (t ∷ ts) zero = t.rows
-rows_at (t ∷ ts) (suc i) = rows_at ts i
+-- why rows aren't inserted
+abbrev pub insert_refusal : Kept → List (List Value) → Option Refusal
+insert_refusal t rows = first_refusal (rows_refusal t.columns rows) (space_refusal t rows)
 
-abbrev pub columns_at : List Kept → ℕ → List ColumnDefinition
-columns_at [] i = []
-columns_at (t ∷ ts) zero = t.columns
-columns_at (t ∷ ts) (suc i) = columns_at ts i
+abbrev pub with_rows : Kept → List (List Value) → Kept
+with_rows t rows = record t { rows = t.rows ++ rows }
 
-abbrev pub space_refusal : List (List Value) → List (List Value) → Option Refusal
-space_refusal old new = if nat_lt row_limit (length old + length new) then Some refusal.TooManyRows else None
+abbrev pub inserted_in : Stored → List (List Value) → ℕ → Option Kept → Stored × Reply
+inserted_in v rows i None = (v, reply.No refusal.NoTable)
+inserted_in v rows i (Some t) =
+    or_refused v (insert_refusal t rows) (record v { tables = slice_set v.tables i (with_rows t rows) }, reply.Count (length rows))
 
 abbrev pub inserted_at : Stored → List (List Value) → Option ℕ → Stored × Reply
 inserted_at v rows None = (v, reply.No refusal.NoTable)
-inserted_at v rows (Some i) =
-    or_refused v (rows_refusal (columns_at v.tables i) rows)
-    (or_refused v (space_refusal (rows_at v.tables i) rows) (record v { tables = with_rows v.tables i rows }, reply.Count (length rows)))
+inserted_at v rows (Some i) = inserted_in v rows i (slice_get v.tables i)
+
+abbrev pub selected_in : Option Kept → Reply
+selected_in None = reply.No refusal.NoTable
+selected_in (Some t) = reply.Rows t.rows
 
 abbrev pub selected_at : Stored → Option ℕ → Reply
 selected_at v None = reply.No refusal.NoTable
-selected_at v (Some i) = reply.Rows (rows_at v.tables i)
+selected_at v (Some i) = selected_in (slice_get v.tables i)

@@ -2,7 +2,10 @@
 #![tactic(auto)]
 
 pub mod laws;
+mod order;
 mod phase;
 mod reply;
+mod store;
+mod table;
 
 pub use reply::{Answer, Entry, Line, NamedTrace, Reply, SharedRows};

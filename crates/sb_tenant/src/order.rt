@@ -1,0 +1,72 @@
+//! The commands that the engine handles so far.
+ghost use Rattle.std.specs.Prelude.{◌≡◌, [], ◌∷◌, Some, option_map};
+ghost use Rattle.sb_syntax.specs.Tree as tree;
+ghost use Rattle.sb_syntax.specs.Views.{command as command_tree, change as change_tree, query as query_tree};
+ghost use Rattle.sb_tenant.specs.Orders.{order_tree};
+ghost use Rattle.sb_tenant.specs.Supported.{if_supported};
+
+use sb_syntax::{Change, Command, Items, Query, SourceReference, TableReference};
+use sb_value::{ColumnDefinition, Name, Value};
+
+/// A command that is handled.
+#[derive(Drop)]
+pub(crate) enum Order {
+    Open,
+    End,
+    Begin,
+    Commit,
+    Rollback,
+    CreateTable(Name, Vec<ColumnDefinition>),
+    Insert(Name, Vec<Vec<Value>>),
+    SelectAll(Name),
+}
+
+/// The order that the command is, if it is handled.
+pub(crate) fn order_of(command: Command) -> Option<Order>
+    ensures { if_supported (Some (command_tree command)) ≡ option_map order_tree result }
+{
+    match command {
+        Command::OpenSession => Some(Order::Open),
+        Command::EndSession => Some(Order::End),
+        Command::Begin => Some(Order::Begin),
+        Command::Commit => Some(Order::Commit),
+        Command::Rollback => Some(Order::Rollback),
+        Command::CreateTable(name, columns) => Some(Order::CreateTable(name, columns)),
+        Command::Change(change) => change_order(change),
+        Command::Query(query) => query_order(&query),
+        _ => None,
+    }
+}
+
+fn change_order(change: Change) -> Option<Order>
+    ensures { if_supported (Some (tree.change (change_tree change))) ≡ option_map order_tree result }
+{
+    match change {
+        Change::InsertRows(name, rows) => Some(Order::Insert(name, rows)),
+        _ => None,
+    }
+}
+
+fn query_order(query: &Query) -> Option<Order>
+    ensures { if_supported (Some (tree.query (query_tree query.now))) ≡ option_map order_tree result }
+{
+    let (Items::All, None) = (&query.items, &query.filter) else {
+        return None;
+    };
+    match query.sources.as_slice() {
+        [source] => source_order(source),
+        _ => None,
+    }
+}
+
+fn source_order(source: &SourceReference) -> Option<Order>
+    ensures { if_supported (Some (tree.query (tree.select tree.all (source.now ∷ []) tree.everything))) ≡ option_map order_tree result }
+{
+    if source.alias.is_some() {
+        return None;
+    }
+    match &source.table {
+        TableReference::Named(name) => Some(Order::SelectAll(*name)),
+        _ => None,
+    }
+}
