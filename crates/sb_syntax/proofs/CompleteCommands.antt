@@ -1,13 +1,11 @@
 -- The same of changes, rules and commands.
-use Rattle.std.proofs.Common.{◌≡◌, ◌≤◌, ◌<◌, ℕ, suc, Bool, true, false, List, [], ◌∷◌, length, Option, Some, None, ap, sym, ◌∙◌, subst, refl, arith}
+use Rattle.std.proofs.Common.{◌≡◌, ◌≤◌, ℕ, false, List, [], ◌∷◌, length, Option, Some, None, ap, sym, ◌∙◌, subst, refl, arith}
 use Rattle.std.proofs.lemmas.Option.{same_Some}
 use Rattle.sb_value.specs.declared.value.Value.{Value}
 use Rattle.sb_value.specs.declared.value.ColumnType.{ColumnType}
 use Rattle.sb_value.specs.declared.value.ColumnDefinition.{ColumnDefinition}
 use Rattle.sb_syntax.specs.declared.kind.Kind.{Kind}
 use Rattle.sb_syntax.specs.declared.kind.Kind.TheVariants as k
-use Rattle.sb_syntax.specs.declared.ast.Comparison.{Comparison}
-use Rattle.sb_syntax.specs.declared.ast.SourceReference.{SourceReference}
 use Rattle.sb_syntax.specs.Input.{Input, Is, same_kind}
 use Rattle.sb_syntax.specs.Tree as tree
 use Rattle.sb_syntax.specs.Tree.{Name, Operand, Filter, Query, Assignment, Change, Action, Trigger, RuleText, Command}
@@ -18,7 +16,7 @@ use Rattle.sb_syntax.specs.Reading.{Reader, Joins, and_then, kind_at, sees, next
 use Rattle.sb_syntax.proofs.TokenLaws.{Reads, is-kind, is-sees, is-other, is-next, is-shorter, is-expect}
 use Rattle.sb_syntax.proofs.Loops.{separated-reads, separated_to-reads}
 use Rattle.sb_syntax.proofs.CompleteLaws.{mapped, name-reads, literal-reads, Stops}
-use Rattle.sb_syntax.proofs.CompleteQueries.{StopsQuery, stops, stops-query, paren-stops, no_separator, filter-first, operand-reads, filter-reads, query-reads}
+use Rattle.sb_syntax.proofs.CompleteQueries.{StopsQuery, stops, stops-query, no_separator, filter-first, operand-reads, filter-reads, query-reads}
 
 -- ---- changes
 

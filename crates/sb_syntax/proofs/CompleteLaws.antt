@@ -1,6 +1,5 @@
 -- What the grammar has, the reader reads.
-use Rattle.std.proofs.Common.{[], ◌∙◌, sym, ◌≡◌, ◌≤◌, ◌^◌, ◌&&◌, ℕ, Bool, true, false, cond, List, ◌∷◌, length, Option, Some, None, ap, refl, arith}
-use Rattle.std.specs.List.{list_all, AllPass}
+use Rattle.std.proofs.Common.{◌∙◌, sym, ◌≡◌, ◌≤◌, ◌^◌, ◌&&◌, ℕ, Bool, true, false, cond, List, ◌∷◌, length, Option, Some, None, ap, refl, arith}
 use Rattle.std.proofs.lemmas.Bool.{lt-ltb, le-leb}
 use Rattle.std.proofs.lemmas.List.Sums.{list_all-from_AllPass}
 use Rattle.sb_value.specs.Printable.{is_printable}
@@ -14,7 +13,7 @@ use Rattle.sb_syntax.specs.declared.ast.TableReference.TheVariants.{Named}
 use Rattle.sb_syntax.specs.declared.ast.ColumnReference.{ColumnReference}
 use Rattle.sb_syntax.specs.declared.ast.ColumnReference.TheVariants.{Qualified}
 use Rattle.sb_syntax.specs.declared.ast.SourceReference.{SourceReference}
-use Rattle.sb_syntax.specs.Input.{Input, Is, token, same_kind}
+use Rattle.sb_syntax.specs.Input.{Input, Is, same_kind}
 use Rattle.sb_syntax.specs.Literal.{decimal, negative, unquoted}
 use Rattle.sb_syntax.specs.Tree as tree
 use Rattle.sb_syntax.specs.Tree.{Name, Expression, Items}
@@ -24,7 +23,7 @@ use Rattle.sb_syntax.specs.Reading as r
 use Rattle.sb_syntax.specs.Reading.{Reader, Joins, and_then, kind_at, sees, next, expect, bytes_of, ◌>>=◌, ◌>>◌, pure, pushes}
 use Rattle.sb_syntax.specs.Turns.{GoesOn}
 use Rattle.sb_syntax.proofs.Turns.{goes_on-end}
-use Rattle.sb_syntax.proofs.TokenLaws.{Reads, is-kind, is-sees, is-other, is-next, is-shorter, is-expect, same_kind-true, differs}
+use Rattle.sb_syntax.proofs.TokenLaws.{Reads, is-kind, is-sees, is-other, is-next, is-shorter, is-expect, differs}
 use Rattle.sb_syntax.proofs.Loops.{chained-start, goes_on-token, separated_to-reads}
 
 both_true : (a b : Bool) → a ≡ true → b ≡ true → (a && b) ≡ true

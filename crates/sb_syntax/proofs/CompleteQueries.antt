@@ -1,9 +1,5 @@
 -- The same of conditions and queries.
-use Rattle.std.proofs.Common.{◌≡◌, ◌≤◌, ◌<◌, ℕ, suc, Bool, true, false, List, [], ◌∷◌, length, Option, Some, None, ap, sym, ◌∙◌, refl, arith}
-use Rattle.std.proofs.lemmas.Option.{same_Some}
-use Rattle.sb_value.specs.declared.value.Value.{Value}
-use Rattle.sb_value.specs.declared.value.ColumnType.{ColumnType}
-use Rattle.sb_value.specs.declared.value.ColumnDefinition.{ColumnDefinition}
+use Rattle.std.proofs.Common.{◌≡◌, ◌<◌, ℕ, suc, Bool, true, false, List, length, Option, Some, None, ap, sym, ◌∙◌, refl, arith}
 use Rattle.sb_syntax.specs.declared.kind.Kind.{Kind}
 use Rattle.sb_syntax.specs.declared.kind.Kind.TheVariants as k
 use Rattle.sb_syntax.specs.declared.ast.Comparison.{Comparison}
@@ -18,8 +14,8 @@ use Rattle.sb_syntax.specs.Reading.{Reader, Joins, and_then, kind_at, sees, next
 use Rattle.sb_syntax.specs.Turns.{GoesOn}
 use Rattle.sb_syntax.proofs.Turns.{goes_on-end, pushes_no}
 use Rattle.sb_syntax.proofs.TokenLaws.{Reads, is-kind, is-sees, is-other, is-next, is-shorter, is-expect}
-use Rattle.sb_syntax.proofs.Loops.{chained-start, goes_on-token, separated-reads, separated_to-reads}
-use Rattle.sb_syntax.proofs.CompleteLaws.{mapped, name-reads, literal-reads, expr-reads, expr-begins, Stops, dot, begins-no, items-reads, sources-reads}
+use Rattle.sb_syntax.proofs.Loops.{chained-start, goes_on-token}
+use Rattle.sb_syntax.proofs.CompleteLaws.{mapped, expr-reads, expr-begins, Stops, dot, begins-no, items-reads, sources-reads}
 
 pub record StopsConj (ts : Input) : Type 0 where
   pub expr : Stops ts

@@ -1,14 +1,11 @@
 -- The same of changes, rules and commands.
-use Rattle.std.proofs.Common.{◌≡◌, ◌≤◌, inl, inr, ℕ, zero, suc, Bool, true, false, cond, List, [], ◌∷◌, length, Option, Some, None, ap, sym, refl, subst}
+use Rattle.std.proofs.Common.{◌≡◌, ◌≤◌, inl, inr, List, [], ◌∷◌, length, Option, Some, None, ap, subst}
 use Rattle.std.proofs.lemmas.Option.{same_Some}
-use Rattle.sb_value.specs.declared.value.Value.{Value}
 use Rattle.sb_value.specs.declared.value.ColumnType.{ColumnType}
 use Rattle.sb_value.specs.declared.value.ColumnType.TheVariants as t
 use Rattle.sb_value.specs.declared.value.ColumnDefinition.{ColumnDefinition}
 use Rattle.sb_syntax.specs.declared.kind.Kind.{Kind}
 use Rattle.sb_syntax.specs.declared.kind.Kind.TheVariants as k
-use Rattle.sb_syntax.specs.declared.ast.Comparison.{Comparison}
-use Rattle.sb_syntax.specs.declared.ast.SourceReference.{SourceReference}
 use Rattle.sb_syntax.specs.Input.{Input, Is}
 use Rattle.sb_syntax.specs.Tree as tree
 use Rattle.sb_syntax.specs.Tree.{Name, Operand, Filter, Query, Assignment, Change, Action, Trigger, RuleText, Command}
@@ -16,8 +13,8 @@ use Rattle.sb_syntax.specs.Grammar as g
 use Rattle.sb_syntax.specs.Grammar.{IsName, IsLiteral, IsOperand, IsFilter, IsQuery, IsColumnType, IsDefinition, IsTuple, IsAssignment, IsChange, IsNames, IsTrigger, IsAction, IsIf, IsListed, IsPhrase, IsRuleHead, IsRuleBody, IsRule, IsStatement, Separated, IsCommand, max_depth, max_columns, max_actions}
 use Rattle.sb_syntax.specs.Reading as r
 use Rattle.sb_syntax.specs.Reading.{Reader, Joins, and_then, kind_at, sees, next, expect, bytes_of, ◌>>=◌, ◌>>◌, pure}
-use Rattle.sb_syntax.proofs.TokenLaws.{two_steps, chosen, seen-is, kind-is, expect-is}
-use Rattle.sb_syntax.proofs.Loops.{same_read, chained-sound, separated-sound, separated_to-sound}
+use Rattle.sb_syntax.proofs.TokenLaws.{two_steps, chosen, expect-is}
+use Rattle.sb_syntax.proofs.Loops.{same_read, separated-sound, separated_to-sound}
 use Rattle.sb_syntax.proofs.SoundLaws.{Sound, mapped-sound, name-sound, literal-sound}
 use Rattle.sb_syntax.proofs.SoundQueries.{operand-sound, filter-sound, query-sound, inner-sound}
 

@@ -12,7 +12,7 @@ use Rattle.sb_syntax.specs.declared.ast.Arithmetic.TheVariants.{Add, Subtract, M
 use Rattle.sb_syntax.specs.declared.ast.TableReference.{TableReference}
 use Rattle.sb_syntax.specs.declared.ast.TableReference.TheVariants.{Named}
 use Rattle.sb_syntax.specs.declared.ast.ColumnReference.{ColumnReference}
-use Rattle.sb_syntax.specs.declared.ast.ColumnReference.TheVariants.{Plain, Qualified}
+use Rattle.sb_syntax.specs.declared.ast.ColumnReference.TheVariants.{Qualified}
 use Rattle.sb_syntax.specs.declared.ast.SourceReference.{SourceReference}
 use Rattle.sb_syntax.specs.Input.{Input, Is}
 use Rattle.sb_syntax.specs.Literal.{decimal, negative, unquoted}

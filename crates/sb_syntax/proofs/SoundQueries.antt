@@ -1,14 +1,9 @@
 -- The same of conditions and queries.
-use Rattle.std.proofs.Common.{◌≡◌, ◌≤◌, inl, inr, ℕ, zero, suc, Bool, true, false, cond, List, [], ◌∷◌, length, Option, Some, None, ap, sym, refl, subst}
+use Rattle.std.proofs.Common.{◌≡◌, inl, inr, ℕ, zero, suc, Bool, true, false, cond, Option, Some, None, sym, refl, subst}
 use Rattle.std.proofs.lemmas.Option.{same_Some}
-use Rattle.sb_value.specs.declared.value.Value.{Value}
-use Rattle.sb_value.specs.declared.value.ColumnType.{ColumnType}
-use Rattle.sb_value.specs.declared.value.ColumnType.TheVariants as t
-use Rattle.sb_value.specs.declared.value.ColumnDefinition.{ColumnDefinition}
 use Rattle.sb_syntax.specs.declared.kind.Kind.{Kind}
 use Rattle.sb_syntax.specs.declared.kind.Kind.TheVariants as k
 use Rattle.sb_syntax.specs.declared.ast.Comparison.{Comparison}
-use Rattle.sb_syntax.specs.declared.ast.SourceReference.{SourceReference}
 use Rattle.sb_syntax.specs.Input.{Input, Is}
 use Rattle.sb_syntax.specs.Tree as tree
 use Rattle.sb_syntax.specs.Tree.{Name, Expression, Items, Condition, Operand, Filter, Query, Change, Command}
@@ -17,8 +12,8 @@ use Rattle.sb_syntax.specs.Grammar.{IsName, IsLiteral, IsExpr, IsItems, IsCompar
 use Rattle.sb_syntax.specs.Reading as r
 use Rattle.sb_syntax.specs.Reading.{Reader, Joins, and_then, kind_at, sees, next, expect, bytes_of, ◌>>=◌, ◌>>◌, pure}
 use Rattle.sb_syntax.proofs.TokenLaws.{two_steps, chosen, seen-is, kind-is, expect-is}
-use Rattle.sb_syntax.proofs.Loops.{same_read, chained-sound, separated-sound, separated_to-sound}
-use Rattle.sb_syntax.proofs.SoundLaws.{Sound, mapped-sound, name-sound, literal-sound, expr-sound, items-sound, sources-sound}
+use Rattle.sb_syntax.proofs.Loops.{same_read, chained-sound}
+use Rattle.sb_syntax.proofs.SoundLaws.{Sound, mapped-sound, expr-sound, items-sound, sources-sound}
 
 comparison-is : (op : Comparison) (ts : Input) (kind : Option Kind) → kind_at ts ≡ kind → r.comparison_of kind ≡ Some op → IsComparison op ts (next ts)
 comparison-is op ts (Some k.Equal) is e = subst (λ (o : Comparison). IsComparison o ts (next ts)) (same_Some _ _ e) (g.equal (kind-is k.Equal ts is))

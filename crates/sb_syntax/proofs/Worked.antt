@@ -1,5 +1,5 @@
 -- The commands of a few texts, computed.
-use Rattle.std.proofs.Common.{◌≡◌, List, [], ◌∷◌, codes, pos, Option, Some, None, refl}
+use Rattle.std.proofs.Common.{◌≡◌, [], ◌∷◌, codes, pos, Some, None, refl}
 use Rattle.sb_value.specs.declared.value.Value.TheVariants.{Int, Text}
 use Rattle.sb_syntax.specs.declared.ast.Comparison.TheVariants.{Less}
 use Rattle.sb_syntax.specs.declared.ast.ColumnReference.TheVariants.{Plain, Qualified}

@@ -1,5 +1,5 @@
 -- The tree that a value of the program stands for.
-use Rattle.std.specs.Prelude.{map, option_map, List, Option, None, Some}
+use Rattle.std.specs.Prelude.{map, option_map, Option, None, Some}
 use Rattle.sb_syntax.specs.declared.ast.Expr.{Expr, Literal, Column, Binary'}
 use Rattle.sb_syntax.specs.declared.ast.Items.{Items}
 use Rattle.sb_syntax.specs.declared.ast.Items.TheVariants.{All, Count, Sum, Each}

@@ -1,4 +1,4 @@
-use Rattle.std.proofs.Common.{refl, length, ◌≡◌, ◌-◌, ◌+◌, suc, arith, length-append, map, ap, ◌∙◌, ℕ, List, ◌++◌, ◌∷◌, [], ◌<◌, ◌≤◌}
+use Rattle.std.proofs.Common.{refl, length, ◌-◌, suc, arith, map, ap, ◌∙◌}
 use Rattle.std.proofs.lemmas.Result.{err_from_is_err_and}
 use Rattle.std.proofs.lemmas.List.{map-append}
 use Rattle.sb_syntax.specs.Views.{expression}

@@ -1,4 +1,4 @@
-use Rattle.std.proofs.Common.{refl, length, ◌≡◌, ◌-◌, ◌+◌, suc, arith, length-append, ℕ, List, ◌++◌, ◌∷◌, [], ◌<◌, ◌≤◌, ap, ◌∙◌}
+use Rattle.std.proofs.Common.{refl, length, ◌-◌, suc, arith}
 use Rattle.std.proofs.lemmas.Result.{err_from_is_err_and}
 use Rattle.sb_syntax.specs.declared.kind.Kind.TheVariants.{Comma}
 use Rattle.sb_syntax.specs.Reading.{pushes, definition}
