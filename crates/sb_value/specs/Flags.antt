@@ -1,5 +1,5 @@
 -- Sets of small numbers as lists of flags, and the bits of a word as such a list, the lowest first.
-use Rattle.std.specs.Prelude.{◌≡◌, ℕ, zero, suc, ◌+◌, ◌*◌, ◌^◌, ◌<◌, Bool, false, not, ◌&&◌, ◌||◌, ◌==◌, if◌then◌else◌, List, [], ◌∷◌, slice_get, unwrap_or, replicate}
+use Rattle.std.specs.Prelude.{ℕ, zero, suc, ◌+◌, ◌*◌, Bool, false, not, ◌&&◌, ◌||◌, ◌==◌, if◌then◌else◌, List, [], ◌∷◌, slice_get, unwrap_or, replicate}
 use Rattle.std.specs.List.{list_any}
 use Rattle.std.specs.Int.{bit_at}
 
@@ -43,4 +43,3 @@ flags_of n word = flags_from n 0 word
 unfoldable pub word_of : List Bool → ℕ
 word_of [] = 0
 word_of (b ∷ bs) = (if b then 1 else 0) + 2 * word_of bs
-

@@ -1,5 +1,10 @@
 -- Laws of net effects and of the order, as statements.
-use Rattle.std.specs.Prelude.{◌≡◌, ℕ, Bool, true, false, ◌&&◌, List, [], ◌∷◌, ◌++◌, IsTrue, IsFalse, ◌↔◌}
+use Rattle.std.specs.List.{AllPass}
+use Rattle.sb_value.specs.Printable.{is_printable}
+use Rattle.sb_value.specs.Literal.{value_text, literal_value}
+use Rattle.sb_value.specs.declared.value.Value.{Value}
+use Rattle.sb_value.specs.declared.value.Value.TheVariants.{Int, Text}
+use Rattle.std.specs.Prelude.{◌≤◌, ◌-◌, ◌^◌, length, pos, negsuc, int_le, Ok, ◌≡◌, ℕ, Bool, true, false, ◌&&◌, List, [], ◌∷◌, ◌++◌, IsTrue, IsFalse, ◌↔◌}
 use Rattle.sb_value.specs.NetEffect.{history, net_effect, then_net, has_update, is_triggered}
 use Rattle.sb_value.specs.Table.{Entry, table_at, IsTable, IsProper}
 use Rattle.sb_value.specs.Order.{Precedes, precedes}
@@ -53,3 +58,12 @@ abbrev pub ProperListsHaveLives : Type 0
 ProperListsHaveLives =
     (tables : List Entry) (changes : List Change) (table tuple : ℕ) → IsTable (table_at tables table) → IsProper tables changes →
     IsTrue (is_life (history changes table tuple))
+
+-- what a value is in the range of: an integer of 64 bits, a text of at most 255 printable bytes
+abbrev pub IsInRange : Value → Type 0
+IsInRange (Int z) = IsTrue (int_le (negsuc (2 ^ 63 - 1)) z && int_le z (pos (2 ^ 63 - 1)))
+IsInRange (Text bytes) = (length bytes ≤ 255) × AllPass is_printable bytes
+
+-- the text of a value is a literal that gives the value back
+abbrev pub LiteralsGiveValuesBack : Type 0
+LiteralsGiveValuesBack = (v : Value) → IsInRange v → literal_value (value_text v) ≡ Ok v

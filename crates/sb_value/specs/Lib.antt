@@ -1,7 +1,13 @@
 pub mod Printable
+pub mod Name
+pub mod NameInverse
 pub mod Flags
+pub mod FlagsInverse
 pub mod Tree
+pub mod Values
+pub mod Literal
 pub mod Columns
+pub mod Refusal
 pub mod Table
 pub mod NetEffect
 pub mod Laws

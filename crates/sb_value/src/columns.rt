@@ -1,67 +1,70 @@
-//! Stand-in.
-ghost use Rattle.std.specs.Prelude.{◌≡◌, ◌<◌, slice_set, true, ◌||◌, ◌&&◌};
+//! Sets of column places.
+ghost use Rattle.std.specs.Prelude.{◌≡◌, ◌<◌, slice_set, true};
 ghost use Rattle.sb_value.specs.Flags.{no_flags, flag_at, union, share_place};
 
 use std::marker::Model;
 
-#[derive(Clone, Copy)]
+/// A set of places of columns, 0 to 7: the bits of a byte, seen as eight flags.
+#[derive(Clone, Copy, PartialEq, Eq)]
 pub struct Columns {
-    a: bool,
-    b: bool,
+    bits: u8,
 }
 
 impl Model for Columns {
-    ghost use Rattle.std.specs.Prelude.{List, Bool, ◌∷◌, []};
-    ghost use Rattle.sb_value.specs.Flags.{flag_at};
+    ghost use Rattle.std.specs.Prelude.{List, Bool, ◌<◌};
+    ghost use Rattle.sb_value.specs.Flags.{flags_of, word_of};
+    ghost use Rattle.sb_value.specs.FlagsInverse.{word_of-flags_of};
 
     ghost Value = { List Bool };
 
-    ghost view = { λ c. c.a ∷ c.b ∷ [] };
+    ghost view = { λ c. flags_of 8 c.bits };
 
-    ghost inverse = { λ z. record { a = flag_at z 0; b = flag_at z 1 } };
-}
+    ghost invariant = { λ c. c.bits < 256 };
 
-fn or(a: bool, b: bool) -> bool
-    ensures { result ≡ (a || b) }
-{
-    a || b
-}
+    ghost inverse = { λ flags. record { bits = word_of flags } };
 
-fn and(a: bool, b: bool) -> bool
-    ensures { result ≡ (a && b) }
-{
-    a && b
+    ghost inverse_ok = { λ c h i. record { bits = word_of-flags_of 8 c.bits h i } };
 }
 
 impl Columns {
+    /// No column.
     pub const fn empty() -> Columns
-        ensures { result ≡ no_flags 2 }
+        ensures { result ≡ no_flags 8 }
     {
-        Columns { a: false, b: false }
+        Columns { bits: 0 }
     }
 
+    /// Whether the place is in the set.
+    pub fn contains(self, place: u8) -> bool
+        requires { place < 8 }
+        ensures { result ≡ flag_at self place }
+    {
+        self.bits >> place & 1 == 1
+    }
+
+    /// The set with the place, too.
     pub fn with(self, place: u8) -> Columns
-        requires { place < 2 }
+        requires { place < 8 }
         ensures { result ≡ slice_set self place true }
     {
-        let a = or(self.a, place == 0);
-        let b = or(self.b, place == 1);
-        Columns { a, b }
+        Columns {
+            bits: self.bits | 1 << place,
+        }
     }
 
+    /// The places that either set has.
     pub fn union(self, other: Columns) -> Columns
         ensures { result ≡ union self other }
     {
-        let a = or(self.a, other.a);
-        let b = or(self.b, other.b);
-        Columns { a, b }
+        Columns {
+            bits: self.bits | other.bits,
+        }
     }
 
+    /// Whether the two sets have a place in common.
     pub fn intersects(self, other: Columns) -> bool
         ensures { result ≡ share_place self other }
     {
-        let a = and(self.a, other.a);
-        let b = and(self.b, other.b);
-        or(a, or(b, false))
+        self.bits & other.bits != 0
     }
 }

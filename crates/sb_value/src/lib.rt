@@ -4,10 +4,14 @@
 mod change;
 mod columns;
 mod id;
+mod laws;
+mod literal;
 mod lock;
 mod name;
 mod net;
+mod refusal;
 mod row;
+mod rule_set;
 mod value;
 
 pub use change::{Change, Kind};
@@ -15,8 +19,15 @@ pub use columns::Columns;
 pub use id::{
     RULE_LIMIT, RuleId, SESSION_LIMIT, SessionId, TABLE_LIMIT, TENANT_LIMIT, TableId, TenantId, Who,
 };
+pub use laws::{
+    last_change_triggers, literals_give_values_back, net_effects_compose, precedes_is_closure,
+    proper_lists_have_lives,
+};
+pub use literal::{LiteralError, print_value};
 pub use lock::Mode;
 pub use name::{NAME_LIMIT, Name};
 pub use net::{Net, Transition, Triggers};
+pub use refusal::{Refusal, Verdict};
 pub use row::{Row, RowList};
-pub use value::{ColumnDefinition, ColumnType, LiteralError, TEXT_LIMIT, Text, Value};
+pub use rule_set::RuleSet;
+pub use value::{ColumnDefinition, ColumnType, TEXT_LIMIT, Text, Value};

@@ -2,13 +2,14 @@
 ghost use Rattle.std.specs.Prelude.{◌≡◌, [], ◌∷◌, ◌++◌, length, IfOk, OnOk, OnErr, IsTrue, ◌↔◌};
 
 use crate::value::Value;
+use smallvec::SmallVec;
 use std::alloc::{AllocError, Global};
 use std::marker::Model;
 
 /// A row: its values in the order of the table's columns. Up to eight stand inline.
 #[derive(Drop)]
 pub struct Row {
-    values: Vec<Value>,
+    values: SmallVec<Value, 8>,
 }
 
 impl Model for Row {
@@ -26,7 +27,7 @@ impl Row {
         ensures { result ≡ [] }
     {
         Row {
-            values: Vec::new(alloc),
+            values: SmallVec::new(alloc),
         }
     }
 
@@ -57,8 +58,9 @@ impl Row {
     pub fn clone(&self) -> Result<Row, AllocError>
         ensures { IfOk result (λ copy. copy ≡ self.now) }
     {
+        let values = self.values();
         let mut copy = Row::new(*self.values.allocator());
-        for value in self.values.as_slice() {
+        for value in values {
             copy.push(value.clone()?)?;
         }
         Ok(copy)
@@ -117,8 +119,9 @@ impl RowList {
     pub fn clone(&self) -> Result<RowList, AllocError>
         ensures { IfOk result (λ copy. copy ≡ self.now) }
     {
+        let rows = self.rows();
         let mut copy = RowList::new(*self.rows.allocator());
-        for row in self.rows.as_slice() {
+        for row in rows {
             copy.push(row.clone()?)?;
         }
         Ok(copy)

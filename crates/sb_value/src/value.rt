@@ -5,6 +5,7 @@ ghost use Rattle.sb_value.specs.Printable.{is_printable};
 
 use crate::name::Name;
 use std::alloc::AllocError;
+use std::cmp::Ordering;
 use std::marker::Model;
 
 /// The most bytes that a text value has.
@@ -65,6 +66,8 @@ pub enum Value {
 }
 
 impl Value {
+    ghost use Rattle.sb_value.specs.Values.{type_of, value_cmp};
+
     /// A value equal to this one.
     pub fn clone(&self) -> Result<Value, AllocError>
         ensures { IfOk result (λ copy. copy ≡ self.now) }
@@ -73,6 +76,35 @@ impl Value {
             Value::Int(number) => Ok(Value::Int(*number)),
             Value::Text(text) => Ok(Value::Text(text.clone()?)),
         }
+    }
+
+    /// How it compares with another value.
+    pub fn compare(&self, other: &Value) -> Ordering
+        ensures { result ≡ value_cmp self.now other.now }
+    {
+        match (self, other) {
+            (Value::Int(one), Value::Int(two)) => one.cmp(two),
+            (Value::Text(one), Value::Text(two)) => one.as_slice().cmp(two.as_slice()),
+            (Value::Int(_), Value::Text(_)) => Ordering::Less,
+            (Value::Text(_), Value::Int(_)) => Ordering::Greater,
+        }
+    }
+
+    /// The type of the columns that hold it.
+    pub fn column_type(&self) -> ColumnType
+        ensures { result ≡ type_of self.now }
+    {
+        match self {
+            Value::Int(_) => ColumnType::Int,
+            Value::Text(_) => ColumnType::Text,
+        }
+    }
+}
+
+/// Zero. An unused place of a row holds it.
+impl Default for Value {
+    fn default() -> Value {
+        Value::Int(0)
     }
 }
 
@@ -84,17 +116,8 @@ pub enum ColumnType {
 }
 
 /// A column of a table.
-#[derive(Clone, Copy)]
+#[derive(Clone, Copy, PartialEq, Eq)]
 pub struct ColumnDefinition {
     pub name: Name,
     pub of: ColumnType,
-}
-
-/// Why bytes give no value.
-#[derive(Clone, Copy, Debug, PartialEq, Eq)]
-pub enum LiteralError {
-    BadType,
-    TextTooLong,
-    Overflow,
-    NoMemory,
 }

@@ -2,4 +2,4 @@ use Rattle.std.proofs.Common.{◌≡◌, take}
 use Rattle.sb_value.proofs.row.RowList.clone.Given as goal
 
 abbrev pub invariant-loop-row : goal.invariant-loop-row
-invariant-loop-row l = l.copy ≡ take l.row-index l.row-items
+invariant-loop-row l = l.copy ≡ take l.row-index l.rows

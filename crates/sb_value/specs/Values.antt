@@ -1,0 +1,20 @@
+-- The type of a value, and how values compare.
+use Rattle.std.specs.declared.cmp.Ordering.{Ordering}
+use Rattle.std.specs.declared.cmp.Ordering.TheVariants as order
+use Rattle.std.specs.Ordering.{nat_cmp, int_cmp}
+use Rattle.std.specs.Cmp.Lexicographic.{slice_cmp}
+use Rattle.sb_value.specs.declared.value.Value.{Value}
+use Rattle.sb_value.specs.declared.value.Value.TheVariants as value
+use Rattle.sb_value.specs.declared.value.ColumnType.{ColumnType}
+use Rattle.sb_value.specs.declared.value.ColumnType.TheVariants as column_type
+
+abbrev pub type_of : Value → ColumnType
+type_of (value.Int z) = column_type.Int
+type_of (value.Text t) = column_type.Text
+
+-- integers compare by value, texts by their bytes; every integer stands before every text
+abbrev pub value_cmp : Value → Value → Ordering
+value_cmp (value.Int a) (value.Int b) = int_cmp a b
+value_cmp (value.Text a) (value.Text b) = slice_cmp nat_cmp a b
+value_cmp (value.Int a) (value.Text b) = order.Less
+value_cmp (value.Text a) (value.Int b) = order.Greater

@@ -1,0 +1,87 @@
+//! Sets of rules.
+ghost use Rattle.std.specs.Prelude.{◌≡◌, ◌<◌, slice_set, length, true, false};
+ghost use Rattle.sb_value.specs.Flags.{no_flags, flag_at, union, intersection, has_none};
+
+use crate::id::RuleId;
+use std::marker::Model;
+
+/// A set of rules of one tenant: the bits of a word, seen as a flag for each id.
+#[derive(Clone, Copy, PartialEq, Eq)]
+pub struct RuleSet {
+    bits: u64,
+}
+
+impl Model for RuleSet {
+    ghost use Rattle.std.specs.Prelude.{List, Bool, ◌<◌, ◌^◌};
+    ghost use Rattle.sb_value.specs.Flags.{flags_of, word_of};
+    ghost use Rattle.sb_value.specs.FlagsInverse.{word_of-flags_of};
+
+    ghost Value = { List Bool };
+
+    ghost view = { λ set. flags_of 64 set.bits };
+
+    ghost invariant = { λ set. set.bits < 2 ^ 64 };
+
+    ghost inverse = { λ flags. record { bits = word_of flags } };
+
+    ghost inverse_ok = { λ set h i. record { bits = word_of-flags_of 64 set.bits h i } };
+}
+
+impl RuleSet {
+    /// No rule.
+    pub const fn empty() -> RuleSet
+        ensures { result ≡ no_flags 64 }
+    {
+        RuleSet { bits: 0 }
+    }
+
+    /// Whether the rule is in the set.
+    pub fn contains(self, rule: RuleId) -> bool
+        ensures { result ≡ flag_at self rule }
+    {
+        self.bits >> rule.number() & 1 == 1
+    }
+
+    /// The set with the rule, too.
+    pub fn with(self, rule: RuleId) -> RuleSet
+        ensures { result ≡ slice_set self rule true }
+    {
+        RuleSet {
+            bits: self.bits | 1 << rule.number(),
+        }
+    }
+
+    /// The set without the rule.
+    pub fn without(self, rule: RuleId) -> RuleSet
+        ensures { result ≡ slice_set self rule false }
+    {
+        RuleSet {
+            bits: self.bits & !(1 << rule.number()),
+        }
+    }
+
+    /// The rules that either set has.
+    pub fn union(self, other: RuleSet) -> RuleSet
+        ensures { result ≡ union self other }
+    {
+        RuleSet {
+            bits: self.bits | other.bits,
+        }
+    }
+
+    /// The rules that both sets have.
+    pub fn intersection(self, other: RuleSet) -> RuleSet
+        ensures { result ≡ intersection self other }
+    {
+        RuleSet {
+            bits: self.bits & other.bits,
+        }
+    }
+
+    /// Whether no rule is in the set.
+    pub fn is_empty(self) -> bool
+        ensures { result ≡ has_none self }
+    {
+        self.bits == 0
+    }
+}
