@@ -27,9 +27,7 @@ fn values_of(row: &Option<Row>) -> &[Value]
 }
 
 fn between<'a>(first: &'a Change, last: &'a Change, columns: Columns) -> Option<NetOf<'a>>
-    ensures {
-        option_map seen result ≡ net_between first.now.kind last.now.kind first.now last.now columns
-    }
+    ensures { option_map seen result ≡ net_between first.now.kind last.now.kind first.now last.now columns }
 {
     let old = values_of(&first.old);
     let new = values_of(&last.new);
@@ -50,9 +48,7 @@ pub fn net<L: ChangeLog>(
     tuple: u64,
     since: u64,
 ) -> Option<NetOf<'_>>
-    ensures {
-        option_map seen result ≡ net_effect (changes_since who since (L.records log.now)) table tuple
-    }
+    ensures { option_map seen result ≡ net_effect (changes_since who since (L.records log.now)) table tuple }
 {
     let Some(changes) = span_of(log, who, table, tuple, since) else {
         return None;

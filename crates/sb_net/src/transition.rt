@@ -122,7 +122,16 @@ pub fn transition_tables<L: ChangeLog>(
         new_updated: RowList::new(alloc),
     };
     for tuple in &tuples {
-        push_tuple(alloc, &mut tables, &triggers, log, &who, table, *tuple, since)?;
+        push_tuple(
+            alloc,
+            &mut tables,
+            &triggers,
+            log,
+            &who,
+            table,
+            *tuple,
+            since,
+        )?;
     }
     Ok(tables)
 }

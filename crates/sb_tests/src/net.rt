@@ -172,6 +172,21 @@ fn triggers<L: ChangeLog>(rt: &impl Abort, alloc: Global, log: &mut L) -> Result
     Ok(())
 }
 
+/// 4,096 updates of 256 tuples in turn.
+fn many_changes<L: ChangeLog>(rt: &impl Abort, alloc: Global, log: &mut L) -> Result<(), Fail> {
+    log.reserve(4096)?;
+    for i in 0..4096 {
+        let update = change(alloc, 0, i % 256, Kind::Updated, Some(1), Some(2))?;
+        append(rt, log, update);
+    }
+    let triggers = on_update(true, Columns::empty());
+    let tables = transition_tables(alloc, log, session_of(0), table(), triggers, 0)?;
+    assert_eq!(rt; tables.new_updated.len(), 256);
+    let quiet = on_update(false, Columns::empty().with(3));
+    assert!(rt; !is_triggered(log, session_of(0), table(), quiet, 0));
+    Ok(())
+}
+
 #[test]
 fn a_plain_log_has_the_net_effect_of_all_pairs(rt: HostRuntime) -> Result<(), Fail> {
     all_pairs(&rt, rt.alloc(), &mut PlainLog::new(rt.alloc()))
@@ -190,4 +205,9 @@ fn a_plain_log_gives_transition_tables(rt: HostRuntime) -> Result<(), Fail> {
 #[test]
 fn a_plain_log_triggers_rules(rt: HostRuntime) -> Result<(), Fail> {
     triggers(&rt, rt.alloc(), &mut PlainLog::new(rt.alloc()))
+}
+
+#[test]
+fn a_plain_log_takes_many_changes(rt: HostRuntime) -> Result<(), Fail> {
+    many_changes(&rt, rt.alloc(), &mut PlainLog::new(rt.alloc()))
 }
