@@ -221,9 +221,7 @@ fn is_named_twice(columns: &[ColumnDefinition]) -> bool
 {
     match columns {
         [] => false,
-        [first, rest @ ..] => {
-            has_name(rest, first.name) || is_named_twice(rest)
-        }
+        [first, rest @ ..] => { has_name(rest, first.name) || is_named_twice(rest) }
     }
 }
 

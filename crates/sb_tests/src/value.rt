@@ -40,7 +40,10 @@ const NO_LITERALS: [(&[u8], LiteralError); 16] = [
     (b"'\n'", LiteralError::BadType),
     (b"9223372036854775808", LiteralError::Overflow),
     (b"-9223372036854775809", LiteralError::Overflow),
-    (b"99999999999999999999999999999999999999999", LiteralError::Overflow),
+    (
+        b"99999999999999999999999999999999999999999",
+        LiteralError::Overflow,
+    ),
 ];
 
 #[test]
