@@ -1,0 +1,4 @@
+pub mod Rising
+pub mod Slots
+pub mod Stored
+pub mod Undo

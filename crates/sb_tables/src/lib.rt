@@ -1,0 +1,9 @@
+//! One table with undo: rows in rising number, whose deletes are marks until the table is settled, specified by a list.
+#![tactic(auto)]
+
+mod rows;
+mod slot;
+mod table;
+
+pub use rows::Rows;
+pub use table::{ROW_LIMIT, Table, TooManyRows};
