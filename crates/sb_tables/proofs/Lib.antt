@@ -3,3 +3,4 @@ pub mod RowLaws
 pub mod SlotLaws
 pub mod TableLaws
 pub mod UndoLaws
+pub mod KeepLaws

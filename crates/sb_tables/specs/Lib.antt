@@ -2,3 +2,4 @@ pub mod Rising
 pub mod Slots
 pub mod Stored
 pub mod Undo
+pub mod Laws

@@ -1,6 +1,7 @@
 -- Undoing the newest change of a table.
 use Rattle.std.specs.Prelude.{◌≡◌, ℕ, ◌+◌, List, [], ◌∷◌, ◌++◌}
 use Rattle.sb_value.specs.Table.{Table, IsTable, fits_kind, after_change}
+use Rattle.sb_tables.specs.Stored.{Stored}
 use Rattle.sb_value.specs.declared.change.Change.{Change}
 use Rattle.sb_value.specs.declared.change.Kind.{Kind}
 use Rattle.sb_value.specs.declared.change.Kind.TheVariants.{Inserted, Deleted, Updated}
@@ -26,3 +27,7 @@ abbrev pub room_before : Kind → ℕ → ℕ
 room_before Inserted room = room + 1
 room_before Deleted room = room
 room_before Updated room = room
+
+-- a stored table after a change
+abbrev pub stored_after : Change → Stored → Stored
+stored_after c s = record { table = after_change c s.table; places = places_after c.kind c.tuple s.places; room = s.room }
