@@ -1,9 +1,9 @@
 -- A change keeps a stored table stored, and only one table can be before it.
-use Rattle.std.proofs.Common.{◌≡◌, ℕ, zero, suc, ◌+◌, ◌-◌, ◌<◌, ◌≤◌, Bool, true, false, cond, not, ◌==◌, ◌||◌, List, [], ◌∷◌, ◌++◌, map, length, get_or, Option, Some, None, IsSome, IsTrue, inl, inr, refl, sym, ◌∙◌, ap, subst, arith}
+use Rattle.std.proofs.Common.{◌≡◌, ℕ, suc, ◌+◌, ◌<◌, ◌≤◌, true, false, cond, not, ◌==◌, List, [], ◌∷◌, ◌++◌, map, length, Option, Some, None, IsSome, IsTrue, inl, inr, refl, sym, ◌∙◌, ap, subst, arith}
 use Rattle.std.specs.Prelude.{find, option_map, Contains}
 use Rattle.std.specs.List.{list_any}
 use Rattle.std.proofs.lemmas.Bool.{eqb-true, eq-eqb, false≢true, or_cases, or_left, or_right}
-use Rattle.std.proofs.lemmas.List.{map_push, length_push, get_or_push, same_from_push}
+use Rattle.std.proofs.lemmas.List.{map_push, same_from_push}
 use Rattle.std.proofs.lemmas.List.Folds.{list_any-append}
 use Rattle.sb_value.specs.declared.value.Value.{Value}
 use Rattle.sb_value.specs.declared.change.Change.{Change}
@@ -11,7 +11,7 @@ use Rattle.sb_value.specs.declared.change.Kind.{Kind}
 use Rattle.sb_value.specs.declared.change.Kind.TheVariants.{Inserted, Deleted, Updated}
 use Rattle.sb_value.specs.Table.{Table, IsTable, new_row, after_kind, fits_kind}
 use Rattle.sb_tables.specs.Rising.{Rises}
-use Rattle.sb_tables.specs.Stored.{Stored, IsStored, HavePlaces, numbers_of, with_row_put}
+use Rattle.sb_tables.specs.Stored.{Stored, IsStored, HavePlaces, numbers_of}
 use Rattle.sb_tables.specs.Undo.{IsBefore, places_after}
 use Rattle.sb_tables.specs.Laws.{ChangesKeepPlaces, TablesBeforeAreOne}
 use Rattle.sb_tables.proofs.RisingLaws.{rises_push, rises_lower}

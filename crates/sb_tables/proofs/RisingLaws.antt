@@ -1,5 +1,5 @@
 -- Rising numbers: places among them, and one more or one less at the end.
-use Rattle.std.proofs.Common.{◌≡◌, ℕ, zero, suc, ◌+◌, ◌<◌, ◌≤◌, List, [], ◌∷◌, ◌++◌, length, take, drop, get_or, refl, sym, ◌∙◌, ap, subst, arith}
+use Rattle.std.proofs.Common.{◌≡◌, ℕ, zero, suc, ◌+◌, ◌<◌, ◌≤◌, List, [], ◌∷◌, ◌++◌, length, take, drop, get_or, arith}
 use Rattle.sb_tables.specs.Rising.{Rises, AllBelow, AllFrom}
 
 pub rises_ends : (low : ℕ) (ns : List ℕ) (high : ℕ) → Rises low ns high → low ≤ high

@@ -1,12 +1,12 @@
 -- Rows in rising number: one taken away, replaced, or put in its place.
-use Rattle.std.proofs.Common.{◌≡◌, ℕ, zero, suc, ◌+◌, ◌<◌, ◌≤◌, Bool, true, false, cond, not, ◌==◌, List, [], ◌∷◌, ◌++◌, map, filter, length, Option, Some, None, IsSome, refl, sym, ◌∙◌, ap, subst, arith}
+use Rattle.std.proofs.Common.{◌≡◌, ℕ, suc, ◌+◌, ◌<◌, ◌≤◌, true, false, cond, not, ◌==◌, List, [], ◌∷◌, map, filter, length, Option, Some, None, IsSome, refl, sym, ◌∙◌, ap, subst, arith}
 use Rattle.std.specs.Prelude.{find, option_map, nat_lt}
-use Rattle.std.proofs.lemmas.Bool.{eqb-true, eqb-false, eq-eqb, ne_eqb, lt-ltb, le-ltb, false≢true}
+use Rattle.std.proofs.lemmas.Bool.{eqb-true, eq-eqb, ne_eqb, lt-ltb, le-ltb, false≢true}
 use Rattle.sb_value.specs.declared.value.Value.{Value}
 use Rattle.sb_value.specs.Table.{Table, AreBelow, AreRising, IsTable}
 use Rattle.sb_tables.specs.Rising.{Rises}
 use Rattle.sb_tables.specs.Stored.{numbers_of, put}
-use Rattle.sb_tables.proofs.RisingLaws.{rises_at, rises_ends, rises_lower}
+use Rattle.sb_tables.proofs.RisingLaws.{rises_ends}
 
 abbrev pub Numbered : Type 0
 Numbered = ℕ × List Value

@@ -1,10 +1,9 @@
 -- A change of a table, undone.
-use Rattle.std.proofs.Common.{◌≡◌, ℕ, ◌+◌, Bool, List, [], ◌∷◌, ◌++◌, Option, Some, IsSome, refl, sym, ◌∙◌, ap, subst}
+use Rattle.std.proofs.Common.{◌≡◌, List, Some, sym, ◌∙◌, ap, subst}
 use Rattle.sb_value.specs.declared.value.Value.{Value}
 use Rattle.sb_value.specs.declared.change.Change.{Change}
-use Rattle.sb_value.specs.declared.change.Kind.{Kind}
-use Rattle.sb_value.specs.declared.change.Kind.TheVariants.{Inserted, Deleted, Updated}
-use Rattle.sb_value.specs.Table.{Table, row_at, new_row, after_kind, fits_kind}
+use Rattle.sb_value.specs.declared.change.Kind.TheVariants.{Deleted, Updated}
+use Rattle.sb_value.specs.Table.{Table, new_row, after_kind, fits_kind}
 use Rattle.sb_tables.specs.Stored.{with_row_put}
 use Rattle.sb_tables.specs.Undo.{IsBefore}
 use Rattle.sb_tables.proofs.RowLaws.{table_rises, put-others, put-replaced}

@@ -1,5 +1,4 @@
-use Rattle.std.proofs.Common.{◌≡◌, ◌+◌, ◌-◌, ◌/◌, ◌<◌, ◌≤◌, length, take, get_or, sym, subst, arith, add-one}
-use Rattle.sb_tables.specs.Rising.{AllBelow}
+use Rattle.std.proofs.Common.{◌≡◌, ◌+◌, ◌-◌, ◌/◌, ◌<◌, ◌≤◌, length, subst, arith, add-one}
 use Rattle.sb_tables.specs.Slots.{numbers}
 use Rattle.sb_tables.proofs.RisingLaws.{below_to, from_on}
 use Rattle.sb_tables.proofs.SlotLaws.{length-numbers}

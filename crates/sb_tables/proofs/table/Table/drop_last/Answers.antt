@@ -1,7 +1,6 @@
-use Rattle.std.proofs.Common.{◌≡◌, ◌+◌, ◌-◌, ◌<◌, List, [], ◌∷◌, ◌++◌, length, refl, sym, ap, ◌∙◌, subst, arith}
+use Rattle.std.proofs.Common.{◌≡◌, ◌+◌, ◌-◌, ◌<◌, [], ◌∷◌, ◌++◌, length, sym, ap, ◌∙◌, subst, arith}
 use Rattle.std.specs.Prelude.{vec_capacity}
 use Rattle.std.proofs.lemmas.List.{length_push}
-use Rattle.sb_value.specs.Table.{Table}
 use Rattle.sb_tables.specs.Slots.{live_rows, numbers, AreSound}
 use Rattle.sb_tables.proofs.SlotLaws.{live_at_most}
 use Rattle.sb_tables.proofs.TableLaws.{popped, rows-pop, numbers-pop, sound-pop}

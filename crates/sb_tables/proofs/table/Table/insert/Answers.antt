@@ -1,8 +1,8 @@
-use Rattle.std.proofs.Common.{◌≡◌, ◌+◌, ◌-◌, ◌<◌, ◌≤◌, true, cond, List, [], ◌∷◌, ◌++◌, is_ok, refl, sym, ◌∙◌, ap, subst, arith, vec_len}
+use Rattle.std.proofs.Common.{◌≡◌, ◌+◌, ◌-◌, true, cond, List, [], ◌∷◌, ◌++◌, is_ok, refl, sym, ◌∙◌, ap, subst, arith}
 use Rattle.std.specs.Prelude.{vec_capacity}
 use Rattle.sb_tables.specs.declared.slot.Slot.{Slot}
 use Rattle.sb_tables.specs.Slots.{live_rows, numbers, AreSound}
-use Rattle.sb_tables.proofs.TableLaws.{stored, same_stored, sound-push, rows-push, numbers-push}
+use Rattle.sb_tables.proofs.TableLaws.{same_stored, sound-push, rows-push, numbers-push}
 use Rattle.sb_tables.proofs.table.Table.insert.Goals as goal
 
 pub invariant_of-self : goal.invariant_of-self

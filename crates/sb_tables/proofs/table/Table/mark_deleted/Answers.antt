@@ -1,9 +1,8 @@
-use Rattle.std.proofs.Common.{◌≡◌, ◌<◌, length, get_or, IsSome, false, refl, sym, ◌∙◌, ap, subst}
+use Rattle.std.proofs.Common.{IsSome, false, refl, sym, subst}
 use Rattle.sb_value.specs.Table.{row_at}
 use Rattle.sb_tables.specs.declared.slot.Slot.{Slot}
 use Rattle.sb_tables.specs.Rising.{IsPlace}
-use Rattle.sb_tables.specs.Slots.{live_rows, numbers}
-use Rattle.sb_tables.proofs.RowLaws.{row_of}
+use Rattle.sb_tables.specs.Slots.{numbers}
 use Rattle.sb_tables.proofs.SlotLaws.{has_slot, Has}
 use Rattle.sb_tables.proofs.TableLaws.{same_stored, numbered, rows-mark, sound-mark, numbers-write}
 use Rattle.sb_tables.proofs.table.Table.mark_deleted.Goals as goal

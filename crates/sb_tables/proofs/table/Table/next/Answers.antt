@@ -1,5 +1,5 @@
-use Rattle.std.proofs.Common.{ap, rules, sym, subst}
-use Rattle.sb_tables.specs.Slots.{live_rows, numbers}
+use Rattle.std.proofs.Common.{subst}
+use Rattle.sb_tables.specs.Slots.{live_rows}
 use Rattle.sb_tables.specs.Stored.{IsStored}
 use Rattle.sb_tables.proofs.RowLaws.{rises_below, rises_rising}
 use Rattle.sb_tables.proofs.SlotLaws.{live_rises, live_places}

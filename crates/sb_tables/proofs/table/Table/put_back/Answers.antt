@@ -1,5 +1,4 @@
-use Rattle.std.proofs.Common.{◌≡◌, ◌≤◌, true, false, set, refl, sym, ap, ◌∙◌, subst, Contains}
-use Rattle.sb_value.specs.Table.{Table}
+use Rattle.std.proofs.Common.{◌≡◌, true, set, refl, sym, ap, ◌∙◌, subst}
 use Rattle.sb_tables.specs.declared.slot.Slot.{Slot}
 use Rattle.sb_tables.specs.declared.table.Table.TheInside.{Inside}
 use Rattle.sb_tables.specs.Rising.{IsPlace}

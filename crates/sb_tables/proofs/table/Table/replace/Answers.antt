@@ -1,4 +1,4 @@
-use Rattle.std.proofs.Common.{◌≡◌, ◌<◌, length, get_or, IsSome, Some, true, refl, sym, ◌∙◌, ap, subst}
+use Rattle.std.proofs.Common.{IsSome, Some, refl, sym, ◌∙◌, ap, subst}
 use Rattle.sb_value.specs.Table.{row_at}
 use Rattle.sb_tables.specs.declared.slot.Slot.{Slot}
 use Rattle.sb_tables.specs.Rising.{IsPlace}

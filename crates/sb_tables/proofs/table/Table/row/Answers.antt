@@ -1,10 +1,7 @@
 use Rattle.std.proofs.Common.{◌≡◌, ◌≤◌, ◌<◌, cond, length, get_or, Some, None, sym, ap, ◌∙◌, subst}
 use Rattle.sb_value.specs.Table.{row_at}
-use Rattle.sb_tables.specs.declared.slot.Slot.{Slot}
 use Rattle.sb_tables.specs.Rising.{IsFirstFrom}
-use Rattle.sb_tables.specs.Slots.{live_rows, numbers}
-use Rattle.sb_tables.proofs.RowLaws.{row_of}
-use Rattle.sb_tables.proofs.SlotLaws.{row_if}
+use Rattle.sb_tables.specs.Slots.{numbers}
 use Rattle.sb_tables.proofs.TableLaws.{row_found, row_missed}
 use Rattle.sb_tables.proofs.table.Table.row.Goals as goal
 

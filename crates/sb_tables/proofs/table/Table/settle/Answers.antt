@@ -1,4 +1,4 @@
-use Rattle.std.proofs.Common.{◌≡◌, List, rules, length, refl, sym, ◌∙◌, ap, arith}
+use Rattle.std.proofs.Common.{◌≡◌, rules, length, refl, ◌∙◌, ap, arith}
 use Rattle.std.proofs.lemmas.Fn.{filter_same}
 use Rattle.sb_tables.specs.declared.slot.Slot.{Slot}
 use Rattle.sb_tables.specs.Slots.{live_rows, numbers}
