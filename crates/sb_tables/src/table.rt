@@ -138,6 +138,7 @@ impl Table {
             return Err(TooManyRows);
         }
         let number = self.next;
+        // The place is reserved, so this needs no memory.
         let _ = self.slots.push(Slot {
             number,
             row,
@@ -184,6 +185,16 @@ impl Table {
         }
     }
 
+    /// Drops the deleted rows for good.
+    pub fn settle(&mut self)
+        ensures { self.new ≡ record self.old { places = numbers_of self.old.table.rows } }
+    {
+        if self.deleted > 0 {
+            self.slots.retain(|slot| slot.live);
+            self.deleted = 0;
+        }
+    }
+
     /// Drops the row that was inserted last. Its place is reserved again.
     fn drop_last(&mut self)
         requires { (before : Definition) × (row : List Item) × (with_row row before ≡ self.old.table) }
@@ -210,15 +221,5 @@ impl Table {
             row,
             live: true,
         };
-    }
-
-    /// Drops the deleted rows for good.
-    pub fn settle(&mut self)
-        ensures { self.new ≡ record self.old { places = numbers_of self.old.table.rows } }
-    {
-        if self.deleted > 0 {
-            self.slots.retain(|slot| slot.live);
-            self.deleted = 0;
-        }
     }
 }
