@@ -10,4 +10,6 @@ mod rawlog;
 #[cfg(test)]
 mod syntax;
 #[cfg(test)]
+mod tables;
+#[cfg(test)]
 mod value;

@@ -1,0 +1,6 @@
+pub mod RisingLaws
+pub mod RowLaws
+pub mod SlotLaws
+pub mod TableLaws
+pub mod UndoLaws
+pub mod KeepLaws

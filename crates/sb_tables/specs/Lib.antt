@@ -1,0 +1,5 @@
+pub mod Rising
+pub mod Slots
+pub mod Stored
+pub mod Undo
+pub mod Laws

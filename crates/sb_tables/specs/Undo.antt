@@ -1,0 +1,33 @@
+-- Undoing the newest change of a table.
+use Rattle.std.specs.Prelude.{◌≡◌, ℕ, ◌+◌, List, [], ◌∷◌, ◌++◌}
+use Rattle.sb_value.specs.Table.{Table, IsTable, fits_kind, after_change}
+use Rattle.sb_tables.specs.Stored.{Stored}
+use Rattle.sb_value.specs.declared.change.Change.{Change}
+use Rattle.sb_value.specs.declared.change.Kind.{Kind}
+use Rattle.sb_value.specs.declared.change.Kind.TheVariants.{Inserted, Deleted, Updated}
+
+-- the change can be made of the table before, and makes it the table now
+pub record IsBefore (c : Change) (now before : Table) : Type 0 where
+  pub is_table : IsTable before
+  pub fits : fits_kind c.kind c before
+  pub made : after_change c before ≡ now
+
+-- the change is the newest of the table
+abbrev pub IsNewest : Change → Table → Type 0
+IsNewest c now = (before : Table) × IsBefore c now before
+
+-- the numbers that have a place, after a change
+abbrev pub places_after : Kind → ℕ → List ℕ → List ℕ
+places_after Inserted tuple places = places ++ tuple ∷ []
+places_after Deleted tuple places = places
+places_after Updated tuple places = places
+
+-- an insert that is undone leaves its room
+abbrev pub room_before : Kind → ℕ → ℕ
+room_before Inserted room = room + 1
+room_before Deleted room = room
+room_before Updated room = room
+
+-- a stored table after a change
+abbrev pub stored_after : Change → Stored → Stored
+stored_after c s = record { table = after_change c s.table; places = places_after c.kind c.tuple s.places; room = s.room }
