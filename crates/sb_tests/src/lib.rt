@@ -4,9 +4,15 @@
 #[cfg(test)]
 mod changes;
 #[cfg(test)]
+mod index;
+#[cfg(test)]
+mod locks;
+#[cfg(test)]
 mod net;
 #[cfg(test)]
 mod rawlog;
+#[cfg(test)]
+mod rulesets;
 #[cfg(test)]
 mod syntax;
 #[cfg(test)]

@@ -9,8 +9,6 @@ use Rattle.sb_value.specs.declared.net.Triggers.{Triggers}
 use Rattle.sb_value.specs.Columns.{set_of}
 use Rattle.sb_value.specs.NetEffect.{net_effect, is_triggered, transition_tables, tuples_of}
 use Rattle.sb_value.specs.Order.{precedes, chosen}
-use Rattle.sb_value.specs.Log.{Log, empty_log, appended, records_of_kind, records_of_tuple, mark_at, forgotten}
-use Rattle.sb_value.specs.declared.id.Who.{Who}
 
 abbrev row : ℕ → List Value
 row n = Int (pos n) ∷ []
@@ -63,22 +61,3 @@ earliest = refl
 
 pub cycle : precedes ((1, 0) ∷ (2, 1) ∷ (0, 2) ∷ []) 0 0 ≡ true
 cycle = refl
-
--- a log of three changes of two tenants
-abbrev one_log : Log
-one_log = appended (appended (appended empty_log (inserted 1 5)) (record (inserted 1 5) { tenant = 8 })) (updated 1 5 6 (0 ∷ []))
-
-abbrev session_of : ℕ → Who
-session_of tenant = record { tenant = tenant; session = 0 }
-
-pub by_tuple : records_of_tuple (session_of 0) 0 1 0 one_log ≡ (2, updated 1 5 6 (0 ∷ [])) ∷ (0, inserted 1 5) ∷ []
-by_tuple = refl
-
-pub by_kind : records_of_kind (session_of 8) 0 kind.Inserted 0 one_log ≡ (1, record (inserted 1 5) { tenant = 8 }) ∷ []
-by_kind = refl
-
-pub mark : mark_at (session_of 0) one_log 2 ≡ 1
-mark = refl
-
-pub after_forget : (forgotten (session_of 8) one_log).records ≡ (0, inserted 1 5) ∷ (2, updated 1 5 6 (0 ∷ [])) ∷ []
-after_forget = refl

@@ -11,6 +11,6 @@ pub mod Refusal
 pub mod Table
 pub mod NetEffect
 pub mod Laws
-pub mod Log
+pub mod Candidates
 pub mod Order
 pub mod Locks

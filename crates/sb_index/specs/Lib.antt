@@ -1,0 +1,3 @@
+pub mod TableSets
+pub mod Operation
+pub mod Stands

@@ -1,0 +1,82 @@
+//! Sets of rules, by what is in them.
+ghost use Rattle.std.specs.Prelude.{◌≡◌, ℕ, Bool, false, not, ◌&&◌, ◌||◌, ◌==◌};
+ghost use Rattle.sb_value.specs.Flags.{flag_at};
+
+use sb_value::{RuleId, RuleSet};
+use std::marker::Model;
+
+/// A set of rules that is known to have a flag for each rule.
+#[derive(Clone, Copy)]
+pub struct Rules {
+    set: RuleSet,
+}
+
+impl Model for Rules {
+    ghost use Rattle.std.specs.Prelude.{◌≡◌, List, Bool, length};
+
+    ghost Value = { List Bool };
+
+    ghost view = { λ r. r.set };
+
+    ghost invariant = { λ r. length r.set ≡ 64 };
+
+    ghost inverse = { λ flags. record { set = flags } };
+}
+
+impl Rules {
+    /// No rule.
+    pub const fn none() -> Rules
+        ensures { (k : ℕ) → flag_at result k ≡ false }
+    {
+        Rules {
+            set: RuleSet::empty(),
+        }
+    }
+
+    /// The set as others see it.
+    pub fn set(self) -> RuleSet
+        ensures { result ≡ self }
+    {
+        self.set
+    }
+
+    /// The set with the rule, too, if it is named.
+    pub fn with_if(self, rule: RuleId, named: bool) -> Rules
+        ensures { (k : ℕ) → flag_at result k ≡ (flag_at self k || ((k == rule) && named)) }
+    {
+        // for the proof: the rule has a flag
+        let _in_range = rule.number();
+        if !named {
+            return self;
+        }
+        Rules {
+            set: self.set.with(rule),
+        }
+    }
+
+    /// The set without the rule.
+    pub fn without(self, rule: RuleId) -> Rules
+        ensures { (k : ℕ) → flag_at result k ≡ (flag_at self k && not (k == rule)) }
+    {
+        let _in_range = rule.number();
+        Rules {
+            set: self.set.without(rule),
+        }
+    }
+
+    /// The rules of either set.
+    pub fn union(self, other: Rules) -> Rules
+        ensures { (k : ℕ) → flag_at result k ≡ (flag_at self k || flag_at other k) }
+    {
+        Rules {
+            set: self.set.union(other.set),
+        }
+    }
+
+    /// The rules of the set, and those of the other if it is wanted.
+    pub fn union_if(self, other: Rules, wanted: bool) -> Rules
+        ensures { (k : ℕ) → flag_at result k ≡ (flag_at self k || (flag_at other k && wanted)) }
+    {
+        if wanted { self.union(other) } else { self }
+    }
+}

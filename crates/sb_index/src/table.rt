@@ -1,0 +1,108 @@
+//! The rules of one table.
+ghost use Rattle.std.specs.Prelude.{◌≡◌, ℕ, Bool, List, [], false, not, ◌&&◌, ◌||◌, ◌==◌, nat_lt, length, map, slice_index_or};
+ghost use Rattle.sb_value.specs.Flags.{flag_at, share_place};
+ghost use Rattle.sb_value.specs.Laws.{kind_triggers};
+ghost use Rattle.sb_index.specs.Operation.{Operation, names, places};
+ghost use Rattle.sb_index.specs.Stands.{in_table, triggers_in, column_flags};
+
+use crate::rules::Rules;
+use sb_value::{Change, Columns, Kind, RuleId, Triggers};
+use std::marker::Model;
+
+/// How many columns a table has at most.
+const COLUMN_LIMIT: usize = 8;
+
+/// The rules that each operation on one table triggers.
+#[derive(Drop)]
+pub struct TableRules {
+    inserted: Rules,
+    deleted: Rules,
+    /// Those that an update of any column triggers.
+    updated: Rules,
+    /// Those that an update of the column triggers.
+    columns: [Rules; COLUMN_LIMIT],
+}
+
+impl Model for TableRules {
+    ghost use Rattle.sb_index.specs.TableSets.{TableSets};
+
+    ghost Value = { TableSets };
+
+    ghost view = { λ t. record { inserted = t.inserted; deleted = t.deleted; updated = t.updated; columns = t.columns } };
+}
+
+impl TableRules {
+    /// No rules.
+    pub fn none() -> TableRules
+        ensures { (o : Operation) (r : ℕ) → in_table result o r ≡ false }
+    {
+        TableRules {
+            inserted: Rules::none(),
+            deleted: Rules::none(),
+            updated: Rules::none(),
+            columns: [Rules::none(); COLUMN_LIMIT],
+        }
+    }
+
+    /// Adds the rule under each of its operations.
+    pub fn add(&mut self, rule: RuleId, triggers: Triggers)
+        ensures { (o : Operation) (r : ℕ) → in_table self.new o r ≡ (in_table self.old o r || ((r == rule) && names triggers o)) }
+    {
+        self.inserted = self.inserted.with_if(rule, triggers.inserted);
+        self.deleted = self.deleted.with_if(rule, triggers.deleted);
+        self.updated = self.updated.with_if(rule, triggers.updated);
+        add_columns(&mut self.columns, rule, triggers.columns);
+    }
+
+    /// Takes the rule away.
+    pub fn drop_rule(&mut self, rule: RuleId)
+        ensures { (o : Operation) (r : ℕ) → in_table self.new o r ≡ (in_table self.old o r && not (r == rule)) }
+    {
+        self.inserted = self.inserted.without(rule);
+        self.deleted = self.deleted.without(rule);
+        self.updated = self.updated.without(rule);
+        drop_from(&mut self.columns, rule);
+    }
+
+    /// The rules that the change may trigger.
+    pub fn candidates(&self, change: &Change) -> Rules
+        ensures { (r : ℕ) → flag_at result r ≡ kind_triggers change.now.kind (triggers_in self.now r) change.now }
+    {
+        match change.kind {
+            Kind::Inserted => self.inserted,
+            Kind::Deleted => self.deleted,
+            Kind::Updated => self.updated.union(named(&self.columns, change.columns)),
+        }
+    }
+}
+
+/// Adds the rule at the named columns.
+fn add_columns(columns: &mut [Rules], rule: RuleId, named: Columns)
+    requires { length columns.old ≡ 8 }
+    ensures { (k r : ℕ) → flag_at (slice_index_or columns.new k []) r ≡ (flag_at (slice_index_or columns.old k []) r || ((r == rule) && (nat_lt k 8 && flag_at named k))) }
+{
+    for place in 0..COLUMN_LIMIT {
+        columns[place] = columns[place].with_if(rule, named.contains(place as u8));
+    }
+}
+
+/// Takes the rule from all columns.
+fn drop_from(columns: &mut [Rules], rule: RuleId)
+    ensures { (k r : ℕ) → flag_at (slice_index_or columns.new k []) r ≡ (flag_at (slice_index_or columns.old k []) r && not (r == rule)) }
+{
+    for rules in columns.iter_mut() {
+        *rules = rules.without(rule);
+    }
+}
+
+/// The rules of the named columns.
+fn named(columns: &[Rules], named: Columns) -> Rules
+    requires { length columns.now ≡ 8 }
+    ensures { (r : ℕ) → flag_at result r ≡ share_place (column_flags columns.now r) named }
+{
+    let mut rules = Rules::none();
+    for place in 0..COLUMN_LIMIT {
+        rules = rules.union_if(columns[place], named.contains(place as u8));
+    }
+    rules
+}

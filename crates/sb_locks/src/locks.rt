@@ -1,0 +1,117 @@
+//! The locks that are held, and requests for more.
+ghost use Rattle.std.specs.Prelude.{◌≡◌, ℕ, Bool, not, ◌&&◌, ◌||◌, ◌==◌, Option, length, slice_index, OnOk, IfErr, OnErr};
+ghost use Rattle.sb_value.specs.Locks.{no_locks, same_mode, conflicts, first_conflict, with_locks, released};
+ghost use Rattle.sb_value.specs.declared.lock.Mode.{Mode};
+ghost use Rattle.sb_locks.specs.Held.{has, held};
+
+use sb_value::{Mode, SessionId, TABLE_LIMIT, TableId};
+use std::marker::Model;
+
+/// Another session holds this table.
+#[derive(Clone, Copy, Debug, PartialEq, Eq)]
+pub struct Locked {
+    pub table: TableId,
+}
+
+/// The locks of a tenant's sessions: for each table its readers and its writers, a bit for each session.
+#[derive(Drop)]
+pub struct Locks {
+    readers: [u8; TABLE_LIMIT],
+    writers: [u8; TABLE_LIMIT],
+}
+
+impl Model for Locks {
+    ghost use Rattle.sb_locks.specs.Held.{Holders};
+
+    ghost Value = { Holders };
+
+    ghost view = { λ locks. record { readers = locks.readers; writers = locks.writers } };
+}
+
+impl Locks {
+    /// No locks.
+    pub const fn new() -> Locks
+        ensures { (s t : ℕ) (m : Mode) → held result s t m ≡ no_locks s t m }
+    {
+        Locks {
+            readers: [0; TABLE_LIMIT],
+            writers: [0; TABLE_LIMIT],
+        }
+    }
+
+    /// Takes all locks of the list, in order of mention, or none.
+    pub fn request(&mut self, session: SessionId, request: &[(TableId, Mode)]) -> Result<(), Locked>
+        ensures granted { OnOk result (first_conflict (held self.old) session request.now ≡ None) }
+        ensures taken { OnOk result ((s t : ℕ) (m : Mode) → held self.new s t m ≡ with_locks (held self.old) session request.now s t m) }
+        ensures refused { IfErr result (λ e. first_conflict (held self.old) session request.now ≡ Some e.table) }
+        ensures unchanged { OnErr result (self.new ≡ self.old) }
+    {
+        if let Some(table) = self.first_conflict(session, request) {
+            return Err(Locked { table });
+        }
+        for (table, mode) in request {
+            self.take(session, *table, *mode);
+        }
+        Ok(())
+    }
+
+    /// Gives up all locks of the session.
+    pub fn release(&mut self, session: SessionId)
+        ensures { (s t : ℕ) (m : Mode) → held self.new s t m ≡ released (held self.old) session s t m }
+    {
+        leave(&mut self.readers, session);
+        leave(&mut self.writers, session);
+    }
+
+    /// The first table of the list that conflicts.
+    fn first_conflict(&self, session: SessionId, request: &[(TableId, Mode)]) -> Option<TableId>
+        ensures { result ≡ first_conflict (held self.now) session request.now }
+    {
+        for (table, mode) in request {
+            if self.conflicts(session, *table, *mode) {
+                return Some(*table);
+            }
+        }
+        None
+    }
+
+    /// Whether the lock conflicts with one of another session.
+    fn conflicts(&self, session: SessionId, table: TableId, mode: Mode) -> bool
+        ensures { result ≡ conflicts (held self.now) session table mode }
+    {
+        let writers = self.writers[table.index()];
+        let holders = match mode {
+            Mode::Read => writers,
+            Mode::Write => writers | self.readers[table.index()],
+        };
+        holders & !(1 << session.number()) != 0
+    }
+
+    /// Adds one lock.
+    fn take(&mut self, session: SessionId, table: TableId, mode: Mode)
+        ensures { (s t : ℕ) (m : Mode) → held self.new s t m ≡ (held self.old s t m || ((s == session) && ((table == t) && same_mode mode m))) }
+    {
+        match mode {
+            Mode::Read => join(&mut self.readers, table, session),
+            Mode::Write => join(&mut self.writers, table, session),
+        }
+    }
+}
+
+/// Adds the session to the holders of the table.
+fn join(tables: &mut [u8], table: TableId, session: SessionId)
+    requires { length tables.old ≡ 16 }
+    ensures { (s t : ℕ) → has (slice_index tables.new t) s ≡ (has (slice_index tables.old t) s || ((s == session) && (table == t))) }
+{
+    tables[table.index()] |= 1 << session.number();
+}
+
+/// Takes the session from the holders of each table.
+fn leave(tables: &mut [u8], session: SessionId)
+    ensures { (s t : ℕ) → has (slice_index tables.new t) s ≡ (not (s == session) && has (slice_index tables.old t) s) }
+{
+    let others = !(1 << session.number());
+    for holders in tables.iter_mut() {
+        *holders &= others;
+    }
+}

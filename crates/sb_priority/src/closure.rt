@@ -1,0 +1,65 @@
+//! Which rule precedes which, also through others.
+ghost use Rattle.std.specs.Prelude.{◌≡◌, ℕ, Bool, List, [], ◌∷◌, ◌&&◌, ◌||◌, ◌==◌, slice_index_or, length};
+ghost use Rattle.sb_value.specs.Flags.{flag_at};
+ghost use Rattle.sb_priority.specs.Closed.{relates, IsClosure};
+
+use crate::rules::Rules;
+use sb_value::{RULE_LIMIT, RuleId};
+use std::marker::Model;
+
+/// The transitive closure of pairs of rules: for each rule those that precede it.
+#[derive(Clone, Copy)]
+pub struct Closure {
+    before: [Rules; RULE_LIMIT],
+}
+
+impl Model for Closure {
+    ghost use Rattle.std.specs.Prelude.{List, Bool};
+
+    ghost Value = { List (List Bool) };
+
+    ghost view = { λ c. c.before };
+
+    ghost inverse = { λ rows. record { before = rows } };
+}
+
+impl Closure {
+    /// The closure of no pairs.
+    pub fn new() -> Closure
+        ensures { IsClosure result [] }
+    {
+        Closure {
+            before: [Rules::none(); RULE_LIMIT],
+        }
+    }
+
+    /// Whether the first rule precedes the second.
+    pub fn precedes(&self, first: RuleId, second: RuleId) -> bool
+        ensures { result ≡ relates self.now first second }
+    {
+        let before = self.before[second.index()];
+        before.contains(first)
+    }
+
+    /// Closes the pairs with one more: what reaches the first rule precedes what the second one reaches.
+    pub fn link(&mut self, first: RuleId, second: RuleId)
+        ensures { (pairs : List (ℕ × ℕ)) → IsClosure self.old pairs → IsClosure self.new ((first, second) ∷ pairs) }
+    {
+        let _in_range = second.number();
+        let through = self.before[first.index()].with(first);
+        link_rows(&mut self.before, through, second);
+    }
+}
+
+/// Adds the rules to each row that has the second rule or is its own.
+fn link_rows(rows: &mut [Rules], through: Rules, second: RuleId)
+    requires { length rows.old ≡ 64 }
+    ensures { (a b : ℕ) → relates rows.new a b ≡ (relates rows.old a b || (flag_at through a && ((second == b) || relates rows.old second b))) }
+{
+    for number in 0..RULE_LIMIT {
+        let row = rows[number];
+        if number == second.index() || row.contains(second) {
+            rows[number] = row.union(through);
+        }
+    }
+}

@@ -1,0 +1,7 @@
+//! The order of a tenant's rules, specified by the transitive closure of the pairs that stand.
+#![tactic(auto)]
+
+mod closure;
+mod rules;
+
+pub use closure::Closure;

@@ -1,0 +1,81 @@
+-- Names stay distinct.
+use Rattle.std.proofs.Common.{◌≡◌, ◌∙◌, ℕ, Bool, true, false, ◌||◌, cond, List, [], ◌∷◌, ◌++◌, map, filter, ap, refl, ◌≤◌, length, take, drop, take_all, append-nil}
+use Rattle.std.proofs.lemmas.List.{drop_all}
+use Rattle.std.specs.List.{list_any}
+use Rattle.sb_value.specs.Name.{same_name}
+use Rattle.sb_rulesets.specs.declared.ruleset.Ruleset.{Ruleset}
+use Rattle.sb_rulesets.specs.Sets.{has_name, changed_if, changed, lacking, without_rule}
+use Rattle.sb_rulesets.specs.Distinct.{AreDistinct}
+
+none_left : (a b : Bool) → (a || b) ≡ false → a ≡ false
+none_left true b h = h
+none_left false b h = refl
+
+none_right : (a b : Bool) → (a || b) ≡ false → b ≡ false
+none_right true b h = absurd (cc)
+none_right false b h = h
+
+none_both : (a b : Bool) → a ≡ false → b ≡ false → (a || b) ≡ false
+none_both a b p q = ap (λ x. x || b) p ∙ q
+
+-- ---- one more at the end
+
+none_appended : (p : Ruleset → Bool) (sets : List Ruleset) (n : Ruleset) → list_any p sets ≡ false → p n ≡ false → list_any p (sets ++ n ∷ []) ≡ false
+none_appended p [] n h e = none_both (p n) false e refl
+none_appended p (s ∷ sets) n h e =
+    none_both (p s) (list_any p (sets ++ n ∷ [])) (none_left (p s) (list_any p sets) h) (none_appended p sets n (none_right (p s) (list_any p sets) h) e)
+
+pub distinct_appended : (sets : List Ruleset) (n : Ruleset) → AreDistinct sets → has_name sets n.name ≡ false → AreDistinct (sets ++ n ∷ [])
+distinct_appended [] n h e = (refl, tt)
+distinct_appended (s ∷ sets) n h e = (
+  none_appended (λ t. same_name s.name t.name) sets n h.0 (none_left (same_name s.name n.name) (has_name sets n.name) e),
+  distinct_appended sets n h.1 (none_right (same_name s.name n.name) (has_name sets n.name) e),
+)
+
+-- ---- some are dropped
+
+none_kept : (p : Ruleset → Bool) (s : Ruleset) (kept : List Ruleset) (b : Bool) → p s ≡ false → list_any p kept ≡ false → list_any p (cond b (s ∷ kept) kept) ≡ false
+none_kept p s kept true h rest = none_both (p s) (list_any p kept) h rest
+none_kept p s kept false h rest = rest
+
+none_filtered : (p keep : Ruleset → Bool) (sets : List Ruleset) → list_any p sets ≡ false → list_any p (filter keep sets) ≡ false
+none_filtered p keep [] h = refl
+none_filtered p keep (s ∷ sets) h =
+    none_kept p s (filter keep sets) (keep s) (none_left (p s) (list_any p sets) h) (none_filtered p keep sets (none_right (p s) (list_any p sets) h))
+
+distinct_filtered_by : (keep : Ruleset → Bool) (s : Ruleset) (sets : List Ruleset) (b : Bool) → AreDistinct (s ∷ sets) → AreDistinct (filter keep sets) → AreDistinct (cond b (s ∷ filter keep sets) (filter keep sets))
+distinct_filtered_by keep s sets true h rest = (none_filtered (λ t. same_name s.name t.name) keep sets h.0, rest)
+distinct_filtered_by keep s sets false h rest = rest
+
+pub distinct_filtered : (keep : Ruleset → Bool) (sets : List Ruleset) → AreDistinct sets → AreDistinct (filter keep sets)
+distinct_filtered keep [] h = tt
+distinct_filtered keep (s ∷ sets) h = distinct_filtered_by keep s sets (keep s) h (distinct_filtered keep sets h.1)
+
+-- ---- the names stay
+
+same_names : (f : Ruleset → Ruleset) → ((s : Ruleset) → (f s).name ≡ s.name) → (name : List ℕ) (sets : List Ruleset) → list_any (λ t. same_name name t.name) (map f sets) ≡ list_any (λ t. same_name name t.name) sets
+same_names f e name [] = refl
+same_names f e name (s ∷ sets) = λ i. same_name name (e s i) || same_names f e name sets i
+
+pub distinct_mapped : (f : Ruleset → Ruleset) → ((s : Ruleset) → (f s).name ≡ s.name) → (sets : List Ruleset) → AreDistinct sets → AreDistinct (map f sets)
+distinct_mapped f e [] h = tt
+distinct_mapped f e (s ∷ sets) h =
+    (ap (λ (n : List ℕ). list_any (λ t. same_name n t.name) (map f sets)) (e s) ∙ same_names f e s.name sets ∙ h.0, distinct_mapped f e sets h.1)
+
+changed_name : (s : Ruleset) (b : Bool) (flags : List Bool) → (cond b (record s { rules = flags }) s).name ≡ s.name
+changed_name s true flags = refl
+changed_name s false flags = refl
+
+pub distinct_changed : (change : List Bool → List Bool) (name : List ℕ) (sets : List Ruleset) → AreDistinct sets → AreDistinct (changed change sets name)
+distinct_changed change name sets h = distinct_mapped (changed_if change name) (λ s. changed_name s (same_name s.name name) (change s.rules)) sets h
+
+pub distinct_lacking : (rule : ℕ) (sets : List Ruleset) → AreDistinct sets → AreDistinct (without_rule sets rule)
+distinct_lacking rule sets h = distinct_mapped (lacking rule) (λ s. refl) sets h
+
+pub distinct_pushed : (sets : List Ruleset) (n : Ruleset) (b : Bool) → AreDistinct sets → has_name sets n.name ≡ false → AreDistinct (cond b (sets ++ n ∷ []) sets)
+distinct_pushed sets n true h e = distinct_appended sets n h e
+distinct_pushed sets n false h e = h
+
+-- a change in place of all of a list
+pub map_whole : (f : Ruleset → Ruleset) (sets : List Ruleset) (i : ℕ) → length sets ≤ i → map f (take i sets) ++ drop i sets ≡ map f sets
+map_whole f sets i h = (λ j. map f (take_all i sets h j) ++ drop_all i sets h j) ∙ append-nil (map f sets)
