@@ -116,7 +116,7 @@ module _ (language : Language) (tenant bound : ℕ) where
 
   module _ (ts : List Kept) (held : ℕ → Mode → Bool) (n : ℕ) (sound : AreSound ts) where
     -- the same state, where nothing changes
-    stays : (session : Session) → ShowsRows ts session → Represents (standing ts session held n) (record { tables = ts; phase = phase_of session })
+    pub stays : (session : Session) → ShowsRows ts session → Represents (standing ts session held n) (record { tables = ts; phase = phase_of session })
     stays session seen = record { session = session; held = held; is = refl; phase = refl; seen = seen; sound = sound }
 
     -- the session is idle, or begins
@@ -131,7 +131,7 @@ module _ (language : Language) (tenant bound : ℕ) where
     }
 
     -- it is rolled back
-    rolled : (old : Session) → Represents (rolled_back (standing ts old held n) 0) (record { tables = map only_committed ts; phase = Idle })
+    pub rolled : (old : Session) → Represents (rolled_back (standing ts old held n) 0) (record { tables = map only_committed ts; phase = Idle })
     rolled old = record {
       session = idle;
       held = λ t m. false;

@@ -1,5 +1,6 @@
 -- Facts on tests.
 use Rattle.std.proofs.Common.{◌≡◌, ℕ, Bool, true, false, ◌&&◌, not, List, sym, ◌∙◌, refl}
+use Rattle.std.specs.Prelude.{bytes_eq}
 use Rattle.std.proofs.lemmas.Bool.{true≢false}
 use Rattle.std.proofs.lemmas.Map.Text.{is_eq-slice_cmp}
 use Rattle.std.proofs.lemmas.Slice.Eq.{bytes_eq-Decides}
@@ -26,3 +27,7 @@ not_false false h = no_way (sym h)
 
 pub same_text : (line text : List ℕ) → same_name line text ≡ true → line ≡ text
 same_text line text h = (bytes_eq-Decides line text).0 (sym (is_eq-slice_cmp line text) ∙ h)
+
+-- the same test as the program makes it
+pub texts-same : (a b : List ℕ) → bytes_eq a b ≡ same_name a b
+texts-same a b = sym (is_eq-slice_cmp a b)

@@ -1,5 +1,5 @@
 -- The commands that the engine handles, as the trees of commands.
-use Rattle.std.specs.Prelude.{[], ◌∷◌, map, Option, Some, None}
+use Rattle.std.specs.Prelude.{◌≡◌, ◌⊎◌, ℕ, List, [], ◌∷◌, map, Option, Some, None, option_map}
 use Rattle.sb_syntax.specs.Tree as tree
 use Rattle.sb_syntax.specs.declared.ast.TableReference.TheVariants.{Named}
 use Rattle.sb_value.specs.declared.refusal.Refusal.{Refusal}
@@ -8,6 +8,7 @@ use Rattle.sb_tenant.specs.declared.reply.Reply.{Reply}
 use Rattle.sb_tenant.specs.declared.reply.Reply.TheVariants as reply
 use Rattle.sb_tenant.specs.declared.phase.Phase.{Phase}
 use Rattle.sb_tenant.specs.declared.phase.Phase.TheVariants.{Closed, Idle, Active}
+use Rattle.sb_tenant.specs.Supported.{engine}
 use Rattle.sb_tenant.specs.Stored.{Stored, place_of, dropped, kept, with_phase, created, inserted_at, selected_at, or_refused}
 use Rattle.sb_tenant.specs.declared.order.Order.{Order}
 use Rattle.sb_tenant.specs.declared.order.Order.TheVariants.{Open, End, Begin, Commit, Rollback, CreateTable, Insert, SelectAll}
@@ -53,3 +54,20 @@ order_refusal Idle other = Some refusal.NoTransaction
 
 abbrev pub performed : Stored → Order → Stored × Reply
 performed v order = or_refused v (order_refusal v.phase order) (carried_out v order)
+
+-- a line that is no order is no command
+abbrev pub answered : Stored → Option Order → Stored × Reply
+answered v None = (v, reply.No refusal.Syntax)
+answered v (Some order) = performed v order
+
+-- a line is answered by what it orders
+abbrev pub AnswersOrder : Stored → List ℕ → Reply → Stored → Type 0
+AnswersOrder v line told new = (order : Option Order) × (engine line ≡ option_map order_tree order) × (answered v order ≡ (new, told))
+
+-- an abort rolls a transaction back
+abbrev pub aborted : Stored → Stored
+aborted v = elim v.phase [ Closed ↦ v | Idle ↦ v | Active ↦ dropped v Idle ]
+
+-- or memory ran out
+abbrev pub Answers : Stored → List ℕ → Reply → Stored → Type 0
+Answers v line told new = AnswersOrder v line told new ⊎ ((told ≡ reply.No refusal.NoMemory) × (new ≡ aborted v))

@@ -1,5 +1,5 @@
 -- How what is kept in memory stands for the state of a tenant that uses its first session alone.
-use Rattle.std.specs.Prelude.{◌≡◌, ◌≤◌, ℕ, Bool, ◌==◌, ◌&&◌, if◌then◌else◌, List, [], ◌∷◌, length}
+use Rattle.std.specs.Prelude.{◌≡◌, ◌≤◌, ℕ, Bool, true, false, ◌==◌, ◌&&◌, if◌then◌else◌, List, [], ◌∷◌, length}
 use Rattle.sb_value.specs.declared.lock.Mode.{Mode}
 use Rattle.sb_value.specs.Table.{after_all}
 use Rattle.sb_tenant.specs.declared.phase.Phase.{Phase}
@@ -12,6 +12,12 @@ abbrev pub phase_of : Session → Phase
 phase_of closed = Closed
 phase_of idle = Idle
 phase_of (active changes marks) = Active
+
+-- whether it is open
+abbrev pub not_closed : Phase → Bool
+not_closed Closed = false
+not_closed Idle = true
+not_closed Active = true
 
 -- no more rows are committed than there are, and there are 4,096 at most
 abbrev pub AreSound : List Kept → Type 0

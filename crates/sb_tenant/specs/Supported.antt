@@ -1,5 +1,5 @@
 -- The commands that the engine handles so far. The others are refused as Syntax.
-use Rattle.std.specs.Prelude.{Bool, true, false, ◌&&◌, [], ◌∷◌, Option, Some, None, is_none, if◌then◌else◌}
+use Rattle.std.specs.Prelude.{ℕ, nat_lt, Bool, true, false, ◌&&◌, [], ◌∷◌, Option, Some, None, is_none, if◌then◌else◌}
 use Rattle.sb_syntax.specs.Tree.{Command, open_session, end_session, begin, commit, rollback, create_table, query, change, Query, select, all, everything, Change, insert_rows}
 use Rattle.sb_syntax.specs.declared.ast.SourceReference.{SourceReference}
 use Rattle.sb_syntax.specs.declared.ast.TableReference.{TableReference}
@@ -49,3 +49,7 @@ grammar line = command_of line
 
 abbrev pub engine : Language
 engine line = if_supported (command_of line)
+
+-- which sessions the engine serves so far: the first
+abbrev pub is_served : ℕ → Bool
+is_served s = nat_lt s 1

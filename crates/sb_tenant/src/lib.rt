@@ -7,5 +7,7 @@ mod phase;
 mod reply;
 mod store;
 mod table;
+mod tenant;
 
 pub use reply::{Answer, Entry, Line, NamedTrace, Reply, SharedRows};
+pub use tenant::{NotBegun, Tenant};

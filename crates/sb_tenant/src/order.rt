@@ -1,12 +1,13 @@
 //! The commands that the engine handles so far.
-ghost use Rattle.std.specs.Prelude.{◌≡◌, [], ◌∷◌, Some, option_map};
+ghost use Rattle.std.specs.Prelude.{◌≡◌, [], ◌∷◌, Some, option_map, IfOk};
 ghost use Rattle.sb_syntax.specs.Tree as tree;
 ghost use Rattle.sb_syntax.specs.Views.{command as command_tree, change as change_tree, query as query_tree};
 ghost use Rattle.sb_tenant.specs.Orders.{order_tree};
-ghost use Rattle.sb_tenant.specs.Supported.{if_supported};
+ghost use Rattle.sb_tenant.specs.Supported.{if_supported, engine};
 
-use sb_syntax::{Change, Command, Items, Query, SourceReference, TableReference};
+use sb_syntax::{Change, Command, Items, ParseError, Query, SourceReference, TableReference, parse};
 use sb_value::{ColumnDefinition, Name, Value};
+use std::alloc::{AllocError, Global};
 
 /// A command that is handled.
 #[derive(Drop)]
@@ -21,8 +22,19 @@ pub(crate) enum Order {
     SelectAll(Name),
 }
 
+/// The order that the line is, if it is one.
+pub(crate) fn order_in(alloc: Global, line: &[u8]) -> Result<Option<Order>, AllocError>
+    ensures { IfOk result (λ order. engine line.now ≡ option_map order_tree order) }
+{
+    match parse(alloc, line) {
+        Ok(command) => Ok(order_of(command)),
+        Err(ParseError::Syntax { .. }) => Ok(None),
+        Err(ParseError::NoMemory) => Err(AllocError),
+    }
+}
+
 /// The order that the command is, if it is handled.
-pub(crate) fn order_of(command: Command) -> Option<Order>
+fn order_of(command: Command) -> Option<Order>
     ensures { if_supported (Some (command_tree command)) ≡ option_map order_tree result }
 {
     match command {

@@ -1,12 +1,12 @@
 //! What a tenant keeps in memory: its tables, and how far its session is.
 ghost use Rattle.std.specs.Prelude.{◌≡◌, [], ◌<◌, length, IfOk, OnErr, map, IfSome};
 ghost use Rattle.sb_tenant.specs.Stored.{Stored, place_of, dropped, kept, with_phase, created, inserted_at, selected_at, create_refusal as why_not_created, all_committed, only_committed};
-ghost use Rattle.sb_tenant.specs.Orders.{performed, order_refusal as phase_refusal};
+ghost use Rattle.sb_tenant.specs.Orders.{performed, Answers, AnswersOrder, aborted, order_refusal as phase_refusal};
 ghost use Rattle.std.specs.List.{list_any};
 ghost use Rattle.sb_value.specs.Name.{same_name};
 ghost use Rattle.sb_tenant.specs.Walk.{named_twice};
 
-use crate::order::Order;
+use crate::order::{Order, order_in};
 use crate::phase::Phase;
 use crate::reply::{NamedTrace, Reply, SharedRows};
 use crate::table::{StoredTable, rows_of};
@@ -69,6 +69,39 @@ impl Store {
     {
         roll_back_all(self.tables.as_mut_slice());
         self.phase = phase;
+    }
+
+    /// Answers a line. Where memory runs out, the transaction is rolled back.
+    pub(crate) fn answer(&mut self, alloc: Global, line: &[u8]) -> Replies
+        ensures answers { Answers self.old line.now result.0 self.new }
+        ensures twice { result.1 ≡ result.0 }
+    {
+        match self.answer_order(alloc, line) {
+            Ok(replies) => replies,
+            Err(AllocError) => {
+                self.abort();
+                refused(Refusal::NoMemory)
+            }
+        }
+    }
+
+    fn answer_order(&mut self, alloc: Global, line: &[u8]) -> Result<Replies, AllocError>
+        ensures ok { IfOk result (λ r. AnswersOrder self.old line.now r.0 self.new × (r.1 ≡ r.0)) }
+        ensures err { OnErr result (self.new ≡ self.old) }
+    {
+        match order_in(alloc, line)? {
+            Some(order) => self.perform(alloc, order),
+            None => Ok(refused(Refusal::Syntax)),
+        }
+    }
+
+    /// Rolls a transaction back.
+    fn abort(&mut self)
+        ensures { self.new ≡ aborted self.old }
+    {
+        if self.phase == Phase::Active {
+            self.roll_back(Phase::Idle);
+        }
     }
 
     /// Does what the order says, where the session allows it. Each reply is made before anything changes.

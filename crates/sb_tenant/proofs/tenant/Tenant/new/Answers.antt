@@ -1,0 +1,31 @@
+use Rattle.std.proofs.Common.{◌≡◌, sym, ◌∙◌, ap, subst, [], refl, Bool, true, false, cond, ◌==◌, ℕ}
+use Rattle.std.proofs.Math.Bool.{and-false}
+use Rattle.sb_tenant.specs.declared.phase.Phase.TheVariants.{Closed}
+use Rattle.sb_tenant.specs.State.{closed}
+use Rattle.sb_tenant.specs.Stored.{Stored}
+use Rattle.sb_tenant.specs.Tenant.{Tenant, IsLegal, state, new_tenant, with_trail}
+use Rattle.sb_tenant.specs.Represents.{Represents, standing, not_closed}
+use Rattle.sb_tenant.proofs.Tests.{no_way}
+use Rattle.sb_tenant.proofs.tenant.Tenant.new.Goals as goal
+
+-- no lock is held, and no session is open
+shut : (b : Bool) → closed ≡ cond b closed closed
+shut true = refl
+shut false = refl
+
+opening_is : (id bound : ℕ) → state (new_tenant id bound) ≡ standing [] closed (λ t m. false) 0
+opening_is id bound = λ i. record (standing [] closed (λ t m. false) 0) { locks = λ s t m. sym (and-false (s == 0)) i; sessions = λ s. shut (s == 0) i }
+
+opening_stands : (id bound : ℕ) → Represents (state (new_tenant id bound)) (record { tables = []; phase = Closed })
+opening_stands id bound = record { session = closed; held = λ t m. false; is = opening_is id bound; phase = refl; seen = refl; sound = tt }
+
+pub invariant_of-result : goal.invariant_of-result
+invariant_of-result c =
+    let t = new_tenant c.args.id c.args.bound in
+    (
+      subst (λ es. IsLegal (with_trail t es)) (sym c.new-2.ensures.items) refl,
+      subst (λ es. Represents (state (with_trail t es)) c.new.result) (sym c.new-2.ensures.items)
+      (subst (Represents (state t)) (sym c.new.ensures) (opening_stands c.args.id c.args.bound)),
+      tt,
+      (λ up. no_way (ap (λ (v : Stored). not_closed v.phase) (sym c.new.ensures) ∙ up)),
+    )
