@@ -1,5 +1,5 @@
 //! A tenant: its steps, each with its answer and its entry in the trail.
-ghost use Rattle.std.specs.Prelude.{◌≡◌, ◌≤◌, true, false, IfOk, OnErr, OnOk, IfSome, Some, nat_le, codes, [], ◌∷◌, ◌++◌, ◌+◌, ◌<◌, length, vec_len, vec_capacity};
+ghost use Rattle.std.specs.Prelude.{◌≡◌, ◌≤◌, ◌⊎◌, true, false, IfOk, OnErr, OnOk, IfSome, Some, nat_le, codes, [], ◌∷◌, ◌++◌, ◌+◌, ◌<◌, length, vec_len, vec_capacity};
 ghost use Rattle.sb_tenant.specs.declared.reply.Reply.TheVariants as told;
 ghost use Rattle.sb_tenant.specs.Limits.{trail_limit};
 ghost use Rattle.sb_tenant.specs.State.{session_at, is_open as session_is_open};
@@ -16,6 +16,9 @@ use std::marker::Model;
 
 /// The most entries, without those of the ends of open sessions.
 const TRAIL_LIMIT: usize = 65_536;
+
+/// The line that opens a session.
+const OPEN: &[u8] = b"open";
 
 /// The line that ends a session.
 const END: &[u8] = b"end";
@@ -105,6 +108,27 @@ impl Tenant {
         self.enter(alloc, session, line)
     }
 
+    /// Makes the step `open`.
+    pub fn open(&mut self, alloc: Global, session: SessionId) -> Result<Answer, NotBegun>
+        requires served { is_served session ≡ true }
+        requires closed { session_is_open (session_at (state self.old) session) ≡ false }
+        requires room { nat_le trail_limit (state self.old).steps ≡ false }
+        ensures ok { IfOk result (λ answer. MakesStep self.old session (codes "open") answer self.new × (answer.reply ≡ told.Ok)) }
+        ensures err { OnErr result (self.new ≡ self.old) }
+    {
+        let line = make_ready(alloc, &mut self.trail, &mut self.end_line, OPEN)?;
+        self.store.set_phase(Phase::Idle);
+        let entry = Entry {
+            session,
+            line,
+            reply: Reply::Ok,
+        };
+        Ok(Answer {
+            number: Some(put(&mut self.trail, entry)),
+            reply: Reply::Ok,
+        })
+    }
+
     /// Makes the step `end`. It needs no memory.
     pub fn end(&mut self, session: SessionId) -> Answer
         requires served { is_served session ≡ true }
@@ -142,16 +166,7 @@ impl Tenant {
         ensures ok { IfOk result (λ answer. MakesStep self.old session line.now answer self.new) }
         ensures err { OnErr result (LeavesLine self.old session line.now self.new) }
     {
-        // a place for the entry, and one for the session's end
-        if self.trail.reserve(2).is_err() {
-            return Err(NotBegun);
-        }
-        if keep_end(alloc, &mut self.end_line).is_err() {
-            return Err(NotBegun);
-        }
-        let Ok(kept) = Line::new(alloc, line) else {
-            return Err(NotBegun);
-        };
+        let kept = make_ready(alloc, &mut self.trail, &mut self.end_line, line)?;
         let (reply, copy) = self.store.answer(alloc, line);
         let entry = Entry {
             session,
@@ -162,6 +177,29 @@ impl Tenant {
             number: Some(put(&mut self.trail, entry)),
             reply: copy,
         })
+    }
+}
+
+/// Has what a step needs before it begins: a place for its entry, one for the session's end, the line of that end, and a copy of the line.
+fn make_ready(
+    alloc: Global,
+    trail: &mut Vec<Entry>,
+    end_line: &mut Option<Line>,
+    line: &[u8],
+) -> Result<Line, NotBegun>
+    requires { IfSome end_line.old (λ l. l ≡ codes "end") }
+    ensures items { trail.new.items ≡ trail.old.items }
+    ensures ok { IfOk result (λ kept. (kept ≡ line.now) × (vec_len trail.new + 2 ≤ vec_capacity trail.new) × (end_line.new ≡ Some (codes "end"))) }
+    ensures len { vec_len trail.new ≡ vec_len trail.old }
+    ensures capacity { vec_capacity trail.old ≤ vec_capacity trail.new }
+    ensures err { OnErr result ((end_line.new ≡ end_line.old) ⊎ (end_line.new ≡ Some (codes "end"))) }
+{
+    if trail.reserve(2).is_err() || keep_end(alloc, end_line).is_err() {
+        return Err(NotBegun);
+    }
+    match Line::new(alloc, line) {
+        Ok(kept) => Ok(kept),
+        Err(_) => Err(NotBegun),
     }
 }
 

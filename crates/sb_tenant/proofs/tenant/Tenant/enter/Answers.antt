@@ -11,7 +11,7 @@ use Rattle.sb_tenant.proofs.tenant.Tenant.enter.Goals as goal
 pub put-requires-clause-few : goal.put-requires-clause-few
 put-requires-clause-few c =
     let t = c.self.inside in
-    subst (λ (es : List Entry). length es ≤ 65544) (sym c.reserve.ensures.items) (few_entries (record { id = t.id; bound = t.bound; trail = t.trail.items }) c.self.invariant.0)
+    subst (λ (es : List Entry). length es ≤ 65544) (sym c.make_ready.ensures.items) (few_entries (record { id = t.id; bound = t.bound; trail = t.trail.items }) c.self.invariant.0)
 
 -- the tenant before
 abbrev before : goal.After-put → Tenant
@@ -32,8 +32,8 @@ made : (c : goal.After-put) → MakesStep (before c) c.args.session c.args.line.
 made c =
     let t = c.self.inside in
     let told = c.answer-reply.result.0 in
-    let line_is : c.in-Ok.kept ≡ c.args.line.now = c.in-Ok.ensures in
-    let items_are = c.put.ensures.items ∙ (λ i. c.reserve.ensures.items i ++ record { session = c.args.session; line = line_is i; reply = told } ∷ []) in
+    let line_is : c.in_ok-kept.kept ≡ c.args.line.now = c.in_ok-kept.ensures.ok.0 in
+    let items_are = c.put.ensures.items ∙ (λ i. c.make_ready.ensures.items i ++ record { session = c.args.session; line = line_is i; reply = told } ∷ []) in
     makes_step (before c) t.store c.answer-reply.new.self c.self.invariant.0 c.self.invariant.1 c.args.session c.args.line.now told c.put.new.trail.items c.put.result c.requires.served
     (stepped t.id t.bound t.trail.items t.store c.self.invariant.0 c.self.invariant.1 c.args.line.now told c.answer-reply.new.self (room c) (goes_on c) c.answer-reply.ensures.answers)
     items_are c.put.ensures.number
