@@ -10,4 +10,4 @@ mod table;
 mod tenant;
 
 pub use reply::{Answer, Entry, Line, NamedTrace, Reply, SharedRows};
-pub use tenant::{NotBegun, Tenant};
+pub use tenant::{NotBegun, SESSIONS_SERVED, Tenant};

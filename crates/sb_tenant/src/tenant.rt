@@ -17,6 +17,9 @@ use std::marker::Model;
 /// The most entries, without those of the ends of open sessions.
 const TRAIL_LIMIT: usize = 65_536;
 
+/// How many sessions of a tenant are served so far.
+pub const SESSIONS_SERVED: u32 = 1;
+
 /// The line that opens a session.
 const OPEN: &[u8] = b"open";
 
@@ -95,7 +98,9 @@ impl Tenant {
         requires { is_served session ≡ true }
         ensures ok { IfOk result (λ answer. AnswersLine self.old session line.now answer self.new) }
         ensures err { OnErr result (LeavesLine self.old session line.now self.new) }
+        ensures legal { IsLegal self.old }
     {
+        let _ = &self.id;
         if self.ends(session, line) {
             return Ok(self.end(session));
         }
