@@ -1,8 +1,8 @@
 -- What a contract sees of a line's piece, of an addressed line and of a refusal of the wire.
 use Rattle.std.specs.Prelude.{ℕ, List, codes}
 use Rattle.sb_wire.specs.Lines.{line, too_long, Piece as ItsPiece, Addressed as ItsAddressed}
-use Rattle.sb_wire.specs.declared.lines.Piece.{Piece}
-use Rattle.sb_wire.specs.declared.lines.Piece.TheVariants.{Line, TooLong}
+use Rattle.sb_wire.specs.declared.input.Piece.{Piece}
+use Rattle.sb_wire.specs.declared.input.Piece.TheVariants.{Line, TooLong}
 use Rattle.sb_wire.specs.declared.address.Addressed.{Addressed}
 use Rattle.sb_wire.specs.declared.refusal.WireRefusal.{WireRefusal}
 use Rattle.sb_wire.specs.declared.refusal.WireRefusal.TheVariants as refusal

@@ -1,8 +1,8 @@
 -- Text that is added behind what stands there.
-use Rattle.std.specs.Prelude.{◌≡◌, ℕ, ◌-◌, List, [], ◌∷◌, ◌++◌, length, take, flat_map, codes, decimal}
-use Rattle.sb_value.specs.declared.refusal.Refusal.{Refusal}
-use Rattle.sb_wire.specs.Lines.{newline, space}
-use Rattle.sb_wire.specs.ReplyText.{words, refusal_words, table_words}
+use Rattle.std.specs.Prelude.{◌≡◌, ℕ, ◌-◌, List, [], ◌∷◌, ◌++◌, length, take, flat_map}
+use Rattle.sb_value.specs.declared.value.Value.{Value}
+use Rattle.sb_value.specs.Literal.{value_text}
+use Rattle.sb_wire.specs.Lines.{newline}
 
 -- the bytes of old still stand in front
 abbrev pub IsInFront : List ℕ → List ℕ → Type 0
@@ -15,3 +15,7 @@ without_last bytes = take (length bytes - 1) bytes
 -- each line with the same bytes in front and an own newline
 abbrev pub started_lines : List ℕ → List (List ℕ) → List ℕ
 started_lines start lines = flat_map (λ l. start ++ l ++ newline ∷ []) lines
+
+-- the values behind the first of a row, with a comma before each
+abbrev pub others_text : List Value → List ℕ
+others_text values = flat_map (λ v. 44 ∷ value_text v) values

@@ -46,9 +46,8 @@ impl Prefix {
         ensures { result ≡ no_address }
     {
         let mut start = ArrayVec::new();
-        for byte in b"- - " {
-            start.push(*byte);
-        }
+        // There is room for four bytes.
+        let _ = start.try_extend_from_slice(b"- - ");
         Prefix { start }
     }
 
