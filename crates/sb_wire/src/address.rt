@@ -66,7 +66,8 @@ fn number(digits: &[u8]) -> Option<u32>
 /// The number that so few bytes spell, if all are digits.
 fn value(digits: &[u8]) -> Option<u32>
     requires { length digits.now ≤ 9 }
-    ensures { result ≡ (if list_all is_ascii_digit digits.now then Some (digits_value 10 digits.now) else None) }
+    ensures { result ≡
+        (if list_all is_ascii_digit digits.now then Some (digits_value 10 digits.now) else None) }
 {
     let mut number: u32 = 0;
     for digit in digits {

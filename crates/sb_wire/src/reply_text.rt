@@ -18,7 +18,8 @@ use std::alloc::AllocError;
 /// Adds the lines of a reply, each with the prefix.
 #[tactic(auto, using(crate::proofs::Texts::prefixed_started))]
 pub fn write_reply(out: &mut Vec<u8>, prefix: &Prefix, reply: &Reply) -> Result<(), AllocError>
-    ensures ok { OnOk result (out.new.items ≡ out.old.items ++ prefixed prefix.now (reply_lines reply.now)) }
+    ensures ok { OnOk result (out.new.items ≡
+        out.old.items ++ prefixed prefix.now (reply_lines reply.now)) }
     ensures err { OnErr result (out.new.items ≡ out.old.items) }
 {
     push_whole_reply(out, prefix.start(), reply)
@@ -26,7 +27,8 @@ pub fn write_reply(out: &mut Vec<u8>, prefix: &Prefix, reply: &Reply) -> Result<
 
 /// Adds the lines of a reply.
 pub fn write_bare_reply(out: &mut Vec<u8>, reply: &Reply) -> Result<(), AllocError>
-    ensures ok { OnOk result (out.new.items ≡ out.old.items ++ ended_lines (reply_lines reply.now)) }
+    ensures ok { OnOk result (out.new.items ≡
+        out.old.items ++ ended_lines (reply_lines reply.now)) }
     ensures err { OnErr result (out.new.items ≡ out.old.items) }
 {
     push_whole_reply(out, &[], reply)
@@ -38,7 +40,8 @@ pub fn write_refusal(
     prefix: &Prefix,
     refusal: WireRefusal,
 ) -> Result<(), AllocError>
-    ensures ok { OnOk result (out.new.items ≡ out.old.items ++ prefixed prefix.now (refusal_line refusal ∷ [])) }
+    ensures ok { OnOk result (out.new.items ≡
+        out.old.items ++ prefixed prefix.now (refusal_line refusal ∷ [])) }
     ensures err { OnErr result (out.new.items ≡ out.old.items) }
 {
     push_whole_line(out, prefix.start(), refusal.text().as_bytes())
@@ -46,7 +49,8 @@ pub fn write_refusal(
 
 /// Adds the line of a refusal.
 pub fn write_bare_refusal(out: &mut Vec<u8>, refusal: WireRefusal) -> Result<(), AllocError>
-    ensures ok { OnOk result (out.new.items ≡ out.old.items ++ ended_lines (refusal_line refusal ∷ [])) }
+    ensures ok { OnOk result (out.new.items ≡
+        out.old.items ++ ended_lines (refusal_line refusal ∷ [])) }
     ensures err { OnErr result (out.new.items ≡ out.old.items) }
 {
     push_whole_line(out, &[], refusal.text().as_bytes())
@@ -54,7 +58,8 @@ pub fn write_bare_refusal(out: &mut Vec<u8>, refusal: WireRefusal) -> Result<(),
 
 /// Adds all lines, or nothing.
 fn push_whole_reply(out: &mut Vec<u8>, start: &[u8], reply: &Reply) -> Result<(), AllocError>
-    ensures ok { OnOk result (out.new.items ≡ out.old.items ++ started_lines start.now (reply_lines reply.now)) }
+    ensures ok { OnOk result (out.new.items ≡
+        out.old.items ++ started_lines start.now (reply_lines reply.now)) }
     ensures err { OnErr result (out.new.items ≡ out.old.items) }
 {
     let before = out.len();
@@ -67,7 +72,8 @@ fn push_whole_reply(out: &mut Vec<u8>, start: &[u8], reply: &Reply) -> Result<()
 
 /// Adds the line, or nothing.
 fn push_whole_line(out: &mut Vec<u8>, start: &[u8], line: &[u8]) -> Result<(), AllocError>
-    ensures ok { OnOk result (out.new.items ≡ out.old.items ++ started_lines start.now (line.now ∷ [])) }
+    ensures ok { OnOk result (out.new.items ≡
+        out.old.items ++ started_lines start.now (line.now ∷ [])) }
     ensures err { OnErr result (out.new.items ≡ out.old.items) }
 {
     let before = out.len();
@@ -79,7 +85,8 @@ fn push_whole_line(out: &mut Vec<u8>, start: &[u8], line: &[u8]) -> Result<(), A
 }
 
 fn push_reply(out: &mut Vec<u8>, start: &[u8], reply: &Reply) -> Result<(), AllocError>
-    ensures ok { OnOk result (out.new.items ≡ out.old.items ++ started_lines start.now (reply_lines reply.now)) }
+    ensures ok { OnOk result (out.new.items ≡
+        out.old.items ++ started_lines start.now (reply_lines reply.now)) }
     ensures err { OnErr result (IsInFront out.old.items out.new.items) }
 {
     match reply {
@@ -102,7 +109,8 @@ fn push_by_rule(
     rule: &Name,
     trace: &[(Name, Verdict)],
 ) -> Result<(), AllocError>
-    ensures ok { OnOk result (out.new.items ≡ out.old.items ++ started_lines start.now (reply_lines (reply.ByRule rule.now trace.now))) }
+    ensures ok { OnOk result (out.new.items ≡
+        out.old.items ++ started_lines start.now (reply_lines (reply.ByRule rule.now trace.now))) }
     ensures err { OnErr result (IsInFront out.old.items out.new.items) }
 {
     push_head(out, start, b"rolledback rule")?;
@@ -118,7 +126,8 @@ fn push_by_error(
     refusal: &Refusal,
     trace: &[(Name, Verdict)],
 ) -> Result<(), AllocError>
-    ensures ok { OnOk result (out.new.items ≡ out.old.items ++ started_lines start.now (reply_lines (reply.ByError rule.now refusal.now trace.now))) }
+    ensures ok { OnOk result (out.new.items ≡
+        out.old.items ++ started_lines start.now (reply_lines (reply.ByError rule.now refusal.now trace.now))) }
     ensures err { OnErr result (IsInFront out.old.items out.new.items) }
 {
     push_head(out, start, b"rolledback error")?;
@@ -135,7 +144,8 @@ fn push_considered(
     head: &[u8],
     trace: &[(Name, Verdict)],
 ) -> Result<(), AllocError>
-    ensures ok { OnOk result (out.new.items ≡ out.old.items ++ started_lines start.now (counted (head.now ∷ []) (map trace_line trace.now))) }
+    ensures ok { OnOk result (out.new.items ≡
+        out.old.items ++ started_lines start.now (counted (head.now ∷ []) (map trace_line trace.now))) }
     ensures err { OnErr result (IsInFront out.old.items out.new.items) }
 {
     push_counted(out, start, head, trace.len() as u64)?;
@@ -143,7 +153,8 @@ fn push_considered(
 }
 
 fn push_no(out: &mut Vec<u8>, start: &[u8], refusal: &Refusal) -> Result<(), AllocError>
-    ensures ok { OnOk result (out.new.items ≡ out.old.items ++ started_lines start.now (reply_lines (reply.No refusal.now))) }
+    ensures ok { OnOk result (out.new.items ≡
+        out.old.items ++ started_lines start.now (reply_lines (reply.No refusal.now))) }
     ensures err { OnErr result (IsInFront out.old.items out.new.items) }
 {
     push_head(out, start, b"no")?;

@@ -10,7 +10,8 @@ use std::alloc::AllocError;
 
 /// The number of the rows, and these.
 pub(crate) fn push_rows(out: &mut Vec<u8>, start: &[u8], rows: &[Row]) -> Result<(), AllocError>
-    ensures ok { OnOk result (out.new.items ≡ out.old.items ++ started_lines start.now (reply_lines (reply.Rows rows.now))) }
+    ensures ok { OnOk result (out.new.items ≡
+        out.old.items ++ started_lines start.now (reply_lines (reply.Rows rows.now))) }
     ensures err { OnErr result (IsInFront out.old.items out.new.items) }
 {
     push_counted(out, start, b"rows", rows.len() as u64)?;
@@ -21,7 +22,8 @@ pub(crate) fn push_rows(out: &mut Vec<u8>, start: &[u8], rows: &[Row]) -> Result
 }
 
 fn push_row(out: &mut Vec<u8>, start: &[u8], values: &[Value]) -> Result<(), AllocError>
-    ensures ok { OnOk result (out.new.items ≡ out.old.items ++ started_lines start.now (row_text values.now ∷ [])) }
+    ensures ok { OnOk result (out.new.items ≡
+        out.old.items ++ started_lines start.now (row_text values.now ∷ [])) }
     ensures err { OnErr result (IsInFront out.old.items out.new.items) }
 {
     out.extend_from_slice(start)?;

@@ -12,7 +12,8 @@ pub(crate) fn push_trace(
     start: &[u8],
     trace: &[(Name, Verdict)],
 ) -> Result<(), AllocError>
-    ensures ok { OnOk result (out.new.items ≡ out.old.items ++ started_lines start.now (map trace_line trace.now)) }
+    ensures ok { OnOk result (out.new.items ≡
+        out.old.items ++ started_lines start.now (map trace_line trace.now)) }
     ensures err { OnErr result (IsInFront out.old.items out.new.items) }
 {
     for (rule, verdict) in trace {
@@ -27,7 +28,8 @@ fn push_consideration(
     rule: &Name,
     verdict: Verdict,
 ) -> Result<(), AllocError>
-    ensures ok { OnOk result (out.new.items ≡ out.old.items ++ started_lines start.now (words (rule.now ∷ verdict_word verdict ∷ []) ∷ [])) }
+    ensures ok { OnOk result (out.new.items ≡
+        out.old.items ++ started_lines start.now (words (rule.now ∷ verdict_word verdict ∷ []) ∷ [])) }
     ensures err { OnErr result (IsInFront out.old.items out.new.items) }
 {
     push_head(out, start, rule.as_slice())?;

@@ -9,7 +9,8 @@ use sb_value::Refusal;
 use std::alloc::AllocError;
 
 pub(crate) fn push_line(out: &mut Vec<u8>, start: &[u8], line: &[u8]) -> Result<(), AllocError>
-    ensures ok { OnOk result (out.new.items ≡ out.old.items ++ started_lines start.now (line.now ∷ [])) }
+    ensures ok { OnOk result (out.new.items ≡
+        out.old.items ++ started_lines start.now (line.now ∷ [])) }
     ensures err { OnErr result (IsInFront out.old.items out.new.items) }
 {
     out.extend_from_slice(start)?;
@@ -25,7 +26,8 @@ pub(crate) fn push_counted(
     head: &[u8],
     count: u64,
 ) -> Result<(), AllocError>
-    ensures ok { OnOk result (out.new.items ≡ out.old.items ++ started_lines start.now (words (head.now ∷ decimal count ∷ []) ∷ [])) }
+    ensures ok { OnOk result (out.new.items ≡
+        out.old.items ++ started_lines start.now (words (head.now ∷ decimal count ∷ []) ∷ [])) }
     ensures err { OnErr result (IsInFront out.old.items out.new.items) }
 {
     push_head(out, start, head)?;
@@ -61,7 +63,8 @@ fn push_number(out: &mut Vec<u8>, number: u64) -> Result<(), AllocError>
 
 /// A number as the last word of a line.
 pub(crate) fn push_count(out: &mut Vec<u8>, count: u64) -> Result<(), AllocError>
-    ensures ok { OnOk result (out.new.items ≡ out.old.items ++ space ∷ decimal count ++ newline ∷ []) }
+    ensures ok { OnOk result (out.new.items ≡
+        out.old.items ++ space ∷ decimal count ++ newline ∷ []) }
     ensures err { OnErr result (IsInFront out.old.items out.new.items) }
 {
     push_number(out, count)?;
@@ -71,7 +74,8 @@ pub(crate) fn push_count(out: &mut Vec<u8>, count: u64) -> Result<(), AllocError
 
 /// A refusal's number and name as two more words.
 pub(crate) fn push_refusal(out: &mut Vec<u8>, refusal: &Refusal) -> Result<(), AllocError>
-    ensures ok { OnOk result (out.new.items ≡ out.old.items ++ space ∷ words (refusal_words refusal.now)) }
+    ensures ok { OnOk result (out.new.items ≡
+        out.old.items ++ space ∷ words (refusal_words refusal.now)) }
     ensures err { OnErr result (IsInFront out.old.items out.new.items) }
 {
     push_number(out, u64::from(refusal.number()))?;
