@@ -16,6 +16,9 @@ without_last bytes = take (length bytes - 1) bytes
 abbrev pub started_lines : List ℕ → List (List ℕ) → List ℕ
 started_lines start lines = flat_map (λ l. start ++ l ++ newline ∷ []) lines
 
+abbrev pub comma : ℕ
+comma = 44
+
 -- the values behind the first of a row, with a comma before each
 abbrev pub others_text : List Value → List ℕ
-others_text values = flat_map (λ v. 44 ∷ value_text v) values
+others_text values = flat_map (λ v. comma ∷ value_text v) values
