@@ -19,3 +19,5 @@ mod syntax;
 mod tables;
 #[cfg(test)]
 mod value;
+#[cfg(test)]
+mod wire;

@@ -1,0 +1,9 @@
+-- the lines before stay
+use Rattle.std.proofs.lemmas.Result.{err_from_is_err_and}
+use Rattle.sb_wire.proofs.Texts.{front_through}
+use Rattle.sb_wire.proofs.trace.push_trace.Goals as goal
+
+pub returns-in_err-push_consideration-clause-err : goal.returns-in_err-push_consideration-clause-err
+returns-in_err-push_consideration-clause-err c =
+    let p = err_from_is_err_and c.from_residual.result c.from_residual.ensures.1 in
+    rw p.1 (front_through _ _ _ _ c.loop-rule.invariant c.in_err-push_consideration.ensures.err)

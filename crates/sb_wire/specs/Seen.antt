@@ -1,0 +1,26 @@
+-- What a contract sees of a line's piece, of an addressed line and of a refusal of the wire.
+use Rattle.std.specs.Prelude.{ℕ, List, codes}
+use Rattle.sb_wire.specs.Lines.{line, too_long, Piece as ItsPiece, Addressed as ItsAddressed}
+use Rattle.sb_wire.specs.declared.input.Piece.{Piece}
+use Rattle.sb_wire.specs.declared.input.Piece.TheVariants.{Line, TooLong}
+use Rattle.sb_wire.specs.declared.address.Addressed.{Addressed}
+use Rattle.sb_wire.specs.declared.refusal.WireRefusal.{WireRefusal}
+use Rattle.sb_wire.specs.declared.refusal.WireRefusal.TheVariants as refusal
+
+-- a line by its bytes
+abbrev pub piece_seen : Piece → ItsPiece
+piece_seen (Line bytes) = line bytes.now
+piece_seen TooLong = too_long
+
+-- a line's numbers, and its command by its bytes
+abbrev pub addressed_seen : Addressed → ItsAddressed
+addressed_seen a = record { tenant = a.tenant; session = a.session; command = a.command.now }
+
+-- the line that refuses
+abbrev pub refusal_line : WireRefusal → List ℕ
+refusal_line refusal.TooLong = codes "no 11 TooLong"
+refusal_line refusal.BadLine = codes "no 12 BadLine"
+refusal_line refusal.NoTenant = codes "no 13 NoTenant"
+refusal_line refusal.NoSession = codes "no 14 NoSession"
+refusal_line refusal.NoMemory = codes "no 91 NoMemory"
+refusal_line refusal.NotBegun = codes "no 92 NotBegun"
