@@ -5,6 +5,7 @@ ghost use Rattle.sb_cell.specs.Tenants.{hosts, states, new_tenants};
 ghost use Rattle.sb_tenant.specs.Supported.{engine, is_served};
 
 use crate::StepError;
+use sb_tenant::laws::legal_states_are_replayed;
 use sb_tenant::{Answer, SESSIONS_SERVED, Tenant};
 use sb_value::{SessionId, TENANT_LIMIT, TenantId};
 use std::alloc::{AllocError, Global};
@@ -58,6 +59,7 @@ impl Cell {
         if session >= SESSIONS_SERVED {
             return Err(StepError::NoSession);
         }
+        legal_states_are_replayed();
         match self.tenants[place].step(alloc, SessionId::new(session as u8), line) {
             Ok(answer) => Ok(answer),
             Err(_) => Err(StepError::NotBegun),
