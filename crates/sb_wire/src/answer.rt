@@ -1,0 +1,67 @@
+//! The answer to one piece of an input.
+ghost use Rattle.std.specs.Prelude.{◌≡◌, ◌++◌, List, ℕ, OnOk, OnErr, IfOk, Result, length};
+ghost use Rattle.sb_cell.specs.Headline.{IsEvent};
+ghost use Rattle.sb_cell.specs.Tenants.{hosts, states};
+ghost use Rattle.sb_tenant.specs.Supported.{engine, is_served};
+ghost use Rattle.sb_wire.specs.Output.{answer_text, text_behind, IsAnswer};
+ghost use Rattle.sb_wire.specs.Seen.{piece_seen, addressed_seen};
+
+use crate::address::Addressed;
+use crate::input::Piece;
+use crate::prefix::Prefix;
+use crate::refusal::WireRefusal;
+use crate::reply_text::{write_refusal, write_reply};
+use sb_cell::{Cell, StepError};
+use sb_tenant::Answer;
+use std::alloc::{AllocError, Global};
+
+/// Answers a piece behind the text so far.
+pub(crate) fn answer_piece(
+    alloc: Global,
+    cell: &mut Cell,
+    piece: Piece<'_>,
+    out: &mut Vec<u8>,
+) -> Result<(), AllocError>
+    ensures ok { OnOk result ((text : List ℕ) × (out.new.items ≡ out.old.items ++ text)
+        × IsAnswer engine (hosts cell.old) is_served cell.old.bound (states cell.old) (piece_seen piece.entry) text (states cell.new)) }
+    ensures same { (cell.new.bound ≡ cell.old.bound) × (length cell.new.tenants ≡ length cell.old.tenants) }
+{
+    let Piece::Line(line) = piece else {
+        return write_refusal(out, &Prefix::none(), WireRefusal::TooLong);
+    };
+    match Addressed::split(line) {
+        Some(addressed) => answer_line(alloc, cell, addressed, out),
+        None => write_refusal(out, &Prefix::none(), WireRefusal::BadLine),
+    }
+}
+
+/// Makes the step of an addressed line, and writes its answer.
+fn answer_line(
+    alloc: Global,
+    cell: &mut Cell,
+    line: Addressed<'_>,
+    out: &mut Vec<u8>,
+) -> Result<(), AllocError>
+    ensures ok { OnOk result ((given : Result Answer StepError) × (out.new.items ≡ out.old.items ++ answer_text (addressed_seen line.entry) given)
+        × IsEvent engine cell.old.bound (hosts cell.old line.entry.tenant) (is_served line.entry.session) (states cell.old) (record { tenant = line.entry.tenant; session = line.entry.session; line = line.entry.command.now }) given (states cell.new)) }
+    ensures same { (cell.new.bound ≡ cell.old.bound) × (length cell.new.tenants ≡ length cell.old.tenants) }
+{
+    let given = cell.step(alloc, line.tenant, line.session, line.command);
+    write_answer(out, &Prefix::new(line.tenant, line.session), &given)
+}
+
+/// Writes what a step was answered.
+fn write_answer(
+    out: &mut Vec<u8>,
+    prefix: &Prefix,
+    given: &Result<Answer, StepError>,
+) -> Result<(), AllocError>
+    ensures ok { OnOk result (out.new.items ≡ out.old.items ++ text_behind prefix.now given.now) }
+{
+    match given {
+        Ok(answer) => write_reply(out, prefix, &answer.reply),
+        Err(StepError::NoTenant) => write_refusal(out, prefix, WireRefusal::NoTenant),
+        Err(StepError::NoSession) => write_refusal(out, prefix, WireRefusal::NoSession),
+        Err(StepError::NotBegun) => write_refusal(out, prefix, WireRefusal::NotBegun),
+    }
+}
