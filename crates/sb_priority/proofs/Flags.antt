@@ -3,7 +3,8 @@ use Rattle.std.proofs.Common.{◌≡◌, ℕ, zero, suc, ◌<◌, Bool, true, fa
 use Rattle.std.proofs.Math.Bool.{and-false}
 use Rattle.std.proofs.lemmas.Bool.{eqb-false}
 use Rattle.std.proofs.lemmas.Option.{unwrap_or-slice_get}
-use Rattle.sb_value.specs.Flags.{flag_at, union, share_place}
+use Rattle.std.specs.List.{list_any}
+use Rattle.sb_value.specs.Flags.{flag_at, union, intersection, share_place}
 
 flag_at-set_by : (flags : List Bool) (k j : ℕ) (b same : Bool) → k < length flags → nat_eq j k ≡ same → flag_at (set flags k b) j ≡ cond same b (flag_at flags j)
 flag_at-set_by flags k j b true h e =
@@ -47,26 +48,32 @@ flag_at-none zero j = refl
 flag_at-none (suc n) zero = refl
 flag_at-none (suc n) (suc j) = flag_at-none n j
 
-none_shared : (xs : List Bool) → share_place xs [] ≡ false
-none_shared [] = refl
-none_shared (x ∷ xs) = refl
-
 pub length-union : (xs ys : List Bool) (n : ℕ) → length xs ≡ n → length ys ≡ n → length (union xs ys) ≡ n
 length-union [] ys n g h = h
 length-union (x ∷ xs) [] n g h = g
 length-union (x ∷ xs) (y ∷ ys) n g h = let e : length (union xs ys) ≡ length xs = length-union xs ys (length xs) refl (omega arith) in omega arith
-
--- the places from i on: the first is one of both, or a later one is
-pub share_place-drop : (xs ys : List Bool) (i : ℕ) → share_place (drop i xs) (drop i ys) ≡ ((flag_at xs i && flag_at ys i) || share_place (drop (suc i) xs) (drop (suc i) ys))
-share_place-drop [] ys zero = refl
-share_place-drop [] ys (suc i) = refl
-share_place-drop (x ∷ xs) [] zero = sym (ap (λ b. b || share_place xs []) (and-false x) ∙ none_shared xs)
-share_place-drop (x ∷ xs) [] (suc i) = none_shared (drop i xs) ∙ sym (ap (λ b. b || share_place (drop (suc i) xs) []) (and-false (flag_at xs i)) ∙ none_shared (drop (suc i) xs))
-share_place-drop (x ∷ xs) (y ∷ ys) zero = refl
-share_place-drop (x ∷ xs) (y ∷ ys) (suc i) = share_place-drop xs ys i
 
 -- rows of no flags
 pub none_related : (n : ℕ) (row : List Bool) (a b : ℕ) → flag_at row a ≡ false → flag_at (get_or (replicate n row) b []) a ≡ false
 none_related zero row a b h = refl
 none_related (suc n) row a zero h = h
 none_related (suc n) row a (suc b) h = none_related n row a b h
+
+-- one row is written
+relates-set_by : (rows : List (List Bool)) (i : ℕ) (row : List Bool) (a b : ℕ) (same : Bool) → i < length rows → nat_eq b i ≡ same → flag_at (get_or (set rows i row) b []) a ≡ cond same (flag_at row a) (flag_at (get_or rows b []) a)
+relates-set_by rows i row a b true h e = ap (λ (k : ℕ). flag_at (get_or (set rows i row) k []) a) (eqb-true b i e) ∙ ap (λ (r : List Bool). flag_at r a) (get_or-set_same rows i row [] h)
+relates-set_by rows i row a b false h e = ap (λ (r : List Bool). flag_at r a) (get_or-set_other rows i b row [] (eqb-false b i e))
+
+pub relates-set : (rows : List (List Bool)) (i : ℕ) (row : List Bool) (a b : ℕ) → i < length rows → flag_at (get_or (set rows i row) b []) a ≡ cond (nat_eq b i) (flag_at row a) (flag_at (get_or rows b []) a)
+relates-set rows i row a b h = relates-set_by rows i row a b (nat_eq b i) h refl
+
+pub shares : (xs ys : List Bool) → list_any (λ b. b) (intersection xs ys) ≡ share_place xs ys
+shares [] ys = refl
+shares (x ∷ xs) [] = refl
+shares (x ∷ xs) (y ∷ ys) = ap (λ b. (x && y) || b) (shares xs ys)
+
+pub flag_at-intersection : (xs ys : List Bool) (j : ℕ) → flag_at (intersection xs ys) j ≡ (flag_at xs j && flag_at ys j)
+flag_at-intersection [] ys j = refl
+flag_at-intersection (x ∷ xs) [] j = sym (and-false (flag_at (x ∷ xs) j))
+flag_at-intersection (x ∷ xs) (y ∷ ys) zero = refl
+flag_at-intersection (x ∷ xs) (y ∷ ys) (suc j) = flag_at-intersection xs ys j
