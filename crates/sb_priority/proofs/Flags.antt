@@ -1,5 +1,5 @@
 -- Single flags after a change of the set.
-use Rattle.std.proofs.Common.{◌≡◌, ℕ, zero, suc, ◌<◌, Bool, true, false, not, cond, ◌&&◌, ◌||◌, nat_eq, List, [], ◌∷◌, set, drop, length, get_or, replicate, refl, sym, ap, ◌∙◌, arith, eqb-true, get_or-set_same, get_or-set_other}
+use Rattle.std.proofs.Common.{◌≡◌, ℕ, zero, suc, ◌<◌, Bool, true, false, not, cond, ◌&&◌, ◌||◌, nat_eq, List, [], ◌∷◌, set, length, get_or, replicate, refl, sym, ap, ◌∙◌, arith, eqb-true, get_or-set_same, get_or-set_other}
 use Rattle.std.proofs.Math.Bool.{and-false}
 use Rattle.std.proofs.lemmas.Bool.{eqb-false}
 use Rattle.std.proofs.lemmas.Option.{unwrap_or-slice_get}

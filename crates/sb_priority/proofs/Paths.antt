@@ -1,13 +1,12 @@
 -- What a set of pairs leads to. Each fact takes the law that the test of precedence is the transitive closure.
 use Rattle.std.proofs.Common.{◌≡◌, ℕ, Bool, true, false, not, cond, ◌&&◌, ◌||◌, ◌==◌, List, [], ◌∷◌, ◌++◌, map, ◌⊎◌, refl, sym, inl, inr, ap, ◌∙◌, subst, eqb-true}
 use Rattle.std.proofs.Math.Bool.{and-false}
-use Rattle.std.specs.List.{list_any}
 use Rattle.std.proofs.lemmas.List.Folds.{list_any-append}
 use Rattle.sb_value.specs.Order.{Precedes, pair, onward, precedes}
 use Rattle.sb_value.specs.Laws.{PrecedesIsClosure}
 use Rattle.sb_priority.specs.Closed.{has_pair}
 use Rattle.sb_priority.specs.Ranks.{IsAcyclic, pairs_of, pairs_without}
-use Rattle.sb_priority.proofs.Tests.{no_way, and_left, and_right, and_both, or_cases, or_first, or_second, same_test, not_true}
+use Rattle.sb_priority.proofs.Tests.{no_way, and_left, and_right, or_cases, or_first, same_test, not_true}
 
 -- ---- only the set of pairs counts
 

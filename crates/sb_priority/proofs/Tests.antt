@@ -1,5 +1,5 @@
 -- Facts on tests.
-use Rattle.std.proofs.Common.{◌≡◌, ℕ, Bool, true, false, not, ◌&&◌, ◌||◌, nat_eq, ◌⊎◌, refl, sym, inl, inr, ap, ◌∙◌, eqb-true, eq-eqb, true≢false}
+use Rattle.std.proofs.Common.{◌≡◌, Bool, true, false, ◌&&◌, ◌||◌, ◌⊎◌, refl, sym, inl, inr, ap, ◌∙◌, true≢false}
 
 pub no_way : {A : Type 0} → false ≡ true → A
 no_way e = absurd (true≢false (sym e))

@@ -1,12 +1,12 @@
 //! The order of the rules of one tenant.
-ghost use Rattle.std.specs.Prelude.{◌≡◌, ℕ, ◌<◌, true, not, ◌&&◌, ◌==◌, List, [], ◌∷◌, ◌++◌, filter, length, OnOk, OnErr};
+ghost use Rattle.std.specs.Prelude.{◌≡◌, ℕ, ◌<◌, true, not, ◌&&◌, ◌==◌, nat_lt, List, [], ◌∷◌, ◌++◌, filter, length, OnOk, OnErr};
 ghost use Rattle.sb_value.specs.Flags.{flag_at};
 ghost use Rattle.sb_value.specs.Order.{precedes, chosen};
 ghost use Rattle.sb_priority.specs.Ranks.{HasOrder, pairs_of, pairs_without, in_order, is_free};
 
 use crate::list::RuleList;
 use crate::pairs::Pairs;
-use sb_value::{RuleId, RuleSet, precedes_is_closure};
+use sb_value::{RULE_LIMIT, RuleId, RuleSet, precedes_is_closure};
 use std::marker::Model;
 
 /// With the new pairs a rule would precede itself.
@@ -38,6 +38,13 @@ impl Priorities {
             rules: RuleList::new(),
             pairs: Pairs::none(),
         }
+    }
+
+    /// Whether one more rule fits.
+    pub fn has_room(&self) -> bool
+        ensures { result ≡ nat_lt (length self.now.rules) 64 }
+    {
+        self.rules.as_slice().len() < RULE_LIMIT
     }
 
     /// Adds a rule that precedes those of the first list and follows those of the second.

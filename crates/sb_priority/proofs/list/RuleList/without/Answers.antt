@@ -1,4 +1,4 @@
-use Rattle.std.proofs.Common.{◌≡◌, ◌+◌, not, ◌==◌, take, length, ap, sym, ◌∙◌, arith, ℕ, List, refl}
+use Rattle.std.proofs.Common.{◌≡◌, not, ◌==◌, take, length, ap, arith, ℕ, List, refl}
 use Rattle.std.specs.List.{filter}
 use Rattle.std.proofs.lemmas.List.{length-take-le}
 use Rattle.std.proofs.lemmas.List.Filters.{length-filter_both}

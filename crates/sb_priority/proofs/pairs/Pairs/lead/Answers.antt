@@ -1,4 +1,4 @@
-use Rattle.std.proofs.Common.{◌≡◌, ◌∙◌, ap, ℕ, List, map, take, ◌++◌, arith, length, ◌≤◌}
+use Rattle.std.proofs.Common.{◌∙◌, ap, ℕ, List, map, ◌++◌, arith, length, ◌≤◌}
 use Rattle.std.proofs.lemmas.List.{take_all}
 use Rattle.sb_priority.specs.Closed.{has_pair}
 use Rattle.sb_priority.proofs.Rows.{linked_more}

@@ -1,4 +1,4 @@
-use Rattle.std.proofs.Common.{◌≡◌, ◌∙◌, sym}
+use Rattle.std.proofs.Common.{◌∙◌, sym}
 use Rattle.sb_priority.specs.Closed.{relates}
 use Rattle.sb_priority.proofs.Paths.{precedes_same}
 use Rattle.sb_priority.proofs.pairs.Pairs.predecessors.Goals as goal

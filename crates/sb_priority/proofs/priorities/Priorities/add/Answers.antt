@@ -1,4 +1,4 @@
-use Rattle.std.proofs.Common.{◌≡◌, ◌∙◌, sym, subst, ◌++◌}
+use Rattle.std.proofs.Common.{◌∙◌, sym, subst, ◌++◌}
 use Rattle.sb_priority.specs.Closed.{relates}
 use Rattle.sb_priority.specs.Ranks.{Ranks, HasOrder, pairs_of}
 use Rattle.sb_priority.proofs.Paths.{added_acyclic}

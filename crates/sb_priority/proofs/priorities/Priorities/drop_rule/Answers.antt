@@ -1,4 +1,4 @@
-use Rattle.std.proofs.Common.{◌≡◌, ◌∙◌, ap, sym, subst, not, ◌&&◌, ◌==◌}
+use Rattle.std.proofs.Common.{◌∙◌, ap, sym, subst, not, ◌&&◌, ◌==◌}
 use Rattle.sb_priority.specs.Ranks.{Ranks, HasOrder}
 use Rattle.sb_priority.proofs.Paths.{has_pair-without, dropped_acyclic}
 use Rattle.sb_priority.proofs.priorities.Priorities.drop_rule.Goals as goal

@@ -1,5 +1,4 @@
-use Rattle.std.proofs.Common.{◌≡◌, ◌∙◌, ap, sym, subst, ℕ, List, Bool, not, ◌&&◌, ◌==◌}
-use Rattle.std.specs.List.{list_any}
+use Rattle.std.proofs.Common.{◌∙◌, ap, sym, subst, not, ◌&&◌, ◌==◌}
 use Rattle.sb_value.specs.Flags.{flag_at}
 use Rattle.sb_value.specs.Order.{precedes}
 use Rattle.sb_priority.specs.Ranks.{Ranks, HasOrder, in_order, is_free}
