@@ -13,21 +13,24 @@ fn id(rt: &impl Abort, number: u8) -> RuleId {
 /// A rule, those that it precedes, those that it follows, and whether it is added.
 type Step = (u8, &'static [u8], &'static [u8], bool);
 
+/// The rules of a list of at most two.
+fn ids(rt: &impl Abort, numbers: &[u8]) -> [RuleId; 2] {
+    let mut ids = [RuleId::new(0); 2];
+    assert!(rt; numbers.len() <= 2);
+    for (i, number) in numbers.iter().enumerate() {
+        ids[i] = id(rt, *number);
+    }
+    ids
+}
+
 fn add(rt: &impl Abort, order: &mut Priorities, step: Step) {
     let (rule, ahead_of, behind, added) = step;
-    let mut ids = [RuleId::new(0); 4];
-    assert!(rt; ahead_of.len() <= 2 && behind.len() <= 2);
-    for (i, other) in ahead_of.iter().enumerate() {
-        ids[i] = id(rt, *other);
-    }
-    for (i, other) in behind.iter().enumerate() {
-        ids[2 + i] = id(rt, *other);
-    }
-    assert!(rt; order.has_room());
+    let (before, after) = (ids(rt, ahead_of), ids(rt, behind));
+    assert!(rt; order.has_room() && ahead_of.len() <= 2 && behind.len() <= 2);
     let answer = order.add(
         id(rt, rule),
-        &ids[..ahead_of.len()],
-        &ids[2..2 + behind.len()],
+        &before[..ahead_of.len()],
+        &after[..behind.len()],
     );
     assert_eq!(rt; answer, if added { Ok(()) } else { Err(Cycle) });
 }
