@@ -2,7 +2,7 @@
 use Rattle.std.proofs.Common.{◌≡◌, ℕ, zero, suc, Bool, true, false, not, cond, ◌&&◌, ◌||◌, ◌==◌, List, [], ◌∷◌, refl, sym, ap, ◌∙◌, subst, eqb-true, eq-eqb, Option, Some, find, inl, inr}
 use Rattle.std.specs.List.{list_any, filter}
 use Rattle.sb_value.specs.Flags.{flag_at, share_place}
-use Rattle.sb_priority.specs.Ranks.{in_order}
+use Rattle.sb_priority.specs.Ranks.{ranked}
 use Rattle.sb_priority.proofs.Tests.{no_way, and_left, and_right, and_both, or_cases, or_first, or_second, same_test}
 
 -- ---- flags
@@ -50,9 +50,9 @@ in_list f g (x ∷ xs) k h p q =
 -- a row meets the listed rules of the set where it has one of them
 pub meets_listed : (row others set : List Bool) (rules : List ℕ) (f : ℕ → Bool) →
     ((k : ℕ) → flag_at others k ≡ (list_any (λ r. r == k) rules && flag_at set k)) → ((k : ℕ) → flag_at row k ≡ f k) →
-    share_place row others ≡ list_any f (in_order set rules)
+    share_place row others ≡ list_any f (ranked set rules)
 meets_listed row others set rules f g h =
-    same_test (share_place row others) (list_any f (in_order set rules))
+    same_test (share_place row others) (list_any f (ranked set rules))
     (λ e.
     let w = shared_place row others e in
     let both : (list_any (λ r. r == w.0) rules && flag_at set w.0) ≡ true = sym (g w.0) ∙ w.2 in

@@ -28,8 +28,8 @@ abbrev pub pairs_without : ℕ → List (ℕ × ℕ) → List (ℕ × ℕ)
 pairs_without rule pairs = filter (λ p. not (p.0 == rule) && not (p.1 == rule)) pairs
 
 -- the rules of the set, in order of creation
-abbrev pub in_order : List Bool → List ℕ → List ℕ
-in_order set rules = filter (λ r. flag_at set r) rules
+abbrev pub ranked : List Bool → List ℕ → List ℕ
+ranked set rules = filter (λ r. flag_at set r) rules
 
 -- no other rule of the list precedes the rule
 abbrev pub is_free : List (ℕ × ℕ) → List ℕ → ℕ → Bool

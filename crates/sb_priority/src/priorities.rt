@@ -2,7 +2,7 @@
 ghost use Rattle.std.specs.Prelude.{◌≡◌, ℕ, ◌<◌, true, not, ◌&&◌, ◌==◌, nat_lt, List, [], ◌∷◌, ◌++◌, filter, length, OnOk, OnErr};
 ghost use Rattle.sb_value.specs.Flags.{flag_at};
 ghost use Rattle.sb_value.specs.Order.{precedes, chosen};
-ghost use Rattle.sb_priority.specs.Ranks.{HasOrder, pairs_of, pairs_without, in_order, is_free};
+ghost use Rattle.sb_priority.specs.Ranks.{HasOrder, pairs_of, pairs_without, ranked, is_free};
 
 use crate::list::RuleList;
 use crate::pairs::Pairs;
@@ -85,7 +85,7 @@ impl Priorities {
 
     /// The earliest created rule of the set that no other rule of the set precedes.
     pub fn choose(&self, set: RuleSet) -> Option<RuleId>
-        ensures { (pairs : List (ℕ × ℕ)) → HasOrder self.now pairs → result ≡ chosen pairs (in_order set self.now.rules) }
+        ensures { (pairs : List (ℕ × ℕ)) → HasOrder self.now pairs → result ≡ chosen pairs (ranked set self.now.rules) }
     {
         for rule in self.rules.as_slice() {
             if self.is_next(*rule, set) {
@@ -97,14 +97,14 @@ impl Priorities {
 
     /// Whether the rule is in the set and no other rule of the set precedes it.
     fn is_next(&self, rule: RuleId, set: RuleSet) -> bool
-        ensures { (pairs : List (ℕ × ℕ)) → HasOrder self.now pairs → result ≡ (flag_at set rule && is_free pairs (in_order set self.now.rules) rule) }
+        ensures { (pairs : List (ℕ × ℕ)) → HasOrder self.now pairs → result ≡ (flag_at set rule && is_free pairs (ranked set self.now.rules) rule) }
     {
         set.contains(rule) && self.is_free(rule, set)
     }
 
     /// Whether no other rule of the set precedes the rule.
     fn is_free(&self, rule: RuleId, set: RuleSet) -> bool
-        ensures { (pairs : List (ℕ × ℕ)) → HasOrder self.now pairs → result ≡ is_free pairs (in_order set self.now.rules) rule }
+        ensures { (pairs : List (ℕ × ℕ)) → HasOrder self.now pairs → result ≡ is_free pairs (ranked set self.now.rules) rule }
     {
         let others = self.rules.members().shared(set);
         !self.pairs.predecessors(rule).meets(others)

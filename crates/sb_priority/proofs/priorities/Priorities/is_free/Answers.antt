@@ -1,7 +1,7 @@
 use Rattle.std.proofs.Common.{◌∙◌, ap, sym, subst, not, ◌&&◌, ◌==◌}
 use Rattle.sb_value.specs.Flags.{flag_at}
 use Rattle.sb_value.specs.Order.{precedes}
-use Rattle.sb_priority.specs.Ranks.{Ranks, HasOrder, in_order, is_free}
+use Rattle.sb_priority.specs.Ranks.{Ranks, HasOrder, ranked, is_free}
 use Rattle.sb_priority.proofs.Choice.{meets_listed, not_itself}
 use Rattle.sb_priority.proofs.priorities.Priorities.is_free.Goals as goal
 
@@ -14,4 +14,4 @@ returns c pairs h =
     ∙ meets_listed c.predecessors.result c.shared-others.result c.args.set c.self.inside.rules (λ q. not (q == c.args.rule) && precedes pairs q c.args.rule)
     (λ k. c.shared-others.ensures k ∙ ap (λ b. b && flag_at c.args.set k) (c.members.ensures k))
     (λ k. c.predecessors.ensures pairs inside.pairs_are k ∙ not_itself (λ q. precedes pairs q c.args.rule) c.args.rule k (h.acyclic c.args.rule)))
-    ∙ ap (λ (r : Ranks). is_free pairs (in_order c.args.set r.rules) c.args.rule) c.self.view_is
+    ∙ ap (λ (r : Ranks). is_free pairs (ranked c.args.set r.rules) c.args.rule) c.self.view_is
