@@ -52,6 +52,7 @@ impl Pairs {
     pub fn predecessors(&self, rule: RuleId) -> Rules
         ensures { (pairs : List (ℕ × ℕ)) → HasPairs self.now pairs → (a : ℕ) → flag_at result a ≡ precedes pairs a rule }
     {
+        // for the proof: the test of precedence is the closure of the pairs
         precedes_is_closure();
         self.closure.predecessors(rule)
     }

@@ -1,8 +1,8 @@
 //! The order of the rules of one tenant.
-ghost use Rattle.std.specs.Prelude.{◌≡◌, ℕ, ◌<◌, true, not, ◌&&◌, ◌==◌, nat_lt, List, [], ◌∷◌, ◌++◌, filter, length, OnOk, OnErr};
+ghost use Rattle.std.specs.Prelude.{◌≡◌, ℕ, ◌<◌, not, ◌&&◌, ◌==◌, nat_lt, List, [], ◌∷◌, ◌++◌, filter, length, OnOk, OnErr};
 ghost use Rattle.sb_value.specs.Flags.{flag_at};
 ghost use Rattle.sb_value.specs.Order.{precedes, chosen};
-ghost use Rattle.sb_priority.specs.Ranks.{HasOrder, pairs_of, pairs_without, ranked, is_free};
+ghost use Rattle.sb_priority.specs.Ranks.{HasOrder, pairs_of, Gains, Loses, ClosesCycle, ranked, is_free};
 
 use crate::list::RuleList;
 use crate::pairs::Pairs;
@@ -51,10 +51,11 @@ impl Priorities {
     pub fn add(&mut self, rule: RuleId, ahead_of: &[RuleId], behind: &[RuleId]) -> Result<(), Cycle>
         requires room { length self.old.rules < 64 }
         ensures last { OnOk result (self.new.rules ≡ self.old.rules ++ rule ∷ []) }
-        ensures linked { (pairs : List (ℕ × ℕ)) → HasOrder self.old pairs → OnOk result (HasOrder self.new (pairs ++ pairs_of rule ahead_of.now behind.now)) }
-        ensures cycle { (pairs : List (ℕ × ℕ)) → HasOrder self.old pairs → OnErr result (precedes (pairs ++ pairs_of rule ahead_of.now behind.now) rule rule ≡ true) }
+        ensures linked { OnOk result (Gains self.old self.new (pairs_of rule ahead_of.now behind.now)) }
+        ensures cycle { OnErr result (ClosesCycle self.old rule (pairs_of rule ahead_of.now behind.now)) }
         ensures unchanged { OnErr result (self.new ≡ self.old) }
     {
+        // for the proof: a cycle goes through the new rule
         precedes_is_closure();
         let mut pairs = self.pairs.copied();
         pairs.add_rule(rule, ahead_of, behind);
@@ -69,8 +70,9 @@ impl Priorities {
     /// Drops a rule with its pairs: what led through it is gone.
     pub fn drop_rule(&mut self, rule: RuleId)
         ensures rules { self.new.rules ≡ filter (λ r. not (r == rule)) self.old.rules }
-        ensures pairs { (pairs : List (ℕ × ℕ)) → HasOrder self.old pairs → HasOrder self.new (pairs_without rule pairs) }
+        ensures pairs { Loses self.old self.new rule }
     {
+        // for the proof: with fewer pairs nothing more precedes
         precedes_is_closure();
         self.rules = self.rules.without(rule);
         self.pairs = self.pairs.without(rule);
