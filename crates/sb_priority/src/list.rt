@@ -50,8 +50,7 @@ impl RuleList {
     pub fn members(&self) -> Rules
         ensures { (k : ℕ) → flag_at result k ≡ list_any (λ r. r == k) self.now }
     {
-        let members = self.members;
-        members
+        self.members
     }
 
     /// Adds the rule as the last.

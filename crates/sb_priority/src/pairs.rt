@@ -43,9 +43,10 @@ impl Pairs {
     pub fn copied(&self) -> Pairs
         ensures { result ≡ self.now }
     {
-        let direct = self.direct;
-        let closure = self.closure;
-        Pairs { direct, closure }
+        Pairs {
+            direct: self.direct,
+            closure: self.closure,
+        }
     }
 
     /// The rules that precede the rule.
