@@ -1,1 +1,5 @@
 pub mod Flags
+pub mod Tests
+pub mod Paths
+pub mod Choice
+pub mod Rows

@@ -1,11 +1,24 @@
--- The transitive closure of pairs, as rows of flags: for each rule those that precede it.
-use Rattle.std.specs.Prelude.{◌≡◌, ℕ, Bool, List, [], slice_index_or}
+-- Pairs of rules and their transitive closure, as rows of flags.
+use Rattle.std.specs.Prelude.{◌≡◌, ℕ, Bool, ◌&&◌, ◌==◌, List, [], slice_index_or}
+use Rattle.std.specs.List.{list_any}
 use Rattle.sb_value.specs.Flags.{flag_at}
 use Rattle.sb_value.specs.Order.{precedes}
 
+-- the second rule's row has a flag for the first rule
 abbrev pub relates : List (List Bool) → ℕ → ℕ → Bool
 relates rows a b = flag_at (slice_index_or rows b []) a
+
+abbrev pub has_pair : List (ℕ × ℕ) → ℕ → ℕ → Bool
+has_pair pairs a b = list_any (λ p. (p.0 == a) && (p.1 == b)) pairs
+
+-- the rows are these pairs, whatever their order
+abbrev pub HasPairs : List (List Bool) → List (ℕ × ℕ) → Type 0
+HasPairs rows pairs = (a b : ℕ) → relates rows a b ≡ has_pair pairs a b
 
 -- the rows are the closure of the pairs
 abbrev pub IsClosure : List (List Bool) → List (ℕ × ℕ) → Type 0
 IsClosure rows pairs = (a b : ℕ) → relates rows a b ≡ precedes pairs a b
+
+-- the one rows are some pairs, the other ones are the closure of these
+abbrev pub AreClosed : List (List Bool) → List (List Bool) → Type 0
+AreClosed rows closure = (pairs : List (ℕ × ℕ)) × HasPairs rows pairs × IsClosure closure pairs

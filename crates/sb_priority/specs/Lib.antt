@@ -1,1 +1,3 @@
 pub mod Closed
+pub mod Members
+pub mod Ranks

@@ -33,12 +33,11 @@ impl Closure {
         }
     }
 
-    /// Whether the first rule precedes the second.
-    pub fn precedes(&self, first: RuleId, second: RuleId) -> bool
-        ensures { result ≡ relates self.now first second }
+    /// The rules that precede the rule.
+    pub fn predecessors(&self, rule: RuleId) -> Rules
+        ensures { (a : ℕ) → flag_at result a ≡ relates self.now a rule }
     {
-        let before = self.before[second.index()];
-        before.contains(first)
+        self.before[rule.index()]
     }
 
     /// Closes the pairs with one more: what reaches the first rule precedes what the second one reaches.

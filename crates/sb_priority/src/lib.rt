@@ -2,6 +2,9 @@
 #![tactic(auto)]
 
 mod closure;
+mod list;
+mod pairs;
+mod priorities;
 mod rules;
 
-pub use closure::Closure;
+pub use priorities::{Cycle, Priorities};

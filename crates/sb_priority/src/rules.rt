@@ -1,6 +1,6 @@
 //! Sets of rules, by what is in them.
-ghost use Rattle.std.specs.Prelude.{◌≡◌, ℕ, Bool, false, ◌||◌, ◌==◌};
-ghost use Rattle.sb_value.specs.Flags.{flag_at};
+ghost use Rattle.std.specs.Prelude.{◌≡◌, ℕ, Bool, false, not, ◌&&◌, ◌||◌, ◌==◌};
+ghost use Rattle.sb_value.specs.Flags.{flag_at, share_place};
 
 use sb_value::{RuleId, RuleSet};
 use std::marker::Model;
@@ -51,6 +51,16 @@ impl Rules {
         }
     }
 
+    /// The set without the rule.
+    pub fn without(self, rule: RuleId) -> Rules
+        ensures { (k : ℕ) → flag_at result k ≡ (flag_at self k && not (k == rule)) }
+    {
+        let _in_range = rule.number();
+        Rules {
+            set: self.set.without(rule),
+        }
+    }
+
     /// The rules of either set.
     pub fn union(self, other: Rules) -> Rules
         ensures { (k : ℕ) → flag_at result k ≡ (flag_at self k || flag_at other k) }
@@ -58,5 +68,19 @@ impl Rules {
         Rules {
             set: self.set.union(other.set),
         }
+    }
+
+    /// The rules that are in the other set, too.
+    pub fn shared(self, other: RuleSet) -> RuleSet
+        ensures { (k : ℕ) → flag_at result k ≡ (flag_at self k && flag_at other k) }
+    {
+        self.set.intersection(other)
+    }
+
+    /// Whether some rule is in both sets.
+    pub fn meets(self, other: RuleSet) -> bool
+        ensures { result ≡ share_place self other }
+    {
+        !self.set.intersection(other).is_empty()
     }
 }

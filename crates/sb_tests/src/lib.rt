@@ -10,6 +10,8 @@ mod locks;
 #[cfg(test)]
 mod net;
 #[cfg(test)]
+mod priority;
+#[cfg(test)]
 mod rawlog;
 #[cfg(test)]
 mod rulesets;

@@ -1,0 +1,130 @@
+-- Steps of the loops over lists of rules and over rows.
+use Rattle.std.proofs.Common.{◌≡◌, ℕ, zero, suc, ◌+◌, ◌<◌, ◌≤◌, Bool, true, false, not, cond, ◌&&◌, ◌||◌, ◌==◌, nat_lt, List, [], ◌∷◌, ◌++◌, map, take, drop, length, get_or, find, Some, None, refl, sym, ap, ◌∙◌, arith, add-one, eqb-true, drop-cons}
+use Rattle.std.proofs.lemmas.Bool.{ltb-true, ltb-false, lt-ltb, eqb-false}
+use Rattle.std.proofs.Math.ListN.{get_or-eq_default}
+use Rattle.std.proofs.lemmas.List.{get_or_read}
+use Rattle.std.proofs.lemmas.List.Folds.{list_any_more}
+use Rattle.std.proofs.Math.Bool.{and-true, and-false}
+use Rattle.std.specs.List.{list_any}
+use Rattle.sb_value.specs.Flags.{flag_at}
+use Rattle.sb_priority.specs.Closed.{relates, has_pair, HasPairs}
+use Rattle.sb_priority.proofs.Paths.{has_pair-append}
+use Rattle.sb_priority.proofs.Tests.{no_way, same_test}
+
+-- ---- pairs for each rule of a list
+
+or_assoc : (a b c : Bool) → ((a || b) || c) ≡ (a || (b || c))
+or_assoc true b c = refl
+or_assoc false b c = refl
+
+pub or_swap : (a b : Bool) → (a || b) ≡ (b || a)
+or_swap true true = refl
+or_swap true false = refl
+or_swap false true = refl
+or_swap false false = refl
+
+any_mapped : (p : ℕ × ℕ → Bool) (f : ℕ → ℕ × ℕ) (xs : List ℕ) → list_any p (map f xs) ≡ list_any (λ x. p (f x)) xs
+any_mapped p f [] = refl
+any_mapped p f (x ∷ xs) = ap (λ b. p (f x) || b) (any_mapped p f xs)
+
+-- one rule more of the list is linked
+pub linked_more : (f : ℕ → ℕ × ℕ) (old new : List (List Bool)) (pairs : List (ℕ × ℕ)) (xs : List ℕ) (i x : ℕ) → i < length xs → x ≡ get_or xs i x →
+    HasPairs old (pairs ++ map f (take i xs)) → ((a b : ℕ) → relates new a b ≡ (relates old a b || (((f x).0 == a) && ((f x).1 == b)))) →
+    HasPairs new (pairs ++ map f (take (i + 1) xs))
+linked_more f old new pairs xs i x h is before step a b =
+    let p : ℕ × ℕ → Bool = λ (q : ℕ × ℕ). (q.0 == a) && (q.1 == b) in
+    step a b
+    ∙ ap (λ (t : Bool). t || p (f x)) (before a b ∙ has_pair-append pairs (map f (take i xs)) a b)
+    ∙ or_assoc (has_pair pairs a b) (has_pair (map f (take i xs)) a b) (p (f x))
+    ∙ ap (λ (t : Bool). has_pair pairs a b || t)
+    (ap (λ (t : Bool). t || p (f x)) (any_mapped p f (take i xs))
+    ∙ ap (λ (y : ℕ). list_any (λ z. p (f z)) (take i xs) || p (f y)) (get_or_read xs i x h is 0)
+    ∙ sym (list_any_more (λ z. p (f z)) xs i 0 h)
+    ∙ sym (any_mapped p f (take (i + 1) xs)))
+    ∙ sym (has_pair-append pairs (map f (take (i + 1) xs)) a b)
+
+-- ---- rows in turn
+
+lt_or_eq : (b i : ℕ) (below same : Bool) → nat_lt b i ≡ below → (i == b) ≡ same → (below || same) ≡ true → b < i + 1
+lt_or_eq b i true same e f h = omega (arith, ltb-true b i e)
+lt_or_eq b i false true e f h = omega (arith, eqb-true i b f)
+lt_or_eq b i false false e f h = no_way h
+
+or_beyond : (b i : ℕ) (below same : Bool) → nat_lt b i ≡ below → (i == b) ≡ same → b < i + 1 → (below || same) ≡ true
+or_beyond b i true same e f h = refl
+or_beyond b i false true e f h = refl
+or_beyond b i false false e f h = absurd (eqb-false i b f (omega (arith, ltb-false b i e)))
+
+below_next : (b i : ℕ) → nat_lt b (i + 1) ≡ (nat_lt b i || (i == b))
+below_next b i =
+    same_test (nat_lt b (i + 1)) (nat_lt b i || (i == b))
+    (λ e. or_beyond b i (nat_lt b i) (i == b) refl refl (ltb-true b (i + 1) e))
+    (λ e. lt-ltb b (i + 1) (lt_or_eq b i (nat_lt b i) (i == b) refl refl e))
+
+kept_row_by : (below row kept rest same : Bool) → (same ≡ true → rest ≡ (row && kept)) → ((below && rest) || ((row && kept) && same)) ≡ ((below || same) && rest)
+kept_row_by below row kept rest true h =
+    ap (λ b. (below && rest) || b) (and-true (row && kept) ∙ sym (h refl)) ∙ taken below rest
+  where
+    taken : (x y : Bool) → ((x && y) || y) ≡ ((x || true) && y)
+    taken true true = refl
+    taken true false = refl
+    taken false true = refl
+    taken false false = refl
+kept_row_by below row kept rest false h = ap (λ b. (below && rest) || b) (and-false (row && kept)) ∙ passed_by below rest
+  where
+    passed_by : (x y : Bool) → ((x && y) || false) ≡ ((x || false) && y)
+    passed_by true true = refl
+    passed_by true false = refl
+    passed_by false true = refl
+    passed_by false false = refl
+
+-- one row more is linked, without a dropped rule
+pub kept_more : (rows : List (List Bool)) (old new : ℕ → ℕ → Bool) (row : List Bool) (i r : ℕ) →
+    ((a b : ℕ) → old a b ≡ (nat_lt b i && (relates rows a b && (not (a == r) && not (b == r))))) →
+    ((a : ℕ) → flag_at row a ≡ (relates rows a i && (not (a == r) && not (i == r)))) →
+    ((a b : ℕ) → new a b ≡ (old a b || (flag_at row a && (i == b)))) →
+    (a b : ℕ) → new a b ≡ (nat_lt b (i + 1) && (relates rows a b && (not (a == r) && not (b == r))))
+kept_more rows old new row i r before of_row step a b =
+    let rest : Bool = relates rows a b && (not (a == r) && not (b == r)) in
+    step a b
+    ∙ (λ j. before a b j || (of_row a j && (i == b)))
+    ∙ kept_row_by (nat_lt b i) (relates rows a i) (not (a == r) && not (i == r)) rest (i == b)
+    (λ e j. relates rows a (sym (eqb-true i b e) j) && (not (a == r) && not (sym (eqb-true i b e) j == r)))
+    ∙ sym (ap (λ t. t && rest) (below_next b i))
+
+all_rows_by : (rows : List (List Bool)) (n a b : ℕ) (rest below : Bool) → length rows ≤ n → nat_lt b n ≡ below → (below && (relates rows a b && rest)) ≡ (relates rows a b && rest)
+all_rows_by rows n a b rest true h e = refl
+all_rows_by rows n a b rest false h e =
+    let past : length rows ≤ b = omega (arith, ltb-false b n e) in
+    sym (ap (λ (row : List Bool). flag_at row a && rest) (get_or-eq_default rows [] past))
+
+-- past the last row no rules are related
+pub all_rows : (rows : List (List Bool)) (n a b : ℕ) (rest : Bool) → length rows ≤ n → (nat_lt b n && (relates rows a b && rest)) ≡ (relates rows a b && rest)
+all_rows rows n a b rest h = all_rows_by rows n a b rest (nat_lt b n) h refl
+
+-- ---- the first rule of a list
+
+pub ended : (f : ℕ → Bool) (xs : List ℕ) (i : ℕ) → length xs ≤ i → None ≡ find f (drop i xs)
+ended f [] zero h = refl
+ended f [] (suc i) h = refl
+ended f (x ∷ xs) zero h = absurd (omega arith)
+ended f (x ∷ xs) (suc i) h = ended f xs i (omega arith)
+
+pub passed : (f : ℕ → Bool) (xs : List ℕ) (i x : ℕ) → i < length xs → x ≡ get_or xs i x → f x ≡ false → find f (drop (i + 1) xs) ≡ find f (drop i xs)
+passed f xs i x h is out =
+    (λ j. find f (drop (add-one i j) xs))
+    ∙ sym (ap (λ b. cond b (Some x) (find f (drop (suc i) xs))) out)
+    ∙ (λ j. cond (f (read j)) (Some (read j)) (find f (drop (suc i) xs)))
+    ∙ sym (ap (λ (l : List ℕ). find f l) (drop-cons xs i 0 h))
+  where
+    read : x ≡ get_or xs i 0
+    read = get_or_read xs i x h is 0
+
+pub found_here : (f : ℕ → Bool) (xs : List ℕ) (i x : ℕ) → i < length xs → x ≡ get_or xs i x → f x ≡ true → Some x ≡ find f (drop i xs)
+found_here f xs i x h is in_ =
+    sym (ap (λ b. cond b (Some x) (find f (drop (suc i) xs))) in_)
+    ∙ (λ j. cond (f (read j)) (Some (read j)) (find f (drop (suc i) xs)))
+    ∙ sym (ap (λ (l : List ℕ). find f l) (drop-cons xs i 0 h))
+  where
+    read : x ≡ get_or xs i 0
+    read = get_or_read xs i x h is 0

@@ -1,0 +1,9 @@
+use Rattle.std.proofs.Common.{[]}
+use Rattle.sb_priority.proofs.Flags.{none_related}
+use Rattle.sb_priority.proofs.pairs.Pairs.none.Goals as goal
+
+pub invariant_of-result : goal.invariant_of-result
+invariant_of-result c = ([], λ a b. none_related 64 c.none.result a b (c.none.ensures a), c.new.ensures)
+
+pub returns : goal.returns
+returns c a b = none_related 64 c.none.result a b (c.none.ensures a)

@@ -1,0 +1,48 @@
+-- An order of rules, and the pairs that it stands for.
+use Rattle.std.specs.Prelude.{◌≡◌, ℕ, Bool, true, false, not, ◌&&◌, ◌==◌, List, ◌++◌, map, filter}
+use Rattle.std.specs.List.{list_any}
+use Rattle.sb_value.specs.Flags.{flag_at}
+use Rattle.sb_value.specs.Order.{precedes}
+use Rattle.sb_priority.specs.Closed.{HasPairs}
+
+-- the rules in order of creation, and for each rule those that a pair puts before it
+pub record Ranks : Type 0 where
+  pub rules : List ℕ
+  pub before : List (List Bool)
+
+-- no rule precedes itself
+abbrev pub IsAcyclic : List (ℕ × ℕ) → Type 0
+IsAcyclic pairs = (a : ℕ) → precedes pairs a a ≡ false
+
+-- the order stands for these pairs, and they close no cycle
+pub record HasOrder (ranks : Ranks) (pairs : List (ℕ × ℕ)) : Type 0 where
+  pub pairs_are : HasPairs ranks.before pairs
+  pub acyclic : IsAcyclic pairs
+
+-- the rule precedes those of the one list and follows those of the other
+abbrev pub pairs_of : ℕ → List ℕ → List ℕ → List (ℕ × ℕ)
+pairs_of rule ahead_of behind = map (λ p. (rule, p)) ahead_of ++ map (λ f. (f, rule)) behind
+
+-- the pairs that don't name the rule
+abbrev pub pairs_without : ℕ → List (ℕ × ℕ) → List (ℕ × ℕ)
+pairs_without rule pairs = filter (λ p. not (p.0 == rule) && not (p.1 == rule)) pairs
+
+-- the new order has these pairs more
+abbrev pub Gains : Ranks → Ranks → List (ℕ × ℕ) → Type 0
+Gains old new more = (pairs : List (ℕ × ℕ)) → HasOrder old pairs → HasOrder new (pairs ++ more)
+
+-- the new order has the old one's pairs but for those of the rule
+abbrev pub Loses : Ranks → Ranks → ℕ → Type 0
+Loses old new rule = (pairs : List (ℕ × ℕ)) → HasOrder old pairs → HasOrder new (pairs_without rule pairs)
+
+-- with these pairs more the rule precedes itself
+abbrev pub ClosesCycle : Ranks → ℕ → List (ℕ × ℕ) → Type 0
+ClosesCycle old rule more = (pairs : List (ℕ × ℕ)) → HasOrder old pairs → precedes (pairs ++ more) rule rule ≡ true
+
+-- the rules of the set, in order of creation
+abbrev pub ranked : List Bool → List ℕ → List ℕ
+ranked set rules = filter (λ r. flag_at set r) rules
+
+-- no other rule of the list precedes the rule
+abbrev pub is_free : List (ℕ × ℕ) → List ℕ → ℕ → Bool
+is_free pairs set r = not (list_any (λ q. not (q == r) && precedes pairs q r) set)

@@ -1,0 +1,153 @@
+//! Pairs of rules, with their closure at hand.
+ghost use Rattle.std.specs.Prelude.{◌≡◌, ℕ, Bool, List, [], not, ◌&&◌, ◌||◌, ◌==◌, ◌++◌, map, length};
+ghost use Rattle.sb_value.specs.Flags.{flag_at};
+ghost use Rattle.sb_value.specs.Order.{precedes};
+ghost use Rattle.sb_priority.specs.Closed.{relates, HasPairs};
+ghost use Rattle.sb_priority.specs.Ranks.{pairs_of};
+
+use crate::closure::Closure;
+use crate::rules::Rules;
+use sb_value::{RULE_LIMIT, RuleId, precedes_is_closure};
+use std::marker::Model;
+
+/// Pairs: for each rule those that a pair puts before it, and those that any way of pairs does.
+#[derive(Drop)]
+pub struct Pairs {
+    direct: [Rules; RULE_LIMIT],
+    closure: Closure,
+}
+
+impl Model for Pairs {
+    ghost use Rattle.std.specs.Prelude.{List, Bool};
+    ghost use Rattle.sb_priority.specs.Closed.{AreClosed};
+
+    ghost Value = { List (List Bool) };
+
+    ghost view = { λ p. p.direct };
+
+    ghost invariant = { λ p. AreClosed p.direct p.closure };
+}
+
+impl Pairs {
+    /// No pairs.
+    pub fn none() -> Pairs
+        ensures { HasPairs result [] }
+    {
+        Pairs {
+            direct: [Rules::none(); RULE_LIMIT],
+            closure: Closure::new(),
+        }
+    }
+
+    /// The same pairs once more.
+    pub fn copied(&self) -> Pairs
+        ensures { result ≡ self.now }
+    {
+        Pairs {
+            direct: self.direct,
+            closure: self.closure,
+        }
+    }
+
+    /// The rules that precede the rule.
+    pub fn predecessors(&self, rule: RuleId) -> Rules
+        ensures { (pairs : List (ℕ × ℕ)) → HasPairs self.now pairs → (a : ℕ) → flag_at result a ≡ precedes pairs a rule }
+    {
+        // for the proof: the test of precedence is the closure of the pairs
+        precedes_is_closure();
+        self.closure.predecessors(rule)
+    }
+
+    /// Adds the pairs of a new rule.
+    pub fn add_rule(&mut self, rule: RuleId, ahead_of: &[RuleId], behind: &[RuleId])
+        ensures { (pairs : List (ℕ × ℕ)) → HasPairs self.old pairs → HasPairs self.new (pairs ++ pairs_of rule ahead_of.now behind.now) }
+    {
+        self.lead(rule, ahead_of);
+        self.trail(rule, behind);
+    }
+
+    /// Puts the rule before the others.
+    fn lead(&mut self, rule: RuleId, others: &[RuleId])
+        ensures { (pairs : List (ℕ × ℕ)) → HasPairs self.old pairs → HasPairs self.new (pairs ++ map (λ o. (rule, o)) others.now) }
+    {
+        for other in others {
+            self.link(rule, *other);
+        }
+    }
+
+    /// Puts the rule behind the others.
+    fn trail(&mut self, rule: RuleId, others: &[RuleId])
+        ensures { (pairs : List (ℕ × ℕ)) → HasPairs self.old pairs → HasPairs self.new (pairs ++ map (λ o. (o, rule)) others.now) }
+    {
+        for other in others {
+            self.link(*other, rule);
+        }
+    }
+
+    /// Adds one pair.
+    fn link(&mut self, first: RuleId, second: RuleId)
+        ensures { (a b : ℕ) → relates self.new a b ≡ (relates self.old a b || ((first == a) && (second == b))) }
+    {
+        mark(&mut self.direct, first, second);
+        self.closure.link(first, second);
+    }
+
+    /// Adds one pair if it is wanted.
+    fn link_if(&mut self, first: RuleId, second: RuleId, wanted: bool)
+        ensures { (a b : ℕ) → relates self.new a b ≡ (relates self.old a b || (wanted && ((first == a) && (second == b)))) }
+    {
+        if wanted {
+            self.link(first, second);
+        }
+    }
+
+    /// Puts the rules of the set before the rule.
+    fn link_row(&mut self, row: Rules, second: RuleId)
+        ensures { (a b : ℕ) → relates self.new a b ≡ (relates self.old a b || (flag_at row a && (second == b))) }
+    {
+        for number in 0..RULE_LIMIT {
+            let first = RuleId::new(number as u8);
+            self.link_if(first, second, row.contains(first));
+        }
+    }
+
+    /// The pairs without those of the rule.
+    pub fn without(&self, rule: RuleId) -> Pairs
+        ensures { (a b : ℕ) → relates result a b ≡ (relates self.now a b && (not (a == rule) && not (b == rule))) }
+    {
+        linked_without(&self.direct, rule)
+    }
+}
+
+/// The pairs of the rows, linked afresh without those of the dropped rule.
+fn linked_without(rows: &[Rules], dropped: RuleId) -> Pairs
+    requires { length rows.now ≡ 64 }
+    ensures { (a b : ℕ) → relates result a b ≡ (relates rows.now a b && (not (a == dropped) && not (b == dropped))) }
+{
+    let mut kept = Pairs::none();
+    for number in 0..RULE_LIMIT {
+        let second = RuleId::new(number as u8);
+        kept.link_row(row_without(rows[number], second, dropped), second);
+    }
+    kept
+}
+
+/// Marks the first rule in the row of the second.
+fn mark(rows: &mut [Rules], first: RuleId, second: RuleId)
+    requires { length rows.old ≡ 64 }
+    ensures { (a b : ℕ) → relates rows.new a b ≡ (relates rows.old a b || ((first == a) && (second == b))) }
+{
+    let _in_range = second.number();
+    rows[second.index()] = rows[second.index()].with(first);
+}
+
+/// The row of the second rule without the dropped one, or none if it is the dropped one's.
+fn row_without(row: Rules, second: RuleId, dropped: RuleId) -> Rules
+    ensures { (a : ℕ) → flag_at result a ≡ (flag_at row a && (not (a == dropped) && not (second == dropped))) }
+{
+    if second == dropped {
+        Rules::none()
+    } else {
+        row.without(dropped)
+    }
+}
