@@ -1,6 +1,8 @@
 -- An event's answer is the answer to its line.
-use Rattle.std.proofs.Common.{◌≡◌, ℕ, Bool, true, false, cond, ◌==◌, List, [], ◌∷◌, ◌++◌, map, Option, Some, None, Result, Ok, Err, inl, inr, refl, sym, ap, ◌∙◌, subst, codes, append_assoc, append-nil, ⊎_elim, ◌⊎◌, IsTrue}
+use Rattle.std.proofs.Common.{◌≡◌, ℕ, Bool, true, false, cond, ◌==◌, List, [], ◌∷◌, ◌++◌, map, Option, Some, None, Result, Ok, Err, inl, inr, refl, sym, ap, ◌∙◌, subst, codes, append_assoc, append-nil, ◌⊎◌, IsTrue}
+use Rattle.std.specs.Prelude.{OnOk}
 use Rattle.std.specs.Fmt.{digits}
+use Rattle.std.specs.Io.KnownBytes.{Appends}
 use Rattle.std.proofs.lemmas.Bool.{eqb-true}
 use Rattle.sb_value.specs.declared.refusal.Refusal.TheVariants.{NoMemory}
 use Rattle.sb_tenant.specs.declared.reply.Answer.{Answer}
@@ -43,7 +45,7 @@ module _ (language : Language) (hosts serves : ℕ → Bool) (bound : ℕ) where
       by_test u false other = others u other
 
   -- by whether the cell hosts the tenant, and serves the session
-  reply_by : Bool → Bool → (ℕ → State) → Addressed → List ℕ × (ℕ → State)
+  abbrev reply_by : Bool → Bool → (ℕ → State) → Addressed → List ℕ × (ℕ → State)
   reply_by hosted served states a =
       elim hosted [
         | false ↦ (prefixed (address a) (codes "no 13 NoTenant" ∷ []), states)
@@ -53,6 +55,13 @@ module _ (language : Language) (hosts serves : ℕ → Bool) (bound : ℕ) where
               (prefixed (address a) (reply_lines r.1.reply), with_state states a.tenant r.0)
         ]
       ]
+
+  -- by what the line's numbers are
+  abbrev reply_found : (ℕ → State) → Option Addressed → List ℕ × (ℕ → State)
+  reply_found before found = elim found [
+    | None ↦ (prefixed no_address (codes "no 12 BadLine" ∷ []), before)
+    | Some b ↦ reply_to_line language hosts serves bound before b
+  ]
 
   module _ (a : Addressed) (before after : ℕ → State) where
     -- the text is the definition's, or memory ran out
@@ -86,26 +95,15 @@ module _ (language : Language) (hosts serves : ℕ → Bool) (bound : ℕ) where
     pub addressed_answer : (bytes : List ℕ) (given : Result Answer StepError) → addressed_of bytes ≡ Some a → IsEvent language bound (hosts a.tenant) (serves a.session) before (event_of a) given after
         → IsAnswer language hosts serves bound before (line bytes) (answer_text a given) after
     addressed_answer bytes given is event =
-        ⊎_elim
-        (λ told. inl (ap (reply_by_address bytes) is ∙ told))
-        (λ short. inr (a, is, short.0, short.1))
-        (by_tests (hosts a.tenant) (serves a.session) given event)
+        by_answer (by_tests (hosts a.tenant) (serves a.session) given event)
       where
-        reply_by_address : List ℕ → Option Addressed → List ℕ × (ℕ → State)
-        reply_by_address bytes found = elim found [
-          | None ↦ (prefixed no_address (codes "no 12 BadLine" ∷ []), before)
-          | Some b ↦ reply_to_line language hosts serves bound before b
-        ]
+        by_answer : Answers (hosts a.tenant) (serves a.session) (answer_text a given) → IsAnswer language hosts serves bound before (line bytes) (answer_text a given) after
+        by_answer (inl told) = inl (ap (reply_found before) is ∙ told)
+        by_answer (inr short) = inr (a, is, short.0, short.1)
 
   -- a line without both numbers
   pub bad_answer : (bytes : List ℕ) (before : ℕ → State) → addressed_of bytes ≡ None → IsAnswer language hosts serves bound before (line bytes) (prefixed no_address (codes "no 12 BadLine" ∷ [])) before
-  bad_answer bytes before is = inl (ap found_so is)
-    where
-      found_so : Option Addressed → List ℕ × (ℕ → State)
-      found_so found = elim found [
-        | None ↦ (prefixed no_address (codes "no 12 BadLine" ∷ []), before)
-        | Some b ↦ reply_to_line language hosts serves bound before b
-      ]
+  bad_answer bytes before is = inl (ap (reply_found before) is)
 
   -- one piece more
   pub one_more : (before mid after : ℕ → State) (ps : List Piece) (p : Piece) (text more : List ℕ) → AreAnswers language hosts serves bound before ps text mid → IsAnswer language hosts serves bound mid p more after
@@ -114,3 +112,20 @@ module _ (language : Language) (hosts serves : ℕ → Bool) (bound : ℕ) where
       (more, [], after, ap (λ t. t ++ more) none ∙ sym (append-nil more), subst (λ s. IsAnswer language hosts serves bound s p more after) same answer, (refl, refl))
   one_more before mid after (q ∷ ps) p text more (first, rest, then, is, own, others) answer =
       (first, rest ++ more, then, ap (λ t. t ++ more) is ∙ append_assoc first rest more, own, one_more then mid after ps p rest more others answer)
+
+-- ---- what holds where a call succeeds
+
+pub on_ok : {T E A B : Type 0} (r : Result T E) → (A → B) → OnOk r A → OnOk r B
+on_ok (Ok x) f a = f a
+on_ok (Err e) f a = a
+
+-- known bytes grow by the one text and then by the other
+pub appends_then : (one two three : Option (List ℕ)) (xs ys : List ℕ) → Appends one two xs → Appends two three ys → Appends one three (xs ++ ys)
+appends_then None two three xs ys first then = tt
+appends_then (Some a) None three xs ys first then = absurd first
+appends_then (Some a) (Some b) None xs ys first then = absurd then
+appends_then (Some a) (Some b) (Some c) xs ys first then = then ∙ ap (λ t. t ++ ys) first ∙ append_assoc a xs ys
+
+pub appends_none : (one : Option (List ℕ)) → Appends one one []
+appends_none None = tt
+appends_none (Some a) = sym (append-nil a)
