@@ -16,6 +16,8 @@ mod rawlog;
 #[cfg(test)]
 mod rulesets;
 #[cfg(test)]
+mod stream;
+#[cfg(test)]
 mod syntax;
 #[cfg(test)]
 mod tables;
