@@ -111,9 +111,9 @@ module _ (c : Cell) (t s : ℕ) (line : List ℕ) (w new : Tenant) (at : slice_g
   pub event-ok : Replays → (a : Answer) → IsLegal w → AnswersLine w s line a new → IsEvent engine c.bound true true (states c) event (Ok a) (states after)
   event-ok replays a legal answers = (
     subst (λ (st : State). IsTurn engine c.bound t st (s, line) (Ok a) (states after t)) (ap state_of (sym at))
-    (subst (λ (st : State). IsTurn engine c.bound t (state w) (s, line) (Ok a) st) (sym own)
-    (subst (λ (b : ℕ). IsTurn engine b t (state w) (s, line) (Ok a) (state new)) bound
-    (subst (λ (i : ℕ). IsTurn engine w.bound i (state w) (s, line) (Ok a) (state new)) id (turn replays w new s line a legal answers)))),
+        (subst (λ (st : State). IsTurn engine c.bound t (state w) (s, line) (Ok a) st) (sym own)
+        (subst (λ (b : ℕ). IsTurn engine b t (state w) (s, line) (Ok a) (state new)) bound
+        (subst (λ (i : ℕ). IsTurn engine w.bound i (state w) (s, line) (Ok a) (state new)) id (turn replays w new s line a legal answers)))),
     others,
   )
 

@@ -1,8 +1,6 @@
 //! Tenants that are served one step at a time.
 ghost use Rattle.std.specs.Prelude.{◌≡◌, ◌≤◌, IfOk, length};
-ghost use Rattle.sb_cell.specs.Headline.{IsEvent};
-ghost use Rattle.sb_cell.specs.Tenants.{hosts, states, new_tenants};
-ghost use Rattle.sb_tenant.specs.Supported.{engine, is_served};
+ghost use Rattle.sb_cell.specs.Tenants.{AnswersEvent, new_tenants};
 
 use crate::StepError;
 use sb_tenant::laws::legal_states_are_replayed;
@@ -33,7 +31,8 @@ impl Cell {
     /// So many tenants, without tables, and at most so many considerations at an assertion point.
     pub fn new(alloc: Global, tenants: u32, bound: u32) -> Result<Cell, AllocError>
         requires { tenants ≤ 256 }
-        ensures { IfOk result (λ c. c ≡ record { bound = bound; tenants = new_tenants bound 0 tenants }) }
+        ensures { IfOk result (λ c.
+            c ≡ record { bound = bound; tenants = new_tenants bound 0 tenants }) }
     {
         Ok(Cell {
             bound,
@@ -49,8 +48,9 @@ impl Cell {
         session: u32,
         line: &[u8],
     ) -> Result<Answer, StepError>
-        ensures step { IsEvent engine self.old.bound (hosts self.old tenant) (is_served session) (states self.old) (record { tenant = tenant; session = session; line = line.now }) result (states self.new) }
-        ensures same { (self.new.bound ≡ self.old.bound) × (length self.new.tenants ≡ length self.old.tenants) }
+        ensures step { AnswersEvent self.old tenant session line.now result self.new }
+        ensures same { (self.new.bound ≡ self.old.bound)
+            × (length self.new.tenants ≡ length self.old.tenants) }
     {
         let place = tenant as usize;
         if place >= self.tenants.len() {

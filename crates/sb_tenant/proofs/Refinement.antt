@@ -199,8 +199,8 @@ module _ (language : Language) (tenant bound : ℕ) where
         is = λ i. record (standing ts idle held n) { catalog = record { tables = one_more i; rules = []; rulesets = []; pairs = [] } };
         phase = refl;
         seen =
-          entries-more committed_entry ts (new_table name columns) ∙ ap (λ es. es ++ committed_entry (length ts) (new_table name columns) ∷ []) seen
-          ∙ sym (entries-more seen_entry ts (new_table name columns));
+            entries-more committed_entry ts (new_table name columns) ∙ ap (λ es. es ++ committed_entry (length ts) (new_table name columns) ∷ []) seen
+            ∙ sym (entries-more seen_entry ts (new_table name columns));
         sound = sound-append ts name columns sound;
       }
         where
@@ -219,7 +219,7 @@ module _ (language : Language) (tenant bound : ℕ) where
 
       creates_by : (taken twice room : Bool)
           → Agree (outcome_of language tenant bound (standing ts idle held n) 0 None (walked taken twice room))
-            (or_refused (record { tables = ts; phase = Idle }) (refused_by taken twice room) (record { tables = ts ++ new_table name columns ∷ []; phase = Idle }, reply.Ok))
+          (or_refused (record { tables = ts; phase = Idle }) (refused_by taken twice room) (record { tables = ts ++ new_table name columns ∷ []; phase = Idle }, reply.Ok))
       creates_by true twice room = (refl, stays idle seen)
       creates_by false true room = (refl, stays idle seen)
       creates_by false false true = (refl, with_new)
@@ -284,7 +284,7 @@ module _ (language : Language) (tenant bound : ℕ) where
               → Represents (with_progress state 0 (record (with_held request) { changes = changes ++ given })) (record { tables = after_rows; phase = Active })
           with_given room =
               let same : entries_from committed_entry 0 after_rows ≡ entries_from committed_entry 0 ts =
-                  committed-with_rows 0 i ts t rows at (sound-at ts i t sound at).0 in
+              committed-with_rows 0 i ts t rows at (sound-at ts i t sound at).0 in
               record {
                 session = active (changes ++ given) marks;
                 held = λ t m. held t m || list_any (λ r. (r.0 == t) && same_mode r.1 m) request;
@@ -295,8 +295,8 @@ module _ (language : Language) (tenant bound : ℕ) where
                 };
                 phase = refl;
                 seen =
-                  ap (after_all (changes ++ given)) same ∙ after_all-append changes given (entries_from committed_entry 0 ts) ∙ ap (after_all given) seen
-                  ∙ after-inserts (seen_now request) (table_at (seen_now request).tables i).next i rows ts t at;
+                    ap (after_all (changes ++ given)) same ∙ after_all-append changes given (entries_from committed_entry 0 ts) ∙ ap (after_all given) seen
+                    ∙ after-inserts (seen_now request) (table_at (seen_now request).tables i).next i rows ts t at;
                 sound = sound-with_rows ts i t rows sound at room;
               }
 
@@ -311,7 +311,7 @@ module _ (language : Language) (tenant bound : ℕ) where
 
           inserts_by : (too_many : Bool) → nat_lt row_limit (length t.rows + length rows) ≡ too_many
               → Agree (change_seen state 0 (with_held request) (cond too_many (Err refusal.TooManyRows) (Ok given)))
-                (or_refused kept_now (cond too_many (Some refusal.TooManyRows) None) (record { tables = after_rows; phase = Active }, reply.Count (length rows)))
+              (or_refused kept_now (cond too_many (Some refusal.TooManyRows) None) (record { tables = after_rows; phase = Active }, reply.Count (length rows)))
           inserts_by true is = (refl, holds_more request)
           inserts_by false is = (ap reply.Count (count_given (table_at (seen_now request).tables i).next rows), with_given (not_less row_limit (length t.rows + length rows) is))
 
@@ -335,7 +335,7 @@ module _ (language : Language) (tenant bound : ℕ) where
 
           inserts_fitting : (w : Result (List Bool) Refusal)
               → Agree (outcome_of language tenant bound state 0 None (and_then (and_then w (λ _. Ok (InsertRows i rows))) (λ s. Ok (resolved.change s))))
-                (or_refused kept_now (first_refusal (result_err w) (space_refusal t rows)) (record { tables = after_rows; phase = Active }, reply.Count (length rows)))
+              (or_refused kept_now (first_refusal (result_err w) (space_refusal t rows)) (record { tables = after_rows; phase = Active }, reply.Count (length rows)))
           inserts_fitting (Err e) = (refl, stays (active changes marks) seen)
           inserts_fitting (Ok fits) = inserts_all
 
@@ -343,15 +343,14 @@ module _ (language : Language) (tenant bound : ℕ) where
               (inserted_in kept_now rows i (Some t))
           inserts_at =
               subst (λ r. Agree (outcome_of language tenant bound state 0 None (and_then (and_then (in_order (λ row. fitting (map type_of row) t.columns) rows) (λ _. Ok (InsertRows i rows))) (λ s. Ok (resolved.change s))))
-                (or_refused kept_now (first_refusal r (space_refusal t rows)) (record { tables = after_rows; phase = Active }, reply.Count (length rows))))
+              (or_refused kept_now (first_refusal r (space_refusal t rows)) (record { tables = after_rows; phase = Active }, reply.Count (length rows))))
               (sym (fits_in_order rows)) (inserts_fitting (in_order (λ row. fitting (map type_of row) t.columns) rows))
 
         -- ---- all rows
 
         selects_at : Agree (outcome_of language tenant bound state 0 None (Ok (resolved.query (select All (source.Table i ∷ []) always)))) (kept_now, selected_in (Some t))
         selects_at =
-            let held_now : List (ℕ × Mode) = (i, Read) ∷ [] in
-            (
+            let held_now : List (ℕ × Mode) = (i, Read) ∷ [] in (
               ap reply_rows (whole_table (seen_now held_now) i t.rows (ap values (table_now held_now) ∙ values-numbered 1 t.rows) (sound-at ts i t sound at).1),
               holds_more held_now,
             )
@@ -360,8 +359,8 @@ module _ (language : Language) (tenant bound : ℕ) where
 
       inserts_found : (name : List ℕ) (rows : List (List Value)) (x : Option Kept) → slice_get ts (place ts name) ≡ x
           → Agree (outcome_of language tenant bound state 0 None
-              (and_then (and_then (some_or refusal.NoTable (option_map (committed_entry (place ts name)) x)) (λ e. and_then (in_order (λ row. fitting (map type_of row) e.table.columns) rows) (λ _. Ok (InsertRows e.id rows)))) (λ s. Ok (resolved.change s))))
-            (inserted_in kept_now rows (place ts name) x)
+          (and_then (and_then (some_or refusal.NoTable (option_map (committed_entry (place ts name)) x)) (λ e. and_then (in_order (λ row. fitting (map type_of row) e.table.columns) rows) (λ _. Ok (InsertRows e.id rows)))) (λ s. Ok (resolved.change s))))
+          (inserted_in kept_now rows (place ts name) x)
       inserts_found name rows None at = (refl, stays (active changes marks) seen)
       inserts_found name rows (Some t) at = inserts_at name (place ts name) t at rows
 
@@ -370,8 +369,8 @@ module _ (language : Language) (tenant bound : ℕ) where
       inserts name rows =
           subst (Agree (reply_to_command language tenant bound state 0 (tree.change (tree.insert_rows name rows)))) (sym (inserted-placed kept_now name rows (slice_get ts (place ts name)) refl))
           (subst (λ x. Agree (outcome_of language tenant bound state 0 None
-              (and_then (and_then (some_or refusal.NoTable x) (λ e. and_then (in_order (λ row. fitting (map type_of row) e.table.columns) rows) (λ _. Ok (InsertRows e.id rows)))) (λ s. Ok (resolved.change s))))
-            (inserted_in kept_now rows (place ts name) (slice_get ts (place ts name))))
+          (and_then (and_then (some_or refusal.NoTable x) (λ e. and_then (in_order (λ row. fitting (map type_of row) e.table.columns) rows) (λ _. Ok (InsertRows e.id rows)))) (λ s. Ok (resolved.change s))))
+          (inserted_in kept_now rows (place ts name) (slice_get ts (place ts name))))
           (sym (found ts name)) (inserts_found name rows (slice_get ts (place ts name)) refl))
 
       abbrev in_source : Source → List ColumnDefinition → Result (Source × List ColumnDefinition) Refusal

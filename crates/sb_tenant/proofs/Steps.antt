@@ -127,7 +127,6 @@ module _ (id bound : ℕ) where
 
     -- ---- the lines `open` and `end`
 
-
     open_phase : (phase : Phase) → phase_of stands.session ≡ phase → is_open stands.session ≡ not_closed phase
     open_phase phase is = by_session stands.session ∙ ap not_closed is
       where
@@ -177,15 +176,14 @@ pub makes_step : (t : Tenant) (v new : Stored) (legal : IsLegal t) (stands : Rep
     → MakesStep t s line (record { number = Some number; reply = told }) (with_trail t items) × IsLegal (with_trail t items) × Represents (state_now (with_trail t items)) new
 makes_step t v new legal stands s line told items number served next items_are number_is =
     let first = first_session s served in
-    let own : items ≡ t.trail ++ entry_of 0 line told ∷ [] = items_are ∙ ap (λ (n : ℕ). t.trail ++ entry_of n line told ∷ []) first in
-    (
+    let own : items ≡ t.trail ++ entry_of 0 line told ∷ [] = items_are ∙ ap (λ (n : ℕ). t.trail ++ entry_of n line told ∷ []) first in (
       (
         refl,
         (
           items_are,
           ap Some number_is,
           subst (λ (n : ℕ). IsNext engine t.id t.bound (state_now t) (entry_of n line told) (state_now (with_trail t items))) (sym first)
-          (subst (λ (es : List Entry). IsNext engine t.id t.bound (state_now t) (entry_of 0 line told) (state_now (with_trail t es))) (sym own) next.2),
+              (subst (λ (es : List Entry). IsNext engine t.id t.bound (state_now t) (entry_of 0 line told) (state_now (with_trail t es))) (sym own) next.2),
         ),
       ),
       subst (λ (es : List Entry). IsLegal (with_trail t es)) (sym own) next.0,

@@ -49,7 +49,7 @@ numbered-append n (r ∷ rows) row =
 pub table-insert : (t : Kept) (c : Change) (row : List Value) → c.kind ≡ kind.Inserted → new_row c ≡ row → after_change c (table_of t.columns t.rows) ≡ table_of t.columns (t.rows ++ row ∷ [])
 table-insert t c row is_insert gives =
     let rows : numbered 1 t.rows ++ (1 + length t.rows, new_row c) ∷ [] ≡ numbered 1 (t.rows ++ row ∷ []) =
-        ap (λ (r : List Value). numbered 1 t.rows ++ (1 + length t.rows, r) ∷ []) gives ∙ sym (numbered-append 1 t.rows row) in
+    ap (λ (r : List Value). numbered 1 t.rows ++ (1 + length t.rows, r) ∷ []) gives ∙ sym (numbered-append 1 t.rows row) in
     let next : 1 + length t.rows + 1 ≡ 1 + length (t.rows ++ row ∷ []) = omega (arith, length-append t.rows (row ∷ [])) in
     ap (λ k. after_kind k c (table_of t.columns t.rows)) is_insert ∙ (λ i. record { columns = t.columns; rows = rows i; next = next i })
 
@@ -70,9 +70,9 @@ after-insert k i [] t c row is_insert gives at is = cc
 after-insert k zero (u ∷ ts) t c row is_insert gives at is =
     let own : (k == c.table) ≡ true = eq-eqb k c.table (omega arith) in
     let head : entry_after c (seen_entry k u) ≡ seen_entry k (with_rows t (row ∷ [])) =
-        entry_own c (seen_entry k u) own
-        ∙ ap (λ (table : Table). let e : Entry = record { id = k; name = u.name; table = table } in e) (table-insert u c row is_insert gives)
-        ∙ ap (λ (w : Kept). seen_entry k (with_rows w (row ∷ []))) (same_Some u t is) in
+    entry_own c (seen_entry k u) own
+    ∙ ap (λ (table : Table). let e : Entry = record { id = k; name = u.name; table = table } in e) (table-insert u c row is_insert gives)
+    ∙ ap (λ (w : Kept). seen_entry k (with_rows w (row ∷ []))) (same_Some u t is) in
     λ j. head j ∷ after-others (k + 1) ts c (omega arith) j
 after-insert k (suc i) (u ∷ ts) t c row is_insert gives at is =
     λ j. entry_other c (seen_entry k u) (ne_eqb k c.table (λ e. absurd (omega arith))) j ∷ after-insert (k + 1) i ts t c row is_insert gives (omega arith) is j

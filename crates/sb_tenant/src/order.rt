@@ -5,7 +5,9 @@ ghost use Rattle.sb_syntax.specs.Views.{command as command_tree, change as chang
 ghost use Rattle.sb_tenant.specs.Orders.{order_tree};
 ghost use Rattle.sb_tenant.specs.Supported.{if_supported, engine};
 
-use sb_syntax::{Change, Command, Items, ParseError, Query, SourceReference, TableReference, parse};
+use sb_syntax::{
+    Change, Command, Items, ParseError, Query, SourceReference, TableReference, parse,
+};
 use sb_value::{ColumnDefinition, Name, Value};
 use std::alloc::{AllocError, Global};
 

@@ -93,8 +93,14 @@ impl Tenant {
         self.trail.as_slice().len() >= TRAIL_LIMIT
     }
 
-    /// Makes a step of the line, or is refused by the full trail. Where memory runs out before the step has begun, nothing changes.
-    pub fn step(&mut self, alloc: Global, session: SessionId, line: &[u8]) -> Result<Answer, NotBegun>
+    /// Makes a step of the line, or is refused by the full trail. Where memory runs out before the
+    /// step has begun, nothing changes.
+    pub fn step(
+        &mut self,
+        alloc: Global,
+        session: SessionId,
+        line: &[u8],
+    ) -> Result<Answer, NotBegun>
         requires { is_served session ≡ true }
         ensures ok { IfOk result (λ answer. AnswersLine self.old session line.now answer self.new) }
         ensures err { OnErr result (LeavesLine self.old session line.now self.new) }
@@ -118,7 +124,8 @@ impl Tenant {
         requires served { is_served session ≡ true }
         requires closed { session_is_open (session_at (state self.old) session) ≡ false }
         requires room { nat_le trail_limit (state self.old).steps ≡ false }
-        ensures ok { IfOk result (λ answer. MakesStep self.old session (codes "open") answer self.new × (answer.reply ≡ told.Ok)) }
+        ensures ok { IfOk result (λ answer.
+            MakesStep self.old session (codes "open") answer self.new × (answer.reply ≡ told.Ok)) }
         ensures err { OnErr result (self.new ≡ self.old) }
     {
         let line = make_ready(alloc, &mut self.trail, &mut self.end_line, OPEN)?;
@@ -185,7 +192,8 @@ impl Tenant {
     }
 }
 
-/// Has what a step needs before it begins: a place for its entry, one for the session's end, the line of that end, and a copy of the line.
+/// Has what a step needs before it begins: a place for its entry, one for the session's end, the
+/// line of that end, and a copy of the line.
 fn make_ready(
     alloc: Global,
     trail: &mut Vec<Entry>,
@@ -194,7 +202,8 @@ fn make_ready(
 ) -> Result<Line, NotBegun>
     requires { IfSome end_line.old (λ l. l ≡ codes "end") }
     ensures items { trail.new.items ≡ trail.old.items }
-    ensures ok { IfOk result (λ kept. (kept ≡ line.now) × (vec_len trail.new + 2 ≤ vec_capacity trail.new) × (end_line.new ≡ Some (codes "end"))) }
+    ensures ok { IfOk result (λ kept. (kept ≡ line.now)
+        × (vec_len trail.new + 2 ≤ vec_capacity trail.new) × (end_line.new ≡ Some (codes "end"))) }
     ensures len { vec_len trail.new ≡ vec_len trail.old }
     ensures capacity { vec_capacity trail.old ≤ vec_capacity trail.new }
     ensures err { OnErr result ((end_line.new ≡ end_line.old) ⊎ (end_line.new ≡ Some (codes "end"))) }

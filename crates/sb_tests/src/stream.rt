@@ -66,9 +66,15 @@ fn begin_with_spaces(alloc: Global, spaces: usize) -> Result<Vec<u8>, Fail> {
 #[test]
 fn lines_of_4096_bytes_are_steps(rt: HostRuntime) -> Result<(), Fail> {
     let longest = begin_with_spaces(rt.alloc(), 4087)?;
-    assert_eq!(rt; answered(rt.alloc(), longest.as_slice())?.as_slice(), b"0 0 ok\n0 0 ok\n".as_slice());
+    assert_eq!(rt;
+        answered(rt.alloc(), longest.as_slice())?.as_slice(),
+        b"0 0 ok\n0 0 ok\n".as_slice()
+    );
     let longer = begin_with_spaces(rt.alloc(), 4088)?;
-    assert_eq!(rt; answered(rt.alloc(), longer.as_slice())?.as_slice(), b"0 0 ok\n- - no 11 TooLong\n".as_slice());
+    assert_eq!(rt;
+        answered(rt.alloc(), longer.as_slice())?.as_slice(),
+        b"0 0 ok\n- - no 11 TooLong\n".as_slice()
+    );
     Ok(())
 }
 
@@ -76,11 +82,15 @@ fn lines_of_4096_bytes_are_steps(rt: HostRuntime) -> Result<(), Fail> {
 fn a_cell_goes_on_in_the_next_stream(rt: HostRuntime) -> Result<(), Fail> {
     let mut cell = Cell::new(rt.alloc(), 2, 1000)?;
     let mut output = Vec::new(rt.alloc());
-    let mut first: &[u8] = b"1 0 open\n1 0 create table t (a int)\n1 0 begin\n1 0 insert into t values (7)\n";
+    let mut first: &[u8] =
+        b"1 0 open\n1 0 create table t (a int)\n1 0 begin\n1 0 insert into t values (7)\n";
     run_stream(rt.alloc(), &mut first, &mut output, &mut cell)?;
     let mut second: &[u8] = b"0 0 select * from t\n1 0 select * from t\n2 0 open\n";
     run_stream(rt.alloc(), &mut second, &mut output, &mut cell)?;
-    assert_eq!(rt; output.as_slice(), b"1 0 ok\n1 0 ok\n1 0 ok\n1 0 ok 1\n0 0 no 44 NotOpen\n1 0 rows 1\n1 0 7\n2 0 no 13 NoTenant\n".as_slice());
+    assert_eq!(rt;
+        output.as_slice(),
+        b"1 0 ok\n1 0 ok\n1 0 ok\n1 0 ok 1\n0 0 no 44 NotOpen\n1 0 rows 1\n1 0 7\n2 0 no 13 NoTenant\n".as_slice()
+    );
     Ok(())
 }
 

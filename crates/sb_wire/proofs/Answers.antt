@@ -69,15 +69,15 @@ module _ (language : Language) (hosts serves : ℕ → Bool) (bound : ℕ) where
     Answers hosted served text =
         (reply_by hosted served before a ≡ (text, after))
         ⊎ ((IsTrue hosted × IsTrue served × MayAbort (before a.tenant) a.session a.command)
-          × (IsAborted language hosts serves bound before a text after ⊎ IsNotBegun language hosts serves bound before a text after))
+        × (IsAborted language hosts serves bound before a text after ⊎ IsNotBegun language hosts serves bound before a text after))
 
     by_tests : (hosted served : Bool) (given : Result Answer StepError) → IsEvent language bound hosted served before (event_of a) given after → Answers hosted served (answer_text a given)
     by_tests false served given (told, same) = inl (λ i. (answer_text a (sym told i), sym same i))
     by_tests true false given (told, same) = inl (λ i. (answer_text a (sym told i), sym same i))
     by_tests true true (Ok x) (inl (fine, is), others) =
         inl (
-          (λ i. (prefixed (address a) (reply_lines (is i).1.reply), with_state before a.tenant (is i).0))
-          ∙ (λ i. (prefixed (address a) (reply_lines x.reply), sym (same_but before after a.tenant (after a.tenant) refl others) i))
+        (λ i. (prefixed (address a) (reply_lines (is i).1.reply), with_state before a.tenant (is i).0))
+        ∙ (λ i. (prefixed (address a) (reply_lines x.reply), sym (same_but before after a.tenant (after a.tenant) refl others) i))
         )
     by_tests true true (Ok x) (inr (told, aborted, may), others) =
         inr (

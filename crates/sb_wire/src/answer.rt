@@ -1,10 +1,9 @@
 //! The answer to one piece of an input.
 ghost use Rattle.std.specs.Prelude.{◌≡◌, ◌++◌, List, ℕ, OnOk, OnErr, IfOk, Result, length};
-ghost use Rattle.sb_cell.specs.Headline.{IsEvent};
-ghost use Rattle.sb_cell.specs.Tenants.{hosts, states};
-ghost use Rattle.sb_tenant.specs.Supported.{engine, is_served};
-ghost use Rattle.sb_wire.specs.Output.{answer_text, text_behind, IsAnswer};
+ghost use Rattle.sb_cell.specs.Tenants.{AnswersEvent};
+ghost use Rattle.sb_wire.specs.Output.{answer_text, text_behind};
 ghost use Rattle.sb_wire.specs.Seen.{piece_seen, addressed_seen};
+ghost use Rattle.sb_wire.specs.Stream.{AnswersPiece};
 
 use crate::address::Addressed;
 use crate::input::Piece;
@@ -23,7 +22,7 @@ pub(crate) fn answer_piece(
     out: &mut Vec<u8>,
 ) -> Result<(), AllocError>
     ensures ok { OnOk result ((text : List ℕ) × (out.new.items ≡ out.old.items ++ text)
-        × IsAnswer engine (hosts cell.old) is_served cell.old.bound (states cell.old) (piece_seen piece.entry) text (states cell.new)) }
+        × AnswersPiece cell.old (piece_seen piece.entry) text cell.new) }
     ensures same { (cell.new.bound ≡ cell.old.bound) × (length cell.new.tenants ≡ length cell.old.tenants) }
 {
     let Piece::Line(line) = piece else {
@@ -42,8 +41,10 @@ fn answer_line(
     line: Addressed<'_>,
     out: &mut Vec<u8>,
 ) -> Result<(), AllocError>
-    ensures ok { OnOk result ((given : Result Answer StepError) × (out.new.items ≡ out.old.items ++ answer_text (addressed_seen line.entry) given)
-        × IsEvent engine cell.old.bound (hosts cell.old line.entry.tenant) (is_served line.entry.session) (states cell.old) (record { tenant = line.entry.tenant; session = line.entry.session; line = line.entry.command.now }) given (states cell.new)) }
+    ensures ok { OnOk result ((given : Result Answer StepError)
+        × (out.new.items ≡ out.old.items ++ answer_text (addressed_seen line.entry) given)
+        × AnswersEvent cell.old line.entry.tenant line.entry.session line.entry.command.now given
+        cell.new) }
     ensures same { (cell.new.bound ≡ cell.old.bound) × (length cell.new.tenants ≡ length cell.old.tenants) }
 {
     let given = cell.step(alloc, line.tenant, line.session, line.command);

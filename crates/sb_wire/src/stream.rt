@@ -1,11 +1,8 @@
 //! A stream: the lines of an input, each answered in order.
 ghost use Rattle.std.specs.Prelude.{◌≡◌, ◌++◌, List, ℕ, [], OnOk, IfSome, length, map};
 ghost use Rattle.std.specs.Io.KnownBytes.{Appends};
-ghost use Rattle.sb_cell.specs.Tenants.{hosts, states};
-ghost use Rattle.sb_tenant.specs.Supported.{engine, is_served};
-ghost use Rattle.sb_wire.specs.Lines.{pieces_of};
-ghost use Rattle.sb_wire.specs.Output.{IsAnswer, IsOutput};
 ghost use Rattle.sb_wire.specs.Seen.{piece_seen};
+ghost use Rattle.sb_wire.specs.Stream.{AnswersPiece, AnswersInput};
 
 use crate::answer::answer_piece;
 use crate::input::{InputLines, Piece};
@@ -35,8 +32,9 @@ pub fn run_stream<R: Read, W: Write>(
     writer: &mut W,
     cell: &mut Cell,
 ) -> Result<(), StreamError>
-    ensures ok { OnOk result (IfSome (R.remaining reader.old) (λ input. (text : List ℕ) × Appends (W.contents writer.old) (W.contents writer.new) text
-        × IsOutput engine (hosts cell.old) is_served cell.old.bound (states cell.old) input text (states cell.new))) }
+    ensures ok { OnOk result (IfSome (R.remaining reader.old) (λ input. (text : List ℕ)
+        × Appends (W.contents writer.old) (W.contents writer.new) text
+        × AnswersInput cell.old input text cell.new)) }
 {
     let mut input = Vec::new(alloc);
     if reader.read_to_end(&mut input).is_err() {
@@ -52,8 +50,9 @@ fn answer_all<W: Write>(
     writer: &mut W,
     cell: &mut Cell,
 ) -> Result<(), StreamError>
-    ensures ok { OnOk result ((text : List ℕ) × Appends (W.contents writer.old) (W.contents writer.new) text
-        × IsOutput engine (hosts cell.old) is_served cell.old.bound (states cell.old) input.now text (states cell.new)) }
+    ensures ok { OnOk result ((text : List ℕ)
+        × Appends (W.contents writer.old) (W.contents writer.new) text
+        × AnswersInput cell.old input.now text cell.new) }
 {
     let mut out = Vec::new(alloc);
     for piece in InputLines::new(input) {
@@ -70,8 +69,10 @@ fn answer_next<W: Write>(
     cell: &mut Cell,
     out: &mut Vec<u8>,
 ) -> Result<(), StreamError>
-    ensures ok { OnOk result ((text written : List ℕ) × (out.old.items ++ text ≡ written ++ out.new.items) × Appends (W.contents writer.old) (W.contents writer.new) written
-        × IsAnswer engine (hosts cell.old) is_served cell.old.bound (states cell.old) (piece_seen piece.entry) text (states cell.new)) }
+    ensures ok { OnOk result ((text written : List ℕ)
+        × (out.old.items ++ text ≡ written ++ out.new.items)
+        × Appends (W.contents writer.old) (W.contents writer.new) written
+        × AnswersPiece cell.old (piece_seen piece.entry) text cell.new) }
     ensures same { (cell.new.bound ≡ cell.old.bound) × (length cell.new.tenants ≡ length cell.old.tenants) }
 {
     if answer_piece(alloc, cell, piece, out).is_err() {

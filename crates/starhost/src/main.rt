@@ -28,10 +28,5 @@ fn serve(rt: &HostRuntime) -> Result<(), StreamError> {
     let Ok(mut cell) = Cell::new(rt.alloc(), TENANTS, BOUND) else {
         return Err(StreamError::NoMemory);
     };
-    run_stream(
-        rt.alloc(),
-        &mut rt.reader(),
-        &mut io::writer(rt),
-        &mut cell,
-    )
+    run_stream(rt.alloc(), &mut rt.reader(), &mut io::writer(rt), &mut cell)
 }

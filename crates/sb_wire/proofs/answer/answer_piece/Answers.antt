@@ -18,5 +18,5 @@ returns-in-Some-clause-ok c =
       answer_text (addressed_seen c.in-Some.addressed) x.0,
       x.1,
       subst (λ (p : Piece). IsAnswer engine (hosts cell) is_served cell.bound (states cell) p (answer_text (addressed_seen c.in-Some.addressed) x.0) (states c.answer_line.new.cell)) (ap piece_seen (sym c.in-Line.is))
-      (addressed_answer engine (hosts cell) is_served cell.bound (addressed_seen c.in-Some.addressed) (states cell) (states c.answer_line.new.cell) c.in-Line.line.now x.0 (numbers c) x.2),
+          (addressed_answer engine (hosts cell) is_served cell.bound (addressed_seen c.in-Some.addressed) (states cell) (states c.answer_line.new.cell) c.in-Line.line.now x.0 (numbers c) x.2),
     )) c.answer_line.ensures.ok

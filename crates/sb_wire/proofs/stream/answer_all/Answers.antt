@@ -23,17 +23,16 @@ loop-piece-preserved g c =
     let out = c.loop-piece.out.items in
     let left = c.answer_next.new.out.items in
     let answer : IsAnswer engine (hosts cell) is_served cell.bound (states c.loop-piece.cell) piece more.0 (states c.answer_next.new.cell) =
-        subst (λ (n : ℕ). IsAnswer engine (λ t. nat_lt t n) is_served cell.bound (states c.loop-piece.cell) piece more.0 (states c.answer_next.new.cell)) so_far.6
-        (subst (λ (b : ℕ). IsAnswer engine (hosts c.loop-piece.cell) is_served b (states c.loop-piece.cell) piece more.0 (states c.answer_next.new.cell)) so_far.5 more.4) in
+    subst (λ (n : ℕ). IsAnswer engine (λ t. nat_lt t n) is_served cell.bound (states c.loop-piece.cell) piece more.0 (states c.answer_next.new.cell)) so_far.6
+    (subst (λ (b : ℕ). IsAnswer engine (hosts c.loop-piece.cell) is_served b (states c.loop-piece.cell) piece more.0 (states c.answer_next.new.cell)) so_far.5 more.4) in
     let joined : (written ++ out) ++ more.0 ≡ (written ++ more.1) ++ left =
-        append_assoc written out more.0 ∙ ap (λ (t : List ℕ). written ++ t) more.2 ∙ sym (append_assoc written more.1 left) in
-    (
+    append_assoc written out more.0 ∙ ap (λ (t : List ℕ). written ++ t) more.2 ∙ sym (append_assoc written more.1 left) in (
       done ++ piece ∷ [],
       written ++ more.1,
       so_far.2 ∙ ap (λ (ps : List Piece). done ++ ps) c.in-Some.ensures.steps ∙ sym (append_assoc done (piece ∷ []) c.next.new.self),
       appends_then (g.W.Write.contents c.args.writer.now) (g.W.Write.contents c.loop-piece.writer) (g.W.Write.contents c.answer_next.new.writer) written more.1 so_far.3 more.3,
       subst (λ (t : List ℕ). AreAnswers engine (hosts cell) is_served cell.bound (states cell) (done ++ piece ∷ []) t (states c.answer_next.new.cell)) joined
-      (one_more engine (hosts cell) is_served cell.bound (states cell) (states c.loop-piece.cell) (states c.answer_next.new.cell) done piece (written ++ out) more.0 so_far.4 answer),
+          (one_more engine (hosts cell) is_served cell.bound (states cell) (states c.loop-piece.cell) (states c.answer_next.new.cell) done piece (written ++ out) more.0 so_far.4 answer),
       c.in_ok-answer_next.ensures.same.0 ∙ so_far.5,
       c.in_ok-answer_next.ensures.same.1 ∙ so_far.6,
     )
@@ -47,9 +46,9 @@ returns g c =
     let all : so_far.0 ≡ pieces_of c.args.input.now = sym (so_far.2 ∙ ap (λ (ps : List Piece). so_far.0 ++ ps) c.in-None.ensures.steps.0 ∙ append-nil so_far.0) in
     record {
       ok =
-        on_ok c.write_out.result (λ written. (
-          text,
-          appends_then (g.W.Write.contents c.args.writer.now) (g.W.Write.contents c.loop-piece.writer) (g.W.Write.contents c.write_out.new.writer) so_far.1 c.loop-piece.out.items so_far.3 written,
-          subst (λ (ps : List Piece). AreAnswers engine (hosts cell) is_served cell.bound (states cell) ps text (states c.loop-piece.cell)) all so_far.4,
-        )) c.write_out.ensures.written;
+          on_ok c.write_out.result (λ written. (
+            text,
+            appends_then (g.W.Write.contents c.args.writer.now) (g.W.Write.contents c.loop-piece.writer) (g.W.Write.contents c.write_out.new.writer) so_far.1 c.loop-piece.out.items so_far.3 written,
+            subst (λ (ps : List Piece). AreAnswers engine (hosts cell) is_served cell.bound (states cell) ps text (states c.loop-piece.cell)) all so_far.4,
+          )) c.write_out.ensures.written;
     }

@@ -24,7 +24,7 @@ up c =
     let t = c.self.inside in
     sym (first_is_open t.id t.bound t.trail.items t.store c.self.invariant.0 c.self.invariant.1)
     ∙ subst (λ (now : Tenant). is_open (session_at (state now) 0) ≡ true) (sym c.self.view_is)
-      (subst (λ (s : ℕ). is_open (session_at (state c.args.self.now) s) ≡ true) (first_session c.args.session c.requires.served) c.requires.open)
+    (subst (λ (s : ℕ). is_open (session_at (state c.args.self.now) s) ≡ true) (first_session c.args.session c.requires.served) c.requires.open)
 
 is_end : (c : goal.After-put) → c.in-Some.line ≡ codes "end"
 is_end c = subst (λ line. IfSome line (λ l. l ≡ codes "end")) (sym c.take.ensures.value ∙ c.in-Some.is) c.self.invariant.2

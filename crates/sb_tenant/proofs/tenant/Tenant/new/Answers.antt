@@ -21,11 +21,10 @@ opening_stands id bound = record { session = closed; held = λ t m. false; is = 
 
 pub invariant_of-result : goal.invariant_of-result
 invariant_of-result c =
-    let t = new_tenant c.args.id c.args.bound in
-    (
+    let t = new_tenant c.args.id c.args.bound in (
       subst (λ es. IsLegal (with_trail t es)) (sym c.new-2.ensures.items) refl,
       subst (λ es. Represents (state (with_trail t es)) c.new.result) (sym c.new-2.ensures.items)
-      (subst (Represents (state t)) (sym c.new.ensures) (opening_stands c.args.id c.args.bound)),
+          (subst (Represents (state t)) (sym c.new.ensures) (opening_stands c.args.id c.args.bound)),
       tt,
       (λ up. no_way (ap (λ (v : Stored). not_closed v.phase) (sym c.new.ensures) ∙ up)),
     )

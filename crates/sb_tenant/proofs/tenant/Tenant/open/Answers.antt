@@ -26,7 +26,7 @@ shut c =
     let t = c.self.inside in
     sym (first_is_open t.id t.bound t.trail.items t.store c.self.invariant.0 c.self.invariant.1)
     ∙ subst (λ (now : Tenant). is_open (session_at (state now) 0) ≡ false) (sym c.self.view_is)
-      (subst (λ (s : ℕ). is_open (session_at (state c.args.self.now) s) ≡ false) (first_session c.args.session c.requires.served) c.requires.closed)
+    (subst (λ (s : ℕ). is_open (session_at (state c.args.self.now) s) ≡ false) (first_session c.args.session c.requires.served) c.requires.closed)
 
 room : (c : goal.After-put) → is_full_for (state (before c)) 0 (codes "open") ≡ false
 room c =
