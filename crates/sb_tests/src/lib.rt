@@ -2,6 +2,8 @@
 #![tactic(auto)]
 
 #[cfg(test)]
+mod cell;
+#[cfg(test)]
 mod changes;
 #[cfg(test)]
 mod index;
@@ -19,6 +21,8 @@ mod rulesets;
 mod syntax;
 #[cfg(test)]
 mod tables;
+#[cfg(test)]
+mod tenant;
 #[cfg(test)]
 mod value;
 #[cfg(test)]
