@@ -26,7 +26,12 @@ const EVENTS: [Event; 29] = [
     (0, 0, b"begin", Told::Step(3, b"ok\n")),
     (1, 0, b"create table t (b text)", Told::Step(4, b"ok\n")),
     (0, 0, b"insert into t values (7)", Told::Step(4, b"ok 1\n")),
-    (1, 0, b"insert into t values ('x')", Told::Step(5, b"no 42 NoTransaction\n")),
+    (
+        1,
+        0,
+        b"insert into t values ('x')",
+        Told::Step(5, b"no 42 NoTransaction\n"),
+    ),
     (1, 0, b"begin", Told::Step(6, b"ok\n")),
     (2, 0, b"begin", Told::NoTenant),
     (16, 0, b"begin", Told::NoTenant),
@@ -38,8 +43,18 @@ const EVENTS: [Event; 29] = [
     (1, 8, b"end", Told::NoSession),
     (0, 256, b"end", Told::NoSession),
     (1, u32::MAX, b"end", Told::NoSession),
-    (1, 0, b"insert into t values (7)", Told::Step(7, b"no 23 BadType\n")),
-    (1, 0, b"insert into t values ('x')", Told::Step(8, b"ok 1\n")),
+    (
+        1,
+        0,
+        b"insert into t values (7)",
+        Told::Step(7, b"no 23 BadType\n"),
+    ),
+    (
+        1,
+        0,
+        b"insert into t values ('x')",
+        Told::Step(8, b"ok 1\n"),
+    ),
     (0, 0, b"select * from t", Told::Step(5, b"rows 1\n7\n")),
     (1, 0, b"select * from t", Told::Step(9, b"rows 1\n'x'\n")),
     (0, 0, b"rollback", Told::Step(6, b"ok\n")),
@@ -80,9 +95,19 @@ fn a_cell_has_as_many_tenants_as_it_was_given(rt: HostRuntime) -> Result<(), Fai
     for tenants in [0u32, 1, 16, 256] {
         let mut cell = Cell::new(alloc, tenants, 3)?;
         for tenant in 0..tenants {
-            answer(&rt, alloc, &mut cell, &(tenant, 0, b"open", Told::Step(1, b"ok\n")))?;
+            answer(
+                &rt,
+                alloc,
+                &mut cell,
+                &(tenant, 0, b"open", Told::Step(1, b"ok\n")),
+            )?;
         }
-        answer(&rt, alloc, &mut cell, &(tenants, 0, b"open", Told::NoTenant))?;
+        answer(
+            &rt,
+            alloc,
+            &mut cell,
+            &(tenants, 0, b"open", Told::NoTenant),
+        )?;
     }
     Ok(())
 }

@@ -48,8 +48,14 @@ const REFUSALS: Script = &[
     (b"create table t (a int)", b"no 41 InTransaction\n"),
     (b"insert into t values (1, 2)", b"no 25 WrongCount\n"),
     (b"insert into t values ('x')", b"no 23 BadType\n"),
-    (b"insert into t values (1), ('x'), (1, 2)", b"no 23 BadType\n"),
-    (b"insert into t values (1), (1, 2), ('x')", b"no 25 WrongCount\n"),
+    (
+        b"insert into t values (1), ('x'), (1, 2)",
+        b"no 23 BadType\n",
+    ),
+    (
+        b"insert into t values (1), (1, 2), ('x')",
+        b"no 25 WrongCount\n",
+    ),
     (b"insert into u values (1)", b"no 20 NoTable\n"),
     (b"select * from u", b"no 20 NoTable\n"),
     (b"select * from t", b"rows 0\n"),
@@ -276,7 +282,8 @@ fn a_tenant_has_16_tables(rt: HostRuntime) -> Result<(), Fail> {
 }
 
 /// An insert of 63 rows.
-const MANY_ROWS: &[u8] = b"insert into t values (1),(1),(1),(1),(1),(1),(1),(1),(1),(1),(1),(1),(1),(1),(1),(1),(1),(1),(1),(1),(1),(1),(1),(1),(1),(1),(1),(1),(1),(1),(1),(1),(1),(1),(1),(1),(1),(1),(1),(1),(1),(1),(1),(1),(1),(1),(1),(1),(1),(1),(1),(1),(1),(1),(1),(1),(1),(1),(1),(1),(1),(1),(1)";
+const MANY_ROWS: &[u8] =
+    b"insert into t values (1),(1),(1),(1),(1),(1),(1),(1),(1),(1),(1),(1),(1),(1),(1),(1),(1),(1),(1),(1),(1),(1),(1),(1),(1),(1),(1),(1),(1),(1),(1),(1),(1),(1),(1),(1),(1),(1),(1),(1),(1),(1),(1),(1),(1),(1),(1),(1),(1),(1),(1),(1),(1),(1),(1),(1),(1),(1),(1),(1),(1),(1),(1)";
 
 #[test]
 fn a_table_has_4096_rows(rt: HostRuntime) -> Result<(), Fail> {
