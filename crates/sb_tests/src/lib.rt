@@ -2,6 +2,8 @@
 #![tactic(auto)]
 
 #[cfg(test)]
+mod cell;
+#[cfg(test)]
 mod changes;
 #[cfg(test)]
 mod index;
@@ -21,6 +23,8 @@ mod stream;
 mod syntax;
 #[cfg(test)]
 mod tables;
+#[cfg(test)]
+mod tenant;
 #[cfg(test)]
 mod value;
 #[cfg(test)]
