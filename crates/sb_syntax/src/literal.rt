@@ -59,7 +59,9 @@ fn decimal(digits: &[u8]) -> u64
     let mut n: u64 = 0;
     for b in digits {
         let digit = u64::from(b.saturating_sub(b'0'));
-        n = if n > LIMIT / 10 {
+        n = if n < LIMIT / 10 - 20 {
+            10 * n + digit
+        } else if n > LIMIT / 10 {
             LIMIT + 1
         } else {
             (10 * n + digit).min(LIMIT + 1)
