@@ -44,6 +44,7 @@ impl<T: Drop> From<AllocFailed<T>> for ParseError {
 }
 
 /// Cuts the text into tokens.
+#[inline(never)]
 fn cut(alloc: Global, text: &[u8]) -> Result<Vec<Token>, ParseError>
     ensures { Reading (λ v. v.items) (scan 0 0 text.now) (length text.now) result }
 {
@@ -51,8 +52,8 @@ fn cut(alloc: Global, text: &[u8]) -> Result<Vec<Token>, ParseError>
     if text.len() > u32::MAX as usize {
         return Err(ParseError::NoMemory);
     }
-    // Most tokens have a byte beside them, a space or one of their own.
-    let mut all = Vec::with_capacity(alloc, text.len() / 2 + 1)?;
+    // Each token has a byte, so that there is room for all of them.
+    let mut all = Vec::with_capacity(alloc, text.len())?;
     let mut at = 0;
     'more: while at < text.len() {
         if text[at] == b' ' {
@@ -62,11 +63,11 @@ fn cut(alloc: Global, text: &[u8]) -> Result<Vec<Token>, ParseError>
         let Some((kind, len)) = token(&text[at..]) else {
             return Err(ParseError::Syntax { place: at });
         };
-        all.push(Token {
+        all.push_reserved(Token {
             kind,
             start: at as u32,
             end: (at + len) as u32,
-        })?;
+        });
         at += len;
     }
     Ok(all)
