@@ -16,3 +16,4 @@ pub mod TokenSound
 pub mod TokenReads
 pub mod TextLaws
 pub mod Worked
+pub mod Plain

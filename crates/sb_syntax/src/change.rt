@@ -16,12 +16,16 @@ use std::alloc::Global;
 /// How deep subqueries nest.
 pub const MAX_DEPTH: usize = 4;
 
+/// How many columns a table has.
+pub const MAX_COLUMNS: usize = 8;
+
+/// Literals, for so many of which there is room at once.
 #[tactic(auto, unfolding(crate::specs::Reading::separated))]
-fn literals(alloc: Global, tokens: &mut Cursor<'_>) -> Result<Vec<Value>, Fault>
+fn literals(alloc: Global, tokens: &mut Cursor<'_>, room: usize) -> Result<Vec<Value>, Fault>
     ensures { Gives (λ v. v.items)
         (spec.separated Kind.Comma spec.literal_value tokens.old) result tokens.old tokens.new }
 {
-    let mut all = Vec::new(alloc);
+    let mut all = Vec::with_capacity(alloc, room)?;
     let first = literal_value(alloc, tokens)?;
     all.push(first)?;
     'more: while tokens.sees(Kind::Comma) {
@@ -33,11 +37,11 @@ fn literals(alloc: Global, tokens: &mut Cursor<'_>) -> Result<Vec<Value>, Fault>
 }
 
 #[tactic(auto, unfolding(crate::specs::Reading::tuple))]
-fn tuple(alloc: Global, tokens: &mut Cursor<'_>) -> Result<Vec<Value>, Fault>
+fn tuple(alloc: Global, tokens: &mut Cursor<'_>, room: usize) -> Result<Vec<Value>, Fault>
     ensures { Gives (λ v. v.items) (spec.tuple tokens.old) result tokens.old tokens.new }
 {
     tokens.expect(Kind::LeftParen)?;
-    let values = literals(alloc, tokens)?;
+    let values = literals(alloc, tokens, room)?;
     tokens.expect(Kind::RightParen)?;
     Ok(values)
 }
@@ -47,12 +51,14 @@ fn tuples(alloc: Global, tokens: &mut Cursor<'_>) -> Result<Vec<Vec<Value>>, Fau
     ensures { Gives (λ v. map (λ t. t.items) v.items)
         (spec.separated Kind.Comma spec.tuple tokens.old) result tokens.old tokens.new }
 {
-    let mut all = Vec::new(alloc);
-    let first = tuple(alloc, tokens)?;
+    let first = tuple(alloc, tokens, MAX_COLUMNS)?;
+    let width = first.len();
+    // Each further tuple of that width is a comma, two parentheses and its literals with commas between them.
+    let mut all = Vec::with_capacity(alloc, tokens.left() / 2 / (width + 1) + 1)?;
     all.push(first)?;
     'more: while tokens.sees(Kind::Comma) {
         tokens.skip();
-        let item = tuple(alloc, tokens)?;
+        let item = tuple(alloc, tokens, width)?;
         all.push(item)?;
     }
     Ok(all)

@@ -13,8 +13,8 @@ use std::marker::Model;
 #[derive(Clone, Copy, Debug, PartialEq, Eq)]
 pub struct Token {
     pub kind: Kind,
-    pub start: usize,
-    pub end: usize,
+    pub start: u32,
+    pub end: u32,
 }
 
 /// Why nothing was read.
@@ -77,9 +77,14 @@ impl<'a> Cursor<'a> {
     /// Where the next token begins, or the length of the text at its end.
     pub fn place(&self) -> usize {
         match self.tokens {
-            [token, ..] => token.start,
+            [token, ..] => token.start as usize,
             [] => self.text.len(),
         }
+    }
+
+    /// How many tokens are left.
+    pub fn left(&self) -> usize {
+        self.tokens.len()
     }
 
     #[tactic(auto, unfolding(crate::specs::Reading::kind_at))]
@@ -145,7 +150,9 @@ impl<'a> Cursor<'a> {
             ≡ option_map (λ bytes. (bytes.now, spec.next self.now)) result }
     {
         match self.tokens {
-            [token, ..] if same_kind(token.kind, kind) => Some(&self.text[token.start..token.end]),
+            [token, ..] if same_kind(token.kind, kind) => {
+                Some(&self.text[token.start as usize..token.end as usize])
+            }
             _ => None,
         }
     }

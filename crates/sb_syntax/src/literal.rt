@@ -1,9 +1,10 @@
 //! Names and literals.
 
-ghost use Rattle.std.specs.Prelude.{min, ◌+◌, ◌≡◌, ◌<◌, ◌≤◌, ◌^◌, pos, length, IfOk, IsTrue, ◌↔◌, option_map};
+ghost use Rattle.std.specs.Prelude.{min, take, drop, ◌+◌, ◌-◌, ◌≡◌, ◌<◌, ◌≤◌, ◌^◌, pos, length, IfOk, IsTrue, ◌↔◌, option_map};
 ghost use Rattle.std.specs.List.{list_all};
 ghost use Rattle.sb_value.specs.Printable.{is_printable};
 ghost use Rattle.sb_syntax.specs.Literal as lit;
+ghost use Rattle.sb_syntax.specs.Plain.{is_plain};
 ghost use Rattle.sb_syntax.specs.Reading as spec;
 ghost use Rattle.sb_syntax.specs.Reading.{Gives};
 
@@ -59,7 +60,9 @@ fn decimal(digits: &[u8]) -> u64
     let mut n: u64 = 0;
     for b in digits {
         let digit = u64::from(b.saturating_sub(b'0'));
-        n = if n > LIMIT / 10 {
+        n = if n < LIMIT / 10 - 20 {
+            10 * n + digit
+        } else if n > LIMIT / 10 {
             LIMIT + 1
         } else {
             (10 * n + digit).min(LIMIT + 1)
@@ -102,8 +105,51 @@ fn minus(tokens: &mut Cursor<'_>) -> Result<Value, Fault>
     Ok(Value::Int(-1 - (n - 1) as i64))
 }
 
+fn is_plain(b: u8) -> bool
+    ensures { result ≡ is_plain b }
+{
+    b != 39
+}
+
+fn all_plain(bytes: &[u8]) -> bool
+    ensures { result ≡ list_all is_plain bytes.now }
+{
+    bytes.iter().all(|b| is_plain(*b))
+}
+
+/// The bytes between the first and the last.
+fn inside(quoted: &[u8]) -> &[u8]
+    ensures { result.now ≡ take (length quoted.now - 2) (drop 1 quoted.now) }
+{
+    if quoted.len() < 2 {
+        return &[];
+    }
+    &quoted[1..quoted.len() - 1]
+}
+
+fn copied(alloc: Global, bytes: &[u8]) -> Result<Vec<u8>, AllocError>
+    ensures { IfOk result (λ v. v.items ≡ bytes.now) }
+{
+    let mut value = Vec::with_capacity(alloc, bytes.len())?;
+    value.extend_from_slice(bytes)?;
+    Ok(value)
+}
+
 /// The text between the quotes, of which each pair is one.
+#[tactic(auto, using(crate::proofs::Plain::plain_is))]
 fn unquoted(alloc: Global, quoted: &[u8]) -> Result<Vec<u8>, AllocError>
+    ensures { IfOk result (λ v. v.items ≡ lit.unquoted quoted.now) }
+{
+    let plain = inside(quoted);
+    if all_plain(plain) {
+        copied(alloc, plain)
+    } else {
+        halved(alloc, quoted)
+    }
+}
+
+/// The same byte by byte.
+fn halved(alloc: Global, quoted: &[u8]) -> Result<Vec<u8>, AllocError>
     ensures { IfOk result (λ v. v.items ≡ lit.unquoted quoted.now) }
 {
     let mut value = Vec::with_capacity(alloc, quoted.len())?;

@@ -5,7 +5,7 @@ ghost use Rattle.sb_syntax.specs.Reading as spec;
 ghost use Rattle.sb_syntax.specs.Reading.{Gives};
 ghost use Rattle.sb_syntax.specs.Views as view;
 
-use crate::change::{MAX_DEPTH, change};
+use crate::change::{MAX_COLUMNS, MAX_DEPTH, change};
 use crate::command::Command;
 use crate::cursor::{Cursor, Fault};
 use crate::kind::Kind;
@@ -14,9 +14,6 @@ use crate::query::query;
 use crate::rule::rule;
 use sb_value::{ColumnDefinition, ColumnType, Name};
 use std::alloc::Global;
-
-/// How many columns a table has.
-const MAX_COLUMNS: usize = 8;
 
 #[tactic(auto, unfolding(crate::specs::Reading::column_type))]
 fn column_type(tokens: &mut Cursor<'_>) -> Result<ColumnType, Fault>

@@ -44,9 +44,14 @@ impl<T: Drop> From<AllocFailed<T>> for ParseError {
 }
 
 /// Cuts the text into tokens.
+#[inline(never)]
 fn cut(alloc: Global, text: &[u8]) -> Result<Vec<Token>, ParseError>
     ensures { Reading (λ v. v.items) (scan 0 0 text.now) (length text.now) result }
 {
+    // A place is four bytes in a token.
+    if text.len() > u32::MAX as usize {
+        return Err(ParseError::NoMemory);
+    }
     // Each token has a byte, so that there is room for all of them.
     let mut all = Vec::with_capacity(alloc, text.len())?;
     let mut at = 0;
@@ -60,8 +65,8 @@ fn cut(alloc: Global, text: &[u8]) -> Result<Vec<Token>, ParseError>
         };
         all.push_reserved(Token {
             kind,
-            start: at,
-            end: at + len,
+            start: at as u32,
+            end: (at + len) as u32,
         });
         at += len;
     }

@@ -1,6 +1,6 @@
 use Rattle.std.proofs.Common.{◌≡◌, ◌≤◌, ◌+◌, ◌++◌, length, vec_len, vec_capacity}
 use Rattle.sb_syntax.specs.Literal.{inner, unquoted}
-use Rattle.sb_syntax.proofs.literal.unquoted.Given as goal
+use Rattle.sb_syntax.proofs.literal.halved.Given as goal
 
 abbrev pub invariant-loop-rest : goal.invariant-loop-rest
 invariant-loop-rest l = record {
