@@ -1,0 +1,17 @@
+-- What a call answers, against what the walk gives.
+use Rattle.std.specs.Prelude.{◌≡◌, Result, Ok, Err, ◌⊎◌}
+use Rattle.sb_value.specs.declared.refusal.Refusal.{Refusal}
+use Rattle.sb_value.specs.declared.refusal.Refusal.TheVariants as refusal
+use Rattle.sb_check.specs.declared.fault.Fault.{Fault}
+use Rattle.sb_check.specs.declared.fault.Fault.TheVariants.{Refused, NoMemory}
+
+-- a part's answer, seen by a view, is the walk's, unless memory runs out
+abbrev pub Gives : {X A : Type 0} → (X → A) → Result A Refusal → Result X Fault → Type 0
+Gives view walk (Ok x) = walk ≡ Ok (view x)
+Gives view walk (Err (Refused e)) = walk ≡ Err e
+Gives view walk (Err NoMemory) = Unit {0}
+
+-- a call's answer, seen by a view, is the walk's, or that memory ran out
+abbrev pub Answers : {X A : Type 0} → (X → A) → Result A Refusal → Result X Refusal → Type 0
+Answers view walk (Ok x) = walk ≡ Ok (view x)
+Answers view walk (Err e) = (walk ≡ Err e) ⊎ (e ≡ refusal.NoMemory)
