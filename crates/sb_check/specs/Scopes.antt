@@ -7,6 +7,8 @@ use Rattle.sb_check.specs.declared.tree.Column.{Column}
 use Rattle.sb_check.specs.declared.scope.Scope.{Outermost, Within'}
 use Rattle.sb_check.specs.declared.scope.Scope as chain
 use Rattle.sb_check.specs.declared.scope.Found.{Found}
+use Rattle.sb_check.specs.declared.expression.Typed.{Typed}
+use Rattle.sb_check.specs.Expression.{Expression}
 use Rattle.sb_check.specs.Names as names
 
 -- a scope
@@ -23,3 +25,7 @@ abbrev pub at_place : List (Column × ColumnType) → Result (Option (Column × 
 at_place [] = Ok None
 at_place (c ∷ []) = Ok (Some c)
 at_place (c ∷ d ∷ cs) = Err refusal.Ambiguous
+
+-- an expression with its type
+abbrev pub typed : Typed → Expression × ColumnType
+typed t = (t.tree, t.of)

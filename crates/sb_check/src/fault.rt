@@ -1,12 +1,23 @@
 //! Why a part of a command isn't resolved.
 
-use sb_value::Refusal;
 use std::alloc::{AllocError, AllocFailed};
+
+/// A refusal of names and types.
+#[derive(Clone, Copy)]
+pub(crate) enum Reason {
+    NoTable,
+    TableExists,
+    NoColumn,
+    BadType,
+    Ambiguous,
+    WrongCount,
+    BadTransition,
+}
 
 /// The walk's refusal, or that memory ran out.
 #[derive(Clone, Copy)]
 pub(crate) enum Fault {
-    Refused(Refusal),
+    Refused(Reason),
     NoMemory,
 }
 

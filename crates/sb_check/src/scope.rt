@@ -4,9 +4,9 @@ ghost use Rattle.sb_check.specs.Answer.{Gives};
 ghost use Rattle.sb_check.specs.Names as spec;
 ghost use Rattle.sb_check.specs.Scopes.{scope_of, found, at_place};
 
-use crate::fault::Fault;
+use crate::fault::{Fault, Reason};
 use sb_syntax::{ColumnReference, TableReference};
-use sb_value::{ColumnDefinition, ColumnType, Name, Refusal};
+use sb_value::{ColumnDefinition, ColumnType, Name};
 use std::marker::Model;
 
 /// A source as a query sees it: its visible name and its columns.
@@ -58,7 +58,7 @@ fn holder(depth: usize, sources: &[Visible<'_>], name: &Name) -> Result<Option<F
     for (source, visible) in sources.iter().enumerate() {
         if let Some((place, of)) = column_in(visible.columns, name) {
             if one.is_some() {
-                return Err(Fault::Refused(Refusal::Ambiguous));
+                return Err(Fault::Refused(Reason::Ambiguous));
             }
             one = Some(Found {
                 depth,
@@ -76,7 +76,7 @@ fn plain_column(depth: usize, scope: &Scope<'_>, name: &Name) -> Result<Found, F
     ensures { Gives found (spec.plain_column depth (scope_of scope.now) name.now) result }
 {
     match scope {
-        Scope::Outermost => Err(Fault::Refused(Refusal::NoColumn)),
+        Scope::Outermost => Err(Fault::Refused(Reason::NoColumn)),
         Scope::Within(sources, outer) => {
             let one = holder(depth, sources, name)?;
             match one {
@@ -84,6 +84,85 @@ fn plain_column(depth: usize, scope: &Scope<'_>, name: &Name) -> Result<Found, F
                 None => plain_column(further(depth)?, outer, name),
             }
         }
+    }
+}
+
+/// Whether the two mean one table.
+pub(crate) fn same_table(a: &TableReference, b: &TableReference) -> bool
+    ensures { result ≡ spec.same_table a.now b.now }
+{
+    match a {
+        TableReference::Named(one) => match b {
+            TableReference::Named(two) => one.is_same(two),
+            _ => false,
+        },
+        TableReference::Inserted => matches!(b, TableReference::Inserted),
+        TableReference::Deleted => matches!(b, TableReference::Deleted),
+        TableReference::OldUpdated => matches!(b, TableReference::OldUpdated),
+        TableReference::NewUpdated => matches!(b, TableReference::NewUpdated),
+    }
+}
+
+/// The place and the columns of the source with that visible name.
+fn source_named<'a>(
+    sources: &[Visible<'a>],
+    table: &TableReference,
+) -> Option<(usize, &'a [ColumnDefinition])>
+    ensures { option_map (λ s. (s.0, s.1.now)) result ≡ spec.source_named 0 sources.now table.now }
+{
+    for (source, visible) in sources.iter().enumerate() {
+        if same_table(&visible.name, table) {
+            return Some((source, visible.columns));
+        }
+    }
+    None
+}
+
+/// The column of that name in one source.
+fn column_of_source(
+    depth: usize,
+    source: usize,
+    columns: &[ColumnDefinition],
+    name: &Name,
+) -> Result<Found, Fault>
+    ensures { Gives found (spec.column_of_source depth (source, columns.now) name.now) result }
+{
+    match column_in(columns, name) {
+        Some((place, of)) => Ok(Found {
+            depth,
+            source,
+            place,
+            of,
+        }),
+        None => Err(Fault::Refused(Reason::NoColumn)),
+    }
+}
+
+/// The column of the innermost source with that visible name.
+fn qualified_column(
+    depth: usize,
+    scope: &Scope<'_>,
+    table: &TableReference,
+    name: &Name,
+) -> Result<Found, Fault>
+    ensures { Gives found (spec.qualified_column depth (scope_of scope.now) table.now name.now) result }
+{
+    match scope {
+        Scope::Outermost => Err(Fault::Refused(Reason::NoColumn)),
+        Scope::Within(sources, outer) => match source_named(sources, table) {
+            Some((source, columns)) => column_of_source(depth, source, columns, name),
+            None => qualified_column(further(depth)?, outer, table, name),
+        },
+    }
+}
+
+/// The column that a name with or without a qualifier means.
+pub(crate) fn column_named(scope: &Scope<'_>, column: &ColumnReference) -> Result<Found, Fault>
+    ensures { Gives found (spec.column_named (scope_of scope.now) column.now) result }
+{
+    match column {
+        ColumnReference::Plain(name) => plain_column(0, scope, name),
+        ColumnReference::Qualified(table, name) => qualified_column(0, scope, table, name),
     }
 }
 
