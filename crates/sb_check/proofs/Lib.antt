@@ -1,0 +1,2 @@
+mod SourceWalk
+mod Shares

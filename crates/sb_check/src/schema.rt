@@ -7,6 +7,7 @@ ghost use Rattle.sb_check.specs.Walk.{Schema as Names};
 use sb_value::{ColumnDefinition, Name, TableId, Triggers};
 
 /// A table, as commands see it.
+#[derive(Drop)]
 pub struct TableEntry<'a> {
     pub id: TableId,
     pub name: Name,
@@ -14,6 +15,7 @@ pub struct TableEntry<'a> {
 }
 
 /// A rule's triggers, and the columns of its table.
+#[derive(Drop)]
 pub struct RuleEntry<'a> {
     pub columns: &'a [ColumnDefinition],
     pub triggers: Triggers,
@@ -34,6 +36,7 @@ pub trait Schema {
 }
 
 /// What a rule's condition and actions may name.
+#[derive(Drop)]
 pub struct InRule<'a, S> {
     pub outside: &'a S,
     pub columns: &'a [ColumnDefinition],

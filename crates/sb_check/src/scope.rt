@@ -10,6 +10,7 @@ use sb_value::{ColumnDefinition, ColumnType, Name};
 use std::marker::Model;
 
 /// A source as a query sees it: its visible name and its columns.
+#[derive(Drop)]
 pub(crate) struct Visible<'a> {
     pub(crate) name: TableReference,
     pub(crate) columns: &'a [ColumnDefinition],
@@ -21,6 +22,16 @@ impl<'a> Model for Visible<'a> {
     ghost Value = { Seen };
 
     ghost view = { λ v. record { name = v.name; columns = v.columns.now } };
+}
+
+/// `inserted` with no column. An unused place of a list holds it.
+impl<'a> Default for Visible<'a> {
+    fn default() -> Visible<'a> {
+        Visible {
+            name: TableReference::Inserted,
+            columns: &[],
+        }
+    }
 }
 
 /// The sources of the queries around an expression, the innermost first.
