@@ -9,6 +9,9 @@ use Rattle.sb_check.specs.declared.scope.Scope as chain
 use Rattle.sb_check.specs.declared.scope.Found.{Found}
 use Rattle.sb_check.specs.declared.expression.Typed.{Typed}
 use Rattle.sb_check.specs.Expression.{Expression}
+use Rattle.sb_check.specs.declared.items.TypedList.{TypedList}
+use Rattle.sb_check.specs.declared.items.Listed.{Listed}
+use Rattle.sb_check.specs.declared.tree.Items.{Items}
 use Rattle.sb_check.specs.Names as names
 
 -- a scope
@@ -29,3 +32,11 @@ at_place (c ∷ d ∷ cs) = Err refusal.Ambiguous
 -- an expression with its type
 abbrev pub typed : Typed → Expression × ColumnType
 typed t = (t.tree, t.of)
+
+-- expressions with their types
+abbrev pub typed_list : TypedList → List Expression × List ColumnType
+typed_list t = (t.trees, t.types)
+
+-- items with the types of their columns
+abbrev pub listed : Listed → Items × List ColumnType
+listed i = (i.items, i.types)
