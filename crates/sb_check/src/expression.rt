@@ -56,7 +56,7 @@ fn binary(
 }
 
 /// An expression and its type.
-pub(crate) fn expression(alloc: Global, e: &Expr, scope: &Scope<'_>) -> Result<Typed, Fault>
+pub(crate) fn expression(alloc: Global, e: &Expr, scope: &Scope<'_, '_>) -> Result<Typed, Fault>
     ensures { Gives typed (spec.walk_expression (scope_of scope.now) (view.expression e.now)) result }
 {
     match e {

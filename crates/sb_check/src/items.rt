@@ -61,7 +61,7 @@ fn one_type(alloc: Global, of: ColumnType) -> Result<Types, AllocError>
 }
 
 /// Each expression in order.
-fn each(alloc: Global, expressions: &[Expr], scope: &Scope<'_>) -> Result<TypedList, Fault>
+fn each(alloc: Global, expressions: &[Expr], scope: &Scope<'_, '_>) -> Result<TypedList, Fault>
     ensures { Gives typed_list (unzipped (in_order (spec.walk_expression (scope_of scope.now)) (map view.expression expressions.now))) result }
 {
     let mut trees = ExpressionList::new(alloc);
@@ -75,7 +75,7 @@ fn each(alloc: Global, expressions: &[Expr], scope: &Scope<'_>) -> Result<TypedL
 }
 
 /// The sum of one expression.
-fn sum(alloc: Global, e: &Expr, scope: &Scope<'_>) -> Result<Items, Fault>
+fn sum(alloc: Global, e: &Expr, scope: &Scope<'_, '_>) -> Result<Items, Fault>
     ensures { Gives (λ i. (i, Int ∷ [])) (spec.walk_items (scope_of scope.now) [] (sum_of (view.expression e.now))) result }
 {
     let one = expression(alloc, e, scope)?;
@@ -90,7 +90,7 @@ pub(crate) fn items(
     alloc: Global,
     items: &sb_syntax::Items,
     sources: &[Visible<'_>],
-    scope: &Scope<'_>,
+    scope: &Scope<'_, '_>,
 ) -> Result<Listed, Fault>
     ensures { Gives listed (spec.walk_items (scope_of scope.now) sources.now (view.items items.now)) result }
 {

@@ -35,9 +35,10 @@ impl<'a> Default for Visible<'a> {
 }
 
 /// The sources of the queries around an expression, the innermost first.
-pub(crate) enum Scope<'a> {
+#[derive(Drop)]
+pub(crate) enum Scope<'a, 's> {
     Outermost,
-    Within(&'a [Visible<'a>], &'a Scope<'a>),
+    Within(&'a [Visible<'s>], &'a Scope<'a, 's>),
 }
 
 /// A column: how many queries outward, which of its sources, which place, and its type.
@@ -83,7 +84,7 @@ fn holder(depth: usize, sources: &[Visible<'_>], name: &Name) -> Result<Option<F
 }
 
 /// The column of that name at the innermost place that has it.
-fn plain_column(depth: usize, scope: &Scope<'_>, name: &Name) -> Result<Found, Fault>
+fn plain_column(depth: usize, scope: &Scope<'_, '_>, name: &Name) -> Result<Found, Fault>
     ensures { Gives found (spec.plain_column depth (scope_of scope.now) name.now) result }
 {
     match scope {
@@ -152,7 +153,7 @@ fn column_of_source(
 /// The column of the innermost source with that visible name.
 fn qualified_column(
     depth: usize,
-    scope: &Scope<'_>,
+    scope: &Scope<'_, '_>,
     table: &TableReference,
     name: &Name,
 ) -> Result<Found, Fault>
@@ -168,7 +169,7 @@ fn qualified_column(
 }
 
 /// The column that a name with or without a qualifier means.
-pub(crate) fn column_named(scope: &Scope<'_>, column: &ColumnReference) -> Result<Found, Fault>
+pub(crate) fn column_named(scope: &Scope<'_, '_>, column: &ColumnReference) -> Result<Found, Fault>
     ensures { Gives found (spec.column_named (scope_of scope.now) column.now) result }
 {
     match column {

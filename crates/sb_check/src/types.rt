@@ -1,7 +1,10 @@
 //! The types of a query's columns.
-ghost use Rattle.std.specs.Prelude.{◌≡◌, [], ◌∷◌, ◌++◌, length, OnOk, OnErr};
+ghost use Rattle.std.specs.Prelude.{◌≡◌, [], ◌∷◌, ◌++◌, length, true, OnOk, OnErr};
+ghost use Rattle.sb_check.specs.Answer.{Gives};
+ghost use Rattle.sb_check.specs.Walk as walk;
 ghost use Rattle.sb_check.specs.Names as spec;
 
+use crate::fault::{Fault, Reason};
 use sb_value::ColumnType;
 use smallvec::SmallVec;
 use std::alloc::{AllocError, Global};
@@ -71,5 +74,21 @@ impl Types {
         ensures { result ≡ length self.now }
     {
         self.list.as_slice().len()
+    }
+
+    /// Checks that there is one column, of the type of the left side of `in`.
+    pub(crate) fn hold_one(&self, left: ColumnType) -> Result<(), Fault>
+        ensures { Gives (λ _. true) (walk.in_type left self.now) result }
+    {
+        match self.list.as_slice() {
+            [one] => {
+                if same_type(left, one.of) {
+                    Ok(())
+                } else {
+                    Err(Fault::Refused(Reason::BadType))
+                }
+            }
+            _ => Err(Fault::Refused(Reason::WrongCount)),
+        }
     }
 }
