@@ -1,2 +1,4 @@
 mod SourceWalk
 mod Shares
+mod Results
+mod Equations

@@ -2,6 +2,7 @@
 ghost use Rattle.std.specs.Prelude.{◌≡◌, IfOk, Ok, []};
 ghost use Rattle.sb_check.specs.Answer.{Gives};
 ghost use Rattle.sb_check.specs.Condition as tree;
+ghost use Rattle.sb_check.specs.Parts as parts;
 ghost use Rattle.sb_check.specs.Scopes.{scope_of};
 ghost use Rattle.sb_check.specs.Walked.{operand_typed, walked};
 ghost use Rattle.sb_check.specs.Walk as spec;
@@ -127,13 +128,14 @@ fn is_aggregate(items: &sb_syntax::Items) -> bool
 }
 
 #[cycle(query)]
+#[tactic(auto, using(crate::proofs::Equations::condition_walks))]
 pub(crate) fn condition<'s, S: Schema>(
     alloc: Global,
     c: &sb_syntax::Condition,
     schema: &'s S,
     scope: &Scope<'_, 's>,
 ) -> Result<Condition, Fault>
-    ensures { Gives (λ c. c) (spec.walk_condition (S.names schema.now) (view.condition c.now) (scope_of scope.now)) result }
+    ensures { Gives (λ c. c) (parts.condition_walk (S.names schema.now) (view.condition c.now) (scope_of scope.now)) result }
 {
     match c {
         sb_syntax::Condition::Disjunction(a, b) => {
@@ -172,13 +174,14 @@ pub(crate) fn condition<'s, S: Schema>(
 }
 
 #[cycle(query)]
+#[tactic(auto, using(crate::proofs::Equations::operand_walks))]
 pub(crate) fn operand<'s, S: Schema>(
     alloc: Global,
     o: &sb_syntax::Operand,
     schema: &'s S,
     scope: &Scope<'_, 's>,
 ) -> Result<TypedOperand, Fault>
-    ensures { Gives operand_typed (spec.walk_operand (S.names schema.now) (view.operand o.now) (scope_of scope.now)) result }
+    ensures { Gives operand_typed (parts.operand_walk (S.names schema.now) (view.operand o.now) (scope_of scope.now)) result }
 {
     match o {
         sb_syntax::Operand::Expression(e) => Ok(plain_operand(expression(alloc, e, scope)?)),
@@ -197,13 +200,14 @@ pub(crate) fn operand<'s, S: Schema>(
 
 /// The condition of a `where`, or that of none.
 #[cycle(query)]
+#[tactic(auto, using(crate::proofs::Equations::filter_walks))]
 pub(crate) fn filter<'s, S: Schema>(
     alloc: Global,
     f: &Option<sb_syntax::Condition>,
     schema: &'s S,
     scope: &Scope<'_, 's>,
 ) -> Result<Condition, Fault>
-    ensures { Gives (λ c. c) (spec.walk_filter (S.names schema.now) (view.filter f.now) (scope_of scope.now)) result }
+    ensures { Gives (λ c. c) (parts.filter_walk (S.names schema.now) (view.filter f.now) (scope_of scope.now)) result }
 {
     match f {
         Some(c) => condition(alloc, c, schema, scope),
@@ -212,13 +216,14 @@ pub(crate) fn filter<'s, S: Schema>(
 }
 
 #[cycle(query)]
+#[tactic(auto, using(crate::proofs::Equations::walk_select))]
 pub(crate) fn query<'s, S: Schema>(
     alloc: Global,
     q: &sb_syntax::Query,
     schema: &'s S,
     scope: &Scope<'_, 's>,
 ) -> Result<Walked, Fault>
-    ensures { Gives walked (spec.walk_query (S.names schema.now) (view.query q.now) (scope_of scope.now)) result }
+    ensures { Gives walked (parts.query_walk (S.names schema.now) (view.query q.now) (scope_of scope.now)) result }
 {
     let seen = sources(alloc, schema, q.sources.as_slice())?;
     let inner = Scope::Within(seen.visible(), &*scope);
