@@ -2,3 +2,4 @@ mod SourceWalk
 mod Shares
 mod Results
 mod Equations
+mod ChangeWalk

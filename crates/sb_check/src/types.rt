@@ -5,7 +5,7 @@ ghost use Rattle.sb_check.specs.Walk as walk;
 ghost use Rattle.sb_check.specs.Names as spec;
 
 use crate::fault::{Fault, Reason};
-use sb_value::ColumnType;
+use sb_value::{ColumnDefinition, ColumnType};
 use smallvec::SmallVec;
 use std::alloc::{AllocError, Global};
 use std::marker::Model;
@@ -74,6 +74,22 @@ impl Types {
         ensures { result ≡ length self.now }
     {
         self.list.as_slice().len()
+    }
+
+    /// Checks that there are as many as the columns, and then that each is its column's.
+    pub(crate) fn fit(&self, columns: &[ColumnDefinition]) -> Result<(), Fault>
+        ensures { Gives (λ _. true) (walk.fitting self.now columns.now) result }
+    {
+        let list = self.list.as_slice();
+        if list.len() != columns.len() {
+            return Err(Fault::Refused(Reason::WrongCount));
+        }
+        for (place, column) in columns.iter().enumerate() {
+            if !same_type(list[place].of, column.of) {
+                return Err(Fault::Refused(Reason::BadType));
+            }
+        }
+        Ok(())
     }
 
     /// Checks that there is one column, of the type of the left side of `in`.
