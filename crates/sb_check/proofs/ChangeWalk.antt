@@ -1,6 +1,6 @@
 -- The walk of statements, and of assignments one at a time.
-use Rattle.std.proofs.Common.{ℕ, ◌+◌, ◌<◌, length, drop, get_or, subst, ◌≡◌, refl, sym, ap, ◌∙◌, Bool, true, false, List, [], ◌∷◌, ◌++◌, map, append_assoc}
-use Rattle.std.proofs.lemmas.List.{map-append, drop_more}
+use Rattle.std.proofs.Common.{ℕ, ◌+◌, ◌<◌, ◌≤◌, length, drop, get_or, subst, ◌≡◌, refl, sym, ap, ◌∙◌, Bool, true, false, List, [], ◌∷◌, ◌++◌, map, append_assoc, append-nil}
+use Rattle.std.proofs.lemmas.List.{map-append, drop_more, drop_all, length-map, get_or-map}
 use Rattle.std.proofs.lemmas.List.Folds.{list_any-append}
 use Rattle.std.specs.Prelude.{Option, None, Some, not, ◌==◌, ◌||◌, Result, Ok, Err}
 use Rattle.std.specs.List.{list_any}
@@ -43,7 +43,18 @@ pub rows_more : (columns : List ColumnDefinition) (row : List Value) (rows : Lis
 unfolding rows_fitting
 rows_more columns row rows = fits_first (fitting (map type_of row) columns) (in_order (λ row. fitting (map type_of row) columns) rows)
 
-pub ruleset rows_walks = (rows_none, rows_more)
+pub rows_step : {A : Type 0} (columns : List ColumnDefinition) (f : A → List Value) (rows : List A) (i : ℕ) (row : A) → i < length rows → row ≡ get_or rows i row
+    → rows_fitting columns (map f (drop i rows)) ≡ and_then (fitting (map type_of (f row)) columns) (λ _. rows_fitting columns (map f (drop (i + 1) rows)))
+rows_step columns f rows i row lt item =
+    ap (λ r. rows_fitting columns (map f r)) (drop_more rows i row lt ∙ ap (λ y. y ∷ drop (i + 1) rows) (sym item)) ∙ rows_more columns (f row) (map f (drop (i + 1) rows))
+
+pub rows_end : {A : Type 0} (columns : List ColumnDefinition) (f : A → List Value) (rows : List A) (i : ℕ) → length rows ≤ i → rows_fitting columns (map f (drop i rows)) ≡ Ok true
+rows_end columns f rows i h = ap (λ r. rows_fitting columns (map f r)) (drop_all i rows h) ∙ rows_none columns
+
+pub rows_fail : {X Y : Type 0} (v : X → Bool) (w : Y → Bool) (columns : List ColumnDefinition) (a : Result Bool Refusal) (e : Fault) (whole : Result Bool Refusal) (next : Bool → Result Bool Refusal)
+    → whole ≡ and_then a next → Gives v a (Err e) → Gives w whole (Err e)
+rows_fail v w columns a (Refused r) whole next is h = is ∙ ap (λ x. and_then x next) h
+rows_fail v w columns a NoMemory whole next is h = tt
 
 -- ---- assignments
 
@@ -97,6 +108,12 @@ pub assignments_none : (schema : Schema) (name : Name) (columns : List ColumnDef
 unfolding assignments_walk
 assignments_none schema name columns taken = refl
 
+pub assignments_end : {A : Type 0} (schema : Schema) (name : Name) (columns : List ColumnDefinition) (f : A → text.Assignment) (list : List A) (i : ℕ) (done : List Assignment) → length list ≤ i
+    → after done (assignments_walk schema name columns (places_of done) (drop i (map f list))) ≡ Ok done
+assignments_end schema name columns f list i done h =
+    ap (λ r. after done (assignments_walk schema name columns (places_of done) r)) (drop_all i (map f list) (rw length-map h))
+      ∙ ap (after done) (assignments_none schema name columns (places_of done)) ∙ ap (λ l. Ok l) (append-nil done)
+
 stands_before : (done : List Assignment) (a : Assignment) (r : Result (List Assignment) Refusal) → after done (and_then r (λ others. Ok (a ∷ others))) ≡ after (done ++ a ∷ []) r
 stands_before done a (Ok others) = simp append_assoc
 stands_before done a (Err e) = refl
@@ -105,8 +122,27 @@ flat : {A C : Type 0} (end : C) (r : Result A Refusal) → and_then r (λ _. Ok 
 flat end (Ok a) = refl
 flat end (Err e) = refl
 
-module _ (schema : Schema) (name : Name) (columns : List ColumnDefinition) (whole : Result (List Assignment) Refusal) (xs : List text.Assignment) (i : ℕ) (x : text.Assignment) (done : List Assignment)
-    (lt : i < length xs) (item : x ≡ get_or xs i x) (inv : whole ≡ after done (assignments_walk schema name columns (places_of done) (drop i xs))) where
+-- a place of a list and of its image
+image_lt : {A B : Type 0} (f : A → B) (list : List A) (i : ℕ) → i < length list → i < length (map f list)
+image_lt f list i h = rw length-map h
+
+image_item : {A B : Type 0} (f : A → B) (list : List A) (i : ℕ) (x : A) → i < length list → x ≡ get_or list i x → f x ≡ get_or (map f list) i (f x)
+image_item f list i x h item = ap f item ∙ sym (get_or-map f list i x (f x) h)
+
+module _ (schema : Schema) (name : Name) (columns : List ColumnDefinition) (whole : Result (List Assignment) Refusal) {A : Type 0} (f : A → text.Assignment) (list : List A) (i : ℕ) (x0 : A) (done : List Assignment)
+    (lt0 : i < length list) (item0 : x0 ≡ get_or list i x0) (inv : whole ≡ after done (assignments_walk schema name columns (places_of done) (drop i (map f list)))) where
+  abbrev xs : List text.Assignment
+  xs = map f list
+
+  abbrev x : text.Assignment
+  x = f x0
+
+  lt : i < length xs
+  lt = image_lt f list i lt0
+
+  item : x ≡ get_or xs i x
+  item = image_item f list i x0 lt0 item0
+
   abbrev Next : Type 0
   Next = whole ≡ after done (one_assigned schema (entry_of 0 name columns) x (λ c. list_any (λ k. k == c.0) (places_of done)) (λ k. walk_assignments schema (entry_of 0 name columns) (k ∷ places_of done) (drop (i + 1) xs)))
 

@@ -1,19 +1,23 @@
 -- A refusal of the first part is that of both.
-use Rattle.std.proofs.Common.{◌≡◌, ◌∙◌, ap}
+use Rattle.std.proofs.Common.{◌≡◌, ◌∙◌, ap, refl, inl, inr}
 use Rattle.std.specs.Prelude.{Result, Ok, Err}
 use Rattle.sb_value.specs.declared.refusal.Refusal.{Refusal}
 use Rattle.sb_check.specs.declared.fault.Fault.{Fault}
 use Rattle.sb_check.specs.declared.fault.Fault.TheVariants.{Refused, NoMemory}
 use Rattle.sb_check.specs.Names.{and_then}
-use Rattle.sb_check.specs.Answer.{Gives}
+use Rattle.sb_check.specs.Answer.{Gives, Answers, refused, refusal_of}
 
 pub gives-err : {X Y A B : Type 0} (v : X → A) (w : Y → B) (walk : Result A Refusal) (next : A → Result B Refusal) (e : Fault)
     → Gives v walk (Err e) → Gives w (and_then walk next) (Err e)
 gives-err v w walk next (Refused r) h = ap (λ x. and_then x next) h
 gives-err v w walk next NoMemory h = tt
 
--- the same after a part that is walked
-pub gives-err_after : {X Y A B C : Type 0} (v : X → A) (w : Y → B) (first : Result C Refusal) (c : C) (walk : C → Result A Refusal) (next : C → A → Result B Refusal) (e : Fault)
-    → first ≡ Ok c → Gives v (walk c) (Err e) → Gives w (and_then first (λ x. and_then (walk x) (next x))) (Err e)
-gives-err_after v w first c walk next (Refused r) is h = ap (λ x. and_then x (λ x. and_then (walk x) (next x))) is ∙ ap (λ x. and_then x (next c)) h
-gives-err_after v w first c walk next NoMemory is h = tt
+pub answers-err : {X Y A : Type 0} (v : X → A) (w : Y → A) (walk : Result A Refusal) (e : Fault) → Gives v walk (Err e) → Answers w walk (Err (refused e))
+answers-err v w walk (Refused r) h = inl h
+answers-err v w walk NoMemory h = inr refl
+
+pub answers-err_then : {X Y A B : Type 0} (v : X → A) (w : Y → B) (walk : Result A Refusal) (next : A → Result B Refusal) (e : Fault) → Gives v walk (Err e) → Answers w (and_then walk next) (Err (refused e))
+answers-err_then v w walk next (Refused r) h = inl (ap (λ x. and_then x next) h)
+answers-err_then v w walk next NoMemory h = inr refl
+
+pub ruleset answers = (answers-err, answers-err_then)

@@ -17,6 +17,11 @@ refusal_of reason.Ambiguous = refusal.Ambiguous
 refusal_of reason.WrongCount = refusal.WrongCount
 refusal_of reason.BadTransition = refusal.BadTransition
 
+-- a fault as a refusal
+abbrev pub refused : Fault → Refusal
+refused (Refused r) = refusal_of r
+refused NoMemory = refusal.NoMemory
+
 -- a part's answer, seen by a view, is the walk's, unless memory runs out
 abbrev pub Gives : {X A : Type 0} → (X → A) → Result A Refusal → Result X Fault → Type 0
 Gives view walk (Ok x) = walk ≡ Ok (view x)

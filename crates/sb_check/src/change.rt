@@ -42,12 +42,14 @@ fn row_fits(values: &[Value], columns: &[ColumnDefinition]) -> Result<(), Fault>
     row_types(values, columns)
 }
 
-#[tactic(auto, using(crate::proofs::ChangeWalk::rows_walks))]
 fn rows_fit(columns: &[ColumnDefinition], rows: &[Vec<Value>]) -> Result<(), Fault>
     ensures { Gives (λ _. true) (changes.rows_fitting columns.now (map (λ r. r.items) rows.now)) result }
 {
     for row in rows {
-        row_fits(row.as_slice(), columns)?;
+        match row_fits(row.as_slice(), columns) {
+            Ok(()) => {}
+            Err(fault) => return Err(fault),
+        }
     }
     Ok(())
 }
@@ -166,7 +168,10 @@ fn assignments<'s, S: Schema>(
             return Err(Fault::Refused(Reason::Ambiguous));
         }
         let at = byte(place)?;
-        let value = operand(alloc, &assignment.operand, schema, &scope)?;
+        let value = match operand(alloc, &assignment.operand, schema, &scope) {
+            Ok(value) => value,
+            Err(fault) => return Err(fault),
+        };
         if !same_type(value.of, of) {
             return Err(Fault::Refused(Reason::BadType));
         }
