@@ -1,5 +1,5 @@
 -- A refusal of the first part is that of both.
-use Rattle.std.proofs.Common.{◌≡◌, ◌∙◌, ap, refl, inl, inr}
+use Rattle.std.proofs.Common.{◌≡◌, ◌∙◌, ap, refl, inl, inr, sym, subst}
 use Rattle.std.specs.Prelude.{Result, Ok, Err}
 use Rattle.sb_value.specs.declared.refusal.Refusal.{Refusal}
 use Rattle.sb_check.specs.declared.fault.Fault.{Fault}
@@ -21,3 +21,6 @@ answers-err_then v w walk next (Refused r) h = inl (ap (λ x. and_then x next) h
 answers-err_then v w walk next NoMemory h = inr refl
 
 pub ruleset answers = (answers-err, answers-err_then)
+
+pub same_gives : {X A : Type 0} (v : X → A) (walk other : Result A Refusal) (r : Result X Fault) → walk ≡ other → Gives v other r → Gives v walk r
+same_gives {X = X} {A = A} v walk other r e h = let P : Result A Refusal → Type 0 = λ w. Gives v w r in subst P (sym e) h
