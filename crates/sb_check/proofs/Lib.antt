@@ -3,3 +3,4 @@ mod Shares
 mod Results
 mod Equations
 mod ChangeWalk
+mod TriggerWalk

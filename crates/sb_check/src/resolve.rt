@@ -2,6 +2,7 @@
 ghost use Rattle.std.specs.Prelude.{[], Ok, map};
 ghost use Rattle.sb_check.specs.Answer.{Answers};
 ghost use Rattle.sb_check.specs.Names.{and_then, in_order};
+ghost use Rattle.sb_check.specs.Triggers.{walk_triggers};
 ghost use Rattle.sb_check.specs.Walk as spec;
 ghost use Rattle.sb_syntax.specs.Views as view;
 
@@ -11,7 +12,9 @@ use crate::query::query;
 use crate::schema::Schema;
 use crate::scope::Scope;
 use crate::tree::{Action, Actions, Query, Statement};
-use sb_value::Refusal;
+use crate::trigger::triggers;
+use sb_syntax::Trigger;
+use sb_value::{ColumnDefinition, Refusal, Triggers};
 use std::alloc::Global;
 
 /// A query that stands alone.
@@ -66,6 +69,20 @@ pub fn resolve_actions<'s, S: Schema>(
     ensures { Answers (λ a. a) (in_order (spec.walk_action (S.names schema.now)) (map view.action list.now)) result }
 {
     match actions(alloc, list, schema) {
+        Ok(resolved) => Ok(resolved),
+        Err(fault) => Err(fault.refusal()),
+    }
+}
+
+/// The triggers of a rule on a table with these columns.
+#[tactic(auto, using(crate::proofs::TriggerWalk::triggers_walk))]
+pub fn resolve_triggers(
+    columns: &[ColumnDefinition],
+    list: &[Trigger],
+) -> Result<Triggers, Refusal>
+    ensures { Answers (λ t. t) (walk_triggers columns.now (map view.trigger list.now)) result }
+{
+    match triggers(columns, list) {
         Ok(resolved) => Ok(resolved),
         Err(fault) => Err(fault.refusal()),
     }
