@@ -2,6 +2,8 @@
 ghost use Rattle.std.specs.Prelude.{[], Ok, map};
 ghost use Rattle.sb_check.specs.Answer.{Answers};
 ghost use Rattle.sb_check.specs.Names.{and_then, in_order};
+ghost use Rattle.sb_check.specs.RuleParts.{walk_parts};
+ghost use Rattle.sb_check.specs.RulePartsView.{rule_parts};
 ghost use Rattle.sb_check.specs.Triggers.{walk_triggers};
 ghost use Rattle.sb_check.specs.Walk as spec;
 ghost use Rattle.sb_syntax.specs.Views as view;
@@ -9,11 +11,12 @@ ghost use Rattle.sb_syntax.specs.Views as view;
 use crate::action::{action, actions};
 use crate::change::change;
 use crate::query::query;
+use crate::rule::{RuleParts, rule};
 use crate::schema::Schema;
 use crate::scope::Scope;
 use crate::tree::{Action, Actions, Query, Statement};
 use crate::trigger::triggers;
-use sb_syntax::Trigger;
+use sb_syntax::{RuleText, Trigger};
 use sb_value::{ColumnDefinition, Refusal, Triggers};
 use std::alloc::Global;
 
@@ -75,7 +78,7 @@ pub fn resolve_actions<'s, S: Schema>(
 }
 
 /// The triggers of a rule on a table with these columns.
-#[tactic(auto, using(crate::proofs::TriggerWalk::triggers_walk))]
+#[tactic(auto, unfolding(crate::specs::RuleParts::rule_triggers))]
 pub fn resolve_triggers(
     columns: &[ColumnDefinition],
     list: &[Trigger],
@@ -84,6 +87,20 @@ pub fn resolve_triggers(
 {
     match triggers(columns, list) {
         Ok(resolved) => Ok(resolved),
+        Err(fault) => Err(fault.refusal()),
+    }
+}
+
+/// The names and types of a rule's text: its table, then its triggers, its condition, its actions.
+pub fn resolve_rule<'s, S: Schema>(
+    alloc: Global,
+    text: &RuleText,
+    schema: &'s S,
+) -> Result<RuleParts, Refusal>
+    ensures { Answers rule_parts (walk_parts (S.names schema.now) (view.rule text.now)) result }
+{
+    match rule(alloc, text, schema) {
+        Ok(parts) => Ok(parts),
         Err(fault) => Err(fault.refusal()),
     }
 }

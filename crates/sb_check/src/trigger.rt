@@ -1,6 +1,7 @@
 //! The triggers of a rule.
 ghost use Rattle.std.specs.Prelude.{map};
 ghost use Rattle.sb_check.specs.Answer.{Gives};
+ghost use Rattle.sb_check.specs.RuleParts.{rule_triggers};
 ghost use Rattle.sb_check.specs.TriggerSteps as spec;
 ghost use Rattle.sb_syntax.specs.Views as view;
 
@@ -47,7 +48,7 @@ fn with_trigger(
 }
 
 /// Each trigger in order.
-pub(crate) fn triggers(columns: &[ColumnDefinition], list: &[Trigger]) -> Result<Triggers, Fault>
+fn all_triggers(columns: &[ColumnDefinition], list: &[Trigger]) -> Result<Triggers, Fault>
     ensures { Gives (λ t. t) (spec.with_triggers columns.now spec.no_trigger (map view.trigger list.now)) result }
 {
     let mut all = Triggers {
@@ -60,4 +61,15 @@ pub(crate) fn triggers(columns: &[ColumnDefinition], list: &[Trigger]) -> Result
         all = with_trigger(columns, all, trigger)?;
     }
     Ok(all)
+}
+
+/// The triggers of a rule.
+#[tactic(auto, using(crate::proofs::TriggerWalk::triggers_walk), unfolding(crate::specs::RuleParts::rule_triggers))]
+pub(crate) fn triggers(columns: &[ColumnDefinition], list: &[Trigger]) -> Result<Triggers, Fault>
+    ensures { Gives (λ t. t) (rule_triggers columns.now (map view.trigger list.now)) result }
+{
+    match all_triggers(columns, list) {
+        Ok(all) => Ok(all),
+        Err(fault) => Err(fault),
+    }
 }
