@@ -112,7 +112,7 @@ pub assignments_end : {A : Type 0} (schema : Schema) (name : Name) (columns : Li
     → after done (assignments_walk schema name columns (places_of done) (drop i (map f list))) ≡ Ok done
 assignments_end schema name columns f list i done h =
     ap (λ r. after done (assignments_walk schema name columns (places_of done) r)) (drop_all i (map f list) (rw length-map h))
-      ∙ ap (after done) (assignments_none schema name columns (places_of done)) ∙ ap (λ l. Ok l) (append-nil done)
+    ∙ ap (after done) (assignments_none schema name columns (places_of done)) ∙ ap (λ l. Ok l) (append-nil done)
 
 stands_before : (done : List Assignment) (a : Assignment) (r : Result (List Assignment) Refusal) → after done (and_then r (λ others. Ok (a ∷ others))) ≡ after (done ++ a ∷ []) r
 stands_before done a (Ok others) = simp append_assoc
@@ -178,7 +178,7 @@ module _ (schema : Schema) (name : Name) (columns : List ColumnDefinition) (whol
           let a : Assignment = record { place = c.0; operand = o.0 } in
           let first : whole ≡ after done (and_then (walk_assignments schema e (c.0 ∷ places_of done) (drop (i + 1) xs)) (λ others. Ok (a ∷ others))) = here ∙ rw (is, free, walks, ty) refl in
           first ∙ stands_before done a (walk_assignments schema e (c.0 ∷ places_of done) (drop (i + 1) xs))
-            ∙ ap (after (done ++ a ∷ [])) (assignments-same schema e (drop (i + 1) xs) (c.0 ∷ places_of done) (places_of done ++ c.0 ∷ []) (taken_last c.0 (places_of done)) ∙ ap (λ t. walk_assignments schema e t (drop (i + 1) xs)) (sym (map-append (λ (a : Assignment). a.place) done (a ∷ []))))
+          ∙ ap (after (done ++ a ∷ [])) (assignments-same schema e (drop (i + 1) xs) (c.0 ∷ places_of done) (places_of done ++ c.0 ∷ []) (taken_last c.0 (places_of done)) ∙ ap (λ t. walk_assignments schema e t (drop (i + 1) xs)) (sym (map-append (λ (a : Assignment). a.place) done (a ∷ []))))
 
 -- ---- statements
 
@@ -205,8 +205,8 @@ module _ (schema : Schema) (t : TableEntry) (name : Name) (lends : LendsTable (t
   unfolding update_of filter_walk assignments_walk
   walk_update xs f =
       lent (λ id name columns. update_of schema id name columns xs f) _
-        (λ e. ap (λ r. and_then r (λ places. and_then (filter_walk schema f (table_scope e.name e.table.columns)) (λ c. Ok (Update e.id places c))))
-          (assignments-seen schema e (entry_of 0 e.name e.table.columns) refl refl xs []))
+      (λ e. ap (λ r. and_then r (λ places. and_then (filter_walk schema f (table_scope e.name e.table.columns)) (λ c. Ok (Update e.id places c))))
+      (assignments-seen schema e (entry_of 0 e.name e.table.columns) refl refl xs []))
 
 -- a table that isn't found refuses each statement
 module _ (schema : Schema) (name : Name) (r : Refusal) (none : table_named schema name ≡ Err r) where

@@ -4,3 +4,4 @@ mod Results
 mod Equations
 mod ChangeWalk
 mod TriggerWalk
+mod RuleWalk

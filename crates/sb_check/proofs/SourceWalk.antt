@@ -35,9 +35,9 @@ pub walk_sources-same : (schema : Schema) (ss : List SourceReference) (a b : Lis
 walk_sources-same schema [] a b same = refl
 walk_sources-same schema (s ∷ ss) a b same =
     ap (λ (f : (Source × List ColumnDefinition) → Result (List (Source × Visible)) Refusal). and_then (walk_table schema s.table) f)
-      (λ i t. required (not (same (visible_name s) i)) refusal.Ambiguous
-        (and_then (walk_sources-same schema ss (visible_name s ∷ a) (visible_name s ∷ b) (more_taken (visible_name s) a b same) i)
-          (λ rest. Ok ((t.0, record { name = visible_name s; columns = t.1 }) ∷ rest))))
+    (λ i t. required (not (same (visible_name s) i)) refusal.Ambiguous
+    (and_then (walk_sources-same schema ss (visible_name s ∷ a) (visible_name s ∷ b) (more_taken (visible_name s) a b same) i)
+    (λ rest. Ok ((t.0, record { name = visible_name s; columns = t.1 }) ∷ rest))))
 
 abbrev pub names_of : List Visible → List TableReference
 names_of vs = map (λ v. v.name) vs
@@ -64,11 +64,11 @@ module _ (schema : Schema) (vs : List Visible) (srcs : List Source) (s : SourceR
   pub source-next : (t : Source × List ColumnDefinition) → walk_table schema s.table ≡ Ok t → list_any (same_table (visible_name s)) (names_of vs) ≡ false
       → after srcs vs (seen_sources schema (names_of vs) (s ∷ ss))
       ≡ after (srcs ++ t.0 ∷ []) (vs ++ record { name = visible_name s; columns = t.1 } ∷ [])
-          (seen_sources schema (names_of (vs ++ record { name = visible_name s; columns = t.1 } ∷ [])) ss)
+      (seen_sources schema (names_of (vs ++ record { name = visible_name s; columns = t.1 } ∷ [])) ss)
   source-next t h free =
       rw (h, free)
-        (rw (walk_sources-same schema ss (visible_name s ∷ names_of vs) (names_of vs ++ visible_name s ∷ []) (taken_last (visible_name s) (names_of vs)))
-          (seen_first t (walk_sources schema (names_of vs ++ visible_name s ∷ []) ss) ∙ (rw map-append refl)))
+      (rw (walk_sources-same schema ss (visible_name s ∷ names_of vs) (names_of vs ++ visible_name s ∷ []) (taken_last (visible_name s) (names_of vs)))
+      (seen_first t (walk_sources schema (names_of vs ++ visible_name s ∷ []) ss) ∙ (rw map-append refl)))
 
 -- the same of a list from a place on
 pub source-step : (schema : Schema) (whole : Result (List Source × List Visible) Refusal) (refs : List SourceReference) (i : ℕ) (s : SourceReference) (vs : List Visible) (srcs : List Source) (t : Source × List ColumnDefinition) (name : TableReference)

@@ -135,7 +135,7 @@ walk_rest columns (on_delete ∷ ts) a b c ps = walk_rest columns ts a true c ps
 walk_rest columns (on_update ∷ ts) a b c ps = walk_rest columns ts a b true ps ∙ after_update a b c ps ts (in_order (trigger_places columns) ts)
 walk_rest columns (on_update_of names ∷ ts) a b c ps =
     ap (λ r. and_then {B = Triggers} (and_then {A = List Bool} {B = Triggers} r (λ set. Ok (record { inserted = a; deleted = b; updated = c; columns = set }))) (λ more. with_triggers columns more ts)) (names_walk columns ps names)
-      ∙ after_columns columns a b c ps names ts (in_order (place_named columns) names) (in_order (trigger_places columns) ts) (walk_rest columns ts)
+    ∙ after_columns columns a b c ps names ts (in_order (place_named columns) names) (in_order (trigger_places columns) ts) (walk_rest columns ts)
 
 pub triggers_walk : (columns : List ColumnDefinition) (ts : List Trigger) → with_triggers columns no_trigger ts ≡ walk_triggers columns ts
 triggers_walk columns ts = walk_rest columns ts false false false []

@@ -79,10 +79,7 @@ pub fn resolve_actions<'s, S: Schema>(
 
 /// The triggers of a rule on a table with these columns.
 #[tactic(auto, unfolding(crate::specs::RuleParts::rule_triggers))]
-pub fn resolve_triggers(
-    columns: &[ColumnDefinition],
-    list: &[Trigger],
-) -> Result<Triggers, Refusal>
+pub fn resolve_triggers(columns: &[ColumnDefinition], list: &[Trigger]) -> Result<Triggers, Refusal>
     ensures { Answers (λ t. t) (walk_triggers columns.now (map view.trigger list.now)) result }
 {
     match triggers(columns, list) {

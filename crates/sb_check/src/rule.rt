@@ -96,7 +96,7 @@ pub(crate) fn rule<'s, S: Schema>(
     text: &RuleText,
     schema: &'s S,
 ) -> Result<RuleParts, Fault>
-    ensures { Gives rule_parts (spec.walk_parts (S.names schema.now) (view.rule text.now)) result }
+    ensures { Gives rule_parts (spec.parts (S.names schema.now) (view.rule text.now)) result }
 {
     match table_named(schema, &text.table) {
         Ok(table) => parts_on(alloc, &table, text, schema),

@@ -1,12 +1,12 @@
 //! Commands resolved against four tables, or their first refusal.
-ghost use Rattle.std.specs.Prelude.{map, None};
 
 use sb_check::{
-    Column, Condition, ConditionNode, Expression, ExpressionNode, InRule, OperandNode, RuleEntry,
-    Schema, TableEntry, resolve_action, resolve_actions, resolve_change, resolve_query,
+    Column, Condition, ConditionNode, Expression, ExpressionNode, OperandNode, RuleEntry, Schema,
+    TableEntry, resolve_action, resolve_actions, resolve_change, resolve_query, resolve_rule,
+    resolve_triggers,
 };
-use sb_syntax::{Action, Command, RuleText, Trigger, parse};
-use sb_value::{ColumnDefinition, Columns, Name, Refusal, TableId, Triggers};
+use sb_syntax::{Action, Command, Trigger, parse};
+use sb_value::{ColumnDefinition, Name, Refusal, TableId};
 use std::alloc::Global;
 use std::process::Abort;
 
@@ -207,50 +207,32 @@ fn statements(rt: HostRuntime) {
     }
 }
 
-/// The triggers of a rule; those of columns count as those of the first one.
-fn triggers_of(rule: &RuleText) -> Triggers {
-    let mut triggers = Triggers {
-        inserted: false,
-        deleted: false,
-        updated: false,
-        columns: Columns::empty(),
-    };
-    for trigger in rule.triggers.as_slice() {
-        match trigger {
-            Trigger::Insert => triggers.inserted = true,
-            Trigger::Delete => triggers.deleted = true,
-            Trigger::Update => triggers.updated = true,
-            Trigger::UpdateOf(_) => triggers.columns = Columns::empty().with(0),
-        }
-    }
-    triggers
-}
-
-/// The number of the refusal of a rule's condition and actions, or 0.
+/// The number of a rule's refusal, or 0.
 fn rule_refusal(rt: &impl Abort, alloc: Global, tables: &Tables, text: &[u8]) -> u8 {
-    let Command::CreateRule(rule) = command(rt, alloc, text) else {
-        return 255;
-    };
-    let table = tables.table(&rule.table).expect(rt, "the rule's table");
-    let triggers = triggers_of(&rule);
-    let names = InRule {
-        outside: tables,
-        columns: table.columns,
-        triggers,
-    };
-    if let Some(condition) = &rule.condition {
-        if let Err(refusal) = resolve_query(alloc, condition, &names) {
-            return number(refusal);
-        }
-    }
-    match resolve_actions(alloc, rule.actions.as_slice(), &names) {
-        Ok(_) => 0,
-        Err(refusal) => number(refusal),
+    match command(rt, alloc, text) {
+        Command::CreateRule(rule) => match resolve_rule(alloc, &rule, tables) {
+            Ok(_) => 0,
+            Err(refusal) => number(refusal),
+        },
+        _ => 255,
     }
 }
 
-/// Rules and the numbers of the refusals of their conditions and actions.
-const RULES: [(&[u8], u8); 12] = [
+/// Rules and the numbers of their refusals.
+const RULES: [(&[u8], u8); 16] = [
+    (b"create rule r on x when updated(z) then delete from x", 20),
+    (
+        b"create rule r on t when updated(z) if select * from x then delete from x",
+        22,
+    ),
+    (
+        b"create rule r on t when inserted, updated(a, b), updated(b, z) then rollback",
+        22,
+    ),
+    (
+        b"create rule r on t when updated(a, a), updated then rollback",
+        0,
+    ),
     (
         b"create rule r on t when inserted then insert into v select b from inserted",
         0,
@@ -309,6 +291,9 @@ fn rules(rt: HostRuntime) {
         assert_eq!(rt; rule_refusal(&rt, alloc, &tables, text), refusal);
     }
     assert!(rt; resolve_action(alloc, &Action::Rollback, &tables).is_ok());
+    let none = Vec::new(alloc);
+    assert!(rt; resolve_actions(alloc, none.as_slice(), &tables).is_ok());
+    assert!(rt; resolve_triggers(&[], &[Trigger::Update]).is_ok());
 }
 
 fn column_of(e: &Expression) -> Option<Column> {

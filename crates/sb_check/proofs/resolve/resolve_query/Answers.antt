@@ -16,4 +16,4 @@ pub returns-in-Err : goal.returns-in-Err
 unfolding query_walk
 returns-in-Err g c =
     rw c.refusal.ensures
-      (answers-err_then walked (λ (q : Query). q) (query_walk (g.S.Schema.names c.args.schema.now) (query c.args.text.now) []) (λ w. Ok w.0) c.in-Err.fault c.in-Err.ensures)
+    (answers-err_then walked (λ (q : Query). q) (query_walk (g.S.Schema.names c.args.schema.now) (query c.args.text.now) []) (λ w. Ok w.0) c.in-Err.fault c.in-Err.ensures)
