@@ -5,16 +5,16 @@ use Rattle.sb_value.specs.declared.value.ColumnDefinition.{ColumnDefinition}
 use Rattle.sb_value.specs.declared.refusal.Refusal.{Refusal}
 use Rattle.sb_value.specs.declared.refusal.Refusal.TheVariants as refusal
 use Rattle.sb_value.specs.declared.net.Triggers.{Triggers}
+use Rattle.sb_value.specs.Columns.{set_of}
 use Rattle.sb_value.specs.Order.{precedes}
 use Rattle.sb_value.specs.Table.{Entry}
-use Rattle.sb_syntax.specs.Tree.{Name, Command, RuleText, Trigger}
+use Rattle.sb_syntax.specs.Tree.{Name, Command, RuleText, Trigger, on_insert, on_delete, on_update, on_update_of}
 use Rattle.sb_syntax.specs.Tree as text
 use Rattle.sb_check.specs.Condition.{Query}
 use Rattle.sb_check.specs.declared.tree.Action.{Action}
 use Rattle.sb_check.specs.declared.tree.Action.TheVariants as action
 use Rattle.sb_value.specs.Name.{same_name}
-use Rattle.sb_check.specs.Names.{and_then, in_order, required, some_or}
-use Rattle.sb_check.specs.Triggers as on_columns
+use Rattle.sb_check.specs.Names.{and_then, in_order, required, some_or, column_in}
 use Rattle.sb_check.specs.Walk.{Schema, table_named, walk_query, walk_change, walk_action}
 use Rattle.sb_catalog.specs.declared.Rule.{Rule}
 use Rattle.sb_eval.specs.Statement.{query_locks, statement_locks}
@@ -54,11 +54,44 @@ named_twice (c ∷ cs) = list_any (λ d. same_name c.name d.name) cs || named_tw
 
 -- the places of the columns that a trigger lists, in order
 abbrev pub trigger_places : Entry → Trigger → Result (List ℕ) Refusal
-trigger_places e trigger = on_columns.trigger_places e.table.columns trigger
+trigger_places e on_insert = Ok []
+trigger_places e on_delete = Ok []
+trigger_places e on_update = Ok []
+trigger_places e (on_update_of names) = in_order (λ name. some_or refusal.NoColumn (option_map (λ c. c.0) (column_in e.table.columns name))) names
+
+-- which operation a trigger names
+abbrev pub is_insert : Trigger → Bool
+is_insert on_insert = true
+is_insert on_delete = false
+is_insert on_update = false
+is_insert (on_update_of names) = false
+
+abbrev pub is_delete : Trigger → Bool
+is_delete on_insert = false
+is_delete on_delete = true
+is_delete on_update = false
+is_delete (on_update_of names) = false
+
+abbrev pub is_update : Trigger → Bool
+is_update on_insert = false
+is_update on_delete = false
+is_update on_update = true
+is_update (on_update_of names) = false
+
+-- the lists, one after another
+abbrev pub joined : List (List ℕ) → List ℕ
+joined [] = []
+joined (p ∷ ps) = p ++ joined ps
 
 -- the triggers as a set of operations and a set of columns
 abbrev pub walk_triggers : Entry → List Trigger → Result Triggers Refusal
-walk_triggers e list = on_columns.walk_triggers e.table.columns list
+walk_triggers e triggers =
+    and_then (in_order (trigger_places e) triggers) (λ places. Ok (record {
+      inserted = list_any is_insert triggers;
+      deleted = list_any is_delete triggers;
+      updated = list_any is_update triggers;
+      columns = set_of (joined places);
+    }))
 
 -- the condition of a rule, if it has one
 abbrev pub rule_condition : Schema → Option text.Query → Result (Option Query) Refusal
