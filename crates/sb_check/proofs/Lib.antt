@@ -1,0 +1,7 @@
+mod SourceWalk
+mod Shares
+mod Results
+mod Equations
+mod ChangeWalk
+mod TriggerWalk
+mod RuleWalk

@@ -6,6 +6,8 @@ mod cell;
 #[cfg(test)]
 mod changes;
 #[cfg(test)]
+mod check;
+#[cfg(test)]
 mod index;
 #[cfg(test)]
 mod locks;

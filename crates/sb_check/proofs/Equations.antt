@@ -1,0 +1,77 @@
+-- The walks of conditions, operands and queries, a case each.
+use Rattle.std.proofs.Common.{◌≡◌, refl, ap, Bool, List, [], ◌∷◌, map}
+use Rattle.std.specs.Prelude.{◌&&◌, Result, Ok, Err}
+use Rattle.sb_value.specs.declared.refusal.Refusal.{Refusal}
+use Rattle.sb_value.specs.declared.refusal.Refusal.TheVariants as refusal
+use Rattle.sb_value.specs.declared.value.ColumnType.{ColumnType}
+use Rattle.sb_value.specs.declared.value.ColumnType.TheVariants.{Int}
+use Rattle.sb_syntax.specs.Tree as text
+use Rattle.sb_syntax.specs.declared.ast.Comparison.{Comparison}
+use Rattle.sb_syntax.specs.declared.ast.SourceReference.{SourceReference}
+use Rattle.sb_check.specs.declared.tree.Source.{Source}
+use Rattle.sb_check.specs.Condition.{Condition, always, disjunction, conjunction, negation, compare, is_in, exists, Operand, expression, answer, Query, select}
+use Rattle.sb_check.specs.Names.{and_then, required, same_type, Scope, Visible}
+use Rattle.sb_check.specs.Parts.{condition_walk, operand_walk, filter_walk, query_walk}
+use Rattle.sb_check.specs.Sources.{seen_sources}
+use Rattle.sb_check.specs.Walk.{Schema, Walked, walk_expression, walk_items, walk_sources, is_aggregate, in_type, with_not}
+
+module _ (schema : Schema) where
+  pub walk_disjunction : (a b : text.Condition) (scope : Scope) → condition_walk schema (text.disjunction a b) scope ≡ and_then (condition_walk schema a scope) (λ x. and_then (condition_walk schema b scope) (λ y. Ok (disjunction x y)))
+  unfolding condition_walk
+  walk_disjunction a b scope = refl
+
+  pub walk_conjunction : (a b : text.Condition) (scope : Scope) → condition_walk schema (text.conjunction a b) scope ≡ and_then (condition_walk schema a scope) (λ x. and_then (condition_walk schema b scope) (λ y. Ok (conjunction x y)))
+  unfolding condition_walk
+  walk_conjunction a b scope = refl
+
+  pub walk_negation : (a : text.Condition) (scope : Scope) → condition_walk schema (text.negation a) scope ≡ and_then (condition_walk schema a scope) (λ x. Ok (negation x))
+  unfolding condition_walk
+  walk_negation a scope = refl
+
+  pub walk_compare : (a : text.Expression) (op : Comparison) (b : text.Operand) (scope : Scope) → condition_walk schema (text.compare a op b) scope
+      ≡ and_then (walk_expression scope a) (λ x. and_then (operand_walk schema b scope) (λ y. required (same_type x.1 y.1) refusal.BadType (Ok (compare x.0 op y.0))))
+  unfolding condition_walk operand_walk
+  walk_compare a op b scope = refl
+
+  pub walk_is_in : (a : text.Expression) (has_not : Bool) (q : text.Query) (scope : Scope) → condition_walk schema (text.is_in a has_not q) scope
+      ≡ and_then (walk_expression scope a) (λ x. and_then (query_walk schema q scope) (λ w. and_then (in_type x.1 w.1) (λ _. Ok (with_not has_not (is_in x.0 w.0)))))
+  unfolding condition_walk query_walk
+  walk_is_in a has_not q scope = refl
+
+  pub walk_exists : (q : text.Query) (scope : Scope) → condition_walk schema (text.exists q) scope ≡ and_then (query_walk schema q scope) (λ w. Ok (exists w.0))
+  unfolding condition_walk query_walk
+  walk_exists q scope = refl
+
+  pub walk_plain : (e : text.Expression) (scope : Scope) → operand_walk schema (text.expression e) scope ≡ and_then (walk_expression scope e) (λ x. Ok (expression x.0, x.1))
+  unfolding operand_walk
+  walk_plain e scope = refl
+
+  pub walk_answer : (its : text.Items) (sources : List SourceReference) (f : text.Filter) (scope : Scope) → operand_walk schema (text.answer (text.select its sources f)) scope
+      ≡ and_then (query_walk schema (text.select its sources f) scope) (λ w. required (is_aggregate its) refusal.WrongCount (Ok (answer w.0, Int)))
+  unfolding operand_walk query_walk
+  walk_answer its sources f scope = refl
+
+  pub walk_everything : (scope : Scope) → filter_walk schema text.everything scope ≡ Ok always
+  unfolding filter_walk
+  walk_everything scope = refl
+
+  pub walk_those : (c : text.Condition) (scope : Scope) → filter_walk schema (text.those c) scope ≡ condition_walk schema c scope
+  unfolding filter_walk condition_walk
+  walk_those c scope = refl
+
+  selects : (its : text.Items) (filter : Scope → Result Condition Refusal) (scope : Scope) (walk : Result (List (Source × Visible)) Refusal)
+      → and_then walk (λ ss. and_then (walk_items (map (λ s. s.1) ss ∷ scope) (map (λ s. s.1) ss) its) (λ i. and_then {B = Walked} (filter (map (λ s. s.1) ss ∷ scope)) (λ c. Ok (select i.0 (map (λ s. s.0) ss) c, i.1))))
+      ≡ and_then (and_then {B = List Source × List Visible} walk (λ ss. Ok (map (λ s. s.0) ss, map (λ s. s.1) ss))) (λ p. and_then (walk_items (p.1 ∷ scope) p.1 its) (λ i. and_then {B = Walked} (filter (p.1 ∷ scope)) (λ c. Ok (select i.0 p.0 c, i.1))))
+  selects its filter scope (Ok ss) = refl
+  selects its filter scope (Err e) = refl
+
+  pub walk_select : (its : text.Items) (sources : List SourceReference) (f : text.Filter) (scope : Scope) → query_walk schema (text.select its sources f) scope
+      ≡ and_then (seen_sources schema [] sources) (λ p. and_then (walk_items (p.1 ∷ scope) p.1 its) (λ i. and_then {B = Walked} (filter_walk schema f (p.1 ∷ scope)) (λ c. Ok (select i.0 p.0 c, i.1))))
+  unfolding query_walk filter_walk
+  walk_select its sources f scope = selects its (filter_walk schema f) scope (walk_sources schema [] sources)
+
+pub ruleset condition_walks = (walk_disjunction, walk_conjunction, walk_negation, walk_compare, walk_is_in, walk_exists)
+
+pub ruleset operand_walks = (walk_plain, walk_answer)
+
+pub ruleset filter_walks = (walk_everything, walk_those)

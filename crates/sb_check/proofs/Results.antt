@@ -1,0 +1,26 @@
+-- A refusal of the first part is that of both.
+use Rattle.std.proofs.Common.{◌≡◌, ◌∙◌, ap, refl, inl, inr, sym, subst}
+use Rattle.std.specs.Prelude.{Result, Ok, Err}
+use Rattle.sb_value.specs.declared.refusal.Refusal.{Refusal}
+use Rattle.sb_check.specs.declared.fault.Fault.{Fault}
+use Rattle.sb_check.specs.declared.fault.Fault.TheVariants.{Refused, NoMemory}
+use Rattle.sb_check.specs.Names.{and_then}
+use Rattle.sb_check.specs.Answer.{Gives, Answers, refused, refusal_of}
+
+pub gives-err : {X Y A B : Type 0} (v : X → A) (w : Y → B) (walk : Result A Refusal) (next : A → Result B Refusal) (e : Fault)
+    → Gives v walk (Err e) → Gives w (and_then walk next) (Err e)
+gives-err v w walk next (Refused r) h = ap (λ x. and_then x next) h
+gives-err v w walk next NoMemory h = tt
+
+pub answers-err : {X Y A : Type 0} (v : X → A) (w : Y → A) (walk : Result A Refusal) (e : Fault) → Gives v walk (Err e) → Answers w walk (Err (refused e))
+answers-err v w walk (Refused r) h = inl h
+answers-err v w walk NoMemory h = inr refl
+
+pub answers-err_then : {X Y A B : Type 0} (v : X → A) (w : Y → B) (walk : Result A Refusal) (next : A → Result B Refusal) (e : Fault) → Gives v walk (Err e) → Answers w (and_then walk next) (Err (refused e))
+answers-err_then v w walk next (Refused r) h = inl (ap (λ x. and_then x next) h)
+answers-err_then v w walk next NoMemory h = inr refl
+
+pub ruleset answers = (answers-err, answers-err_then)
+
+pub same_gives : {X A : Type 0} (v : X → A) (walk other : Result A Refusal) (r : Result X Fault) → walk ≡ other → Gives v other r → Gives v walk r
+same_gives {X = X} {A = A} v walk other r e h = let P : Result A Refusal → Type 0 = λ w. Gives v w r in subst P (sym e) h

@@ -1,0 +1,58 @@
+-- The names and types of a rule's text: its table, its triggers, its condition and its actions.
+use Rattle.std.specs.Prelude.{ℕ, List, [], Option, None, Some, Result, Ok}
+use Rattle.sb_value.specs.declared.value.ColumnDefinition.{ColumnDefinition}
+use Rattle.sb_value.specs.declared.net.Triggers.{Triggers}
+use Rattle.sb_value.specs.declared.refusal.Refusal.{Refusal}
+use Rattle.sb_syntax.specs.Tree.{RuleText}
+use Rattle.sb_syntax.specs.Tree as text
+use Rattle.sb_check.specs.Condition.{Query}
+use Rattle.sb_check.specs.declared.tree.Action.{Action}
+use Rattle.sb_check.specs.Names.{and_then, in_order}
+use Rattle.sb_check.specs.Parts.{query_walk}
+use Rattle.sb_check.specs.Triggers.{walk_triggers}
+use Rattle.sb_check.specs.Walk.{Schema, table_named, walk_action, walk_query}
+
+-- a table's id, triggers, a condition and actions
+abbrev pub Parts : Type 0
+Parts = ℕ × Triggers × Option Query × List Action
+
+-- what a rule with these triggers on a table of these columns may name
+abbrev pub in_rule : Schema → List ColumnDefinition → Triggers → Schema
+in_rule schema columns triggers = record { tables = schema.tables; rule = Some (columns, triggers) }
+
+-- the condition of a rule, if it has one
+abbrev pub condition_parts : Schema → Option text.Query → Result (Option Query) Refusal
+condition_parts schema None = Ok None
+condition_parts schema (Some q) = and_then (walk_query schema q []) (λ w. Ok (Some w.0))
+
+-- the parts of a rule: its table, its triggers in order, its condition, its actions in order
+abbrev pub walk_parts : Schema → RuleText → Result Parts Refusal
+walk_parts schema r =
+    and_then (table_named schema r.table) (λ e.
+    and_then (walk_triggers e.table.columns r.triggers) (λ triggers.
+    and_then (condition_parts (in_rule schema e.table.columns triggers) r.condition) (λ condition.
+    and_then (in_order (walk_action (in_rule schema e.table.columns triggers)) r.actions) (λ actions.
+    Ok (e.id, triggers, condition, actions)))))
+
+-- ---- the same under names that proofs don't open by themselves
+
+unfoldable pub rule_triggers : List ColumnDefinition → List text.Trigger → Result Triggers Refusal
+rule_triggers columns triggers = walk_triggers columns triggers
+
+unfoldable pub rule_condition : Schema → Option text.Query → Result (Option Query) Refusal
+rule_condition schema None = Ok None
+rule_condition schema (Some q) = and_then (query_walk schema q []) (λ w. Ok (Some w.0))
+
+unfoldable pub rule_actions : Schema → List text.Action → Result (List Action) Refusal
+rule_actions schema actions = in_order (walk_action schema) actions
+
+-- the parts of a rule on a table of these columns
+unfoldable pub parts_on : Schema → ℕ → List ColumnDefinition → RuleText → Result Parts Refusal
+parts_on schema id columns r =
+    and_then (rule_triggers columns r.triggers) (λ triggers.
+    and_then (rule_condition (in_rule schema columns triggers) r.condition) (λ condition.
+    and_then (rule_actions (in_rule schema columns triggers) r.actions) (λ actions.
+    Ok (id, triggers, condition, actions))))
+
+abbrev pub parts : Schema → RuleText → Result Parts Refusal
+parts schema r = and_then (table_named schema r.table) (λ e. parts_on schema e.id e.table.columns r)

@@ -1,0 +1,42 @@
+-- The scopes of the program as the walk's.
+use Rattle.std.specs.Prelude.{ℕ, List, [], ◌∷◌, Option, Some, None, Result, Ok, Err}
+use Rattle.sb_value.specs.declared.value.ColumnType.{ColumnType}
+use Rattle.sb_value.specs.declared.refusal.Refusal.{Refusal}
+use Rattle.sb_value.specs.declared.refusal.Refusal.TheVariants as refusal
+use Rattle.sb_check.specs.declared.tree.Column.{Column}
+use Rattle.sb_check.specs.declared.scope.Scope.{Outermost, Within'}
+use Rattle.sb_check.specs.declared.scope.Scope as chain
+use Rattle.sb_check.specs.declared.scope.Found.{Found}
+use Rattle.sb_check.specs.declared.expression.Typed.{Typed}
+use Rattle.sb_check.specs.Expression.{Expression}
+use Rattle.sb_check.specs.declared.items.TypedList.{TypedList}
+use Rattle.sb_check.specs.declared.items.Listed.{Listed}
+use Rattle.sb_check.specs.declared.tree.Items.{Items}
+use Rattle.sb_check.specs.Names as names
+
+-- a scope
+abbrev pub scope_of : chain.Scope → names.Scope
+scope_of Outermost = []
+scope_of (Within' sources p outer) = sources.now ∷ scope_of outer
+
+-- a column with its type
+abbrev pub found : Found → Column × ColumnType
+found f = (record { depth = f.depth; source = f.source; place = f.place }, f.of)
+
+-- one place has no column of a name, or one; two are ambiguous
+abbrev pub at_place : List (Column × ColumnType) → Result (Option (Column × ColumnType)) Refusal
+at_place [] = Ok None
+at_place (c ∷ []) = Ok (Some c)
+at_place (c ∷ d ∷ cs) = Err refusal.Ambiguous
+
+-- an expression with its type
+abbrev pub typed : Typed → Expression × ColumnType
+typed t = (t.tree, t.of)
+
+-- expressions with their types
+abbrev pub typed_list : TypedList → List Expression × List ColumnType
+typed_list t = (t.trees, t.types)
+
+-- items with the types of their columns
+abbrev pub listed : Listed → Items × List ColumnType
+listed i = (i.items, i.types)

@@ -1,0 +1,61 @@
+//! What a command may name: the tables, and in a rule its table's columns and its triggers.
+ghost use Rattle.std.specs.Prelude.{◌≡◌, find, option_map};
+ghost use Rattle.sb_value.specs.Name.{same_name};
+ghost use Rattle.sb_check.specs.Lent.{rule_lent, table_lent, table_seen};
+ghost use Rattle.sb_check.specs.Walk.{Schema as Names};
+
+use sb_value::{ColumnDefinition, Name, TableId, Triggers};
+
+/// A table, as commands see it.
+#[derive(Drop)]
+pub struct TableEntry<'a> {
+    pub id: TableId,
+    pub name: Name,
+    pub columns: &'a [ColumnDefinition],
+}
+
+/// A rule's triggers, and the columns of its table.
+#[derive(Drop)]
+pub struct RuleEntry<'a> {
+    pub columns: &'a [ColumnDefinition],
+    pub triggers: Triggers,
+}
+
+/// What a command may name.
+pub trait Schema {
+    /// The tables with their names, and in a rule its table's columns and its triggers.
+    ghost names: { Self → Names };
+
+    /// The table of that name.
+    fn table(&self, name: &Name) -> Option<TableEntry<'_>>
+        ensures { option_map table_lent result ≡ option_map table_seen (find (λ e. same_name e.name name.now) (names self.now).tables) };
+
+    /// The rule that the command is part of.
+    fn rule(&self) -> Option<RuleEntry<'_>>
+        ensures { option_map rule_lent result ≡ (names self.now).rule };
+}
+
+/// What a rule's condition and actions may name.
+#[derive(Drop)]
+pub struct InRule<'a, S> {
+    pub outside: &'a S,
+    pub columns: &'a [ColumnDefinition],
+    pub triggers: Triggers,
+}
+
+impl<'a, S: Schema> Schema for InRule<'a, S> {
+    ghost use Rattle.std.specs.Prelude.{Some};
+
+    ghost names = { λ s. record { tables = (S.names s.outside.now).tables; rule = Some (s.columns.now, s.triggers) } };
+
+    fn table(&self, name: &Name) -> Option<TableEntry<'_>> {
+        self.outside.table(name)
+    }
+
+    fn rule(&self) -> Option<RuleEntry<'_>> {
+        Some(RuleEntry {
+            columns: self.columns,
+            triggers: self.triggers,
+        })
+    }
+}

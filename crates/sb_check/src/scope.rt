@@ -1,0 +1,189 @@
+//! The sources around an expression, and the columns that names in it mean.
+ghost use Rattle.std.specs.Prelude.{◌≡◌, ◌+◌, option_map, Ok};
+ghost use Rattle.sb_check.specs.Answer.{Gives};
+ghost use Rattle.sb_check.specs.Names as spec;
+ghost use Rattle.sb_check.specs.Scopes.{scope_of, found, at_place};
+
+use crate::fault::{Fault, Reason};
+use sb_syntax::{ColumnReference, TableReference};
+use sb_value::{ColumnDefinition, ColumnType, Name};
+use std::marker::Model;
+
+/// A source as a query sees it: its visible name and its columns.
+#[derive(Drop)]
+pub(crate) struct Visible<'a> {
+    pub(crate) name: TableReference,
+    pub(crate) columns: &'a [ColumnDefinition],
+}
+
+impl<'a> Model for Visible<'a> {
+    ghost use Rattle.sb_check.specs.Names.{Visible as Seen};
+
+    ghost Value = { Seen };
+
+    ghost view = { λ v. record { name = v.name; columns = v.columns.now } };
+}
+
+/// `inserted` with no column. An unused place of a list holds it.
+impl<'a> Default for Visible<'a> {
+    fn default() -> Visible<'a> {
+        Visible {
+            name: TableReference::Inserted,
+            columns: &[],
+        }
+    }
+}
+
+/// The sources of the queries around an expression, the innermost first.
+#[derive(Drop)]
+pub(crate) enum Scope<'a, 's> {
+    Outermost,
+    Within(&'a [Visible<'s>], &'a Scope<'a, 's>),
+}
+
+/// A column: how many queries outward, which of its sources, which place, and its type.
+#[derive(Clone, Copy)]
+pub(crate) struct Found {
+    pub(crate) depth: usize,
+    pub(crate) source: usize,
+    pub(crate) place: usize,
+    pub(crate) of: ColumnType,
+}
+
+/// The place and the type of a column.
+pub(crate) fn column_in(columns: &[ColumnDefinition], name: &Name) -> Option<(usize, ColumnType)>
+    ensures { result ≡ spec.column_in columns.now name.now }
+{
+    for (place, column) in columns.iter().enumerate() {
+        if column.name.is_same(name) {
+            return Some((place, column.of));
+        }
+    }
+    None
+}
+
+/// The one column of that name in a query's sources.
+fn holder(depth: usize, sources: &[Visible<'_>], name: &Name) -> Result<Option<Found>, Fault>
+    ensures { Gives (option_map found) (at_place (spec.holders depth 0 sources.now name.now)) result }
+{
+    let mut one: Option<Found> = None;
+    for (source, visible) in sources.iter().enumerate() {
+        if let Some((place, of)) = column_in(visible.columns, name) {
+            if one.is_some() {
+                return Err(Fault::Refused(Reason::Ambiguous));
+            }
+            one = Some(Found {
+                depth,
+                source,
+                place,
+                of,
+            });
+        }
+    }
+    Ok(one)
+}
+
+/// The column of that name at the innermost place that has it.
+fn plain_column(depth: usize, scope: &Scope<'_, '_>, name: &Name) -> Result<Found, Fault>
+    ensures { Gives found (spec.plain_column depth (scope_of scope.now) name.now) result }
+{
+    match scope {
+        Scope::Outermost => Err(Fault::Refused(Reason::NoColumn)),
+        Scope::Within(sources, outer) => {
+            let one = holder(depth, sources, name)?;
+            match one {
+                Some(column) => Ok(column),
+                None => plain_column(further(depth)?, outer, name),
+            }
+        }
+    }
+}
+
+/// Whether the two mean one table.
+pub(crate) fn same_table(a: &TableReference, b: &TableReference) -> bool
+    ensures { result ≡ spec.same_table a.now b.now }
+{
+    match a {
+        TableReference::Named(one) => match b {
+            TableReference::Named(two) => one.is_same(two),
+            _ => false,
+        },
+        TableReference::Inserted => matches!(b, TableReference::Inserted),
+        TableReference::Deleted => matches!(b, TableReference::Deleted),
+        TableReference::OldUpdated => matches!(b, TableReference::OldUpdated),
+        TableReference::NewUpdated => matches!(b, TableReference::NewUpdated),
+    }
+}
+
+/// The place and the columns of the source with that visible name.
+fn source_named<'a>(
+    sources: &[Visible<'a>],
+    table: &TableReference,
+) -> Option<(usize, &'a [ColumnDefinition])>
+    ensures { option_map (λ s. (s.0, s.1.now)) result ≡ spec.source_named 0 sources.now table.now }
+{
+    for (source, visible) in sources.iter().enumerate() {
+        if same_table(&visible.name, table) {
+            return Some((source, visible.columns));
+        }
+    }
+    None
+}
+
+/// The column of that name in one source.
+fn column_of_source(
+    depth: usize,
+    source: usize,
+    columns: &[ColumnDefinition],
+    name: &Name,
+) -> Result<Found, Fault>
+    ensures { Gives found (spec.column_of_source depth (source, columns.now) name.now) result }
+{
+    match column_in(columns, name) {
+        Some((place, of)) => Ok(Found {
+            depth,
+            source,
+            place,
+            of,
+        }),
+        None => Err(Fault::Refused(Reason::NoColumn)),
+    }
+}
+
+/// The column of the innermost source with that visible name.
+fn qualified_column(
+    depth: usize,
+    scope: &Scope<'_, '_>,
+    table: &TableReference,
+    name: &Name,
+) -> Result<Found, Fault>
+    ensures { Gives found (spec.qualified_column depth (scope_of scope.now) table.now name.now) result }
+{
+    match scope {
+        Scope::Outermost => Err(Fault::Refused(Reason::NoColumn)),
+        Scope::Within(sources, outer) => match source_named(sources, table) {
+            Some((source, columns)) => column_of_source(depth, source, columns, name),
+            None => qualified_column(further(depth)?, outer, table, name),
+        },
+    }
+}
+
+/// The column that a name with or without a qualifier means.
+pub(crate) fn column_named(scope: &Scope<'_, '_>, column: &ColumnReference) -> Result<Found, Fault>
+    ensures { Gives found (spec.column_named (scope_of scope.now) column.now) result }
+{
+    match column {
+        ColumnReference::Plain(name) => plain_column(0, scope, name),
+        ColumnReference::Qualified(table, name) => qualified_column(0, scope, table, name),
+    }
+}
+
+/// One query further outward. No stack holds as many queries as a number counts.
+fn further(depth: usize) -> Result<usize, Fault>
+    ensures { Gives (λ n. n) (Ok (depth + 1)) result }
+{
+    match depth.checked_add(1) {
+        Some(more) => Ok(more),
+        None => Err(Fault::NoMemory),
+    }
+}

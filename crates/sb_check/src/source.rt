@@ -1,0 +1,185 @@
+//! The sources of a query.
+ghost use Rattle.std.specs.Prelude.{◌≡◌, [], ◌∷◌, ◌++◌, map, OnOk};
+ghost use Rattle.std.specs.List.{list_any};
+ghost use Rattle.sb_check.specs.Answer.{Gives};
+ghost use Rattle.sb_check.specs.Lent.{LendsTable, source_lent};
+ghost use Rattle.sb_check.specs.Names as names;
+ghost use Rattle.sb_check.specs.Sources.{has_trigger, seen_sources};
+ghost use Rattle.sb_check.specs.Walk as spec;
+
+use crate::fault::{Fault, Reason};
+use crate::schema::{Schema, TableEntry};
+use crate::scope::{Visible, same_table};
+use crate::tree::{Source, Sources};
+use sb_syntax::{SourceReference, TableReference};
+use sb_value::{ColumnDefinition, Name, Triggers};
+use smallvec::SmallVec;
+use std::alloc::{AllocError, Global};
+use std::marker::Model;
+
+/// The sources of a query, and what it sees of them.
+#[derive(Drop)]
+pub(crate) struct Seen<'a> {
+    pub(crate) sources: Sources,
+    visible: SmallVec<Visible<'a>, 2>,
+}
+
+impl<'a> Model for Seen<'a> {
+    ghost use Rattle.std.specs.Prelude.{List};
+    ghost use Rattle.sb_check.specs.Names.{Visible};
+    ghost use Rattle.sb_check.specs.declared.tree.Source.{Source};
+
+    ghost Value = { List Source × List Visible };
+
+    ghost view = { λ s. (s.sources, s.visible.items) };
+}
+
+impl<'a> Seen<'a> {
+    fn new(alloc: Global) -> Seen<'a>
+        ensures { result ≡ ([], []) }
+    {
+        Seen {
+            sources: Sources::new(alloc),
+            visible: SmallVec::new(alloc),
+        }
+    }
+
+    fn push(
+        &mut self,
+        source: Source,
+        name: TableReference,
+        columns: &'a [ColumnDefinition],
+    ) -> Result<(), AllocError>
+        ensures { OnOk result (self.new ≡ (self.old.0 ++ source ∷ [], self.old.1 ++ record { name = name; columns = columns.now } ∷ [])) }
+    {
+        self.sources.push(source)?;
+        self.visible.push(Visible { name, columns })?;
+        Ok(())
+    }
+
+    /// What the query sees.
+    pub(crate) fn visible(&self) -> &[Visible<'a>]
+        ensures { result.now ≡ self.now.1 }
+    {
+        self.visible.as_slice()
+    }
+}
+
+/// The table of that name.
+pub(crate) fn table_named<'a, S: Schema>(
+    schema: &'a S,
+    name: &Name,
+) -> Result<TableEntry<'a>, Fault>
+    ensures { LendsTable (spec.table_named (S.names schema.now) name.now) result }
+{
+    match schema.table(name) {
+        Some(table) => Ok(table),
+        None => Err(Fault::Refused(Reason::NoTable)),
+    }
+}
+
+/// Whether updates of any kind trigger.
+#[tactic(auto, using(crate::proofs::Shares::shares_itself))]
+pub(crate) fn has_updates(triggers: &Triggers) -> bool
+    ensures { result ≡ spec.has_updates triggers.now }
+{
+    let columns = triggers.columns;
+    triggers.updated || columns.intersects(columns)
+}
+
+/// Whether a rule with these triggers has that transition table.
+fn has_trigger(source: &Source, triggers: &Triggers) -> bool
+    ensures { result ≡ has_trigger source.now triggers.now }
+{
+    match source {
+        Source::Table(_) => false,
+        Source::Inserted => triggers.inserted,
+        Source::Deleted => triggers.deleted,
+        Source::OldUpdated => has_updates(triggers),
+        Source::NewUpdated => has_updates(triggers),
+    }
+}
+
+/// A transition table, where the rule has its trigger.
+fn transition<'a, S: Schema>(
+    schema: &'a S,
+    source: Source,
+) -> Result<(Source, &'a [ColumnDefinition]), Fault>
+    ensures { Gives source_lent (spec.transition_source (S.names schema.now) (has_trigger source) source) result }
+{
+    match schema.rule() {
+        Some(rule) => {
+            if !has_trigger(&source, &rule.triggers) {
+                return Err(Fault::Refused(Reason::BadTransition));
+            }
+            Ok((source, rule.columns))
+        }
+        None => Err(Fault::Refused(Reason::BadTransition)),
+    }
+}
+
+/// A source and its columns.
+fn table_of<'a, S: Schema>(
+    schema: &'a S,
+    table: &TableReference,
+) -> Result<(Source, &'a [ColumnDefinition]), Fault>
+    ensures { Gives source_lent (spec.walk_table (S.names schema.now) table.now) result }
+{
+    match table {
+        TableReference::Named(name) => {
+            match table_named(schema, name) {
+                Ok(table) => Ok((Source::Table(table.id), table.columns)),
+                Err(fault) => Err(fault),
+            }
+        }
+        TableReference::Inserted => transition(schema, Source::Inserted),
+        TableReference::Deleted => transition(schema, Source::Deleted),
+        TableReference::OldUpdated => transition(schema, Source::OldUpdated),
+        TableReference::NewUpdated => transition(schema, Source::NewUpdated),
+    }
+}
+
+/// The alias of a source, or else its own name.
+fn visible_name(source: &SourceReference) -> TableReference
+    ensures { result ≡ spec.visible_name source.now }
+{
+    match &source.alias {
+        Some(alias) => TableReference::Named(*alias),
+        None => source.table,
+    }
+}
+
+/// Whether a source is seen by that name.
+fn is_taken(visible: &[Visible<'_>], name: &TableReference) -> bool
+    ensures { result ≡ list_any (names.same_table name.now) (map (λ v. v.name) visible.now) }
+{
+    for source in visible {
+        if same_table(name, &source.name) {
+            return true;
+        }
+    }
+    false
+}
+
+/// Each source in order.
+pub(crate) fn sources<'a, S: Schema>(
+    alloc: Global,
+    schema: &'a S,
+    references: &[SourceReference],
+) -> Result<Seen<'a>, Fault>
+    ensures { Gives (λ s. s) (seen_sources (S.names schema.now) [] references.now) result }
+{
+    let mut seen = Seen::new(alloc);
+    for reference in references {
+        let (source, columns) = match table_of(schema, &reference.table) {
+            Ok(lent) => lent,
+            Err(fault) => return Err(fault),
+        };
+        let name = visible_name(reference);
+        if is_taken(seen.visible(), &name) {
+            return Err(Fault::Refused(Reason::Ambiguous));
+        }
+        seen.push(source, name, columns)?;
+    }
+    Ok(seen)
+}
