@@ -16,5 +16,5 @@ pub returns-in-Err : goal.returns-in-Err
 returns-in-Err g c =
     let P : Result Parts Refusal → Type 0 = λ w. Answers rule_parts w (Err (refused c.in-Err.fault)) in
     rw c.refusal.ensures
-      (subst P (parts_are (g.S.Schema.names c.args.schema.now) (rule c.args.text.now))
-        (answers-err rule_parts rule_parts (parts (g.S.Schema.names c.args.schema.now) (rule c.args.text.now)) c.in-Err.fault c.in-Err.ensures))
+    (subst P (parts_are (g.S.Schema.names c.args.schema.now) (rule c.args.text.now))
+    (answers-err rule_parts rule_parts (parts (g.S.Schema.names c.args.schema.now) (rule c.args.text.now)) c.in-Err.fault c.in-Err.ensures))
