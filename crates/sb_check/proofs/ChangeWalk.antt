@@ -1,8 +1,8 @@
 -- The walk of statements, and of assignments one at a time.
-use Rattle.std.proofs.Common.{ℕ, ◌+◌, ◌<◌, ◌≤◌, length, drop, get_or, subst, ◌≡◌, refl, sym, ap, ◌∙◌, Bool, true, false, List, [], ◌∷◌, ◌++◌, map, append_assoc, append-nil}
+use Rattle.std.proofs.Common.{ℕ, ◌+◌, ◌<◌, ◌≤◌, length, drop, get_or, ◌≡◌, refl, sym, ap, ◌∙◌, Bool, true, false, List, [], ◌∷◌, ◌++◌, map, append_assoc, append-nil}
 use Rattle.std.proofs.lemmas.List.{map-append, drop_more, drop_all, length-map, get_or-map}
 use Rattle.std.proofs.lemmas.List.Folds.{list_any-append}
-use Rattle.std.specs.Prelude.{Option, None, Some, not, ◌==◌, ◌||◌, Result, Ok, Err}
+use Rattle.std.specs.Prelude.{None, Some, not, ◌==◌, ◌||◌, Result, Ok, Err}
 use Rattle.std.specs.List.{list_any}
 use Rattle.sb_value.specs.declared.refusal.Refusal.{Refusal}
 use Rattle.sb_value.specs.declared.refusal.Refusal.TheVariants as refusal
@@ -16,12 +16,11 @@ use Rattle.sb_check.specs.declared.fault.Fault.{Fault}
 use Rattle.sb_check.specs.declared.fault.Fault.TheVariants.{Refused, NoMemory}
 use Rattle.sb_check.specs.declared.schema.TableEntry.{TableEntry}
 use Rattle.sb_check.specs.declared.tree.Assignment.{Assignment}
-use Rattle.sb_check.specs.declared.tree.Statement.{Statement}
-use Rattle.sb_check.specs.declared.tree.Statement.TheVariants.{InsertRows, InsertQuery, Delete, Update}
+use Rattle.sb_check.specs.declared.tree.Statement.TheVariants.{InsertRows, Update}
 use Rattle.sb_check.specs.Answer.{Gives, refusal_of}
 use Rattle.sb_check.specs.Condition.{Operand}
 use Rattle.sb_check.specs.Changes.{entry_of, table_scope, rows_fitting, assignments_walk, rows_into, query_into, delete_of, update_of}
-use Rattle.sb_check.specs.Lent.{LendsTable, table_lent, table_seen}
+use Rattle.sb_check.specs.Lent.{LendsTable}
 use Rattle.sb_check.specs.Names.{and_then, in_order, required, some_or, same_type, column_in}
 use Rattle.sb_check.specs.Parts.{operand_walk, filter_walk, query_walk}
 use Rattle.sb_check.specs.Walk.{Schema, type_of, fitting, table_named, walk_operand, walk_assignments, walk_change}

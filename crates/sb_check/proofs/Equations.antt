@@ -1,15 +1,14 @@
 -- The walks of conditions, operands and queries, a case each.
-use Rattle.std.proofs.Common.{◌≡◌, refl, ap, Bool, List, [], ◌∷◌, map}
-use Rattle.std.specs.Prelude.{◌&&◌, Result, Ok, Err}
+use Rattle.std.proofs.Common.{◌≡◌, refl, Bool, List, [], ◌∷◌, map}
+use Rattle.std.specs.Prelude.{Result, Ok, Err}
 use Rattle.sb_value.specs.declared.refusal.Refusal.{Refusal}
 use Rattle.sb_value.specs.declared.refusal.Refusal.TheVariants as refusal
-use Rattle.sb_value.specs.declared.value.ColumnType.{ColumnType}
 use Rattle.sb_value.specs.declared.value.ColumnType.TheVariants.{Int}
 use Rattle.sb_syntax.specs.Tree as text
 use Rattle.sb_syntax.specs.declared.ast.Comparison.{Comparison}
 use Rattle.sb_syntax.specs.declared.ast.SourceReference.{SourceReference}
 use Rattle.sb_check.specs.declared.tree.Source.{Source}
-use Rattle.sb_check.specs.Condition.{Condition, always, disjunction, conjunction, negation, compare, is_in, exists, Operand, expression, answer, Query, select}
+use Rattle.sb_check.specs.Condition.{Condition, always, disjunction, conjunction, negation, compare, is_in, exists, expression, answer, select}
 use Rattle.sb_check.specs.Names.{and_then, required, same_type, Scope, Visible}
 use Rattle.sb_check.specs.Parts.{condition_walk, operand_walk, filter_walk, query_walk}
 use Rattle.sb_check.specs.Sources.{seen_sources}

@@ -5,3 +5,6 @@ mod Equations
 mod ChangeWalk
 mod TriggerWalk
 mod RuleWalk
+mod Found
+mod Fitting
+mod CommandFits

@@ -1,11 +1,12 @@
 -- A refusal of the first part is that of both.
-use Rattle.std.proofs.Common.{◌≡◌, ◌∙◌, ap, refl, inl, inr, sym, subst}
-use Rattle.std.specs.Prelude.{Result, Ok, Err}
+use Rattle.std.proofs.Common.{◌≡◌, ap, refl, inl, inr, sym, subst}
+use Rattle.std.specs.Prelude.{Result, Ok, Err, ◌⊎◌}
 use Rattle.sb_value.specs.declared.refusal.Refusal.{Refusal}
+use Rattle.sb_value.specs.declared.refusal.Refusal.TheVariants as refusal
 use Rattle.sb_check.specs.declared.fault.Fault.{Fault}
 use Rattle.sb_check.specs.declared.fault.Fault.TheVariants.{Refused, NoMemory}
 use Rattle.sb_check.specs.Names.{and_then}
-use Rattle.sb_check.specs.Answer.{Gives, Answers, refused, refusal_of}
+use Rattle.sb_check.specs.Answer.{Gives, Answers, refused}
 
 pub gives-err : {X Y A B : Type 0} (v : X → A) (w : Y → B) (walk : Result A Refusal) (next : A → Result B Refusal) (e : Fault)
     → Gives v walk (Err e) → Gives w (and_then walk next) (Err e)
@@ -24,3 +25,10 @@ pub ruleset answers = (answers-err, answers-err_then)
 
 pub same_gives : {X A : Type 0} (v : X → A) (walk other : Result A Refusal) (r : Result X Fault) → walk ≡ other → Gives v other r → Gives v walk r
 same_gives {X = X} {A = A} v walk other r e h = let P : Result A Refusal → Type 0 = λ w. Gives v w r in subst P (sym e) h
+
+-- what refuses a part refuses it whatever is made of the part
+pub refused_before : {A B C : Type 0} (walk : Result A Refusal) (f : A → B) (g : A → C) (e : Refusal)
+    → (and_then walk (λ a. Ok (f a)) ≡ Err e) ⊎ (e ≡ refusal.NoMemory) → (and_then walk (λ a. Ok (g a)) ≡ Err e) ⊎ (e ≡ refusal.NoMemory)
+refused_before walk f g e (inr h) = inr h
+refused_before (Ok a) f g e (inl h) = absurd (cc h)
+refused_before (Err r) f g e (inl h) = let same : r ≡ e = cc h in inl (ap (λ x. Err x) same)

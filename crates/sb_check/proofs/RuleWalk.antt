@@ -1,7 +1,6 @@
 -- The parts of a rule, as proofs have them, are those of the walk.
-use Rattle.std.proofs.Common.{◌≡◌, refl, ap}
-use Rattle.std.specs.Prelude.{Option, None, Some, Result, Ok}
-use Rattle.sb_value.specs.declared.net.Triggers.{Triggers}
+use Rattle.std.proofs.Common.{◌≡◌, refl}
+use Rattle.std.specs.Prelude.{Option, None, Some, Ok}
 use Rattle.sb_syntax.specs.Tree.{RuleText}
 use Rattle.sb_syntax.specs.Tree as text
 use Rattle.sb_check.specs.Names.{and_then, in_order}

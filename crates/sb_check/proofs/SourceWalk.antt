@@ -1,5 +1,5 @@
 -- The walk of sources, one at a time.
-use Rattle.std.proofs.Common.{ℕ, ◌+◌, ◌<◌, length, drop, get_or, subst, ◌≡◌, refl, sym, ap, ◌∙◌, Bool, true, false, List, [], ◌∷◌, ◌++◌, map, append_assoc, append-nil}
+use Rattle.std.proofs.Common.{ℕ, ◌+◌, ◌<◌, length, drop, get_or, subst, ◌≡◌, refl, sym, ap, ◌∙◌, Bool, true, false, List, [], ◌∷◌, ◌++◌, map, append_assoc}
 use Rattle.std.proofs.lemmas.List.{map-append, drop_more}
 use Rattle.std.specs.Prelude.{not, Result, Ok, Err, ◌||◌}
 use Rattle.std.specs.List.{list_any}

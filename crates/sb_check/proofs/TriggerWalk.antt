@@ -1,18 +1,17 @@
 -- The triggers taken one at a time are those of the walk.
-use Rattle.std.proofs.Common.{ℕ, zero, suc, ◌+◌, ◌<◌, ◌≤◌, ◌≡◌, refl, sym, ap, ◌∙◌, Bool, true, false, List, [], ◌∷◌, ◌++◌, map, append_assoc, append-nil, arith}
+use Rattle.std.proofs.Common.{ℕ, zero, suc, ◌≤◌, ◌≡◌, refl, sym, ap, ◌∙◌, Bool, true, false, List, [], ◌∷◌, ◌++◌, map, append_assoc, append-nil, arith}
 use Rattle.std.proofs.lemmas.List.Folds.{list_any-append}
 use Rattle.std.proofs.lemmas.Bool.{ne_eqb, le-ltb}
-use Rattle.std.specs.Prelude.{nat_lt, if◌then◌else◌, ◌==◌, ◌||◌, slice_set, option_map, Result, Ok, Err}
+use Rattle.std.specs.Prelude.{nat_lt, ◌==◌, ◌||◌, Result, Ok, Err}
 use Rattle.std.specs.List.{list_any}
 use Rattle.sb_value.specs.declared.value.ColumnDefinition.{ColumnDefinition}
 use Rattle.sb_value.specs.declared.refusal.Refusal.{Refusal}
 use Rattle.sb_value.specs.declared.net.Triggers.{Triggers}
 use Rattle.sb_value.specs.Columns.{set_of}
-use Rattle.sb_value.specs.Flags.{no_flags}
 use Rattle.sb_syntax.specs.Tree.{Name, Trigger, on_insert, on_delete, on_update, on_update_of}
 use Rattle.sb_check.specs.Names.{and_then, in_order}
 use Rattle.sb_check.specs.Triggers.{place_named, trigger_places, is_insert, is_delete, is_update, joined, walk_triggers}
-use Rattle.sb_check.specs.TriggerSteps.{with_place, with_names, with_trigger, with_triggers, no_trigger}
+use Rattle.sb_check.specs.TriggerSteps.{with_place, with_names, with_triggers, no_trigger}
 
 abbrev eights : List ℕ
 eights = 0 ∷ 1 ∷ 2 ∷ 3 ∷ 4 ∷ 5 ∷ 6 ∷ 7 ∷ []
@@ -80,7 +79,7 @@ added f (suc (suc (suc (suc (suc (suc (suc (suc n)))))))) = added_above f (suc (
 any_last : (k : ℕ) (ps : List ℕ) (p : ℕ) → list_any (λ q. q == k) (ps ++ p ∷ []) ≡ (list_any (λ q. q == k) ps || (p == k))
 any_last k ps p = list_any-append (λ q. q == k) ps (p ∷ []) ∙ ap (λ b. list_any (λ q. q == k) ps || b) (or_false (p == k))
 
-set_more : (ps : List ℕ) (p : ℕ) → with_place (set_of ps) p ≡ set_of (ps ++ p ∷ [])
+pub set_more : (ps : List ℕ) (p : ℕ) → with_place (set_of ps) p ≡ set_of (ps ++ p ∷ [])
 set_more ps p = added (λ k. list_any (λ q. q == k) ps) p ∙ (λ i. map (λ k. sym (any_last k ps p) i) eights)
 
 -- ---- the columns of one trigger

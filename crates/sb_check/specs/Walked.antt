@@ -1,5 +1,4 @@
 -- Walked operands and queries of the program as the walk's.
-use Rattle.std.specs.Prelude.{List}
 use Rattle.sb_value.specs.declared.value.ColumnType.{ColumnType}
 use Rattle.sb_check.specs.declared.query.TypedOperand.{TypedOperand}
 use Rattle.sb_check.specs.declared.query.Walked as stored

@@ -104,16 +104,22 @@ abort_is_a_step = refl
 
 -- ---- what the engine handles
 
-pub whole_tables_are_handled : engine (codes "select * from t") ≡ Some (show t)
+pub whole_tables_are_handled : engine.command (codes "select * from t") ≡ Some (show t)
 unfolding command_of
 whole_tables_are_handled = refl
 
-pub other_queries_are_not_handled : map engine (codes "select a from t" ∷ codes "select * from t x" ∷ codes "select * from t, h" ∷ codes "select * from inserted" ∷ codes "select * from t where a = 1" ∷ [])
+pub other_queries_are_not_handled : map engine.command (codes "select a from t" ∷ codes "select * from t x" ∷ codes "select * from t, h" ∷ codes "select * from inserted" ∷ codes "select * from t where a = 1" ∷ [])
     ≡ None ∷ None ∷ None ∷ None ∷ None ∷ []
 unfolding command_of
 other_queries_are_not_handled = refl
 
-pub other_statements_are_not_handled : map engine (codes "insert into t select * from t" ∷ codes "delete from t" ∷ codes "drop table t" ∷ codes "process rules" ∷ [])
+pub other_statements_are_not_handled : map engine.command (codes "insert into t select * from t" ∷ codes "delete from t where a = 1" ∷ codes "drop table t" ∷ codes "process rules" ∷ [])
     ≡ None ∷ None ∷ None ∷ None ∷ []
 unfolding command_of
 other_statements_are_not_handled = refl
+
+pub other_rules_are_not_handled : map engine.command (codes "create rule r on t when deleted then rollback" ∷ codes "create rule r on t when inserted, deleted then rollback" ∷ codes "create rule r on t when inserted if select * from t then rollback"
+    ∷ codes "create rule r on t when inserted then delete from t" ∷ codes "create rule r on t when inserted then rollback; rollback" ∷ codes "create rule r on t when inserted then rollback precedes q" ∷ codes "create rule r on t when inserted then rollback follows q" ∷ [])
+    ≡ None ∷ None ∷ None ∷ None ∷ None ∷ None ∷ None ∷ []
+unfolding command_of
+other_rules_are_not_handled = refl

@@ -215,34 +215,34 @@ fine-rule_condition schema (Some q) = search (fine-and_then, fine-walk_query, gi
 fine-acyclic : (catalog : Catalog) (new : NewRule) → IsFine (acyclic catalog new)
 fine-acyclic catalog new = search (fine-required, given)
 
-fine-walk_rule : (catalog : Catalog) (r : text.RuleText) → IsFine (walk_rule catalog r)
-fine-walk_rule catalog r =
+fine-walk_rule : (most : ℕ) (catalog : Catalog) (r : text.RuleText) → IsFine (walk_rule most catalog r)
+fine-walk_rule most catalog r =
     search (fine-and_then, fine-required, fine-table_named, fine-walk_triggers, fine-rule_condition, fine-in_order, fine-walk_action, fine-rule_named, fine-acyclic, given) depth 12 fits 4000
 
 fine-of_members : (catalog : Catalog) (name : Name) (rules : List Name) (form : List ℕ → Resolved) → IsFine (of_members catalog name rules form)
 fine-of_members catalog name rules form = search (fine-and_then, fine-required, fine-in_order, fine-rule_named, given)
 
-pub fine-walk : (catalog : Catalog) (c : text.Command) → IsFine (walk catalog c)
-fine-walk catalog text.open_session = given _
-fine-walk catalog text.end_session = given _
-fine-walk catalog text.begin = given _
-fine-walk catalog text.commit = given _
-fine-walk catalog text.rollback = given _
-fine-walk catalog text.process_rules = given _
-fine-walk catalog (text.process_ruleset name) = search (fine-required, given)
-fine-walk catalog (text.process_rule name) = search (fine-and_then, fine-rule_named, given)
-fine-walk catalog (text.create_table name columns) = search (fine-required, given)
-fine-walk catalog (text.drop_table name) = search (fine-and_then, fine-table_named, fine-required, given)
-fine-walk catalog (text.create_rule r) = fine-walk_rule catalog r
-fine-walk catalog (text.drop_rule name) = search (fine-and_then, fine-rule_named, given)
-fine-walk catalog (text.activate_rule name) = search (fine-and_then, fine-rule_named, given)
-fine-walk catalog (text.deactivate_rule name) = search (fine-and_then, fine-rule_named, given)
-fine-walk catalog (text.create_ruleset name) = search (fine-required, given)
-fine-walk catalog (text.drop_ruleset name) = search (fine-required, given)
-fine-walk catalog (text.add_rules name rules) = fine-of_members catalog name rules _
-fine-walk catalog (text.del_rules name rules) = fine-of_members catalog name rules _
-fine-walk catalog (text.query q) = search (fine-and_then, fine-walk_query, given)
-fine-walk catalog (text.change c) = search (fine-and_then, fine-walk_change, given)
+pub fine-walk : (most : ℕ) (catalog : Catalog) (c : text.Command) → IsFine (walk most catalog c)
+fine-walk most catalog text.open_session = given _
+fine-walk most catalog text.end_session = given _
+fine-walk most catalog text.begin = given _
+fine-walk most catalog text.commit = given _
+fine-walk most catalog text.rollback = given _
+fine-walk most catalog text.process_rules = given _
+fine-walk most catalog (text.process_ruleset name) = search (fine-required, given)
+fine-walk most catalog (text.process_rule name) = search (fine-and_then, fine-rule_named, given)
+fine-walk most catalog (text.create_table name columns) = search (fine-required, given)
+fine-walk most catalog (text.drop_table name) = search (fine-and_then, fine-table_named, fine-required, given)
+fine-walk most catalog (text.create_rule r) = fine-walk_rule most catalog r
+fine-walk most catalog (text.drop_rule name) = search (fine-and_then, fine-rule_named, given)
+fine-walk most catalog (text.activate_rule name) = search (fine-and_then, fine-rule_named, given)
+fine-walk most catalog (text.deactivate_rule name) = search (fine-and_then, fine-rule_named, given)
+fine-walk most catalog (text.create_ruleset name) = search (fine-required, given)
+fine-walk most catalog (text.drop_ruleset name) = search (fine-required, given)
+fine-walk most catalog (text.add_rules name rules) = fine-of_members catalog name rules _
+fine-walk most catalog (text.del_rules name rules) = fine-of_members catalog name rules _
+fine-walk most catalog (text.query q) = search (fine-and_then, fine-walk_query, given)
+fine-walk most catalog (text.change c) = search (fine-and_then, fine-walk_change, given)
 
 -- ---- statements
 
@@ -351,10 +351,10 @@ module _ (language : Language) (tenant bound : ℕ) (state : State) (s : ℕ) wh
 
   fine-reply_to : (line : List ℕ) → is_no_memory (reply_to language tenant bound state s line).1 ≡ false
   fine-reply_to line =
-      elim (language line) as (λ c.
+      elim (language.command line) as (λ c.
       let r : State × Reply = elim c [ None ↦ (state, reply.No refusal.Syntax) | Some command ↦ reply_to_command language tenant bound state s command ] in is_no_memory r.1 ≡ false) [
         | None ↦ refl
-        | Some command ↦ fine-outcome_of (session_refusal (class_of command) state s) (walk state.catalog command) (fine-session_refusal (class_of command) state s) (fine-walk state.catalog command)
+        | Some command ↦ fine-outcome_of (session_refusal (class_of command) state s) (walk language.rules state.catalog command) (fine-session_refusal (class_of command) state s) (fine-walk language.rules state.catalog command)
       ]
 
   pub fine-step : (line : List ℕ) → is_no_memory (step language tenant bound state s line).1.reply ≡ false

@@ -144,13 +144,13 @@ module _ (language : Language) (tenant bound : ℕ) where
   pub own_opens : OwnOpens language tenant bound
   own_opens before after entry (is_one, inl s) =
       elim (is_no_memory entry.reply) as (λ b. is_no_memory entry.reply ≡ b → is_open (session_at after entry.session)
-      ≡ elim b [ true ↦ is_open (session_at before entry.session) | false ↦ open_by (language entry.line) (is_open (session_at before entry.session)) ]) [
+      ≡ elim b [ true ↦ is_open (session_at before entry.session) | false ↦ open_by (language.command entry.line) (is_open (session_at before entry.session)) ]) [
         | true ↦ λ h. absurd (s.0 (no_memory entry.reply h))
         | false ↦ λ h. ap (λ p. is_open (session_at p.0 entry.session)) (sym s.1) ∙ own_step language tenant bound before entry.session entry.line (has_room before entry after s)
       ] refl
   own_opens before after entry (is_one, inr (told, is, may)) =
       elim (is_no_memory entry.reply) as (λ b. b ≡ true → is_open (session_at after entry.session)
-      ≡ elim b [ true ↦ is_open (session_at before entry.session) | false ↦ open_by (language entry.line) (is_open (session_at before entry.session)) ]) [
+      ≡ elim b [ true ↦ is_open (session_at before entry.session) | false ↦ open_by (language.command entry.line) (is_open (session_at before entry.session)) ]) [
         | true ↦ λ h. ap (λ state. is_open (session_at state entry.session)) is ∙ own_abort before entry.session
         | false ↦ λ h. no_way h
       ] (ap is_no_memory told)
@@ -176,7 +176,7 @@ module _ (f g : ℕ → Bool) where
 open_at_most : (state : State) → open_count state ≤ 8
 open_at_most state = count_by-le-length (λ s. is_open (session_at state s)) sessions
 
-module _ (language : Language) (tenant bound : ℕ) (ends : language (codes "end") ≡ Some end_session) where
+module _ (language : Language) (tenant bound : ℕ) (ends : language.command (codes "end") ≡ Some end_session) where
   -- past the limit only the end of an open session is a step
   by_end : (before : State) (entry : Entry) (after : State) → IsNext language tenant bound before entry after → before.steps + open_count before ≤ 65544 → nat_le trail_limit before.steps ≡ true →
       after.steps + open_count after ≤ 65544
@@ -186,7 +186,7 @@ module _ (language : Language) (tenant bound : ℕ) (ends : language (codes "end
       let was_open = and_left (is_open (session_at before entry.session)) (same_name entry.line (codes "end")) is_end in
       let is_word = same_text entry.line (codes "end") (and_right (is_open (session_at before entry.session)) (same_name entry.line (codes "end")) is_end) in
       let closed_after = ap (λ p. is_open (session_at p.0 entry.session)) (sym s.1) ∙ own_step language tenant bound before entry.session entry.line room
-      ∙ ap (λ c. open_by c (is_open (session_at before entry.session))) (ap language is_word ∙ ends) in
+      ∙ ap (λ c. open_by c (is_open (session_at before entry.session))) (ap language.command is_word ∙ ends) in
       let fewer = count-one_less (λ o. is_open (session_at before o)) (λ o. is_open (session_at after o)) entry.session is_one
       (λ o other. ap is_open (ap (λ p. session_at p.0 o) (sym s.1) ∙ other_step language tenant bound before entry.session entry.line o other)) closed_after was_open in
       let steps = next_steps language tenant bound before entry after (is_one, inl s) in

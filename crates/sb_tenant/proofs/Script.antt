@@ -16,15 +16,19 @@ use Rattle.sb_syntax.specs.declared.ast.SourceReference.{SourceReference}
 use Rattle.sb_syntax.specs.Tree.{Name, Expression, literal, column, binary, all, each_of, compare, expression, Filter, everything, those, Query, select, Change, insert_rows, insert_query, delete, update, Action, changes, Trigger, on_insert, Command, open_session, begin, commit, create_table, create_rule, query, change}
 use Rattle.sb_tenant.specs.declared.reply.Reply.{Reply}
 use Rattle.sb_tenant.specs.declared.reply.Reply.TheVariants as reply
+use Rattle.sb_tenant.specs.Limits.{rule_limit}
 use Rattle.sb_tenant.specs.State.{opening}
 use Rattle.sb_tenant.specs.Step.{Language}
 use Rattle.sb_tenant.specs.Trail.{answers}
 
 -- ---- running a script
 
+abbrev numbered_line : List Command → List ℕ → Option Command
+numbered_line script [] = None
+numbered_line script (n ∷ ns) = slice_get script n
+
 abbrev pub numbered : List Command → Language
-numbered script [] = None
-numbered script (n ∷ ns) = slice_get script n
+numbered script = record { command = numbered_line script; rules = rule_limit }
 
 abbrev pub lines_from : ℕ → List (ℕ × Command) → List (ℕ × List ℕ)
 lines_from n [] = []

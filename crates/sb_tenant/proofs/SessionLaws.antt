@@ -221,27 +221,27 @@ module _ (language : Language) (tenant bound : ℕ) (state : State) (s : ℕ) wh
   own_command text.commit = working (Ok commit) (resolved commit refl)
   own_command text.rollback = working (Ok rollback) (resolved rollback refl)
   own_command text.process_rules = working (Ok process_rules) (resolved process_rules refl)
-  own_command (text.process_ruleset name) = working (walk state.catalog (text.process_ruleset name)) (search (required-no_end, resolved))
-  own_command (text.process_rule name) = working (walk state.catalog (text.process_rule name)) (search (and_then-no_end, resolved))
-  own_command (text.create_table name columns) = defining (walk state.catalog (text.create_table name columns)) (search (required-no_end, resolved))
-  own_command (text.drop_table name) = defining (walk state.catalog (text.drop_table name)) (search (required-no_end, and_then-no_end, resolved))
-  own_command (text.create_rule r) = defining (walk state.catalog (text.create_rule r)) (search (required-no_end, and_then-no_end, resolved) depth 16)
-  own_command (text.drop_rule name) = defining (walk state.catalog (text.drop_rule name)) (search (and_then-no_end, resolved))
-  own_command (text.activate_rule name) = defining (walk state.catalog (text.activate_rule name)) (search (and_then-no_end, resolved))
-  own_command (text.deactivate_rule name) = defining (walk state.catalog (text.deactivate_rule name)) (search (and_then-no_end, resolved))
-  own_command (text.create_ruleset name) = defining (walk state.catalog (text.create_ruleset name)) (search (required-no_end, resolved))
-  own_command (text.drop_ruleset name) = defining (walk state.catalog (text.drop_ruleset name)) (search (required-no_end, resolved))
-  own_command (text.add_rules name rules) = defining (walk state.catalog (text.add_rules name rules)) (search (required-no_end, and_then-no_end, resolved))
-  own_command (text.del_rules name rules) = defining (walk state.catalog (text.del_rules name rules)) (search (required-no_end, and_then-no_end, resolved))
-  own_command (text.query q) = working (walk state.catalog (text.query q)) (search (and_then-no_end, resolved))
-  own_command (text.change c) = working (walk state.catalog (text.change c)) (search (and_then-no_end, resolved))
+  own_command (text.process_ruleset name) = working (walk language.rules state.catalog (text.process_ruleset name)) (search (required-no_end, resolved))
+  own_command (text.process_rule name) = working (walk language.rules state.catalog (text.process_rule name)) (search (and_then-no_end, resolved))
+  own_command (text.create_table name columns) = defining (walk language.rules state.catalog (text.create_table name columns)) (search (required-no_end, resolved))
+  own_command (text.drop_table name) = defining (walk language.rules state.catalog (text.drop_table name)) (search (required-no_end, and_then-no_end, resolved))
+  own_command (text.create_rule r) = defining (walk language.rules state.catalog (text.create_rule r)) (search (required-no_end, and_then-no_end, resolved) depth 16)
+  own_command (text.drop_rule name) = defining (walk language.rules state.catalog (text.drop_rule name)) (search (and_then-no_end, resolved))
+  own_command (text.activate_rule name) = defining (walk language.rules state.catalog (text.activate_rule name)) (search (and_then-no_end, resolved))
+  own_command (text.deactivate_rule name) = defining (walk language.rules state.catalog (text.deactivate_rule name)) (search (and_then-no_end, resolved))
+  own_command (text.create_ruleset name) = defining (walk language.rules state.catalog (text.create_ruleset name)) (search (required-no_end, resolved))
+  own_command (text.drop_ruleset name) = defining (walk language.rules state.catalog (text.drop_ruleset name)) (search (required-no_end, resolved))
+  own_command (text.add_rules name rules) = defining (walk language.rules state.catalog (text.add_rules name rules)) (search (required-no_end, and_then-no_end, resolved))
+  own_command (text.del_rules name rules) = defining (walk language.rules state.catalog (text.del_rules name rules)) (search (required-no_end, and_then-no_end, resolved))
+  own_command (text.query q) = working (walk language.rules state.catalog (text.query q)) (search (and_then-no_end, resolved))
+  own_command (text.change c) = working (walk language.rules state.catalog (text.change c)) (search (and_then-no_end, resolved))
 
 -- ---- a line, and a step
 
 module _ (language : Language) (tenant bound : ℕ) (state : State) (s : ℕ) where
-  pub own_line : (line : List ℕ) → is_open (session_at (reply_to language tenant bound state s line).0 s) ≡ open_by (language line) (is_open (session_at state s))
+  pub own_line : (line : List ℕ) → is_open (session_at (reply_to language tenant bound state s line).0 s) ≡ open_by (language.command line) (is_open (session_at state s))
   own_line line =
-      elim (language line) as (λ c.
+      elim (language.command line) as (λ c.
       let r : State × Reply = elim c [ None ↦ (state, reply.No refusal.Syntax) | Some command ↦ reply_to_command language tenant bound state s command ] in
       is_open (session_at r.0 s) ≡ open_by c (is_open (session_at state s))) [ None ↦ refl | Some command ↦ own_command language tenant bound state s command ]
 
@@ -252,16 +252,16 @@ module _ (language : Language) (tenant bound : ℕ) (state : State) (s : ℕ) wh
 
   pub other_line : (line : List ℕ) (o : ℕ) → (o == s) ≡ false → session_at (reply_to language tenant bound state s line).0 o ≡ session_at state o
   other_line line o other =
-      elim (language line) as (λ c.
+      elim (language.command line) as (λ c.
       let r : State × Reply = elim c [ None ↦ (state, reply.No refusal.Syntax) | Some command ↦ reply_to_command language tenant bound state s command ] in
       session_at r.0 o ≡ session_at state o) [
         | None ↦ refl
-        | Some command ↦ other_outcome o other (session_refusal (class_of command) state s) (walk state.catalog command)
+        | Some command ↦ other_outcome o other (session_refusal (class_of command) state s) (walk language.rules state.catalog command)
       ]
 
   -- where the trail has a place, the step is what the line does
   pub own_step : (line : List ℕ) → is_full_for state s line ≡ false →
-      is_open (session_at (step language tenant bound state s line).0 s) ≡ open_by (language line) (is_open (session_at state s))
+      is_open (session_at (step language tenant bound state s line).0 s) ≡ open_by (language.command line) (is_open (session_at state s))
   own_step line room = (λ i. is_open (session_at (placed (room i)).0 s)) ∙ own_line line
     where
       placed : Bool → State × Answer

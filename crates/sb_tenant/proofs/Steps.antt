@@ -2,6 +2,7 @@
 use Rattle.std.proofs.Common.{◌≡◌, ℕ, zero, suc, ◌+◌, ◌≤◌, Bool, true, false, cond, not, ◌&&◌, ◌==◌, nat_le, List, [], ◌∷◌, ◌++◌, length, Option, Some, None, inl, inr, refl, sym, ap, ◌∙◌, subst, arith, option_map, codes}
 use Rattle.std.proofs.Math.Bool.{and-false}
 use Rattle.std.proofs.lemmas.Bool.{ltb-true}
+use Rattle.sb_value.specs.declared.change.Change.{Change}
 use Rattle.sb_value.specs.declared.lock.Mode.{Mode}
 use Rattle.sb_value.specs.declared.refusal.Refusal.TheVariants as refusal
 use Rattle.sb_value.specs.Name.{same_name}
@@ -22,90 +23,98 @@ use Rattle.sb_tenant.specs.Supported.{engine, is_served}
 use Rattle.sb_tenant.specs.Tenant.{Tenant, IsLegal, MakesStep, with_trail, state as state_now}
 use Rattle.sb_tenant.specs.Stored.{Kept, Stored, dropped, with_phase}
 use Rattle.sb_tenant.specs.Orders.{order_tree, performed, answered, aborted, AnswersOrder, Answers}
-use Rattle.sb_tenant.specs.Represents.{phase_of, not_closed, AreSound, standing, ShowsRows, Represents}
-use Rattle.sb_tenant.proofs.Refinement.{stays, rolled, refines}
+use Rattle.sb_tenant.specs.declared.guard.Guard.{Guard}
+use Rattle.sb_tenant.specs.Represents.{session_of, not_closed, AreSound, standing, ShowsRows, AreOf, Represents}
+use Rattle.sb_tenant.proofs.Refinement.{memory, stays, rolled, refines}
 use Rattle.sb_tenant.proofs.ReplayLaws.{legal_states_are_replayed, trails_are_bounded}
 use Rattle.sb_tenant.proofs.Extensions.{step-numbered, step_is_next, abort_is_next, extended, state_of-extended, length-extended}
 
 -- the lines `end` and `open` are the commands
-end_is_end : engine (codes "end") ≡ option_map order_tree (Some End)
+end_is_end : engine.command (codes "end") ≡ option_map order_tree (Some End)
 unfolding command_of
 end_is_end = refl
 
-open_is_open : engine (codes "open") ≡ option_map order_tree (Some Open)
+open_is_open : engine.command (codes "open") ≡ option_map order_tree (Some Open)
 unfolding command_of
 open_is_open = refl
 
 -- the number of steps isn't kept in memory
-restepped : (st : State) (v : Stored) (n : ℕ) → Represents st v → Represents (record st { steps = n }) v
-restepped st v n r = record { session = r.session; held = r.held; is = λ i. record (r.is i) { steps = n }; phase = r.phase; seen = r.seen; sound = r.sound }
+restepped : (id : ℕ) (st : State) (v : Stored) (n : ℕ) → Represents id st v → Represents id (record st { steps = n }) v
+restepped id st v n r =
+    record { held = r.held; who = r.who; is = λ i. record (r.is i) { steps = n }; changes = r.changes; seen = r.seen; sound = r.sound }
 
 -- ---- an abort
 
-aborted-standing : (id bound : ℕ) (ts : List Kept) (held : ℕ → Mode → Bool) (n m : ℕ) (sound : AreSound ts) (session : Session) → ShowsRows ts session
-    → Represents (record (elim (has_transaction session) [ true ↦ rolled_back (standing ts session held n) 0 | false ↦ standing ts session held n ]) { steps = m }) (aborted (record { tables = ts; phase = phase_of session }))
-aborted-standing id bound ts held n m sound closed seen = restepped _ _ m (stays engine id bound ts held n sound closed seen)
-aborted-standing id bound ts held n m sound idle seen = restepped _ _ m (stays engine id bound ts held n sound idle seen)
-aborted-standing id bound ts held n m sound (active changes marks) seen = restepped _ _ m (rolled engine id bound ts held n sound (active changes marks))
+aborted-standing : (id : ℕ) (ts : List Kept) (g : Option Guard) (held : ℕ → Mode → Bool) (n m : ℕ) (sound : AreSound ts) (phase : Phase) (changes : List Change) → AreOf phase changes → ShowsRows ts changes
+    → Represents id (record (elim (has_transaction (session_of phase changes)) [ true ↦ rolled_back (standing ts g (session_of phase changes) held n) 0 | false ↦ standing ts g (session_of phase changes) held n ]) { steps = m })
+    (aborted (memory id ts g phase changes))
+aborted-standing id ts g held n m sound Closed changes none seen = restepped id _ _ m (stays id ts g held n sound Closed changes none seen)
+aborted-standing id ts g held n m sound Idle changes none seen = restepped id _ _ m (stays id ts g held n sound Idle changes none seen)
+aborted-standing id ts g held n m sound Active changes none seen = restepped id _ _ m (rolled id ts g held n sound (active changes (λ rule. 0)))
 
-represents-aborted : (id bound : ℕ) (st : State) (v : Stored) → Represents st v → Represents (after_abort st 0) (aborted v)
-represents-aborted id bound st v r =
-    subst (λ s. Represents (after_abort s 0) (aborted v)) (sym r.is)
-    (subst (λ phase. Represents (after_abort (standing v.tables r.session r.held st.steps) 0) (aborted (record { tables = v.tables; phase = phase }))) r.phase
-    (aborted-standing id bound v.tables r.held st.steps (st.steps + 1) r.sound r.session r.seen))
+represents-aborted : (id : ℕ) (st : State) (v : Stored) → Represents id st v → Represents id (after_abort st 0) (aborted v)
+represents-aborted id st v r =
+    subst (λ s. Represents id (after_abort s 0) (aborted v)) (sym r.is)
+    (subst (λ who. Represents id (after_abort (standing v.tables v.guard (session_of v.phase v.changes) r.held st.steps) 0) (aborted (record v { who = who }))) (sym r.who)
+    (aborted-standing id v.tables v.guard r.held st.steps (st.steps + 1) r.sound v.phase v.changes r.changes r.seen))
 
 module _ (id bound : ℕ) where
   -- ---- a line's answer
 
   -- the same reply, and what is in memory stands for the state again
   abbrev Replied : State × Reply → Reply → Stored → Type 0
-  Replied r told new = (r.1 ≡ told) × Represents r.0 new
+  Replied r told new = (r.1 ≡ told) × Represents id r.0 new
 
-  replied_to : (st : State) (v : Stored) (line : List ℕ) (order : Option Order) → Represents st v → engine line ≡ option_map order_tree order
-      → Replied (reply_to engine id bound st 0 line) (answered v order).1 (answered v order).0
+  replied_to : (st : State) (v : Stored) (line : List ℕ) (order : Option Order) → Represents id st v → engine.command line ≡ option_map order_tree order
+      → Replied (reply_to engine id bound st 0 line) (answered bound v order).1 (answered bound v order).0
   replied_to st v line order r is =
       subst (λ (c : Option Command).
       let said : State × Reply = elim c [ None ↦ (st, reply.No refusal.Syntax) | Some command ↦ reply_to_command engine id bound st 0 command ] in
-      Replied said (answered v order).1 (answered v order).0) (sym is) (by_order order)
+      Replied said (answered bound v order).1 (answered bound v order).0) (sym is) (by_order order)
     where
       by_order : (o : Option Order) →
           let said : State × Reply = elim (option_map order_tree o) [ None ↦ (st, reply.No refusal.Syntax) | Some command ↦ reply_to_command engine id bound st 0 command ] in
-          Replied said (answered v o).1 (answered v o).0
+          Replied said (answered bound v o).1 (answered bound v o).0
       by_order None = (refl, r)
-      by_order (Some o) = refines engine id bound st v o r
+      by_order (Some o) = refines engine refl id bound st v o r
 
-  replied : (st : State) (v : Stored) (line : List ℕ) (told : Reply) (new : Stored) → Represents st v → AnswersOrder v line told new
+  replied : (st : State) (v : Stored) (line : List ℕ) (told : Reply) (new : Stored) → Represents id st v → AnswersOrder bound v line told new
       → Replied (reply_to engine id bound st 0 line) told new
   replied st v line told new r (order, is, gives) =
       subst (λ (p : Stored × Reply). Replied (reply_to engine id bound st 0 line) p.1 p.0) gives (replied_to st v line order r is)
 
-  module _ (trail : List Entry) (v : Stored) (legal : IsTrail engine id bound trail) (stands : Represents (state_of engine id bound trail) v) where
+  module _ (trail : List Entry) (v : Stored) (legal : IsTrail engine id bound trail) (stands : Represents id (state_of engine id bound trail) v) where
     -- as many steps as entries
     pub steps_are_entries : (state_of engine id bound trail).steps ≡ length trail
     steps_are_entries = (legal_states_are_replayed engine id bound trail (state_of engine id bound trail) legal).1
 
     -- whether the first session is open
-    pub open_by_phase : (s : ℕ) → is_open (session_at (state_of engine id bound trail) s) ≡ cond (s == 0) (is_open stands.session) false
-    open_by_phase s = ap (λ (st : State). is_open (session_at st s)) stands.is ∙ by_test (s == 0)
+    pub open_by_phase : (s : ℕ) → is_open (session_at (state_of engine id bound trail) s) ≡ cond (s == 0) (not_closed v.phase) false
+    open_by_phase s = ap (λ (st : State). is_open (session_at st s)) stands.is ∙ by_test (s == 0) ∙ ap (λ b. cond (s == 0) b false) (by_session v.phase v.changes)
       where
-        by_test : (b : Bool) → is_open (cond b stands.session closed) ≡ cond b (is_open stands.session) false
+        by_session : (phase : Phase) (changes : List Change) → is_open (session_of phase changes) ≡ not_closed phase
+        by_session Closed changes = refl
+        by_session Idle changes = refl
+        by_session Active changes = refl
+
+        by_test : (b : Bool) → is_open (cond b (session_of v.phase v.changes) closed) ≡ cond b (is_open (session_of v.phase v.changes)) false
         by_test true = refl
         by_test false = refl
 
     abbrev pub Next : List ℕ → Reply → Stored → Type 0
     Next line told new =
         let longer = trail ++ entry_of 0 line told ∷ [] in
-        IsTrail engine id bound longer × Represents (state_of engine id bound longer) new × IsNext engine id bound (state_of engine id bound trail) (entry_of 0 line told) (state_of engine id bound longer)
+        IsTrail engine id bound longer × Represents id (state_of engine id bound longer) new × IsNext engine id bound (state_of engine id bound trail) (entry_of 0 line told) (state_of engine id bound longer)
 
-    entered : (line : List ℕ) (told : Reply) (new : Stored) (after : State) → IsNext engine id bound (state_of engine id bound trail) (entry_of 0 line told) after → Represents after new → Next line told new
+    entered : (line : List ℕ) (told : Reply) (new : Stored) (after : State) → IsNext engine id bound (state_of engine id bound trail) (entry_of 0 line told) after → Represents id after new → Next line told new
     entered line told new after next r =
         let is = sym (state_of-extended engine id bound trail legal 0 line told after next) in (
           extended engine id bound trail legal 0 line told after next,
-          subst (λ s. Represents s new) is r,
+          subst (λ s. Represents id s new) is r,
           subst (λ s. IsNext engine id bound (state_of engine id bound trail) (entry_of 0 line told) s) is next,
         )
 
-    answered_line : (line : List ℕ) (told : Reply) (new : Stored) → is_full_for (state_of engine id bound trail) 0 line ≡ false → AnswersOrder v line told new → Next line told new
+    answered_line : (line : List ℕ) (told : Reply) (new : Stored) → is_full_for (state_of engine id bound trail) 0 line ≡ false → AnswersOrder bound v line told new → Next line told new
     answered_line line told new room a =
         let st = state_of engine id bound trail in
         let is = step-numbered engine id bound st 0 line room in
@@ -113,37 +122,29 @@ module _ (id bound : ℕ) where
         let next = step_is_next engine id bound st 0 line refl room in
         entered line told new (step engine id bound st 0 line).0
         (subst (λ r. IsNext engine id bound st (entry_of 0 line r) (step engine id bound st 0 line).0) (ap (λ r. r.1.reply) is ∙ said.0) next)
-        (subst (λ s. Represents s new) (ap (λ r. r.0) (sym is)) (restepped (reply_to engine id bound st 0 line).0 new (st.steps + 1) said.1))
+        (subst (λ s. Represents id s new) (ap (λ r. r.0) (sym is)) (restepped id (reply_to engine id bound st 0 line).0 new (st.steps + 1) said.1))
 
     -- an answered line is the next entry
     pub stepped : (line : List ℕ) (told : Reply) (new : Stored) → is_full_for (state_of engine id bound trail) 0 line ≡ false → is_end_of_open (state_of engine id bound trail) 0 line ≡ false
-        → Answers v line told new → Next line told new
+        → Answers bound v line told new → Next line told new
     stepped line told new room no_end (inl a) = answered_line line told new room a
     stepped line told new room no_end (inr (told_is, new_is)) =
         let st = state_of engine id bound trail in
         entered line told new (after_abort st 0)
         (subst (λ r. IsNext engine id bound st (entry_of 0 line r) (after_abort st 0)) (sym told_is) (abort_is_next engine id bound st 0 line refl room no_end))
-        (subst (λ w. Represents (after_abort st 0) w) (sym new_is) (represents-aborted id bound st v stands))
+        (subst (λ w. Represents id (after_abort st 0) w) (sym new_is) (represents-aborted id st v stands))
 
     -- ---- the lines `open` and `end`
 
-    open_phase : (phase : Phase) → phase_of stands.session ≡ phase → is_open stands.session ≡ not_closed phase
-    open_phase phase is = by_session stands.session ∙ ap not_closed is
-      where
-        by_session : (session : Session) → is_open session ≡ not_closed (phase_of session)
-        by_session closed = refl
-        by_session idle = refl
-        by_session (active changes marks) = refl
-
     -- whether the first session is open, by what is in memory
     pub first_is_open : is_open (session_at (state_of engine id bound trail) 0) ≡ not_closed v.phase
-    first_is_open = open_by_phase 0 ∙ open_phase v.phase stands.phase
+    first_is_open = open_by_phase 0
 
     end_has_room : not_closed v.phase ≡ true → is_full_for (state_of engine id bound trail) 0 (codes "end") ≡ false
     end_has_room up =
         ap (λ b. nat_le trail_limit (state_of engine id bound trail).steps && not (b && true)) (first_is_open ∙ up) ∙ and-false (nat_le trail_limit (state_of engine id bound trail).steps)
 
-    ends_open : (phase : Phase) → not_closed phase ≡ true → performed (record { tables = v.tables; phase = phase }) End ≡ (dropped v Closed, reply.Ok)
+    ends_open : (phase : Phase) → not_closed phase ≡ true → performed bound (record v { phase = phase }) End ≡ (dropped v Closed, reply.Ok)
     ends_open Closed up = cc
     ends_open Idle up = refl
     ends_open Active up = refl
@@ -152,7 +153,7 @@ module _ (id bound : ℕ) where
     pub ended : not_closed v.phase ≡ true → Next (codes "end") reply.Ok (dropped v Closed)
     ended up = answered_line (codes "end") reply.Ok (dropped v Closed) (end_has_room up) (Some End, end_is_end, ends_open v.phase up)
 
-    opens_closed : (phase : Phase) → not_closed phase ≡ false → performed (record { tables = v.tables; phase = phase }) Open ≡ (with_phase v Idle, reply.Ok)
+    opens_closed : (phase : Phase) → not_closed phase ≡ false → performed bound (record v { phase = phase }) Open ≡ (with_phase v Idle, reply.Ok)
     opens_closed Closed shut = refl
     opens_closed Idle shut = cc
     opens_closed Active shut = cc
@@ -171,9 +172,9 @@ few_entries t legal =
     let bounded = trails_are_bounded engine t.id t.bound end_is_end t.trail (state_now t) legal in omega (arith, bounded)
 
 -- an entry that comes next makes a step of the tenant
-pub makes_step : (t : Tenant) (v new : Stored) (legal : IsLegal t) (stands : Represents (state_now t) v) (s : ℕ) (line : List ℕ) (told : Reply) (items : List Entry) (number : ℕ)
+pub makes_step : (t : Tenant) (v new : Stored) (legal : IsLegal t) (stands : Represents t.id (state_now t) v) (s : ℕ) (line : List ℕ) (told : Reply) (items : List Entry) (number : ℕ)
     → is_served s ≡ true → Next t.id t.bound t.trail v legal stands line told new → items ≡ t.trail ++ entry_of s line told ∷ [] → number ≡ length items
-    → MakesStep t s line (record { number = Some number; reply = told }) (with_trail t items) × IsLegal (with_trail t items) × Represents (state_now (with_trail t items)) new
+    → MakesStep t s line (record { number = Some number; reply = told }) (with_trail t items) × IsLegal (with_trail t items) × Represents t.id (state_now (with_trail t items)) new
 makes_step t v new legal stands s line told items number served next items_are number_is =
     let first = first_session s served in
     let own : items ≡ t.trail ++ entry_of 0 line told ∷ [] = items_are ∙ ap (λ (n : ℕ). t.trail ++ entry_of n line told ∷ []) first in (
@@ -187,5 +188,5 @@ makes_step t v new legal stands s line told items number served next items_are n
         ),
       ),
       subst (λ (es : List Entry). IsLegal (with_trail t es)) (sym own) next.0,
-      subst (λ (es : List Entry). Represents (state_now (with_trail t es)) new) (sym own) next.1,
+      subst (λ (es : List Entry). Represents t.id (state_now (with_trail t es)) new) (sym own) next.1,
     )

@@ -2,16 +2,18 @@
 use Rattle.std.proofs.Common.{◌≡◌, ℕ, zero, suc, ◌+◌, ◌<◌, ◌≤◌, Bool, true, false, cond, not, ◌||◌, ◌==◌, nat_lt, List, [], ◌∷◌, ◌++◌, length, take, map, slice_get, slice_set, Option, Some, None, refl, sym, ap, ◌∙◌, arith, ne_eqb, eq-eqb, find, option_map, length-append, add-one, subst, ⊎_elim, lt-ltb, le-ltb}
 use Rattle.std.specs.List.{list_any, position_or_len}
 use Rattle.std.proofs.lemmas.Bool.{cases_lt}
-use Rattle.std.proofs.lemmas.List.{take-append-le, length-take-le}
+use Rattle.std.proofs.lemmas.List.{drop-append-le, length-take-le}
+use Rattle.std.proofs.Math.Seq.{drop-length}
 use Rattle.std.proofs.lemmas.Option.{same_Some}
 use Rattle.sb_value.specs.declared.value.Value.{Value}
 use Rattle.sb_value.specs.declared.value.ColumnDefinition.{ColumnDefinition}
 use Rattle.sb_value.specs.Name.{same_name}
-use Rattle.sb_value.specs.Table.{Table, Entry, table_at, values}
+use Rattle.sb_value.specs.Table.{Table, Entry, table_at}
 use Rattle.sb_tenant.specs.Catalog.{least_free, least_free_from}
 use Rattle.sb_tenant.specs.declared.reply.Reply.{Reply}
-use Rattle.sb_tenant.specs.Stored.{Kept, Stored, numbered, table_of, committed_entry, seen_entry, entries_from, only_committed, all_committed, with_rows, new_table, place_of, inserted_at, inserted_in, selected_at, selected_in}
-use Rattle.sb_tenant.specs.Represents.{AreSound}
+use Rattle.sb_tenant.specs.Stored.{Kept, Stored, numbered, seen_rows, committed_entry, seen_entry, entries_from, only_committed, all_committed, with_rows, without_rows, new_table, place_of, inserted_at, inserted_in, deleted_at, deleted_in, selected_at, selected_in, guarded}
+use Rattle.sb_tenant.specs.Represents.{IsSound, AreSound}
+use Rattle.sb_tenant.proofs.StoredTables.{seen_table}
 
 -- ---- names
 
@@ -65,16 +67,27 @@ beyond-none [] n h = omega arith
 beyond-none (y ∷ xs) zero h = cc
 beyond-none (y ∷ xs) (suc n) h = let outside = beyond-none xs n h in omega (arith, outside)
 
--- an insert or a select looks at what stands at that place
+-- an insert, a delete, a select or a rule looks at what stands at that place
+by-place : {A : Type 0} (at : Option ℕ → A) (v : Stored) (name : List ℕ) (x : Option Kept) → slice_get v.tables (place v.tables name) ≡ x
+    → at (place_of v.tables name) ≡ at (elim x [ None ↦ None | Some t ↦ Some (place v.tables name) ])
+by-place at v name None h = ap (λ b. at (cond b (Some (place v.tables name)) None)) (le-ltb (place v.tables name) (length v.tables) (beyond-none v.tables (place v.tables name) h))
+by-place at v name (Some t) h = ap (λ b. at (cond b (Some (place v.tables name)) None)) (lt-ltb (place v.tables name) (length v.tables) (within-some v.tables (place v.tables name) t h))
+
 pub inserted-placed : (v : Stored) (name : List ℕ) (rows : List (List Value)) (x : Option Kept) → slice_get v.tables (place v.tables name) ≡ x → inserted_at v rows (place_of v.tables name) ≡ inserted_in v rows (place v.tables name) x
-inserted-placed v name rows None h = ap (λ b. inserted_at v rows (cond b (Some (place v.tables name)) None)) (le-ltb (place v.tables name) (length v.tables) (beyond-none v.tables (place v.tables name) h))
-inserted-placed v name rows (Some t) h =
-    ap (λ b. inserted_at v rows (cond b (Some (place v.tables name)) None)) (lt-ltb (place v.tables name) (length v.tables) (within-some v.tables (place v.tables name) t h)) ∙ ap (inserted_in v rows (place v.tables name)) h
+inserted-placed v name rows None h = by-place (inserted_at v rows) v name None h
+inserted-placed v name rows (Some t) h = by-place (inserted_at v rows) v name (Some t) h ∙ ap (inserted_in v rows (place v.tables name)) h
+
+pub deleted-placed : (v : Stored) (name : List ℕ) (x : Option Kept) → slice_get v.tables (place v.tables name) ≡ x → deleted_at v (place_of v.tables name) ≡ deleted_in v (place v.tables name) x
+deleted-placed v name None h = by-place (deleted_at v) v name None h
+deleted-placed v name (Some t) h = by-place (deleted_at v) v name (Some t) h ∙ ap (deleted_in v (place v.tables name)) h
 
 pub selected-placed : (v : Stored) (name : List ℕ) (x : Option Kept) → slice_get v.tables (place v.tables name) ≡ x → selected_at v (place_of v.tables name) ≡ selected_in x
-selected-placed v name None h = ap (λ b. selected_at v (cond b (Some (place v.tables name)) None)) (le-ltb (place v.tables name) (length v.tables) (beyond-none v.tables (place v.tables name) h))
-selected-placed v name (Some t) h =
-    ap (λ b. selected_at v (cond b (Some (place v.tables name)) None)) (lt-ltb (place v.tables name) (length v.tables) (within-some v.tables (place v.tables name) t h)) ∙ ap selected_in h
+selected-placed v name None h = by-place (selected_at v) v name None h
+selected-placed v name (Some t) h = by-place (selected_at v) v name (Some t) h ∙ ap selected_in h
+
+pub guarded-placed : (v : Stored) (rule name : List ℕ) (x : Option Kept) → slice_get v.tables (place v.tables name) ≡ x
+    → guarded v rule (place_of v.tables name) ≡ guarded v rule (elim x [ None ↦ None | Some t ↦ Some (place v.tables name) ])
+guarded-placed v rule name x h = by-place (guarded v rule) v name x h
 
 -- ---- ids
 
@@ -103,25 +116,16 @@ next-id ts = ap (λ n. least_free_from n 0 (map (λ e. e.id) (entries_from commi
 
 -- ---- places
 
-below : (n j : ℕ) (ts : List Kept) → j < n → table_at (entries_from seen_entry n ts) j ≡ table_at [] j
-below n j [] h = refl
-below n j (t ∷ ts) h = ap (λ b. cond b (table_of t.columns t.rows) (table_at (entries_from seen_entry (n + 1) ts) j)) (ne_eqb n j (λ e. absurd (omega arith))) ∙ below (n + 1) j ts (omega arith)
-
-table-at : (k i : ℕ) (ts : List Kept) (t : Kept) → slice_get ts i ≡ Some t → table_at (entries_from seen_entry k ts) (k + i) ≡ table_of t.columns t.rows
+table-at : (k i : ℕ) (ts : List Kept) (t : Kept) → slice_get ts i ≡ Some t → table_at (entries_from seen_entry k ts) (k + i) ≡ seen_table t
 table-at k i [] t h = cc
 table-at k zero (u ∷ ts) t h =
-    ap (λ b. cond b (table_of u.columns u.rows) (table_at (entries_from seen_entry (k + 1) ts) (k + 0))) (eq-eqb k (k + 0) (omega arith))
-    ∙ ap (λ (w : Kept). table_of w.columns w.rows) (same_Some u t h)
+    ap (λ b. cond b (seen_table u) (table_at (entries_from seen_entry (k + 1) ts) (k + 0))) (eq-eqb k (k + 0) (omega arith)) ∙ ap seen_table (same_Some u t h)
 table-at k (suc i) (u ∷ ts) t h =
-    ap (λ b. cond b (table_of u.columns u.rows) (table_at (entries_from seen_entry (k + 1) ts) (k + suc i))) (ne_eqb k (k + suc i) (λ e. absurd (omega arith)))
+    ap (λ b. cond b (seen_table u) (table_at (entries_from seen_entry (k + 1) ts) (k + suc i))) (ne_eqb k (k + suc i) (λ e. absurd (omega arith)))
     ∙ ap (table_at (entries_from seen_entry (k + 1) ts)) (let e : k + suc i ≡ k + 1 + i = omega arith in e) ∙ table-at (k + 1) i ts t h
 
-pub table-here : (ts : List Kept) (i : ℕ) (t : Kept) → slice_get ts i ≡ Some t → table_at (entries_from seen_entry 0 ts) i ≡ table_of t.columns t.rows
+pub table-here : (ts : List Kept) (i : ℕ) (t : Kept) → slice_get ts i ≡ Some t → table_at (entries_from seen_entry 0 ts) i ≡ seen_table t
 table-here ts i t h = ap (table_at (entries_from seen_entry 0 ts)) (sym (zero-plus i)) ∙ table-at 0 i ts t h
-
-pub values-numbered : (n : ℕ) (rows : List (List Value)) → map (λ r. r.1) (numbered n rows) ≡ rows
-values-numbered n [] = refl
-values-numbered n (row ∷ rows) = ap (λ rs. row ∷ rs) (values-numbered (n + 1) rows)
 
 pub length-numbered : (n : ℕ) (rows : List (List Value)) → length (numbered n rows) ≡ length rows
 length-numbered n [] = refl
@@ -129,35 +133,56 @@ length-numbered n (row ∷ rows) = ap suc (length-numbered (n + 1) rows)
 
 -- ---- what holds of each table
 
-pub sound-at : (ts : List Kept) (i : ℕ) (t : Kept) → AreSound ts → slice_get ts i ≡ Some t → (t.committed ≤ length t.rows) × (length t.rows ≤ 4096)
+pub sound-at : (ts : List Kept) (i : ℕ) (t : Kept) → AreSound ts → slice_get ts i ≡ Some t → IsSound t
 sound-at [] i t sound h = cc
-sound-at (u ∷ ts) zero t sound h = subst (λ (w : Kept). (w.committed ≤ length w.rows) × (length w.rows ≤ 4096)) (same_Some u t h) (sound.0, sound.1)
-sound-at (u ∷ ts) (suc i) t sound h = sound-at ts i t sound.2 h
+sound-at (u ∷ ts) zero t sound h = subst IsSound (same_Some u t h) sound.0
+sound-at (u ∷ ts) (suc i) t sound h = sound-at ts i t sound.1 h
+
+sound-put : (ts : List Kept) (i : ℕ) (w : Kept) → AreSound ts → IsSound w → AreSound (slice_set ts i w)
+sound-put [] i w sound h = tt
+sound-put (u ∷ ts) zero w sound h = (h, sound.1)
+sound-put (u ∷ ts) (suc i) w sound h = (sound.0, sound-put ts i w sound.1 h)
 
 pub sound-only_committed : (ts : List Kept) → AreSound ts → AreSound (map only_committed ts)
 sound-only_committed [] sound = tt
 sound-only_committed (t ∷ ts) sound =
-    let n = length-take-le t.committed t.rows sound.0 in (omega (arith, n), omega (arith, n, sound.0, sound.1), sound-only_committed ts sound.2)
+    let n = length-take-le t.committed t.places sound.0.committed in (
+      record {
+        committed = omega (arith, n);
+        hidden = omega arith;
+        few = sound.0.few;
+        few_seen = omega (arith, n, sound.0.few);
+      },
+      sound-only_committed ts sound.1,
+    )
 
 pub sound-all_committed : (ts : List Kept) → AreSound ts → AreSound (map all_committed ts)
 sound-all_committed [] sound = tt
-sound-all_committed (t ∷ ts) sound = (omega arith, sound.1, sound-all_committed ts sound.2)
+sound-all_committed (t ∷ ts) sound = (
+  record { committed = omega arith; hidden = omega arith; few = sound.0.few_seen; few_seen = sound.0.few_seen },
+  sound-all_committed ts sound.1,
+)
 
 pub sound-append : (ts : List Kept) (name : List ℕ) (columns : List ColumnDefinition) → AreSound ts → AreSound (ts ++ new_table name columns ∷ [])
-sound-append [] name columns sound = (omega arith, omega arith, tt)
-sound-append (t ∷ ts) name columns sound = (sound.0, sound.1, sound-append ts name columns sound.2)
+sound-append [] name columns sound = (record { committed = omega arith; hidden = omega arith; few = omega arith; few_seen = omega arith }, tt)
+sound-append (t ∷ ts) name columns sound = (sound.0, sound-append ts name columns sound.1)
 
-pub sound-with_rows : (ts : List Kept) (i : ℕ) (t : Kept) (rows : List (List Value)) → AreSound ts → slice_get ts i ≡ Some t → length t.rows + length rows ≤ 4096 → AreSound (slice_set ts i (with_rows t rows))
-sound-with_rows [] i t rows sound h room = cc
-sound-with_rows (u ∷ ts) zero t rows sound h room =
-    let at = sound-at (u ∷ ts) zero t sound h in (omega (arith, length-append t.rows rows, at.0), omega (arith, length-append t.rows rows), sound.2)
-sound-with_rows (u ∷ ts) (suc i) t rows sound h room = (sound.0, sound.1, sound-with_rows ts i t rows sound.2 h room)
+pub sound-with_rows : (ts : List Kept) (i : ℕ) (t : Kept) (rows : List (List Value)) → AreSound ts → slice_get ts i ≡ Some t → length (seen_rows t) + length rows ≤ 4096
+    → AreSound (slice_set ts i (with_rows t rows))
+sound-with_rows ts i t rows sound h room =
+    let at = sound-at ts i t sound h in
+    let all = length-append t.places (numbered t.next rows) in
+    let seen = ap (λ (ps : List (ℕ × List Value)). length ps) (drop-append-le t.hidden t.places (numbered t.next rows) at.hidden) ∙ length-append (seen_rows t) (numbered t.next rows) in
+    let more = length-numbered t.next rows in
+    sound-put ts i (with_rows t rows) sound (record {
+      committed = omega (arith, all, at.committed);
+      hidden = omega (arith, all, at.hidden);
+      few = at.few;
+      few_seen = omega (arith, seen, more, room);
+    })
 
--- rows behind the others aren't committed
-pub committed-with_rows : (k i : ℕ) (ts : List Kept) (t : Kept) (rows : List (List Value)) → slice_get ts i ≡ Some t → t.committed ≤ length t.rows
-    → entries_from committed_entry k (slice_set ts i (with_rows t rows)) ≡ entries_from committed_entry k ts
-committed-with_rows k i [] t rows h fits = refl
-committed-with_rows k zero (u ∷ ts) t rows h fits =
-    (λ j. record { id = k; name = t.name; table = table_of t.columns (take-append-le t.committed t.rows rows fits j) } ∷ entries_from committed_entry (k + 1) ts)
-    ∙ ap (λ (w : Kept). committed_entry k w ∷ entries_from committed_entry (k + 1) ts) (sym (same_Some u t h))
-committed-with_rows k (suc i) (u ∷ ts) t rows h fits = ap (λ es. committed_entry k u ∷ es) (committed-with_rows (k + 1) i ts t rows h fits)
+pub sound-without_rows : (ts : List Kept) (i : ℕ) (t : Kept) → AreSound ts → slice_get ts i ≡ Some t → AreSound (slice_set ts i (without_rows t))
+sound-without_rows ts i t sound h =
+    let at = sound-at ts i t sound h in
+    let none = ap (λ (ps : List (ℕ × List Value)). length ps) (drop-length t.places) in
+    sound-put ts i (without_rows t) sound (record { committed = at.committed; hidden = omega arith; few = at.few; few_seen = omega (arith, none) })

@@ -42,9 +42,10 @@ session_refusal works state s =
 abbrev pub numbered : State → State × Reply → State × Answer
 numbered before r = let n = before.steps + 1 in (record r.0 { steps = n }, record { number = Some n; reply = r.1 })
 
--- which command a text has, if it has one
-abbrev pub Language : Type 0
-Language = List ℕ → Option Command
+-- which command a text has, if it has one, and the most rules of a tenant
+pub record Language : Type 0 where
+  pub command : List ℕ → Option Command
+  pub rules : ℕ
 
 module _ (language : Language) (tenant bound : ℕ) where
   -- a command is refused by its session, or else by its walk, or else is performed
@@ -55,12 +56,12 @@ module _ (language : Language) (tenant bound : ℕ) where
 
   -- a command, in a session
   abbrev pub reply_to_command : State → ℕ → Command → State × Reply
-  reply_to_command state s command = outcome_of state s (session_refusal (class_of command) state s) (walk state.catalog command)
+  reply_to_command state s command = outcome_of state s (session_refusal (class_of command) state s) (walk language.rules state.catalog command)
 
   -- a line, in a session
   abbrev pub reply_to : State → ℕ → List ℕ → State × Reply
   reply_to state s line =
-      elim (language line) [
+      elim (language.command line) [
         | None ↦ (state, No refusal.Syntax)
         | Some command ↦ reply_to_command state s command
       ]

@@ -37,10 +37,10 @@ module _ (language : Language) (tenant bound : ℕ) where
   OwnOpens =
       (before after : State) (entry : Entry) → IsNext language tenant bound before entry after →
       is_open (session_at after entry.session)
-      ≡ elim (is_no_memory entry.reply) [ true ↦ is_open (session_at before entry.session) | false ↦ open_by (language entry.line) (is_open (session_at before entry.session)) ]
+      ≡ elim (is_no_memory entry.reply) [ true ↦ is_open (session_at before entry.session) | false ↦ open_by (language.command entry.line) (is_open (session_at before entry.session)) ]
 
   -- a legal trail has at most 65,536 entries, and one more for each session's end, as long as `end` is that command
   abbrev pub TrailsAreBounded : Type 0
   TrailsAreBounded =
-      language (codes "end") ≡ Some end_session →
+      language.command (codes "end") ≡ Some end_session →
       (trail : List Entry) (state : State) → IsLegal language tenant bound opening trail state → length trail + open_count state ≤ 65544

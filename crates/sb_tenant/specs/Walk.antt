@@ -18,7 +18,7 @@ use Rattle.sb_check.specs.Names.{and_then, in_order, required, some_or, column_i
 use Rattle.sb_check.specs.Walk.{Schema, table_named, walk_query, walk_change, walk_action}
 use Rattle.sb_catalog.specs.declared.Rule.{Rule}
 use Rattle.sb_eval.specs.Statement.{query_locks, statement_locks}
-use Rattle.sb_tenant.specs.Limits.{table_limit, rule_limit, ruleset_limit}
+use Rattle.sb_tenant.specs.Limits.{table_limit, ruleset_limit}
 use Rattle.sb_tenant.specs.State.{Catalog}
 use Rattle.sb_tenant.specs.Catalog.{free_rule, pairs_from}
 use Rattle.sb_tenant.specs.Resolved.{Class, opens, ends, begins, defines, works, NewRule, Resolved, open_session, end_session, begin, commit, rollback, process_rules, process_ruleset, process_rule, create_table, drop_table, create_rule, drop_rule, activate_rule, deactivate_rule, create_ruleset, drop_ruleset, add_rules, del_rules, query, change}
@@ -104,18 +104,16 @@ acyclic catalog new =
     let id = free_rule catalog in
     required (not (precedes (catalog.pairs ++ pairs_from id new) id id)) refusal.Cycle (Ok (create_rule new))
 
--- a new rule: its name, its table, its triggers, its condition, its actions, its lists, the limit, a cycle
-abbrev pub walk_rule : Catalog → RuleText → Result Resolved Refusal
-walk_rule catalog r =
-    required (not (list_any (λ old. same_name old.name r.name) catalog.rules)) refusal.RuleExists
-    (and_then (table_named (record { tables = catalog.tables; rule = None }) r.table) (λ e.
+-- a new rule on a table: its triggers, its condition, its actions, its lists, the limit, a cycle
+abbrev pub walk_rule_on : ℕ → Catalog → RuleText → Entry → Result Resolved Refusal
+walk_rule_on most catalog r e =
     and_then (walk_triggers e r.triggers) (λ triggers.
     let schema : Schema = record { tables = catalog.tables; rule = Some (e.table.columns, triggers) } in
     and_then (rule_condition schema r.condition) (λ condition.
     and_then (in_order (walk_action schema) r.actions) (λ actions.
     and_then (in_order (rule_named catalog) r.precedes) (λ before.
     and_then (in_order (rule_named catalog) r.follows) (λ after.
-    required (nat_lt (length catalog.rules) rule_limit) refusal.TooManyRules
+    required (nat_lt (length catalog.rules) most) refusal.TooManyRules
     (acyclic catalog (record {
       name = r.name;
       table = e.id;
@@ -124,7 +122,13 @@ walk_rule catalog r =
       actions = actions;
       precedes = before;
       follows = after;
-    })))))))))
+    })))))))
+
+-- a new rule: its name, its table, and then the rest
+abbrev pub walk_rule : ℕ → Catalog → RuleText → Result Resolved Refusal
+walk_rule most catalog r =
+    required (not (list_any (λ old. same_name old.name r.name) catalog.rules)) refusal.RuleExists
+    (and_then (table_named (record { tables = catalog.tables; rule = None }) r.table) (λ e. walk_rule_on most catalog r e))
 
 -- ---- all commands
 
@@ -145,35 +149,35 @@ abbrev pub of_members : Catalog → Name → List Name → (List ℕ → Resolve
 of_members catalog name rules form =
     required (has_ruleset catalog name) refusal.NoRuleset (and_then (in_order (rule_named catalog) rules) (λ ids. Ok (form ids)))
 
--- each command, in the order in which it is refused
-abbrev pub walk : Catalog → Command → Result Resolved Refusal
-walk catalog text.open_session = Ok open_session
-walk catalog text.end_session = Ok end_session
-walk catalog text.begin = Ok begin
-walk catalog text.commit = Ok commit
-walk catalog text.rollback = Ok rollback
-walk catalog text.process_rules = Ok process_rules
-walk catalog (text.process_ruleset name) = of_ruleset catalog name (process_ruleset name)
-walk catalog (text.process_rule name) = of_rule catalog name process_rule
-walk catalog (text.create_table name columns) =
+-- each command, in the order in which it is refused, with the most rules that there may be
+abbrev pub walk : ℕ → Catalog → Command → Result Resolved Refusal
+walk most catalog text.open_session = Ok open_session
+walk most catalog text.end_session = Ok end_session
+walk most catalog text.begin = Ok begin
+walk most catalog text.commit = Ok commit
+walk most catalog text.rollback = Ok rollback
+walk most catalog text.process_rules = Ok process_rules
+walk most catalog (text.process_ruleset name) = of_ruleset catalog name (process_ruleset name)
+walk most catalog (text.process_rule name) = of_rule catalog name process_rule
+walk most catalog (text.create_table name columns) =
     required (not (list_any (λ e. same_name e.name name) catalog.tables)) refusal.TableExists
     (required (not (named_twice columns)) refusal.Ambiguous
     (required (nat_lt (length catalog.tables) table_limit) refusal.TooManyTables (Ok (create_table name columns))))
-walk catalog (text.drop_table name) =
+walk most catalog (text.drop_table name) =
     and_then (table_named (outside_rules catalog) name) (λ e.
     required (not (list_any (rule_names e.id) catalog.rules)) refusal.TableInUse (Ok (drop_table e.id)))
-walk catalog (text.create_rule r) = walk_rule catalog r
-walk catalog (text.drop_rule name) = of_rule catalog name drop_rule
-walk catalog (text.activate_rule name) = of_rule catalog name activate_rule
-walk catalog (text.deactivate_rule name) = of_rule catalog name deactivate_rule
-walk catalog (text.create_ruleset name) =
+walk most catalog (text.create_rule r) = walk_rule most catalog r
+walk most catalog (text.drop_rule name) = of_rule catalog name drop_rule
+walk most catalog (text.activate_rule name) = of_rule catalog name activate_rule
+walk most catalog (text.deactivate_rule name) = of_rule catalog name deactivate_rule
+walk most catalog (text.create_ruleset name) =
     required (not (has_ruleset catalog name)) refusal.RulesetExists
     (required (nat_lt (length catalog.rulesets) ruleset_limit) refusal.TooManyRulesets (Ok (create_ruleset name)))
-walk catalog (text.drop_ruleset name) = of_ruleset catalog name (drop_ruleset name)
-walk catalog (text.add_rules name rules) = of_members catalog name rules (add_rules name)
-walk catalog (text.del_rules name rules) = of_members catalog name rules (del_rules name)
-walk catalog (text.query q) = and_then (walk_query (outside_rules catalog) q []) (λ w. Ok (query w.0))
-walk catalog (text.change c) = and_then (walk_change (outside_rules catalog) c) (λ s. Ok (change s))
+walk most catalog (text.drop_ruleset name) = of_ruleset catalog name (drop_ruleset name)
+walk most catalog (text.add_rules name rules) = of_members catalog name rules (add_rules name)
+walk most catalog (text.del_rules name rules) = of_members catalog name rules (del_rules name)
+walk most catalog (text.query q) = and_then (walk_query (outside_rules catalog) q []) (λ w. Ok (query w.0))
+walk most catalog (text.change c) = and_then (walk_change (outside_rules catalog) c) (λ s. Ok (change s))
 
 -- what each command asks of its session
 abbrev pub class_of : Command → Class

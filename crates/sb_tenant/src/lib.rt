@@ -1,7 +1,11 @@
 //! One tenant's steps: a database of its own, specified by the replay of its trail.
 #![tactic(auto)]
 
+mod changes;
+mod guard;
+mod journal;
 pub mod laws;
+mod lines;
 mod order;
 mod phase;
 mod reply;

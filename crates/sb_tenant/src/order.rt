@@ -1,12 +1,13 @@
 //! The commands that the engine handles so far.
 ghost use Rattle.std.specs.Prelude.{◌≡◌, [], ◌∷◌, Some, option_map, IfOk};
 ghost use Rattle.sb_syntax.specs.Tree as tree;
-ghost use Rattle.sb_syntax.specs.Views.{command as command_tree, change as change_tree, query as query_tree};
+ghost use Rattle.sb_syntax.specs.Views.{command as command_tree, change as change_tree, query as query_tree, rule as rule_tree};
 ghost use Rattle.sb_tenant.specs.Orders.{order_tree};
 ghost use Rattle.sb_tenant.specs.Supported.{if_supported, engine};
 
 use sb_syntax::{
-    Change, Command, Items, ParseError, Query, SourceReference, TableReference, parse,
+    Action, Change, Command, Items, ParseError, Query, RuleText, SourceReference, TableReference,
+    Trigger, parse,
 };
 use sb_value::{ColumnDefinition, Name, Value};
 use std::alloc::{AllocError, Global};
@@ -20,13 +21,16 @@ pub(crate) enum Order {
     Commit,
     Rollback,
     CreateTable(Name, Vec<ColumnDefinition>),
+    /// A rule of this name rolls back what is inserted into this table.
+    CreateGuard(Name, Name),
     Insert(Name, Vec<Vec<Value>>),
+    DeleteAll(Name),
     SelectAll(Name),
 }
 
 /// The order that the line is, if it is one.
 pub(crate) fn order_in(alloc: Global, line: &[u8]) -> Result<Option<Order>, AllocError>
-    ensures { IfOk result (λ order. engine line.now ≡ option_map order_tree order) }
+    ensures { IfOk result (λ order. engine.command line.now ≡ option_map order_tree order) }
 {
     match parse(alloc, line) {
         Ok(command) => Ok(order_of(command)),
@@ -46,6 +50,7 @@ fn order_of(command: Command) -> Option<Order>
         Command::Commit => Some(Order::Commit),
         Command::Rollback => Some(Order::Rollback),
         Command::CreateTable(name, columns) => Some(Order::CreateTable(name, columns)),
+        Command::CreateRule(rule) => rule_order(&rule),
         Command::Change(change) => change_order(change),
         Command::Query(query) => query_order(&query),
         _ => None,
@@ -57,8 +62,30 @@ fn change_order(change: Change) -> Option<Order>
 {
     match change {
         Change::InsertRows(name, rows) => Some(Order::Insert(name, rows)),
+        Change::Delete(name, filter) => {
+            if filter.is_none() {
+                Some(Order::DeleteAll(name))
+            } else {
+                None
+            }
+        }
         _ => None,
     }
+}
+
+fn rule_order(rule: &RuleText) -> Option<Order>
+    ensures { if_supported (Some (tree.create_rule (rule_tree rule.now))) ≡ option_map order_tree result }
+{
+    let [Trigger::Insert] = rule.triggers.as_slice() else {
+        return None;
+    };
+    let [Action::Rollback] = rule.actions.as_slice() else {
+        return None;
+    };
+    if rule.condition.is_some() || !rule.precedes.is_empty() || !rule.follows.is_empty() {
+        return None;
+    }
+    Some(Order::CreateGuard(rule.name, rule.table))
 }
 
 fn query_order(query: &Query) -> Option<Order>

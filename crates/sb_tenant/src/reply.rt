@@ -1,5 +1,5 @@
 //! Replies, answers and the entries of a trail.
-ghost use Rattle.std.specs.Prelude.{◌≡◌, [], IfOk};
+ghost use Rattle.std.specs.Prelude.{◌≡◌, ◌++◌, ◌∷◌, [], IfOk, OnOk, OnErr};
 
 use sb_value::{Name, Refusal, RowList, SessionId, Verdict};
 use std::alloc::{AllocError, Global};
@@ -37,6 +37,15 @@ impl Line {
     {
         let bytes: &Vec<u8> = &self.bytes;
         bytes.as_slice()
+    }
+
+    /// The same line, once more.
+    pub fn share(&self) -> Result<Line, AllocError>
+        ensures { IfOk result (λ shared. shared ≡ self.now) }
+    {
+        Ok(Line {
+            bytes: self.bytes.clone()?,
+        })
     }
 }
 
@@ -106,6 +115,15 @@ impl NamedTrace {
         NamedTrace {
             list: Vec::new(alloc),
         }
+    }
+
+    /// Adds the next consideration.
+    pub fn push(&mut self, name: Name, verdict: Verdict) -> Result<(), AllocError>
+        ensures ok { OnOk result (self.new ≡ self.old ++ (name, verdict) ∷ []) }
+        ensures err { OnErr result (self.new ≡ self.old) }
+    {
+        self.list.push((name, verdict))?;
+        Ok(())
     }
 
     /// The considerations in order.

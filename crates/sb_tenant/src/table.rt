@@ -1,9 +1,9 @@
-//! A table with the rows that a transaction has inserted behind those that are committed.
-ghost use Rattle.std.specs.Prelude.{◌≡◌, ◌+◌, ◌<◌, ◌≤◌, [], ◌∷◌, ◌++◌, length, map, IfOk, OnOk, OnErr, None};
+//! A table in memory: its committed rows, and what a transaction has done to them.
+ghost use Rattle.std.specs.Prelude.{◌≡◌, ◌+◌, ◌<◌, ◌≤◌, ◌^◌, [], ◌∷◌, ◌++◌, length, map, IfOk, OnOk, OnErr, None};
 ghost use Rattle.std.specs.Result.{result_err};
 ghost use Rattle.sb_check.specs.Names.{same_type};
 ghost use Rattle.sb_check.specs.Walk.{of_types, fitting, type_of};
-ghost use Rattle.sb_tenant.specs.Stored.{Kept, new_table, only_committed, all_committed, rows_refusal as first_misfit, insert_refusal as why_not_inserted, with_rows};
+ghost use Rattle.sb_tenant.specs.Stored.{Kept, new_table, only_committed, all_committed, seen_rows, numbered, rows_refusal as first_misfit, insert_refusal as why_not_inserted, without_rows};
 
 use sb_value::{ColumnDefinition, ColumnType, Name, Refusal, Row, RowList, Value};
 use std::alloc::{AllocError, Global};
@@ -12,23 +12,45 @@ use std::marker::Model;
 /// The most rows that a table has.
 const ROW_LIMIT: usize = 4096;
 
+/// A row and its number.
+#[derive(Drop)]
+pub(crate) struct Place {
+    pub(crate) number: u64,
+    pub(crate) row: Row,
+}
+
+impl Model for Place {
+    ghost use Rattle.std.specs.Prelude.{List, ℕ};
+    ghost use Rattle.sb_value.specs.declared.value.Value.{Value as Item};
+
+    ghost Value = { ℕ × List Item };
+
+    ghost view = { λ p. (p.number, p.row) };
+}
+
+/// A table. Rows are inserted behind the others, and a delete hides those in front, so that nothing
+/// is moved until the transaction ends.
 #[derive(Drop)]
 pub(crate) struct StoredTable {
     name: Name,
     columns: Vec<ColumnDefinition>,
-    rows: Vec<Row>,
+    places: Vec<Place>,
     committed: usize,
+    hidden: usize,
+    next: u64,
+    next_committed: u64,
 }
 
 impl Model for StoredTable {
-    ghost use Rattle.std.specs.Prelude.{length, ◌≤◌};
+    ghost use Rattle.std.specs.Prelude.{length, ◌≤◌, drop};
     ghost use Rattle.sb_tenant.specs.Stored.{Kept};
 
     ghost Value = { Kept };
 
-    ghost view = { λ t. record { name = t.name; columns = t.columns.items; rows = t.rows.items; committed = t.committed } };
+    ghost view = { λ t. record { name = t.name; columns = t.columns.items; places = t.places.items; committed = t.committed; hidden = t.hidden; next = t.next; next_committed = t.next_committed } };
 
-    ghost invariant = { λ t. (t.committed ≤ length t.rows.items) × (length t.rows.items ≤ 4096) };
+    ghost invariant = { λ t.
+        (t.committed ≤ length t.places.items) × (t.committed ≤ 4096) × (t.hidden ≤ length t.places.items) × (length (drop t.hidden t.places.items) ≤ 4096) };
 }
 
 impl StoredTable {
@@ -39,8 +61,11 @@ impl StoredTable {
         StoredTable {
             name,
             columns,
-            rows: Vec::new(alloc),
+            places: Vec::new(alloc),
             committed: 0,
+            hidden: 0,
+            next: 1,
+            next_committed: 1,
         }
     }
 
@@ -50,64 +75,104 @@ impl StoredTable {
         self.name
     }
 
+    /// The number of the next row.
+    pub(crate) fn next(&self) -> u64
+        ensures { result ≡ self.now.next }
+    {
+        self.next
+    }
+
+    /// The rows that are seen, with their numbers.
+    pub(crate) fn seen(&self) -> &[Place]
+        ensures { result.now ≡ seen_rows self.now }
+    {
+        &self.places[self.hidden..]
+    }
+
     /// Why these rows aren't inserted.
     pub(crate) fn insert_refusal(&self, rows: &[Vec<Value>]) -> Option<Refusal>
         ensures value { result ≡ why_not_inserted self.now (map (λ r. r.items) rows.now) }
-        ensures room { result ≡ None → length self.now.rows + length rows.now ≤ 4096 }
+        ensures room { result ≡ None → length (seen_rows self.now) + length rows.now ≤ 4096 }
     {
         if let Some(refusal) = rows_refusal(rows, self.columns.as_slice()) {
             return Some(refusal);
         }
-        if self.rows.len() + rows.len() > ROW_LIMIT {
+        if self.seen().len() + rows.len() > ROW_LIMIT {
             return Some(Refusal::TooManyRows);
         }
         None
     }
 
-    /// A copy of its rows.
+    /// A copy of the rows that are seen.
     pub(crate) fn rows(&self, alloc: Global) -> Result<RowList, AllocError>
-        ensures { IfOk result (λ rows. rows ≡ self.now.rows) }
+        ensures { IfOk result (λ rows. rows ≡ map (λ p. p.1) (seen_rows self.now)) }
     {
-        let rows = self.rows.as_slice();
+        let places = self.seen();
         let mut copy = RowList::new(alloc);
-        for row in rows {
-            copy.push(row.clone()?)?;
+        for place in places {
+            copy.push(place.row.clone()?)?;
         }
         Ok(copy)
     }
 
-    /// Commits all rows.
+    /// Commits what is seen.
     pub(crate) fn commit(&mut self)
         ensures { self.new ≡ all_committed self.old }
     {
-        self.committed = self.rows.len();
+        if self.hidden > 0 {
+            drop(self.places.drain(..self.hidden));
+            self.hidden = 0;
+        }
+        self.committed = self.places.len();
+        self.next_committed = self.next;
     }
 
-    /// Drops the rows that aren't committed.
+    /// Goes back to what is committed.
     pub(crate) fn roll_back(&mut self)
         ensures { self.new ≡ only_committed self.old }
     {
-        self.rows.truncate(self.committed);
+        self.places.truncate(self.committed);
+        self.hidden = 0;
+        self.next = self.next_committed;
     }
 
-    /// Adds rows behind the others.
-    pub(crate) fn append(&mut self, mut rows: Vec<Row>) -> Result<(), AllocError>
-        requires { length self.old.rows + length rows.items ≤ 4096 }
-        ensures ok { OnOk result (self.new ≡ with_rows self.old rows.items) }
+    /// Adds rows behind the others. The row after them gets the number `next`.
+    pub(crate) fn append(&mut self, mut places: Vec<Place>, next: u64) -> Result<(), AllocError>
+        requires room { length (seen_rows self.old) + length places.items ≤ 4096 }
+        ensures ok { OnOk result (self.new ≡ record self.old { places = self.old.places ++ places.items; next = next }) }
         ensures err { OnErr result (self.new ≡ self.old) }
     {
-        self.rows.append(&mut rows)?;
+        self.places.append(&mut places)?;
+        self.next = next;
         Ok(())
+    }
+
+    /// Deletes all rows.
+    pub(crate) fn delete_all(&mut self)
+        ensures { self.new ≡ without_rows self.old }
+    {
+        self.hidden = self.places.len();
     }
 }
 
-/// The rows of these values.
-pub(crate) fn rows_of(alloc: Global, rows: Vec<Vec<Value>>) -> Result<Vec<Row>, AllocError>
-    ensures { IfOk result (λ made. made.items ≡ map (λ r. r.items) rows.items) }
+/// The rows of these values, under the numbers from `first` on.
+#[tactic(auto, using(crate::proofs::Numbered::numbered_more))]
+pub(crate) fn places_of(
+    alloc: Global,
+    rows: Vec<Vec<Value>>,
+    first: u64,
+) -> Result<Vec<Place>, AllocError>
+    requires { first + length rows.items < 2 ^ 64 }
+    ensures { IfOk result (λ made. made.items ≡ numbered first (map (λ r. r.items) rows.items)) }
 {
     let mut made = Vec::with_capacity(alloc, rows.len())?;
+    let mut number = first;
     for values in rows {
-        made.push(row_of(alloc, values)?)?;
+        made.push(Place {
+            number,
+            row: row_of(alloc, values)?,
+        })?;
+        number += 1;
     }
     Ok(made)
 }

@@ -7,10 +7,11 @@ ghost use Rattle.sb_tenant.specs.Step.{is_full_for, is_end_of_open};
 ghost use Rattle.sb_tenant.specs.Supported.{is_served};
 ghost use Rattle.sb_tenant.specs.Tenant.{new_tenant, state, IsLegal, AnswersLine, MakesStep, LeavesLine};
 
+use crate::lines::ShortLines;
 use crate::phase::Phase;
 use crate::reply::{Answer, Entry, Line, Reply};
 use crate::store::Store;
-use sb_value::{Refusal, SessionId, TenantId};
+use sb_value::{Refusal, SessionId, TenantId, Who};
 use std::alloc::{AllocError, Global};
 use std::marker::Model;
 
@@ -39,6 +40,7 @@ pub struct Tenant {
     trail: Vec<Entry>,
     // the line of the next `end`, which needs no memory then
     end_line: Option<Line>,
+    short_lines: ShortLines,
 }
 
 impl Model for Tenant {
@@ -52,7 +54,7 @@ impl Model for Tenant {
 
     ghost invariant = { λ t.
         IsLegal (record { id = t.id; bound = t.bound; trail = t.trail.items })
-        × Represents (state (record { id = t.id; bound = t.bound; trail = t.trail.items })) t.store
+        × Represents t.id (state (record { id = t.id; bound = t.bound; trail = t.trail.items })) t.store
         × IfSome t.end_line (λ line. line ≡ codes "end")
         × (not_closed t.store.phase ≡ true → (vec_len t.trail < vec_capacity t.trail) × IsSome t.end_line) };
 }
@@ -65,9 +67,16 @@ impl Tenant {
         Tenant {
             id,
             bound,
-            store: Store::new(alloc),
+            store: Store::new(
+                alloc,
+                Who {
+                    tenant: id,
+                    session: SessionId::new(0),
+                },
+            ),
             trail: Vec::new(alloc),
             end_line: None,
+            short_lines: ShortLines::new(alloc),
         }
     }
 
@@ -128,7 +137,13 @@ impl Tenant {
             MakesStep self.old session (codes "open") answer self.new × (answer.reply ≡ told.Ok)) }
         ensures err { OnErr result (self.new ≡ self.old) }
     {
-        let line = make_ready(alloc, &mut self.trail, &mut self.end_line, OPEN)?;
+        let line = make_ready(
+            alloc,
+            &mut self.trail,
+            &mut self.end_line,
+            &mut self.short_lines,
+            OPEN,
+        )?;
         self.store.set_phase(Phase::Idle);
         let entry = Entry {
             session,
@@ -178,8 +193,14 @@ impl Tenant {
         ensures ok { IfOk result (λ answer. MakesStep self.old session line.now answer self.new) }
         ensures err { OnErr result (LeavesLine self.old session line.now self.new) }
     {
-        let kept = make_ready(alloc, &mut self.trail, &mut self.end_line, line)?;
-        let (reply, copy) = self.store.answer(alloc, line);
+        let kept = make_ready(
+            alloc,
+            &mut self.trail,
+            &mut self.end_line,
+            &mut self.short_lines,
+            line,
+        )?;
+        let (reply, copy) = self.store.answer(alloc, self.bound, line);
         let entry = Entry {
             session,
             line: kept,
@@ -198,6 +219,7 @@ fn make_ready(
     alloc: Global,
     trail: &mut Vec<Entry>,
     end_line: &mut Option<Line>,
+    short_lines: &mut ShortLines,
     line: &[u8],
 ) -> Result<Line, NotBegun>
     requires { IfSome end_line.old (λ l. l ≡ codes "end") }
@@ -211,7 +233,7 @@ fn make_ready(
     if trail.reserve(2).is_err() || keep_end(alloc, end_line).is_err() {
         return Err(NotBegun);
     }
-    match Line::new(alloc, line) {
+    match short_lines.line(alloc, line) {
         Ok(kept) => Ok(kept),
         Err(_) => Err(NotBegun),
     }

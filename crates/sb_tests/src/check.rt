@@ -46,6 +46,7 @@ impl Schema for Tables {
     }
 }
 
+/// The tables of all tests but the worked ones.
 const TABLES: [&[u8]; 4] = [
     b"create table t (a int, b text)",
     b"create table u (b int, c int)",
@@ -57,17 +58,22 @@ fn command(rt: &impl Abort, alloc: Global, text: &[u8]) -> Command {
     parse(alloc, text).expect(rt, "a command")
 }
 
-fn four_tables(rt: &impl Abort, alloc: Global) -> Tables {
+/// The tables that these commands create.
+fn tables_of(rt: &impl Abort, alloc: Global, texts: &[&[u8]]) -> Tables {
     let mut list = Vec::new(alloc);
-    for (number, text) in TABLES.iter().enumerate() {
+    for (number, text) in texts.iter().enumerate() {
         let Command::CreateTable(name, columns) = command(rt, alloc, text) else {
             continue;
         };
-        assert!(rt; number < 4);
+        assert!(rt; number < 16);
         let id = TableId::new(number as u8);
         list.push(Stored { id, name, columns }).expect(rt, "memory");
     }
     Tables { list }
+}
+
+fn four_tables(rt: &impl Abort, alloc: Global) -> Tables {
+    tables_of(rt, alloc, &TABLES)
 }
 
 fn number(refusal: Refusal) -> u8 {
@@ -90,7 +96,7 @@ fn refusal_of(rt: &impl Abort, alloc: Global, tables: &Tables, text: &[u8]) -> u
 }
 
 /// Statements and the numbers of their refusals; 0 is none.
-const STATEMENTS: [(&[u8], u8); 78] = [
+const STATEMENTS: [(&[u8], u8); 126] = [
     // Sources in order: the table, then its visible name.
     (b"select * from t", 0),
     (b"select * from x", 20),
@@ -178,6 +184,69 @@ const STATEMENTS: [(&[u8], u8); 78] = [
         b"select * from t, w where exists (select * from t where a = 1)",
         0,
     ),
+    // Two queries outward: of the right type, of the wrong one, of a table that isn't there, missing, ambiguous.
+    (
+        b"select * from t where exists (select * from v where exists (select * from v where t.a = 1))",
+        0,
+    ),
+    (
+        b"select * from t where exists (select * from v where exists (select * from v where b = 1))",
+        23,
+    ),
+    (
+        b"select * from t where exists (select * from v where exists (select * from v where u.b = 1))",
+        22,
+    ),
+    (
+        b"select * from t where exists (select * from v where exists (select * from v where c = 1))",
+        22,
+    ),
+    (
+        b"select * from t, w where exists (select * from v where exists (select * from v where a = 1))",
+        24,
+    ),
+    // An alias hides its table's name, and an inner source an outer one of its name.
+    (
+        b"select * from t where exists (select * from u t where exists (select * from v where t.a = 1))",
+        22,
+    ),
+    (
+        b"select * from t x where exists (select * from v where exists (select * from v where t.a = 1))",
+        22,
+    ),
+    (
+        b"select * from t x where exists (select * from v where exists (select * from v where x.a = 1))",
+        0,
+    ),
+    (b"select w.a from t w, w x", 0),
+    (b"select w.e from t w, w x", 22),
+    // Sources, items and condition of an inner query, in their order.
+    (
+        b"select * from t where exists (select z from x where z = 1)",
+        20,
+    ),
+    (
+        b"select * from t where exists (select z from u where b = 'x')",
+        22,
+    ),
+    (
+        b"select * from t where exists (select b + 'x' from u where z = 1)",
+        23,
+    ),
+    (
+        b"select * from t where a = (select sum(b) from u, u) and z = 1",
+        24,
+    ),
+    (
+        b"select * from t where exists (select * from deleted) and z = 1",
+        26,
+    ),
+    // A comparison's own check comes last: after both sides, and after an operand's number of columns.
+    (b"select * from t where 'x' + 1 = z", 23),
+    (b"select * from t where z = 'x' + 1", 22),
+    (b"select * from t where b = z + 1", 22),
+    (b"select * from t where b = (select z from u)", 22),
+    (b"select * from t where b in (select z from u)", 22),
     // Changes.
     (b"insert into x values (1)", 20),
     (b"insert into t values (1)", 25),
@@ -193,9 +262,46 @@ const STATEMENTS: [(&[u8], u8); 78] = [
         b"delete from t where exists (select * from u where a = c)",
         0,
     ),
+    (b"delete from t where inserted.a = 1", 22),
+    (b"delete from t where b = 1", 23),
+    (b"delete from t where exists (select * from inserted)", 26),
+    (
+        b"delete from t where exists (select * from u t where t.a = 1)",
+        22,
+    ),
+    (
+        b"delete from t where exists (select * from v where exists (select * from v where t.a = 1))",
+        0,
+    ),
+    (
+        b"delete from t where exists (select * from v where exists (select * from v where a = d))",
+        23,
+    ),
+    (b"insert into x select * from y", 20),
+    (b"insert into t select * from x", 20),
+    (b"insert into t select * from inserted", 26),
+    (b"insert into t select b, c, z from u", 22),
+    (b"insert into t select a, e, f from w where z = 1", 22),
+    (b"insert into t select a, f from w", 0),
+    (b"insert into v select * from u", 25),
+    (b"insert into u select count(*) from u", 25),
+    (b"insert into v select count(*) from u", 23),
+    (b"update x set z = 1", 20),
     (b"update t set z = 1", 22),
+    (b"update t set a = 1, z = 1", 22),
     (b"update t set a = 1, a = z", 24),
+    (b"update t set a = z, a = 1", 22),
+    (b"update t set a = 'x', a = 1", 23),
     (b"update t set a = b, b = z where z = 1", 23),
+    (b"update t set b = a where z = 1", 23),
+    (b"update t set a = 1 where z = 1", 22),
+    (b"update t set a = a + 1, b = 'x' where a = 1", 0),
+    (b"update t set a = (select b from u)", 25),
+    (b"update t set b = (select count(*) from u)", 23),
+    (b"update t set b = (select c from u)", 25),
+    (b"update t set a = (select sum(a) from v)", 0),
+    (b"update t set a = (select sum(z) from v)", 22),
+    (b"update t set a = (select sum(t.b) from v)", 23),
 ];
 
 #[test]
@@ -219,7 +325,7 @@ fn rule_refusal(rt: &impl Abort, alloc: Global, tables: &Tables, text: &[u8]) ->
 }
 
 /// Rules and the numbers of their refusals.
-const RULES: [(&[u8], u8); 16] = [
+const RULES: [(&[u8], u8); 26] = [
     (b"create rule r on x when updated(z) then delete from x", 20),
     (
         b"create rule r on t when updated(z) if select * from x then delete from x",
@@ -280,6 +386,46 @@ const RULES: [(&[u8], u8); 16] = [
     (
         b"create rule r on t when inserted then delete from t where a in (select a from inserted i where i.a = t.a)",
         0,
+    ),
+    (
+        b"create rule r on t when inserted if select inserted.a from inserted i then rollback",
+        22,
+    ),
+    (
+        b"create rule r on t when inserted if select a from inserted, t then rollback",
+        24,
+    ),
+    (
+        b"create rule r on t when inserted if select t.a from inserted then rollback",
+        22,
+    ),
+    (
+        b"create rule r on t when inserted, inserted if select * from inserted, inserted then rollback",
+        24,
+    ),
+    (
+        b"create rule r on t when updated(a) if select * from old-updated, new-updated where b = 'x' then rollback",
+        24,
+    ),
+    (
+        b"create rule r on t when updated(a) if select * from old-updated o, new-updated n where o.b <> n.b then rollback",
+        0,
+    ),
+    (
+        b"create rule r on t when updated(b) if select * from t where exists (select * from deleted) then rollback",
+        26,
+    ),
+    (
+        b"create rule r on t when deleted then delete from x; delete from t where z = 1",
+        20,
+    ),
+    (
+        b"create rule r on t when deleted then delete from t where z = 1; delete from x",
+        22,
+    ),
+    (
+        b"create rule r on t when deleted then update t set a = (select count(*) from inserted)",
+        26,
     ),
 ];
 

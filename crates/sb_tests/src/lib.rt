@@ -8,6 +8,10 @@ mod changes;
 #[cfg(test)]
 mod check;
 #[cfg(test)]
+mod database;
+#[cfg(test)]
+mod eval;
+#[cfg(test)]
 mod index;
 #[cfg(test)]
 mod locks;

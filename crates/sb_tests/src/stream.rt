@@ -7,7 +7,7 @@ use std::process::Abort;
 use std::test::Fail;
 
 /// Inputs with the text that answers them, each on a fresh cell.
-const STREAMS: [(&[u8], &[u8]); 9] = [
+const STREAMS: [(&[u8], &[u8]); 10] = [
     (b"", b""),
     (b"\n", b"- - no 12 BadLine\n"),
     (b"0 0 open", b"0 0 ok\n"),
@@ -28,8 +28,12 @@ const STREAMS: [(&[u8], &[u8]); 9] = [
         b"0 0 no 10 Syntax\n0 0 no 10 Syntax\n0 0 ok\n- - no 12 BadLine\n",
     ),
     (
-        b"0 0 open\n0 0 drop table t\n0 0 create rule r on t when inserted then rollback\n0 0 select count(*) from t\n",
+        b"0 0 open\n0 0 drop table t\n0 0 drop rule r\n0 0 select count(*) from t\n",
         b"0 0 ok\n0 0 no 10 Syntax\n0 0 no 10 Syntax\n0 0 no 10 Syntax\n",
+    ),
+    (
+        b"0 0 open\n0 0 create table t (a int)\n0 0 create rule r on t when inserted then rollback\n0 0 begin\n0 0 insert into t values (1)\n0 0 commit\n0 0 begin\n0 0 select * from t\n0 0 insert into t values (1), (2)\n0 0 delete from t\n0 0 commit\n0 0 create rule q on t when inserted then rollback\n",
+        b"0 0 ok\n0 0 ok\n0 0 ok\n0 0 ok\n0 0 ok 1\n0 0 rolledback rule r 1\n0 0 r true\n0 0 ok\n0 0 rows 0\n0 0 ok 2\n0 0 ok 2\n0 0 done 0\n0 0 no 53 TooManyRules\n",
     ),
     (
         b"0 0 begin\n0 0 end\n0 0 open\n0 0 open\n0 0 end\n0 0 commit\n",

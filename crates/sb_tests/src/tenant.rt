@@ -120,10 +120,113 @@ const VALUES: Script = &[
     (b"commit", b"done 0\n"),
 ];
 
+/// A rule rolls back what is inserted, but not what is inserted and deleted. The rows that come next are
+/// inserted as if those had never been.
+const GUARDED: Script = &[
+    (b"open", b"ok\n"),
+    (
+        b"create rule r on t when inserted then rollback",
+        b"no 20 NoTable\n",
+    ),
+    (b"create table t (a int)", b"ok\n"),
+    (b"create table u (a int)", b"ok\n"),
+    (b"create rule r on t when inserted then rollback", b"ok\n"),
+    (b"begin", b"ok\n"),
+    (b"insert into t values (1)", b"ok 1\n"),
+    (b"insert into u values (1)", b"ok 1\n"),
+    (b"commit", b"rolledback rule r 1\nr true\n"),
+    (b"commit", b"no 42 NoTransaction\n"),
+    (b"begin", b"ok\n"),
+    (b"select * from t", b"rows 0\n"),
+    (b"select * from u", b"rows 0\n"),
+    (b"insert into t values (1), (2)", b"ok 2\n"),
+    (b"delete from t", b"ok 2\n"),
+    (b"commit", b"done 0\n"),
+    (
+        b"create rule q on t when inserted then rollback",
+        b"no 53 TooManyRules\n",
+    ),
+    (
+        b"create rule r on t when inserted then rollback",
+        b"no 51 RuleExists\n",
+    ),
+    (
+        b"create rule r on v when inserted then rollback",
+        b"no 51 RuleExists\n",
+    ),
+    (
+        b"create rule q on v when inserted then rollback",
+        b"no 20 NoTable\n",
+    ),
+    (b"begin", b"ok\n"),
+    (
+        b"create rule r on t when inserted then rollback",
+        b"no 41 InTransaction\n",
+    ),
+    (b"delete from v", b"no 20 NoTable\n"),
+    (b"insert into u values (1), (2)", b"ok 2\n"),
+    (b"commit", b"done 0\n"),
+    (b"delete from u", b"no 42 NoTransaction\n"),
+    (b"end", b"ok\n"),
+    (
+        b"create rule r on t when inserted then rollback",
+        b"no 44 NotOpen\n",
+    ),
+    (b"delete from u", b"no 44 NotOpen\n"),
+];
+
+/// Deletes are rolled back, and committed. Rows that are inserted after a delete are alone.
+const DELETES: Script = &[
+    (b"open", b"ok\n"),
+    (b"create table t (a int)", b"ok\n"),
+    (b"begin", b"ok\n"),
+    (b"delete from t", b"ok 0\n"),
+    (b"insert into t values (1), (2)", b"ok 2\n"),
+    (b"commit", b"done 0\n"),
+    (b"begin", b"ok\n"),
+    (b"delete from t", b"ok 2\n"),
+    (b"select * from t", b"rows 0\n"),
+    (b"insert into t values (3)", b"ok 1\n"),
+    (b"select * from t", b"rows 1\n3\n"),
+    (b"rollback", b"ok\n"),
+    (b"begin", b"ok\n"),
+    (b"select * from t", b"rows 2\n1\n2\n"),
+    (b"insert into t values (4)", b"ok 1\n"),
+    (b"delete from t", b"ok 3\n"),
+    (b"insert into t values (5), (6)", b"ok 2\n"),
+    (b"commit", b"done 0\n"),
+    (b"begin", b"ok\n"),
+    (b"select * from t", b"rows 2\n5\n6\n"),
+    (b"insert into t values (7)", b"ok 1\n"),
+    (b"delete from t", b"ok 3\n"),
+    (b"end", b"ok\n"),
+    (b"open", b"ok\n"),
+    (b"begin", b"ok\n"),
+    (b"select * from t", b"rows 2\n5\n6\n"),
+];
+
+/// With no consideration allowed, a rule that is triggered ends the processing.
+const GUARDED_WITHIN_0: Script = &[
+    (b"open", b"ok\n"),
+    (b"create table t (a int)", b"ok\n"),
+    (b"create rule r on t when inserted then rollback", b"ok\n"),
+    (b"begin", b"ok\n"),
+    (b"insert into t values (1)", b"ok 1\n"),
+    (b"commit", b"rolledback limit 0\n"),
+    (b"begin", b"ok\n"),
+    (b"select * from t", b"rows 0\n"),
+    (b"commit", b"done 0\n"),
+];
+
 /// The commands that aren't handled yet.
-const NOT_HANDLED: [&[u8]; 19] = [
+const NOT_HANDLED: [&[u8]; 23] = [
     b"drop table t",
-    b"create rule r on t when inserted then rollback",
+    b"create rule r on t when deleted then rollback",
+    b"create rule r on t when inserted, deleted then rollback",
+    b"create rule r on t when inserted if select * from t then rollback",
+    b"create rule r on t when inserted then delete from t",
+    b"create rule r on t when inserted then rollback; rollback",
+    b"create rule r on t when inserted then rollback precedes q",
     b"drop rule r",
     b"activate rule r",
     b"deactivate rule r",
@@ -135,7 +238,6 @@ const NOT_HANDLED: [&[u8]; 19] = [
     b"process ruleset s",
     b"insert into t select * from t",
     b"update t set a = 1",
-    b"delete from t",
     b"select a from t",
     b"select * from t u",
     b"select * from t where a = 1",
@@ -176,7 +278,11 @@ fn make(
 
 /// A new tenant answers the script so, and its trail is the script.
 fn play(rt: &impl Abort, alloc: Global, script: Script) -> Result<Tenant, Fail> {
-    let mut tenant = Tenant::new(alloc, TenantId::new(0), 1000);
+    play_within(rt, alloc, 1000, script)
+}
+
+fn play_within(rt: &impl Abort, alloc: Global, bound: u32, script: Script) -> Result<Tenant, Fail> {
+    let mut tenant = Tenant::new(alloc, TenantId::new(0), bound);
     for (line, told) in script {
         make(rt, alloc, &mut tenant, line, told)?;
     }
@@ -212,6 +318,20 @@ fn scripts_are_answered(rt: HostRuntime) -> Result<(), Fail> {
     assert!(rt; open.is_open(SessionId::new(0)) && !open.is_open(SessionId::new(1)));
     let open = play(&rt, alloc, VALUES)?;
     assert!(rt; open.is_open(SessionId::new(0)) && !open.is_full());
+    Ok(())
+}
+
+#[test]
+fn deletes_and_a_rule_are_answered(rt: HostRuntime) -> Result<(), Fail> {
+    let alloc = rt.alloc();
+    let open = play(&rt, alloc, DELETES)?;
+    assert!(rt; open.is_open(SessionId::new(0)));
+    let closed = play(&rt, alloc, GUARDED)?;
+    assert!(rt; !closed.is_open(SessionId::new(0)));
+    let open = play_within(&rt, alloc, 0, GUARDED_WITHIN_0)?;
+    assert!(rt; open.is_open(SessionId::new(0)));
+    let closed = play_within(&rt, alloc, 1, GUARDED)?;
+    assert!(rt; !closed.is_open(SessionId::new(0)));
     Ok(())
 }
 

@@ -8,7 +8,7 @@ use Rattle.sb_tenant.specs.Limits.{is_session}
 use Rattle.sb_wire.specs.Output.{ended_lines, output}
 
 abbrev no_commands : Language
-no_commands text = None
+no_commands = record { command = λ text. None; rules = 0 }
 
 -- an empty input has no line
 pub empty_input : output no_commands (λ t. nat_lt t 16) is_session 1000 (λ t. opening) [] ≡ []

@@ -1,4 +1,4 @@
-use Rattle.std.proofs.Common.{sym, arith}
+use Rattle.std.proofs.Common.{arith}
 use Rattle.sb_check.specs.Lent.{source_lent}
 use Rattle.sb_check.proofs.SourceWalk.{source-step}
 use Rattle.sb_check.proofs.source.sources.Goals as goal

@@ -30,7 +30,7 @@ is_end : (c : goal.After-put) → c.in-Some.line ≡ codes "end"
 is_end c = subst (λ line. IfSome line (λ l. l ≡ codes "end")) (sym c.take.ensures.value ∙ c.in-Some.is) c.self.invariant.2
 
 made : (c : goal.After-put) → MakesStep (before c) c.args.session (codes "end") (record { number = Some c.put.result; reply = Ok }) (with_trail (before c) c.put.new.trail.items)
-    × IsLegal (with_trail (before c) c.put.new.trail.items) × Represents (state (with_trail (before c) c.put.new.trail.items)) (dropped c.self.inside.store Closed)
+    × IsLegal (with_trail (before c) c.put.new.trail.items) × Represents (before c).id (state (with_trail (before c) c.put.new.trail.items)) (dropped c.self.inside.store Closed)
 made c =
     let t = c.self.inside in
     let entry_is = ap (λ (line : List ℕ). t.trail.items ++ record { session = c.args.session; line = line; reply = Ok } ∷ []) (is_end c) in
@@ -40,7 +40,7 @@ made c =
 pub invariant_of-self : goal.invariant_of-self
 invariant_of-self c = (
   (made c).1,
-  subst (Represents (state (with_trail (before c) c.put.new.trail.items))) (sym c.roll_back.ensures) (made c).2,
+  subst (Represents (before c).id (state (with_trail (before c) c.put.new.trail.items))) (sym c.roll_back.ensures) (made c).2,
   subst (λ line. IfSome line (λ l. l ≡ codes "end")) (sym c.take.ensures.after) tt,
   (λ open_now. no_way (ap (λ (v : Stored). not_closed v.phase) (sym c.roll_back.ensures) ∙ open_now)),
 )

@@ -28,7 +28,7 @@ goes_on c =
     (subst (λ (s : ℕ). is_end_of_open (state c.args.self.now) s c.args.line.now ≡ false) (first_session c.args.session c.requires.served) c.requires.goes_on)
 
 made : (c : goal.After-put) → MakesStep (before c) c.args.session c.args.line.now (record { number = Some c.put.result; reply = c.answer-reply.result.0 }) (with_trail (before c) c.put.new.trail.items)
-    × IsLegal (with_trail (before c) c.put.new.trail.items) × Represents (state (with_trail (before c) c.put.new.trail.items)) c.answer-reply.new.self
+    × IsLegal (with_trail (before c) c.put.new.trail.items) × Represents (before c).id (state (with_trail (before c) c.put.new.trail.items)) c.answer-reply.new.self
 made c =
     let t = c.self.inside in
     let told = c.answer-reply.result.0 in

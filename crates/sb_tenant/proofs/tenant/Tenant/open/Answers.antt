@@ -34,7 +34,7 @@ room c =
     ap (λ (b : Bool). b && not (is_end_of_open st 0 (codes "open"))) (subst (λ (now : Tenant). nat_le trail_limit (state now).steps ≡ false) (sym c.self.view_is) c.requires.room)
 
 made : (c : goal.After-put) → MakesStep (before c) c.args.session (codes "open") (record { number = Some c.put.result; reply = Ok }) (with_trail (before c) c.put.new.trail.items)
-    × IsLegal (with_trail (before c) c.put.new.trail.items) × Represents (state (with_trail (before c) c.put.new.trail.items)) (with_phase c.self.inside.store Idle)
+    × IsLegal (with_trail (before c) c.put.new.trail.items) × Represents (before c).id (state (with_trail (before c) c.put.new.trail.items)) (with_phase c.self.inside.store Idle)
 made c =
     let t = c.self.inside in
     let items_are = c.put.ensures.items ∙ (λ i. c.make_ready.ensures.items i ++ record { session = c.args.session; line = c.in_ok-line.ensures.ok.0 i; reply = Ok } ∷ []) in
@@ -43,7 +43,7 @@ made c =
 
 pub invariant_of-self-2 : goal.invariant_of-self-2
 invariant_of-self-2 c =
-    ((made c).1, subst (Represents (state (with_trail (before c) c.put.new.trail.items))) (sym c.set_phase.ensures) (made c).2, search rules, search rules)
+    ((made c).1, subst (Represents (before c).id (state (with_trail (before c) c.put.new.trail.items))) (sym c.set_phase.ensures) (made c).2, search rules, search rules)
 
 pub returns-clause-ok : goal.returns-clause-ok
 returns-clause-ok c =

@@ -1,0 +1,6 @@
+use Rattle.sb_syntax.specs.Views as view
+use Rattle.sb_check.proofs.CommandFits.{answers_fit}
+use Rattle.sb_check.proofs.command.resolve.Goals as goal
+
+pub returns-clause-fits : goal.returns-clause-fits
+returns-clause-fits g c = answers_fit (g.S.Schema.names c.args.schema.now) (view.command c.args.text.now) c.command.result c.command.ensures

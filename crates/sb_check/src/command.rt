@@ -1,0 +1,116 @@
+//! Whole commands with their names resolved.
+ghost use Rattle.std.specs.Prelude.{◌≡◌, IfOk};
+ghost use Rattle.std.specs.List.{list_any};
+ghost use Rattle.sb_value.specs.Name.{same_name};
+ghost use Rattle.sb_check.specs.Answer.{Answers};
+ghost use Rattle.sb_check.specs.Fits.{Fits};
+ghost use Rattle.sb_check.specs.Resolved.{named_twice, resolved, walk_names};
+ghost use Rattle.sb_syntax.specs.Tree as tree;
+ghost use Rattle.sb_syntax.specs.Views as view;
+
+use crate::parts::{resolve_change, resolve_query, resolve_rule};
+use crate::rule::RuleParts;
+use crate::schema::Schema;
+use crate::tree::{Query, Statement};
+use sb_syntax::Command;
+use sb_value::{ColumnDefinition, Name, Refusal, TableId};
+use std::alloc::Global;
+
+/// What the tables tell of a command. `Plain` names nothing that they know.
+#[derive(Drop)]
+pub enum Resolved {
+    Plain,
+    /// A table of that name and with these columns may be made.
+    NewTable,
+    Table(TableId),
+    Rule(RuleParts),
+    Query(Query),
+    Change(Statement),
+}
+
+/// A command with its names and types. What it gives can be evaluated: no column lies out of
+/// range, and no text stands where a number is asked for.
+pub fn resolve<'s, S: Schema>(
+    alloc: Global,
+    text: &Command,
+    schema: &'s S,
+) -> Result<Resolved, Refusal>
+    ensures walk { Answers resolved (walk_names (S.names schema.now) (view.command text.now)) result }
+    ensures fits { IfOk result (λ r. Fits (S.names schema.now) (resolved r)) }
+{
+    command(alloc, text, schema)
+}
+
+fn command<'s, S: Schema>(alloc: Global, text: &Command, schema: &'s S) -> Result<Resolved, Refusal>
+    ensures { Answers resolved (walk_names (S.names schema.now) (view.command text.now)) result }
+{
+    match text {
+        Command::CreateTable(name, columns) => new_table(name, columns.as_slice(), schema),
+        Command::DropTable(name) => old_table(name, schema),
+        Command::CreateRule(rule) => match resolve_rule(alloc, rule, schema) {
+            Ok(parts) => Ok(Resolved::Rule(parts)),
+            Err(refusal) => Err(refusal),
+        },
+        Command::Query(query) => match resolve_query(alloc, query, schema) {
+            Ok(query) => Ok(Resolved::Query(query)),
+            Err(refusal) => Err(refusal),
+        },
+        Command::Change(change) => match resolve_change(alloc, change, schema) {
+            Ok(statement) => Ok(Resolved::Change(statement)),
+            Err(refusal) => Err(refusal),
+        },
+        _ => Ok(Resolved::Plain),
+    }
+}
+
+fn new_table<S: Schema>(
+    name: &Name,
+    columns: &[ColumnDefinition],
+    schema: &S,
+) -> Result<Resolved, Refusal>
+    ensures { Answers resolved
+        (walk_names (S.names schema.now) (tree.create_table name.now columns.now)) result }
+{
+    if has_table(schema, name) {
+        return Err(Refusal::TableExists);
+    }
+    if is_named_twice(columns) {
+        return Err(Refusal::Ambiguous);
+    }
+    Ok(Resolved::NewTable)
+}
+
+/// Whether there is a table of that name.
+fn has_table<S: Schema>(schema: &S, name: &Name) -> bool
+    ensures { result ≡ list_any (λ e. same_name e.name name.now) (S.names schema.now).tables }
+{
+    match schema.table(name) {
+        Some(_) => true,
+        None => false,
+    }
+}
+
+fn old_table<S: Schema>(name: &Name, schema: &S) -> Result<Resolved, Refusal>
+    ensures { Answers resolved (walk_names (S.names schema.now) (tree.drop_table name.now)) result }
+{
+    match schema.table(name) {
+        Some(table) => Ok(Resolved::Table(table.id)),
+        None => Err(Refusal::NoTable),
+    }
+}
+
+/// Whether two columns have one name.
+fn is_named_twice(columns: &[ColumnDefinition]) -> bool
+    ensures { result ≡ named_twice columns.now }
+{
+    match columns {
+        [] => false,
+        [first, rest @ ..] => has_name(rest, &first.name) || is_named_twice(rest),
+    }
+}
+
+fn has_name(columns: &[ColumnDefinition], name: &Name) -> bool
+    ensures { result ≡ list_any (λ c. same_name name.now c.name) columns.now }
+{
+    columns.iter().any(|column| name.is_same(&column.name))
+}

@@ -1,0 +1,26 @@
+-- What a call answers, against the rows or the changes that are meant, or the refusal.
+use Rattle.std.specs.Prelude.{◌≡◌, Result, Ok, Err}
+use Rattle.sb_value.specs.declared.refusal.Refusal.{Refusal}
+use Rattle.sb_value.specs.declared.refusal.Refusal.TheVariants as refusal
+use Rattle.sb_eval.specs.declared.fault.Fault.{Fault}
+use Rattle.sb_eval.specs.declared.fault.Fault.TheVariants as fault
+use Rattle.sb_eval.specs.declared.fault.EvalError.{EvalError}
+use Rattle.sb_eval.specs.declared.fault.EvalError.TheVariants.{TooBig, Overflow, TooManyRows, NoMemory}
+
+-- the answer, seen by a view, is what is meant, unless memory runs out
+abbrev pub Answers : {X A : Type 0} → (X → A) → Result A Refusal → Result X EvalError → Type 0
+Answers view meant (Ok x) = meant ≡ Ok (view x)
+Answers view meant (Err TooBig) = meant ≡ Err refusal.TooBig
+Answers view meant (Err Overflow) = meant ≡ Err refusal.Overflow
+Answers view meant (Err TooManyRows) = meant ≡ Err refusal.TooManyRows
+Answers view meant (Err NoMemory) = Unit {0}
+
+-- a fault as an error
+abbrev pub error_of : Fault → EvalError
+error_of fault.Overflow = Overflow
+error_of fault.NoMemory = NoMemory
+
+-- f of what is given, or the refusal
+abbrev pub with_given : {A B : Type 0} → (A → B) → Result A Refusal → Result B Refusal
+with_given f (Ok a) = Ok (f a)
+with_given f (Err e) = Err e

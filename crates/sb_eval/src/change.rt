@@ -1,0 +1,238 @@
+//! The changes of single rows.
+ghost use Rattle.std.specs.Prelude.{◌≡◌, ◌++◌, ◌∷◌, [], map, slice_set, IfOk, OnOk, option_and_then};
+ghost use Rattle.sb_eval.specs.Answer.{Gives, Leaves};
+ghost use Rattle.sb_eval.specs.Effect.{change_of, with_change, with_place};
+ghost use Rattle.sb_eval.specs.Meaning as meaning;
+ghost use Rattle.sb_eval.specs.Scopes.{scope_of, value_seen};
+ghost use Rattle.sb_eval.specs.Seen.{rows_in};
+ghost use Rattle.sb_eval.specs.Statement as spec;
+
+use crate::condition::{condition, operand};
+use crate::fault::Fault;
+use crate::kept::append;
+use crate::scope::Scope;
+use crate::sources::{LentRow, Sources};
+use crate::value_ref::ValueRef;
+use sb_check::{Assignment, Condition};
+use sb_value::{Change, Columns, Kind, Row, TableId, Value};
+use smallvec::SmallVec;
+use std::alloc::{AllocError, Global};
+use std::marker::Model;
+
+/// What a statement does to each row for which its condition is true.
+#[derive(Drop)]
+pub(crate) enum Effect<'a> {
+    Delete,
+    Update(&'a [Assignment], Columns),
+}
+
+/// The insert of a row under a number.
+pub(crate) fn insert_change<S: Sources>(
+    sources: &S,
+    table: TableId,
+    number: u64,
+    row: Row,
+) -> Change
+    ensures { result ≡ spec.insert_change (S.seen sources.now) table number row }
+{
+    let who = sources.who();
+    Change {
+        tenant: who.tenant,
+        session: who.session,
+        table,
+        tuple: number,
+        kind: Kind::Inserted,
+        old: None,
+        new: Some(row),
+        columns: Columns::empty(),
+    }
+}
+
+/// The delete of a numbered row.
+fn delete_change<S: Sources>(sources: &S, table: TableId, number: u64, row: Row) -> Change
+    ensures { result ≡ spec.delete_change (S.seen sources.now) table (number, row) }
+{
+    let who = sources.who();
+    Change {
+        tenant: who.tenant,
+        session: who.session,
+        table,
+        tuple: number,
+        kind: Kind::Deleted,
+        old: Some(row),
+        new: None,
+        columns: Columns::empty(),
+    }
+}
+
+/// The update of a numbered row to another row.
+fn update_change<S: Sources>(
+    sources: &S,
+    table: TableId,
+    columns: Columns,
+    number: u64,
+    old: Row,
+    new: Row,
+) -> Change
+    ensures { result ≡ spec.update_change (S.seen sources.now) table columns (number, old) new }
+{
+    let who = sources.who();
+    Change {
+        tenant: who.tenant,
+        session: who.session,
+        table,
+        tuple: number,
+        kind: Kind::Updated,
+        old: Some(old),
+        new: Some(new),
+        columns,
+    }
+}
+
+/// The columns that assignments name.
+pub(crate) fn places(assignments: &[Assignment]) -> Columns
+    ensures { result ≡ spec.places_of assignments.now }
+{
+    let mut columns = Columns::empty();
+    for assignment in assignments {
+        columns = with(columns, assignment.place);
+    }
+    columns
+}
+
+/// The set with one place more. No table has a column above the eighth.
+fn with(columns: Columns, place: u8) -> Columns
+    ensures { result ≡ with_place columns place }
+{
+    if place < 8 {
+        columns.with(place)
+    } else {
+        columns
+    }
+}
+
+/// A row while its columns are assigned.
+#[derive(Drop)]
+struct AssignedRow<'r> {
+    values: SmallVec<ValueRef<'r>, 8>,
+}
+
+impl<'r> Model for AssignedRow<'r> {
+    ghost use Rattle.std.specs.Prelude.{List, map};
+    ghost use Rattle.sb_value.specs.declared.value.Value.{Value as Item};
+    ghost use Rattle.sb_eval.specs.Scopes.{value_seen};
+
+    ghost Value = { List Item };
+
+    ghost view = { λ row. map value_seen row.values.items };
+}
+
+impl<'r> AssignedRow<'r> {
+    /// The row of these values.
+    fn new(alloc: Global, values: &'r [Value]) -> Result<AssignedRow<'r>, AllocError>
+        ensures { IfOk result (λ row. row ≡ values.now) }
+    {
+        let mut list = SmallVec::new(alloc);
+        for value in values {
+            list.push(ValueRef::of(value))?;
+        }
+        Ok(AssignedRow { values: list })
+    }
+
+    /// Puts a value at a place.
+    fn set(&mut self, place: u8, value: ValueRef<'r>)
+        ensures { self.new ≡ slice_set self.old place (value_seen value.entry) }
+    {
+        put(self.values.as_mut_slice(), place, value);
+    }
+
+    /// The row by itself.
+    fn to_row(&self, alloc: Global) -> Result<Row, AllocError>
+        ensures { IfOk result (λ row. row ≡ self.now) }
+    {
+        let mut row = Row::new(alloc);
+        for value in self.values.as_slice() {
+            row.push(value.to_value()?)?;
+        }
+        Ok(row)
+    }
+}
+
+/// Puts a value at a place, if it is there.
+fn put<'r>(values: &mut [ValueRef<'r>], place: u8, value: ValueRef<'r>)
+    ensures { values.new ≡ slice_set values.old place value.entry }
+{
+    if (place as usize) < values.len() {
+        values[place as usize] = value;
+    }
+}
+
+/// Assigns the operands' values, all of them evaluated on the row as it was.
+fn assign<'r, S: Sources>(
+    alloc: Global,
+    assignments: &'r [Assignment],
+    sources: &'r S,
+    scope: &Scope<'_, 'r>,
+    row: &mut AssignedRow<'r>,
+) -> Result<(), Fault>
+    ensures { Leaves row.new (spec.assigned (S.seen sources.now) (scope_of scope.now) assignments.now row.old) result }
+{
+    let Some((first, rest)) = assignments.split_first() else {
+        return Ok(());
+    };
+    assign(alloc, rest, sources, scope, row)?;
+    let value = operand(alloc, &first.operand, sources, scope)?;
+    row.set(first.place, value);
+    Ok(())
+}
+
+/// The change of one row.
+fn change<'r, S: Sources>(
+    alloc: Global,
+    effect: &Effect<'r>,
+    table: TableId,
+    number: u64,
+    values: &'r [Value],
+    sources: &'r S,
+    scope: &Scope<'_, 'r>,
+) -> Result<Change, Fault>
+    requires { scope_of scope.now ≡ spec.scope_of (number, values.now) }
+    ensures { Gives (λ c. c) (change_of (S.seen sources.now) table effect.now (number, values.now)) result }
+{
+    let mut old = Row::new(alloc);
+    append(&mut old, values)?;
+    match effect {
+        Effect::Delete => Ok(delete_change(sources, table, number, old)),
+        Effect::Update(assignments, columns) => {
+            let mut assigned = AssignedRow::new(alloc, values)?;
+            assign(alloc, assignments, sources, scope, &mut assigned)?;
+            let new = assigned.to_row(alloc)?;
+            Ok(update_change(sources, table, *columns, number, old, new))
+        }
+    }
+}
+
+/// Adds the change of one row, where the condition is true of it.
+pub(crate) fn change_row<'r, S: Sources>(
+    alloc: Global,
+    effect: &Effect<'r>,
+    filter: &'r Condition,
+    table: TableId,
+    number: u64,
+    values: &'r [Value],
+    sources: &'r S,
+    changes: &mut Vec<Change>,
+) -> Result<(), Fault>
+    ensures { Leaves changes.new.items (option_and_then (with_change changes.old.items (change_of (S.seen sources.now) table effect.now (number, values.now))) (meaning.holds (rows_in (S.seen sources.now)) filter.now (spec.scope_of (number, values.now)))) result }
+{
+    let combination = [LentRow { values }];
+    let outermost = Scope::Outermost;
+    let scope = Scope::Within(&combination, &outermost);
+    let passes = condition(alloc, filter, sources, &scope)?;
+    if !passes {
+        return Ok(());
+    }
+    let change = change(alloc, effect, table, number, values, sources, &scope)?;
+    changes.push(change)?;
+    Ok(())
+}

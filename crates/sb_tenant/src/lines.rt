@@ -1,0 +1,46 @@
+//! The lines of a trail. Short ones come again and again, so their bytes are kept once.
+ghost use Rattle.std.specs.Prelude.{◌≡◌, IfOk, OnErr};
+
+use crate::reply::Line;
+use std::alloc::{AllocError, Global};
+
+/// The longest line that is kept.
+const SHORT: usize = 12;
+
+/// How many lines are kept.
+const KEPT: usize = 4;
+
+/// The short lines that came first.
+#[derive(Drop)]
+pub(crate) struct ShortLines {
+    lines: Vec<Line>,
+}
+
+impl ShortLines {
+    /// No line.
+    pub(crate) fn new(alloc: Global) -> ShortLines {
+        ShortLines {
+            lines: Vec::new(alloc),
+        }
+    }
+
+    /// A line with these bytes, which it shares with an earlier one where that was kept.
+    pub(crate) fn line(&mut self, alloc: Global, bytes: &[u8]) -> Result<Line, AllocError>
+        ensures { IfOk result (λ line. line ≡ bytes.now) }
+    {
+        if bytes.len() > SHORT {
+            return Line::new(alloc, bytes);
+        }
+        for line in self.lines.as_slice() {
+            if line.as_slice() == bytes {
+                return line.share();
+            }
+        }
+        let line = Line::new(alloc, bytes)?;
+        if self.lines.len() < KEPT {
+            let kept = line.share()?;
+            self.lines.push(kept)?;
+        }
+        Ok(line)
+    }
+}

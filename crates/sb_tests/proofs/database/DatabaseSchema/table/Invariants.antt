@@ -1,0 +1,12 @@
+use Rattle.std.proofs.Common.{◌≡◌, drop, map}
+use Rattle.std.specs.Prelude.{find}
+use Rattle.sb_value.specs.Name.{same_name}
+use Rattle.sb_value.specs.Table.{Entry}
+use Rattle.sb_tests.specs.Lent.{described}
+use Rattle.sb_tests.proofs.database.DatabaseSchema.table.Given as goal
+
+-- the tables that are left decide
+abbrev pub invariant-loop-table : goal.invariant-loop-table
+invariant-loop-table l =
+    find (λ (e : Entry). same_name e.name l.name) (map described l.self.tables.items)
+    ≡ find (λ (e : Entry). same_name e.name l.name) (map described (drop l.table-index l.self.tables.items))
