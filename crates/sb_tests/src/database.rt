@@ -108,12 +108,13 @@ impl Database {
 }
 
 impl Stored {
+    /// The place of the row with this number.
+    fn place_of(&self, tuple: u64) -> Option<usize> {
+        self.numbers.iter().position(|number| *number == tuple)
+    }
+
     /// Makes a change.
     fn make(&mut self, rt: &impl Abort, change: Change) -> Result<(), AllocError> {
-        let place = self
-            .numbers
-            .iter()
-            .position(|number| *number == change.tuple);
         match change.kind {
             Kind::Inserted => {
                 assert_eq!(rt; change.tuple, self.next);
@@ -123,14 +124,14 @@ impl Stored {
                 self.rows.push(change.new.expect(rt, "a row"))?;
             }
             Kind::Deleted => {
-                let place = place.expect(rt, "a row");
+                let place = self.place_of(change.tuple).expect(rt, "a row");
                 assert!(rt; place < self.numbers.len());
                 assert!(rt; place < self.rows.len());
                 let _ = self.numbers.remove(place);
                 let _ = self.rows.remove(place);
             }
             Kind::Updated => {
-                let place = place.expect(rt, "a row");
+                let place = self.place_of(change.tuple).expect(rt, "a row");
                 assert!(rt; place < self.rows.len());
                 self.rows[place] = change.new.expect(rt, "a row");
             }

@@ -12,6 +12,12 @@ mod database;
 #[cfg(test)]
 mod eval;
 #[cfg(test)]
+mod eval_changes;
+#[cfg(test)]
+mod eval_limits;
+#[cfg(test)]
+mod eval_scripts;
+#[cfg(test)]
 mod index;
 #[cfg(test)]
 mod locks;
