@@ -180,6 +180,7 @@ fn all_printable(bytes: &[u8]) -> bool
     bytes.iter().all(|b| is_printable(*b))
 }
 
+#[inline(never)]
 #[tactic(auto, using(crate::proofs::Printable::printable), unfolding(crate::specs::Reading::text))]
 fn text(alloc: Global, tokens: &mut Cursor<'_>) -> Result<Value, Fault>
     ensures { Gives (λ v. v) (spec.text tokens.old) result tokens.old tokens.new }
@@ -195,6 +196,7 @@ fn text(alloc: Global, tokens: &mut Cursor<'_>) -> Result<Value, Fault>
     Ok(Value::Text(Text::new(bytes)))
 }
 
+#[inline(always)]
 #[tactic(auto, unfolding(crate::specs::Reading::literal_value))]
 pub fn literal_value(alloc: Global, tokens: &mut Cursor<'_>) -> Result<Value, Fault>
     ensures { Gives (λ v. v) (spec.literal_value tokens.old) result tokens.old tokens.new }
