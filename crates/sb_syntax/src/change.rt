@@ -20,6 +20,7 @@ pub const MAX_DEPTH: usize = 4;
 pub const MAX_COLUMNS: usize = 8;
 
 /// Literals, for so many of which there is room at once.
+#[inline(always)]
 #[tactic(auto, unfolding(crate::specs::Reading::separated))]
 fn literals(alloc: Global, tokens: &mut Cursor<'_>, room: usize) -> Result<Vec<Value>, Fault>
     ensures { Gives (λ v. v.items)
@@ -36,6 +37,7 @@ fn literals(alloc: Global, tokens: &mut Cursor<'_>, room: usize) -> Result<Vec<V
     Ok(all)
 }
 
+#[inline(always)]
 #[tactic(auto, unfolding(crate::specs::Reading::tuple))]
 fn tuple(alloc: Global, tokens: &mut Cursor<'_>, room: usize) -> Result<Vec<Value>, Fault>
     ensures { Gives (λ v. v.items) (spec.tuple tokens.old) result tokens.old tokens.new }
@@ -46,6 +48,7 @@ fn tuple(alloc: Global, tokens: &mut Cursor<'_>, room: usize) -> Result<Vec<Valu
     Ok(values)
 }
 
+#[inline(always)]
 #[tactic(auto, unfolding(crate::specs::Reading::separated))]
 fn tuples(alloc: Global, tokens: &mut Cursor<'_>) -> Result<Vec<Vec<Value>>, Fault>
     ensures { Gives (λ v. map (λ t. t.items) v.items)
@@ -69,8 +72,11 @@ fn insert_rows(alloc: Global, tokens: &mut Cursor<'_>, table: Name) -> Result<Ch
     ensures { Gives view.change (spec.inserts_rows table tokens.old) result tokens.old tokens.new }
 {
     tokens.expect(Kind::Values)?;
-    let tuples = tuples(alloc, tokens)?;
-    Ok(Change::InsertRows(table, tuples))
+    // A cursor of its own, which stays in registers.
+    let mut here = tokens.copied();
+    let tuples = tuples(alloc, &mut here);
+    *tokens = here;
+    Ok(Change::InsertRows(table, tuples?))
 }
 
 #[tactic(auto, unfolding(crate::specs::Reading::inserts, crate::specs::Reading::inserts_into))]
