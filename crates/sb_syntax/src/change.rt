@@ -37,18 +37,20 @@ fn literals(alloc: Global, tokens: &mut Cursor<'_>, room: usize) -> Result<Vec<V
     Ok(all)
 }
 
-#[inline(always)]
 #[tactic(auto, unfolding(crate::specs::Reading::tuple))]
 fn tuple(alloc: Global, tokens: &mut Cursor<'_>, room: usize) -> Result<Vec<Value>, Fault>
     ensures { Gives (λ v. v.items) (spec.tuple tokens.old) result tokens.old tokens.new }
 {
     tokens.expect(Kind::LeftParen)?;
-    let values = literals(alloc, tokens, room)?;
+    // A cursor of its own, which stays in registers.
+    let mut here = tokens.copied();
+    let read = literals(alloc, &mut here, room);
+    *tokens = here;
+    let values = read?;
     tokens.expect(Kind::RightParen)?;
     Ok(values)
 }
 
-#[inline(always)]
 #[tactic(auto, unfolding(crate::specs::Reading::separated))]
 fn tuples(alloc: Global, tokens: &mut Cursor<'_>) -> Result<Vec<Vec<Value>>, Fault>
     ensures { Gives (λ v. map (λ t. t.items) v.items)
@@ -72,11 +74,8 @@ fn insert_rows(alloc: Global, tokens: &mut Cursor<'_>, table: Name) -> Result<Ch
     ensures { Gives view.change (spec.inserts_rows table tokens.old) result tokens.old tokens.new }
 {
     tokens.expect(Kind::Values)?;
-    // A cursor of its own, which stays in registers.
-    let mut here = tokens.copied();
-    let tuples = tuples(alloc, &mut here);
-    *tokens = here;
-    Ok(Change::InsertRows(table, tuples?))
+    let tuples = tuples(alloc, tokens)?;
+    Ok(Change::InsertRows(table, tuples))
 }
 
 #[tactic(auto, unfolding(crate::specs::Reading::inserts, crate::specs::Reading::inserts_into))]

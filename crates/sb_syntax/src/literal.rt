@@ -54,6 +54,7 @@ pub fn names(alloc: Global, tokens: &mut Cursor<'_>) -> Result<Vec<Name>, Fault>
 const LIMIT: u64 = 0x8000_0000_0000_0000;
 
 /// The value of the digits, or 2^63 + 1 where it is larger.
+#[inline(always)]
 fn decimal(digits: &[u8]) -> u64
     ensures { result ≡ min (lit.decimal digits.now) (2 ^ 63 + 1) }
 {
