@@ -1,5 +1,5 @@
 -- Which token a first byte begins.
-use Rattle.std.proofs.Common.{◌≡◌, ◌≤◌, ◌<◌, ◌==◌, ◌&&◌, ◌||◌, ℕ, Bool, true, false, List, [], ◌∷◌, length, get_or, Option, Some, None, refl, ap, sym, ◌∙◌, is_some, arith}
+use Rattle.std.proofs.Common.{◌≡◌, ◌≤◌, ◌<◌, ℕ, true, false, List, [], ◌∷◌, length, get_or, Some, None, refl, sym, ◌∙◌, is_some, arith}
 use Rattle.std.proofs.lemmas.Bool.{ne_eqb}
 use Rattle.sb_syntax.specs.declared.kind.Kind.{Kind}
 use Rattle.sb_syntax.specs.Lex.{begins, is_letter, is_digit, one_byte, two_bytes}

@@ -1,4 +1,4 @@
-use Rattle.std.proofs.Common.{ap, sym, ◌∙◌, ◌-◌, take, drop, length, arith}
+use Rattle.std.proofs.Common.{ap, sym, ◌∙◌, length, arith}
 use Rattle.std.specs.List.{list_all}
 use Rattle.sb_syntax.specs.Plain.{is_bare}
 use Rattle.sb_syntax.proofs.Plain.{bare_is}
