@@ -14,6 +14,7 @@ pub mod Bytes
 pub mod WordLaws
 pub mod TokenSound
 pub mod TokenReads
+pub mod Starts
 pub mod TextLaws
 pub mod Worked
 pub mod Plain

@@ -19,7 +19,7 @@ word-reads b bs rest letter words ends none =
     let e = run-all is_word (b ∷ bs) rest (both_true _ _ (letter-word b letter) words) ends in
     ap (word_by (b ∷ bs ++ rest)) none ∙ ap (λ n. Some (word_kind (take n (b ∷ bs ++ rest)), n)) e ∙ ap (λ xs. Some (word_kind xs, suc (length bs))) (front (b ∷ bs) rest)
 
-letter-at : (b : ℕ) (bs : List ℕ) → is_letter b ≡ true → token_at (b ∷ bs) ≡ word_at (b ∷ bs)
+pub letter-at : (b : ℕ) (bs : List ℕ) → is_letter b ≡ true → token_at (b ∷ bs) ≡ word_at (b ∷ bs)
 unfolding token_at
 letter-at b bs e = rw e refl
 
@@ -95,10 +95,10 @@ peel : (b c : ℕ) (P : ℕ → Type 0) (one kind : Kind) (more : Option Kind) �
 peel b c P one kind more e here there = elim (chosen (b == c) (Some one) more kind e) [ inl p ↦ subst P (sym (eqb-true b c p.0)) here | inr p ↦ there p.1 ]
 
 -- no letter, digit or quote
-abbrev IsSymbol : ℕ → Type 0
+abbrev pub IsSymbol : ℕ → Type 0
 IsSymbol b = (is_letter b ≡ false) × (is_digit b ≡ false) × ((b == 39) ≡ false)
 
-one-symbol : (b : ℕ) (kind : Kind) → one_byte b ≡ Some kind → IsSymbol b
+pub one-symbol : (b : ℕ) (kind : Kind) → one_byte b ≡ Some kind → IsSymbol b
 one-symbol b kind e =
     peel b 40 IsSymbol _ kind _ e (refl, refl, refl) (λ e. peel b 41 IsSymbol _ kind _ e (refl, refl, refl) (λ e. peel b 44 IsSymbol _ kind _ e (refl, refl, refl) (λ e. peel b 59 IsSymbol _ kind _ e (refl, refl, refl)
     (λ e. peel b 46 IsSymbol _ kind _ e (refl, refl, refl) (λ e. peel b 42 IsSymbol _ kind _ e (refl, refl, refl) (λ e. peel b 43 IsSymbol _ kind _ e (refl, refl, refl) (λ e. peel b 45 IsSymbol _ kind _ e (refl, refl, refl)
@@ -110,11 +110,11 @@ peel_two b c x y P one kind more e here there = elim (chosen (b == x && c == y) 
 two-symbol : (b c : ℕ) (kind : Kind) → two_bytes b c ≡ Some kind → IsSymbol b
 two-symbol b c kind e = peel_two b c 60 62 IsSymbol _ kind _ e (refl, refl, refl) (λ e. peel_two b c 60 61 IsSymbol _ kind _ e (refl, refl, refl) (λ e. peel_two b c 62 61 IsSymbol _ kind _ e (refl, refl, refl) (λ e. absurd (cc))))
 
-at_symbol : (b : ℕ) (bs : List ℕ) → IsSymbol b → token_at (b ∷ bs) ≡ symbol_at (b ∷ bs)
+pub at_symbol : (b : ℕ) (bs : List ℕ) → IsSymbol b → token_at (b ∷ bs) ≡ symbol_at (b ∷ bs)
 unfolding token_at
 at_symbol b bs s = rw (s.0, s.1, s.2) refl
 
-one-reads : (kind : Kind) (b : ℕ) (rest : List ℕ) → one_byte b ≡ Some kind → begins (λ c. is_some (two_bytes b c)) rest ≡ false → symbol_at (b ∷ rest) ≡ Some (kind, 1)
+pub one-reads : (kind : Kind) (b : ℕ) (rest : List ℕ) → one_byte b ≡ Some kind → begins (λ c. is_some (two_bytes b c)) rest ≡ false → symbol_at (b ∷ rest) ≡ Some (kind, 1)
 unfolding symbol_at
 one-reads kind b [] e alone = ap (option_map (λ kind. (kind, 1))) e
 one-reads kind b (c ∷ rest) e alone = go (two_bytes b c) alone
@@ -127,7 +127,7 @@ two-reads : (kind : Kind) (b c : ℕ) (rest : List ℕ) → two_bytes b c ≡ So
 unfolding symbol_at
 two-reads kind b c rest e = ap (symbol_by b) e
 
-digit-at : (b : ℕ) (bs : List ℕ) → is_digit b ≡ true → token_at (b ∷ bs) ≡ integer_at (b ∷ bs)
+pub digit-at : (b : ℕ) (bs : List ℕ) → is_digit b ≡ true → token_at (b ∷ bs) ≡ integer_at (b ∷ bs)
 unfolding token_at
 digit-at b bs e = rw (digit-no_letter b e, e) refl
 

@@ -1,5 +1,6 @@
 -- Bytes that stand for themselves in a text.
-use Rattle.std.specs.Prelude.{ℕ, Bool, not, ◌==◌}
+use Rattle.std.specs.Prelude.{ℕ, Bool, not, ◌==◌, ◌&&◌}
+use Rattle.sb_value.specs.Printable.{is_printable}
 
-abbrev pub is_plain : ℕ → Bool
-is_plain b = not (b == 39)
+abbrev pub is_bare : ℕ → Bool
+is_bare b = is_printable b && not (b == 39)

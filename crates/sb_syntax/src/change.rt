@@ -20,6 +20,7 @@ pub const MAX_DEPTH: usize = 4;
 pub const MAX_COLUMNS: usize = 8;
 
 /// Literals, for so many of which there is room at once.
+#[inline(always)]
 #[tactic(auto, unfolding(crate::specs::Reading::separated))]
 fn literals(alloc: Global, tokens: &mut Cursor<'_>, room: usize) -> Result<Vec<Value>, Fault>
     ensures { Gives (λ v. v.items)
@@ -41,7 +42,11 @@ fn tuple(alloc: Global, tokens: &mut Cursor<'_>, room: usize) -> Result<Vec<Valu
     ensures { Gives (λ v. v.items) (spec.tuple tokens.old) result tokens.old tokens.new }
 {
     tokens.expect(Kind::LeftParen)?;
-    let values = literals(alloc, tokens, room)?;
+    // A cursor of its own, which stays in registers.
+    let mut here = tokens.copied();
+    let read = literals(alloc, &mut here, room);
+    *tokens = here;
+    let values = read?;
     tokens.expect(Kind::RightParen)?;
     Ok(values)
 }

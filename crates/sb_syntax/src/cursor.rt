@@ -74,6 +74,16 @@ impl<'a> Cursor<'a> {
         Cursor { text, tokens }
     }
 
+    /// A cursor at the same place.
+    pub fn copied(&self) -> Cursor<'a>
+        ensures { result ≡ self.now }
+    {
+        Cursor {
+            text: self.text,
+            tokens: self.tokens,
+        }
+    }
+
     /// Where the next token begins, or the length of the text at its end.
     pub fn place(&self) -> usize {
         match self.tokens {

@@ -1,10 +1,10 @@
 //! Names and literals.
 
-ghost use Rattle.std.specs.Prelude.{min, take, drop, ◌+◌, ◌-◌, ◌≡◌, ◌<◌, ◌≤◌, ◌^◌, pos, length, IfOk, IsTrue, ◌↔◌, option_map};
+ghost use Rattle.std.specs.Prelude.{min, take, drop, ◌+◌, ◌-◌, ◌≡◌, ◌<◌, ◌≤◌, ◌^◌, pos, length, IfOk, IfSome, IsTrue, true, ◌↔◌, option_map};
 ghost use Rattle.std.specs.List.{list_all};
 ghost use Rattle.sb_value.specs.Printable.{is_printable};
 ghost use Rattle.sb_syntax.specs.Literal as lit;
-ghost use Rattle.sb_syntax.specs.Plain.{is_plain};
+ghost use Rattle.sb_syntax.specs.Plain.{is_bare};
 ghost use Rattle.sb_syntax.specs.Reading as spec;
 ghost use Rattle.sb_syntax.specs.Reading.{Gives};
 
@@ -54,6 +54,7 @@ pub fn names(alloc: Global, tokens: &mut Cursor<'_>) -> Result<Vec<Name>, Fault>
 const LIMIT: u64 = 0x8000_0000_0000_0000;
 
 /// The value of the digits, or 2^63 + 1 where it is larger.
+#[inline(always)]
 fn decimal(digits: &[u8]) -> u64
     ensures { result ≡ min (lit.decimal digits.now) (2 ^ 63 + 1) }
 {
@@ -71,6 +72,7 @@ fn decimal(digits: &[u8]) -> u64
     n
 }
 
+#[inline(always)]
 #[tactic(auto, unfolding(crate::specs::Reading::integer))]
 fn integer(tokens: &mut Cursor<'_>) -> Result<Value, Fault>
     ensures { Gives (λ v. v) (spec.integer tokens.old) result tokens.old tokens.new }
@@ -86,6 +88,7 @@ fn integer(tokens: &mut Cursor<'_>) -> Result<Value, Fault>
     Ok(Value::Int(n as i64))
 }
 
+#[inline(always)]
 #[tactic(auto, unfolding(crate::specs::Reading::minus))]
 fn minus(tokens: &mut Cursor<'_>) -> Result<Value, Fault>
     ensures { Gives (λ v. v) (spec.minus tokens.old) result tokens.old tokens.new }
@@ -105,16 +108,17 @@ fn minus(tokens: &mut Cursor<'_>) -> Result<Value, Fault>
     Ok(Value::Int(-1 - (n - 1) as i64))
 }
 
-fn is_plain(b: u8) -> bool
-    ensures { result ≡ is_plain b }
+/// Whether the byte stands for itself in a text.
+fn is_bare(b: u8) -> bool
+    ensures { result ≡ is_bare b }
 {
-    b != 39
+    32 <= b && b <= 126 && b != 39
 }
 
-fn all_plain(bytes: &[u8]) -> bool
-    ensures { result ≡ list_all is_plain bytes.now }
+fn all_bare(bytes: &[u8]) -> bool
+    ensures { result ≡ list_all is_bare bytes.now }
 {
-    bytes.iter().all(|b| is_plain(*b))
+    bytes.iter().all(|b| is_bare(*b))
 }
 
 /// The bytes between the first and the last.
@@ -135,20 +139,21 @@ fn copied(alloc: Global, bytes: &[u8]) -> Result<Vec<u8>, AllocError>
     Ok(value)
 }
 
-/// The text between the quotes, of which each pair is one.
-#[tactic(auto, using(crate::proofs::Plain::plain_is))]
-fn unquoted(alloc: Global, quoted: &[u8]) -> Result<Vec<u8>, AllocError>
-    ensures { IfOk result (λ v. v.items ≡ lit.unquoted quoted.now) }
+/// The text between the quotes, where each of its bytes stands for itself.
+#[inline(never)]
+fn bare(alloc: Global, quoted: &[u8]) -> Result<Option<Vec<u8>>, AllocError>
+    ensures { IfOk result (λ o. IfSome o (λ v. (v.items ≡ lit.unquoted quoted.now)
+        × (length v.items ≤ 255) × (list_all is_printable v.items ≡ true))) }
 {
     let plain = inside(quoted);
-    if all_plain(plain) {
-        copied(alloc, plain)
-    } else {
-        halved(alloc, quoted)
+    if plain.len() > TEXT_LIMIT || !all_bare(plain) {
+        return Ok(None);
     }
+    Ok(Some(copied(alloc, plain)?))
 }
 
-/// The same byte by byte.
+/// The text between the quotes, of which each pair is one.
+#[inline(never)]
 fn halved(alloc: Global, quoted: &[u8]) -> Result<Vec<u8>, AllocError>
     ensures { IfOk result (λ v. v.items ≡ lit.unquoted quoted.now) }
 {
@@ -174,12 +179,14 @@ fn is_printable(b: u8) -> bool
     32 <= b && b <= 126
 }
 
+#[inline(never)]
 fn all_printable(bytes: &[u8]) -> bool
     ensures { result ≡ list_all is_printable bytes.now }
 {
     bytes.iter().all(|b| is_printable(*b))
 }
 
+#[inline(always)]
 #[tactic(auto, using(crate::proofs::Printable::printable), unfolding(crate::specs::Reading::text))]
 fn text(alloc: Global, tokens: &mut Cursor<'_>) -> Result<Value, Fault>
     ensures { Gives (λ v. v) (spec.text tokens.old) result tokens.old tokens.new }
@@ -187,7 +194,11 @@ fn text(alloc: Global, tokens: &mut Cursor<'_>) -> Result<Value, Fault>
     let Some(quoted) = tokens.bytes_of(Kind::Text) else {
         return Err(Fault::Refused);
     };
-    let bytes = unquoted(alloc, quoted)?;
+    if let Some(bytes) = bare(alloc, quoted)? {
+        tokens.skip();
+        return Ok(Value::Text(Text::new(bytes)));
+    }
+    let bytes = halved(alloc, quoted)?;
     if bytes.len() > TEXT_LIMIT || !all_printable(bytes.as_slice()) {
         return Err(Fault::Refused);
     }
@@ -195,6 +206,7 @@ fn text(alloc: Global, tokens: &mut Cursor<'_>) -> Result<Value, Fault>
     Ok(Value::Text(Text::new(bytes)))
 }
 
+#[inline(always)]
 #[tactic(auto, unfolding(crate::specs::Reading::literal_value))]
 pub fn literal_value(alloc: Global, tokens: &mut Cursor<'_>) -> Result<Value, Fault>
     ensures { Gives (λ v. v) (spec.literal_value tokens.old) result tokens.old tokens.new }
