@@ -12,7 +12,10 @@ const KINDS: Script = &[
         b"ok 2\n",
     ),
     (b"insert into w select * from w where a = 1", b"ok 1\n"),
-    (b"select * from t, h where t.a < h.a", b"rows 3\n1,2\n1,3\n2,3\n"),
+    (
+        b"select * from t, h where t.a < h.a",
+        b"rows 3\n1,2\n1,3\n2,3\n",
+    ),
     (b"select t.a, 'y' from t", b"rows 2\n1,'y'\n2,'y'\n"),
     (b"select count(*) from t, h", b"rows 1\n4\n"),
     (b"select sum(t.a * h.a) from t, h", b"rows 1\n15\n"),
@@ -24,7 +27,10 @@ const KINDS: Script = &[
         b"select a from t where exists (select * from h where h.a = t.a and h.a in (select c from w))",
         b"rows 1\n2\n",
     ),
-    (b"select a from t where a = (select count(*) from h)", b"rows 1\n2\n"),
+    (
+        b"select a from t where a = (select count(*) from h)",
+        b"rows 1\n2\n",
+    ),
     (b"select a * 9223372036854775807 from t", b"no 30\n"),
     (
         b"select b from w where b in (select b from w where a = 1)",
