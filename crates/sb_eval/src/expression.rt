@@ -1,7 +1,8 @@
 //! The values of expressions.
 ghost use Rattle.std.specs.Prelude.{◌≡◌, option_map};
 ghost use Rattle.sb_value.specs.declared.value.Value.TheVariants.{Int};
-ghost use Rattle.sb_eval.specs.Meaning.{value_of, in_range, exact};
+ghost use Rattle.sb_check.specs.Expression.{binary};
+ghost use Rattle.sb_eval.specs.Meaning.{value_of, in_range, exact, integer};
 ghost use Rattle.sb_eval.specs.Scopes.{scope_of, value_seen};
 
 use crate::scope::{Scope, column};
@@ -10,6 +11,7 @@ use sb_check::{Expression, ExpressionNode};
 use sb_syntax::Arithmetic;
 
 /// The result of an operator, or none where it overflows.
+#[inline(always)]
 fn calculated(operator: Arithmetic, a: i64, b: i64) -> Option<i64>
     ensures { option_map Int result ≡ in_range (exact operator a b) }
 {
@@ -20,24 +22,49 @@ fn calculated(operator: Arithmetic, a: i64, b: i64) -> Option<i64>
     }
 }
 
+/// The number that a literal or a column is, or that is calculated.
+#[cycle(number)]
+#[inline(always)]
+fn part(e: &Expression, scope: &Scope<'_, '_>) -> Option<i64>
+    ensures { result ≡ option_map integer (value_of (scope_of scope.now) e.now) }
+{
+    match &e.node {
+        ExpressionNode::Literal(literal) => Some(ValueRef::of(literal).number()),
+        ExpressionNode::Column(place) => Some(column(scope, *place).number()),
+        ExpressionNode::Binary(a, operator, b) => number(a, *operator, b, scope),
+    }
+}
+
+/// The number that an operator gives of two expressions, or none where it overflows.
+#[cycle(number)]
+fn number(
+    a: &Expression,
+    operator: Arithmetic,
+    b: &Expression,
+    scope: &Scope<'_, '_>,
+) -> Option<i64>
+    ensures { option_map Int result ≡ value_of (scope_of scope.now) (binary a.now operator b.now) }
+{
+    let Some(left) = part(a, scope) else {
+        return None;
+    };
+    let Some(right) = part(b, scope) else {
+        return None;
+    };
+    calculated(operator, left, right)
+}
+
 /// The value of an expression, or none where it overflows.
+#[inline(always)]
 pub(crate) fn value<'r>(e: &'r Expression, scope: &Scope<'_, 'r>) -> Option<ValueRef<'r>>
     ensures { option_map value_seen result ≡ value_of (scope_of scope.now) e.now }
 {
     match &e.node {
         ExpressionNode::Literal(literal) => Some(ValueRef::of(literal)),
         ExpressionNode::Column(place) => Some(column(scope, *place)),
-        ExpressionNode::Binary(a, operator, b) => {
-            let Some(left) = value(a, scope) else {
-                return None;
-            };
-            let Some(right) = value(b, scope) else {
-                return None;
-            };
-            match calculated(*operator, left.number(), right.number()) {
-                Some(number) => Some(ValueRef::Int(number)),
-                None => None,
-            }
-        }
+        ExpressionNode::Binary(a, operator, b) => match number(a, *operator, b, scope) {
+            Some(number) => Some(ValueRef::Int(number)),
+            None => None,
+        },
     }
 }

@@ -25,6 +25,7 @@ impl<'r> Default for ValueRef<'r> {
 
 impl<'r> ValueRef<'r> {
     /// The value, where it stands.
+    #[inline(always)]
     pub(crate) fn of(value: &'r Value) -> ValueRef<'r>
         ensures { value_seen result ≡ value.now }
     {
@@ -35,6 +36,7 @@ impl<'r> ValueRef<'r> {
     }
 
     /// The number that it is. Names and types leave no text where a number is asked for.
+    #[inline(always)]
     pub(crate) fn number(self) -> i64
         ensures { result ≡ integer (value_seen self.entry) }
     {
@@ -55,6 +57,7 @@ impl<'r> ValueRef<'r> {
     }
 
     /// How it compares with another value: texts by their bytes.
+    #[inline(always)]
     fn order(self, other: ValueRef<'_>) -> Ordering
         ensures { result ≡ value_cmp (value_seen self.entry) (value_seen other.entry) }
     {
@@ -71,6 +74,7 @@ impl<'r> ValueRef<'r> {
     }
 
     /// Whether it compares so with another value.
+    #[inline(always)]
     pub(crate) fn compares(self, comparison: Comparison, other: ValueRef<'_>) -> bool
         ensures { result ≡ compared comparison (value_seen self.entry) (value_seen other.entry) }
     {
@@ -79,6 +83,7 @@ impl<'r> ValueRef<'r> {
 }
 
 /// Whether a comparison takes the order as true.
+#[inline(always)]
 fn takes(comparison: Comparison, order: Ordering) -> bool
     ensures { result ≡ compares comparison order }
 {

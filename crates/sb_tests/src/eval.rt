@@ -3,7 +3,7 @@
 use crate::database::{Database, Lent};
 use sb_check::{Query, resolve_change, resolve_query, resolve_rule};
 use sb_eval::{EvalError, changes, condition_rows, holds, select_rows};
-use sb_syntax::{Command, RuleText, parse};
+use sb_syntax::{Command, ParseError, RuleText, parse};
 use sb_value::{Change, Row, RowList, Value, print_value};
 use std::alloc::{AllocError, Global};
 use std::process::Abort;
@@ -142,10 +142,15 @@ fn answer(
     database: &mut Database,
     line: &[u8],
 ) -> Result<Vec<u8>, AllocError> {
-    match parse(alloc, line) {
-        Ok(Command::Query(text)) => select(rt, alloc, &*database, &text),
-        Ok(Command::CreateRule(text)) => condition(rt, alloc, &*database, &text),
-        Ok(Command::Change(text)) => match statement(rt, alloc, &*database, &text) {
+    let command = match parse(alloc, line) {
+        Ok(command) => command,
+        Err(ParseError::NoMemory) => return refused(alloc, 91),
+        Err(ParseError::Syntax { place: _ }) => return refused(alloc, 0),
+    };
+    match command {
+        Command::Query(text) => select(rt, alloc, &*database, &text),
+        Command::CreateRule(text) => condition(rt, alloc, &*database, &text),
+        Command::Change(text) => match statement(rt, alloc, &*database, &text) {
             Ok(list) => {
                 let told = text_of(alloc, b"ok ", list.len())?;
                 database.make(rt, list)?;

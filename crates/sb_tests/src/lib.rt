@@ -16,6 +16,8 @@ mod eval_changes;
 #[cfg(test)]
 mod eval_limits;
 #[cfg(test)]
+mod eval_memory;
+#[cfg(test)]
 mod eval_scripts;
 #[cfg(test)]
 mod index;
