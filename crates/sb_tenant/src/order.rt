@@ -29,6 +29,7 @@ pub(crate) enum Order {
 }
 
 /// The order that the line is, if it is one.
+#[inline(never)]
 pub(crate) fn order_in(alloc: Global, line: &[u8]) -> Result<Option<Order>, AllocError>
     ensures { IfOk result (λ order. engine.command line.now ≡ option_map order_tree order) }
 {
@@ -57,6 +58,7 @@ fn order_of(command: Command) -> Option<Order>
     }
 }
 
+#[inline(never)]
 fn change_order(change: Change) -> Option<Order>
     ensures { if_supported (Some (tree.change (change_tree change))) ≡ option_map order_tree result }
 {
@@ -73,6 +75,7 @@ fn change_order(change: Change) -> Option<Order>
     }
 }
 
+#[inline(never)]
 fn rule_order(rule: &RuleText) -> Option<Order>
     ensures { if_supported (Some (tree.create_rule (rule_tree rule.now))) ≡ option_map order_tree result }
 {
@@ -88,6 +91,7 @@ fn rule_order(rule: &RuleText) -> Option<Order>
     Some(Order::CreateGuard(rule.name, rule.table))
 }
 
+#[inline(never)]
 fn query_order(query: &Query) -> Option<Order>
     ensures { if_supported (Some (tree.query (query_tree query.now))) ≡ option_map order_tree result }
 {

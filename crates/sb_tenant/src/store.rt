@@ -157,6 +157,7 @@ impl Store {
     }
 
     /// Commits, or rolls back what the rule forbids.
+    #[inline(never)]
     fn commit(&mut self, alloc: Global, bound: u32) -> Result<Replies, AllocError>
         ensures ok { IfOk result (λ r. (finished bound self.old ≡ (self.new, r.0)) × (r.1 ≡ r.0)) }
         ensures err { OnErr result (self.new ≡ self.old) }
@@ -174,6 +175,7 @@ impl Store {
         Ok((reply, copy))
     }
 
+    #[inline(never)]
     fn create(
         &mut self,
         alloc: Global,
@@ -191,6 +193,7 @@ impl Store {
     }
 
     /// Makes the rule.
+    #[inline(never)]
     fn create_guard(&mut self, name: Name, table: Name) -> Replies
         ensures made { guarded self.old name (place_of self.old.tables table) ≡ (self.new, result.0) }
         ensures twice { result.1 ≡ result.0 }
@@ -237,6 +240,7 @@ impl Store {
         None
     }
 
+    #[inline(never)]
     fn select(&self, alloc: Global, name: Name) -> Result<Replies, AllocError>
         ensures { IfOk result (λ r. (selected_at self.now (place_of self.now.tables name) ≡ r.0) × (r.1 ≡ r.0)) }
     {
@@ -248,6 +252,7 @@ impl Store {
         Ok((Reply::Rows(rows), Reply::Rows(shared)))
     }
 
+    #[inline(never)]
     #[tactic(auto, using(crate::proofs::Numbered::numbered_length))]
     fn insert(
         &mut self,
@@ -280,6 +285,7 @@ impl Store {
         }
     }
 
+    #[inline(never)]
     fn delete_all(&mut self, alloc: Global, name: Name) -> Result<Replies, AllocError>
         ensures ok { IfOk result (λ r. (deleted_at self.old (place_of self.old.tables name) ≡ (self.new, r.0)) × (r.1 ≡ r.0)) }
         ensures err { OnErr result (self.new ≡ self.old) }
