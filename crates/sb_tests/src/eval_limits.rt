@@ -7,8 +7,8 @@ use std::alloc::Global;
 use std::process::Abort;
 use std::test::Fail;
 
-/// A table of 64 rows of 1 and one row of 2.
-const SIXTY_FIVE: Script = &[
+/// A table of 64 rows of 1.
+const SIXTY_FOUR: Script = &[
     (b"insert into t values (1)", b"ok 1\n"),
     (b"insert into t select a from t", b"ok 1\n"),
     (b"insert into t select a from t", b"ok 2\n"),
@@ -16,7 +16,13 @@ const SIXTY_FIVE: Script = &[
     (b"insert into t select a from t", b"ok 8\n"),
     (b"insert into t select a from t", b"ok 16\n"),
     (b"insert into t select a from t", b"ok 32\n"),
-    (b"insert into t values (2)", b"ok 1\n"),
+];
+
+/// One more row of 1.
+const SIXTY_FIVE: Script = &[
+    (b"insert into t values (1)", b"ok 1\n"),
+    (b"select x.a from t x, t y", b"no 32\n"),
+    (b"select count(*) from t x, t y", b"rows 1\n4225\n"),
 ];
 
 /// 4,096 rows are an answer, and 4,097 none, unless something in them overflows. Sums, counts and subqueries have no limit.
@@ -143,6 +149,19 @@ const COSTS: Script = &[
     ),
 ];
 
+/// A subquery of 1,023 rows on each of 1,023 rows costs 1,047,552, and one of 1,024 on 1,024 costs 1,049,600.
+const SUBQUERY: Script = &[
+    (
+        b"select count(*) from d where a in (select a from d)",
+        b"rows 1\n1023\n",
+    ),
+    (b"insert into d values (1)", b"ok 1\n"),
+    (
+        b"select count(*) from d where a in (select a from d)",
+        b"no 31\n",
+    ),
+];
+
 /// Over no row a subquery costs nothing.
 const NO_ROW: Script = &[
     (
@@ -177,14 +196,42 @@ fn ones(alloc: Global, count: usize, of: usize, rest: &[u8]) -> Result<Vec<u8>, 
 /// A table of 64 rows of 1 and one row of 2.
 fn sixty_five(rt: &impl Abort, alloc: Global, refusals: &mut usize) -> Result<Database, Fail> {
     let mut database = tables(rt, alloc, refusals)?;
-    make_all(rt, alloc, &mut database, refusals, SIXTY_FIVE)?;
+    make_all(rt, alloc, &mut database, refusals, SIXTY_FOUR)?;
+    make(
+        rt,
+        alloc,
+        &mut database,
+        refusals,
+        b"insert into t values (2)",
+        b"ok 1\n",
+    )?;
     Ok(database)
 }
 
 const AT_THE_LIMIT: &[u8] = b"select x.a from t x, t y where x.a = 1 and y.a = 1";
 
+const PRODUCT: &[u8] = b"select x.a from t x, t y";
+
 const CONDITION_PAST_THE_LIMIT: &[u8] =
     b"create rule r on t when inserted if select x.a from t x, t y where x.a = y.a then rollback";
+
+#[test]
+fn row_limit_of_products(rt: HostRuntime) -> Result<(), Fail> {
+    let alloc = rt.alloc();
+    let mut refusals = 0;
+    let mut database = tables(&rt, alloc, &mut refusals)?;
+    make_all(&rt, alloc, &mut database, &mut refusals, SIXTY_FOUR)?;
+    let told = ones(alloc, 4096, 4096, b"")?;
+    make(
+        &rt,
+        alloc,
+        &mut database,
+        &mut refusals,
+        PRODUCT,
+        told.as_slice(),
+    )?;
+    make_all(&rt, alloc, &mut database, &mut refusals, SIXTY_FIVE)
+}
 
 #[test]
 fn row_limit_of_answers(rt: HostRuntime) -> Result<(), Fail> {
@@ -230,4 +277,13 @@ fn cost_limit(rt: HostRuntime) -> Result<(), Fail> {
     make_all(&rt, alloc, &mut database, &mut refusals, THOUSANDS)?;
     make_all(&rt, alloc, &mut database, &mut refusals, COSTS)?;
     make_all(&rt, alloc, &mut database, &mut refusals, NO_ROW)
+}
+
+#[test]
+fn cost_limit_of_subqueries(rt: HostRuntime) -> Result<(), Fail> {
+    let alloc = rt.alloc();
+    let mut refusals = 0;
+    let mut database = tables(&rt, alloc, &mut refusals)?;
+    make_all(&rt, alloc, &mut database, &mut refusals, THOUSANDS)?;
+    make_all(&rt, alloc, &mut database, &mut refusals, SUBQUERY)
 }
