@@ -3,13 +3,14 @@
 
     refused_memory.py PROGRAM TEST
 
-PROGRAM is what `rattle build --test` made of a crate's tests, and TEST the name
-of one. It is run once for each request that the process makes, from the first
-on, with that request refused, until a run meets no refusal. `malloc` and
-`realloc` are taken by a small library, which `cc` compiles. A test that bears
-one refusal, as `memory_refused_in_turn` of `eval_memory.rt`, makes a line again
-that was refused memory, and asks for the same answer. Printed are the number of
-runs, how many of them passed, and the first lines of those that did not.
+PROGRAM is what `rt test` builds of a crate's tests, as
+crates/sb_tests/out/sb_tests_tests, and TEST the full name of one, as
+eval_memory::memory_refused_in_turn. It is run once for each request that the
+process makes, from the first on, with that request refused, until a run meets
+no refusal. `malloc` and `realloc` are taken by a small library, which `cc`
+compiles. The test has to bear one refusal: it makes a line again that was
+refused memory, and asks for the same answer. Printed are the number of runs,
+how many of them passed, and the first lines of those that did not.
 """
 
 import os
