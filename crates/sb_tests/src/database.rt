@@ -144,7 +144,7 @@ impl Schema for Database {
     ghost use Rattle.std.specs.Prelude.{map, None};
     ghost use Rattle.sb_tests.specs.Lent.{described};
 
-    ghost names = { λ s. record { tables = map described s.tables.items; rule = None } };
+    ghost names = { λ s. record { tables = map (λ t. described t.id t.name t.columns.items) s.tables.items; rule = None } };
 
     fn table(&self, name: &Name) -> Option<TableEntry<'_>> {
         for table in self.tables.as_slice() {
@@ -257,7 +257,7 @@ impl<'r> Lent<'r> {
     }
 
     fn table(&self, id: TableId) -> Option<&LentTable<'r>>
-        ensures { unwrap_or (option_map (λ t. t.now) result) (empty_table []) ≡ table_at (entries self.now) id }
+        ensures { unwrap_or (option_map (λ t. t.now) result) (empty_table []) ≡ table_at (entries self.now.t self.now.h self.now.w self.now.inserted self.now.deleted self.now.old_updated self.now.new_updated) id }
     {
         match id.number() {
             0 => Some(&self.t),
@@ -272,7 +272,7 @@ impl<'r> Lent<'r> {
     }
 
     fn rows_of(&self, id: TableId) -> &[LentRow<'_>]
-        ensures { result.now ≡ values (table_at (entries self.now) id) }
+        ensures { result.now ≡ values (table_at (entries self.now.t self.now.h self.now.w self.now.inserted self.now.deleted self.now.old_updated self.now.new_updated) id) }
     {
         let Some(found) = self.table(id) else {
             return &[];
@@ -296,7 +296,7 @@ impl Stored {
 impl<'r> Sources for Lent<'r> {
     ghost use Rattle.sb_tests.specs.Lent.{seen};
 
-    ghost seen = { seen };
+    ghost seen = { λ s. seen s.t s.h s.w s.inserted s.deleted s.old_updated s.new_updated };
 
     fn rows(&self, source: Source) -> &[LentRow<'_>] {
         let table = match source {

@@ -8,5 +8,5 @@ use Rattle.sb_tests.proofs.database.DatabaseSchema.table.Given as goal
 -- the tables that are left decide
 abbrev pub invariant-loop-table : goal.invariant-loop-table
 invariant-loop-table l =
-    find (λ (e : Entry). same_name e.name l.name) (map described l.self.tables.items)
-    ≡ find (λ (e : Entry). same_name e.name l.name) (map described (drop l.table-index l.self.tables.items))
+    find (λ (e : Entry). same_name e.name l.name) (map (λ t. described t.id t.name t.columns.items) l.self.tables.items)
+    ≡ find (λ (e : Entry). same_name e.name l.name) (map (λ t. described t.id t.name t.columns.items) (drop l.table-index l.self.tables.items))
