@@ -58,9 +58,9 @@ assignment a = record { column = a.column; operand = operand a.operand }
 
 abbrev pub change : Change → tree.Change
 change (InsertRows n tuples) = tree.insert_rows n (map (λ vs. vs.items) tuples.items)
-change (InsertQuery n q) = tree.insert_query n (query q)
-change (Delete n f) = tree.delete n (filter f)
-change (Update n assignments f) = tree.update n (map assignment assignments.items) (filter f)
+change (InsertQuery n q) = tree.insert_query n (query q.value)
+change (Delete n f) = tree.delete n (filter (option_map (λ a. a.value) f))
+change (Update n assignments f) = tree.update n (map assignment assignments.items) (filter (option_map (λ a. a.value) f))
 
 abbrev pub action : Action → tree.Action
 action (actions.Change c) = tree.changes (change c)
@@ -94,7 +94,7 @@ command (commands.ProcessRuleset n) = tree.process_ruleset n
 command (commands.ProcessRule n) = tree.process_rule n
 command (commands.CreateTable n columns) = tree.create_table n columns.items
 command (commands.DropTable n) = tree.drop_table n
-command (commands.CreateRule r) = tree.create_rule (rule r)
+command (commands.CreateRule r) = tree.create_rule (rule r.value)
 command (commands.DropRule n) = tree.drop_rule n
 command (commands.ActivateRule n) = tree.activate_rule n
 command (commands.DeactivateRule n) = tree.deactivate_rule n
@@ -102,5 +102,5 @@ command (commands.CreateRuleset n) = tree.create_ruleset n
 command (commands.DropRuleset n) = tree.drop_ruleset n
 command (commands.AddRules n rules) = tree.add_rules n rules.items
 command (commands.DelRules n rules) = tree.del_rules n rules.items
-command (commands.Query q) = tree.query (query q)
+command (commands.Query q) = tree.query (query q.value)
 command (commands.Change c) = tree.change (change c)

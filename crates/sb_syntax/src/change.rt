@@ -1,16 +1,18 @@
 //! Changes of tables.
 
-ghost use Rattle.std.specs.Prelude.{◌≡◌, map, length};
+ghost use Rattle.std.specs.Prelude.{◌≡◌, map, length, option_map};
 ghost use Rattle.sb_syntax.specs.Reading as spec;
 ghost use Rattle.sb_syntax.specs.Reading.{Gives};
 ghost use Rattle.sb_syntax.specs.Views as view;
 
-use crate::command::{Assignment, Change};
+use crate::ast::{Condition, Query};
+use crate::command::{Assignment, Change, Tuple};
 use crate::cursor::{Cursor, Fault};
 use crate::kind::Kind;
 use crate::literal::{literal_value, name};
 use crate::query::{filter, operand, query};
-use sb_value::{Name, Value};
+use sb_value::Name;
+use smallvec::SmallVec;
 use std::alloc::Global;
 
 /// How deep subqueries nest.
@@ -22,11 +24,11 @@ pub const MAX_COLUMNS: usize = 8;
 /// Literals, for so many of which there is room at once.
 #[inline(always)]
 #[tactic(auto, unfolding(crate::specs::Reading::separated))]
-fn literals(alloc: Global, tokens: &mut Cursor<'_>, room: usize) -> Result<Vec<Value>, Fault>
+fn literals(alloc: Global, tokens: &mut Cursor<'_>, room: usize) -> Result<Tuple, Fault>
     ensures { Gives (λ v. v.items)
         (spec.separated Kind.Comma spec.literal_value tokens.old) result tokens.old tokens.new }
 {
-    let mut all = Vec::with_capacity(alloc, room)?;
+    let mut all = SmallVec::with_capacity(alloc, room)?;
     let first = literal_value(alloc, tokens)?;
     all.push(first)?;
     'more: while tokens.sees(Kind::Comma) {
@@ -38,7 +40,7 @@ fn literals(alloc: Global, tokens: &mut Cursor<'_>, room: usize) -> Result<Vec<V
 }
 
 #[tactic(auto, unfolding(crate::specs::Reading::tuple))]
-fn tuple(alloc: Global, tokens: &mut Cursor<'_>, room: usize) -> Result<Vec<Value>, Fault>
+fn tuple(alloc: Global, tokens: &mut Cursor<'_>, room: usize) -> Result<Tuple, Fault>
     ensures { Gives (λ v. v.items) (spec.tuple tokens.old) result tokens.old tokens.new }
 {
     tokens.expect(Kind::LeftParen)?;
@@ -52,11 +54,11 @@ fn tuple(alloc: Global, tokens: &mut Cursor<'_>, room: usize) -> Result<Vec<Valu
 }
 
 #[tactic(auto, unfolding(crate::specs::Reading::separated))]
-fn tuples(alloc: Global, tokens: &mut Cursor<'_>) -> Result<Vec<Vec<Value>>, Fault>
+fn tuples(alloc: Global, tokens: &mut Cursor<'_>) -> Result<Vec<Tuple>, Fault>
     ensures { Gives (λ v. map (λ t. t.items) v.items)
         (spec.separated Kind.Comma spec.tuple tokens.old) result tokens.old tokens.new }
 {
-    let first = tuple(alloc, tokens, MAX_COLUMNS)?;
+    let first = tuple(alloc, tokens, 0)?;
     let width = first.len();
     // Each further tuple of that width is a comma, two parentheses and its literals with commas between them.
     let mut all = Vec::with_capacity(alloc, tokens.left() / 2 / (width + 1) + 1)?;
@@ -78,6 +80,15 @@ fn insert_rows(alloc: Global, tokens: &mut Cursor<'_>, table: Name) -> Result<Ch
     Ok(Change::InsertRows(table, tuples))
 }
 
+/// A query that stands in no other.
+pub fn whole_query(alloc: Global, tokens: &mut Cursor<'_>) -> Result<Box<Query>, Fault>
+    ensures { Gives (λ q. view.query q.value)
+        (spec.query_to MAX_DEPTH tokens.old) result tokens.old tokens.new }
+{
+    let query = query(alloc, tokens, MAX_DEPTH)?;
+    Ok(Box::new(alloc, query)?)
+}
+
 #[tactic(auto, unfolding(crate::specs::Reading::inserts, crate::specs::Reading::inserts_into))]
 fn insert(alloc: Global, tokens: &mut Cursor<'_>) -> Result<Change, Fault>
     ensures { Gives view.change (spec.inserts tokens.old) result tokens.old tokens.new }
@@ -88,7 +99,7 @@ fn insert(alloc: Global, tokens: &mut Cursor<'_>) -> Result<Change, Fault>
     if tokens.sees(Kind::Values) {
         insert_rows(alloc, tokens, table)
     } else {
-        Ok(Change::InsertQuery(table, query(alloc, tokens, MAX_DEPTH)?))
+        Ok(Change::InsertQuery(table, whole_query(alloc, tokens)?))
     }
 }
 
@@ -118,6 +129,17 @@ fn assignments(alloc: Global, tokens: &mut Cursor<'_>) -> Result<Vec<Assignment>
     Ok(all)
 }
 
+/// The condition of a statement, if one stands there.
+fn statement_filter(alloc: Global, tokens: &mut Cursor<'_>) -> Result<Option<Box<Condition>>, Fault>
+    ensures { Gives (λ f. view.filter (option_map (λ a. a.value) f))
+        (spec.filter (spec.inner_query MAX_DEPTH) tokens.old) result tokens.old tokens.new }
+{
+    match filter(alloc, tokens, MAX_DEPTH)? {
+        Some(condition) => Ok(Some(Box::new(alloc, condition)?)),
+        None => Ok(None),
+    }
+}
+
 #[tactic(auto, unfolding(crate::specs::Reading::updates))]
 fn update(alloc: Global, tokens: &mut Cursor<'_>) -> Result<Change, Fault>
     ensures { Gives view.change (spec.updates tokens.old) result tokens.old tokens.new }
@@ -126,7 +148,7 @@ fn update(alloc: Global, tokens: &mut Cursor<'_>) -> Result<Change, Fault>
     let table = name(tokens)?;
     tokens.expect(Kind::Set)?;
     let assignments = assignments(alloc, tokens)?;
-    let filter = filter(alloc, tokens, MAX_DEPTH)?;
+    let filter = statement_filter(alloc, tokens)?;
     Ok(Change::Update(table, assignments, filter))
 }
 
@@ -137,7 +159,7 @@ fn delete(alloc: Global, tokens: &mut Cursor<'_>) -> Result<Change, Fault>
     tokens.expect(Kind::Delete)?;
     tokens.expect(Kind::From)?;
     let table = name(tokens)?;
-    let filter = filter(alloc, tokens, MAX_DEPTH)?;
+    let filter = statement_filter(alloc, tokens)?;
     Ok(Change::Delete(table, filter))
 }
 

@@ -2,6 +2,10 @@
 
 use crate::ast::{Condition, Operand, Query};
 use sb_value::{ColumnDefinition, Name, Value};
+use smallvec::SmallVec;
+
+/// The values of a row that is inserted. Up to two stand inline.
+pub type Tuple = SmallVec<Value, 2>;
 
 /// A column of an update, and what it becomes.
 #[derive(Drop)]
@@ -12,10 +16,10 @@ pub struct Assignment {
 
 #[derive(Drop)]
 pub enum Change {
-    InsertRows(Name, Vec<Vec<Value>>),
-    InsertQuery(Name, Query),
-    Delete(Name, Option<Condition>),
-    Update(Name, Vec<Assignment>, Option<Condition>),
+    InsertRows(Name, Vec<Tuple>),
+    InsertQuery(Name, Box<Query>),
+    Delete(Name, Option<Box<Condition>>),
+    Update(Name, Vec<Assignment>, Option<Box<Condition>>),
 }
 
 #[derive(Drop)]
@@ -57,7 +61,7 @@ pub enum Command {
     ProcessRule(Name),
     CreateTable(Name, Vec<ColumnDefinition>),
     DropTable(Name),
-    CreateRule(RuleText),
+    CreateRule(Box<RuleText>),
     DropRule(Name),
     ActivateRule(Name),
     DeactivateRule(Name),
@@ -65,6 +69,6 @@ pub enum Command {
     DropRuleset(Name),
     AddRules(Name, Vec<Name>),
     DelRules(Name, Vec<Name>),
-    Query(Query),
+    Query(Box<Query>),
     Change(Change),
 }

@@ -5,12 +5,11 @@ ghost use Rattle.sb_syntax.specs.Reading as spec;
 ghost use Rattle.sb_syntax.specs.Reading.{Gives};
 ghost use Rattle.sb_syntax.specs.Views as view;
 
-use crate::change::{MAX_COLUMNS, MAX_DEPTH, change};
-use crate::command::Command;
+use crate::change::{MAX_COLUMNS, change, whole_query};
+use crate::command::{Command, RuleText};
 use crate::cursor::{Cursor, Fault};
 use crate::kind::Kind;
 use crate::literal::{name, name_after, names};
-use crate::query::query;
 use crate::rule::rule;
 use sb_value::{ColumnDefinition, ColumnType, Name};
 use std::alloc::Global;
@@ -67,6 +66,13 @@ fn create_table(alloc: Global, tokens: &mut Cursor<'_>) -> Result<Command, Fault
     Ok(Command::CreateTable(table, columns))
 }
 
+fn boxed_rule(alloc: Global, tokens: &mut Cursor<'_>) -> Result<Box<RuleText>, Fault>
+    ensures { Gives (λ r. view.rule r.value) (spec.rule tokens.old) result tokens.old tokens.new }
+{
+    let rule = rule(alloc, tokens)?;
+    Ok(Box::new(alloc, rule)?)
+}
+
 #[tactic(auto, unfolding(crate::specs::Reading::creates))]
 fn create(alloc: Global, tokens: &mut Cursor<'_>) -> Result<Command, Fault>
     ensures { Gives view.command (spec.creates tokens.old) result tokens.old tokens.new }
@@ -75,7 +81,7 @@ fn create(alloc: Global, tokens: &mut Cursor<'_>) -> Result<Command, Fault>
     match tokens.peek() {
         Some(Kind::Table) => create_table(alloc, tokens),
         Some(Kind::Ruleset) => Ok(Command::CreateRuleset(name_after(tokens, Kind::Ruleset)?)),
-        _ => Ok(Command::CreateRule(rule(alloc, tokens)?)),
+        _ => Ok(Command::CreateRule(boxed_rule(alloc, tokens)?)),
     }
 }
 
@@ -182,7 +188,7 @@ fn statement(alloc: Global, tokens: &mut Cursor<'_>) -> Result<Command, Fault>
         Some(Kind::Activate) => activate(tokens),
         Some(Kind::Deactivate) => deactivate(tokens),
         Some(Kind::Process) => process(tokens),
-        Some(Kind::Select) => Ok(Command::Query(query(alloc, tokens, MAX_DEPTH)?)),
+        Some(Kind::Select) => Ok(Command::Query(whole_query(alloc, tokens)?)),
         _ => Ok(Command::Change(change(alloc, tokens)?)),
     }
 }

@@ -14,7 +14,7 @@ pub more-smaller : goal.more-smaller
 more-smaller c = seen_falls Comma c.more.tokens c.skip.new.self _ c.sees.result c.sees.ensures c.more-test.true c.skip.ensures.value c.in_ok-item.ensures.1
 
 pub more-preserved : goal.more-preserved
-more-preserved c = goes_on-next (pushes Comma) literal_value _ _ _ _ c.more.tokens c.skip.new.self _ _ _ _ refl c.more.invariant refl (pushes_yes Comma c.more.tokens c.sees.result c.sees.ensures c.more-test.true) c.skip.ensures.value c.in_ok-item.ensures c.in_ok-push-2.ensures.items
+more-preserved c = goes_on-next (pushes Comma) literal_value _ _ _ _ c.more.tokens c.skip.new.self _ _ _ _ refl c.more.invariant refl (pushes_yes Comma c.more.tokens c.sees.result c.sees.ensures c.more-test.true) c.skip.ensures.value c.in_ok-item.ensures c.in_ok-push-2.ensures.ok
 
 pub returns : goal.returns
 returns c = goes_on-end (pushes Comma) literal_value _ _ _ c.more.tokens _ c.more.invariant refl (pushes_no Comma c.more.tokens c.sees.result c.sees.ensures c.more-test.false)
