@@ -28,7 +28,8 @@ fn literals(alloc: Global, tokens: &mut Cursor<'_>, room: usize) -> Result<Tuple
     ensures { Gives (λ v. v.items)
         (spec.separated Kind.Comma spec.literal_value tokens.old) result tokens.old tokens.new }
 {
-    let mut all = SmallVec::with_capacity(alloc, room)?;
+    let mut all = SmallVec::new(alloc);
+    all.reserve(room)?;
     let first = literal_value(alloc, tokens)?;
     all.push(first)?;
     'more: while tokens.sees(Kind::Comma) {
