@@ -5,6 +5,7 @@ pub mod Flags
 pub mod FlagsInverse
 pub mod Tree
 pub mod Values
+pub mod Tuples
 pub mod Literal
 pub mod Columns
 pub mod Refusal

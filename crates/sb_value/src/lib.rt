@@ -12,6 +12,7 @@ mod net;
 mod refusal;
 mod row;
 mod rule_set;
+mod tuples;
 mod value;
 
 pub use change::{Change, Kind};
@@ -30,4 +31,5 @@ pub use net::{Net, Transition, Triggers};
 pub use refusal::{Refusal, Verdict};
 pub use row::{Row, RowList};
 pub use rule_set::RuleSet;
+pub use tuples::{OpenTuples, TupleIter, TupleRows, Tuples};
 pub use value::{ColumnDefinition, ColumnType, TEXT_LIMIT, Text, Value};
