@@ -57,7 +57,7 @@ abbrev pub assignment : Assignment → tree.Assignment
 assignment a = record { column = a.column; operand = operand a.operand }
 
 abbrev pub change : Change → tree.Change
-change (InsertRows n tuples) = tree.insert_rows n (map (λ vs. vs.items) tuples.items)
+change (InsertRows n tuples) = tree.insert_rows n tuples
 change (InsertQuery n q) = tree.insert_query n (query q.value)
 change (Delete n f) = tree.delete n (filter (option_map (λ a. a.value) f))
 change (Update n assignments f) = tree.update n (map assignment assignments.items) (filter (option_map (λ a. a.value) f))

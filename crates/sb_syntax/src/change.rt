@@ -1,35 +1,31 @@
 //! Changes of tables.
 
-ghost use Rattle.std.specs.Prelude.{◌≡◌, map, length, option_map};
+ghost use Rattle.std.specs.Prelude.{◌≡◌, [], map, length, option_map};
 ghost use Rattle.sb_syntax.specs.Reading as spec;
 ghost use Rattle.sb_syntax.specs.Reading.{Gives};
 ghost use Rattle.sb_syntax.specs.Views as view;
 
 use crate::ast::{Condition, Query};
-use crate::command::{Assignment, Change, Tuple};
+use crate::command::{Assignment, Change};
 use crate::cursor::{Cursor, Fault};
 use crate::kind::Kind;
 use crate::literal::{literal_value, name};
 use crate::query::{filter, operand, query};
-use sb_value::Name;
-use smallvec::SmallVec;
+use sb_value::{Name, OpenTuples, Tuples};
 use std::alloc::Global;
 
 /// How deep subqueries nest.
 pub const MAX_DEPTH: usize = 4;
 
-/// How many columns a table has.
-pub const MAX_COLUMNS: usize = 8;
-
-/// Literals, for so many of which there is room at once.
+/// Literals, as a tuple that is begun.
 #[inline(always)]
 #[tactic(auto, unfolding(crate::specs::Reading::separated))]
-fn literals(alloc: Global, tokens: &mut Cursor<'_>, room: usize) -> Result<Tuple, Fault>
-    ensures { Gives (λ v. v.items)
+fn literals(alloc: Global, tokens: &mut Cursor<'_>, all: &mut OpenTuples) -> Result<(), Fault>
+    requires { all.old.begun ≡ [] }
+    ensures read { Gives (λ _. all.new.begun)
         (spec.separated Kind.Comma spec.literal_value tokens.old) result tokens.old tokens.new }
+    ensures closed { all.new.closed ≡ all.old.closed }
 {
-    let mut all = SmallVec::new(alloc);
-    all.reserve(room)?;
     let first = literal_value(alloc, tokens)?;
     all.push(first)?;
     'more: while tokens.sees(Kind::Comma) {
@@ -37,39 +33,40 @@ fn literals(alloc: Global, tokens: &mut Cursor<'_>, room: usize) -> Result<Tuple
         let item = literal_value(alloc, tokens)?;
         all.push(item)?;
     }
-    Ok(all)
+    Ok(())
 }
 
 #[tactic(auto, unfolding(crate::specs::Reading::tuple))]
-fn tuple(alloc: Global, tokens: &mut Cursor<'_>, room: usize) -> Result<Tuple, Fault>
-    ensures { Gives (λ v. v.items) (spec.tuple tokens.old) result tokens.old tokens.new }
+fn tuple(alloc: Global, tokens: &mut Cursor<'_>, all: &mut OpenTuples) -> Result<(), Fault>
+    requires { all.old.begun ≡ [] }
+    ensures read { Gives (λ _. all.new.begun) (spec.tuple tokens.old) result tokens.old tokens.new }
+    ensures closed { all.new.closed ≡ all.old.closed }
 {
     tokens.expect(Kind::LeftParen)?;
     // A cursor of its own, which stays in registers.
     let mut here = tokens.copied();
-    let read = literals(alloc, &mut here, room);
+    let read = literals(alloc, &mut here, all);
     *tokens = here;
-    let values = read?;
+    read?;
     tokens.expect(Kind::RightParen)?;
-    Ok(values)
+    Ok(())
 }
 
 #[tactic(auto, unfolding(crate::specs::Reading::separated))]
-fn tuples(alloc: Global, tokens: &mut Cursor<'_>) -> Result<Vec<Tuple>, Fault>
-    ensures { Gives (λ v. map (λ t. t.items) v.items)
+fn tuples(alloc: Global, tokens: &mut Cursor<'_>) -> Result<Tuples, Fault>
+    ensures { Gives (λ v. v)
         (spec.separated Kind.Comma spec.tuple tokens.old) result tokens.old tokens.new }
 {
-    let first = tuple(alloc, tokens, 0)?;
-    let width = first.len();
-    // Each further tuple of that width is a comma, two parentheses and its literals with commas between them.
-    let mut all = Vec::with_capacity(alloc, tokens.left() / 2 / (width + 1) + 1)?;
-    all.push(first)?;
+    // A comma or a parenthesis follows each value.
+    let mut all = OpenTuples::with_capacity(alloc, tokens.left() / 2)?;
+    tuple(alloc, tokens, &mut all)?;
+    all.close()?;
     'more: while tokens.sees(Kind::Comma) {
         tokens.skip();
-        let item = tuple(alloc, tokens, width)?;
-        all.push(item)?;
+        tuple(alloc, tokens, &mut all)?;
+        all.close()?;
     }
-    Ok(all)
+    Ok(all.finish())
 }
 
 #[tactic(auto, unfolding(crate::specs::Reading::inserts_rows))]

@@ -1,11 +1,7 @@
 //! Commands, as trees.
 
 use crate::ast::{Condition, Operand, Query};
-use sb_value::{ColumnDefinition, Name, Value};
-use smallvec::SmallVec;
-
-/// The values of a row that is inserted. Up to two stand inline.
-pub type Tuple = SmallVec<Value, 2>;
+use sb_value::{ColumnDefinition, Name, Tuples};
 
 /// A column of an update, and what it becomes.
 #[derive(Drop)]
@@ -16,7 +12,7 @@ pub struct Assignment {
 
 #[derive(Drop)]
 pub enum Change {
-    InsertRows(Name, Vec<Tuple>),
+    InsertRows(Name, Tuples),
     InsertQuery(Name, Box<Query>),
     Delete(Name, Option<Box<Condition>>),
     Update(Name, Vec<Assignment>, Option<Box<Condition>>),

@@ -19,7 +19,7 @@ pub use ast::{
     Arithmetic, ColumnReference, Comparison, Condition, Expr, Items, Operand, Query,
     SourceReference, TableReference,
 };
-pub use command::{Action, Assignment, Change, Command, RuleText, Trigger, Tuple};
+pub use command::{Action, Assignment, Change, Command, RuleText, Trigger};
 pub use cursor::Token;
 pub use kind::Kind;
 pub use token::{ParseError, command_of_is_the_grammar, one_command, parse, tokens};

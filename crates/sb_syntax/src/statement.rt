@@ -5,7 +5,7 @@ ghost use Rattle.sb_syntax.specs.Reading as spec;
 ghost use Rattle.sb_syntax.specs.Reading.{Gives};
 ghost use Rattle.sb_syntax.specs.Views as view;
 
-use crate::change::{MAX_COLUMNS, change, whole_query};
+use crate::change::{change, whole_query};
 use crate::command::{Command, RuleText};
 use crate::cursor::{Cursor, Fault};
 use crate::kind::Kind;
@@ -13,6 +13,9 @@ use crate::literal::{name, name_after, names};
 use crate::rule::rule;
 use sb_value::{ColumnDefinition, ColumnType, Name};
 use std::alloc::Global;
+
+/// How many columns a table has.
+const MAX_COLUMNS: usize = 8;
 
 #[tactic(auto, unfolding(crate::specs::Reading::column_type))]
 fn column_type(tokens: &mut Cursor<'_>) -> Result<ColumnType, Fault>
