@@ -1,5 +1,5 @@
 //! Statements that change a table.
-ghost use Rattle.std.specs.Prelude.{◌≡◌, ◌==◌, [], true, map, length, IfOk};
+ghost use Rattle.std.specs.Prelude.{◌≡◌, ◌==◌, [], true, map, option_map, length, IfOk};
 ghost use Rattle.sb_check.specs.Parts as parts;
 ghost use Rattle.std.specs.List.{list_any};
 ghost use Rattle.sb_check.specs.Answer.{Gives};
@@ -9,13 +9,13 @@ ghost use Rattle.sb_syntax.specs.Views as view;
 
 use crate::expression::byte;
 use crate::fault::{Fault, Reason};
-use crate::query::{filter, operand, query};
+use crate::query::{always, condition, operand, query};
 use crate::schema::{Schema, TableEntry};
 use crate::scope::{Scope, Visible, column_in};
 use crate::source::table_named;
 use crate::tree::{Assignment, Assignments, Condition, Statement};
 use crate::types::same_type;
-use sb_syntax::{Change, TableReference};
+use sb_syntax::{Change, TableReference, Tuple};
 use sb_value::{ColumnDefinition, Row, RowList, Value};
 use std::alloc::{AllocError, Global};
 
@@ -42,7 +42,7 @@ fn row_fits(values: &[Value], columns: &[ColumnDefinition]) -> Result<(), Fault>
     row_types(values, columns)
 }
 
-fn rows_fit(columns: &[ColumnDefinition], rows: &[Vec<Value>]) -> Result<(), Fault>
+fn rows_fit(columns: &[ColumnDefinition], rows: &[Tuple]) -> Result<(), Fault>
     ensures { Gives (λ _. true) (changes.rows_fitting columns.now (map (λ r. r.items) rows.now)) result }
 {
     for row in rows {
@@ -64,7 +64,7 @@ fn copied_row(alloc: Global, values: &[Value]) -> Result<Row, AllocError>
     Ok(row)
 }
 
-fn copied_rows(alloc: Global, rows: &[Vec<Value>]) -> Result<RowList, AllocError>
+fn copied_rows(alloc: Global, rows: &[Tuple]) -> Result<RowList, AllocError>
     ensures { IfOk result (λ list. list ≡ map (λ r. r.items) rows.now) }
 {
     let mut list = RowList::new(alloc);
@@ -75,11 +75,7 @@ fn copied_rows(alloc: Global, rows: &[Vec<Value>]) -> Result<RowList, AllocError
 }
 
 #[tactic(auto, unfolding(crate::specs::Changes::rows_into))]
-fn insert_rows(
-    alloc: Global,
-    table: &TableEntry<'_>,
-    rows: &[Vec<Value>],
-) -> Result<Statement, Fault>
+fn insert_rows(alloc: Global, table: &TableEntry<'_>, rows: &[Tuple]) -> Result<Statement, Fault>
     ensures { Gives (λ s. s) (changes.rows_into table.now.id table.now.columns.now (map (λ r. r.items) rows.now)) result }
 {
     rows_fit(table.columns, rows)?;
@@ -102,13 +98,14 @@ fn insert_query<'s, S: Schema>(
 }
 
 /// The condition of a delete or an update, over the table alone.
+#[tactic(auto, using(crate::proofs::Equations::filter_walks))]
 fn table_filter<'s, S: Schema>(
     alloc: Global,
     table: &TableEntry<'s>,
-    f: &Option<sb_syntax::Condition>,
+    f: &Option<Box<sb_syntax::Condition>>,
     schema: &'s S,
 ) -> Result<Condition, Fault>
-    ensures { Gives (λ c. c) (parts.filter_walk (S.names schema.now) (view.filter f.now) (changes.table_scope table.now.name table.now.columns.now)) result }
+    ensures { Gives (λ c. c) (parts.filter_walk (S.names schema.now) (view.filter (option_map (λ a. a.value) f.now)) (changes.table_scope table.now.name table.now.columns.now)) result }
 {
     let visible = [Visible {
         name: TableReference::Named(table.name),
@@ -116,17 +113,20 @@ fn table_filter<'s, S: Schema>(
     }];
     let outermost = Scope::Outermost;
     let scope = Scope::Within(&visible, &outermost);
-    filter(alloc, f, schema, &scope)
+    match f {
+        Some(c) => condition(alloc, c, schema, &scope),
+        None => Ok(always()),
+    }
 }
 
 #[tactic(auto, unfolding(crate::specs::Changes::delete_of))]
 fn delete<'s, S: Schema>(
     alloc: Global,
     table: &TableEntry<'s>,
-    f: &Option<sb_syntax::Condition>,
+    f: &Option<Box<sb_syntax::Condition>>,
     schema: &'s S,
 ) -> Result<Statement, Fault>
-    ensures { Gives (λ s. s) (changes.delete_of (S.names schema.now) table.now.id table.now.name table.now.columns.now (view.filter f.now)) result }
+    ensures { Gives (λ s. s) (changes.delete_of (S.names schema.now) table.now.id table.now.name table.now.columns.now (view.filter (option_map (λ a. a.value) f.now))) result }
 {
     let condition = table_filter(alloc, table, f, schema)?;
     Ok(Statement::Delete(table.id, condition))
@@ -188,10 +188,10 @@ fn update<'s, S: Schema>(
     alloc: Global,
     table: &TableEntry<'s>,
     list: &[sb_syntax::Assignment],
-    f: &Option<sb_syntax::Condition>,
+    f: &Option<Box<sb_syntax::Condition>>,
     schema: &'s S,
 ) -> Result<Statement, Fault>
-    ensures { Gives (λ s. s) (changes.update_of (S.names schema.now) table.now.id table.now.name table.now.columns.now (map view.assignment list.now) (view.filter f.now)) result }
+    ensures { Gives (λ s. s) (changes.update_of (S.names schema.now) table.now.id table.now.name table.now.columns.now (map view.assignment list.now) (view.filter (option_map (λ a. a.value) f.now))) result }
 {
     let places = assignments(alloc, table, list, schema)?;
     let condition = table_filter(alloc, table, f, schema)?;

@@ -93,7 +93,7 @@ fn exists(alloc: Global, query: Query) -> Result<Condition, AllocError>
     })
 }
 
-fn always() -> Condition
+pub(crate) fn always() -> Condition
     ensures { result ≡ tree.always }
 {
     Condition {

@@ -1,4 +1,5 @@
 use Rattle.std.proofs.Common.{map}
+use Rattle.std.specs.Prelude.{option_map}
 use Rattle.sb_syntax.specs.Views.{assignment, filter, query}
 use Rattle.sb_check.specs.declared.tree.Statement.{Statement}
 use Rattle.sb_check.proofs.ChangeWalk.{walk_rows, walk_rows_of, walk_delete, walk_update}
@@ -12,15 +13,15 @@ returns-in-Ok g c =
 
 pub returns-in-Ok-table_named : goal.returns-in-Ok-table_named
 returns-in-Ok-table_named g c =
-    let same = walk_rows_of (g.S.Schema.names c.args.schema.now) c.in-Ok-table_named.table c.in-InsertQuery.name c.in-Ok-table_named.ensures (query c.in-InsertQuery.q) in
-    rw c.in-InsertQuery.is (same_gives {X = Statement} (λ s. s) _ _ _ same c.insert_query.ensures)
+    let same = walk_rows_of (g.S.Schema.names c.args.schema.now) c.in-Ok-table_named.table c.in-InsertQuery.name c.in-Ok-table_named.ensures (query c.in-InsertQuery.q.value) in
+    rw c.in-InsertQuery.is (same_gives {X = Statement} (λ s. s) _ _ _ same (rw c.deref.ensures at c.insert_query.ensures))
 
 pub returns-in-Ok-table_named-2 : goal.returns-in-Ok-table_named-2
 returns-in-Ok-table_named-2 g c =
-    let same = walk_delete (g.S.Schema.names c.args.schema.now) c.in-Ok-table_named-2.table c.in-Delete.name c.in-Ok-table_named-2.ensures (filter c.in-Delete.f) in
+    let same = walk_delete (g.S.Schema.names c.args.schema.now) c.in-Ok-table_named-2.table c.in-Delete.name c.in-Ok-table_named-2.ensures (filter (option_map (λ a. a.value) c.in-Delete.f)) in
     rw c.in-Delete.is (same_gives {X = Statement} (λ s. s) _ _ _ same c.delete.ensures)
 
 pub returns-in-Ok-table_named-3 : goal.returns-in-Ok-table_named-3
 returns-in-Ok-table_named-3 g c =
-    let same = walk_update (g.S.Schema.names c.args.schema.now) c.in-Ok-table_named-3.table c.in-Update.name c.in-Ok-table_named-3.ensures (map assignment c.in-Update.list.items) (filter c.in-Update.f) in
+    let same = walk_update (g.S.Schema.names c.args.schema.now) c.in-Ok-table_named-3.table c.in-Update.name c.in-Ok-table_named-3.ensures (map assignment c.in-Update.list.items) (filter (option_map (λ a. a.value) c.in-Update.f)) in
     rw c.in-Update.is (same_gives {X = Statement} (λ s. s) _ _ _ same (rw c.as_slice-in-Ok-table_named-3.ensures.value at c.update.ensures))

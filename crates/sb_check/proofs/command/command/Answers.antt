@@ -8,4 +8,4 @@ use Rattle.sb_check.proofs.command.command.Goals as goal
 pub returns-in-Err-resolve_query : goal.returns-in-Err-resolve_query
 returns-in-Err-resolve_query g c =
     rw c.in-Query.is
-    (refused_before (walk_query (g.S.Schema.names c.args.schema.now) (view.query c.in-Query.query) []) (λ w. w.0) (λ w. resolved.query w.0) c.in-Err-resolve_query.refusal c.in-Err-resolve_query.ensures)
+    (refused_before (walk_query (g.S.Schema.names c.args.schema.now) (view.query c.in-Query.query.value) []) (λ w. w.0) (λ w. resolved.query w.0) c.in-Err-resolve_query.refusal (rw c.deref-in-Query.ensures at c.in-Err-resolve_query.ensures))
