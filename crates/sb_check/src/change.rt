@@ -1,5 +1,5 @@
 //! Statements that change a table.
-ghost use Rattle.std.specs.Prelude.{◌≡◌, ◌==◌, [], true, map, option_map, length, IfOk};
+ghost use Rattle.std.specs.Prelude.{◌≡◌, ◌==◌, [], true, map, option_map, length};
 ghost use Rattle.sb_check.specs.Parts as parts;
 ghost use Rattle.std.specs.List.{list_any};
 ghost use Rattle.sb_check.specs.Answer.{Gives};
@@ -15,9 +15,9 @@ use crate::scope::{Scope, Visible, column_in};
 use crate::source::table_named;
 use crate::tree::{Assignment, Assignments, Condition, Statement};
 use crate::types::same_type;
-use sb_syntax::{Change, TableReference, Tuple};
-use sb_value::{ColumnDefinition, Row, RowList, Value};
-use std::alloc::{AllocError, Global};
+use sb_syntax::{Change, TableReference};
+use sb_value::{ColumnDefinition, Tuples, Value};
+use std::alloc::Global;
 
 /// Whether the values fit the columns, of which there are as many, in order.
 fn row_types(values: &[Value], columns: &[ColumnDefinition]) -> Result<(), Fault>
@@ -42,11 +42,12 @@ fn row_fits(values: &[Value], columns: &[ColumnDefinition]) -> Result<(), Fault>
     row_types(values, columns)
 }
 
-fn rows_fit(columns: &[ColumnDefinition], rows: &[Tuple]) -> Result<(), Fault>
-    ensures { Gives (λ _. true) (changes.rows_fitting columns.now (map (λ r. r.items) rows.now)) result }
+fn rows_fit(columns: &[ColumnDefinition], rows: &Tuples) -> Result<(), Fault>
+    ensures { Gives (λ _. true) (changes.rows_fitting columns.now rows.now) result }
 {
-    for row in rows {
-        match row_fits(row.as_slice(), columns) {
+    let mut left = rows.iter();
+    'more: while let Some(row) = left.next() {
+        match row_fits(row, columns) {
             Ok(()) => {}
             Err(fault) => return Err(fault),
         }
@@ -54,32 +55,12 @@ fn rows_fit(columns: &[ColumnDefinition], rows: &[Tuple]) -> Result<(), Fault>
     Ok(())
 }
 
-fn copied_row(alloc: Global, values: &[Value]) -> Result<Row, AllocError>
-    ensures { IfOk result (λ row. row ≡ values.now) }
-{
-    let mut row = Row::new(alloc);
-    for value in values {
-        row.push(value.clone()?)?;
-    }
-    Ok(row)
-}
-
-fn copied_rows(alloc: Global, rows: &[Tuple]) -> Result<RowList, AllocError>
-    ensures { IfOk result (λ list. list ≡ map (λ r. r.items) rows.now) }
-{
-    let mut list = RowList::new(alloc);
-    for row in rows {
-        list.push(copied_row(alloc, row.as_slice())?)?;
-    }
-    Ok(list)
-}
-
 #[tactic(auto, unfolding(crate::specs::Changes::rows_into))]
-fn insert_rows(alloc: Global, table: &TableEntry<'_>, rows: &[Tuple]) -> Result<Statement, Fault>
-    ensures { Gives (λ s. s) (changes.rows_into table.now.id table.now.columns.now (map (λ r. r.items) rows.now)) result }
+fn insert_rows(table: &TableEntry<'_>, rows: &Tuples) -> Result<Statement, Fault>
+    ensures { Gives (λ s. s) (changes.rows_into table.now.id table.now.columns.now rows.now) result }
 {
     rows_fit(table.columns, rows)?;
-    Ok(Statement::InsertRows(table.id, copied_rows(alloc, rows)?))
+    Ok(Statement::InsertRows(table.id, rows.clone()?))
 }
 
 #[tactic(auto, unfolding(crate::specs::Changes::query_into))]
@@ -208,7 +189,7 @@ pub(crate) fn change<'s, S: Schema>(
 {
     match change {
         Change::InsertRows(name, rows) => match table_named(schema, name) {
-            Ok(table) => insert_rows(alloc, &table, rows.as_slice()),
+            Ok(table) => insert_rows(&table, rows),
             Err(fault) => Err(fault),
         },
         Change::InsertQuery(name, q) => match table_named(schema, name) {

@@ -8,8 +8,8 @@ use Rattle.sb_check.proofs.change.change.Goals as goal
 
 pub returns-in-Ok : goal.returns-in-Ok
 returns-in-Ok g c =
-    let same = walk_rows (g.S.Schema.names c.args.schema.now) c.in-Ok.table c.in-InsertRows.name c.in-Ok.ensures (map (λ r. r.items) c.in-InsertRows.rows.items) in
-    rw c.in-InsertRows.is (same_gives {X = Statement} (λ s. s) _ _ _ same (rw c.as_slice.ensures.value at c.insert_rows.ensures))
+    let same = walk_rows (g.S.Schema.names c.args.schema.now) c.in-Ok.table c.in-InsertRows.name c.in-Ok.ensures c.in-InsertRows.rows in
+    rw c.in-InsertRows.is (same_gives {X = Statement} (λ s. s) _ _ _ same c.insert_rows.ensures)
 
 pub returns-in-Ok-table_named : goal.returns-in-Ok-table_named
 returns-in-Ok-table_named g c =
@@ -24,4 +24,4 @@ returns-in-Ok-table_named-2 g c =
 pub returns-in-Ok-table_named-3 : goal.returns-in-Ok-table_named-3
 returns-in-Ok-table_named-3 g c =
     let same = walk_update (g.S.Schema.names c.args.schema.now) c.in-Ok-table_named-3.table c.in-Update.name c.in-Ok-table_named-3.ensures (map assignment c.in-Update.list.items) (filter (option_map (λ a. a.value) c.in-Update.f)) in
-    rw c.in-Update.is (same_gives {X = Statement} (λ s. s) _ _ _ same (rw c.as_slice-in-Ok-table_named-3.ensures.value at c.update.ensures))
+    rw c.in-Update.is (same_gives {X = Statement} (λ s. s) _ _ _ same (rw c.as_slice.ensures.value at c.update.ensures))

@@ -1,7 +1,10 @@
-use Rattle.std.proofs.Common.{◌≡◌, drop, map}
+use Rattle.std.proofs.Common.{◌≡◌, length}
 use Rattle.sb_check.specs.Changes.{rows_fitting}
 use Rattle.sb_check.proofs.change.rows_fit.Given as goal
 
--- the rows that are left decide
-abbrev pub invariant-loop-row : goal.invariant-loop-row
-invariant-loop-row l = rows_fitting l.columns (map (λ r. r.items) l.rows) ≡ rows_fitting l.columns (map (λ r. r.items) (drop l.row-index l.rows))
+-- the rows so far fit
+abbrev pub invariant-more : goal.invariant-more
+invariant-more l = rows_fitting l.columns l.rows ≡ rows_fitting l.columns l.left
+
+abbrev pub decreases-more : goal.decreases-more
+decreases-more l = length l.left
