@@ -2,6 +2,7 @@
 ghost use Rattle.std.specs.Prelude.{◌≡◌, ◌++◌, ◌∷◌, [], map, slice_set, IfOk, OnOk, option_and_then};
 ghost use Rattle.sb_eval.specs.Answer.{Gives, Leaves};
 ghost use Rattle.sb_eval.specs.Effect.{change_of, with_change, with_place};
+ghost use Rattle.sb_eval.specs.Known.{IsRight, AssignmentsRight, EffectRight, left, right};
 ghost use Rattle.sb_eval.specs.Meaning as meaning;
 ghost use Rattle.sb_eval.specs.Scopes.{scope_of, value_seen};
 ghost use Rattle.sb_eval.specs.Seen.{rows_in};
@@ -10,6 +11,7 @@ ghost use Rattle.sb_eval.specs.Statement as spec;
 use crate::condition::{condition, operand};
 use crate::fault::Fault;
 use crate::kept::append;
+use crate::known::Known;
 use crate::scope::Scope;
 use crate::sources::{LentRow, Sources};
 use crate::value_ref::ValueRef;
@@ -171,17 +173,19 @@ fn put<'r>(values: &mut [ValueRef<'r>], place: u8, value: ValueRef<'r>)
 fn assign<'r, S: Sources>(
     alloc: Global,
     assignments: &'r [Assignment],
+    known: &Known<'r>,
     sources: &'r S,
     scope: &Scope<'_, 'r>,
     row: &mut AssignedRow<'r>,
 ) -> Result<(), Fault>
+    requires { AssignmentsRight (rows_in (S.seen sources.now)) assignments.now known.now }
     ensures { Leaves row.new (spec.assigned (S.seen sources.now) (scope_of scope.now) assignments.now row.old) result }
 {
     let Some((first, rest)) = assignments.split_first() else {
         return Ok(());
     };
-    assign(alloc, rest, sources, scope, row)?;
-    let value = operand(alloc, &first.operand, sources, scope)?;
+    assign(alloc, rest, known.right(), sources, scope, row)?;
+    let value = operand(alloc, &first.operand, known.left(), sources, scope)?;
     row.set(first.place, value);
     Ok(())
 }
@@ -193,10 +197,12 @@ fn change<'r, S: Sources>(
     table: TableId,
     number: u64,
     values: &'r [Value],
+    known: &Known<'r>,
     sources: &'r S,
     scope: &Scope<'_, 'r>,
 ) -> Result<Change, Fault>
-    requires { scope_of scope.now ≡ spec.scope_of (number, values.now) }
+    requires known { EffectRight (rows_in (S.seen sources.now)) effect.now known.now }
+    requires scope { scope_of scope.now ≡ spec.scope_of (number, values.now) }
     ensures { Gives (λ c. c) (change_of (S.seen sources.now) table effect.now (number, values.now)) result }
 {
     let mut old = Row::new(alloc);
@@ -205,7 +211,7 @@ fn change<'r, S: Sources>(
         Effect::Delete => Ok(delete_change(sources, table, number, old)),
         Effect::Update(assignments, columns) => {
             let mut assigned = AssignedRow::new(alloc, values)?;
-            assign(alloc, assignments, sources, scope, &mut assigned)?;
+            assign(alloc, assignments, known, sources, scope, &mut assigned)?;
             let new = assigned.to_row(alloc)?;
             Ok(update_change(sources, table, *columns, number, old, new))
         }
@@ -220,19 +226,31 @@ pub(crate) fn change_row<'r, S: Sources>(
     table: TableId,
     number: u64,
     values: &'r [Value],
+    known: &Known<'r>,
     sources: &'r S,
     changes: &mut Vec<Change>,
 ) -> Result<(), Fault>
+    requires filter { IsRight (rows_in (S.seen sources.now)) filter.now (left known.now) }
+    requires effect { EffectRight (rows_in (S.seen sources.now)) effect.now (right known.now) }
     ensures { Leaves changes.new.items (option_and_then (with_change changes.old.items (change_of (S.seen sources.now) table effect.now (number, values.now))) (meaning.holds (rows_in (S.seen sources.now)) filter.now (spec.scope_of (number, values.now)))) result }
 {
     let combination = [LentRow { values }];
     let outermost = Scope::Outermost;
     let scope = Scope::Within(&combination, &outermost);
-    let passes = condition(alloc, filter, sources, &scope)?;
+    let passes = condition(alloc, filter, known.left(), sources, &scope)?;
     if !passes {
         return Ok(());
     }
-    let change = change(alloc, effect, table, number, values, sources, &scope)?;
+    let change = change(
+        alloc,
+        effect,
+        table,
+        number,
+        values,
+        known.right(),
+        sources,
+        &scope,
+    )?;
     changes.push(change)?;
     Ok(())
 }

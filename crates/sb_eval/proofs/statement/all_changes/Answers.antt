@@ -8,9 +8,9 @@ use Rattle.sb_eval.proofs.statement.all_changes.Goals as goal
 pub returns-in-Delete : goal.returns-in-Delete
 returns-in-Delete g c =
     let seen = g.S.Sources.seen c.args.sources.now in
-    rw c.in-Delete.is (same_gives {X = Vec Change Global} {A = List Change} (λ changes. changes.items) _ _ _ (sym (each-found (spec.delete_change seen c.in-Delete.table) (spec.found seen c.in-Delete.table c.in-Delete.filter))) c.changes_where.ensures)
+    rw c.in-Delete.is (same_gives {X = Vec Change Global} {A = List Change} (λ changes. changes.items) _ _ _ (sym (each-found (spec.delete_change seen c.in-Delete.table) (spec.found seen c.in-Delete.table c.in-Delete.filter))) c.target_changes.ensures)
 
 pub returns-in-Update : goal.returns-in-Update
 returns-in-Update g c =
     let seen = g.S.Sources.seen c.args.sources.now in
-    rw c.in-Update.is (same_gives {X = Vec Change Global} {A = List Change} (λ changes. changes.items) _ _ _ (sym (updates-are seen c.in-Update.table c.in-Update.filter c.as_slice-list.result.now c.in-Update.assignments c.places.result c.as_slice-list.ensures c.places.ensures)) c.changes_where-in-Update.ensures)
+    rw c.in-Update.is (same_gives {X = Vec Change Global} {A = List Change} (λ changes. changes.items) _ _ _ (sym (updates-are seen c.in-Update.table c.in-Update.filter c.as_slice-list.result.now c.in-Update.assignments c.places.result c.as_slice-list.ensures c.places.ensures)) c.target_changes-in-Update.ensures)
