@@ -623,7 +623,7 @@ module _ (language : Language) (one_rule : language.rules ≡ 1) (tenant bound :
     refines_active changes seen Rollback = (refl, rolled tenant ts g held n sound (active changes (λ id. 0)))
     refines_active changes seen (CreateTable name columns) = (refl, stays tenant ts g held n sound Active changes tt seen)
     refines_active changes seen (CreateGuard name table) = (refl, stays tenant ts g held n sound Active changes tt seen)
-    refines_active changes seen (Insert name rows) = inserts ts g held n sound changes seen name (map (λ r. r.items) rows.items)
+    refines_active changes seen (Insert name rows) = inserts ts g held n sound changes seen name rows
     refines_active changes seen (DeleteAll name) = deletes ts g held n sound changes seen name
     refines_active changes seen (SelectAll name) = selects ts g held n sound changes seen name
 

@@ -36,7 +36,7 @@ order_tree Commit = tree.commit
 order_tree Rollback = tree.rollback
 order_tree (CreateTable name columns) = tree.create_table name columns.items
 order_tree (CreateGuard name table) = tree.create_rule (guard_text name table)
-order_tree (Insert name rows) = tree.change (tree.insert_rows name (map (λ r. r.items) rows.items))
+order_tree (Insert name rows) = tree.change (tree.insert_rows name rows)
 order_tree (DeleteAll name) = tree.change (tree.delete name tree.everything)
 order_tree (SelectAll name) = tree.query (whole_table name)
 
@@ -49,7 +49,7 @@ carried_out bound v Commit = finished bound v
 carried_out bound v Rollback = (dropped v Idle, reply.Ok)
 carried_out bound v (CreateTable name columns) = created v name columns.items
 carried_out bound v (CreateGuard name table) = guarded v name (place_of v.tables table)
-carried_out bound v (Insert name rows) = inserted_at v (map (λ r. r.items) rows.items) (place_of v.tables name)
+carried_out bound v (Insert name rows) = inserted_at v rows (place_of v.tables name)
 carried_out bound v (DeleteAll name) = deleted_at v (place_of v.tables name)
 carried_out bound v (SelectAll name) = (v, selected_at v (place_of v.tables name))
 

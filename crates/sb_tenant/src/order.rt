@@ -9,7 +9,7 @@ use sb_syntax::{
     Action, Change, Command, Items, ParseError, Query, RuleText, SourceReference, TableReference,
     Trigger, parse,
 };
-use sb_value::{ColumnDefinition, Name, Value};
+use sb_value::{ColumnDefinition, Name, Tuples};
 use std::alloc::{AllocError, Global};
 
 /// A command that is handled.
@@ -23,7 +23,7 @@ pub(crate) enum Order {
     CreateTable(Name, Vec<ColumnDefinition>),
     /// A rule of this name rolls back what is inserted into this table.
     CreateGuard(Name, Name),
-    Insert(Name, Vec<Vec<Value>>),
+    Insert(Name, Tuples),
     DeleteAll(Name),
     SelectAll(Name),
 }

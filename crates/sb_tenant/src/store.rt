@@ -13,7 +13,7 @@ use crate::order::{Order, order_in};
 use crate::phase::Phase;
 use crate::reply::{NamedTrace, Reply, SharedRows};
 use crate::table::{StoredTable, places_of};
-use sb_value::{ColumnDefinition, Name, Refusal, TABLE_LIMIT, TableId, Value, Who};
+use sb_value::{ColumnDefinition, Name, Refusal, TABLE_LIMIT, TableId, Tuples, Who};
 use std::alloc::{AllocError, Global};
 use std::marker::Model;
 
@@ -254,19 +254,14 @@ impl Store {
 
     #[inline(never)]
     #[tactic(auto, using(crate::proofs::Numbered::numbered_length))]
-    fn insert(
-        &mut self,
-        alloc: Global,
-        name: Name,
-        rows: Vec<Vec<Value>>,
-    ) -> Result<Replies, AllocError>
-        ensures ok { IfOk result (λ r. (inserted_at self.old (map (λ r. r.items) rows.items) (place_of self.old.tables name) ≡ (self.new, r.0)) × (r.1 ≡ r.0)) }
+    fn insert(&mut self, alloc: Global, name: Name, rows: Tuples) -> Result<Replies, AllocError>
+        ensures ok { IfOk result (λ r. (inserted_at self.old rows (place_of self.old.tables name) ≡ (self.new, r.0)) × (r.1 ≡ r.0)) }
         ensures err { OnErr result (self.new ≡ self.old) }
     {
         let Some(place) = self.place_of(name) else {
             return Ok(refused(Refusal::NoTable));
         };
-        match self.tables[place].insert_refusal(rows.as_slice()) {
+        match self.tables[place].insert_refusal(&rows) {
             Some(refusal) => Ok(refused(refusal)),
             None => {
                 let first = self.tables[place].next();

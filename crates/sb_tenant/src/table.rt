@@ -5,7 +5,7 @@ ghost use Rattle.sb_check.specs.Names.{same_type};
 ghost use Rattle.sb_check.specs.Walk.{of_types, fitting, type_of};
 ghost use Rattle.sb_tenant.specs.Stored.{Kept, new_table, only_committed, all_committed, seen_rows, numbered, rows_refusal as first_misfit, insert_refusal as why_not_inserted, without_rows};
 
-use sb_value::{ColumnDefinition, ColumnType, Name, Refusal, Row, RowList, Value};
+use sb_value::{ColumnDefinition, ColumnType, Name, Refusal, Row, RowList, Tuples, Value};
 use std::alloc::{AllocError, Global};
 use std::marker::Model;
 
@@ -90,14 +90,14 @@ impl StoredTable {
     }
 
     /// Why these rows aren't inserted.
-    pub(crate) fn insert_refusal(&self, rows: &[Vec<Value>]) -> Option<Refusal>
-        ensures value { result ≡ why_not_inserted self.now (map (λ r. r.items) rows.now) }
+    pub(crate) fn insert_refusal(&self, rows: &Tuples) -> Option<Refusal>
+        ensures value { result ≡ why_not_inserted self.now rows.now }
         ensures room { result ≡ None → length (seen_rows self.now) + length rows.now ≤ 4096 }
     {
         if let Some(refusal) = rows_refusal(rows, self.columns.as_slice()) {
             return Some(refusal);
         }
-        if self.seen().len() + rows.len() > ROW_LIMIT {
+        if rows.len() > ROW_LIMIT - self.seen().len() {
             return Some(Refusal::TooManyRows);
         }
         None
@@ -156,47 +156,31 @@ impl StoredTable {
 }
 
 /// The rows of these values, under the numbers from `first` on.
-#[tactic(auto, using(crate::proofs::Numbered::numbered_more))]
-pub(crate) fn places_of(
-    alloc: Global,
-    rows: Vec<Vec<Value>>,
-    first: u64,
-) -> Result<Vec<Place>, AllocError>
-    requires { first + length rows.items < 2 ^ 64 }
-    ensures { IfOk result (λ made. made.items ≡ numbered first (map (λ r. r.items) rows.items)) }
+pub(crate) fn places_of(alloc: Global, rows: Tuples, first: u64) -> Result<Vec<Place>, AllocError>
+    requires { first + length rows < 2 ^ 64 }
+    ensures { IfOk result (λ made. made.items ≡ numbered first rows) }
 {
     let mut made = Vec::with_capacity(alloc, rows.len())?;
     let mut number = first;
-    for values in rows {
-        made.push(Place {
-            number,
-            row: row_of(alloc, values)?,
-        })?;
+    let mut left = rows.into_rows();
+    'more: while let Some(row) = left.next(alloc)? {
+        made.push(Place { number, row })?;
         number += 1;
     }
     Ok(made)
 }
 
 /// Why the first of these rows that doesn't fit the columns is refused.
-fn rows_refusal(rows: &[Vec<Value>], columns: &[ColumnDefinition]) -> Option<Refusal>
-    ensures { result ≡ first_misfit columns.now (map (λ r. r.items) rows.now) }
+fn rows_refusal(rows: &Tuples, columns: &[ColumnDefinition]) -> Option<Refusal>
+    ensures { result ≡ first_misfit columns.now rows.now }
 {
-    for row in rows {
-        if let Some(refusal) = row_refusal(row.as_slice(), columns) {
+    let mut left = rows.iter();
+    'more: while let Some(row) = left.next() {
+        if let Some(refusal) = row_refusal(row, columns) {
             return Some(refusal);
         }
     }
     None
-}
-
-fn row_of(alloc: Global, values: Vec<Value>) -> Result<Row, AllocError>
-    ensures { IfOk result (λ row. row ≡ values.items) }
-{
-    let mut row = Row::new(alloc);
-    for value in values {
-        row.push(value)?;
-    }
-    Ok(row)
 }
 
 /// Why the values are no row of these columns.

@@ -18,12 +18,12 @@ pub more-preserved : goal.more-preserved
 more-preserved c =
     record {
       turns = goes_on-next (pushes Comma) literal_value _ _ _ _ c.more.tokens c.skip.new.self _ _ _ _ refl c.more.invariant.turns refl (pushes_yes Comma c.more.tokens c.sees.result c.sees.ensures c.more-test.true) c.skip.ensures.value c.in_ok-item.ensures (ap (λ t. t.begun) c.in_ok-push-2.ensures.ok);
-      closed = ap (λ t. t.closed) c.in_ok-push-2.ensures.ok ∙ c.more.invariant.closed
+      closed = ap (λ t. t.closed) c.in_ok-push-2.ensures.ok ∙ c.more.invariant.closed;
     }
 
 pub returns : goal.returns
 returns c =
     record {
       read = goes_on-end (pushes Comma) literal_value _ _ _ c.more.tokens _ c.more.invariant.turns refl (pushes_no Comma c.more.tokens c.sees.result c.sees.ensures c.more-test.false);
-      closed = c.more.invariant.closed
+      closed = c.more.invariant.closed;
     }

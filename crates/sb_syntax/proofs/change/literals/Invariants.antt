@@ -9,7 +9,7 @@ abbrev pub invariant-more : goal.invariant-more
 invariant-more l =
     record {
       turns : GoesOn (pushes Comma) literal_value (separated Comma literal_value l.fn.tokens) (length l.fn.tokens) l.all.begun l.tokens;
-      closed : l.all.closed ≡ l.fn.all.closed
+      closed : l.all.closed ≡ l.fn.all.closed;
     }
 
 abbrev pub decreases-more : goal.decreases-more

@@ -18,7 +18,7 @@ more-preserved c =
     let grown = ap (λ t. t.closed) c.in_ok-close-2.ensures.ok ∙ ap (λ ts. ts ++ c.tuple-in-more.new.all.begun ∷ []) c.tuple-in-more.ensures.closed in
     record {
       turns = goes_on-next (pushes Comma) tuple _ _ _ _ c.more.tokens c.skip.new.self _ _ _ _ refl c.more.invariant.turns refl (pushes_yes Comma c.more.tokens c.sees.result c.sees.ensures c.more-test.true) c.skip.ensures.value c.in_ok-tuple-2.ensures.read grown;
-      begun = ap (λ t. t.begun) c.in_ok-close-2.ensures.ok
+      begun = ap (λ t. t.begun) c.in_ok-close-2.ensures.ok;
     }
 
 pub returns : goal.returns

@@ -9,7 +9,7 @@ abbrev pub invariant-more : goal.invariant-more
 invariant-more l =
     record {
       turns : GoesOn (pushes Comma) tuple (separated Comma tuple l.fn.tokens) (length l.fn.tokens) l.all.closed l.tokens;
-      begun : l.all.begun ≡ []
+      begun : l.all.begun ≡ [];
     }
 
 abbrev pub decreases-more : goal.decreases-more
