@@ -1,8 +1,8 @@
 //! Values as text and back, rows, names, ids, and sets of columns and rules.
 
 use sb_value::{
-    ColumnType, Columns, LiteralError, Name, Refusal, Row, RowList, RuleId, RuleSet, SessionId,
-    TableId, TenantId, Text, Value, print_value,
+    ColumnType, Columns, LiteralError, Name, OpenTuples, Refusal, Row, RowList, RuleId, RuleSet,
+    SessionId, TableId, TenantId, Text, Tuples, Value, print_value,
 };
 use std::alloc::Global;
 use std::cmp::Ordering;
@@ -118,6 +118,37 @@ fn values_and_rows_are_copied(rt: HostRuntime) -> Result<(), Fail> {
     let again = rows.clone()?;
     assert_eq!(rt; again.len(), 2);
     assert_eq!(rt; again.rows().len(), 2);
+    Ok(())
+}
+
+/// The tuples (7, 'it') and (), and one that is left open.
+fn two_tuples(alloc: Global) -> Result<Tuples, std::alloc::AllocError> {
+    let mut tuples = OpenTuples::with_capacity(alloc, 2)?;
+    tuples.push(Value::Int(7))?;
+    tuples.push(Value::Text(Text::new(Vec::from_slice(alloc, b"it")?)))?;
+    tuples.close()?;
+    tuples.close()?;
+    tuples.push(Value::Int(8))?;
+    Ok(tuples.finish())
+}
+
+#[test]
+fn tuples_come_in_order(rt: HostRuntime) -> Result<(), Fail> {
+    let tuples = two_tuples(rt.alloc())?;
+    let copy = tuples.clone()?;
+    assert_eq!(rt; copy.len(), 2);
+    let mut lent = copy.iter();
+    assert!(rt; matches!(lent.next(), Some([Value::Int(7), Value::Text(_)])));
+    assert!(rt; matches!(lent.next(), Some([])));
+    assert!(rt; lent.next().is_none());
+    let mut rows = tuples.into_rows();
+    for width in [2, 0] {
+        match rows.next(rt.alloc())? {
+            Some(row) => assert_eq!(rt; row.len(), width),
+            None => assert!(rt; false),
+        }
+    }
+    assert!(rt; rows.next(rt.alloc())?.is_none());
     Ok(())
 }
 

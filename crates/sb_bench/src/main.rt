@@ -1,0 +1,67 @@
+//! Times parts of the server by themselves: `sb_bench WORK ROUNDS < LINES`, where the work is
+//! `read`, `resolve` or `join`. The lines are the commands of `read` and `resolve`; `join` takes
+//! none. Prints how many rounds went well and the nanoseconds of all. With no work, nothing is timed.
+#![tactic(auto)]
+
+mod join;
+mod lines;
+mod rows;
+mod tables;
+
+use std::env;
+use std::io::{self, Read as _};
+use std::process::ExitCode;
+use std::time::Instant;
+
+/// A part of the server.
+#[derive(Clone, Copy)]
+enum Work {
+    /// Each line is read as a command.
+    Read,
+    /// Each line that isn't `create table` is resolved against the tables that those lines make.
+    Resolve,
+    /// Two tables of 1,000 rows are joined.
+    Join,
+}
+
+fn work_of(word: &str) -> Option<Work> {
+    match word {
+        "read" => Some(Work::Read),
+        "resolve" => Some(Work::Resolve),
+        "join" => Some(Work::Join),
+        _ => None,
+    }
+}
+
+fn main(rt: HostRuntime) -> ExitCode {
+    match timed(&rt) {
+        Ok(()) => ExitCode::SUCCESS,
+        Err(fault) => {
+            // a standard error that takes nothing can't be told of
+            let _told = eprintln!(rt; "fault: {fault}");
+            ExitCode::FAILURE
+        }
+    }
+}
+
+/// Times the work that the arguments name.
+fn timed(rt: &HostRuntime) -> io::Result<()> {
+    let mut words = env::args(rt)?.skip(1);
+    let (Some(word), Some(rounds)) = (words.next(), words.next()) else {
+        return Ok(());
+    };
+    let (Some(work), Ok(rounds)) = (work_of(word.as_str()), rounds.as_str().parse::<u32>()) else {
+        println!(rt; "sb_bench read|resolve|join ROUNDS < LINES")?;
+        return Ok(());
+    };
+    let mut input = Vec::new(rt.alloc());
+    let _length = rt.reader().read_to_end(&mut input)?;
+    let start = Instant::now(rt)?;
+    let done = match work {
+        Work::Read => lines::read(rt.alloc(), input.as_slice(), rounds),
+        Work::Resolve => lines::resolve_all(rt.alloc(), input.as_slice(), rounds)?,
+        Work::Join => join::join(rt.alloc(), rounds)?,
+    };
+    let time = start.elapsed(rt)?;
+    println!(rt; "{done} of {rounds} rounds, {} ns", time.as_nanos())
+}
