@@ -37,6 +37,7 @@ pub fn table(tokens: &mut Cursor<'_>) -> Result<TableReference, Fault>
 }
 
 /// The column of this table.
+#[inline(always)]
 #[tactic(auto, unfolding(crate::specs::Reading::column_from))]
 fn column_from(tokens: &mut Cursor<'_>, table: TableReference) -> Result<ColumnReference, Fault>
     ensures { Gives (λ c. c) (spec.column_from table tokens.old) result tokens.old tokens.new }
@@ -46,6 +47,7 @@ fn column_from(tokens: &mut Cursor<'_>, table: TableReference) -> Result<ColumnR
 }
 
 /// The column that begins with this name.
+#[inline(always)]
 #[tactic(auto, unfolding(crate::specs::Reading::column_after))]
 fn column_after(tokens: &mut Cursor<'_>, first: Name) -> Result<ColumnReference, Fault>
     ensures { Gives (λ c. c) (spec.column_after first tokens.old) result tokens.old tokens.new }
@@ -57,6 +59,7 @@ fn column_after(tokens: &mut Cursor<'_>, first: Name) -> Result<ColumnReference,
     }
 }
 
+#[inline(always)]
 #[tactic(auto, unfolding(crate::specs::Reading::column, crate::specs::Reading::column_by))]
 fn column(tokens: &mut Cursor<'_>) -> Result<ColumnReference, Fault>
     ensures { Gives (λ c. c) (spec.column tokens.old) result tokens.old tokens.new }
@@ -75,6 +78,7 @@ fn is_literal(kind: Option<Kind>) -> bool
     matches!(kind, Some(Kind::Integer | Kind::Minus | Kind::Text))
 }
 
+#[inline(always)]
 #[tactic(auto, unfolding(crate::specs::Reading::factor))]
 fn factor(alloc: Global, tokens: &mut Cursor<'_>) -> Result<Expr, Fault>
     ensures { Gives view.expression (spec.factor tokens.old) result tokens.old tokens.new }

@@ -30,37 +30,42 @@ fn comparison_of(kind: Option<Kind>) -> Option<Comparison>
     }
 }
 
-fn disjunction(alloc: Global, a: Condition, b: Condition) -> Result<Condition, AllocError>
-    ensures { IfOk result (λ c. view.condition c
-        ≡ tree.disjunction (view.condition a) (view.condition b)) }
+/// A condition where it stays.
+type Boxed = Box<Condition>;
+
+fn disjunction(alloc: Global, a: Boxed, b: Boxed) -> Result<Boxed, AllocError>
+    ensures { IfOk result (λ c. view.condition c.value
+        ≡ tree.disjunction (view.condition a.value) (view.condition b.value)) }
 {
-    Ok(Condition::Disjunction(Box::new(alloc, a)?, Box::new(alloc, b)?))
+    Ok(Box::new(alloc, Condition::Disjunction(a, b))?)
 }
 
-fn conjunction(alloc: Global, a: Condition, b: Condition) -> Result<Condition, AllocError>
-    ensures { IfOk result (λ c. view.condition c
-        ≡ tree.conjunction (view.condition a) (view.condition b)) }
+fn conjunction(alloc: Global, a: Boxed, b: Boxed) -> Result<Boxed, AllocError>
+    ensures { IfOk result (λ c. view.condition c.value
+        ≡ tree.conjunction (view.condition a.value) (view.condition b.value)) }
 {
-    Ok(Condition::Conjunction(Box::new(alloc, a)?, Box::new(alloc, b)?))
+    Ok(Box::new(alloc, Condition::Conjunction(a, b))?)
 }
 
-fn negation(alloc: Global, a: Condition) -> Result<Condition, AllocError>
-    ensures { IfOk result (λ c. view.condition c ≡ tree.negation (view.condition a)) }
+fn negation(alloc: Global, a: Boxed) -> Result<Boxed, AllocError>
+    ensures { IfOk result (λ c. view.condition c.value ≡ tree.negation (view.condition a.value)) }
 {
-    Ok(Condition::Negation(Box::new(alloc, a)?))
+    Ok(Box::new(alloc, Condition::Negation(a))?)
 }
 
-fn exists(alloc: Global, query: Query) -> Result<Condition, AllocError>
-    ensures { IfOk result (λ c. view.condition c ≡ tree.exists (view.query query)) }
+fn exists(alloc: Global, query: Query) -> Result<Boxed, AllocError>
+    ensures { IfOk result (λ c. view.condition c.value ≡ tree.exists (view.query query)) }
 {
-    Ok(Condition::Exists(Box::new(alloc, query)?))
+    let query = Box::new(alloc, query)?;
+    Ok(Box::new(alloc, Condition::Exists(query))?)
 }
 
-fn within(alloc: Global, e: Expr, negated: bool, query: Query) -> Result<Condition, AllocError>
-    ensures { IfOk result (λ c. view.condition c
+fn within(alloc: Global, e: Expr, negated: bool, query: Query) -> Result<Boxed, AllocError>
+    ensures { IfOk result (λ c. view.condition c.value
         ≡ tree.is_in (view.expression e) negated (view.query query)) }
 {
-    Ok(Condition::In(e, negated, Box::new(alloc, query)?))
+    let query = Box::new(alloc, query)?;
+    Ok(Box::new(alloc, Condition::In(e, negated, query))?)
 }
 
 fn answer(alloc: Global, query: Query) -> Result<Operand, AllocError>
@@ -101,13 +106,8 @@ pub fn operand(alloc: Global, tokens: &mut Cursor<'_>, depth: usize) -> Result<O
 
 #[cycle(query)]
 #[tactic(auto, unfolding(crate::specs::Reading::member))]
-fn member(
-    alloc: Global,
-    tokens: &mut Cursor<'_>,
-    depth: usize,
-    left: Expr,
-) -> Result<Condition, Fault>
-    ensures { Gives view.condition
+fn member(alloc: Global, tokens: &mut Cursor<'_>, depth: usize, left: Expr) -> Result<Boxed, Fault>
+    ensures { Gives (λ c. view.condition c.value)
         (spec.member (spec.inner_query depth) (view.expression left) tokens.old)
         result tokens.old tokens.new }
 {
@@ -119,8 +119,8 @@ fn member(
 
 #[cycle(query)]
 #[tactic(auto, unfolding(crate::specs::Reading::predicate, crate::specs::Reading::compared_by))]
-fn predicate(alloc: Global, tokens: &mut Cursor<'_>, depth: usize) -> Result<Condition, Fault>
-    ensures { Gives view.condition
+fn predicate(alloc: Global, tokens: &mut Cursor<'_>, depth: usize) -> Result<Boxed, Fault>
+    ensures { Gives (λ c. view.condition c.value)
         (spec.predicate (spec.inner_query depth) tokens.old) result tokens.old tokens.new }
 {
     if tokens.sees(Kind::Exists) {
@@ -134,18 +134,13 @@ fn predicate(alloc: Global, tokens: &mut Cursor<'_>, depth: usize) -> Result<Con
     };
     tokens.skip();
     let right = operand(alloc, tokens, depth)?;
-    Ok(Condition::Compare(left, op, right))
+    Ok(Box::new(alloc, Condition::Compare(left, op, right))?)
 }
 
 #[cycle(query)]
 #[tactic(auto, using(crate::proofs::Depth::one_deeper_neg, crate::proofs::Depth::no_deeper_neg), unfolding(crate::specs::Reading::neg, crate::specs::Reading::neg_with))]
-fn neg(
-    alloc: Global,
-    tokens: &mut Cursor<'_>,
-    depth: usize,
-    nesting: usize,
-) -> Result<Condition, Fault>
-    ensures { Gives view.condition
+fn neg(alloc: Global, tokens: &mut Cursor<'_>, depth: usize, nesting: usize) -> Result<Boxed, Fault>
+    ensures { Gives (λ c. view.condition c.value)
         (spec.neg (spec.inner_query depth) nesting tokens.old) result tokens.old tokens.new }
 {
     if tokens.sees(Kind::Not) {
@@ -170,8 +165,8 @@ fn group(
     tokens: &mut Cursor<'_>,
     depth: usize,
     nesting: usize,
-) -> Result<Condition, Fault>
-    ensures { Gives view.condition
+) -> Result<Boxed, Fault>
+    ensures { Gives (λ c. view.condition c.value)
         (spec.group (spec.inner_neg (spec.inner_query depth) nesting) tokens.old)
         result tokens.old tokens.new }
 {
@@ -205,8 +200,8 @@ fn conj(
     tokens: &mut Cursor<'_>,
     depth: usize,
     nesting: usize,
-) -> Result<Condition, Fault>
-    ensures { Gives view.condition
+) -> Result<Boxed, Fault>
+    ensures { Gives (λ c. view.condition c.value)
         (spec.conj (spec.neg (spec.inner_query depth) nesting) tokens.old)
         result tokens.old tokens.new }
 {
@@ -226,8 +221,8 @@ fn cond(
     tokens: &mut Cursor<'_>,
     depth: usize,
     nesting: usize,
-) -> Result<Condition, Fault>
-    ensures { Gives view.condition
+) -> Result<Boxed, Fault>
+    ensures { Gives (λ c. view.condition c.value)
         (spec.cond (spec.neg (spec.inner_query depth) nesting) tokens.old)
         result tokens.old tokens.new }
 {
@@ -254,7 +249,8 @@ pub fn filter(
         return Ok(None);
     }
     tokens.expect(Kind::Where)?;
-    Ok(Some(cond(alloc, tokens, depth, MAX_NESTING)?))
+    let condition = cond(alloc, tokens, depth, MAX_NESTING)?;
+    Ok(Some(Box::into_inner(condition)))
 }
 
 /// A query in which subqueries nest at most `depth` deep.

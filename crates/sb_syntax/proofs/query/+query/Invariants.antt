@@ -38,7 +38,7 @@ decreases-query l = 1000 * l.depth + 331
 abbrev pub invariant-conj-more : goal.invariant-conj-more
 invariant-conj-more l =
     let item = neg (inner_query l.depth) l.nesting in
-    GoesOn ands item (conj item l.fn.tokens) (length l.fn.tokens) (condition l.left) l.tokens
+    GoesOn ands item (conj item l.fn.tokens) (length l.fn.tokens) (condition l.left.value) l.tokens
 
 abbrev pub decreases-conj-more : goal.decreases-conj-more
 decreases-conj-more l = length l.tokens
@@ -46,7 +46,7 @@ decreases-conj-more l = length l.tokens
 abbrev pub invariant-cond-more : goal.invariant-cond-more
 invariant-cond-more l =
     let item = neg (inner_query l.depth) l.nesting in
-    GoesOn ors (conj item) (cond item l.fn.tokens) (length l.fn.tokens) (condition l.left) l.tokens
+    GoesOn ors (conj item) (cond item l.fn.tokens) (length l.fn.tokens) (condition l.left.value) l.tokens
 
 abbrev pub decreases-cond-more : goal.decreases-cond-more
 decreases-cond-more l = length l.tokens
