@@ -3,6 +3,7 @@ ghost use Rattle.std.specs.Prelude.{◌≡◌, ◌+◌, option_map, Ok};
 ghost use Rattle.sb_check.specs.Answer.{Gives};
 ghost use Rattle.sb_check.specs.Names as spec;
 ghost use Rattle.sb_check.specs.Scopes.{scope_of, found, at_place};
+ghost use Rattle.sb_value.specs.Name.{same_name};
 
 use crate::fault::{Fault, Reason};
 use sb_syntax::{ColumnReference, TableReference};
@@ -50,12 +51,21 @@ pub(crate) struct Found {
     pub(crate) of: ColumnType,
 }
 
+/// Whether the two names have the same bytes.
+#[inline(always)]
+#[tactic(auto, using(crate::proofs::SameName::names_tie))]
+pub(crate) fn is_named(a: &Name, b: &Name) -> bool
+    ensures { result ≡ same_name a.now b.now }
+{
+    a.as_slice() == b.as_slice()
+}
+
 /// The place and the type of a column.
 pub(crate) fn column_in(columns: &[ColumnDefinition], name: &Name) -> Option<(usize, ColumnType)>
     ensures { result ≡ spec.column_in columns.now name.now }
 {
     for (place, column) in columns.iter().enumerate() {
-        if column.name.is_same(name) {
+        if is_named(&column.name, name) {
             return Some((place, column.of));
         }
     }
@@ -105,7 +115,7 @@ pub(crate) fn same_table(a: &TableReference, b: &TableReference) -> bool
 {
     match a {
         TableReference::Named(one) => match b {
-            TableReference::Named(two) => one.is_same(two),
+            TableReference::Named(two) => is_named(one, two),
             _ => false,
         },
         TableReference::Inserted => matches!(b, TableReference::Inserted),
