@@ -13,10 +13,11 @@ use crate::query::{always, condition, operand, query};
 use crate::schema::{Schema, TableEntry};
 use crate::scope::{Scope, Visible, column_in};
 use crate::source::table_named;
-use crate::tree::{Assignment, Assignments, Condition, Statement};
+use crate::tree::{Assignment, Assignments, Condition, Statement, Tuples};
 use crate::types::same_type;
 use sb_syntax::{Change, TableReference, Tuple};
-use sb_value::{ColumnDefinition, Row, RowList, Value};
+use sb_value::{ColumnDefinition, Value};
+use smallvec::SmallVec;
 use std::alloc::{AllocError, Global};
 
 /// Whether the values fit the columns, of which there are as many, in order.
@@ -54,22 +55,24 @@ fn rows_fit(columns: &[ColumnDefinition], rows: &[Tuple]) -> Result<(), Fault>
     Ok(())
 }
 
-fn copied_row(alloc: Global, values: &[Value]) -> Result<Row, AllocError>
-    ensures { IfOk result (λ row. row ≡ values.now) }
+#[inline(always)]
+fn copied_tuple(alloc: Global, values: &[Value]) -> Result<Tuple, AllocError>
+    ensures { IfOk result (λ tuple. tuple.items ≡ values.now) }
 {
-    let mut row = Row::new(alloc);
+    let mut tuple = SmallVec::new(alloc);
+    tuple.reserve(values.len())?;
     for value in values {
-        row.push(value.clone()?)?;
+        tuple.push(value.clone()?)?;
     }
-    Ok(row)
+    Ok(tuple)
 }
 
-fn copied_rows(alloc: Global, rows: &[Tuple]) -> Result<RowList, AllocError>
+fn copied_rows(alloc: Global, rows: &[Tuple]) -> Result<Tuples, AllocError>
     ensures { IfOk result (λ list. list ≡ map (λ r. r.items) rows.now) }
 {
-    let mut list = RowList::new(alloc);
+    let mut list = Tuples::with_capacity(alloc, rows.len())?;
     for row in rows {
-        list.push(copied_row(alloc, row.as_slice())?)?;
+        list.push(copied_tuple(alloc, row.as_slice())?)?;
     }
     Ok(list)
 }

@@ -33,6 +33,7 @@ struct TypedPart {
 }
 
 /// The number as a byte. Whatever can be read nests 4 deep, over 2 sources of 8 columns.
+#[inline(always)]
 pub(crate) fn byte(number: usize) -> Result<u8, Fault>
     ensures { Gives (λ b. b) (Ok number) result }
 {
@@ -43,6 +44,7 @@ pub(crate) fn byte(number: usize) -> Result<u8, Fault>
     }
 }
 
+#[inline(always)]
 fn column_at(column: Found) -> Result<Column, Fault>
     ensures { Gives (λ c. c) (Ok (found column).0) result }
 {

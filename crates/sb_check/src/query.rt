@@ -231,11 +231,13 @@ pub(crate) fn condition<'s, S: Schema>(
             Ok(negation(alloc, inner)?)
         }
         sb_syntax::Condition::Compare(a, op, b) => match b {
-            sb_syntax::Operand::Expression(e) => compared(alloc, a, *op, e, schema, scope),
-            sb_syntax::Operand::Answer(_) => compared_with(alloc, a, *op, b, schema, scope),
+            sb_syntax::Operand::Expression(e) => Ok(compared(alloc, a, *op, e, schema, scope)?),
+            sb_syntax::Operand::Answer(_) => Ok(compared_with(alloc, a, *op, b, schema, scope)?),
         },
-        sb_syntax::Condition::In(a, has_not, q) => is_in(alloc, a, *has_not, q, schema, scope),
-        sb_syntax::Condition::Exists(q) => exists(alloc, q, schema, scope),
+        sb_syntax::Condition::In(a, has_not, q) => {
+            Ok(is_in(alloc, a, *has_not, q, schema, scope)?)
+        }
+        sb_syntax::Condition::Exists(q) => Ok(exists(alloc, q, schema, scope)?),
     }
 }
 

@@ -61,6 +61,7 @@ pub(crate) fn is_named(a: &Name, b: &Name) -> bool
 }
 
 /// The place and the type of a column.
+#[inline(always)]
 pub(crate) fn column_in(columns: &[ColumnDefinition], name: &Name) -> Option<(usize, ColumnType)>
     ensures { result ≡ spec.column_in columns.now name.now }
 {
@@ -73,6 +74,7 @@ pub(crate) fn column_in(columns: &[ColumnDefinition], name: &Name) -> Option<(us
 }
 
 /// The one column of that name in a query's sources.
+#[inline(always)]
 fn holder(depth: usize, sources: &[Visible<'_>], name: &Name) -> Result<Option<Found>, Fault>
     ensures { Gives (option_map found) (at_place (spec.holders depth 0 sources.now name.now)) result }
 {
@@ -103,13 +105,31 @@ fn plain_column(depth: usize, scope: &Scope<'_, '_>, name: &Name) -> Result<Foun
             let one = holder(depth, sources, name)?;
             match one {
                 Some(column) => Ok(column),
-                None => plain_column(further(depth)?, outer, name),
+                None => Ok(plain_column(further(depth)?, outer, name)?),
+            }
+        }
+    }
+}
+
+/// The same from the innermost place on.
+#[inline(always)]
+fn near_column(scope: &Scope<'_, '_>, name: &Name) -> Result<Found, Fault>
+    ensures { Gives found (spec.plain_column 0 (scope_of scope.now) name.now) result }
+{
+    match scope {
+        Scope::Outermost => Err(Fault::Refused(Reason::NoColumn)),
+        Scope::Within(sources, outer) => {
+            let one = holder(0, sources, name)?;
+            match one {
+                Some(near) => Ok(near),
+                None => Ok(plain_column(1, outer, name)?),
             }
         }
     }
 }
 
 /// Whether the two mean one table.
+#[inline(always)]
 pub(crate) fn same_table(a: &TableReference, b: &TableReference) -> bool
     ensures { result ≡ spec.same_table a.now b.now }
 {
@@ -141,6 +161,7 @@ fn source_named<'a>(
 }
 
 /// The column of that name in one source.
+#[inline(always)]
 fn column_of_source(
     depth: usize,
     source: usize,
@@ -173,18 +194,19 @@ fn qualified_column(
         Scope::Outermost => Err(Fault::Refused(Reason::NoColumn)),
         Scope::Within(sources, outer) => match source_named(sources, table) {
             Some((source, columns)) => column_of_source(depth, source, columns, name),
-            None => qualified_column(further(depth)?, outer, table, name),
+            None => Ok(qualified_column(further(depth)?, outer, table, name)?),
         },
     }
 }
 
 /// The column that a name with or without a qualifier means.
+#[inline(always)]
 pub(crate) fn column_named(scope: &Scope<'_, '_>, column: &ColumnReference) -> Result<Found, Fault>
     ensures { Gives found (spec.column_named (scope_of scope.now) column.now) result }
 {
     match column {
-        ColumnReference::Plain(name) => plain_column(0, scope, name),
-        ColumnReference::Qualified(table, name) => qualified_column(0, scope, table, name),
+        ColumnReference::Plain(name) => near_column(scope, name),
+        ColumnReference::Qualified(table, name) => Ok(qualified_column(0, scope, table, name)?),
     }
 }
 
