@@ -14,7 +14,7 @@ use crate::fault::{Fault, Reason};
 use crate::items::items;
 use crate::schema::Schema;
 use crate::scope::Scope;
-use crate::source::sources;
+use crate::source::{Seen, see};
 use crate::tree::{Condition, ConditionNode, Expression, Operand, OperandNode, Query};
 use crate::types::{Types, same_type};
 use sb_syntax::{Comparison, Expr};
@@ -78,6 +78,7 @@ fn compare(
 }
 
 /// Whether the left side is one of the query's values, or isn't.
+#[inline(always)]
 fn within(
     alloc: Global,
     a: Expression,
@@ -299,7 +300,8 @@ pub(crate) fn query<'s, S: Schema>(
 ) -> Result<Walked, Fault>
     ensures { Gives walked (parts.query_walk (S.names schema.now) (view.query q.now) (scope_of scope.now)) result }
 {
-    let seen = sources(alloc, schema, q.sources.as_slice())?;
+    let mut seen = Seen::new(alloc);
+    see(&mut seen, schema, q.sources.as_slice())?;
     let inner = Scope::Within(seen.visible(), &*scope);
     let listed = items(alloc, &q.items, seen.visible(), &inner)?;
     let condition = filter(alloc, &q.filter, schema, &inner)?;

@@ -146,6 +146,7 @@ pub(crate) fn same_table(a: &TableReference, b: &TableReference) -> bool
 }
 
 /// The place and the columns of the source with that visible name.
+#[inline(always)]
 fn source_named<'a>(
     sources: &[Visible<'a>],
     table: &TableReference,
@@ -199,6 +200,24 @@ fn qualified_column(
     }
 }
 
+/// The same from the innermost place on.
+#[inline(always)]
+fn near_qualified(
+    scope: &Scope<'_, '_>,
+    table: &TableReference,
+    name: &Name,
+) -> Result<Found, Fault>
+    ensures { Gives found (spec.qualified_column 0 (scope_of scope.now) table.now name.now) result }
+{
+    match scope {
+        Scope::Outermost => Err(Fault::Refused(Reason::NoColumn)),
+        Scope::Within(sources, outer) => match source_named(sources, table) {
+            Some((source, columns)) => Ok(column_of_source(0, source, columns, name)?),
+            None => Ok(qualified_column(1, outer, table, name)?),
+        },
+    }
+}
+
 /// The column that a name with or without a qualifier means.
 #[inline(always)]
 pub(crate) fn column_named(scope: &Scope<'_, '_>, column: &ColumnReference) -> Result<Found, Fault>
@@ -206,7 +225,7 @@ pub(crate) fn column_named(scope: &Scope<'_, '_>, column: &ColumnReference) -> R
 {
     match column {
         ColumnReference::Plain(name) => near_column(scope, name),
-        ColumnReference::Qualified(table, name) => Ok(qualified_column(0, scope, table, name)?),
+        ColumnReference::Qualified(table, name) => near_qualified(scope, table, name),
     }
 }
 
