@@ -3,12 +3,13 @@ use Rattle.std.proofs.Common.{◌≡◌, refl, Bool, List, [], ◌∷◌, map}
 use Rattle.std.specs.Prelude.{Result, Ok, Err}
 use Rattle.sb_value.specs.declared.refusal.Refusal.{Refusal}
 use Rattle.sb_value.specs.declared.refusal.Refusal.TheVariants as refusal
+use Rattle.sb_value.specs.declared.value.ColumnType.{ColumnType}
 use Rattle.sb_value.specs.declared.value.ColumnType.TheVariants.{Int}
 use Rattle.sb_syntax.specs.Tree as text
 use Rattle.sb_syntax.specs.declared.ast.Comparison.{Comparison}
 use Rattle.sb_syntax.specs.declared.ast.SourceReference.{SourceReference}
 use Rattle.sb_check.specs.declared.tree.Source.{Source}
-use Rattle.sb_check.specs.Condition.{Condition, always, disjunction, conjunction, negation, compare, is_in, exists, expression, answer, select}
+use Rattle.sb_check.specs.Condition.{Condition, Operand, always, disjunction, conjunction, negation, compare, is_in, exists, expression, answer, select}
 use Rattle.sb_check.specs.Names.{and_then, required, same_type, Scope, Visible}
 use Rattle.sb_check.specs.Parts.{condition_walk, operand_walk, filter_walk, query_walk}
 use Rattle.sb_check.specs.Sources.{seen_sources}
@@ -31,6 +32,16 @@ module _ (schema : Schema) where
       ≡ and_then (walk_expression scope a) (λ x. and_then (operand_walk schema b scope) (λ y. required (same_type x.1 y.1) refusal.BadType (Ok (compare x.0 op y.0))))
   unfolding condition_walk operand_walk
   walk_compare a op b scope = refl
+
+  through : {A B C : Type 0} (r : Result A Refusal) (f : A → B) (next : B → Result C Refusal) → and_then (and_then r (λ x. Ok (f x))) next ≡ and_then r (λ x. next (f x))
+  through (Ok x) f next = refl
+  through (Err e) f next = refl
+
+  pub walk_compare_plain : (a : text.Expression) (op : Comparison) (b : text.Expression) (scope : Scope) → condition_walk schema (text.compare a op (text.expression b)) scope
+      ≡ and_then (walk_expression scope a) (λ x. and_then (walk_expression scope b) (λ y. required (same_type x.1 y.1) refusal.BadType (Ok (compare x.0 op (expression y.0)))))
+  unfolding condition_walk
+  walk_compare_plain a op b scope =
+      λ i. and_then (walk_expression scope a) (λ x. through {B = Operand × ColumnType} (walk_expression scope b) (λ y. (expression y.0, y.1)) (λ y. required (same_type x.1 y.1) refusal.BadType (Ok (compare x.0 op y.0))) i)
 
   pub walk_is_in : (a : text.Expression) (has_not : Bool) (q : text.Query) (scope : Scope) → condition_walk schema (text.is_in a has_not q) scope
       ≡ and_then (walk_expression scope a) (λ x. and_then (query_walk schema q scope) (λ w. and_then (in_type x.1 w.1) (λ _. Ok (with_not has_not (is_in x.0 w.0)))))
@@ -69,7 +80,7 @@ module _ (schema : Schema) where
   unfolding query_walk filter_walk
   walk_select its sources f scope = selects its (filter_walk schema f) scope (walk_sources schema [] sources)
 
-pub ruleset condition_walks = (walk_disjunction, walk_conjunction, walk_negation, walk_compare, walk_is_in, walk_exists)
+pub ruleset condition_walks = (walk_disjunction, walk_conjunction, walk_negation)
 
 pub ruleset operand_walks = (walk_plain, walk_answer)
 

@@ -8,3 +8,4 @@ mod RuleWalk
 mod Found
 mod Fitting
 mod CommandFits
+mod SameName

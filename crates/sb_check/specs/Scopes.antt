@@ -8,6 +8,7 @@ use Rattle.sb_check.specs.declared.scope.Scope.{Outermost, Within'}
 use Rattle.sb_check.specs.declared.scope.Scope as chain
 use Rattle.sb_check.specs.declared.scope.Found.{Found}
 use Rattle.sb_check.specs.declared.expression.Typed.{Typed}
+use Rattle.sb_check.specs.declared.expression.TypedPart.{TypedPart}
 use Rattle.sb_check.specs.Expression.{Expression}
 use Rattle.sb_check.specs.declared.items.TypedList.{TypedList}
 use Rattle.sb_check.specs.declared.items.Listed.{Listed}
@@ -32,6 +33,10 @@ at_place (c ∷ d ∷ cs) = Err refusal.Ambiguous
 -- an expression with its type
 abbrev pub typed : Typed → Expression × ColumnType
 typed t = (t.tree, t.of)
+
+-- the same of an expression that stands in another
+abbrev pub typed_part : TypedPart → Expression × ColumnType
+typed_part t = (t.tree.value, t.of)
 
 -- expressions with their types
 abbrev pub typed_list : TypedList → List Expression × List ColumnType

@@ -11,4 +11,4 @@ operand_typed o = (o.tree, o.of)
 
 -- a query with the types of its columns
 abbrev pub walked : stored.Walked → Walked
-walked w = (w.tree, w.types)
+walked w = (w.tree.value, w.types)

@@ -75,7 +75,7 @@ fn insert_query<'s, S: Schema>(
     let outermost: Scope<'s, 's> = Scope::Outermost;
     let walked = query(alloc, q, schema, &outermost)?;
     walked.types.fit(table.columns)?;
-    Ok(Statement::InsertQuery(table.id, walked.tree))
+    Ok(Statement::InsertQuery(table.id, Box::into_inner(walked.tree)))
 }
 
 /// The condition of a delete or an update, over the table alone.
@@ -95,7 +95,7 @@ fn table_filter<'s, S: Schema>(
     let outermost = Scope::Outermost;
     let scope = Scope::Within(&visible, &outermost);
     match f {
-        Some(c) => condition(alloc, c, schema, &scope),
+        Some(c) => Ok(Box::into_inner(condition(alloc, c, schema, &scope)?)),
         None => Ok(always()),
     }
 }

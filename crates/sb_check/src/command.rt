@@ -11,6 +11,7 @@ ghost use Rattle.sb_syntax.specs.Views as view;
 use crate::parts::{resolve_change, resolve_query, resolve_rule};
 use crate::rule::RuleParts;
 use crate::schema::Schema;
+use crate::scope::is_named;
 use crate::tree::{Query, Statement};
 use sb_syntax::Command;
 use sb_value::{ColumnDefinition, Name, Refusal, TableId};
@@ -112,5 +113,5 @@ fn is_named_twice(columns: &[ColumnDefinition]) -> bool
 fn has_name(columns: &[ColumnDefinition], name: &Name) -> bool
     ensures { result ≡ list_any (λ c. same_name name.now c.name) columns.now }
 {
-    columns.iter().any(|column| name.is_same(&column.name))
+    columns.iter().any(|column| is_named(name, &column.name))
 }

@@ -1,17 +1,21 @@
 //! Expressions, walked from left to right.
-ghost use Rattle.std.specs.Prelude.{◌≡◌, Ok, IfOk};
+ghost use Rattle.std.specs.Prelude.{◌≡◌, ◌&&◌, Ok, IfOk};
 ghost use Rattle.sb_check.specs.Answer.{Gives};
 ghost use Rattle.sb_check.specs.Expression as tree;
-ghost use Rattle.sb_check.specs.Scopes.{scope_of, found, typed};
+ghost use Rattle.sb_check.specs.Names.{required, same_type};
+ghost use Rattle.sb_check.specs.Scopes.{scope_of, found, typed, typed_part};
 ghost use Rattle.sb_check.specs.Walk as spec;
+ghost use Rattle.sb_syntax.specs.Tree as text;
 ghost use Rattle.sb_syntax.specs.Views as view;
+ghost use Rattle.sb_value.specs.declared.refusal.Refusal.TheVariants.{BadType};
+ghost use Rattle.sb_value.specs.declared.value.ColumnType.TheVariants.{Int};
 
 use crate::fault::{Fault, Reason};
 use crate::scope::{Found, Scope, column_named};
 use crate::tree::{Column, Expression, ExpressionNode};
 use crate::types::same_type;
-use sb_syntax::{Arithmetic, Expr};
-use sb_value::ColumnType;
+use sb_syntax::{Arithmetic, ColumnReference, Expr};
+use sb_value::{ColumnType, Value};
 use std::alloc::{AllocError, Global};
 
 /// An expression with its type.
@@ -21,7 +25,15 @@ pub(crate) struct Typed {
     pub(crate) of: ColumnType,
 }
 
+/// An expression that stands in another, with its type.
+#[derive(Drop)]
+struct TypedPart {
+    tree: Box<Expression>,
+    of: ColumnType,
+}
+
 /// The number as a byte. Whatever can be read nests 4 deep, over 2 sources of 8 columns.
+#[inline(always)]
 pub(crate) fn byte(number: usize) -> Result<u8, Fault>
     ensures { Gives (λ b. b) (Ok number) result }
 {
@@ -32,6 +44,7 @@ pub(crate) fn byte(number: usize) -> Result<u8, Fault>
     }
 }
 
+#[inline(always)]
 fn column_at(column: Found) -> Result<Column, Fault>
     ensures { Gives (λ c. c) (Ok (found column).0) result }
 {
@@ -42,49 +55,84 @@ fn column_at(column: Found) -> Result<Column, Fault>
     })
 }
 
-fn binary(
-    alloc: Global,
-    a: Expression,
-    op: Arithmetic,
-    b: Expression,
-) -> Result<Expression, AllocError>
-    ensures { IfOk result (λ e. e ≡ tree.binary a op b) }
+#[inline(always)]
+fn literal(value: &Value) -> Result<Typed, Fault>
+    ensures { Gives typed (Ok (tree.literal value.now, spec.type_of value.now)) result }
 {
-    Ok(Expression {
-        node: ExpressionNode::Binary(Box::new(alloc, a)?, op, Box::new(alloc, b)?),
+    Ok(Typed {
+        tree: Expression {
+            node: ExpressionNode::Literal(value.clone()?),
+        },
+        of: value.column_type(),
     })
 }
 
+#[inline(always)]
+fn column(name: &ColumnReference, scope: &Scope<'_, '_>) -> Result<Typed, Fault>
+    ensures { Gives typed (spec.walk_expression (scope_of scope.now) (text.column name.now)) result }
+{
+    let column = column_named(scope, name)?;
+    Ok(Typed {
+        tree: Expression {
+            node: ExpressionNode::Column(column_at(column)?),
+        },
+        of: column.of,
+    })
+}
+
+/// Both sides are integers.
+#[inline(always)]
+fn joined(left: TypedPart, op: Arithmetic, right: TypedPart) -> Result<Typed, Fault>
+    ensures { Gives typed (required (same_type left.of Int && same_type right.of Int) BadType (Ok (tree.binary left.tree.value op right.tree.value, Int))) result }
+{
+    if !same_type(left.of, ColumnType::Int) || !same_type(right.of, ColumnType::Int) {
+        return Err(Fault::Refused(Reason::BadType));
+    }
+    Ok(Typed {
+        tree: Expression {
+            node: ExpressionNode::Binary(left.tree, op, right.tree),
+        },
+        of: ColumnType::Int,
+    })
+}
+
+#[inline(always)]
+fn boxed(alloc: Global, e: Typed) -> Result<TypedPart, AllocError>
+    ensures { IfOk result (λ part. typed_part part ≡ typed e) }
+{
+    Ok(TypedPart {
+        tree: Box::new(alloc, e.tree)?,
+        of: e.of,
+    })
+}
+
+/// An expression that stands in another.
+fn part(alloc: Global, e: &Expr, scope: &Scope<'_, '_>) -> Result<TypedPart, Fault>
+    ensures { Gives typed_part (spec.walk_expression (scope_of scope.now) (view.expression e.now)) result }
+{
+    match e {
+        Expr::Literal(value) => Ok(boxed(alloc, literal(value)?)?),
+        Expr::Column(name) => Ok(boxed(alloc, column(name, scope)?)?),
+        Expr::Binary(a, op, b) => {
+            let left = part(alloc, a, scope)?;
+            let right = part(alloc, b, scope)?;
+            Ok(boxed(alloc, joined(left, *op, right)?)?)
+        }
+    }
+}
+
 /// An expression and its type.
+#[inline(always)]
 pub(crate) fn expression(alloc: Global, e: &Expr, scope: &Scope<'_, '_>) -> Result<Typed, Fault>
     ensures { Gives typed (spec.walk_expression (scope_of scope.now) (view.expression e.now)) result }
 {
     match e {
-        Expr::Literal(value) => Ok(Typed {
-            tree: Expression {
-                node: ExpressionNode::Literal(value.clone()?),
-            },
-            of: value.column_type(),
-        }),
-        Expr::Column(name) => {
-            let column = column_named(scope, name)?;
-            Ok(Typed {
-                tree: Expression {
-                    node: ExpressionNode::Column(column_at(column)?),
-                },
-                of: column.of,
-            })
-        }
+        Expr::Literal(value) => literal(value),
+        Expr::Column(name) => column(name, scope),
         Expr::Binary(a, op, b) => {
-            let left = expression(alloc, a, scope)?;
-            let right = expression(alloc, b, scope)?;
-            if !same_type(left.of, ColumnType::Int) || !same_type(right.of, ColumnType::Int) {
-                return Err(Fault::Refused(Reason::BadType));
-            }
-            Ok(Typed {
-                tree: binary(alloc, left.tree, *op, right.tree)?,
-                of: ColumnType::Int,
-            })
+            let left = part(alloc, a, scope)?;
+            let right = part(alloc, b, scope)?;
+            joined(left, *op, right)
         }
     }
 }

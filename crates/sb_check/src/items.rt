@@ -64,7 +64,7 @@ fn one_type(alloc: Global, of: ColumnType) -> Result<Types, AllocError>
 fn each(alloc: Global, expressions: &[Expr], scope: &Scope<'_, '_>) -> Result<TypedList, Fault>
     ensures { Gives typed_list (unzipped (in_order (spec.walk_expression (scope_of scope.now)) (map view.expression expressions.now))) result }
 {
-    let mut trees = ExpressionList::new(alloc);
+    let mut trees = ExpressionList::with_capacity(alloc, expressions.len())?;
     let mut types = Types::new(alloc);
     for e in expressions {
         let one = expression(alloc, e, scope)?;

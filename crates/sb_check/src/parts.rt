@@ -30,7 +30,7 @@ pub fn resolve_query<'s, S: Schema>(
 {
     let outermost: Scope<'s, 's> = Scope::Outermost;
     match query(alloc, text, schema, &outermost) {
-        Ok(walked) => Ok(walked.tree),
+        Ok(walked) => Ok(Box::into_inner(walked.tree)),
         Err(fault) => Err(fault.refusal()),
     }
 }

@@ -6,17 +6,18 @@ ghost use Rattle.sb_check.specs.Parts as parts;
 ghost use Rattle.sb_check.specs.Scopes.{scope_of};
 ghost use Rattle.sb_check.specs.Walked.{operand_typed, walked};
 ghost use Rattle.sb_check.specs.Walk as spec;
+ghost use Rattle.sb_syntax.specs.Tree as text;
 ghost use Rattle.sb_syntax.specs.Views as view;
 
-use crate::expression::{Typed, expression};
+use crate::expression::expression;
 use crate::fault::{Fault, Reason};
 use crate::items::items;
 use crate::schema::Schema;
 use crate::scope::Scope;
-use crate::source::sources;
+use crate::source::{Seen, see};
 use crate::tree::{Condition, ConditionNode, Expression, Operand, OperandNode, Query};
 use crate::types::{Types, same_type};
-use sb_syntax::Comparison;
+use sb_syntax::{Comparison, Expr};
 use sb_value::ColumnType;
 use std::alloc::{AllocError, Global};
 
@@ -30,67 +31,69 @@ pub(crate) struct TypedOperand {
 /// A query with the types of its columns.
 #[derive(Drop)]
 pub(crate) struct Walked {
-    pub(crate) tree: Query,
+    pub(crate) tree: Box<Query>,
     pub(crate) types: Types,
 }
 
-fn disjunction(alloc: Global, a: Condition, b: Condition) -> Result<Condition, AllocError>
-    ensures { IfOk result (λ c. c ≡ tree.disjunction a b) }
+fn disjunction(
+    alloc: Global,
+    a: Box<Condition>,
+    b: Box<Condition>,
+) -> Result<Box<Condition>, AllocError>
+    ensures { IfOk result (λ c. c.value ≡ tree.disjunction a.value b.value) }
 {
-    Ok(Condition {
-        node: ConditionNode::Or(Box::new(alloc, a)?, Box::new(alloc, b)?),
-    })
+    let node = ConditionNode::Or(a, b);
+    Ok(Box::new(alloc, Condition { node })?)
 }
 
-fn conjunction(alloc: Global, a: Condition, b: Condition) -> Result<Condition, AllocError>
-    ensures { IfOk result (λ c. c ≡ tree.conjunction a b) }
+fn conjunction(
+    alloc: Global,
+    a: Box<Condition>,
+    b: Box<Condition>,
+) -> Result<Box<Condition>, AllocError>
+    ensures { IfOk result (λ c. c.value ≡ tree.conjunction a.value b.value) }
 {
-    Ok(Condition {
-        node: ConditionNode::And(Box::new(alloc, a)?, Box::new(alloc, b)?),
-    })
+    let node = ConditionNode::And(a, b);
+    Ok(Box::new(alloc, Condition { node })?)
 }
 
-fn negation(alloc: Global, a: Condition) -> Result<Condition, AllocError>
-    ensures { IfOk result (λ c. c ≡ tree.negation a) }
+fn negation(alloc: Global, a: Box<Condition>) -> Result<Box<Condition>, AllocError>
+    ensures { IfOk result (λ c. c.value ≡ tree.negation a.value) }
 {
-    Ok(Condition {
-        node: ConditionNode::Not(Box::new(alloc, a)?),
-    })
+    let node = ConditionNode::Not(a);
+    Ok(Box::new(alloc, Condition { node })?)
 }
 
-fn compare(a: Expression, op: Comparison, b: Operand) -> Condition
-    ensures { result ≡ tree.compare a op b }
+#[inline(always)]
+fn compare(
+    alloc: Global,
+    a: Expression,
+    op: Comparison,
+    b: Operand,
+) -> Result<Box<Condition>, AllocError>
+    ensures { IfOk result (λ c. c.value ≡ tree.compare a op b) }
 {
-    Condition {
-        node: ConditionNode::Compare(a, op, b),
-    }
+    let node = ConditionNode::Compare(a, op, b);
+    Ok(Box::new(alloc, Condition { node })?)
 }
 
 /// Whether the left side is one of the query's values, or isn't.
+#[inline(always)]
 fn within(
     alloc: Global,
     a: Expression,
     has_not: bool,
-    query: Query,
-) -> Result<Condition, AllocError>
-    ensures { IfOk result (λ c. c ≡ spec.with_not has_not (tree.is_in a query)) }
+    query: Box<Query>,
+) -> Result<Box<Condition>, AllocError>
+    ensures { IfOk result (λ c. c.value ≡ spec.with_not has_not (tree.is_in a query.value)) }
 {
-    let inner = Condition {
-        node: ConditionNode::In(a, Box::new(alloc, query)?),
-    };
+    let node = ConditionNode::In(a, query);
+    let inner = Box::new(alloc, Condition { node })?;
     if has_not {
         negation(alloc, inner)
     } else {
         Ok(inner)
     }
-}
-
-fn exists(alloc: Global, query: Query) -> Result<Condition, AllocError>
-    ensures { IfOk result (λ c. c ≡ tree.exists query) }
-{
-    Ok(Condition {
-        node: ConditionNode::Exists(Box::new(alloc, query)?),
-    })
 }
 
 pub(crate) fn always() -> Condition
@@ -101,22 +104,20 @@ pub(crate) fn always() -> Condition
     }
 }
 
-fn answer(alloc: Global, query: Query) -> Result<Operand, AllocError>
-    ensures { IfOk result (λ o. o ≡ tree.answer query) }
+#[inline(always)]
+fn plain(e: Expression) -> Operand
+    ensures { result ≡ tree.expression e }
 {
-    Ok(Operand {
-        node: OperandNode::Query(Box::new(alloc, query)?),
-    })
+    Operand {
+        node: OperandNode::Expression(e),
+    }
 }
 
-fn plain_operand(e: Typed) -> TypedOperand
-    ensures { operand_typed result ≡ (tree.expression e.tree, e.of) }
+fn answer(query: Box<Query>) -> Operand
+    ensures { result ≡ tree.answer query.value }
 {
-    TypedOperand {
-        tree: Operand {
-            node: OperandNode::Expression(e.tree),
-        },
-        of: e.of,
+    Operand {
+        node: OperandNode::Query(query),
     }
 }
 
@@ -127,6 +128,84 @@ fn is_aggregate(items: &sb_syntax::Items) -> bool
     matches!(items, sb_syntax::Items::Count | sb_syntax::Items::Sum(_))
 }
 
+/// Two expressions that are compared.
+#[tactic(auto, using(crate::proofs::Equations::walk_compare_plain))]
+fn compared<'s, S: Schema>(
+    alloc: Global,
+    a: &Expr,
+    op: Comparison,
+    b: &Expr,
+    schema: &'s S,
+    scope: &Scope<'_, 's>,
+) -> Result<Box<Condition>, Fault>
+    ensures { Gives (λ c. c.value) (parts.condition_walk (S.names schema.now) (text.compare (view.expression a.now) op (text.expression (view.expression b.now))) (scope_of scope.now)) result }
+{
+    let left = expression(alloc, a, scope)?;
+    let right = expression(alloc, b, scope)?;
+    if !same_type(left.of, right.of) {
+        return Err(Fault::Refused(Reason::BadType));
+    }
+    Ok(compare(alloc, left.tree, op, plain(right.tree))?)
+}
+
+/// An expression that is compared with an operand.
+#[cycle(query)]
+#[inline(never)]
+#[tactic(auto, using(crate::proofs::Equations::walk_compare))]
+fn compared_with<'s, S: Schema>(
+    alloc: Global,
+    a: &Expr,
+    op: Comparison,
+    b: &sb_syntax::Operand,
+    schema: &'s S,
+    scope: &Scope<'_, 's>,
+) -> Result<Box<Condition>, Fault>
+    ensures { Gives (λ c. c.value) (parts.condition_walk (S.names schema.now) (text.compare (view.expression a.now) op (view.operand b.now)) (scope_of scope.now)) result }
+{
+    let left = expression(alloc, a, scope)?;
+    let right = operand(alloc, b, schema, scope)?;
+    if !same_type(left.of, right.of) {
+        return Err(Fault::Refused(Reason::BadType));
+    }
+    Ok(compare(alloc, left.tree, op, right.tree)?)
+}
+
+/// An expression whose value is looked for in a query.
+#[cycle(query)]
+#[inline(never)]
+#[tactic(auto, using(crate::proofs::Equations::walk_is_in))]
+fn is_in<'s, S: Schema>(
+    alloc: Global,
+    a: &Expr,
+    has_not: bool,
+    q: &sb_syntax::Query,
+    schema: &'s S,
+    scope: &Scope<'_, 's>,
+) -> Result<Box<Condition>, Fault>
+    ensures { Gives (λ c. c.value) (parts.condition_walk (S.names schema.now) (text.is_in (view.expression a.now) has_not (view.query q.now)) (scope_of scope.now)) result }
+{
+    let left = expression(alloc, a, scope)?;
+    let right = query(alloc, q, schema, scope)?;
+    right.types.hold_one(left.of)?;
+    Ok(within(alloc, left.tree, has_not, right.tree)?)
+}
+
+#[cycle(query)]
+#[inline(never)]
+#[tactic(auto, using(crate::proofs::Equations::walk_exists))]
+fn exists<'s, S: Schema>(
+    alloc: Global,
+    q: &sb_syntax::Query,
+    schema: &'s S,
+    scope: &Scope<'_, 's>,
+) -> Result<Box<Condition>, Fault>
+    ensures { Gives (λ c. c.value) (parts.condition_walk (S.names schema.now) (text.exists (view.query q.now)) (scope_of scope.now)) result }
+{
+    let inner = query(alloc, q, schema, scope)?;
+    let node = ConditionNode::Exists(inner.tree);
+    Ok(Box::new(alloc, Condition { node })?)
+}
+
 #[cycle(query)]
 #[tactic(auto, using(crate::proofs::Equations::condition_walks))]
 pub(crate) fn condition<'s, S: Schema>(
@@ -134,8 +213,8 @@ pub(crate) fn condition<'s, S: Schema>(
     c: &sb_syntax::Condition,
     schema: &'s S,
     scope: &Scope<'_, 's>,
-) -> Result<Condition, Fault>
-    ensures { Gives (λ c. c) (parts.condition_walk (S.names schema.now) (view.condition c.now) (scope_of scope.now)) result }
+) -> Result<Box<Condition>, Fault>
+    ensures { Gives (λ c. c.value) (parts.condition_walk (S.names schema.now) (view.condition c.now) (scope_of scope.now)) result }
 {
     match c {
         sb_syntax::Condition::Disjunction(a, b) => {
@@ -152,24 +231,14 @@ pub(crate) fn condition<'s, S: Schema>(
             let inner = condition(alloc, a, schema, scope)?;
             Ok(negation(alloc, inner)?)
         }
-        sb_syntax::Condition::Compare(a, op, b) => {
-            let left = expression(alloc, a, scope)?;
-            let right = operand(alloc, b, schema, scope)?;
-            if !same_type(left.of, right.of) {
-                return Err(Fault::Refused(Reason::BadType));
-            }
-            Ok(compare(left.tree, *op, right.tree))
-        }
+        sb_syntax::Condition::Compare(a, op, b) => match b {
+            sb_syntax::Operand::Expression(e) => Ok(compared(alloc, a, *op, e, schema, scope)?),
+            sb_syntax::Operand::Answer(_) => Ok(compared_with(alloc, a, *op, b, schema, scope)?),
+        },
         sb_syntax::Condition::In(a, has_not, q) => {
-            let left = expression(alloc, a, scope)?;
-            let right = query(alloc, q, schema, scope)?;
-            right.types.hold_one(left.of)?;
-            Ok(within(alloc, left.tree, *has_not, right.tree)?)
+            Ok(is_in(alloc, a, *has_not, q, schema, scope)?)
         }
-        sb_syntax::Condition::Exists(q) => {
-            let inner = query(alloc, q, schema, scope)?;
-            Ok(exists(alloc, inner.tree)?)
-        }
+        sb_syntax::Condition::Exists(q) => Ok(exists(alloc, q, schema, scope)?),
     }
 }
 
@@ -184,14 +253,20 @@ pub(crate) fn operand<'s, S: Schema>(
     ensures { Gives operand_typed (parts.operand_walk (S.names schema.now) (view.operand o.now) (scope_of scope.now)) result }
 {
     match o {
-        sb_syntax::Operand::Expression(e) => Ok(plain_operand(expression(alloc, e, scope)?)),
+        sb_syntax::Operand::Expression(e) => {
+            let one = expression(alloc, e, scope)?;
+            Ok(TypedOperand {
+                tree: plain(one.tree),
+                of: one.of,
+            })
+        }
         sb_syntax::Operand::Answer(q) => {
             let inner = query(alloc, q, schema, scope)?;
             if !is_aggregate(&q.items) {
                 return Err(Fault::Refused(Reason::WrongCount));
             }
             Ok(TypedOperand {
-                tree: answer(alloc, inner.tree)?,
+                tree: answer(inner.tree),
                 of: ColumnType::Int,
             })
         }
@@ -210,7 +285,7 @@ pub(crate) fn filter<'s, S: Schema>(
     ensures { Gives (λ c. c) (parts.filter_walk (S.names schema.now) (view.filter f.now) (scope_of scope.now)) result }
 {
     match f {
-        Some(c) => condition(alloc, c, schema, scope),
+        Some(c) => Ok(Box::into_inner(condition(alloc, c, schema, scope)?)),
         None => Ok(always()),
     }
 }
@@ -225,16 +300,18 @@ pub(crate) fn query<'s, S: Schema>(
 ) -> Result<Walked, Fault>
     ensures { Gives walked (parts.query_walk (S.names schema.now) (view.query q.now) (scope_of scope.now)) result }
 {
-    let seen = sources(alloc, schema, q.sources.as_slice())?;
+    let mut seen = Seen::new(alloc);
+    see(&mut seen, schema, q.sources.as_slice())?;
     let inner = Scope::Within(seen.visible(), &*scope);
     let listed = items(alloc, &q.items, seen.visible(), &inner)?;
     let condition = filter(alloc, &q.filter, schema, &inner)?;
+    let tree = Query {
+        items: listed.items,
+        sources: seen.sources,
+        condition,
+    };
     Ok(Walked {
-        tree: Query {
-            items: listed.items,
-            sources: seen.sources,
-            condition,
-        },
+        tree: Box::new(alloc, tree)?,
         types: listed.types,
     })
 }

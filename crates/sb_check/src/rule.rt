@@ -39,7 +39,7 @@ fn condition<'s, S: Schema>(
         Some(text) => {
             let outermost: Scope<'s, 's> = Scope::Outermost;
             match query(alloc, text, schema, &outermost) {
-                Ok(walked) => Ok(Some(walked.tree)),
+                Ok(walked) => Ok(Some(Box::into_inner(walked.tree))),
                 Err(fault) => Err(fault),
             }
         }

@@ -3,6 +3,7 @@ ghost use Rattle.std.specs.Prelude.{◌≡◌, ◌+◌, option_map, Ok};
 ghost use Rattle.sb_check.specs.Answer.{Gives};
 ghost use Rattle.sb_check.specs.Names as spec;
 ghost use Rattle.sb_check.specs.Scopes.{scope_of, found, at_place};
+ghost use Rattle.sb_value.specs.Name.{same_name};
 
 use crate::fault::{Fault, Reason};
 use sb_syntax::{ColumnReference, TableReference};
@@ -50,12 +51,22 @@ pub(crate) struct Found {
     pub(crate) of: ColumnType,
 }
 
+/// Whether the two names have the same bytes.
+#[inline(always)]
+#[tactic(auto, using(crate::proofs::SameName::names_tie))]
+pub(crate) fn is_named(a: &Name, b: &Name) -> bool
+    ensures { result ≡ same_name a.now b.now }
+{
+    a.as_slice() == b.as_slice()
+}
+
 /// The place and the type of a column.
+#[inline(always)]
 pub(crate) fn column_in(columns: &[ColumnDefinition], name: &Name) -> Option<(usize, ColumnType)>
     ensures { result ≡ spec.column_in columns.now name.now }
 {
     for (place, column) in columns.iter().enumerate() {
-        if column.name.is_same(name) {
+        if is_named(&column.name, name) {
             return Some((place, column.of));
         }
     }
@@ -63,6 +74,7 @@ pub(crate) fn column_in(columns: &[ColumnDefinition], name: &Name) -> Option<(us
 }
 
 /// The one column of that name in a query's sources.
+#[inline(always)]
 fn holder(depth: usize, sources: &[Visible<'_>], name: &Name) -> Result<Option<Found>, Fault>
     ensures { Gives (option_map found) (at_place (spec.holders depth 0 sources.now name.now)) result }
 {
@@ -93,19 +105,37 @@ fn plain_column(depth: usize, scope: &Scope<'_, '_>, name: &Name) -> Result<Foun
             let one = holder(depth, sources, name)?;
             match one {
                 Some(column) => Ok(column),
-                None => plain_column(further(depth)?, outer, name),
+                None => Ok(plain_column(further(depth)?, outer, name)?),
+            }
+        }
+    }
+}
+
+/// The same from the innermost place on.
+#[inline(always)]
+fn near_column(scope: &Scope<'_, '_>, name: &Name) -> Result<Found, Fault>
+    ensures { Gives found (spec.plain_column 0 (scope_of scope.now) name.now) result }
+{
+    match scope {
+        Scope::Outermost => Err(Fault::Refused(Reason::NoColumn)),
+        Scope::Within(sources, outer) => {
+            let one = holder(0, sources, name)?;
+            match one {
+                Some(near) => Ok(near),
+                None => Ok(plain_column(1, outer, name)?),
             }
         }
     }
 }
 
 /// Whether the two mean one table.
+#[inline(always)]
 pub(crate) fn same_table(a: &TableReference, b: &TableReference) -> bool
     ensures { result ≡ spec.same_table a.now b.now }
 {
     match a {
         TableReference::Named(one) => match b {
-            TableReference::Named(two) => one.is_same(two),
+            TableReference::Named(two) => is_named(one, two),
             _ => false,
         },
         TableReference::Inserted => matches!(b, TableReference::Inserted),
@@ -116,6 +146,7 @@ pub(crate) fn same_table(a: &TableReference, b: &TableReference) -> bool
 }
 
 /// The place and the columns of the source with that visible name.
+#[inline(always)]
 fn source_named<'a>(
     sources: &[Visible<'a>],
     table: &TableReference,
@@ -131,6 +162,7 @@ fn source_named<'a>(
 }
 
 /// The column of that name in one source.
+#[inline(always)]
 fn column_of_source(
     depth: usize,
     source: usize,
@@ -163,18 +195,37 @@ fn qualified_column(
         Scope::Outermost => Err(Fault::Refused(Reason::NoColumn)),
         Scope::Within(sources, outer) => match source_named(sources, table) {
             Some((source, columns)) => column_of_source(depth, source, columns, name),
-            None => qualified_column(further(depth)?, outer, table, name),
+            None => Ok(qualified_column(further(depth)?, outer, table, name)?),
+        },
+    }
+}
+
+/// The same from the innermost place on.
+#[inline(always)]
+fn near_qualified(
+    scope: &Scope<'_, '_>,
+    table: &TableReference,
+    name: &Name,
+) -> Result<Found, Fault>
+    ensures { Gives found (spec.qualified_column 0 (scope_of scope.now) table.now name.now) result }
+{
+    match scope {
+        Scope::Outermost => Err(Fault::Refused(Reason::NoColumn)),
+        Scope::Within(sources, outer) => match source_named(sources, table) {
+            Some((source, columns)) => Ok(column_of_source(0, source, columns, name)?),
+            None => Ok(qualified_column(1, outer, table, name)?),
         },
     }
 }
 
 /// The column that a name with or without a qualifier means.
+#[inline(always)]
 pub(crate) fn column_named(scope: &Scope<'_, '_>, column: &ColumnReference) -> Result<Found, Fault>
     ensures { Gives found (spec.column_named (scope_of scope.now) column.now) result }
 {
     match column {
-        ColumnReference::Plain(name) => plain_column(0, scope, name),
-        ColumnReference::Qualified(table, name) => qualified_column(0, scope, table, name),
+        ColumnReference::Plain(name) => near_column(scope, name),
+        ColumnReference::Qualified(table, name) => near_qualified(scope, table, name),
     }
 }
 

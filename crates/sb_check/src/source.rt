@@ -35,7 +35,9 @@ impl<'a> Model for Seen<'a> {
 }
 
 impl<'a> Seen<'a> {
-    fn new(alloc: Global) -> Seen<'a>
+    /// No source.
+    #[inline(always)]
+    pub(crate) fn new(alloc: Global) -> Seen<'a>
         ensures { result ≡ ([], []) }
     {
         Seen {
@@ -44,6 +46,7 @@ impl<'a> Seen<'a> {
         }
     }
 
+    #[inline(always)]
     fn push(
         &mut self,
         source: Source,
@@ -161,15 +164,15 @@ fn is_taken(visible: &[Visible<'_>], name: &TableReference) -> bool
     false
 }
 
-/// Each source in order.
-pub(crate) fn sources<'a, S: Schema>(
-    alloc: Global,
+/// Sees each source in order.
+pub(crate) fn see<'a, S: Schema>(
+    seen: &mut Seen<'a>,
     schema: &'a S,
     references: &[SourceReference],
-) -> Result<Seen<'a>, Fault>
-    ensures { Gives (λ s. s) (seen_sources (S.names schema.now) [] references.now) result }
+) -> Result<(), Fault>
+    requires { seen.old ≡ ([], []) }
+    ensures { Gives (λ _. seen.new) (seen_sources (S.names schema.now) [] references.now) result }
 {
-    let mut seen = Seen::new(alloc);
     for reference in references {
         let (source, columns) = match table_of(schema, &reference.table) {
             Ok(lent) => lent,
@@ -181,5 +184,5 @@ pub(crate) fn sources<'a, S: Schema>(
         }
         seen.push(source, name, columns)?;
     }
-    Ok(seen)
+    Ok(())
 }

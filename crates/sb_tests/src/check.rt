@@ -1,12 +1,12 @@
 //! Commands resolved against four tables, or their first refusal.
 
 use sb_check::{
-    Column, Condition, ConditionNode, Expression, ExpressionNode, OperandNode, RuleEntry, Schema,
-    TableEntry, resolve_action, resolve_actions, resolve_change, resolve_query, resolve_rule,
-    resolve_triggers,
+    Column, Condition, ConditionNode, Expression, ExpressionNode, OperandNode, Resolved, RuleEntry,
+    Schema, Statement, TableEntry, resolve, resolve_action, resolve_actions, resolve_change,
+    resolve_query, resolve_rule, resolve_triggers,
 };
 use sb_syntax::{Action, Command, Trigger, parse};
-use sb_value::{ColumnDefinition, Name, Refusal, TableId};
+use sb_value::{ColumnDefinition, Name, Refusal, TableId, Value};
 use std::alloc::Global;
 use std::process::Abort;
 
@@ -502,4 +502,141 @@ fn columns(rt: HostRuntime) {
         let column = innermost(&query.condition).expect(&rt, "a column");
         assert_eq!(rt; (column.depth, column.source, column.place), place);
     }
+}
+
+/// What a command is resolved to, as a number below that of each refusal.
+fn kind(resolved: &Resolved) -> u8 {
+    match resolved {
+        Resolved::Plain => 0,
+        Resolved::NewTable => 1,
+        Resolved::Table(_) => 2,
+        Resolved::Rule(_) => 3,
+        Resolved::Query(_) => 4,
+        Resolved::Change(_) => 5,
+    }
+}
+
+/// What a whole command is resolved to, or the number of its refusal.
+fn outcome<S: Schema>(alloc: Global, command: &Command, schema: &S) -> u8 {
+    match resolve(alloc, command, schema) {
+        Ok(resolved) => kind(&resolved),
+        Err(refusal) => number(refusal),
+    }
+}
+
+/// Whole commands, and what they are resolved to.
+const COMMANDS: [(&[u8], u8); 50] = [
+    // What names no table.
+    (b"open", 0),
+    (b"end", 0),
+    (b"begin", 0),
+    (b"commit", 0),
+    (b"rollback", 0),
+    (b"process rules", 0),
+    (b"process ruleset x", 0),
+    (b"process rule x", 0),
+    (b"drop rule x", 0),
+    (b"activate rule x", 0),
+    (b"deactivate rule x", 0),
+    (b"create ruleset x", 0),
+    (b"drop ruleset x", 0),
+    (b"alter ruleset x addrules y", 0),
+    (b"alter ruleset x delrules y", 0),
+    // A table's name is looked up before its columns are compared.
+    (b"create table x (a int)", 1),
+    (b"create table x (a int, b text, c int)", 1),
+    (b"create table ta (t int)", 1),
+    (b"create table t (a int)", 21),
+    (b"create table t (a int, a int)", 21),
+    (b"create table x (a int, a int)", 24),
+    (b"create table x (a int, b int, a text)", 24),
+    (b"create table x (b int, a int, c text, a text)", 24),
+    (b"create table x (a int, aa int, aaa int)", 1),
+    (b"drop table t", 2),
+    (b"drop table w", 2),
+    (b"drop table x", 20),
+    (b"drop table tt", 20),
+    // Rules: the table, the triggers, the condition, the actions.
+    (b"create rule r on t when inserted then rollback", 3),
+    (b"create rule r on x when updated(z) then delete from y", 20),
+    (b"create rule r on t when updated(z) then delete from y", 22),
+    (
+        b"create rule r on t when deleted if select * from inserted then delete from y",
+        26,
+    ),
+    (
+        b"create rule r on t when inserted if select * from inserted then insert into t values (1)",
+        25,
+    ),
+    // Queries: the sources, the items, the condition.
+    (b"select * from t", 4),
+    (b"select z from x where z = 'x' + 1", 20),
+    (b"select z from t where a = 'x'", 22),
+    (b"select a from t where a = 'x'", 23),
+    (
+        b"select a from t where a = 1 and (b = 'x' or not a in (select c from u))",
+        4,
+    ),
+    (b"select a from t where (b = 1 or z = 1) and a = 1", 23),
+    (
+        b"select * from t where a = (select count(*) from u where c = t.a + 1)",
+        4,
+    ),
+    (b"select * from t where a = (select c from u)", 25),
+    // Statements: the table, then the number of values before their types.
+    (b"insert into t values (1, 'x'), (2, 'y')", 5),
+    (b"insert into x values (1)", 20),
+    (b"insert into t values ('x', 1, 2)", 25),
+    (b"insert into t values ('x', 1), (1)", 23),
+    (b"insert into v select b from t where a = 1", 5),
+    (b"delete from t", 5),
+    (b"delete from t where z = 1 or b = 1", 22),
+    (
+        b"update t set a = a + 1, b = 'x' where a = 1 and not b = 'x'",
+        5,
+    ),
+    (b"update t set a = 'x' where z = 1", 23),
+];
+
+#[test]
+fn commands(rt: HostRuntime) {
+    let alloc = rt.alloc();
+    let tables = four_tables(&rt, alloc);
+    for (text, wanted) in COMMANDS {
+        let command = command(&rt, alloc, text);
+        assert_eq!(rt; outcome(alloc, &command, &tables), wanted);
+    }
+}
+
+/// Whether the statement inserts exactly these rows.
+fn inserts(statement: &Statement, wanted: &[(i64, i64)]) -> bool {
+    let Statement::InsertRows(_, rows) = statement else {
+        return false;
+    };
+    let mut left = rows.iter();
+    for (a, b) in wanted {
+        match left.next() {
+            Some([Value::Int(one), Value::Int(two)]) if one == a && two == b => {}
+            _ => return false,
+        }
+    }
+    left.next().is_none()
+}
+
+#[test]
+fn inserted_rows(rt: HostRuntime) {
+    let alloc = rt.alloc();
+    let tables = four_tables(&rt, alloc);
+    let Command::Change(change) = command(
+        &rt,
+        alloc,
+        b"insert into u values (1, 2), (3, 4), (5, 6)",
+    ) else {
+        return;
+    };
+    let statement = resolve_change(alloc, &change, &tables)
+        .ok()
+        .expect(&rt, "no refusal");
+    assert!(rt; inserts(&statement, &[(1, 2), (3, 4), (5, 6)]));
+    assert!(rt; !inserts(&statement, &[(1, 2), (3, 4)]));
 }

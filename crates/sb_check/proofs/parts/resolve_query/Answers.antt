@@ -10,7 +10,7 @@ use Rattle.sb_check.proofs.parts.resolve_query.Goals as goal
 
 pub returns-in-Ok : goal.returns-in-Ok
 unfolding query_walk
-returns-in-Ok g c = ap (λ r. and_then {B = Query} r (λ w. Ok w.0)) c.in-Ok.ensures
+returns-in-Ok g c = rw c.into_inner.ensures (ap (λ r. and_then {B = Query} r (λ w. Ok w.0)) c.in-Ok.ensures)
 
 pub returns-in-Err : goal.returns-in-Err
 unfolding query_walk

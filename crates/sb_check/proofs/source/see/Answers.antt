@@ -1,7 +1,7 @@
 use Rattle.std.proofs.Common.{arith}
 use Rattle.sb_check.specs.Lent.{source_lent}
 use Rattle.sb_check.proofs.SourceWalk.{source-step}
-use Rattle.sb_check.proofs.source.sources.Goals as goal
+use Rattle.sb_check.proofs.source.see.Goals as goal
 
 pub loop-reference-preserved : goal.loop-reference-preserved
 loop-reference-preserved g c =

@@ -2,7 +2,7 @@ use Rattle.std.proofs.Common.{◌≡◌, ◌++◌, [], drop, map}
 use Rattle.std.specs.Prelude.{Ok}
 use Rattle.sb_check.specs.Names.{and_then}
 use Rattle.sb_check.specs.Sources.{seen_sources}
-use Rattle.sb_check.proofs.source.sources.Given as goal
+use Rattle.sb_check.proofs.source.see.Given as goal
 
 -- what is seen so far stands before what the sources that are left give
 abbrev pub invariant-loop-reference : goal.invariant-loop-reference
