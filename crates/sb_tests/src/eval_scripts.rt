@@ -226,6 +226,24 @@ const SUBQUERIES: Script = &[
         b"update t set a = (select sum(a) from t) where a = 0",
         b"no 30\n",
     ),
+    // Subqueries that name no column outside, in one that does, on both sides, and in an operand.
+    (
+        b"select a from t where exists (select * from h where h.a = t.a and h.a in (select a from w))",
+        b"rows 2\n1\n2\n",
+    ),
+    (
+        b"select a from t where (a in (select a from h) or a = (select count(*) from w)) and not exists (select * from i)",
+        b"rows 2\n1\n2\n",
+    ),
+    (
+        b"select count(*) from h where exists (select * from i where i.a = h.a and i.a < (select sum(a) from t))",
+        b"rows 1\n0\n",
+    ),
+    (
+        b"update h set a = a + (select count(*) from w) where exists (select * from w where w.a = h.a) and a in (select c from w)",
+        b"ok 2\n",
+    ),
+    (b"select * from h", b"rows 3\n4\n5\n3\n"),
 ];
 
 /// Texts stand in the order of their bytes.
