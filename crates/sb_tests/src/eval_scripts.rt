@@ -240,10 +240,10 @@ const SUBQUERIES: Script = &[
         b"rows 1\n0\n",
     ),
     (
-        b"update h set a = a + (select count(*) from w) where exists (select * from w where w.a = h.a) and a in (select c from w)",
+        b"update h set a = (select count(*) from w) where exists (select * from w where w.a = h.a) and a in (select c from w)",
         b"ok 2\n",
     ),
-    (b"select * from h", b"rows 3\n4\n5\n3\n"),
+    (b"select * from h", b"rows 3\n2\n5\n2\n"),
 ];
 
 /// Texts stand in the order of their bytes.
