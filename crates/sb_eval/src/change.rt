@@ -2,7 +2,7 @@
 ghost use Rattle.std.specs.Prelude.{◌≡◌, ◌++◌, ◌∷◌, [], map, slice_set, IfOk, OnOk, option_and_then};
 ghost use Rattle.sb_eval.specs.Answer.{Gives, Leaves};
 ghost use Rattle.sb_eval.specs.Effect.{change_of, with_change, with_place};
-ghost use Rattle.sb_eval.specs.Known.{IsRight, AssignmentsRight, EffectRight, left, right};
+ghost use Rattle.sb_eval.specs.Known.{IsRight, AssignmentsRight, EffectRight};
 ghost use Rattle.sb_eval.specs.Meaning as meaning;
 ghost use Rattle.sb_eval.specs.Scopes.{scope_of, value_seen};
 ghost use Rattle.sb_eval.specs.Seen.{rows_in};
@@ -12,6 +12,7 @@ use crate::condition::{condition, operand};
 use crate::fault::Fault;
 use crate::kept::append;
 use crate::known::Known;
+use crate::learn::learn_effect;
 use crate::scope::Scope;
 use crate::sources::{LentRow, Sources};
 use crate::value_ref::ValueRef;
@@ -218,7 +219,8 @@ fn change<'r, S: Sources>(
     }
 }
 
-/// Adds the change of one row, where the condition is true of it.
+/// Adds the change of one row, where the condition is true of it. What can be known of the operands is found at the first
+/// such row.
 pub(crate) fn change_row<'r, S: Sources>(
     alloc: Global,
     effect: &Effect<'r>,
@@ -228,28 +230,26 @@ pub(crate) fn change_row<'r, S: Sources>(
     values: &'r [Value],
     known: &Known<'r>,
     sources: &'r S,
+    operands: &mut Known<'r>,
     changes: &mut Vec<Change>,
 ) -> Result<(), Fault>
-    requires filter { IsRight (rows_in (S.seen sources.now)) filter.now (left known.now) }
-    requires effect { EffectRight (rows_in (S.seen sources.now)) effect.now (right known.now) }
-    ensures { Leaves changes.new.items (option_and_then (with_change changes.old.items (change_of (S.seen sources.now) table effect.now (number, values.now))) (meaning.holds (rows_in (S.seen sources.now)) filter.now (spec.scope_of (number, values.now)))) result }
+    requires known { IsRight (rows_in (S.seen sources.now)) filter.now known.now }
+    requires operands { EffectRight (rows_in (S.seen sources.now)) effect.now operands.old }
+    ensures operands { OnOk result (EffectRight (rows_in (S.seen sources.now)) effect.now operands.new) }
+    ensures changes { Leaves changes.new.items (option_and_then (with_change changes.old.items (change_of (S.seen sources.now) table effect.now (number, values.now))) (meaning.holds (rows_in (S.seen sources.now)) filter.now (spec.scope_of (number, values.now)))) result }
 {
     let combination = [LentRow { values }];
     let outermost = Scope::Outermost;
     let scope = Scope::Within(&combination, &outermost);
-    let passes = condition(alloc, filter, known.left(), sources, &scope)?;
+    let passes = condition(alloc, filter, known, sources, &scope)?;
     if !passes {
         return Ok(());
     }
+    if changes.is_empty() {
+        *operands = learn_effect(alloc, effect, sources)?;
+    }
     let change = change(
-        alloc,
-        effect,
-        table,
-        number,
-        values,
-        known.right(),
-        sources,
-        &scope,
+        alloc, effect, table, number, values, operands, sources, &scope,
     )?;
     changes.push(change)?;
     Ok(())

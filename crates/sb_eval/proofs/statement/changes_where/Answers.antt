@@ -1,4 +1,4 @@
-use Rattle.std.proofs.Common.{◌∙◌, ap, arith, get_or, Vec, Global}
+use Rattle.std.proofs.Common.{rules, ◌∙◌, ap, arith, get_or, Vec, Global}
 use Rattle.sb_value.specs.Table.{table_at}
 use Rattle.sb_value.specs.declared.change.Change.{Change}
 use Rattle.sb_eval.specs.Effect.{change_of}
@@ -6,8 +6,15 @@ use Rattle.sb_eval.specs.Meaning.{holds}
 use Rattle.sb_eval.specs.Seen.{rows_in}
 use Rattle.sb_eval.specs.Statement as spec
 use Rattle.sb_eval.proofs.Changing.{row-step, place-in, then-ok}
+use Rattle.sb_eval.proofs.Knowing.{effect_right}
 use Rattle.sb_eval.proofs.Results.{gives-err}
 use Rattle.sb_eval.proofs.statement.changes_where.Goals as goal
+
+pub loop-place-init : goal.loop-place-init
+loop-place-init g c = record {
+  operands = effect_right (rows_in (g.S.Sources.seen c.args.sources.now)) c.args.effect.now;
+  changes = search rules;
+}
 
 pub loop-place-preserved : goal.loop-place-preserved
 loop-place-preserved g c =
@@ -17,8 +24,11 @@ loop-place-preserved g c =
     (place-in rows c.rows-rows.result.now c.loop-place.place (omega arith) c.rows-rows.ensures)
     (ap (λ l. get_or l c.loop-place.place 0) c.numbers-numbers.ensures)
     (c.row.view_is ∙ c.index-rows-place.is ∙ ap (λ l. get_or l c.loop-place.place c.index-rows-place.result) c.rows-rows.ensures)
-    c.loop-place.invariant in
-    then-ok _ _ _ _ step c.in-Ok.ensures
+    c.loop-place.invariant.changes in
+    record {
+      operands = c.in-Ok.ensures.operands;
+      changes = then-ok _ _ _ _ step c.in-Ok.ensures.changes;
+    }
 
 pub returns-in-Err : goal.returns-in-Err
 returns-in-Err g c =
@@ -28,5 +38,5 @@ returns-in-Err g c =
     (place-in rows c.rows-rows.result.now c.loop-place.place (omega arith) c.rows-rows.ensures)
     (ap (λ l. get_or l c.loop-place.place 0) c.numbers-numbers.ensures)
     (c.row.view_is ∙ c.index-rows-place.is ∙ ap (λ l. get_or l c.loop-place.place c.index-rows-place.result) c.rows-rows.ensures)
-    c.loop-place.invariant in
-    gives-err {X = Vec Change Global} (λ changes. changes.items) _ _ _ c.change_row.new.changes.items c.in-Err.fault step c.in-Err.ensures
+    c.loop-place.invariant.changes in
+    gives-err {X = Vec Change Global} (λ changes. changes.items) _ _ _ c.change_row.new.changes.items c.in-Err.fault step c.in-Err.ensures.changes
