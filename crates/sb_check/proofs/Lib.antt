@@ -9,3 +9,4 @@ mod Found
 mod Fitting
 mod CommandFits
 mod SameName
+mod Rows

@@ -17,7 +17,6 @@ use crate::tree::{Assignment, Assignments, Condition, Statement, Tuples};
 use crate::types::same_type;
 use sb_syntax::{Change, TableReference, Tuple};
 use sb_value::{ColumnDefinition, Value};
-use smallvec::SmallVec;
 use std::alloc::{AllocError, Global};
 
 /// Whether the values fit the columns, of which there are as many, in order.
@@ -55,24 +54,12 @@ fn rows_fit(columns: &[ColumnDefinition], rows: &[Tuple]) -> Result<(), Fault>
     Ok(())
 }
 
-#[inline(always)]
-fn copied_tuple(alloc: Global, values: &[Value]) -> Result<Tuple, AllocError>
-    ensures { IfOk result (λ tuple. tuple.items ≡ values.now) }
-{
-    let mut tuple = SmallVec::new(alloc);
-    tuple.reserve(values.len())?;
-    for value in values {
-        tuple.push(value.clone()?)?;
-    }
-    Ok(tuple)
-}
-
 fn copied_rows(alloc: Global, rows: &[Tuple]) -> Result<Tuples, AllocError>
     ensures { IfOk result (λ list. list ≡ map (λ r. r.items) rows.now) }
 {
     let mut list = Tuples::with_capacity(alloc, rows.len())?;
     for row in rows {
-        list.push(copied_tuple(alloc, row.as_slice())?)?;
+        list.push_copy(row.as_slice())?;
     }
     Ok(list)
 }
