@@ -1,7 +1,7 @@
 //! Lines over seven tables and the text of their answers: rows, counts of changes, and refusals.
 
 use crate::database::{Database, Lent};
-use sb_check::{Query, resolve_change, resolve_query, resolve_rule};
+use sb_check::{Query, Statement, resolve_change, resolve_query, resolve_rule};
 use sb_eval::{EvalError, changes, condition_rows, holds, select_rows};
 use sb_syntax::{Command, ParseError, RuleText, parse};
 use sb_value::{Change, Row, RowList, Value, print_value};
@@ -115,6 +115,22 @@ fn condition(
     }
 }
 
+/// The changes of a statement with its names resolved, or the number of its refusal.
+fn changes_of(
+    rt: &impl Abort,
+    alloc: Global,
+    database: &Database,
+    statement: &Statement,
+) -> Result<Vec<Change>, u8> {
+    let Ok(lent) = Lent::new(rt, alloc, database) else {
+        return Err(91);
+    };
+    match changes(alloc, statement, &lent) {
+        Ok(list) => Ok(list),
+        Err(error) => Err(number(error)),
+    }
+}
+
 /// The changes of a statement, or the number of its refusal.
 pub(crate) fn statement(
     rt: &impl Abort,
@@ -122,16 +138,9 @@ pub(crate) fn statement(
     database: &Database,
     text: &sb_syntax::Change,
 ) -> Result<Vec<Change>, u8> {
-    let statement = match resolve_change(alloc, text, database) {
-        Ok(statement) => statement,
-        Err(refusal) => return Err(refusal.number()),
-    };
-    let Ok(lent) = Lent::new(rt, alloc, database) else {
-        return Err(91);
-    };
-    match changes(alloc, &statement, &lent) {
-        Ok(list) => Ok(list),
-        Err(error) => Err(number(error)),
+    match resolve_change(alloc, text, database) {
+        Ok(statement) => changes_of(rt, alloc, database, &statement),
+        Err(refusal) => Err(refusal.number()),
     }
 }
 
