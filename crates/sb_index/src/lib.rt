@@ -2,7 +2,6 @@
 #![tactic(auto)]
 
 mod index;
-mod rules;
 mod table;
 mod tenant;
 

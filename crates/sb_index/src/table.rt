@@ -5,8 +5,7 @@ ghost use Rattle.sb_value.specs.Laws.{kind_triggers};
 ghost use Rattle.sb_index.specs.Operation.{Operation, names, places};
 ghost use Rattle.sb_index.specs.Stands.{in_table, triggers_in, column_flags};
 
-use crate::rules::Rules;
-use sb_value::{Change, Columns, Kind, RuleId, Triggers};
+use sb_value::{Change, Columns, Kind, RuleId, RuleSet, Triggers};
 use std::marker::Model;
 
 /// How many columns a table has at most.
@@ -15,12 +14,12 @@ const COLUMN_LIMIT: usize = 8;
 /// The rules that each operation on one table triggers.
 #[derive(Drop)]
 pub struct TableRules {
-    inserted: Rules,
-    deleted: Rules,
+    inserted: RuleSet,
+    deleted: RuleSet,
     /// Those that an update of any column triggers.
-    updated: Rules,
+    updated: RuleSet,
     /// Those that an update of the column triggers.
-    columns: [Rules; COLUMN_LIMIT],
+    columns: [RuleSet; COLUMN_LIMIT],
 }
 
 impl Model for TableRules {
@@ -37,10 +36,10 @@ impl TableRules {
         ensures { (o : Operation) (r : ℕ) → in_table result o r ≡ false }
     {
         TableRules {
-            inserted: Rules::none(),
-            deleted: Rules::none(),
-            updated: Rules::none(),
-            columns: [Rules::none(); COLUMN_LIMIT],
+            inserted: RuleSet::empty(),
+            deleted: RuleSet::empty(),
+            updated: RuleSet::empty(),
+            columns: [RuleSet::empty(); COLUMN_LIMIT],
         }
     }
 
@@ -48,9 +47,9 @@ impl TableRules {
     pub fn add(&mut self, rule: RuleId, triggers: Triggers)
         ensures { (o : Operation) (r : ℕ) → in_table self.new o r ≡ (in_table self.old o r || ((r == rule) && names triggers o)) }
     {
-        self.inserted = self.inserted.with_if(rule, triggers.inserted);
-        self.deleted = self.deleted.with_if(rule, triggers.deleted);
-        self.updated = self.updated.with_if(rule, triggers.updated);
+        self.inserted = with_if(self.inserted, rule, triggers.inserted);
+        self.deleted = with_if(self.deleted, rule, triggers.deleted);
+        self.updated = with_if(self.updated, rule, triggers.updated);
         add_columns(&mut self.columns, rule, triggers.columns);
     }
 
@@ -65,7 +64,7 @@ impl TableRules {
     }
 
     /// The rules that the change may trigger.
-    pub fn candidates(&self, change: &Change) -> Rules
+    pub fn candidates(&self, change: &Change) -> RuleSet
         ensures { (r : ℕ) → flag_at result r ≡ kind_triggers change.now.kind (triggers_in self.now r) change.now }
     {
         match change.kind {
@@ -76,18 +75,32 @@ impl TableRules {
     }
 }
 
+/// The set with the rule, too, if it is named.
+fn with_if(rules: RuleSet, rule: RuleId, named: bool) -> RuleSet
+    ensures { (k : ℕ) → flag_at result k ≡ (flag_at rules k || ((k == rule) && named)) }
+{
+    if named { rules.with(rule) } else { rules }
+}
+
+/// The rules of the set, and those of the other if it is wanted.
+fn union_if(rules: RuleSet, others: RuleSet, wanted: bool) -> RuleSet
+    ensures { (k : ℕ) → flag_at result k ≡ (flag_at rules k || (flag_at others k && wanted)) }
+{
+    if wanted { rules.union(others) } else { rules }
+}
+
 /// Adds the rule at the named columns.
-fn add_columns(columns: &mut [Rules], rule: RuleId, named: Columns)
+fn add_columns(columns: &mut [RuleSet], rule: RuleId, named: Columns)
     requires { length columns.old ≡ 8 }
     ensures { (k r : ℕ) → flag_at (slice_index_or columns.new k []) r ≡ (flag_at (slice_index_or columns.old k []) r || ((r == rule) && (nat_lt k 8 && flag_at named k))) }
 {
     for place in 0..COLUMN_LIMIT {
-        columns[place] = columns[place].with_if(rule, named.contains(place as u8));
+        columns[place] = with_if(columns[place], rule, named.contains(place as u8));
     }
 }
 
 /// Takes the rule from all columns.
-fn drop_from(columns: &mut [Rules], rule: RuleId)
+fn drop_from(columns: &mut [RuleSet], rule: RuleId)
     ensures { (k r : ℕ) → flag_at (slice_index_or columns.new k []) r ≡ (flag_at (slice_index_or columns.old k []) r && not (r == rule)) }
 {
     for rules in columns.iter_mut() {
@@ -96,13 +109,13 @@ fn drop_from(columns: &mut [Rules], rule: RuleId)
 }
 
 /// The rules of the named columns.
-fn named(columns: &[Rules], named: Columns) -> Rules
+fn named(columns: &[RuleSet], named: Columns) -> RuleSet
     requires { length columns.now ≡ 8 }
     ensures { (r : ℕ) → flag_at result r ≡ share_place (column_flags columns.now r) named }
 {
-    let mut rules = Rules::none();
+    let mut rules = RuleSet::empty();
     for place in 0..COLUMN_LIMIT {
-        rules = rules.union_if(columns[place], named.contains(place as u8));
+        rules = union_if(rules, columns[place], named.contains(place as u8));
     }
     rules
 }

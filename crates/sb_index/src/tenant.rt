@@ -65,7 +65,7 @@ impl TenantRules {
         ensures { (r : ℕ) → flag_at result r ≡ kind_triggers change.now.kind (triggers_in (slice_index_or self.now change.now.table no_table) r) change.now }
     {
         match self.tables.get(change.table.index()) {
-            Some(table) => table.candidates(change).set(),
+            Some(table) => table.candidates(change),
             None => RuleSet::empty(),
         }
     }

@@ -3,14 +3,13 @@ ghost use Rattle.std.specs.Prelude.{◌≡◌, ℕ, Bool, List, [], ◌∷◌, �
 ghost use Rattle.sb_value.specs.Flags.{flag_at};
 ghost use Rattle.sb_priority.specs.Closed.{relates, IsClosure};
 
-use crate::rules::Rules;
-use sb_value::{RULE_LIMIT, RuleId};
+use sb_value::{RULE_LIMIT, RuleId, RuleSet};
 use std::marker::Model;
 
 /// The transitive closure of pairs of rules: for each rule those that precede it.
 #[derive(Clone, Copy)]
 pub struct Closure {
-    before: [Rules; RULE_LIMIT],
+    before: [RuleSet; RULE_LIMIT],
 }
 
 impl Model for Closure {
@@ -29,12 +28,12 @@ impl Closure {
         ensures { IsClosure result [] }
     {
         Closure {
-            before: [Rules::none(); RULE_LIMIT],
+            before: [RuleSet::empty(); RULE_LIMIT],
         }
     }
 
     /// The rules that precede the rule.
-    pub fn predecessors(&self, rule: RuleId) -> Rules
+    pub fn predecessors(&self, rule: RuleId) -> RuleSet
         ensures { (a : ℕ) → flag_at result a ≡ relates self.now a rule }
     {
         self.before[rule.index()]
@@ -51,7 +50,7 @@ impl Closure {
 }
 
 /// Adds the rules to each row that has the second rule or is its own.
-fn link_rows(rows: &mut [Rules], through: Rules, second: RuleId)
+fn link_rows(rows: &mut [RuleSet], through: RuleSet, second: RuleId)
     requires { length rows.old ≡ 64 }
     ensures { (a b : ℕ) → relates rows.new a b ≡ (relates rows.old a b || (flag_at through a && ((second == b) || relates rows.old second b))) }
 {

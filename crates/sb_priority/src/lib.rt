@@ -5,6 +5,5 @@ mod closure;
 mod list;
 mod pairs;
 mod priorities;
-mod rules;
 
 pub use priorities::{Cycle, Priorities};

@@ -1,10 +1,9 @@
-//! Rules in order of creation.
+//! RuleSet in order of creation.
 ghost use Rattle.std.specs.Prelude.{◌≡◌, ℕ, ◌<◌, ◌≤◌, not, ◌==◌, if◌then◌else◌, [], ◌∷◌, ◌++◌, length, filter};
 ghost use Rattle.std.specs.List.{list_any};
 ghost use Rattle.sb_value.specs.Flags.{flag_at};
 
-use crate::rules::Rules;
-use sb_value::{RULE_LIMIT, RuleId};
+use sb_value::{RULE_LIMIT, RuleId, RuleSet};
 use std::marker::Model;
 
 /// A list of rules, and the set of the same rules.
@@ -12,7 +11,7 @@ use std::marker::Model;
 pub struct RuleList {
     rules: [RuleId; RULE_LIMIT],
     count: usize,
-    members: Rules,
+    members: RuleSet,
 }
 
 impl Model for RuleList {
@@ -34,7 +33,7 @@ impl RuleList {
         RuleList {
             rules: [RuleId::new(0); RULE_LIMIT],
             count: 0,
-            members: Rules::none(),
+            members: RuleSet::empty(),
         }
     }
 
@@ -47,7 +46,7 @@ impl RuleList {
     }
 
     /// The rules as a set.
-    pub fn members(&self) -> Rules
+    pub fn members(&self) -> RuleSet
         ensures { (k : ℕ) → flag_at result k ≡ list_any (λ r. r == k) self.now }
     {
         self.members

@@ -6,14 +6,13 @@ ghost use Rattle.sb_priority.specs.Closed.{relates, HasPairs};
 ghost use Rattle.sb_priority.specs.Ranks.{pairs_of};
 
 use crate::closure::Closure;
-use crate::rules::Rules;
-use sb_value::{RULE_LIMIT, RuleId, precedes_is_closure};
+use sb_value::{RULE_LIMIT, RuleId, RuleSet, precedes_is_closure};
 use std::marker::Model;
 
 /// Pairs: for each rule those that a pair puts before it, and those that any way of pairs does.
 #[derive(Drop)]
 pub struct Pairs {
-    direct: [Rules; RULE_LIMIT],
+    direct: [RuleSet; RULE_LIMIT],
     closure: Closure,
 }
 
@@ -34,7 +33,7 @@ impl Pairs {
         ensures { HasPairs result [] }
     {
         Pairs {
-            direct: [Rules::none(); RULE_LIMIT],
+            direct: [RuleSet::empty(); RULE_LIMIT],
             closure: Closure::new(),
         }
     }
@@ -50,7 +49,7 @@ impl Pairs {
     }
 
     /// The rules that precede the rule.
-    pub fn predecessors(&self, rule: RuleId) -> Rules
+    pub fn predecessors(&self, rule: RuleId) -> RuleSet
         ensures { (pairs : List (ℕ × ℕ)) → HasPairs self.now pairs → (a : ℕ) → flag_at result a ≡ precedes pairs a rule }
     {
         // for the proof: the test of precedence is the closure of the pairs
@@ -102,10 +101,10 @@ impl Pairs {
     }
 
     /// Puts the rules of the set before the rule.
-    fn link_row(&mut self, row: Rules, second: RuleId)
+    fn link_row(&mut self, row: RuleSet, second: RuleId)
         ensures { (a b : ℕ) → relates self.new a b ≡ (relates self.old a b || (flag_at row a && (second == b))) }
     {
-        for number in 0..RULE_LIMIT {
+        for number in 0..row.capacity() {
             let first = RuleId::new(number as u8);
             self.link_if(first, second, row.contains(first));
         }
@@ -120,7 +119,7 @@ impl Pairs {
 }
 
 /// The pairs of the rows, linked afresh without those of the dropped rule.
-fn linked_without(rows: &[Rules], dropped: RuleId) -> Pairs
+fn linked_without(rows: &[RuleSet], dropped: RuleId) -> Pairs
     requires { length rows.now ≡ 64 }
     ensures { (a b : ℕ) → relates result a b ≡ (relates rows.now a b && (not (a == dropped) && not (b == dropped))) }
 {
@@ -133,7 +132,7 @@ fn linked_without(rows: &[Rules], dropped: RuleId) -> Pairs
 }
 
 /// Marks the first rule in the row of the second.
-fn mark(rows: &mut [Rules], first: RuleId, second: RuleId)
+fn mark(rows: &mut [RuleSet], first: RuleId, second: RuleId)
     requires { length rows.old ≡ 64 }
     ensures { (a b : ℕ) → relates rows.new a b ≡ (relates rows.old a b || ((first == a) && (second == b))) }
 {
@@ -142,11 +141,11 @@ fn mark(rows: &mut [Rules], first: RuleId, second: RuleId)
 }
 
 /// The row of the second rule without the dropped one, or none if it is the dropped one's.
-fn row_without(row: Rules, second: RuleId, dropped: RuleId) -> Rules
+fn row_without(row: RuleSet, second: RuleId, dropped: RuleId) -> RuleSet
     ensures { (a : ℕ) → flag_at result a ≡ (flag_at row a && (not (a == dropped) && not (second == dropped))) }
 {
     if second == dropped {
-        Rules::none()
+        RuleSet::empty()
     } else {
         row.without(dropped)
     }

@@ -13,7 +13,7 @@ use std::marker::Model;
 #[derive(Clone, Copy, Debug, PartialEq, Eq)]
 pub struct Cycle;
 
-/// Rules in order of creation, and which of them precede which.
+/// RuleSet in order of creation, and which of them precede which.
 #[derive(Drop)]
 pub struct Priorities {
     rules: RuleList,
@@ -108,7 +108,7 @@ impl Priorities {
     fn is_free(&self, rule: RuleId, set: RuleSet) -> bool
         ensures { (pairs : List (ℕ × ℕ)) → HasOrder self.now pairs → result ≡ is_free pairs (ranked set self.now.rules) rule }
     {
-        let others = self.rules.members().shared(set);
-        !self.pairs.predecessors(rule).meets(others)
+        let others = self.rules.members().intersection(set);
+        !self.pairs.predecessors(rule).intersects(others)
     }
 }

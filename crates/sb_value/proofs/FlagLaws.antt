@@ -1,9 +1,10 @@
 -- Operations on words are the operations on their flags.
-use Rattle.std.proofs.Common.{◌≡◌, ◌≢◌, ℕ, zero, suc, ◌+◌, ◌*◌, ◌/◌, ◌%◌, ◌^◌, ◌<◌, ◌≤◌, max, min, Bool, true, false, not, ◌&&◌, ◌||◌, nat_eq, bit_and, bit_or, List, [], ◌∷◌, replicate, slice_set, refl, sym, ap, ◌∙◌, arith, ne_eqb}
+use Rattle.std.proofs.Common.{◌≡◌, ◌≢◌, ℕ, zero, suc, ◌+◌, ◌*◌, ◌/◌, ◌%◌, ◌^◌, ◌<◌, ◌≤◌, max, min, Bool, true, false, not, ◌&&◌, ◌||◌, nat_eq, bit_and, bit_or, List, [], ◌∷◌, length, replicate, slice_set, refl, sym, ap, ◌∙◌, arith, ne_eqb, eqb-true}
 use Rattle.std.specs.List.{list_any}
 use Rattle.std.specs.Int.{bit_at, bit_not, w64}
 use Rattle.std.proofs.lemmas.Nat.Bits.{bit_at_or, bit_at_and, bit_at-lt, bit_at-zero, bit_at-pow_same, bit_at-pow_other, bit_at_clear_same, bit_at_clear_other, shr_and_one}
 use Rattle.std.proofs.lemmas.Nat.{one_shl}
+use Rattle.std.proofs.lemmas.Bool.{eqb-false}
 use Rattle.sb_value.specs.Flags.{flags_from, flags_of, word_of, no_flags, flag_at, has_none, union, intersection, share_place}
 use Rattle.sb_value.specs.FlagsInverse.{word_of-flags_of}
 
@@ -149,3 +150,85 @@ pub share_place-flags_of : (n a b : ℕ) → bit_and a b < 2 ^ n → not (nat_eq
 share_place-flags_of n a b h =
     ap not (has_none-flags_of n (bit_and a b) h) ∙ not-not (list_any (λ b. b) (flags_of n (bit_and a b)))
     ∙ ap (list_any (λ b. b)) (flags_of-and n a b) ∙ any-intersection (flags_of n a) (flags_of n b)
+
+-- ---- what is in a set after a change
+
+or-false : (b : Bool) → (b || false) ≡ b
+or-false true = refl
+or-false false = refl
+
+and-false : (b : Bool) → (b && false) ≡ false
+and-false true = refl
+and-false false = refl
+
+pub flag_at-none : (n k : ℕ) → flag_at (replicate n false) k ≡ false
+flag_at-none zero k = refl
+flag_at-none (suc n) zero = refl
+flag_at-none (suc n) (suc k) = flag_at-none n k
+
+pub flag_at-union : (xs ys : List Bool) (k : ℕ) → flag_at (union xs ys) k ≡ (flag_at xs k || flag_at ys k)
+flag_at-union [] ys k = refl
+flag_at-union (x ∷ xs) [] k = sym (or-false (flag_at (x ∷ xs) k))
+flag_at-union (x ∷ xs) (y ∷ ys) zero = refl
+flag_at-union (x ∷ xs) (y ∷ ys) (suc k) = flag_at-union xs ys k
+
+pub flag_at-intersection : (xs ys : List Bool) (k : ℕ) → flag_at (intersection xs ys) k ≡ (flag_at xs k && flag_at ys k)
+flag_at-intersection [] ys k = refl
+flag_at-intersection (x ∷ xs) [] k = sym (and-false (flag_at (x ∷ xs) k))
+flag_at-intersection (x ∷ xs) (y ∷ ys) zero = refl
+flag_at-intersection (x ∷ xs) (y ∷ ys) (suc k) = flag_at-intersection xs ys k
+
+length-flags_from : (n i word : ℕ) → length (flags_from n i word) ≡ n
+unfolding flags_from
+length-flags_from zero i word = refl
+length-flags_from (suc n) i word = ap suc (length-flags_from n (suc i) word)
+
+pub length-flags_of : (n word : ℕ) → length (flags_of n word) ≡ n
+unfolding flags_of
+length-flags_of n word = length-flags_from n 0 word
+
+or-true : (b : Bool) → (b || true) ≡ true
+or-true true = refl
+or-true false = refl
+
+and-true : (b : Bool) → (b && true) ≡ b
+and-true true = refl
+and-true false = refl
+
+flag_at-here : (flags : List Bool) (i : ℕ) (b : Bool) → i < length flags → flag_at (slice_set flags i b) i ≡ b
+flag_at-here [] i b h = absurd (omega arith)
+flag_at-here (x ∷ flags) zero b h = refl
+flag_at-here (x ∷ flags) (suc i) b h = flag_at-here flags i b (omega arith)
+
+flag_at-there : (flags : List Bool) (i k : ℕ) (b : Bool) → k ≢ i → flag_at (slice_set flags i b) k ≡ flag_at flags k
+flag_at-there [] i k b h = refl
+flag_at-there (x ∷ flags) zero zero b h = absurd (h refl)
+flag_at-there (x ∷ flags) zero (suc k) b h = refl
+flag_at-there (x ∷ flags) (suc i) zero b h = refl
+flag_at-there (x ∷ flags) (suc i) (suc k) b h = flag_at-there flags i k b (λ e. h (ap suc e))
+
+added_by : (flags : List Bool) (i k : ℕ) (same : Bool) → i < length flags → nat_eq k i ≡ same → flag_at (slice_set flags i true) k ≡ (flag_at flags k || same)
+added_by flags i k true h e = ap (flag_at (slice_set flags i true)) (eqb-true k i e) ∙ flag_at-here flags i true h ∙ sym (or-true (flag_at flags k))
+added_by flags i k false h e = flag_at-there flags i k true (eqb-false k i e) ∙ sym (or-false (flag_at flags k))
+
+taken_by : (flags : List Bool) (i k : ℕ) (same : Bool) → i < length flags → nat_eq k i ≡ same → flag_at (slice_set flags i false) k ≡ (flag_at flags k && not same)
+taken_by flags i k true h e = ap (flag_at (slice_set flags i false)) (eqb-true k i e) ∙ flag_at-here flags i false h ∙ sym (and-false (flag_at flags k))
+taken_by flags i k false h e = flag_at-there flags i k false (eqb-false k i e) ∙ sym (and-true (flag_at flags k))
+
+flag_at-added : (flags : List Bool) (i k : ℕ) → i < length flags → flag_at (slice_set flags i true) k ≡ (flag_at flags k || nat_eq k i)
+flag_at-added flags i k h = added_by flags i k (nat_eq k i) h refl
+
+flag_at-taken : (flags : List Bool) (i k : ℕ) → i < length flags → flag_at (slice_set flags i false) k ≡ (flag_at flags k && not (nat_eq k i))
+flag_at-taken flags i k h = taken_by flags i k (nat_eq k i) h refl
+
+-- one number more in the flags of a word
+pub flag_at-with : (n word i : ℕ) (flags new : List Bool) → flags_of n word ≡ flags → i < n → new ≡ slice_set flags i true → (k : ℕ) → flag_at new k ≡ (flag_at flags k || nat_eq k i)
+flag_at-with n word i flags new is h e k =
+    let long : i < length flags = omega (arith, h, length-flags_of n word, ap length is) in
+    ap (λ (s : List Bool). flag_at s k) e ∙ flag_at-added flags i k long
+
+-- one number less
+pub flag_at-without : (n word i : ℕ) (flags new : List Bool) → flags_of n word ≡ flags → i < n → new ≡ slice_set flags i false → (k : ℕ) → flag_at new k ≡ (flag_at flags k && not (nat_eq k i))
+flag_at-without n word i flags new is h e k =
+    let long : i < length flags = omega (arith, h, length-flags_of n word, ap length is) in
+    ap (λ (s : List Bool). flag_at s k) e ∙ flag_at-taken flags i k long

@@ -74,19 +74,24 @@ cut_end [] (suc at) vs is = refl
 cut_end (x ∷ ws) zero vs is = cc
 cut_end (x ∷ ws) (suc at) vs is = cut_end ws at vs is
 
--- a value more of so many in a row
-pub row_more : (w k : ℕ) (all row old new : List Value) (v : Value) → k < w → old ≡ v ∷ new
-    → take w all ≡ row ++ take (w - k) old → drop w all ≡ drop (w - k) old → w - k ≤ length old
-    → (take w all ≡ (row ++ v ∷ []) ++ take (w - (k + 1)) new) × (drop w all ≡ drop (w - (k + 1)) new) × (w - (k + 1) ≤ length new)
-row_more w k all row old new v lt is taken left enough =
+-- one value more of so many is taken
+pub taken_more : (w k : ℕ) (all old new : List Value) (v : Value) → k < w → old ≡ v ∷ new → drop w all ≡ drop (w - k) old → w - k ≤ length old
+    → (drop w all ≡ drop (w - (k + 1)) new) × (w - (k + 1) ≤ length new)
+taken_more w k all old new v lt is left enough =
     let more : w - k ≡ suc (w - (k + 1)) = omega (arith, lt) in
-    let first = taken ∙ ap (λ n. row ++ take n old) more ∙ ap (λ vs. row ++ take (suc (w - (k + 1))) vs) is ∙ sym (append_assoc row (v ∷ []) (take (w - (k + 1)) new)) in
-    let second = left ∙ ap (λ n. drop n old) more ∙ ap (λ vs. drop (suc (w - (k + 1))) vs) is in
-    (first, second, omega (arith, enough, more, ap length is))
+    (left ∙ ap (λ n. drop n old) more ∙ ap (λ vs. drop (suc (w - (k + 1))) vs) is, omega (arith, enough, more, ap length is))
+
+-- it is the next of the row
+pub row_more : (w k : ℕ) (all row old new : List Value) (v : Value) → k < w → old ≡ v ∷ new → take w all ≡ row ++ take (w - k) old
+    → take w all ≡ (row ++ v ∷ []) ++ take (w - (k + 1)) new
+row_more w k all row old new v lt is taken =
+    let more : w - k ≡ suc (w - (k + 1)) = omega (arith, lt) in
+    taken ∙ ap (λ n. row ++ take n old) more ∙ ap (λ vs. row ++ take (suc (w - (k + 1))) vs) is ∙ sym (append_assoc row (v ∷ []) (take (w - (k + 1)) new))
 
 -- what is left is enough for the others
-pub left_enough : (ws : List ℕ) (at w : ℕ) (old new : List Value) → slice_get ws at ≡ Some w → total (drop at ws) ≤ length old → length old ≤ length new + w
+pub left_enough : (ws : List ℕ) (at w : ℕ) (old new : List Value) → slice_get ws at ≡ Some w → total (drop at ws) ≤ length old → new ≡ drop w old
     → total (drop (at + 1) ws) ≤ length new
-left_enough ws at w old new is enough gone =
+left_enough ws at w old new is enough left =
     let next : suc at ≡ at + 1 = omega arith in
-    subst (λ n. total (drop n ws) ≤ length new) next (omega (arith, total_next ws at w is, enough, gone))
+    let long : length new ≡ length old - w = ap length left ∙ length-drop w old in
+    subst (λ n. total (drop n ws) ≤ length new) next (omega (arith, total_next ws at w is, enough, long))

@@ -1,5 +1,5 @@
 //! Sets of column places.
-ghost use Rattle.std.specs.Prelude.{◌≡◌, ◌<◌, slice_set, true};
+ghost use Rattle.std.specs.Prelude.{◌≡◌, ◌<◌, ◌==◌, ◌||◌, ℕ, slice_set, true, false};
 ghost use Rattle.sb_value.specs.Flags.{no_flags, flag_at, union, share_place};
 
 use std::marker::Model;
@@ -29,7 +29,8 @@ impl Model for Columns {
 impl Columns {
     /// No column.
     pub const fn empty() -> Columns
-        ensures { result ≡ no_flags 8 }
+        ensures value { result ≡ no_flags 8 }
+        ensures members { (k : ℕ) → flag_at result k ≡ false }
     {
         Columns { bits: 0 }
     }
@@ -45,7 +46,8 @@ impl Columns {
     /// The set with the place, too.
     pub fn with(self, place: u8) -> Columns
         requires { place < 8 }
-        ensures { result ≡ slice_set self place true }
+        ensures value { result ≡ slice_set self place true }
+        ensures members { (k : ℕ) → flag_at result k ≡ (flag_at self k || (k == place)) }
     {
         Columns {
             bits: self.bits | 1 << place,
@@ -54,7 +56,8 @@ impl Columns {
 
     /// The places that either set has.
     pub fn union(self, other: Columns) -> Columns
-        ensures { result ≡ union self other }
+        ensures value { result ≡ union self other }
+        ensures members { (k : ℕ) → flag_at result k ≡ (flag_at self k || flag_at other k) }
     {
         Columns {
             bits: self.bits | other.bits,

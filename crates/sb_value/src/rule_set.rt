@@ -1,8 +1,8 @@
 //! Sets of rules.
-ghost use Rattle.std.specs.Prelude.{◌≡◌, ◌<◌, slice_set, length, true, false};
-ghost use Rattle.sb_value.specs.Flags.{no_flags, flag_at, union, intersection, has_none};
+ghost use Rattle.std.specs.Prelude.{◌≡◌, ◌<◌, ◌==◌, ◌&&◌, ◌||◌, ℕ, not, slice_set, length, true, false};
+ghost use Rattle.sb_value.specs.Flags.{no_flags, flag_at, union, intersection, has_none, share_place};
 
-use crate::id::RuleId;
+use crate::id::{RULE_LIMIT, RuleId};
 use std::marker::Model;
 
 /// A set of rules of one tenant: the bits of a word, seen as a flag for each id.
@@ -30,9 +30,19 @@ impl Model for RuleSet {
 impl RuleSet {
     /// No rule.
     pub const fn empty() -> RuleSet
-        ensures { result ≡ no_flags 64 }
+        ensures value { result ≡ no_flags 64 }
+        ensures members { (k : ℕ) → flag_at result k ≡ false }
     {
         RuleSet { bits: 0 }
+    }
+
+    /// How many rules a set may have.
+    pub fn capacity(self) -> usize
+        ensures value { result ≡ 64 }
+        ensures flags { length self ≡ result }
+    {
+        let _ = &self.bits;
+        RULE_LIMIT
     }
 
     /// Whether the rule is in the set.
@@ -44,7 +54,8 @@ impl RuleSet {
 
     /// The set with the rule, too.
     pub fn with(self, rule: RuleId) -> RuleSet
-        ensures { result ≡ slice_set self rule true }
+        ensures value { result ≡ slice_set self rule true }
+        ensures members { (k : ℕ) → flag_at result k ≡ (flag_at self k || (k == rule)) }
     {
         RuleSet {
             bits: self.bits | 1 << rule.number(),
@@ -53,7 +64,8 @@ impl RuleSet {
 
     /// The set without the rule.
     pub fn without(self, rule: RuleId) -> RuleSet
-        ensures { result ≡ slice_set self rule false }
+        ensures value { result ≡ slice_set self rule false }
+        ensures members { (k : ℕ) → flag_at result k ≡ (flag_at self k && not (k == rule)) }
     {
         RuleSet {
             bits: self.bits & !(1 << rule.number()),
@@ -62,7 +74,8 @@ impl RuleSet {
 
     /// The rules that either set has.
     pub fn union(self, other: RuleSet) -> RuleSet
-        ensures { result ≡ union self other }
+        ensures value { result ≡ union self other }
+        ensures members { (k : ℕ) → flag_at result k ≡ (flag_at self k || flag_at other k) }
     {
         RuleSet {
             bits: self.bits | other.bits,
@@ -71,11 +84,19 @@ impl RuleSet {
 
     /// The rules that both sets have.
     pub fn intersection(self, other: RuleSet) -> RuleSet
-        ensures { result ≡ intersection self other }
+        ensures value { result ≡ intersection self other }
+        ensures members { (k : ℕ) → flag_at result k ≡ (flag_at self k && flag_at other k) }
     {
         RuleSet {
             bits: self.bits & other.bits,
         }
+    }
+
+    /// Whether some rule is in both sets.
+    pub fn intersects(self, other: RuleSet) -> bool
+        ensures { result ≡ share_place self other }
+    {
+        self.bits & other.bits != 0
     }
 
     /// Whether no rule is in the set.

@@ -98,6 +98,7 @@ impl<'a> TupleIter<'a> {
     pub fn next(&mut self) -> Option<&'a [Value]>
         ensures taken { IfSome result (λ tuple. self.old ≡ tuple.now ∷ self.new) }
         ensures end { result ≡ None → self.old ≡ [] }
+        ensures rest { self.new ≡ drop 1 self.old }
     {
         let (width, widths) = self.widths.split_first()?;
         let (tuple, values) = self.values.split_at(*width);
@@ -134,6 +135,7 @@ impl TupleRows {
     pub fn next(&mut self, alloc: Global) -> Result<Option<Row>, AllocError>
         ensures taken { IfOk result (λ one. IfSome one (λ row. self.old ≡ row ∷ self.new)) }
         ensures end { IfOk result (λ one. one ≡ None → self.old ≡ []) }
+        ensures rest { self.new ≡ drop 1 self.old }
     {
         let Some(width) = width_at(self.widths.as_slice(), self.at) else {
             return Ok(None);
@@ -152,21 +154,35 @@ fn width_at(widths: &[usize], at: usize) -> Option<usize>
     }
 }
 
-/// A row of so many values.
+/// A row of so many values. They are taken even where memory runs out.
 fn row_of(alloc: Global, values: &mut IntoIter<Value>, width: usize) -> Result<Row, AllocError>
     requires { width ≤ length (into_iter_items values.old) }
     ensures row { IfOk result (λ row. row ≡ take width (into_iter_items values.old)) }
-    ensures left { IfOk result (λ _. into_iter_items values.new ≡ drop width (into_iter_items values.old)) }
-    ensures enough { length (into_iter_items values.old) ≤ length (into_iter_items values.new) + width }
+    ensures left { into_iter_items values.new ≡ drop width (into_iter_items values.old) }
 {
     let mut row = Row::new(alloc);
-    for _ in 0..width {
+    for at in 0..width {
         let Some(value) = values.next() else {
             unreachable!();
         };
-        row.push(value)?;
+        if let Err(error) = row.push(value) {
+            skip(values, width - at - 1);
+            return Err(error);
+        }
     }
     Ok(row)
+}
+
+/// Lets go of so many values.
+fn skip(values: &mut IntoIter<Value>, count: usize)
+    requires { count ≤ length (into_iter_items values.old) }
+    ensures { into_iter_items values.new ≡ drop count (into_iter_items values.old) }
+{
+    for _ in 0..count {
+        let Some(_) = values.next() else {
+            unreachable!();
+        };
+    }
 }
 
 /// Tuples, and the values so far of one more.

@@ -103,6 +103,11 @@ impl Value {
 
 /// Zero. An unused place of a row holds it.
 impl Default for Value {
+    ghost use Rattle.std.specs.Prelude.{◌≡◌, pos};
+    ghost use Rattle.sb_value.specs.declared.value.Value.TheVariants.{Int};
+
+    ghost is_default = { λ v. v ≡ Int (pos 0) };
+
     fn default() -> Value {
         Value::Int(0)
     }

@@ -9,7 +9,7 @@ pub loop-rule-preserved : goal.loop-rule-preserved
 loop-rule-preserved c =
     let rule : c.rule-item.result ≡ get_or c.args.rules.now c.loop-rule.rule-index 0 =
     c.rule-item.is ∙ get_or_default c.args.rules.now c.loop-rule.rule-index c.rule-item.result 0 c.loop-rule-test.true in
-    ap (λ flags. with_rules flags (drop (c.loop-rule.rule-index + 1) c.args.rules.now)) (c.with-all.ensures ∙ ap (λ (r : ℕ). set c.loop-rule.all r true) rule)
+    ap (λ flags. with_rules flags (drop (c.loop-rule.rule-index + 1) c.args.rules.now)) (c.with-all.ensures.value ∙ ap (λ (r : ℕ). set c.loop-rule.all r true) rule)
     ∙ marked-more (λ b x. b || x) true (λ b. refl) or-true c.loop-rule.all c.args.rules.now c.loop-rule.rule-index c.loop-rule-test.true
     ∙ c.loop-rule.invariant
 

@@ -9,7 +9,7 @@ pub loop-rule-preserved : goal.loop-rule-preserved
 loop-rule-preserved c =
     let rule : c.rule-item.result ≡ get_or c.args.rules.now c.loop-rule.rule-index 0 =
     c.rule-item.is ∙ get_or_default c.args.rules.now c.loop-rule.rule-index c.rule-item.result 0 c.loop-rule-test.true in
-    ap (λ flags. without_rules flags (drop (c.loop-rule.rule-index + 1) c.args.rules.now)) (c.without-others.ensures ∙ ap (λ (r : ℕ). set c.loop-rule.others r false) rule)
+    ap (λ flags. without_rules flags (drop (c.loop-rule.rule-index + 1) c.args.rules.now)) (c.without-others.ensures.value ∙ ap (λ (r : ℕ). set c.loop-rule.others r false) rule)
     ∙ marked-more (λ b x. b && not x) false (λ b. refl) and-not-true c.loop-rule.others c.args.rules.now c.loop-rule.rule-index c.loop-rule-test.true
     ∙ c.loop-rule.invariant
 

@@ -1,11 +1,12 @@
-use Rattle.std.proofs.Common.{◌≡◌, ap, arith, length}
-use Rattle.std.specs.Prelude.{option_to_list}
 use Rattle.std.specs.Vec.Iter.{into_iter_items}
-use Rattle.sb_value.proofs.TupleLaws.{row_more}
+use Rattle.sb_value.proofs.TupleLaws.{row_more, taken_more}
 use Rattle.sb_value.proofs.tuples.row_of.Goals as goal
 
-pub loop-preserved : goal.loop-preserved
-loop-preserved c =
-    let told = c.in-Some.ensures.items in
-    let p = row_more c.args.width c.loop.counter (into_iter_items c.args.values.now) c.loop.row (into_iter_items c.loop.values) (into_iter_items c.next.new.self) c.in-Some.value c.loop-test.true told c.loop.invariant.taken c.loop.invariant.left c.loop.invariant.enough in
-    rw (c.in_ok-push.ensures.ok) (record { taken = p.0; left = p.1; enough = p.2; all = omega (arith, c.loop.invariant.all, ap length told) })
+pub loop-at-preserved : goal.loop-at-preserved
+loop-at-preserved c =
+    let all = into_iter_items c.args.values.now in
+    let old = into_iter_items c.loop-at.values in
+    let new = into_iter_items c.next.new.self in
+    let p = taken_more c.args.width c.loop-at.at all old new c.in-Some.value c.loop-at-test.true c.in-Some.ensures.items c.loop-at.invariant.left c.loop-at.invariant.enough in
+    let taken = row_more c.args.width c.loop-at.at all c.loop-at.row old new c.in-Some.value c.loop-at-test.true c.in-Some.ensures.items c.loop-at.invariant.taken in
+    record { taken = rw (c.in_default-push.ensures.ok) taken; left = p.0; enough = p.1 }

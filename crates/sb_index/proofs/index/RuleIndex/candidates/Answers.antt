@@ -4,7 +4,6 @@ use Rattle.sb_value.specs.Flags.{flag_at}
 use Rattle.sb_value.specs.Laws.{kind_triggers}
 use Rattle.sb_index.specs.TableSets.{TableSets}
 use Rattle.sb_index.specs.Stands.{triggers_in, no_table}
-use Rattle.sb_index.proofs.Flags.{flag_at-none}
 use Rattle.sb_index.proofs.Columns.{none_triggered}
 use Rattle.sb_index.proofs.index.RuleIndex.candidates.Goals as goal
 
@@ -14,5 +13,5 @@ returns-in-None c r =
     let past : get_or c.args.self.now c.args.change.now.tenant [] ≡ [] =
     (λ i. get_or (sym (c.deref.ensures.value ∙ c.self.view_is) i) (sym c.index.ensures.value i) [])
     ∙ get_or_past c.deref.result.now c.index.result [] c.in-None.ensures.lookup.3 in
-    ap (λ (flags : List Bool). flag_at flags r) c.empty.ensures ∙ flag_at-none 64 r
+    c.empty.ensures.members r
     ∙ sym (ap (λ (ts : List TableSets). kind_triggers c.args.change.now.kind (triggers_in (get_or ts c.args.change.now.table no_table) r) c.args.change.now) past ∙ none_triggered c.args.change.now.kind c.args.change.now r)

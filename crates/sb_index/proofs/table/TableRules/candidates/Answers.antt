@@ -10,7 +10,7 @@ use Rattle.sb_index.proofs.table.TableRules.candidates.Goals as goal
 -- the rules for any column, and those of the change's columns
 pub returns-in-Updated : goal.returns-in-Updated
 returns-in-Updated c r =
-    c.union.ensures r
+    c.union.ensures.members r
     ∙ ap (λ b. flag_at c.self.inside.updated r || b) (c.named.ensures r)
     ∙ ap (λ (t : TableSets). has_update (triggers_in t r) c.args.change.now.columns) c.self.view_is
     ∙ ap (λ (k : Kind). kind_triggers k (triggers_in c.args.self.now r) c.args.change.now) (sym c.in-Updated.is)

@@ -2,4 +2,4 @@ use Rattle.sb_priority.proofs.Flags.{none_related}
 use Rattle.sb_priority.proofs.closure.Closure.new.Goals as goal
 
 pub returns : goal.returns
-returns c a b = none_related 64 c.none.result a b (c.none.ensures a)
+returns c a b = none_related 64 c.empty.result a b (c.empty.ensures.members a)

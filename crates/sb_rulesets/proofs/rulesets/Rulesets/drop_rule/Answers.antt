@@ -12,7 +12,7 @@ pub loop-set-preserved : goal.loop-set-preserved
 loop-set-preserved c =
     let old : Ruleset = get_or c.loop-set.set-items c.loop-set.set-index c.set-item.result in
     let put = λ (s : Ruleset). set c.loop-set.set-items c.loop-set.set-index s in
-    ap put (λ i. record old { rules = c.without-set.ensures i })
+    ap put (λ i. record old { rules = c.without-set.ensures.value i })
     ∙ ap (λ (s : Ruleset). put (lacking c.args.rule s)) (sym c.set-item.is)
     ∙ map_over_more (lacking c.args.rule) c.deref_mut-set-items.result.now c.loop-set.set-items c.loop-set.set-index c.set-item.result c.loop-set-test.true c.loop-set.invariant c.set-item.is
 

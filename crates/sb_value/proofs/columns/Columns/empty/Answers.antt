@@ -1,5 +1,10 @@
-use Rattle.sb_value.proofs.FlagLaws.{flags_of-zero}
+use Rattle.std.proofs.Common.{◌∙◌, ap, List, Bool}
+use Rattle.sb_value.specs.Flags.{flag_at}
+use Rattle.sb_value.proofs.FlagLaws.{flags_of-zero, flag_at-none}
 use Rattle.sb_value.proofs.columns.Columns.empty.Goals as goal
 
 pub returns : goal.returns
-returns c = flags_of-zero 8
+returns c = record {
+  value = flags_of-zero 8;
+  members = λ k. ap (λ (s : List Bool). flag_at s k) (flags_of-zero 8) ∙ flag_at-none 8 k;
+}
