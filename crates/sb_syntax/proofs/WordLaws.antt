@@ -6,7 +6,7 @@ use Rattle.std.specs.List.{take-map}
 use Rattle.sb_syntax.specs.declared.kind.Kind.{Kind}
 use Rattle.sb_syntax.specs.declared.kind.Kind.TheVariants as k
 use Rattle.sb_syntax.specs.declared.kind.TheConstants.{WORDS, STARTS}
-use Rattle.sb_syntax.specs.Lex.{lookup, word_kind}
+use Rattle.sb_syntax.specs.Lex.{lookup, reserved_words, word_kind}
 use Rattle.sb_syntax.proofs.Bytes.{same_bytes, two_true}
 
 abbrev Words : Type 0
@@ -51,10 +51,10 @@ too_long (w ∷ ws) word e lt =
 
 pub longer_word : (word : List ℕ) → 10 < length word → k.Name ≡ word_kind word
 unfolding word_kind
-longer_word word lt = sym (too_long (map (λ w. (w.0.now, w.1)) WORDS) word refl lt)
+longer_word word lt = sym (too_long reserved_words word refl lt)
 
 -- those of one length stand together
-group : (n : ℕ) → n ≤ 10 → take (get_or STARTS (n + 1) 0 - get_or STARTS n 0) (drop (get_or STARTS n 0) (map (λ w. (w.0.now, w.1)) WORDS)) ≡ same_length n (map (λ w. (w.0.now, w.1)) WORDS)
+group : (n : ℕ) → n ≤ 10 → take (get_or STARTS (n + 1) 0 - get_or STARTS n 0) (drop (get_or STARTS n 0) reserved_words) ≡ same_length n reserved_words
 group zero le = refl
 group (suc zero) le = refl
 group (suc (suc zero)) le = refl
@@ -73,6 +73,10 @@ map-drop f zero xs = refl
 map-drop f (suc n) [] = refl
 map-drop f (suc n) (x ∷ xs) = map-drop f n xs
 
+-- the table has the reserved words
+table_is : map (λ w. (w.0.now, w.1)) WORDS ≡ reserved_words
+table_is = refl
+
 -- the table as the code has it is seen as the words
 pub grouped_word : {A : Type 0} (f : A → List ℕ × Kind) (table : List A) (word : List ℕ) (found : Kind)
     → found ≡ lookup (map f (take (get_or STARTS (length word + 1) 0 - get_or STARTS (length word) 0) (drop (get_or STARTS (length word) 0) table))) word
@@ -81,4 +85,4 @@ unfolding word_kind
 grouped_word f table word found is same le =
     let n = get_or STARTS (length word + 1) 0 - get_or STARTS (length word) 0 in
     let a = get_or STARTS (length word) 0 in
-    is ∙ ap (λ ws. lookup ws word) (sym (take-map f n (drop a table)) ∙ ap (take n) (map-drop f a table) ∙ ap (λ ws. take n (drop a ws)) same ∙ group (length word) le) ∙ by_length (map (λ w. (w.0.now, w.1)) WORDS) word
+    is ∙ ap (λ ws. lookup ws word) (sym (take-map f n (drop a table)) ∙ ap (take n) (map-drop f a table) ∙ ap (λ ws. take n (drop a ws)) (same ∙ table_is) ∙ group (length word) le) ∙ by_length reserved_words word

@@ -1,11 +1,10 @@
 -- The tokens of a text: the bytes of each kind, and when a text is made of tokens and spaces.
-use Rattle.std.specs.Prelude.{◌≡◌, ◌≤◌, ℕ, ◌+◌, Bool, true, false, ◌&&◌, ◌||◌, ◌==◌, nat_le, if◌then◌else◌, List, [], ◌∷◌, ◌++◌, length, take, drop, map, codes, Option, Some, None, is_some}
+use Rattle.std.specs.Prelude.{◌≡◌, ◌≤◌, ℕ, ◌+◌, Bool, true, false, ◌&&◌, ◌||◌, ◌==◌, nat_le, if◌then◌else◌, List, [], ◌∷◌, ◌++◌, length, take, drop, codes, Option, Some, None, is_some}
 use Rattle.std.specs.Str.{bytes_eq}
 use Rattle.sb_value.specs.Printable.{is_printable}
 use Rattle.sb_syntax.specs.declared.cursor.Token.{Token}
 use Rattle.sb_syntax.specs.declared.kind.Kind.{Kind}
 use Rattle.sb_syntax.specs.declared.kind.Kind.TheVariants as k
-use Rattle.sb_syntax.specs.declared.kind.TheConstants.{WORDS}
 
 -- ---- bytes
 
@@ -33,9 +32,29 @@ abbrev pub lookup : List (List ℕ × Kind) → List ℕ → Kind
 lookup [] word = k.Name
 lookup (w ∷ ws) word = if bytes_eq w.0 word then w.1 else lookup ws word
 
+-- the reserved words, but for the two with a dash, and the kind of each
+abbrev pub reserved_words : List (List ℕ × Kind)
+reserved_words =
+    (codes "on", k.On) ∷ (codes "if", k.If) ∷ (codes "or", k.Or) ∷ (codes "in", k.In) ∷
+    (codes "end", k.End) ∷ (codes "set", k.Set) ∷ (codes "and", k.And) ∷ (codes "not", k.Not) ∷
+    (codes "sum", k.Sum) ∷ (codes "int", k.IntType) ∷ (codes "open", k.Open) ∷
+    (codes "rule", k.Rule) ∷ (codes "drop", k.Drop) ∷ (codes "when", k.When) ∷
+    (codes "then", k.Then) ∷ (codes "into", k.Into) ∷ (codes "from", k.From) ∷
+    (codes "text", k.TextType) ∷ (codes "begin", k.Begin) ∷ (codes "rules", k.Rules) ∷
+    (codes "alter", k.Alter) ∷ (codes "table", k.Table) ∷ (codes "where", k.Where) ∷
+    (codes "count", k.Count) ∷ (codes "commit", k.Commit) ∷ (codes "create", k.Create) ∷
+    (codes "insert", k.Insert) ∷ (codes "values", k.Values) ∷ (codes "delete", k.Delete) ∷
+    (codes "update", k.Update) ∷ (codes "select", k.Select) ∷ (codes "exists", k.Exists) ∷
+    (codes "process", k.Process) ∷ (codes "ruleset", k.Ruleset) ∷ (codes "follows", k.Follows) ∷
+    (codes "deleted", k.Deleted) ∷ (codes "updated", k.Updated) ∷ (codes "rollback", k.Rollback) ∷
+    (codes "precedes", k.Precedes) ∷ (codes "activate", k.Activate) ∷
+    (codes "addrules", k.AddRules) ∷ (codes "delrules", k.DelRules) ∷
+    (codes "inserted", k.Inserted) ∷ (codes "nopriority", k.NoPriority) ∷
+    (codes "deactivate", k.Deactivate) ∷ []
+
 -- a reserved word's kind, or that of a name
 unfoldable pub word_kind : List ℕ → Kind
-word_kind = lookup (map (λ w. (w.0.now, w.1)) WORDS)
+word_kind = lookup reserved_words
 
 -- the transition word with which the text begins
 unfoldable pub transition : List ℕ → Option Kind
