@@ -1,73 +1,90 @@
-//! The rows of two tables, lent to a statement.
+//! Two tables of numbers, lent to a statement.
 
 use sb_check::Source;
-use sb_eval::{LentRow, Sources};
-use sb_value::{Row, SessionId, TableId, TenantId, Value, Who};
+use sb_eval::{SourceRows, Sources};
+use sb_tables::{Rows, Table};
+use sb_value::{ColumnDefinition, ColumnType, Name, Row, SessionId, TableId, TenantId, Value, Who};
 use std::alloc::{AllocError, Global};
 
-/// Rows of one number each, from zero on.
-pub fn numbers(alloc: Global, count: u16) -> Result<Vec<Row>, AllocError> {
-    let mut rows = Vec::new(alloc);
+/// A table with a column of numbers, from zero on.
+fn numbers(alloc: Global, count: u16) -> Result<Table, AllocError> {
+    let mut columns = Vec::new(alloc);
+    columns.push(ColumnDefinition {
+        name: Name::new(b"a"),
+        of: ColumnType::Int,
+    })?;
+    let mut table = Table::new(alloc, columns);
     for number in 0..count {
-        let mut row = Row::new(alloc);
-        row.push(Value::Int(number as i64))?;
-        rows.push(row)?;
+        add(alloc, &mut table, number)?;
     }
-    Ok(rows)
+    Ok(table)
 }
 
-/// The rows as they are lent.
-fn lend<'r>(alloc: Global, rows: &'r [Row]) -> Result<Vec<LentRow<'r>>, AllocError> {
-    let mut lent = Vec::new(alloc);
-    for row in rows {
-        lent.push(LentRow {
-            values: row.values(),
-        })?;
+/// Adds a row of one number, where the table has a place for it.
+fn add(alloc: Global, table: &mut Table, number: u16) -> Result<(), AllocError> {
+    let mut row = Row::new(alloc);
+    row.push(Value::Int(number as i64))?;
+    table.reserve(1)?;
+    if table.spare() > 0 && table.next() < u64::MAX {
+        let _full = table.insert(row);
     }
-    Ok(lent)
+    Ok(())
 }
 
-/// The rows of `inserted` and of `deleted`.
+/// The tables 0 and 1.
 #[derive(Drop)]
-pub struct Lent<'r> {
-    inserted: Vec<LentRow<'r>>,
-    deleted: Vec<LentRow<'r>>,
+pub struct Pair {
+    left: Table,
+    right: Table,
 }
 
-impl<'r> Lent<'r> {
-    /// These rows.
-    pub fn new(
-        alloc: Global,
-        inserted: &'r [Row],
-        deleted: &'r [Row],
-    ) -> Result<Lent<'r>, AllocError> {
-        Ok(Lent {
-            inserted: lend(alloc, inserted)?,
-            deleted: lend(alloc, deleted)?,
+impl Pair {
+    /// Both with so many rows.
+    pub fn new(alloc: Global, count: u16) -> Result<Pair, AllocError> {
+        Ok(Pair {
+            left: numbers(alloc, count)?,
+            right: numbers(alloc, count)?,
         })
     }
 }
 
-impl<'r> Sources for Lent<'r> {
+impl Sources for Pair {
     ghost use Rattle.sb_bench.specs.Rows.{seen};
 
     ghost seen = { seen };
 
-    fn rows(&self, source: Source) -> &[LentRow<'_>] {
-        let list = match source {
-            Source::Inserted => &self.inserted,
-            Source::Deleted => &self.deleted,
-            Source::Table(_) | Source::OldUpdated | Source::NewUpdated => return &[],
-        };
-        list.as_slice()
+    fn rows(&self, source: Source) -> SourceRows<'_> {
+        match source {
+            Source::Table(table) => SourceRows::of_table(self.numbered_rows(table)),
+            _ => SourceRows::of_list(&[]),
+        }
     }
 
-    fn numbers(&self, _table: TableId) -> &[u64] {
-        &[]
+    fn row_count(&self, source: Source) -> usize {
+        match source {
+            Source::Table(table) => match table.index() {
+                0 => self.left.len(),
+                1 => self.right.len(),
+                _ => 0,
+            },
+            _ => 0,
+        }
     }
 
-    fn next_number(&self, _table: TableId) -> u64 {
-        1
+    fn numbered_rows(&self, table: TableId) -> Rows<'_> {
+        match table.index() {
+            0 => self.left.rows(),
+            1 => self.right.rows(),
+            _ => Rows::none(),
+        }
+    }
+
+    fn next_number(&self, table: TableId) -> u64 {
+        match table.index() {
+            0 => self.left.next(),
+            1 => self.right.next(),
+            _ => 1,
+        }
     }
 
     fn who(&self) -> Who {

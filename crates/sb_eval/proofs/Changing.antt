@@ -47,30 +47,14 @@ row-first change done r (Some true) (Some ys) = one-first done (change r) (each 
 row-first change done r (Some false) None = refl
 row-first change done r (Some false) (Some ys) = refl
 
--- a numbered row stands where its number and its values stand
-pub numbered-at : (rows : List Numbered) (i n m : ℕ) (row other : List Value) → i < length rows → n ≡ get_or (map (λ r. r.0) rows) i m → row ≡ get_or (map (λ r. r.1) rows) i other
-    → drop i rows ≡ (n, row) ∷ drop (i + 1) rows
-numbered-at rows i n m row other lt is_n is_row =
-    let d : Numbered = (n, row) in
-    let e0 : (get_or rows i d).0 ≡ n = sym (is_n ∙ get_or-map (λ r. r.0) rows i d m lt) in
-    let e1 : (get_or rows i d).1 ≡ row = sym (is_row ∙ get_or-map (λ r. r.1) rows i d other lt) in
-    let e : get_or rows i d ≡ d = λ j. (e0 j, e1 j) in
-    drop_more rows i d lt ∙ ap (λ x. x ∷ drop (i + 1) rows) e
-
--- a place among the values is one among the rows
-pub place-in : (rows : List Numbered) (values : List (List Value)) (i : ℕ) → i < length values → values ≡ map (λ r. r.1) rows → i < length rows
-place-in rows values i lt is =
-    let e : length values ≡ length rows = ap length is ∙ length-map rows (λ (r : Numbered). r.1) in
-    omega arith
-
--- the row at this place, and then those after it
-pub row-step : (test : Numbered → Option Bool) (change : Numbered → Option Change) (whole : Option (List Change)) (done : List Change) (rows : List Numbered) (i n m : ℕ) (row other : List Value)
-    → i < length rows → n ≡ get_or (map (λ r. r.0) rows) i m → row ≡ get_or (map (λ r. r.1) rows) i other
-    → whole ≡ all_after done (changes_from test change (drop i rows))
-    → whole ≡ option_and_then (λ next. all_after next (changes_from test change (drop (i + 1) rows))) (option_and_then (with_change done (change (n, row))) (test (n, row)))
-row-step test change whole done rows i n m row other lt is_n is_row inv =
-    inv ∙ ap (λ l. all_after done (changes_from test change l)) (numbered-at rows i n m row other lt is_n is_row)
-    ∙ row-first change done (n, row) (test (n, row)) (passing test (drop (i + 1) rows))
+-- the first of the rows that are left, and then the others
+pub row-step : (test : Numbered → Option Bool) (change : Numbered → Option Change) (whole : Option (List Change)) (done : List Change) (left others : List Numbered) (n : ℕ) (row values : List Value)
+    → left ≡ (n, row) ∷ others → values ≡ row
+    → whole ≡ all_after done (changes_from test change left)
+    → whole ≡ option_and_then (λ next. all_after next (changes_from test change others)) (option_and_then (with_change done (change (n, values))) (test (n, values)))
+row-step test change whole done left others n row values split same inv =
+    inv ∙ ap (λ l. all_after done (changes_from test change l)) (split ∙ ap (λ r. (n, r) ∷ others) (sym same))
+    ∙ row-first change done (n, values) (test (n, values)) (passing test others)
 
 -- where nothing can fail, each is a map
 pub each-some : {A B : Type 0} (f : A → B) (xs : List A) → each (λ x. Some (f x)) xs ≡ Some (map f xs)
@@ -85,19 +69,14 @@ seen-set new old i v whole is view = ap (map value_seen) is ∙ map-set value_se
 pub then-ok : {A B : Type 0} (whole : Option B) (meant : Option A) (next : A → Option B) (a : A) → whole ≡ option_and_then next meant → meant ≡ Some a → whole ≡ next a
 then-ok whole meant next a step h = step ∙ ap (option_and_then next) h
 
--- as many numbers as rows
-pub same-length : (rows : List Numbered) (numbers : List ℕ) (values : List (List Value)) → numbers ≡ map (λ r. r.0) rows → values ≡ map (λ r. r.1) rows → length numbers ≡ length values
-same-length rows numbers values is_n is_v =
-    ap length is_n ∙ length-map rows (λ (r : Numbered). r.0) ∙ sym (ap length is_v ∙ length-map rows (λ (r : Numbered). r.1))
-
 -- nothing before the others
 pub after-none : (more : Option (List Change)) → all_after [] more ≡ more
 after-none None = refl
 after-none (Some rest) = refl
 
 -- no row is left
-pub all-done : (test : Numbered → Option Bool) (change : Numbered → Option Change) (done : List Change) (rows : List Numbered) (i : ℕ) → length rows ≤ i → all_after done (changes_from test change (drop i rows)) ≡ Some done
-all-done test change done rows i h = ap (λ l. all_after done (changes_from test change l)) (drop_all i rows h) ∙ ap (λ l. Some l) (append-nil done)
+pub all-done : (test : Numbered → Option Bool) (change : Numbered → Option Change) (done : List Change) (left : List Numbered) → left ≡ [] → all_after done (changes_from test change left) ≡ Some done
+all-done test change done left none = ap (λ l. all_after done (changes_from test change l)) none ∙ ap (λ l. Some l) (append-nil done)
 
 -- where each change is there, it is that of each row that is found
 pub each-found : (f : Numbered → Change) (found : Option (List Numbered)) → option_and_then (each (λ r. Some (f r))) found ≡ option_map (map f) found

@@ -1,4 +1,5 @@
 //! The rows of a table, one after another.
+ghost use Rattle.std.specs.Prelude.{◌≡◌, []};
 ghost use Rattle.std.specs.Iterator.{YieldsFirstBy, item_count};
 
 use crate::slot::Slot;
@@ -20,6 +21,15 @@ impl<'a> Model for Rows<'a> {
     ghost use Rattle.sb_tables.specs.Slots.{live_rows};
 
     ghost view = { λ r. live_rows r.slots.now };
+}
+
+impl<'a> Rows<'a> {
+    /// No rows.
+    pub fn none() -> Rows<'a>
+        ensures { result ≡ [] }
+    {
+        Rows { slots: &[] }
+    }
 }
 
 impl<'a> Iterator for Rows<'a> {
