@@ -28,6 +28,11 @@ Gives view walk (Ok x) = walk ≡ Ok (view x)
 Gives view walk (Err (Refused e)) = walk ≡ Err (refusal_of e)
 Gives view walk (Err NoMemory) = Unit {0}
 
+-- the answer of a part that asks for no memory is the walk's
+abbrev pub Walks : {A : Type 0} → Result A Refusal → Result A Reason → Type 0
+Walks walk (Ok a) = walk ≡ Ok a
+Walks walk (Err e) = walk ≡ Err (refusal_of e)
+
 -- a call's answer, seen by a view, is the walk's, or that memory ran out
 abbrev pub Answers : {X A : Type 0} → (X → A) → Result A Refusal → Result X Refusal → Type 0
 Answers view walk (Ok x) = walk ≡ Ok (view x)

@@ -44,6 +44,26 @@ impl<T: Drop> From<AllocFailed<T>> for Fault {
     }
 }
 
+impl Reason {
+    ghost use Rattle.std.specs.Prelude.{◌≡◌};
+    ghost use Rattle.sb_check.specs.Answer.{refusal_of};
+
+    /// What the command is answered.
+    pub(crate) fn refusal(self) -> Refusal
+        ensures { result ≡ refusal_of self }
+    {
+        match self {
+            Reason::NoTable => Refusal::NoTable,
+            Reason::TableExists => Refusal::TableExists,
+            Reason::NoColumn => Refusal::NoColumn,
+            Reason::BadType => Refusal::BadType,
+            Reason::Ambiguous => Refusal::Ambiguous,
+            Reason::WrongCount => Refusal::WrongCount,
+            Reason::BadTransition => Refusal::BadTransition,
+        }
+    }
+}
+
 impl Fault {
     ghost use Rattle.std.specs.Prelude.{◌≡◌};
     ghost use Rattle.sb_check.specs.Answer.{refused};
@@ -53,13 +73,7 @@ impl Fault {
         ensures { result ≡ refused self }
     {
         match self {
-            Fault::Refused(Reason::NoTable) => Refusal::NoTable,
-            Fault::Refused(Reason::TableExists) => Refusal::TableExists,
-            Fault::Refused(Reason::NoColumn) => Refusal::NoColumn,
-            Fault::Refused(Reason::BadType) => Refusal::BadType,
-            Fault::Refused(Reason::Ambiguous) => Refusal::Ambiguous,
-            Fault::Refused(Reason::WrongCount) => Refusal::WrongCount,
-            Fault::Refused(Reason::BadTransition) => Refusal::BadTransition,
+            Fault::Refused(reason) => reason.refusal(),
             Fault::NoMemory => Refusal::NoMemory,
         }
     }

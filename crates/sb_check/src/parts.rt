@@ -1,5 +1,5 @@
 //! Queries, statements and actions with their names resolved, or the first refusal.
-ghost use Rattle.std.specs.Prelude.{[], Ok, map};
+ghost use Rattle.std.specs.Prelude.{◌≡◌, [], Ok, map};
 ghost use Rattle.sb_check.specs.Answer.{Answers};
 ghost use Rattle.sb_check.specs.Names.{and_then, in_order};
 ghost use Rattle.sb_check.specs.RuleParts.{walk_parts};
@@ -80,11 +80,11 @@ pub fn resolve_actions<'s, S: Schema>(
 /// The triggers of a rule on a table with these columns.
 #[tactic(auto, unfolding(crate::specs::RuleParts::rule_triggers))]
 pub fn resolve_triggers(columns: &[ColumnDefinition], list: &[Trigger]) -> Result<Triggers, Refusal>
-    ensures { Answers (λ t. t) (walk_triggers columns.now (map view.trigger list.now)) result }
+    ensures { result ≡ walk_triggers columns.now (map view.trigger list.now) }
 {
     match triggers(columns, list) {
         Ok(resolved) => Ok(resolved),
-        Err(fault) => Err(fault.refusal()),
+        Err(reason) => Err(reason.refusal()),
     }
 }
 

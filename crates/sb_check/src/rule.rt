@@ -68,7 +68,7 @@ fn parts_on<'s, S: Schema>(
 {
     let walked = match triggers(table.columns, rule.triggers.as_slice()) {
         Ok(walked) => walked,
-        Err(fault) => return Err(fault),
+        Err(reason) => return Err(Fault::Refused(reason)),
     };
     let inside = InRule {
         outside: schema,

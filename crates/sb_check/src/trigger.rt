@@ -1,11 +1,11 @@
 //! The triggers of a rule.
 ghost use Rattle.std.specs.Prelude.{map};
-ghost use Rattle.sb_check.specs.Answer.{Gives};
+ghost use Rattle.sb_check.specs.Answer.{Walks};
 ghost use Rattle.sb_check.specs.RuleParts.{rule_triggers};
 ghost use Rattle.sb_check.specs.TriggerSteps as spec;
 ghost use Rattle.sb_syntax.specs.Views as view;
 
-use crate::fault::{Fault, Reason};
+use crate::fault::Reason;
 use crate::scope::column_in;
 use sb_syntax::Trigger;
 use sb_value::{ColumnDefinition, Columns, Name, Triggers};
@@ -15,12 +15,12 @@ fn with_names(
     columns: &[ColumnDefinition],
     mut set: Columns,
     names: &[Name],
-) -> Result<Columns, Fault>
-    ensures { Gives (λ s. s) (spec.with_names columns.now set names.now) result }
+) -> Result<Columns, Reason>
+    ensures { Walks (spec.with_names columns.now set names.now) result }
 {
     for name in names {
         let Some((place, _)) = column_in(columns, name) else {
-            return Err(Fault::Refused(Reason::NoColumn));
+            return Err(Reason::NoColumn);
         };
         if place < 8 {
             set = set.with(place as u8);
@@ -33,8 +33,8 @@ fn with_trigger(
     columns: &[ColumnDefinition],
     mut triggers: Triggers,
     trigger: &Trigger,
-) -> Result<Triggers, Fault>
-    ensures { Gives (λ t. t) (spec.with_trigger columns.now triggers (view.trigger trigger.now)) result }
+) -> Result<Triggers, Reason>
+    ensures { Walks (spec.with_trigger columns.now triggers (view.trigger trigger.now)) result }
 {
     match trigger {
         Trigger::Insert => triggers.inserted = true,
@@ -48,8 +48,8 @@ fn with_trigger(
 }
 
 /// Each trigger in order.
-fn all_triggers(columns: &[ColumnDefinition], list: &[Trigger]) -> Result<Triggers, Fault>
-    ensures { Gives (λ t. t) (spec.with_triggers columns.now spec.no_trigger (map view.trigger list.now)) result }
+fn all_triggers(columns: &[ColumnDefinition], list: &[Trigger]) -> Result<Triggers, Reason>
+    ensures { Walks (spec.with_triggers columns.now spec.no_trigger (map view.trigger list.now)) result }
 {
     let mut all = Triggers {
         inserted: false,
@@ -65,11 +65,11 @@ fn all_triggers(columns: &[ColumnDefinition], list: &[Trigger]) -> Result<Trigge
 
 /// The triggers of a rule.
 #[tactic(auto, using(crate::proofs::TriggerWalk::triggers_walk), unfolding(crate::specs::RuleParts::rule_triggers))]
-pub(crate) fn triggers(columns: &[ColumnDefinition], list: &[Trigger]) -> Result<Triggers, Fault>
-    ensures { Gives (λ t. t) (rule_triggers columns.now (map view.trigger list.now)) result }
+pub(crate) fn triggers(columns: &[ColumnDefinition], list: &[Trigger]) -> Result<Triggers, Reason>
+    ensures { Walks (rule_triggers columns.now (map view.trigger list.now)) result }
 {
     match all_triggers(columns, list) {
         Ok(all) => Ok(all),
-        Err(fault) => Err(fault),
+        Err(reason) => Err(reason),
     }
 }
