@@ -1,5 +1,4 @@
-use Rattle.std.proofs.Common.{◌≡◌, ap, arith, length}
-use Rattle.std.specs.Prelude.{option_to_list}
+use Rattle.std.proofs.Common.{ap, arith, length}
 use Rattle.std.specs.Vec.Iter.{into_iter_items}
 use Rattle.sb_value.proofs.TupleLaws.{row_more}
 use Rattle.sb_value.proofs.tuples.row_of.Goals as goal
