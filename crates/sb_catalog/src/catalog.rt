@@ -1,5 +1,5 @@
 //! All rules of a tenant.
-ghost use Rattle.std.specs.Prelude.{◌≡◌, [], IsTrue, option_map, unwrap_or, true, false, OnOk, IfOk, IfErr, OnErr};
+ghost use Rattle.std.specs.Prelude.{◌≡◌, [], ◌∷◌, ◌++◌, IsTrue, IsFalse, unwrap_or, true, false, OnOk, IfOk, IfErr, OnErr};
 ghost use Rattle.std.specs.Option.{option_copied};
 ghost use Rattle.sb_check.specs.RulePartsView.{rule_parts};
 ghost use Rattle.sb_catalog.specs.Rules as spec;
@@ -58,20 +58,53 @@ impl Catalog {
         ensures refused { IfErr result (λ e. e ≡ unwrap_or (create_refusal self.old name) Refusal.NoMemory) }
         ensures unchanged { OnErr result (self.new ≡ self.old) }
     {
-        if self.rules.contains_key(&name) {
+        self.check_new(&name)?;
+        self.push(rule_of_parts(self.free_rule(), name, parts))
+    }
+
+    /// Refuses a name that a rule has, and a rule too many.
+    fn check_new(&self, name: &Name) -> Result<(), Refusal>
+        ensures allowed { OnOk result (create_refusal self.now name.now ≡ None) }
+        ensures refused { IfErr result (λ e. create_refusal self.now name.now ≡ Some e) }
+    {
+        if self.has(name) {
             return Err(Refusal::RuleExists);
         }
         if !self.has_room() {
             return Err(Refusal::TooManyRules);
         }
-        let id = self.free_rule();
+        Ok(())
+    }
+
+    /// Whether there is a rule of that name.
+    fn has(&self, name: &Name) -> bool
+        ensures { result ≡ spec.has_name self.now name.now }
+    {
+        self.rules.contains_key(name)
+    }
+
+    /// Puts a rule of a new name and a new number behind the others.
+    fn push(&mut self, rule: Rule) -> Result<RuleId, Refusal>
+        requires new_name { IsFalse (spec.has_name self.old rule.name) }
+        requires new_number { numbered self.old rule.id ≡ None }
+        requires room { IsTrue (spec.has_room self.old) }
+        ensures last { OnOk result (self.new ≡ self.old ++ rule ∷ []) }
+        ensures number { IfOk result (λ id. id ≡ rule.id) }
+        ensures no_memory { IfErr result (λ e. e ≡ Refusal.NoMemory) }
+        ensures unchanged { OnErr result (self.new ≡ self.old) }
+    {
+        let id = rule.id;
         let place = self.rules.len();
-        match self.rules.insert(name, rule_of_parts(id, name, parts)) {
-            Ok(_) => {
+        match self.rules.insert(rule.name, rule) {
+            Ok(replaced) => {
+                drop(replaced);
                 self.places.note(id, place);
                 Ok(id)
             }
-            Err(_) => Err(Refusal::NoMemory),
+            Err(failed) => {
+                drop(failed);
+                Err(Refusal::NoMemory)
+            }
         }
     }
 
@@ -86,7 +119,9 @@ impl Catalog {
         };
         let (_, rule) = self.rules.shift_remove_index(place).unwrap();
         self.places.close(place);
-        Ok(rule.id)
+        let id = rule.id;
+        drop(rule);
+        Ok(id)
     }
 
     /// Makes the rule of that name active, and gives its number.
@@ -132,10 +167,8 @@ impl Catalog {
     pub fn rule(&self, id: RuleId) -> Option<&Rule>
         ensures { option_copied result ≡ numbered self.now id }
     {
-        match self.rules.get_index(self.places.get(id)) {
-            Some((_, rule)) if rule.id == id => Some(rule),
-            _ => None,
-        }
+        let rule = self.rules().get(self.places.get(id))?;
+        if rule.id == id { Some(rule) } else { None }
     }
 
     /// The rules, the earliest created first.
@@ -155,7 +188,8 @@ impl Catalog {
     /// The least number that no rule has.
     pub fn free_rule(&self) -> RuleId
         requires { IsTrue (spec.has_room self.now) }
-        ensures { result ≡ spec.free_rule self.now }
+        ensures least { result ≡ spec.free_rule self.now }
+        ensures free { numbered self.now result ≡ None }
     {
         let mut number = 0;
         while number < RULE_LIMIT - 1 && self.rule(RuleId::new(number as u8)).is_some() {

@@ -16,15 +16,23 @@ pub(crate) fn rule_names(table: TableId, rule: &Rule) -> bool
     ensures { result ≡ spec.rule_names table rule.now }
 {
     rule.table == table
-        || rule
-            .condition
-            .as_ref()
-            .is_some_and(|query| query_names(table, query))
-        || rule
-            .actions
-            .as_slice()
-            .iter()
-            .any(|action| action_names(table, action))
+        || rule_condition_names(table, &rule.condition)
+        || actions_name(table, rule.actions.as_slice())
+}
+
+fn rule_condition_names(table: TableId, condition: &Option<Query>) -> bool
+    ensures { result ≡ spec.condition_names table condition.now }
+{
+    match condition {
+        Some(query) => query_names(table, query),
+        None => false,
+    }
+}
+
+fn actions_name(table: TableId, actions: &[Action]) -> bool
+    ensures { result ≡ list_any (spec.action_names table) actions.now }
+{
+    actions.iter().any(|action| action_names(table, action))
 }
 
 fn action_names(table: TableId, action: &Action) -> bool

@@ -37,7 +37,8 @@ impl Places {
     /// Notes the place of a rule.
     pub fn note(&mut self, id: RuleId, place: usize)
         requires { place < 256 }
-        ensures { self.new ≡ slice_set self.old id place }
+        ensures noted { self.new ≡ slice_set self.old id place }
+        ensures in_range { id < length self.old }
     {
         self.places[id.index()] = place as u8;
     }
@@ -47,9 +48,18 @@ impl Places {
         ensures { self.new ≡ map (closed gap) self.old }
     {
         for place in self.places.iter_mut() {
-            if *place as usize > gap {
-                *place -= 1;
-            }
+            *place = moved_up(*place, gap);
         }
+    }
+}
+
+/// The place before it, if it is behind the gap.
+fn moved_up(place: u8, gap: usize) -> u8
+    ensures { result ≡ closed gap place }
+{
+    if place as usize > gap {
+        place - 1
+    } else {
+        place
     }
 }
