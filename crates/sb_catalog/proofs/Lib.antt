@@ -1,0 +1,3 @@
+pub mod LeastFree
+pub mod Noted
+pub mod Named

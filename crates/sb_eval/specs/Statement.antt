@@ -9,7 +9,8 @@ use Rattle.sb_value.specs.declared.refusal.Refusal.{Refusal}
 use Rattle.sb_value.specs.declared.refusal.Refusal.TheVariants.{TooBig, Overflow, TooManyRows}
 use Rattle.sb_value.specs.Columns.{set_of}
 use Rattle.sb_value.specs.Table.{table_at}
-use Rattle.sb_check.specs.Condition.{Condition, always, disjunction, conjunction, negation, compare, is_in, exists, Operand, expression, answer, Query, select}
+use Rattle.sb_check.specs.Condition.{Condition, Query}
+use Rattle.sb_check.specs.Mentions.{sources_of, query_sources, assignment_sources}
 use Rattle.sb_check.specs.declared.tree.Source.{Source}
 use Rattle.sb_check.specs.declared.tree.Source.TheVariants as source
 use Rattle.sb_check.specs.declared.tree.Assignment.{Assignment}
@@ -20,29 +21,6 @@ use Rattle.sb_eval.specs.Meaning.{Scope, both, each, passing, holds, operand_val
 use Rattle.sb_eval.specs.Cost.{subquery_cost, operand_cost, query_cost}
 
 -- ---- the lock list: the tables in the order of their places in the text
-
--- the sources of a query, and then those of the subqueries of its condition
-abbrev mutual
-  pub sources_of : Condition → List Source
-  sources_of always = []
-  sources_of (disjunction a b) = sources_of a ++ sources_of b
-  sources_of (conjunction a b) = sources_of a ++ sources_of b
-  sources_of (negation a) = sources_of a
-  sources_of (compare a op b) = operand_sources b
-  sources_of (is_in a q) = query_sources q
-  sources_of (exists q) = query_sources q
-
-  pub operand_sources : Operand → List Source
-  operand_sources (expression e) = []
-  operand_sources (answer q) = query_sources q
-
-  pub query_sources : Query → List Source
-  query_sources (select items sources c) = sources ++ sources_of c
-
--- the sources of the assignments' queries, in order
-abbrev pub assignment_sources : List Assignment → List Source
-assignment_sources [] = []
-assignment_sources (a ∷ rest) = operand_sources a.operand ++ assignment_sources rest
 
 -- a read of each table among the sources; nothing for transition tables
 abbrev pub read_of : Source → Option (ℕ × Mode)

@@ -12,7 +12,7 @@ use Rattle.sb_check.specs.Condition.{Query}
 use Rattle.sb_check.specs.declared.tree.Statement.{Statement}
 use Rattle.sb_check.specs.declared.tree.Action.{Action}
 use Rattle.sb_check.specs.declared.tree.Action.TheVariants as action
-use Rattle.sb_catalog.specs.declared.Rule.{Rule}
+use Rattle.sb_catalog.specs.declared.rule.Rule.{Rule}
 use Rattle.sb_eval.specs.Meaning.{has_row}
 use Rattle.sb_eval.specs.Statement.{query_locks, statement_locks, condition_rows, statement_changes}
 use Rattle.sb_process.specs.Setting.{Setting, Progress, rule_tables, marked, seen_with}

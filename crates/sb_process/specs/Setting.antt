@@ -7,7 +7,7 @@ use Rattle.sb_value.specs.Table.{Entry, after_all}
 use Rattle.sb_value.specs.NetEffect.{is_triggered, transition_tables}
 use Rattle.sb_value.specs.Locks.{Locks}
 use Rattle.sb_value.specs.Order.{chosen}
-use Rattle.sb_catalog.specs.declared.Rule.{Rule}
+use Rattle.sb_catalog.specs.declared.rule.Rule.{Rule}
 use Rattle.sb_eval.specs.Seen.{Seen}
 
 -- what stays while rules are processed: the session, the rules in order of creation, the pairs of precedence,

@@ -22,7 +22,7 @@ use Rattle.sb_check.specs.Names.{and_then, in_order, required, some_or, Visible}
 use Rattle.sb_check.specs.declared.tree.Source.{Source}
 use Rattle.sb_value.specs.declared.value.ColumnType.{ColumnType}
 use Rattle.sb_check.specs.Walk.{fitting, type_of}
-use Rattle.sb_catalog.specs.declared.Rule.{Rule}
+use Rattle.sb_catalog.specs.declared.rule.Rule.{Rule}
 use Rattle.sb_eval.specs.Seen.{Seen, no_transition}
 use Rattle.sb_eval.specs.Statement.{row_limit, cost_limit, within_cost, within_rows, rows_after, insert_change, insert_changes, delete_change, statement_changes, select_rows}
 use Rattle.sb_eval.specs.Meaning.{both, passing, combinations, rows_by}

@@ -4,7 +4,7 @@ use Rattle.sb_value.specs.declared.change.Change.{Change}
 use Rattle.sb_value.specs.declared.lock.Mode.{Mode}
 use Rattle.sb_value.specs.Table.{after_all}
 use Rattle.sb_check.specs.declared.tree.Action.TheVariants.{Rollback}
-use Rattle.sb_catalog.specs.declared.Rule.{Rule}
+use Rattle.sb_catalog.specs.declared.rule.Rule.{Rule}
 use Rattle.sb_tenant.specs.Catalog.{rule_from}
 use Rattle.sb_tenant.specs.Logged.{who_of}
 use Rattle.sb_tenant.specs.Resolved.{NewRule}

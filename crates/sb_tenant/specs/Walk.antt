@@ -16,7 +16,7 @@ use Rattle.sb_check.specs.declared.tree.Action.TheVariants as action
 use Rattle.sb_value.specs.Name.{same_name}
 use Rattle.sb_check.specs.Names.{and_then, in_order, required, some_or, column_in}
 use Rattle.sb_check.specs.Walk.{Schema, table_named, walk_query, walk_change, walk_action}
-use Rattle.sb_catalog.specs.declared.Rule.{Rule}
+use Rattle.sb_catalog.specs.declared.rule.Rule.{Rule}
 use Rattle.sb_eval.specs.Statement.{query_locks, statement_locks}
 use Rattle.sb_tenant.specs.Limits.{table_limit, ruleset_limit}
 use Rattle.sb_tenant.specs.State.{Catalog}

@@ -1,6 +1,7 @@
 pub mod Printable
 pub mod Name
 pub mod NameInverse
+pub mod NameEquality
 pub mod Flags
 pub mod FlagsInverse
 pub mod Tree

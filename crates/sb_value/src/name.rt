@@ -1,13 +1,20 @@
 //! Names of tables, columns, rules and rulesets.
 ghost use Rattle.std.specs.Prelude.{◌≡◌, ◌<◌, ◌≤◌, length};
+ghost use Rattle.std.specs.Cmp.{eq_by_cmp_equiv, partial_equiv_from_equiv};
+ghost use Rattle.std.specs.Cmp.Lexicographic.{nat_list_cmp_total};
+ghost use Rattle.std.specs.Hash as fed;
+ghost use Rattle.sb_value.specs.Name.{same_name};
+ghost use Rattle.sb_value.specs.NameEquality.{same_name_is};
+ghost use Rattle.std.proofs.Common.{ap};
 
+use std::hash::{Hash, Hasher};
 use std::marker::Model;
 
 /// The most bytes that a name has.
 pub const NAME_LIMIT: usize = 32;
 
 /// A name of 1 to 32 bytes, kept inline, so that it is copied and put into a refusal without memory.
-#[derive(Clone, Copy, PartialEq, Eq)]
+#[derive(Clone, Copy)]
 pub struct Name {
     bytes: [u8; NAME_LIMIT],
     len: u8,
@@ -31,8 +38,6 @@ impl Model for Name {
 }
 
 impl Name {
-    ghost use Rattle.sb_value.specs.Name.{same_name};
-
     /// The name with these bytes.
     pub fn new(bytes: &[u8]) -> Name
         requires not_empty { 0 < length bytes.now }
@@ -62,5 +67,30 @@ impl Name {
         ensures { result ≡ same_name self.now other.now }
     {
         self.as_slice().cmp(other.as_slice()).is_eq()
+    }
+}
+
+impl PartialEq for Name {
+    ghost eq = { same_name };
+
+    ghost laws = { partial_equiv_from_equiv (eq_by_cmp_equiv nat_list_cmp_total) };
+
+    fn eq(&self, other: &Name) -> bool {
+        self.is_same(other)
+    }
+}
+
+impl Eq for Name {
+    ghost laws = { eq_by_cmp_equiv nat_list_cmp_total };
+}
+
+/// A name is hashed as its bytes, without the zeros behind them.
+impl Hash for Name {
+    ghost hash_input = { λ n. fed.slice fed.u8 n };
+
+    ghost respects_eq = { λ a b h. ap (λ n. fed.slice fed.u8 n) (same_name_is a b h) };
+
+    fn hash<H: Hasher>(&self, state: &mut H) {
+        self.as_slice().hash(state);
     }
 }

@@ -1,0 +1,92 @@
+-- Rules under their names.
+use Rattle.std.proofs.Common.{◌≡◌, ◌∙◌, ℕ, suc, Bool, true, false, cond, List, [], ◌∷◌, ◌++◌, map, set, Option, Some, option_map, Result, slice_get, refl, sym, ap, subst}
+use Rattle.std.specs.Cmp.{eq_by_cmp_equiv}
+use Rattle.std.specs.Cmp.Lexicographic.{nat_list_cmp_total}
+use Rattle.std.specs.List.{remove}
+use Rattle.std.specs.Map.{values_of, lookup, set_value}
+use Rattle.std.proofs.lemmas.List.{map-append}
+use Rattle.std.proofs.lemmas.Option.{none-some, same_Some, slice_get-map}
+use Rattle.indexmap.proofs.SetLemmas.{map-remove}
+use Rattle.sb_value.specs.Name.{same_name}
+use Rattle.sb_value.specs.declared.refusal.Refusal.{Refusal}
+use Rattle.sb_value.specs.declared.refusal.Refusal.TheVariants.{NoRule}
+use Rattle.sb_check.specs.Names.{some_or}
+use Rattle.sb_catalog.specs.declared.rule.Rule.{Rule}
+use Rattle.sb_catalog.specs.Rules.{named, with_active}
+use Rattle.sb_catalog.specs.Places.{under_name, AreNotedFrom, AreKept}
+use Rattle.sb_catalog.proofs.Noted.{changed}
+
+pub values_under : (rules : List Rule) → values_of (map under_name rules) ≡ rules
+values_under [] = refl
+values_under (r ∷ rules) = λ i. r ∷ values_under rules i
+
+-- what stands under names stays so
+pub kept_under : (entries : List (List ℕ × Rule)) (rules : List Rule) → entries ≡ map under_name rules → entries ≡ map under_name (values_of entries)
+kept_under entries rules e = e ∙ ap (map under_name) (sym (values_under rules) ∙ ap values_of (sym e))
+
+pub lookup_named : (name : List ℕ) (rules : List Rule) → lookup (same_name name) (map under_name rules) ≡ named rules name
+lookup_named name [] = refl
+lookup_named name (r ∷ rules) = λ i. cond ((eq_by_cmp_equiv nat_list_cmp_total).symm name r.name i) (Some r) (lookup_named name rules i)
+
+-- the number of a rule, or that there is none
+abbrev pub numbers : Option Rule → Result ℕ Refusal
+numbers found = some_or NoRule (option_map (λ r. r.id) found)
+
+-- ---- a rule that is found by its name, and changed there
+
+abbrev pub made : Rule → Bool → Rule
+made r active = record r { active = active }
+
+abbrev pub IsFoundAt : List ℕ → Bool → List Rule → Rule → Type 0
+IsFoundAt name active rules r =
+    (i : ℕ) × (slice_get rules i ≡ Some r) × (set_value (same_name name) (map under_name rules) (made r active) ≡ map under_name (set rules i (made r active)))
+
+found_by : (name : List ℕ) (active : Bool) (s : Rule) (rules : List Rule) (r : Rule) (b : Bool) → same_name name s.name ≡ b → cond b (Some s) (lookup (same_name name) (map under_name rules)) ≡ Some r →
+    (lookup (same_name name) (map under_name rules) ≡ Some r → IsFoundAt name active rules r) → IsFoundAt name active (s ∷ rules) r
+found_by name active s rules r true p e rest =
+    let same = same_Some s r e in (
+      0,
+      e,
+      (λ i. cond (p i) ((s.name, made r active) ∷ map under_name rules) (under_name s ∷ set_value (same_name name) (map under_name rules) (made r active)))
+          ∙ (λ i. ((same i).name, made r active) ∷ map under_name rules),
+    )
+found_by name active s rules r false p e rest =
+    let later = rest e in (
+      suc later.0,
+      later.1,
+      (λ i. cond (p i) ((s.name, made r active) ∷ map under_name rules) (under_name s ∷ set_value (same_name name) (map under_name rules) (made r active)))
+          ∙ (λ i. under_name s ∷ later.2 i),
+    )
+
+pub found_at : (name : List ℕ) (active : Bool) (rules : List Rule) (r : Rule) → lookup (same_name name) (map under_name rules) ≡ Some r → IsFoundAt name active rules r
+found_at name active [] r e = absurd (none-some r e)
+found_at name active (s ∷ rules) r e = found_by name active s rules r (same_name name s.name) refl e (found_at name active rules r)
+
+-- what is written through the name is the rule with that number made active or not
+pub written : (places : List ℕ) (name : List ℕ) (active : Bool) (entries : List (List ℕ × Rule)) (r : Rule) → AreKept entries places → lookup (same_name name) entries ≡ Some r →
+    set_value (same_name name) entries (made r active) ≡ map under_name (with_active (values_of entries) r.id active)
+written places name active entries r h e =
+    let rules : List Rule = values_of entries in
+    let f = found_at name active rules r (ap (lookup (same_name name)) (sym h.named) ∙ e) in
+    ap (λ es. set_value (same_name name) es (made r active)) h.named ∙ f.2 ∙ ap (map under_name) (sym (changed places active 0 f.0 rules r h.noted f.1))
+
+pub kept_with : (places : List ℕ) (entries : List (List ℕ × Rule)) (rules : List Rule) → entries ≡ map under_name rules → AreNotedFrom 0 places rules → AreKept entries places
+kept_with places entries rules e h = record {
+  named = kept_under entries rules e;
+  noted = subst (AreNotedFrom 0 places) (sym (ap values_of e ∙ values_under rules)) h;
+}
+
+pub values_with : (entries : List (List ℕ × Rule)) (rules : List Rule) → entries ≡ map under_name rules → values_of entries ≡ rules
+values_with entries rules e = ap values_of e ∙ values_under rules
+
+-- the rule of an entry
+pub rule_at : (entries : List (List ℕ × Rule)) (i : ℕ) (e : List ℕ × Rule) → slice_get entries i ≡ Some e → slice_get (values_of entries) i ≡ Some e.1
+rule_at entries i e h = slice_get-map (λ (x : List ℕ × Rule). x.1) entries i ∙ ap (option_map (λ (x : List ℕ × Rule). x.1)) h
+
+-- the rules but for the one at a place
+pub entries_without : (entries : List (List ℕ × Rule)) (i : ℕ) → entries ≡ map under_name (values_of entries) → remove entries i ≡ map under_name (remove (values_of entries) i)
+entries_without entries i e = ap (λ (es : List (List ℕ × Rule)). remove es i) e ∙ sym (map-remove under_name (values_of entries) i)
+
+-- one rule more
+pub entries_with : (entries : List (List ℕ × Rule)) (r : Rule) → entries ≡ map under_name (values_of entries) → entries ++ under_name r ∷ [] ≡ map under_name (values_of entries ++ r ∷ [])
+entries_with entries r e = ap (λ (es : List (List ℕ × Rule)). es ++ under_name r ∷ []) e ∙ sym (map-append under_name (values_of entries) (r ∷ []))

@@ -1,0 +1,82 @@
+-- Rules in order of creation, and what the commands on rules do to them.
+use Rattle.std.specs.Prelude.{ℕ, zero, suc, ◌+◌, Bool, true, not, ◌==◌, nat_lt, if◌then◌else◌, List, [], ◌∷◌, ◌++◌, length, map, filter, find, Option, Some, None, option_map, Result}
+use Rattle.std.specs.List.{list_any}
+use Rattle.sb_value.specs.Name.{same_name}
+use Rattle.sb_value.specs.declared.refusal.Refusal.{Refusal}
+use Rattle.sb_value.specs.declared.refusal.Refusal.TheVariants.{NoRule, RuleExists, TooManyRules}
+use Rattle.sb_check.specs.Names.{some_or}
+use Rattle.sb_check.specs.RuleParts.{Parts}
+use Rattle.sb_catalog.specs.declared.rule.Rule.{Rule}
+
+-- the most rules, active or not
+abbrev pub rule_limit : ℕ
+rule_limit = 64
+
+-- the least number from k on that is not in the list, after n tries at most
+abbrev pub least_free_from : ℕ → ℕ → List ℕ → ℕ
+least_free_from zero k used = k
+least_free_from (suc n) k used = if list_any (λ u. u == k) used then least_free_from n (k + 1) used else k
+
+-- the least number that isn't in the list
+abbrev pub least_free : List ℕ → ℕ
+least_free used = least_free_from (length used) 0 used
+
+-- ---- look-ups
+
+-- the rule of that name
+abbrev pub named : List Rule → List ℕ → Option Rule
+named rules name = find (λ r. same_name r.name name) rules
+
+-- its number, or that there is none
+abbrev pub rule_named : List Rule → List ℕ → Result ℕ Refusal
+rule_named rules name = some_or NoRule (option_map (λ r. r.id) (named rules name))
+
+-- the rule of that number
+abbrev pub numbered : List Rule → ℕ → Option Rule
+numbered rules id = find (λ r. r.id == id) rules
+
+-- whether there is a rule of that name
+abbrev pub has_name : List Rule → List ℕ → Bool
+has_name rules name = list_any (λ r. same_name r.name name) rules
+
+-- whether one more rule may be made
+abbrev pub has_room : List Rule → Bool
+has_room rules = nat_lt (length rules) rule_limit
+
+-- the number of the next rule
+abbrev pub free_rule : List Rule → ℕ
+free_rule rules = least_free (map (λ r. r.id) rules)
+
+-- ---- changes
+
+-- a new rule is active
+abbrev pub rule_of : ℕ → List ℕ → Parts → Rule
+rule_of id name parts = record {
+  id = id;
+  name = name;
+  table = parts.0;
+  triggers = parts.1;
+  condition = parts.2;
+  actions = parts.3;
+  active = true;
+}
+
+-- why a rule of that name is not made, the name first
+abbrev pub create_refusal : List Rule → List ℕ → Option Refusal
+create_refusal rules name = if has_name rules name then Some RuleExists else (if has_room rules then None else Some TooManyRules)
+
+-- a new rule has the least free number and is the last
+abbrev pub created : List Rule → List ℕ → Parts → List Rule
+created rules name parts = rules ++ rule_of (free_rule rules) name parts ∷ []
+
+-- the others keep their order
+abbrev pub without_rule : List Rule → ℕ → List Rule
+without_rule rules id = filter (λ r. not (r.id == id)) rules
+
+-- a rule, made active or not if it has that number
+abbrev pub set_active : ℕ → Bool → Rule → Rule
+set_active id active rule = if rule.id == id then record rule { active = active } else rule
+
+-- the rules with one of them made active or not
+abbrev pub with_active : List Rule → ℕ → Bool → List Rule
+with_active rules id active = map (set_active id active) rules

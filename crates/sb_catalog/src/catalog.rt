@@ -1,0 +1,207 @@
+//! All rules of a tenant.
+ghost use Rattle.std.specs.Prelude.{◌≡◌, [], ◌∷◌, ◌++◌, IsTrue, IsFalse, unwrap_or, true, false, OnOk, IfOk, IfErr, OnErr};
+ghost use Rattle.std.specs.Option.{option_copied};
+ghost use Rattle.sb_check.specs.RulePartsView.{rule_parts};
+ghost use Rattle.sb_catalog.specs.Rules as spec;
+ghost use Rattle.sb_catalog.specs.Rules.{named, numbered, rule_named, create_refusal, created, without_rule, with_active};
+ghost use Rattle.sb_catalog.specs.Uses.{is_used};
+
+use crate::mentions::rule_names;
+use crate::places::Places;
+use crate::rule::{Rule, rule_of_parts};
+use indexmap::IndexMap;
+use sb_check::RuleParts;
+use sb_value::{Name, RULE_LIMIT, Refusal, RuleId, TableId};
+use std::alloc::Global;
+use std::marker::Model;
+
+/// The rules in order of creation, found by name or by number in constant time.
+#[derive(Drop)]
+pub struct Catalog {
+    rules: IndexMap<Name, Rule>,
+    places: Places,
+}
+
+impl Model for Catalog {
+    ghost use Rattle.std.specs.Prelude.{List};
+    ghost use Rattle.std.specs.Coded.{coded_list};
+    ghost use Rattle.std.specs.Map.{values_of};
+    ghost use Rattle.sb_catalog.specs.contracts.rule.Rule as rule;
+    ghost use Rattle.sb_catalog.specs.declared.rule.Rule.{Rule};
+    ghost use Rattle.sb_catalog.specs.Places.{AreKept};
+
+    ghost Value = { List Rule };
+
+    ghost coded = { coded_list rule.the_row.coded };
+
+    ghost view = { λ c. values_of c.rules.entries };
+
+    ghost invariant = { λ c. AreKept c.rules.entries c.places };
+}
+
+impl Catalog {
+    /// No rules.
+    pub fn new(alloc: Global) -> Catalog
+        ensures { result ≡ [] }
+    {
+        Catalog {
+            rules: IndexMap::new(alloc),
+            places: Places::new(),
+        }
+    }
+
+    /// Adds an active rule, and gives its number.
+    pub fn create(&mut self, name: Name, parts: RuleParts) -> Result<RuleId, Refusal>
+        ensures added { OnOk result (self.new ≡ created self.old name (rule_parts parts)) }
+        ensures number { IfOk result (λ id. id ≡ spec.free_rule self.old) }
+        ensures allowed { OnOk result (create_refusal self.old name ≡ None) }
+        ensures refused { IfErr result (λ e. e ≡ unwrap_or (create_refusal self.old name) Refusal.NoMemory) }
+        ensures unchanged { OnErr result (self.new ≡ self.old) }
+    {
+        self.check_new(&name)?;
+        self.push(rule_of_parts(self.free_rule(), name, parts))
+    }
+
+    /// Refuses a name that a rule has, and a rule too many.
+    fn check_new(&self, name: &Name) -> Result<(), Refusal>
+        ensures allowed { OnOk result (create_refusal self.now name.now ≡ None) }
+        ensures refused { IfErr result (λ e. create_refusal self.now name.now ≡ Some e) }
+    {
+        if self.has(name) {
+            return Err(Refusal::RuleExists);
+        }
+        if !self.has_room() {
+            return Err(Refusal::TooManyRules);
+        }
+        Ok(())
+    }
+
+    /// Whether there is a rule of that name.
+    fn has(&self, name: &Name) -> bool
+        ensures { result ≡ spec.has_name self.now name.now }
+    {
+        self.rules.contains_key(name)
+    }
+
+    /// Puts a rule of a new name and a new number behind the others.
+    fn push(&mut self, rule: Rule) -> Result<RuleId, Refusal>
+        requires new_name { IsFalse (spec.has_name self.old rule.name) }
+        requires new_number { numbered self.old rule.id ≡ None }
+        requires room { IsTrue (spec.has_room self.old) }
+        ensures last { OnOk result (self.new ≡ self.old ++ rule ∷ []) }
+        ensures number { IfOk result (λ id. id ≡ rule.id) }
+        ensures no_memory { IfErr result (λ e. e ≡ Refusal.NoMemory) }
+        ensures unchanged { OnErr result (self.new ≡ self.old) }
+    {
+        let id = rule.id;
+        let place = self.rules.len();
+        match self.rules.insert(rule.name, rule) {
+            Ok(replaced) => {
+                drop(replaced);
+                self.places.note(id, place);
+                Ok(id)
+            }
+            Err(failed) => {
+                drop(failed);
+                Err(Refusal::NoMemory)
+            }
+        }
+    }
+
+    /// Drops the rule of that name, and gives its number.
+    pub fn drop_rule(&mut self, name: &Name) -> Result<RuleId, Refusal>
+        ensures found { result ≡ rule_named self.old name.now }
+        ensures dropped { IfOk result (λ id. self.new ≡ without_rule self.old id) }
+        ensures unchanged { OnErr result (self.new ≡ self.old) }
+    {
+        let Some(place) = self.rules.get_index_of(name) else {
+            return Err(Refusal::NoRule);
+        };
+        let (_, rule) = self.rules.shift_remove_index(place).unwrap();
+        self.places.close(place);
+        let id = rule.id;
+        drop(rule);
+        Ok(id)
+    }
+
+    /// Makes the rule of that name active, and gives its number.
+    pub fn activate(&mut self, name: &Name) -> Result<RuleId, Refusal>
+        ensures found { result ≡ rule_named self.old name.now }
+        ensures active { IfOk result (λ id. self.new ≡ with_active self.old id true) }
+        ensures unchanged { OnErr result (self.new ≡ self.old) }
+    {
+        self.set_active(name, true)
+    }
+
+    /// Makes the rule of that name inactive, and gives its number.
+    pub fn deactivate(&mut self, name: &Name) -> Result<RuleId, Refusal>
+        ensures found { result ≡ rule_named self.old name.now }
+        ensures inactive { IfOk result (λ id. self.new ≡ with_active self.old id false) }
+        ensures unchanged { OnErr result (self.new ≡ self.old) }
+    {
+        self.set_active(name, false)
+    }
+
+    fn set_active(&mut self, name: &Name, active: bool) -> Result<RuleId, Refusal>
+        ensures found { result ≡ rule_named self.old name.now }
+        ensures set { IfOk result (λ id. self.new ≡ with_active self.old id active) }
+        ensures unchanged { OnErr result (self.new ≡ self.old) }
+    {
+        match self.rules.get_mut(name) {
+            Some(rule) => {
+                rule.active = active;
+                Ok(rule.id)
+            }
+            None => Err(Refusal::NoRule),
+        }
+    }
+
+    /// The rule of that name.
+    pub fn find(&self, name: &Name) -> Option<&Rule>
+        ensures { option_copied result ≡ named self.now name.now }
+    {
+        self.rules.get(name)
+    }
+
+    /// The rule of that number.
+    pub fn rule(&self, id: RuleId) -> Option<&Rule>
+        ensures { option_copied result ≡ numbered self.now id }
+    {
+        let rule = self.rules().get(self.places.get(id))?;
+        if rule.id == id { Some(rule) } else { None }
+    }
+
+    /// The rules, the earliest created first.
+    pub fn rules(&self) -> &[Rule]
+        ensures { result.now ≡ self.now }
+    {
+        self.rules.values().as_slice()
+    }
+
+    /// Whether one more rule may be made.
+    pub fn has_room(&self) -> bool
+        ensures { result ≡ spec.has_room self.now }
+    {
+        self.rules.len() < RULE_LIMIT
+    }
+
+    /// The least number that no rule has.
+    pub fn free_rule(&self) -> RuleId
+        requires { IsTrue (spec.has_room self.now) }
+        ensures least { result ≡ spec.free_rule self.now }
+        ensures free { numbered self.now result ≡ None }
+    {
+        let mut number = 0;
+        while number < RULE_LIMIT - 1 && self.rule(RuleId::new(number as u8)).is_some() {
+            number += 1;
+        }
+        RuleId::new(number as u8)
+    }
+
+    /// Whether a rule, active or not, is on the table or names it.
+    pub fn uses(&self, table: TableId) -> bool
+        ensures { result ≡ is_used self.now table }
+    {
+        self.rules().iter().any(|rule| rule_names(table, rule))
+    }
+}
