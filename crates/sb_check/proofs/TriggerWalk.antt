@@ -1,20 +1,16 @@
 -- The triggers taken one at a time are those of the walk.
 use Rattle.std.proofs.Common.{ℕ, zero, suc, ◌≤◌, ◌≡◌, refl, sym, ap, ◌∙◌, Bool, true, false, List, [], ◌∷◌, ◌++◌, map, append_assoc, append-nil, arith}
-use Rattle.std.proofs.lemmas.List.Folds.{list_any-append}
-use Rattle.std.proofs.lemmas.Bool.{ne_eqb, le-ltb}
 use Rattle.std.specs.Prelude.{nat_lt, ◌==◌, ◌||◌, Result, Ok, Err}
 use Rattle.std.specs.List.{list_any}
 use Rattle.sb_value.specs.declared.value.ColumnDefinition.{ColumnDefinition}
 use Rattle.sb_value.specs.declared.refusal.Refusal.{Refusal}
 use Rattle.sb_value.specs.declared.net.Triggers.{Triggers}
-use Rattle.sb_value.specs.Columns.{set_of}
+use Rattle.sb_value.specs.Columns.{set_of, with_place}
+use Rattle.sb_value.specs.Laws.{SetsTakePlaces}
 use Rattle.sb_syntax.specs.Tree.{Name, Trigger, on_insert, on_delete, on_update, on_update_of}
 use Rattle.sb_check.specs.Names.{and_then, in_order}
 use Rattle.sb_check.specs.Triggers.{place_named, trigger_places, is_insert, is_delete, is_update, joined, walk_triggers}
-use Rattle.sb_check.specs.TriggerSteps.{with_place, with_names, with_triggers, no_trigger}
-
-abbrev eights : List ℕ
-eights = 0 ∷ 1 ∷ 2 ∷ 3 ∷ 4 ∷ 5 ∷ 6 ∷ 7 ∷ []
+use Rattle.sb_check.specs.TriggerSteps.{with_names, with_triggers, no_trigger}
 
 or_false : (b : Bool) → (b || false) ≡ b
 or_false true = refl
@@ -24,76 +20,18 @@ or_true : (b : Bool) → (b || true) ≡ true
 or_true true = refl
 or_true false = refl
 
--- eight flags and one more place
-abbrev Added : (ℕ → Bool) → ℕ → Type 0
-Added f p = with_place (map f eights) p ≡ map (λ k. f k || (p == k)) eights
-
-added_0 : (f : ℕ → Bool) → Added f 0
-added_0 f = sym (simp (or_false, or_true))
-
-added_1 : (f : ℕ → Bool) → Added f 1
-added_1 f = sym (simp (or_false, or_true))
-
-added_2 : (f : ℕ → Bool) → Added f 2
-added_2 f = sym (simp (or_false, or_true))
-
-added_3 : (f : ℕ → Bool) → Added f 3
-added_3 f = sym (simp (or_false, or_true))
-
-added_4 : (f : ℕ → Bool) → Added f 4
-added_4 f = sym (simp (or_false, or_true))
-
-added_5 : (f : ℕ → Bool) → Added f 5
-added_5 f = sym (simp (or_false, or_true))
-
-added_6 : (f : ℕ → Bool) → Added f 6
-added_6 f = sym (simp (or_false, or_true))
-
-added_7 : (f : ℕ → Bool) → Added f 7
-added_7 f = sym (simp (or_false, or_true))
-
-added_above : (f : ℕ → Bool) (p : ℕ) → 8 ≤ p → Added f p
-added_above f p h =
-    let lt : nat_lt p 8 ≡ false = le-ltb p 8 h in
-    let e0 : (p == 0) ≡ false = ne_eqb p 0 (λ e. absurd (omega arith)) in
-    let e1 : (p == 1) ≡ false = ne_eqb p 1 (λ e. absurd (omega arith)) in
-    let e2 : (p == 2) ≡ false = ne_eqb p 2 (λ e. absurd (omega arith)) in
-    let e3 : (p == 3) ≡ false = ne_eqb p 3 (λ e. absurd (omega arith)) in
-    let e4 : (p == 4) ≡ false = ne_eqb p 4 (λ e. absurd (omega arith)) in
-    let e5 : (p == 5) ≡ false = ne_eqb p 5 (λ e. absurd (omega arith)) in
-    let e6 : (p == 6) ≡ false = ne_eqb p 6 (λ e. absurd (omega arith)) in
-    let e7 : (p == 7) ≡ false = ne_eqb p 7 (λ e. absurd (omega arith)) in
-    rw lt (sym (simp (e0, e1, e2, e3, e4, e5, e6, e7, or_false)))
-
-added : (f : ℕ → Bool) (p : ℕ) → Added f p
-added f zero = added_0 f
-added f (suc zero) = added_1 f
-added f (suc (suc zero)) = added_2 f
-added f (suc (suc (suc zero))) = added_3 f
-added f (suc (suc (suc (suc zero)))) = added_4 f
-added f (suc (suc (suc (suc (suc zero))))) = added_5 f
-added f (suc (suc (suc (suc (suc (suc zero)))))) = added_6 f
-added f (suc (suc (suc (suc (suc (suc (suc zero))))))) = added_7 f
-added f (suc (suc (suc (suc (suc (suc (suc (suc n)))))))) = added_above f (suc (suc (suc (suc (suc (suc (suc (suc n)))))))) (omega arith)
-
-any_last : (k : ℕ) (ps : List ℕ) (p : ℕ) → list_any (λ q. q == k) (ps ++ p ∷ []) ≡ (list_any (λ q. q == k) ps || (p == k))
-any_last k ps p = list_any-append (λ q. q == k) ps (p ∷ []) ∙ ap (λ b. list_any (λ q. q == k) ps || b) (or_false (p == k))
-
-pub set_more : (ps : List ℕ) (p : ℕ) → with_place (set_of ps) p ≡ set_of (ps ++ p ∷ [])
-set_more ps p = added (λ k. list_any (λ q. q == k) ps) p ∙ (λ i. map (λ k. sym (any_last k ps p) i) eights)
-
 -- ---- the columns of one trigger
 
-names_step : (columns : List ColumnDefinition) (ps : List ℕ) (ns : List Name) (one : Result ℕ Refusal) (rest : Result (List ℕ) Refusal)
+names_step : SetsTakePlaces → (columns : List ColumnDefinition) (ps : List ℕ) (ns : List Name) (one : Result ℕ Refusal) (rest : Result (List ℕ) Refusal)
     → ((qs : List ℕ) → with_names columns (set_of qs) ns ≡ and_then rest (λ more. Ok (set_of (qs ++ more))))
     → and_then one (λ p. with_names columns (with_place (set_of ps) p) ns) ≡ and_then {B = List Bool} (and_then one (λ p. and_then rest (λ more. Ok (p ∷ more)))) (λ qs. Ok (set_of (ps ++ qs)))
-names_step columns ps ns (Err e) rest ih = refl
-names_step columns ps ns (Ok p) (Err e) ih = ap (λ s. with_names columns s ns) (set_more ps p) ∙ ih (ps ++ p ∷ [])
-names_step columns ps ns (Ok p) (Ok more) ih = ap (λ s. with_names columns s ns) (set_more ps p) ∙ ih (ps ++ p ∷ []) ∙ ap (λ l. Ok (set_of l)) (append_assoc ps (p ∷ []) more)
+names_step law columns ps ns (Err e) rest ih = refl
+names_step law columns ps ns (Ok p) (Err e) ih = ap (λ s. with_names columns s ns) (law ps p) ∙ ih (ps ++ p ∷ [])
+names_step law columns ps ns (Ok p) (Ok more) ih = ap (λ s. with_names columns s ns) (law ps p) ∙ ih (ps ++ p ∷ []) ∙ ap (λ l. Ok (set_of l)) (append_assoc ps (p ∷ []) more)
 
-names_walk : (columns : List ColumnDefinition) (ps : List ℕ) (names : List Name) → with_names columns (set_of ps) names ≡ and_then (in_order (place_named columns) names) (λ qs. Ok (set_of (ps ++ qs)))
-names_walk columns ps [] = ap (λ l. Ok (set_of l)) (sym (append-nil ps))
-names_walk columns ps (n ∷ ns) = names_step columns ps ns (place_named columns n) (in_order (place_named columns) ns) (λ qs. names_walk columns qs ns)
+names_walk : SetsTakePlaces → (columns : List ColumnDefinition) (ps : List ℕ) (names : List Name) → with_names columns (set_of ps) names ≡ and_then (in_order (place_named columns) names) (λ qs. Ok (set_of (ps ++ qs)))
+names_walk law columns ps [] = ap (λ l. Ok (set_of l)) (sym (append-nil ps))
+names_walk law columns ps (n ∷ ns) = names_step law columns ps ns (place_named columns n) (in_order (place_named columns) ns) (λ qs. names_walk law columns qs ns)
 
 -- ---- all triggers
 
@@ -127,14 +65,14 @@ after_columns columns a b c ps names ts (Ok qs) (Err e) ih = ih a b c (ps ++ qs)
 after_columns columns a b c ps names ts (Ok qs) (Ok pl) ih =
     ih a b c (ps ++ qs) ∙ ap (λ l. Ok (With (a || list_any is_insert ts) (b || list_any is_delete ts) (c || list_any is_update ts) l)) (append_assoc ps qs (joined pl))
 
-walk_rest : (columns : List ColumnDefinition) (ts : List Trigger) → Rest columns ts (in_order (trigger_places columns) ts)
-walk_rest columns [] a b c ps = λ i. Ok (With (sym (or_false a) i) (sym (or_false b) i) (sym (or_false c) i) (sym (append-nil ps) i))
-walk_rest columns (on_insert ∷ ts) a b c ps = walk_rest columns ts true b c ps ∙ after_insert a b c ps ts (in_order (trigger_places columns) ts)
-walk_rest columns (on_delete ∷ ts) a b c ps = walk_rest columns ts a true c ps ∙ after_delete a b c ps ts (in_order (trigger_places columns) ts)
-walk_rest columns (on_update ∷ ts) a b c ps = walk_rest columns ts a b true ps ∙ after_update a b c ps ts (in_order (trigger_places columns) ts)
-walk_rest columns (on_update_of names ∷ ts) a b c ps =
-    ap (λ r. and_then {B = Triggers} (and_then {A = List Bool} {B = Triggers} r (λ set. Ok (record { inserted = a; deleted = b; updated = c; columns = set }))) (λ more. with_triggers columns more ts)) (names_walk columns ps names)
-    ∙ after_columns columns a b c ps names ts (in_order (place_named columns) names) (in_order (trigger_places columns) ts) (walk_rest columns ts)
+walk_rest : SetsTakePlaces → (columns : List ColumnDefinition) (ts : List Trigger) → Rest columns ts (in_order (trigger_places columns) ts)
+walk_rest law columns [] a b c ps = λ i. Ok (With (sym (or_false a) i) (sym (or_false b) i) (sym (or_false c) i) (sym (append-nil ps) i))
+walk_rest law columns (on_insert ∷ ts) a b c ps = walk_rest law columns ts true b c ps ∙ after_insert a b c ps ts (in_order (trigger_places columns) ts)
+walk_rest law columns (on_delete ∷ ts) a b c ps = walk_rest law columns ts a true c ps ∙ after_delete a b c ps ts (in_order (trigger_places columns) ts)
+walk_rest law columns (on_update ∷ ts) a b c ps = walk_rest law columns ts a b true ps ∙ after_update a b c ps ts (in_order (trigger_places columns) ts)
+walk_rest law columns (on_update_of names ∷ ts) a b c ps =
+    ap (λ r. and_then {B = Triggers} (and_then {A = List Bool} {B = Triggers} r (λ set. Ok (record { inserted = a; deleted = b; updated = c; columns = set }))) (λ more. with_triggers columns more ts)) (names_walk law columns ps names)
+    ∙ after_columns columns a b c ps names ts (in_order (place_named columns) names) (in_order (trigger_places columns) ts) (walk_rest law columns ts)
 
-pub triggers_walk : (columns : List ColumnDefinition) (ts : List Trigger) → with_triggers columns no_trigger ts ≡ walk_triggers columns ts
-triggers_walk columns ts = walk_rest columns ts false false false []
+pub triggers_walk : SetsTakePlaces → (columns : List ColumnDefinition) (ts : List Trigger) → with_triggers columns no_trigger ts ≡ walk_triggers columns ts
+triggers_walk law columns ts = walk_rest law columns ts false false false []

@@ -1,16 +1,13 @@
 -- The walk of a rule's triggers, one at a time.
-use Rattle.std.specs.Prelude.{ℕ, Bool, true, false, nat_lt, if◌then◌else◌, List, [], ◌∷◌, slice_set, Result, Ok}
+use Rattle.std.specs.Prelude.{Bool, true, false, List, [], ◌∷◌, Result, Ok}
 use Rattle.sb_value.specs.declared.value.ColumnDefinition.{ColumnDefinition}
 use Rattle.sb_value.specs.declared.refusal.Refusal.{Refusal}
 use Rattle.sb_value.specs.declared.net.Triggers.{Triggers}
+use Rattle.sb_value.specs.Columns.{with_place}
 use Rattle.sb_value.specs.Flags.{no_flags}
 use Rattle.sb_syntax.specs.Tree.{Name, Trigger, on_insert, on_delete, on_update, on_update_of}
 use Rattle.sb_check.specs.Names.{and_then}
 use Rattle.sb_check.specs.Triggers.{place_named}
-
--- the set with a place that it can hold
-abbrev pub with_place : List Bool → ℕ → List Bool
-with_place set place = if nat_lt place 8 then slice_set set place true else set
 
 -- the set with the places of columns
 abbrev pub with_names : List ColumnDefinition → List Bool → List Name → Result (List Bool) Refusal

@@ -8,7 +8,7 @@ ghost use Rattle.sb_syntax.specs.Views as view;
 use crate::fault::Reason;
 use crate::scope::column_in;
 use sb_syntax::Trigger;
-use sb_value::{ColumnDefinition, Columns, Name, Triggers};
+use sb_value::{ColumnDefinition, Columns, Name, Triggers, sets_take_places};
 
 /// The set with the places of these columns. It holds the first eight.
 fn with_names(
@@ -64,10 +64,11 @@ fn all_triggers(columns: &[ColumnDefinition], list: &[Trigger]) -> Result<Trigge
 }
 
 /// The triggers of a rule.
-#[tactic(auto, using(crate::proofs::TriggerWalk::triggers_walk), unfolding(crate::specs::RuleParts::rule_triggers))]
 pub(crate) fn triggers(columns: &[ColumnDefinition], list: &[Trigger]) -> Result<Triggers, Reason>
     ensures { Walks (rule_triggers columns.now (map view.trigger list.now)) result }
 {
+    // for the proof: the places so far are the set so far
+    sets_take_places();
     match all_triggers(columns, list) {
         Ok(all) => Ok(all),
         Err(reason) => Err(reason),

@@ -1,15 +1,11 @@
 -- What a statement does to each row for which its condition is true.
-use Rattle.std.specs.Prelude.{ℕ, Bool, nat_lt, true, if◌then◌else◌, slice_set, List, [], ◌∷◌, ◌++◌, Option, Some, option_map}
+use Rattle.std.specs.Prelude.{ℕ, Bool, if◌then◌else◌, List, [], ◌∷◌, ◌++◌, Option, Some, option_map}
 use Rattle.sb_value.specs.declared.value.Value.{Value}
 use Rattle.sb_value.specs.declared.change.Change.{Change}
 use Rattle.sb_eval.specs.Seen.{Seen}
 use Rattle.sb_eval.specs.Statement.{delete_change, update_change, assigned, scope_of}
 use Rattle.sb_eval.specs.declared.change.Effect.{Effect}
 use Rattle.sb_eval.specs.declared.change.Effect.TheVariants.{Delete, Update}
-
--- the set with one place more, if it is below 8
-abbrev pub with_place : List Bool → ℕ → List Bool
-with_place set place = if nat_lt place 8 then slice_set set place true else set
 
 -- the change of one row, with the columns that an update names
 abbrev pub change_of : Seen → ℕ → Effect → ℕ × List Value → Option Change

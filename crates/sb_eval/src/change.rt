@@ -1,7 +1,7 @@
 //! The changes of single rows.
 ghost use Rattle.std.specs.Prelude.{◌≡◌, ◌++◌, ◌∷◌, [], map, slice_set, IfOk, OnOk, option_and_then};
 ghost use Rattle.sb_eval.specs.Answer.{Gives, Leaves};
-ghost use Rattle.sb_eval.specs.Effect.{change_of, with_change, with_place};
+ghost use Rattle.sb_eval.specs.Effect.{change_of, with_change};
 ghost use Rattle.sb_eval.specs.Known.{IsRight, AssignmentsRight, EffectRight};
 ghost use Rattle.sb_eval.specs.Meaning as meaning;
 ghost use Rattle.sb_eval.specs.Scopes.{scope_of, value_seen};
@@ -18,7 +18,7 @@ use crate::scope::Scope;
 use crate::sources::Sources;
 use crate::value_ref::ValueRef;
 use sb_check::{Assignment, Condition};
-use sb_value::{Change, Columns, Kind, Row, TableId, Value};
+use sb_value::{Change, Columns, Kind, Row, TableId, Value, sets_take_places};
 use smallvec::SmallVec;
 use std::alloc::{AllocError, Global};
 use std::marker::Model;
@@ -97,22 +97,13 @@ fn update_change<S: Sources>(
 pub(crate) fn places(assignments: &[Assignment]) -> Columns
     ensures { result ≡ spec.places_of assignments.now }
 {
+    // for the proof: the places so far are the set so far
+    sets_take_places();
     let mut columns = Columns::empty();
     for assignment in assignments {
-        columns = with(columns, assignment.place);
+        columns = columns.with_place(assignment.place);
     }
     columns
-}
-
-/// The set with one place more. No table has a column above the eighth.
-fn with(columns: Columns, place: u8) -> Columns
-    ensures { result ≡ with_place columns place }
-{
-    if place < 8 {
-        columns.with(place)
-    } else {
-        columns
-    }
 }
 
 /// A row while its columns are assigned.

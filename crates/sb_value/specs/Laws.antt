@@ -5,6 +5,7 @@ use Rattle.sb_value.specs.Literal.{value_text, literal_value}
 use Rattle.sb_value.specs.declared.value.Value.{Value}
 use Rattle.sb_value.specs.declared.value.Value.TheVariants.{Int, Text}
 use Rattle.std.specs.Prelude.{◌≤◌, ◌-◌, ◌^◌, length, pos, negsuc, int_le, Ok, ◌≡◌, ℕ, Bool, true, false, ◌&&◌, List, [], ◌∷◌, ◌++◌, IsTrue, IsFalse, ◌↔◌}
+use Rattle.sb_value.specs.Columns.{set_of, with_place}
 use Rattle.sb_value.specs.NetEffect.{history, net_effect, then_net, has_update, is_triggered}
 use Rattle.sb_value.specs.Table.{Entry, table_at, IsTable, IsProper}
 use Rattle.sb_value.specs.Order.{Precedes, precedes}
@@ -67,3 +68,7 @@ IsInRange (Text bytes) = (length bytes ≤ 255) × AllPass is_printable bytes
 -- the text of a value is a literal that gives the value back
 abbrev pub LiteralsGiveValuesBack : Type 0
 LiteralsGiveValuesBack = (v : Value) → IsInRange v → literal_value (value_text v) ≡ Ok v
+
+-- a set of places with one place more is the set of the longer list
+abbrev pub SetsTakePlaces : Type 0
+SetsTakePlaces = (places : List ℕ) (place : ℕ) → with_place (set_of places) place ≡ set_of (places ++ place ∷ [])

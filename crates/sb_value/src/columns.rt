@@ -1,5 +1,6 @@
 //! Sets of column places.
 ghost use Rattle.std.specs.Prelude.{◌≡◌, ◌<◌, ◌==◌, ◌||◌, ℕ, slice_set, true, false};
+ghost use Rattle.sb_value.specs.Columns.{with_place};
 ghost use Rattle.sb_value.specs.Flags.{no_flags, flag_at, union, share_place};
 
 use std::marker::Model;
@@ -52,6 +53,13 @@ impl Columns {
         Columns {
             bits: self.bits | 1 << place,
         }
+    }
+
+    /// The set with the place, too, if it is one that a set can hold.
+    pub fn with_place(self, place: u8) -> Columns
+        ensures { result ≡ with_place self place }
+    {
+        if place < 8 { self.with(place) } else { self }
     }
 
     /// The places that either set has.

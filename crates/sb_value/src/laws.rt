@@ -1,5 +1,5 @@
 //! Laws of the definitions, each the contract of a function that does nothing.
-ghost use Rattle.sb_value.specs.Laws.{LiteralsGiveValuesBack, NetEffectsCompose, ProperListsHaveLives, LastChangeTriggers, PrecedesIsClosure};
+ghost use Rattle.sb_value.specs.Laws.{LiteralsGiveValuesBack, NetEffectsCompose, ProperListsHaveLives, LastChangeTriggers, PrecedesIsClosure, SetsTakePlaces};
 
 /// The text of a value is a literal, and gives the value back.
 pub fn literals_give_values_back()
@@ -24,4 +24,9 @@ pub fn last_change_triggers()
 /// The test for precedence is the transitive closure of the pairs.
 pub fn precedes_is_closure()
     ensures { PrecedesIsClosure }
+{}
+
+/// A set of places with one place more is the set of the list with that place at its end.
+pub fn sets_take_places()
+    ensures { SetsTakePlaces }
 {}

@@ -22,7 +22,7 @@ pub use id::{
 };
 pub use laws::{
     last_change_triggers, literals_give_values_back, net_effects_compose, precedes_is_closure,
-    proper_lists_have_lives,
+    proper_lists_have_lives, sets_take_places,
 };
 pub use literal::{LiteralError, print_value};
 pub use lock::Mode;

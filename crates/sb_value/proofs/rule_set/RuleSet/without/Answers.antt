@@ -6,6 +6,6 @@ pub returns : goal.returns
 returns c =
     let in_range : c.args.rule < 64 = omega (arith, c.number.ensures.value, c.number.ensures.in_range) in
     let value =
-      flags_of-without c.number.result c.self.inside.bits c.number.ensures.in_range
-      ∙ (λ i. slice_set (c.self.view_is i) (c.number.ensures.value i) false) in
+    flags_of-without c.number.result c.self.inside.bits c.number.ensures.in_range
+    ∙ (λ i. slice_set (c.self.view_is i) (c.number.ensures.value i) false) in
     record { value = value; members = flag_at-without 64 c.self.inside.bits c.args.rule c.args.self _ c.self.view_is in_range value }

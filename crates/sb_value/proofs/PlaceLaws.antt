@@ -1,13 +1,10 @@
--- One more place in a set of places.
-use Rattle.std.proofs.Common.{ℕ, zero, suc, ◌+◌, ◌<◌, ◌≤◌, ◌≡◌, refl, sym, ap, ◌∙◌, Bool, true, false, List, [], ◌∷◌, ◌++◌, map, arith, length, take, get_or}
-use Rattle.std.proofs.lemmas.List.{map-append, take_more}
-use Rattle.sb_check.specs.declared.tree.Assignment.{Assignment}
+-- A set of places with one more.
+use Rattle.std.proofs.Common.{ℕ, zero, suc, ◌≤◌, ◌≡◌, refl, sym, ap, ◌∙◌, Bool, true, false, List, [], ◌∷◌, ◌++◌, map, arith}
 use Rattle.std.proofs.lemmas.List.Folds.{list_any-append}
 use Rattle.std.proofs.lemmas.Bool.{ne_eqb, le-ltb}
 use Rattle.std.specs.Prelude.{nat_lt, ◌==◌, ◌||◌}
 use Rattle.std.specs.List.{list_any}
-use Rattle.sb_value.specs.Columns.{set_of}
-use Rattle.sb_eval.specs.Effect.{with_place}
+use Rattle.sb_value.specs.Columns.{set_of, with_place}
 
 abbrev eights : List ℕ
 eights = 0 ∷ 1 ∷ 2 ∷ 3 ∷ 4 ∷ 5 ∷ 6 ∷ 7 ∷ []
@@ -77,12 +74,3 @@ any_last k ps p = list_any-append (λ q. q == k) ps (p ∷ []) ∙ ap (λ b. lis
 
 pub set_more : (ps : List ℕ) (p : ℕ) → with_place (set_of ps) p ≡ set_of (ps ++ p ∷ [])
 set_more ps p = added (λ k. list_any (λ q. q == k) ps) p ∙ (λ i. map (λ k. sym (any_last k ps p) i) eights)
-
--- the place of one assignment more
-pub places_more : (list : List Assignment) (i : ℕ) (a : Assignment) → i < length list → a ≡ get_or list i a
-    → with_place (set_of (map (λ x. x.place) (take i list))) a.place ≡ set_of (map (λ x. x.place) (take (i + 1) list))
-places_more list i a lt item =
-    let e : take (i + 1) list ≡ take i list ++ a ∷ [] = take_more list i a lt ∙ ap (λ x. take i list ++ x ∷ []) (sym item) in
-    set_more (map (λ x. x.place) (take i list)) a.place
-    ∙ ap set_of (sym (map-append (λ (x : Assignment). x.place) (take i list) (a ∷ [])))
-    ∙ ap (λ l. set_of (map (λ x. x.place) l)) (sym e)
