@@ -1,0 +1,188 @@
+//! A block as commands over fresh tables: each is read, its names are looked up, and it is evaluated.
+//!
+//! What is refused is answered as a session would be; a text that is no command also says where it
+//! stops being one. `create table` makes a table. A change is made, and answered with its number. A
+//! rule isn't kept: its condition says whether it holds, and has its rows. The first four tables are
+//! a rule's transition tables: inserted, deleted, old-updated and new-updated.
+
+use crate::changes::push_changes;
+use crate::fault::ScriptFault;
+use crate::lent::Lent;
+use crate::repeat::push_number;
+use crate::tables::Tables;
+use sb_check::{Query, Resolved, RuleParts, Statement, resolve};
+use sb_eval::{EvalError, changes, condition_rows, holds, select_rows};
+use sb_syntax::{Command, ParseError, parse};
+use sb_tenant::{Reply, SharedRows};
+use sb_value::{Refusal, RowList};
+use sb_wire::write_bare_reply;
+use std::alloc::Global;
+
+/// Adds the answers to these lines.
+pub fn play_statements(
+    alloc: Global,
+    shows_changes: bool,
+    lines: &[u8],
+    out: &mut Vec<u8>,
+) -> Result<(), ScriptFault> {
+    let mut tables = Tables::new(alloc);
+    for line in lines.split(|byte| *byte == b'\n') {
+        if !line.is_empty() {
+            answer_again(alloc, shows_changes, &mut tables, line, out)?;
+        }
+    }
+    Ok(())
+}
+
+/// Answers a line. One that is refused memory is made once again.
+fn answer_again(
+    alloc: Global,
+    shows_changes: bool,
+    tables: &mut Tables,
+    line: &[u8],
+    out: &mut Vec<u8>,
+) -> Result<(), ScriptFault> {
+    let start = out.len();
+    match answer(alloc, shows_changes, tables, line, out) {
+        Err(ScriptFault::NoMemory) => {
+            out.truncate(start);
+            answer(alloc, shows_changes, tables, line, out)
+        }
+        other => other,
+    }
+}
+
+fn answer(
+    alloc: Global,
+    shows_changes: bool,
+    tables: &mut Tables,
+    line: &[u8],
+    out: &mut Vec<u8>,
+) -> Result<(), ScriptFault> {
+    match parse(alloc, line) {
+        Ok(command) => answer_command(alloc, shows_changes, tables, &command, out),
+        Err(ParseError::NoMemory) => Err(ScriptFault::NoMemory),
+        Err(ParseError::Syntax { place }) => {
+            refuse(Refusal::Syntax, out)?;
+            push_place(place, out)
+        }
+    }
+}
+
+fn answer_command(
+    alloc: Global,
+    shows_changes: bool,
+    tables: &mut Tables,
+    command: &Command,
+    out: &mut Vec<u8>,
+) -> Result<(), ScriptFault> {
+    match resolve(alloc, command, &*tables) {
+        Ok(Resolved::NewTable) => tables.create(alloc, command)?,
+        Ok(Resolved::Query(query)) => return select(alloc, &*tables, &query, out),
+        Ok(Resolved::Change(statement)) => {
+            return change(alloc, shows_changes, tables, &statement, out);
+        }
+        Ok(Resolved::Rule(parts)) => return rule(alloc, &*tables, &parts, out),
+        Ok(Resolved::Plain | Resolved::Table(_)) => {}
+        Err(refusal) => return refuse(refusal, out),
+    }
+    write_bare_reply(out, &Reply::Ok)?;
+    Ok(())
+}
+
+/// Adds the refusal's line.
+fn refuse(refusal: Refusal, out: &mut Vec<u8>) -> Result<(), ScriptFault> {
+    if matches!(refusal, Refusal::NoMemory) {
+        return Err(ScriptFault::NoMemory);
+    }
+    write_bare_reply(out, &Reply::No(refusal))?;
+    Ok(())
+}
+
+/// Adds the place where a text stops being a command.
+fn push_place(place: usize, out: &mut Vec<u8>) -> Result<(), ScriptFault> {
+    out.extend_from_slice(b"at ")?;
+    push_number(place as u64, out)?;
+    out.push(b'\n')?;
+    Ok(())
+}
+
+/// Adds the line of what can't be evaluated.
+fn fail(error: EvalError, out: &mut Vec<u8>) -> Result<(), ScriptFault> {
+    match error {
+        EvalError::TooBig => refuse(Refusal::TooBig, out),
+        EvalError::Overflow => refuse(Refusal::Overflow, out),
+        EvalError::TooManyRows => refuse(Refusal::TooManyRows, out),
+        EvalError::NoMemory => Err(ScriptFault::NoMemory),
+    }
+}
+
+/// Adds the rows, or why there are none.
+fn push_rows(
+    alloc: Global,
+    rows: Result<RowList, EvalError>,
+    out: &mut Vec<u8>,
+) -> Result<(), ScriptFault> {
+    match rows {
+        Ok(rows) => {
+            let reply = Reply::Rows(SharedRows::new(alloc, rows)?);
+            write_bare_reply(out, &reply)?;
+            Ok(())
+        }
+        Err(error) => fail(error, out),
+    }
+}
+
+fn select(
+    alloc: Global,
+    tables: &Tables,
+    query: &Query,
+    out: &mut Vec<u8>,
+) -> Result<(), ScriptFault> {
+    let lent = Lent::new(alloc, tables)?;
+    push_rows(alloc, select_rows(alloc, query, &lent), out)
+}
+
+/// Adds whether a rule's condition holds, and its rows.
+fn rule(
+    alloc: Global,
+    tables: &Tables,
+    parts: &RuleParts,
+    out: &mut Vec<u8>,
+) -> Result<(), ScriptFault> {
+    let Some(condition) = &parts.condition else {
+        write_bare_reply(out, &Reply::Ok)?;
+        return Ok(());
+    };
+    let lent = Lent::new(alloc, tables)?;
+    match holds(alloc, condition, &lent) {
+        Ok(true) => out.extend_from_slice(b"true\n")?,
+        Ok(false) => out.extend_from_slice(b"false\n")?,
+        Err(error) => fail(error, out)?,
+    }
+    push_rows(alloc, condition_rows(alloc, condition, &lent), out)
+}
+
+/// Makes the changes of a statement, and adds their number.
+fn change(
+    alloc: Global,
+    shows_changes: bool,
+    tables: &mut Tables,
+    statement: &Statement,
+    out: &mut Vec<u8>,
+) -> Result<(), ScriptFault> {
+    let found = {
+        let lent = Lent::new(alloc, &*tables)?;
+        changes(alloc, statement, &lent)
+    };
+    match found {
+        Ok(list) => {
+            write_bare_reply(out, &Reply::Count(list.len() as u64))?;
+            if shows_changes {
+                push_changes(list.as_slice(), out)?;
+            }
+            tables.make_all(list)
+        }
+        Err(error) => fail(error, out),
+    }
+}
