@@ -1,8 +1,9 @@
-//! Why the program ends early.
+//! The faults of a run.
 
 use std::alloc::{AllocError, AllocFailed};
 use thiserror::Error;
 
+/// Why the program ends early.
 #[derive(Clone, Copy, Debug, Drop, PartialEq, Eq, Error)]
 pub enum ScriptFault {
     #[error("read failed")]
@@ -17,8 +18,8 @@ pub enum ScriptFault {
     BadHeader,
     #[error("a repeated text can't be read")]
     BadRepeat,
-    #[error("a change can't be made")]
-    BadChange,
+    #[error("a table can't take a change")]
+    BadTable,
 }
 
 impl From<AllocError> for ScriptFault {

@@ -3,6 +3,7 @@ ghost use Rattle.std.specs.Prelude.{◌≡◌, [], map, unwrap_or, option_map};
 ghost use Rattle.sb_value.specs.Table.{empty_table, table_at, values};
 ghost use Rattle.sb_scripts.specs.Lent.{asker};
 
+use crate::fault::ScriptFault;
 use crate::tables::{Stored, Tables};
 use sb_check::Source;
 use sb_eval::{LentRow, Sources};
@@ -32,7 +33,7 @@ impl<'r> Model for LentTable<'r> {
     ghost invariant = { λ t. length t.rows.items ≡ length t.numbers.now };
 }
 
-/// A row of values as it is lent.
+/// The rows of a table as they are lent.
 fn lend<'r>(alloc: Global, table: &'r Stored) -> Result<Vec<LentRow<'r>>, AllocError> {
     let mut lent = Vec::new(alloc);
     for row in table.rows() {
@@ -44,12 +45,12 @@ fn lend<'r>(alloc: Global, table: &'r Stored) -> Result<Vec<LentRow<'r>>, AllocE
 }
 
 impl<'r> LentTable<'r> {
-    /// The table, or none where its rows aren't as many as their numbers.
-    fn new(alloc: Global, table: &'r Stored) -> Result<LentTable<'r>, AllocError> {
+    /// The table, whose rows are as many as their numbers.
+    fn new(alloc: Global, table: &'r Stored) -> Result<LentTable<'r>, ScriptFault> {
         let rows = lend(alloc, table)?;
         let numbers = table.numbers();
         if rows.len() != numbers.len() {
-            return Err(AllocError);
+            return Err(ScriptFault::BadTable);
         }
         Ok(LentTable {
             id: table.id(),
@@ -91,7 +92,7 @@ pub struct Lent<'r> {
 }
 
 impl<'r> Lent<'r> {
-    pub fn new(alloc: Global, tables: &'r Tables) -> Result<Lent<'r>, AllocError> {
+    pub fn new(alloc: Global, tables: &'r Tables) -> Result<Lent<'r>, ScriptFault> {
         let mut lent = Vec::new(alloc);
         for table in tables.list() {
             lent.push(LentTable::new(alloc, table)?)?;

@@ -49,7 +49,7 @@ impl Stored {
     {
         match self.numbers.iter().position(|number| *number == tuple) {
             Some(place) if place < self.rows.len() => Ok(place),
-            _ => Err(ScriptFault::BadChange),
+            _ => Err(ScriptFault::BadTable),
         }
     }
 
@@ -59,7 +59,7 @@ impl Stored {
             Kind::Inserted => {
                 self.next = change.tuple.saturating_add(1);
                 self.numbers.push(change.tuple)?;
-                self.rows.push(change.new.ok_or(ScriptFault::BadChange)?)?;
+                self.rows.push(change.new.ok_or(ScriptFault::BadTable)?)?;
             }
             Kind::Deleted => {
                 let place = self.place_of(change.tuple)?;
@@ -68,7 +68,7 @@ impl Stored {
             }
             Kind::Updated => {
                 let place = self.place_of(change.tuple)?;
-                self.rows[place] = change.new.ok_or(ScriptFault::BadChange)?;
+                self.rows[place] = change.new.ok_or(ScriptFault::BadTable)?;
             }
         }
         Ok(())
@@ -89,10 +89,10 @@ impl Tables {
     /// Makes the table of a `create table`.
     pub fn create(&mut self, alloc: Global, command: &Command) -> Result<(), ScriptFault> {
         let Command::CreateTable(name, columns) = command else {
-            return Err(ScriptFault::BadChange);
+            return Err(ScriptFault::BadTable);
         };
         if self.list.len() >= TABLE_LIMIT {
-            return Err(ScriptFault::BadChange);
+            return Err(ScriptFault::BadTable);
         }
         self.list.push(Stored {
             id: TableId::new(self.list.len() as u8),
@@ -112,7 +112,7 @@ impl Tables {
         };
         let place = first.table.index();
         let Some(table) = self.list.get_mut(place) else {
-            return Err(ScriptFault::BadChange);
+            return Err(ScriptFault::BadTable);
         };
         table.numbers.reserve(changes.len())?;
         table.rows.reserve(changes.len())?;
