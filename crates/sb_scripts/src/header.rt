@@ -12,6 +12,8 @@ pub enum Lines {
     Statements,
     /// The same, with each change shown.
     Changes,
+    /// Lines of a session of a tenant by itself.
+    Tenant,
 }
 
 #[derive(Clone, Copy)]
@@ -23,6 +25,10 @@ pub struct Header {
     pub pieces: u32,
     /// How many bytes at the end aren't sent.
     pub cut: u32,
+    /// Behind so many bytes, reads fail.
+    pub fails: u32,
+    /// For how many bytes the writer has room.
+    pub room: u32,
 }
 
 impl Header {
@@ -34,6 +40,8 @@ impl Header {
             bound: 1000,
             pieces: u32::MAX,
             cut: 0,
+            fails: u32::MAX,
+            room: u32::MAX,
         };
         for word in line.split(|byte| *byte == b' ') {
             if let Some((setting, value)) = cut(word, b'=') {
@@ -56,6 +64,8 @@ impl Header {
             b"bound" => self.bound = number,
             b"pieces" => self.pieces = number,
             b"cut" => self.cut = number,
+            b"fails" => self.fails = number,
+            b"room" => self.room = number,
             _ => return Err(ScriptFault::BadHeader),
         }
         Ok(())
@@ -66,6 +76,7 @@ fn read_lines(value: &[u8]) -> Result<Lines, ScriptFault> {
     match value {
         b"statements" => Ok(Lines::Statements),
         b"changes" => Ok(Lines::Changes),
+        b"tenant" => Ok(Lines::Tenant),
         _ => Err(ScriptFault::BadHeader),
     }
 }

@@ -4,9 +4,11 @@
 //! below it, up to the next header, are commands:
 //!
 //! - of a stream on a fresh cell, as a client sends them. `tenants=2` and `bound=3` say of which
-//!   cell, `pieces=7` that a read gives at most 7 bytes, `cut=1` that the last byte isn't sent;
-//! - or, with `lines=statements`, of commands over fresh tables, as `statements` has them; with
-//!   `lines=changes` each change of a statement is shown, too.
+//!   cell, `pieces=7` that a read gives at most 7 bytes, `cut=1` that the last byte isn't sent,
+//!   `fails=30` that reads fail behind 30 bytes, `room=6` that the writer has room for 6 bytes;
+//! - with `lines=tenant`, of session 0 of one tenant by itself, as `tenant` shows it;
+//! - with `lines=statements`, over fresh tables, as `statements` has them; with `lines=changes` each
+//!   change of a statement is shown, too.
 //!
 //! A line without a byte stands between blocks and is no command. `*65 LINE` is 65 such lines, and
 //! `{40|TEXT}` within a line is that text 40 times. An answer of more than nine equal lines in a row
@@ -14,6 +16,7 @@
 #![tactic(auto)]
 
 mod changes;
+mod ends;
 mod fault;
 mod header;
 mod lent;
@@ -22,6 +25,7 @@ mod repeat;
 mod statements;
 mod stream;
 mod tables;
+mod tenant;
 
 use fault::ScriptFault;
 use player::Player;

@@ -5,6 +5,7 @@ use crate::header::{Header, Lines};
 use crate::repeat::{push_folded, push_lines};
 use crate::statements::play_statements;
 use crate::stream::play_stream;
+use crate::tenant::play_tenant;
 use std::alloc::Global;
 
 /// The block that is being read, and the answers so far.
@@ -73,6 +74,7 @@ impl Player {
             Lines::Stream => play_stream(self.alloc, &header, commands, &mut text)?,
             Lines::Statements => play_statements(self.alloc, false, commands, &mut text)?,
             Lines::Changes => play_statements(self.alloc, true, commands, &mut text)?,
+            Lines::Tenant => play_tenant(self.alloc, commands, &mut text)?,
         }
         self.commands.clear();
         push_folded(text.as_slice(), &mut self.answers)

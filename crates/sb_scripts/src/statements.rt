@@ -2,20 +2,24 @@
 //!
 //! What is refused is answered as a session would be; a text that is no command also says where it
 //! stops being one. `create table` makes a table. A change is made, and answered with its number. A
-//! rule isn't kept: its condition says whether it holds, and has its rows. The first four tables are
-//! a rule's transition tables: inserted, deleted, old-updated and new-updated.
+//! rule isn't kept: it is answered whether its condition holds, or how processing would end, and with
+//! the condition's rows. The first four tables are a rule's transition tables: inserted, deleted,
+//! old-updated and new-updated. A statement that is refused memory is made once again.
 
 use crate::changes::push_changes;
 use crate::fault::ScriptFault;
 use crate::lent::Lent;
 use crate::repeat::push_number;
 use crate::tables::Tables;
-use sb_check::{Query, Resolved, RuleParts, Statement, resolve};
+use sb_check::{
+    InRule, Query, Resolved, RuleParts, Schema as _, Statement, resolve, resolve_action,
+    resolve_actions, resolve_triggers,
+};
 use sb_eval::{EvalError, changes, condition_rows, holds, select_rows};
-use sb_syntax::{Command, ParseError, parse};
-use sb_tenant::{Reply, SharedRows};
-use sb_value::{Refusal, RowList};
-use sb_wire::write_bare_reply;
+use sb_syntax::{Command, ParseError, RuleText, parse};
+use sb_tenant::{NamedTrace, Reply, SharedRows};
+use sb_value::{Name, Refusal, RowList, Verdict};
+use sb_wire::{LINE_LIMIT, WireRefusal, write_bare_refusal, write_bare_reply};
 use std::alloc::Global;
 
 /// Adds the answers to these lines.
@@ -27,7 +31,9 @@ pub fn play_statements(
 ) -> Result<(), ScriptFault> {
     let mut tables = Tables::new(alloc);
     for line in lines.split(|byte| *byte == b'\n') {
-        if !line.is_empty() {
+        if line.len() > LINE_LIMIT {
+            write_bare_refusal(out, WireRefusal::TooLong)?;
+        } else if !line.is_empty() {
             answer_again(alloc, shows_changes, &mut tables, line, out)?;
         }
     }
@@ -82,7 +88,12 @@ fn answer_command(
         Ok(Resolved::Change(statement)) => {
             return change(alloc, shows_changes, tables, &statement, out);
         }
-        Ok(Resolved::Rule(parts)) => return rule(alloc, &*tables, &parts, out),
+        Ok(Resolved::Rule(parts)) => {
+            return match command {
+                Command::CreateRule(text) => rule(alloc, &*tables, text, &parts, out),
+                _ => Err(ScriptFault::BadTable),
+            };
+        }
         Ok(Resolved::Plain | Resolved::Table(_)) => {}
         Err(refusal) => return refuse(refusal, out),
     }
@@ -107,13 +118,13 @@ fn push_place(place: usize, out: &mut Vec<u8>) -> Result<(), ScriptFault> {
     Ok(())
 }
 
-/// Adds the line of what can't be evaluated.
-fn fail(error: EvalError, out: &mut Vec<u8>) -> Result<(), ScriptFault> {
+/// Why a statement that can't be evaluated is refused.
+fn refusal(error: EvalError) -> Refusal {
     match error {
-        EvalError::TooBig => refuse(Refusal::TooBig, out),
-        EvalError::Overflow => refuse(Refusal::Overflow, out),
-        EvalError::TooManyRows => refuse(Refusal::TooManyRows, out),
-        EvalError::NoMemory => Err(ScriptFault::NoMemory),
+        EvalError::TooBig => Refusal::TooBig,
+        EvalError::Overflow => Refusal::Overflow,
+        EvalError::TooManyRows => Refusal::TooManyRows,
+        EvalError::NoMemory => Refusal::NoMemory,
     }
 }
 
@@ -129,7 +140,7 @@ fn push_rows(
             write_bare_reply(out, &reply)?;
             Ok(())
         }
-        Err(error) => fail(error, out),
+        Err(error) => refuse(refusal(error), out),
     }
 }
 
@@ -143,13 +154,35 @@ fn select(
     push_rows(alloc, select_rows(alloc, query, &lent), out)
 }
 
+/// Resolves a rule's triggers and actions by themselves.
+fn resolve_parts(alloc: Global, tables: &Tables, text: &RuleText) -> Result<(), Refusal> {
+    let Some(entry) = tables.table(&text.table) else {
+        return Err(Refusal::NoTable);
+    };
+    let triggers = resolve_triggers(entry.columns, text.triggers.as_slice())?;
+    let inside = InRule {
+        outside: tables,
+        columns: entry.columns,
+        triggers,
+    };
+    if let Some(first) = text.actions.first() {
+        resolve_action(alloc, first, &inside)?;
+    }
+    resolve_actions(alloc, text.actions.as_slice(), &inside)?;
+    Ok(())
+}
+
 /// Adds whether a rule's condition holds, and its rows.
 fn rule(
     alloc: Global,
     tables: &Tables,
+    text: &RuleText,
     parts: &RuleParts,
     out: &mut Vec<u8>,
 ) -> Result<(), ScriptFault> {
+    if let Err(refusal) = resolve_parts(alloc, tables, text) {
+        return refuse(refusal, out);
+    }
     let Some(condition) = &parts.condition else {
         write_bare_reply(out, &Reply::Ok)?;
         return Ok(());
@@ -158,9 +191,23 @@ fn rule(
     match holds(alloc, condition, &lent) {
         Ok(true) => out.extend_from_slice(b"true\n")?,
         Ok(false) => out.extend_from_slice(b"false\n")?,
-        Err(error) => fail(error, out)?,
+        Err(EvalError::NoMemory) => return Err(ScriptFault::NoMemory),
+        Err(error) => push_error(alloc, &text.name, refusal(error), out)?,
     }
     push_rows(alloc, condition_rows(alloc, condition, &lent), out)
+}
+
+/// Adds how processing ends where a rule's condition is refused.
+fn push_error(
+    alloc: Global,
+    rule: &Name,
+    refusal: Refusal,
+    out: &mut Vec<u8>,
+) -> Result<(), ScriptFault> {
+    let mut trace = NamedTrace::empty(alloc);
+    trace.push(*rule, Verdict::Error)?;
+    write_bare_reply(out, &Reply::ByError(*rule, refusal, trace))?;
+    Ok(())
 }
 
 /// Makes the changes of a statement, and adds their number.
@@ -183,6 +230,6 @@ fn change(
             }
             tables.make_all(list)
         }
-        Err(error) => fail(error, out),
+        Err(error) => refuse(refusal(error), out),
     }
 }

@@ -1,30 +1,16 @@
 //! A block as a stream on a fresh cell.
 
+use crate::ends::{Failing, Narrow};
 use crate::fault::ScriptFault;
 use crate::header::Header;
 use sb_cell::Cell;
 use sb_wire::{StreamError, run_stream};
 use std::alloc::Global;
-use std::io::{self, Read};
 
 /// The most tenants of a cell.
 const MOST_TENANTS: u32 = 256;
 
-/// Bytes, of which a read gives a few.
-#[derive(Drop)]
-struct Pieces<'a> {
-    rest: &'a [u8],
-    size: usize,
-}
-
-impl<'a> Read for Pieces<'a> {
-    fn read(&mut self, buf: &mut [u8]) -> io::Result<usize> {
-        let most = self.size.min(buf.len());
-        self.rest.read(&mut buf[..most])
-    }
-}
-
-/// Adds the replies to these lines.
+/// Adds the replies to these lines, and the fault that ends them, if one does.
 pub fn play_stream(
     alloc: Global,
     header: &Header,
@@ -36,14 +22,23 @@ pub fn play_stream(
     }
     let mut cell = Cell::new(alloc, header.tenants, header.bound)?;
     let sent = input.len().saturating_sub(header.cut as usize);
-    let mut reader = Pieces {
-        rest: &input[..sent],
-        size: header.pieces as usize,
+    let mut reader = Failing::new(header, &input[..sent]);
+    let mut writer = Narrow::new(header, out);
+    let ended = run_stream(alloc, &mut reader, &mut writer, &mut cell);
+    push_end(ended, out)
+}
+
+/// Adds the fault that ended a stream.
+fn push_end(ended: Result<(), StreamError>, out: &mut Vec<u8>) -> Result<(), ScriptFault> {
+    let fault: &[u8] = match ended {
+        Ok(()) => return Ok(()),
+        Err(StreamError::ReadFault) => b"fault: read failed\n",
+        Err(StreamError::WriteFault) => b"fault: write failed\n",
+        Err(StreamError::NoMemory) => return Err(ScriptFault::NoMemory),
     };
-    match run_stream(alloc, &mut reader, out, &mut cell) {
-        Ok(()) => Ok(()),
-        Err(StreamError::ReadFault) => Err(ScriptFault::Read),
-        Err(StreamError::WriteFault) => Err(ScriptFault::Write),
-        Err(StreamError::NoMemory) => Err(ScriptFault::NoMemory),
+    if !out.is_empty() && !out.ends_with(b"\n".as_slice()) {
+        out.push(b'\n')?;
     }
+    out.extend_from_slice(fault)?;
+    Ok(())
 }

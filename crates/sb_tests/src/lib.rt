@@ -2,8 +2,6 @@
 #![tactic(auto)]
 
 #[cfg(test)]
-mod actions;
-#[cfg(test)]
 mod changes;
 #[cfg(test)]
 mod index;
@@ -18,12 +16,6 @@ mod rawlog;
 #[cfg(test)]
 mod rulesets;
 #[cfg(test)]
-mod stream;
-#[cfg(test)]
 mod tables;
 #[cfg(test)]
-mod tenant;
-#[cfg(test)]
 mod value;
-#[cfg(test)]
-mod wire;
