@@ -1,16 +1,17 @@
 #!/usr/bin/env python3
-"""Runs tests with each request for memory refused in turn.
+"""Plays a script with each request for memory refused in turn.
 
-    refused_memory.py PROGRAM TEST
+    refused_memory.py PROGRAM SCRIPTS NAME
 
-PROGRAM is what `rt test` builds of a crate's tests, as
-crates/sb_tests/out/sb_tests_tests, and TEST the full name of one, as
-eval_memory::memory_refused_in_turn. It is run once for each request that the
-process makes, from the first on, with that request refused, until a run meets
-no refusal. `malloc` and `realloc` are taken by a small library, which `cc`
-compiles. The test has to bear one refusal: it makes a line again that was
-refused memory, and asks for the same answer. Printed are the number of runs,
-how many of them passed, and the first lines of those that did not.
+PROGRAM is sb_scripts as `rt run` builds it, SCRIPTS its standard input, and
+NAME how the header of one block begins, behind `# `. The block is played once
+for each request that the process makes, from the first on, with that request
+refused, until a run meets no refusal. `malloc` and `realloc` are taken by a
+small library, which `cc` compiles. Statements that are refused memory are made
+once again, so a run passes where it has the same answers; a run may also end
+with the program's status for want of memory, where a script itself can't be
+read or its answers can't be kept. Printed are the number of runs, how many had
+the same answers and how many ended, and the first lines of all others.
 """
 
 import os
@@ -38,6 +39,8 @@ void *malloc(size_t size) { return refuses() ? 0 : __libc_malloc(size); }
 void *realloc(void *block, size_t size) { return refuses() ? 0 : __libc_realloc(block, size); }
 """
 
+ENDED = (2, b"refused\nfault: out of memory\n")
+
 
 def library(folder):
     source = os.path.join(folder, "refuse.c")
@@ -48,28 +51,44 @@ def library(folder):
     return made
 
 
-def run(program, test, made, number):
-    """The status and the standard error of a run whose request of this number is refused."""
+def block(scripts, name):
+    """The lines of the block whose header begins so."""
+    with open(scripts, "rb") as file:
+        blocks = file.read().split(b"\n# ")
+    found = [text for text in blocks if text.startswith(name.encode())]
+    if len(found) != 1:
+        sys.exit(f"{len(found)} blocks begin so: {name}")
+    return b"# " + found[0] + b"\n"
+
+
+def run(program, script, made, number):
+    """The status, standard output and standard error of a run whose request of this number is refused."""
     environment = dict(os.environ, LD_PRELOAD=made, REFUSED=str(number))
-    ended = subprocess.run([program, *test], env=environment, capture_output=True, timeout=60)
-    return ended.returncode, ended.stderr.decode(errors="replace")
+    ended = subprocess.run([program], input=script, env=environment, capture_output=True, timeout=60)
+    return ended.returncode, ended.stdout, ended.stderr
 
 
 def main():
-    program, test = os.path.abspath(sys.argv[1]), sys.argv[2:]
+    program, scripts, name = os.path.abspath(sys.argv[1]), sys.argv[2], sys.argv[3]
+    script = block(scripts, name)
     with tempfile.TemporaryDirectory() as folder:
         made = library(folder)
-        number, passed = 0, 0
+        status, answers, _ = run(program, script, made, 0)
+        if status != 0:
+            sys.exit(f"status {status} with no request refused")
+        number, same, ended = 0, 0, 0
         while True:
             number += 1
-            status, told = run(program, test, made, number)
-            if "refused\n" not in told:
+            status, told, fault = run(program, script, made, number)
+            if b"refused\n" not in fault:
                 break
-            if status == 0:
-                passed += 1
+            if status == 0 and told == answers:
+                same += 1
+            elif (status, fault) == ENDED:
+                ended += 1
             else:
-                print(f"request {number}: status {status}: {told.strip().splitlines()[:2]}")
-        print(f"{number - 1} requests, {passed} runs passed, status with none refused {status}")
+                print(f"request {number}: status {status}: {fault[:200]} {told[:200]}")
+        print(f"{number - 1} requests: {same} runs with the same answers, {ended} ended")
 
 
 if __name__ == "__main__":

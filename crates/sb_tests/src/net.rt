@@ -36,16 +36,21 @@ fn append_kind<L: ChangeLog>(
     old: i64,
     new: i64,
 ) -> Result<(), AllocError> {
-    let (old, new) = match kind {
-        Kind::Inserted => (None, Some(new)),
-        Kind::Deleted => (Some(old), None),
-        Kind::Updated => (Some(old), Some(new)),
+    let before = if kind == Kind::Inserted {
+        None
+    } else {
+        Some(old)
     };
-    append(rt, log, change(alloc, 0, 1, kind, old, new)?);
+    let after = if kind == Kind::Deleted {
+        None
+    } else {
+        Some(new)
+    };
+    append(rt, log, change(alloc, 0, 1, kind, before, after)?);
     Ok(())
 }
 
-fn all_pairs<L: ChangeLog>(rt: &impl Abort, alloc: Global, log: &mut L) -> Result<(), Fail> {
+pub fn all_pairs<L: ChangeLog>(rt: &impl Abort, alloc: Global, log: &mut L) -> Result<(), Fail> {
     let inserted = Some((Kind::Inserted, None, Some(6)));
     let deleted = Some((Kind::Deleted, Some(4), None));
     let updated = Some((Kind::Updated, Some(4), Some(6)));
@@ -71,7 +76,7 @@ fn all_pairs<L: ChangeLog>(rt: &impl Abort, alloc: Global, log: &mut L) -> Resul
     Ok(())
 }
 
-fn one_life<L: ChangeLog>(rt: &impl Abort, alloc: Global, log: &mut L) -> Result<(), Fail> {
+pub fn one_life<L: ChangeLog>(rt: &impl Abort, alloc: Global, log: &mut L) -> Result<(), Fail> {
     log.reserve(3)?;
     append_kind(rt, alloc, log, Kind::Inserted, 0, 5)?;
     append_kind(rt, alloc, log, Kind::Updated, 5, 6)?;
@@ -118,7 +123,7 @@ fn integers(alloc: Global, rows: &RowList) -> Result<Vec<Option<i64>>, AllocErro
     Ok(integers)
 }
 
-fn tables<L: ChangeLog>(rt: &impl Abort, alloc: Global, log: &mut L) -> Result<(), Fail> {
+pub fn tables<L: ChangeLog>(rt: &impl Abort, alloc: Global, log: &mut L) -> Result<(), Fail> {
     four_changes(rt, alloc, log)?;
     let none = Columns::empty();
     let rows = [
@@ -154,7 +159,7 @@ fn tables<L: ChangeLog>(rt: &impl Abort, alloc: Global, log: &mut L) -> Result<(
     Ok(())
 }
 
-fn triggers<L: ChangeLog>(rt: &impl Abort, alloc: Global, log: &mut L) -> Result<(), Fail> {
+pub fn triggers<L: ChangeLog>(rt: &impl Abort, alloc: Global, log: &mut L) -> Result<(), Fail> {
     four_changes(rt, alloc, log)?;
     let none = Columns::empty();
     let rows = [
@@ -172,42 +177,11 @@ fn triggers<L: ChangeLog>(rt: &impl Abort, alloc: Global, log: &mut L) -> Result
     Ok(())
 }
 
-/// 4,096 updates of 256 tuples in turn.
-fn many_changes<L: ChangeLog>(rt: &impl Abort, alloc: Global, log: &mut L) -> Result<(), Fail> {
-    log.reserve(4096)?;
-    for i in 0..4096 {
-        let update = change(alloc, 0, i % 256, Kind::Updated, Some(1), Some(2))?;
-        append(rt, log, update);
-    }
-    let triggers = on_update(true, Columns::empty());
-    let tables = transition_tables(alloc, log, session_of(0), table(), triggers, 0)?;
-    assert_eq!(rt; tables.new_updated.len(), 256);
-    let quiet = on_update(false, Columns::empty().with(3));
-    assert!(rt; !is_triggered(log, session_of(0), table(), quiet, 0));
-    Ok(())
-}
-
 #[test]
-fn a_plain_log_has_the_net_effect_of_all_pairs(rt: HostRuntime) -> Result<(), Fail> {
-    all_pairs(&rt, rt.alloc(), &mut PlainLog::new(rt.alloc()))
-}
-
-#[test]
-fn a_plain_log_has_the_net_effects_of_one_life(rt: HostRuntime) -> Result<(), Fail> {
-    one_life(&rt, rt.alloc(), &mut PlainLog::new(rt.alloc()))
-}
-
-#[test]
-fn a_plain_log_gives_transition_tables(rt: HostRuntime) -> Result<(), Fail> {
-    tables(&rt, rt.alloc(), &mut PlainLog::new(rt.alloc()))
-}
-
-#[test]
-fn a_plain_log_triggers_rules(rt: HostRuntime) -> Result<(), Fail> {
-    triggers(&rt, rt.alloc(), &mut PlainLog::new(rt.alloc()))
-}
-
-#[test]
-fn a_plain_log_takes_many_changes(rt: HostRuntime) -> Result<(), Fail> {
-    many_changes(&rt, rt.alloc(), &mut PlainLog::new(rt.alloc()))
+fn a_plain_log_has_net_effects(rt: HostRuntime) -> Result<(), Fail> {
+    let alloc = rt.alloc();
+    all_pairs(&rt, alloc, &mut PlainLog::new(alloc))?;
+    one_life(&rt, alloc, &mut PlainLog::new(alloc))?;
+    tables(&rt, alloc, &mut PlainLog::new(alloc))?;
+    triggers(&rt, alloc, &mut PlainLog::new(alloc))
 }

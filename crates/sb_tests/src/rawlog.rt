@@ -7,33 +7,29 @@ use std::alloc::{AllocError, Global};
 use std::process::Abort;
 use std::test::Fail;
 
-/// The times of a walk over the changes of the kind.
-fn times_by_op<L: ChangeLog>(
-    alloc: Global,
+/// The walk over the changes of the kind has these times.
+fn compare_op<L: ChangeLog>(
+    rt: &impl Abort,
     log: &L,
     who: Who,
     kind: Kind,
     since: u64,
-) -> Result<Vec<u64>, AllocError> {
-    let mut times = Vec::new(alloc);
+    times: &[u64],
+) {
+    let mut left = times.iter();
     for (time, _) in log.by_op(who, table(), kind, since) {
-        times.push(time)?;
+        assert!(rt; left.next() == Some(&time));
     }
-    Ok(times)
+    assert!(rt; left.next().is_none());
 }
 
-/// The times of a walk over the changes of tuple 1.
-fn times_by_tuple<L: ChangeLog>(
-    alloc: Global,
-    log: &L,
-    who: Who,
-    since: u64,
-) -> Result<Vec<u64>, AllocError> {
-    let mut times = Vec::new(alloc);
+/// The walk over the changes of tuple 1 has these times.
+fn compare_tuple<L: ChangeLog>(rt: &impl Abort, log: &L, who: Who, since: u64, times: &[u64]) {
+    let mut left = times.iter();
     for (time, _) in log.by_tuple(who, table(), 1, since) {
-        times.push(time)?;
+        assert!(rt; left.next() == Some(&time));
     }
-    Ok(times)
+    assert!(rt; left.next().is_none());
 }
 
 /// An insert by tenant 0, one by tenant 8, and an update by tenant 0, all of tuple 1.
@@ -53,24 +49,20 @@ fn three_changes<L: ChangeLog>(
     Ok(())
 }
 
-fn walks<L: ChangeLog>(rt: &impl Abort, alloc: Global, log: &mut L) -> Result<(), Fail> {
+pub fn walks<L: ChangeLog>(rt: &impl Abort, alloc: Global, log: &mut L) -> Result<(), Fail> {
     assert_eq!(rt; log.now(), 0);
     three_changes(rt, alloc, log)?;
     assert_eq!(rt; log.now(), 3);
     assert_eq!(rt; log.len(), 3);
     assert_eq!(rt; log.spare(), 0);
-    let all = times_by_tuple(alloc, log, session_of(0), 0)?;
-    assert_eq!(rt; all.as_slice(), [2, 0].as_slice());
-    let newer = times_by_tuple(alloc, log, session_of(0), 1)?;
-    assert_eq!(rt; newer.as_slice(), [2].as_slice());
-    let others = times_by_op(alloc, log, session_of(8), Kind::Inserted, 0)?;
-    assert_eq!(rt; others.as_slice(), [1].as_slice());
-    let none = times_by_op(alloc, log, session_of(8), Kind::Updated, 0)?;
-    assert_eq!(rt; none.len(), 0);
+    compare_tuple(rt, log, session_of(0), 0, &[2, 0]);
+    compare_tuple(rt, log, session_of(0), 1, &[2]);
+    compare_op(rt, log, session_of(8), Kind::Inserted, 0, &[1]);
+    compare_op(rt, log, session_of(8), Kind::Updated, 0, &[]);
     Ok(())
 }
 
-fn steps<L: ChangeLog>(rt: &impl Abort, alloc: Global, log: &mut L) -> Result<(), Fail> {
+pub fn steps<L: ChangeLog>(rt: &impl Abort, alloc: Global, log: &mut L) -> Result<(), Fail> {
     three_changes(rt, alloc, log)?;
     let Some(update) = log.tuple_first(session_of(0), table(), 1, 0) else {
         return Err(Fail::new("no change of the tuple"));
@@ -92,7 +84,7 @@ fn steps<L: ChangeLog>(rt: &impl Abort, alloc: Global, log: &mut L) -> Result<()
     Ok(())
 }
 
-fn takes_out<L: ChangeLog>(rt: &impl Abort, alloc: Global, log: &mut L) -> Result<(), Fail> {
+pub fn takes_out<L: ChangeLog>(rt: &impl Abort, alloc: Global, log: &mut L) -> Result<(), Fail> {
     three_changes(rt, alloc, log)?;
     let Some(shown) = log.newest(session_of(0)) else {
         return Err(Fail::new("no newest change"));
@@ -109,15 +101,13 @@ fn takes_out<L: ChangeLog>(rt: &impl Abort, alloc: Global, log: &mut L) -> Resul
 }
 
 /// A place that is free again shows nothing of what stood there.
-fn fills_again<L: ChangeLog>(rt: &impl Abort, alloc: Global, log: &mut L) -> Result<(), Fail> {
+pub fn fills_again<L: ChangeLog>(rt: &impl Abort, alloc: Global, log: &mut L) -> Result<(), Fail> {
     three_changes(rt, alloc, log)?;
     let _update = log.take_newest(session_of(0));
     log.forget(session_of(8));
     append(rt, log, change(alloc, 1, 1, Kind::Inserted, None, Some(9))?);
-    let times = times_by_op(alloc, log, session_of(1), Kind::Inserted, 0)?;
-    assert_eq!(rt; times.as_slice(), [3].as_slice());
-    let others = times_by_op(alloc, log, session_of(8), Kind::Inserted, 0)?;
-    assert_eq!(rt; others.len(), 0);
+    compare_op(rt, log, session_of(1), Kind::Inserted, 0, &[3]);
+    compare_op(rt, log, session_of(8), Kind::Inserted, 0, &[]);
     let Some(newest) = log.newest(session_of(1)) else {
         return Err(Fail::new("no newest change"));
     };
@@ -127,21 +117,10 @@ fn fills_again<L: ChangeLog>(rt: &impl Abort, alloc: Global, log: &mut L) -> Res
 }
 
 #[test]
-fn a_plain_log_walks(rt: HostRuntime) -> Result<(), Fail> {
-    walks(&rt, rt.alloc(), &mut PlainLog::new(rt.alloc()))
-}
-
-#[test]
-fn a_plain_log_steps(rt: HostRuntime) -> Result<(), Fail> {
-    steps(&rt, rt.alloc(), &mut PlainLog::new(rt.alloc()))
-}
-
-#[test]
-fn a_plain_log_gives_changes_back(rt: HostRuntime) -> Result<(), Fail> {
-    takes_out(&rt, rt.alloc(), &mut PlainLog::new(rt.alloc()))
-}
-
-#[test]
-fn a_plain_log_is_filled_again(rt: HostRuntime) -> Result<(), Fail> {
-    fills_again(&rt, rt.alloc(), &mut PlainLog::new(rt.alloc()))
+fn a_plain_log_is_a_log(rt: HostRuntime) -> Result<(), Fail> {
+    let alloc = rt.alloc();
+    walks(&rt, alloc, &mut PlainLog::new(alloc))?;
+    steps(&rt, alloc, &mut PlainLog::new(alloc))?;
+    takes_out(&rt, alloc, &mut PlainLog::new(alloc))?;
+    fills_again(&rt, alloc, &mut PlainLog::new(alloc))
 }

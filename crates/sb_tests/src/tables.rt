@@ -213,23 +213,23 @@ fn each_change_is_undone(rt: HostRuntime) -> Result<(), Fail> {
     explore(&rt, rt.alloc(), &mut table, &plain, 6)
 }
 
+/// Inserts a row, and gives its number.
+fn insert_one(rt: &impl Abort, alloc: Global, table: &mut Table, value: i64) -> Result<u64, Fail> {
+    Ok(insert(rt, alloc, table, value)?.tuple)
+}
+
 /// Fills and empties the table within transactions, and settles it after some.
 #[test]
 fn settling_drops_deleted_rows(rt: HostRuntime) -> Result<(), Fail> {
     let mut table = Table::new(rt.alloc(), columns(rt.alloc())?);
     for round in 0..3i64 {
-        let first = insert(&rt, rt.alloc(), &mut table, round)?;
-        let second = insert(&rt, rt.alloc(), &mut table, round + 10)?;
-        let _ = delete(&rt, &mut table, first.tuple)?;
+        let first = insert_one(&rt, rt.alloc(), &mut table, round)?;
+        let second = insert_one(&rt, rt.alloc(), &mut table, round + 10)?;
+        assert_eq!(rt; delete(&rt, &mut table, first)?.tuple, first);
         table.settle();
-        assert!(rt; table.row(first.tuple).is_none());
-        assert_eq!(rt;
-            table.row(second.tuple).and_then(|row| only_integer(row)),
-            Some(round + 10)
-        );
+        assert!(rt; table.row(first).is_none() && table.row(second).is_some());
     }
-    assert_eq!(rt; table.len(), 3);
-    assert_eq!(rt; table.next(), 7);
+    assert_eq!(rt; (table.len(), table.next()), (3, 7));
     tables_before_are_one();
     Ok(())
 }
@@ -239,13 +239,12 @@ fn settling_drops_deleted_rows(rt: HostRuntime) -> Result<(), Fail> {
 fn a_full_table_refuses_a_row(rt: HostRuntime) -> Result<(), Fail> {
     let mut table = Table::new(rt.alloc(), columns(rt.alloc())?);
     for _ in 0..ROW_LIMIT {
-        let _ = insert(&rt, rt.alloc(), &mut table, 1)?;
+        insert_one(&rt, rt.alloc(), &mut table, 1)?;
     }
-    let _ = delete(&rt, &mut table, 7)?;
-    let _ = insert(&rt, rt.alloc(), &mut table, 2)?;
+    assert_eq!(rt; delete(&rt, &mut table, 7)?.tuple, 7);
+    insert_one(&rt, rt.alloc(), &mut table, 2)?;
     table.reserve(1)?;
-    assert!(rt; table.spare() > 0);
-    assert!(rt; table.next() < u64::MAX);
+    assert!(rt; table.spare() > 0 && table.next() < u64::MAX);
     assert_eq!(rt; table.insert(row_of(rt.alloc(), 3)?), Err(TooManyRows));
     assert_eq!(rt; table.len(), ROW_LIMIT);
     Ok(())

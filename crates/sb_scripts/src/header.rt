@@ -1,0 +1,82 @@
+//! What a header says of its block.
+
+use crate::fault::ScriptFault;
+use crate::repeat::{cut, number};
+
+/// What the lines of a block are.
+#[derive(Clone, Copy, PartialEq, Eq)]
+pub enum Lines {
+    /// Lines of a stream on a cell.
+    Stream,
+    /// Commands over tables.
+    Statements,
+    /// The same, with each change shown.
+    Changes,
+    /// Lines of a session of a tenant by itself.
+    Tenant,
+}
+
+#[derive(Clone, Copy)]
+pub struct Header {
+    pub lines: Lines,
+    pub tenants: u32,
+    pub bound: u32,
+    /// The most bytes that a read gives.
+    pub pieces: u32,
+    /// How many bytes at the end aren't sent.
+    pub cut: u32,
+    /// Behind so many bytes, reads fail.
+    pub fails: u32,
+    /// For how many bytes the writer has room.
+    pub room: u32,
+}
+
+impl Header {
+    /// The settings of a header's line.
+    pub fn read(line: &[u8]) -> Result<Header, ScriptFault> {
+        let mut header = Header {
+            lines: Lines::Stream,
+            tenants: 1,
+            bound: 1000,
+            pieces: u32::MAX,
+            cut: 0,
+            fails: u32::MAX,
+            room: u32::MAX,
+        };
+        for word in line.split(|byte| *byte == b' ') {
+            if let Some((setting, value)) = cut(word, b'=') {
+                header.set(setting, value)?;
+            }
+        }
+        Ok(header)
+    }
+
+    fn set(&mut self, setting: &[u8], value: &[u8]) -> Result<(), ScriptFault> {
+        if setting == b"lines".as_slice() {
+            self.lines = read_lines(value)?;
+            return Ok(());
+        }
+        let Some(number) = number(value) else {
+            return Err(ScriptFault::BadHeader);
+        };
+        match setting {
+            b"tenants" => self.tenants = number,
+            b"bound" => self.bound = number,
+            b"pieces" => self.pieces = number,
+            b"cut" => self.cut = number,
+            b"fails" => self.fails = number,
+            b"room" => self.room = number,
+            _ => return Err(ScriptFault::BadHeader),
+        }
+        Ok(())
+    }
+}
+
+fn read_lines(value: &[u8]) -> Result<Lines, ScriptFault> {
+    match value {
+        b"statements" => Ok(Lines::Statements),
+        b"changes" => Ok(Lines::Changes),
+        b"tenant" => Ok(Lines::Tenant),
+        _ => Err(ScriptFault::BadHeader),
+    }
+}

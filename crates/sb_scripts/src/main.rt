@@ -1,0 +1,60 @@
+//! Plays scripts, blocks of lines below a header, and writes what each line is answered.
+//!
+//! A header is `# name setting=value ..`; its words without `=` say what the block shows. The lines
+//! below it, up to the next header, are commands:
+//!
+//! - of a stream on a fresh cell, as a client sends them. `tenants=2` and `bound=3` say of which
+//!   cell, `pieces=7` that a read gives at most 7 bytes, `cut=1` that the last byte isn't sent,
+//!   `fails=30` that reads fail behind 30 bytes, `room=6` that the writer has room for 6 bytes;
+//! - with `lines=tenant`, of session 0 of one tenant by itself, as `tenant` shows it;
+//! - with `lines=statements`, over fresh tables, as `statements` has them; with `lines=changes` each
+//!   change of a statement is shown, too.
+//!
+//! A line without a byte stands between blocks and is no command. `*65 LINE` is 65 such lines, and
+//! `{40|TEXT}` within a line is that text 40 times. An answer of more than nine equal lines in a row
+//! has one of them and their number.
+#![tactic(auto)]
+
+mod changes;
+mod ends;
+mod fault;
+mod header;
+mod player;
+mod repeat;
+mod statements;
+mod stream;
+mod tables;
+mod tenant;
+
+use fault::ScriptFault;
+use player::Player;
+use std::io::{self, Read as _, Write as _};
+use std::process::ExitCode;
+
+/// The status of a run that ends early.
+const FAULT: u8 = 2;
+
+fn main(rt: HostRuntime) -> ExitCode {
+    match run(&rt) {
+        Ok(()) => ExitCode::SUCCESS,
+        Err(fault) => {
+            // a standard error that takes nothing can't be told of
+            let _told = eprintln!(rt; "fault: {fault}");
+            ExitCode::from(FAULT)
+        }
+    }
+}
+
+/// Plays the scripts of standard input.
+fn run(rt: &HostRuntime) -> Result<(), ScriptFault> {
+    let mut input = Vec::new(rt.alloc());
+    if rt.reader().read_to_end(&mut input).is_err() {
+        return Err(ScriptFault::Read);
+    }
+    let mut player = Player::new(rt.alloc());
+    player.play_all(input.as_slice())?;
+    if io::writer(rt).write_all(player.answers()).is_err() {
+        return Err(ScriptFault::Write);
+    }
+    Ok(())
+}

@@ -1,0 +1,44 @@
+//! A block as a stream on a fresh cell.
+
+use crate::ends::{Failing, Narrow};
+use crate::fault::ScriptFault;
+use crate::header::Header;
+use sb_cell::Cell;
+use sb_wire::{StreamError, run_stream};
+use std::alloc::Global;
+
+/// The most tenants of a cell.
+const MOST_TENANTS: u32 = 256;
+
+/// Adds the replies to these lines, and the fault that ends them, if one does.
+pub fn play_stream(
+    alloc: Global,
+    header: &Header,
+    input: &[u8],
+    out: &mut Vec<u8>,
+) -> Result<(), ScriptFault> {
+    if header.tenants > MOST_TENANTS {
+        return Err(ScriptFault::BadHeader);
+    }
+    let mut cell = Cell::new(alloc, header.tenants, header.bound)?;
+    let sent = input.len().saturating_sub(header.cut as usize);
+    let mut reader = Failing::new(header, &input[..sent]);
+    let mut writer = Narrow::new(header, out);
+    let ended = run_stream(alloc, &mut reader, &mut writer, &mut cell);
+    push_end(ended, out)
+}
+
+/// Adds the fault that ended a stream.
+fn push_end(ended: Result<(), StreamError>, out: &mut Vec<u8>) -> Result<(), ScriptFault> {
+    let fault: &[u8] = match ended {
+        Ok(()) => return Ok(()),
+        Err(StreamError::ReadFault) => b"fault: read failed\n",
+        Err(StreamError::WriteFault) => b"fault: write failed\n",
+        Err(StreamError::NoMemory) => return Err(ScriptFault::NoMemory),
+    };
+    if !out.is_empty() && !out.ends_with(b"\n".as_slice()) {
+        out.push(b'\n')?;
+    }
+    out.extend_from_slice(fault)?;
+    Ok(())
+}
