@@ -82,20 +82,23 @@ fn answer_command(
     out: &mut Vec<u8>,
 ) -> Result<(), ScriptFault> {
     match resolve(alloc, command, &*tables) {
-        Ok(Resolved::NewTable) => tables.create(alloc, command)?,
-        Ok(Resolved::Query(query)) => return select(alloc, &*tables, &query, out),
-        Ok(Resolved::Change(statement)) => {
-            return change(alloc, shows_changes, tables, &statement, out);
+        Ok(Resolved::NewTable) => {
+            accept(out)?;
+            tables.create(alloc, command)
         }
-        Ok(Resolved::Rule(parts)) => {
-            return match command {
-                Command::CreateRule(text) => rule(alloc, &*tables, text, &parts, out),
-                _ => Err(ScriptFault::BadTable),
-            };
-        }
-        Ok(Resolved::Plain | Resolved::Table(_)) => {}
-        Err(refusal) => return refuse(refusal, out),
+        Ok(Resolved::Query(query)) => select(alloc, &*tables, &query, out),
+        Ok(Resolved::Change(statement)) => change(alloc, shows_changes, tables, &statement, out),
+        Ok(Resolved::Rule(parts)) => match command {
+            Command::CreateRule(text) => rule(alloc, &*tables, text, &parts, out),
+            _ => Err(ScriptFault::BadTable),
+        },
+        Ok(Resolved::Plain | Resolved::Table(_)) => accept(out),
+        Err(refusal) => refuse(refusal, out),
     }
+}
+
+/// Adds the line of what is done.
+fn accept(out: &mut Vec<u8>) -> Result<(), ScriptFault> {
     write_bare_reply(out, &Reply::Ok)?;
     Ok(())
 }
@@ -182,8 +185,7 @@ fn rule(
         return refuse(refusal, out);
     }
     let Some(condition) = &parts.condition else {
-        write_bare_reply(out, &Reply::Ok)?;
-        return Ok(());
+        return accept(out);
     };
     match holds(alloc, condition, tables) {
         Ok(true) => out.extend_from_slice(b"true\n")?,
