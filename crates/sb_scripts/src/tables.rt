@@ -25,9 +25,8 @@ pub struct Tables {
     list: Vec<Stored>,
 }
 
-/// Adds a row.
+/// Adds a row, for which there is room.
 fn add(table: &mut Table, row: Row) -> Result<(), ScriptFault> {
-    table.reserve(1)?;
     if table.spare() == 0 || table.next() == u64::MAX {
         return Err(ScriptFault::BadTable);
     }
@@ -82,7 +81,7 @@ impl Tables {
         Ok(())
     }
 
-    /// Makes the changes, which are all of one table.
+    /// Makes the changes, which are all of one table; where memory runs out, none of them.
     pub fn make_all(&mut self, changes: Vec<Change>) -> Result<(), ScriptFault> {
         let Some(first) = changes.first() else {
             return Ok(());
@@ -91,6 +90,7 @@ impl Tables {
         let Some(stored) = self.list.get_mut(place) else {
             return Err(ScriptFault::BadTable);
         };
+        stored.table.reserve(changes.len())?;
         for change in changes {
             make(&mut stored.table, change)?;
         }
