@@ -24,6 +24,13 @@ fn deletes(alloc: Global, table: TableId, other: TableId) -> Result<RuleParts, A
     })
 }
 
+fn create(alloc: Global, catalog: &mut Catalog, name: Name, table: TableId, other: TableId) -> u8 {
+    match deletes(alloc, table, other) {
+        Ok(parts) => number(catalog.create(name, parts)),
+        Err(_) => 191,
+    }
+}
+
 /// The number of the rule, or 100 and the number of the refusal.
 fn number(answer: Result<RuleId, Refusal>) -> u8 {
     match answer {
@@ -45,17 +52,18 @@ fn order(catalog: &Catalog) -> [u8; 3] {
 fn rules_come_and_go(rt: HostRuntime) -> Result<(), Fail> {
     let alloc = rt.alloc();
     let mut catalog = Catalog::new(alloc);
-    let [a, b, c, d] = [b"a", b"b", b"c", b"d"].map(|bytes| Name::new(bytes));
+    let (a, b) = (Name::new(b"a"), Name::new(b"b"));
+    let (c, d) = (Name::new(b"c"), Name::new(b"d"));
     let [t, u, v] = [TableId::new(0), TableId::new(1), TableId::new(2)];
-    assert_eq!(rt; number(catalog.create(a, deletes(alloc, t, u)?)), 0);
-    assert_eq!(rt; number(catalog.create(b, deletes(alloc, t, t)?)), 1);
-    assert_eq!(rt; number(catalog.create(c, deletes(alloc, t, v)?)), 2);
-    assert_eq!(rt; number(catalog.create(b, deletes(alloc, t, t)?)), 151);
+    assert_eq!(rt; create(alloc, &mut catalog, a, t, u), 0);
+    assert_eq!(rt; create(alloc, &mut catalog, b, t, t), 1);
+    assert_eq!(rt; create(alloc, &mut catalog, c, t, v), 2);
+    assert_eq!(rt; create(alloc, &mut catalog, b, t, t), 151);
     assert_eq!(rt; number(catalog.drop_rule(&d)), 150);
     assert_eq!(rt; number(catalog.drop_rule(&a)), 0);
     assert_eq!(rt; order(&catalog), [1, 2, 99]);
     assert!(rt; catalog.uses(v) && catalog.uses(t) && !catalog.uses(u));
-    assert_eq!(rt; number(catalog.create(d, deletes(alloc, u, t)?)), 0);
+    assert_eq!(rt; create(alloc, &mut catalog, d, u, t), 0);
     assert_eq!(rt; order(&catalog), [1, 2, 0]);
     assert_eq!(rt; number(catalog.deactivate(&c)), 2);
     assert_eq!(rt; catalog.find(&c).is_some_and(|rule| rule.active), false);
