@@ -3,6 +3,7 @@ use Rattle.std.specs.Prelude.{ℕ, List, [], Option, None, Some, Result, Ok}
 use Rattle.sb_value.specs.declared.value.ColumnDefinition.{ColumnDefinition}
 use Rattle.sb_value.specs.declared.net.Triggers.{Triggers}
 use Rattle.sb_value.specs.declared.refusal.Refusal.{Refusal}
+use Rattle.sb_value.specs.Table.{Entry}
 use Rattle.sb_syntax.specs.Tree.{RuleText}
 use Rattle.sb_syntax.specs.Tree as text
 use Rattle.sb_check.specs.Condition.{Query}
@@ -25,14 +26,17 @@ abbrev pub condition_parts : Schema → Option text.Query → Result (Option Que
 condition_parts schema None = Ok None
 condition_parts schema (Some q) = and_then (walk_query schema q []) (λ w. Ok (Some w.0))
 
--- the parts of a rule: its table, its triggers in order, its condition, its actions in order
-abbrev pub walk_parts : Schema → RuleText → Result Parts Refusal
-walk_parts schema r =
-    and_then (table_named schema r.table) (λ e.
+-- the parts of a rule on a table that is found: its triggers in order, its condition, its actions in order
+abbrev pub walk_parts_on : Schema → RuleText → Entry → Result Parts Refusal
+walk_parts_on schema r e =
     and_then (walk_triggers e.table.columns r.triggers) (λ triggers.
     and_then (condition_parts (in_rule schema e.table.columns triggers) r.condition) (λ condition.
     and_then (in_order (walk_action (in_rule schema e.table.columns triggers)) r.actions) (λ actions.
-    Ok (e.id, triggers, condition, actions)))))
+    Ok (e.id, triggers, condition, actions))))
+
+-- the parts of a rule: its table first
+abbrev pub walk_parts : Schema → RuleText → Result Parts Refusal
+walk_parts schema r = and_then (table_named schema r.table) (walk_parts_on schema r)
 
 -- ---- the same under names that proofs don't open by themselves
 

@@ -1,9 +1,8 @@
 -- Names stay distinct.
-use Rattle.std.proofs.Common.{◌≡◌, ◌∙◌, ℕ, Bool, true, false, ◌||◌, cond, List, [], ◌∷◌, ◌++◌, map, filter, ap, refl, ◌≤◌, length, take, drop, take_all, append-nil}
-use Rattle.std.proofs.lemmas.List.{drop_all}
+use Rattle.std.proofs.Common.{◌≡◌, ◌∙◌, ℕ, Bool, true, false, ◌||◌, cond, List, [], ◌∷◌, ◌++◌, map, filter, ap, refl}
 use Rattle.std.specs.List.{list_any}
 use Rattle.sb_value.specs.Name.{same_name}
-use Rattle.sb_rulesets.specs.declared.ruleset.Ruleset.{Ruleset}
+use Rattle.sb_rulesets.specs.Ruleset.{Ruleset}
 use Rattle.sb_rulesets.specs.Sets.{has_name, changed_if, changed, lacking, without_rule}
 use Rattle.sb_rulesets.specs.Distinct.{AreDistinct}
 
@@ -71,11 +70,3 @@ distinct_changed change name sets h = distinct_mapped (changed_if change name) (
 
 pub distinct_lacking : (rule : ℕ) (sets : List Ruleset) → AreDistinct sets → AreDistinct (without_rule sets rule)
 distinct_lacking rule sets h = distinct_mapped (lacking rule) (λ s. refl) sets h
-
-pub distinct_pushed : (sets : List Ruleset) (n : Ruleset) (b : Bool) → AreDistinct sets → has_name sets n.name ≡ false → AreDistinct (cond b (sets ++ n ∷ []) sets)
-distinct_pushed sets n true h e = distinct_appended sets n h e
-distinct_pushed sets n false h e = h
-
--- a change in place of all of a list
-pub map_whole : (f : Ruleset → Ruleset) (sets : List Ruleset) (i : ℕ) → length sets ≤ i → map f (take i sets) ++ drop i sets ≡ map f sets
-map_whole f sets i h = (λ j. map f (take_all i sets h j) ++ drop_all i sets h j) ∙ append-nil (map f sets)

@@ -2,7 +2,7 @@
 use Rattle.std.specs.Prelude.{List, [], ◌∷◌, IsFalse}
 use Rattle.std.specs.List.{list_any}
 use Rattle.sb_value.specs.Name.{same_name}
-use Rattle.sb_rulesets.specs.declared.ruleset.Ruleset.{Ruleset}
+use Rattle.sb_rulesets.specs.Ruleset.{Ruleset}
 
 -- no later ruleset has the name of an earlier one
 abbrev pub AreDistinct : List Ruleset → Type 0

@@ -1,3 +1,4 @@
+pub mod Ruleset
 pub mod Members
 pub mod Sets
 pub mod Distinct

@@ -5,7 +5,7 @@ use Rattle.sb_value.specs.Flags.{no_flags}
 use Rattle.sb_value.specs.Name.{same_name}
 use Rattle.sb_value.specs.declared.refusal.Refusal.{Refusal}
 use Rattle.sb_value.specs.declared.refusal.Refusal.TheVariants.{RulesetExists, TooManyRulesets}
-use Rattle.sb_rulesets.specs.declared.ruleset.Ruleset.{Ruleset}
+use Rattle.sb_rulesets.specs.Ruleset.{Ruleset}
 
 abbrev pub has_name : List Ruleset → List ℕ → Bool
 has_name sets name = list_any (λ s. same_name s.name name) sets

@@ -1,12 +1,11 @@
 //! All rulesets of a tenant.
-ghost use Rattle.std.specs.Prelude.{◌≡◌, ◌++◌, ◌∷◌, [], List, Option, IsTrue, IsFalse, length, map, filter, find, option_map, unwrap_or, slice_set, true, false, OnOk, IfErr, OnErr};
-ghost use Rattle.sb_value.specs.Flags.{no_flags};
-ghost use Rattle.sb_value.specs.Name.{same_name};
+ghost use Rattle.std.specs.Prelude.{◌≡◌, [], IsTrue, IsFalse, map, unwrap_or, slice_set, false, OnOk, IfErr, OnErr};
 ghost use Rattle.sb_rulesets.specs.Members.{with_rules, without_rules};
 ghost use Rattle.sb_rulesets.specs.Sets.{has_name, create_refusal, created, without_set, changed, without_rule, members_of};
 ghost use Rattle.sb_rulesets.specs.Distinct.{AreDistinct};
 
-use crate::ruleset::{Ruleset, with_all, without_all};
+use crate::members::{with_all, without_all};
+use indexmap::IndexMap;
 use sb_value::{Name, Refusal, RuleId, RuleSet};
 use std::alloc::Global;
 use std::marker::Model;
@@ -14,22 +13,22 @@ use std::marker::Model;
 /// How many rulesets a tenant has at most.
 pub const RULESET_LIMIT: usize = 16;
 
-/// The rulesets in order of creation. They are so few that a look-up goes over all of them.
+/// The rulesets in order of creation, found by name in constant time.
 #[derive(Drop)]
 pub struct Rulesets {
-    sets: Vec<Ruleset>,
+    sets: IndexMap<Name, RuleSet>,
 }
 
 impl Model for Rulesets {
-    ghost use Rattle.std.specs.Prelude.{List};
-    ghost use Rattle.sb_rulesets.specs.declared.ruleset.Ruleset.{Ruleset};
+    ghost use Rattle.std.specs.Prelude.{List, map};
+    ghost use Rattle.sb_rulesets.specs.Ruleset.{Ruleset, set_of};
     ghost use Rattle.sb_rulesets.specs.Distinct.{AreDistinct};
 
     ghost Value = { List Ruleset };
 
-    ghost view = { λ r. r.sets.items };
+    ghost view = { λ r. map set_of r.sets.entries };
 
-    ghost invariant = { λ r. AreDistinct r.sets.items };
+    ghost invariant = { λ r. AreDistinct (map set_of r.sets.entries) };
 }
 
 impl Rulesets {
@@ -38,7 +37,7 @@ impl Rulesets {
         ensures { result ≡ [] }
     {
         Rulesets {
-            sets: Vec::new(alloc),
+            sets: IndexMap::new(alloc),
         }
     }
 
@@ -55,9 +54,8 @@ impl Rulesets {
         if self.sets.len() >= RULESET_LIMIT {
             return Err(Refusal::TooManyRulesets);
         }
-        let rules = RuleSet::empty();
-        match self.sets.push(Ruleset { name, rules }) {
-            Ok(()) => Ok(()),
+        match self.sets.insert(name, RuleSet::empty()) {
+            Ok(_) => Ok(()),
             Err(_) => Err(Refusal::NoMemory),
         }
     }
@@ -69,9 +67,10 @@ impl Rulesets {
         ensures refused { IfErr result (λ e. (e ≡ Refusal.NoRuleset) × IsFalse (has_name self.old name.now)) }
         ensures unchanged { OnErr result (self.new ≡ self.old) }
     {
-        self.check(name)?;
-        self.sets.retain(|set| !set.name.is_same(name));
-        Ok(())
+        match self.sets.shift_remove(name) {
+            Some(_) => Ok(()),
+            None => Err(Refusal::NoRuleset),
+        }
     }
 
     /// Adds the rules to the ruleset of that name.
@@ -81,13 +80,13 @@ impl Rulesets {
         ensures refused { IfErr result (λ e. (e ≡ Refusal.NoRuleset) × IsFalse (has_name self.old name.now)) }
         ensures unchanged { OnErr result (self.new ≡ self.old) }
     {
-        self.check(name)?;
-        for set in self.sets.iter_mut() {
-            if set.name.is_same(name) {
-                set.rules = with_all(set.rules, rules);
+        match self.sets.get_mut(name) {
+            Some(set) => {
+                *set = with_all(*set, rules);
+                Ok(())
             }
+            None => Err(Refusal::NoRuleset),
         }
-        Ok(())
     }
 
     /// Takes the rules from the ruleset of that name.
@@ -97,22 +96,20 @@ impl Rulesets {
         ensures refused { IfErr result (λ e. (e ≡ Refusal.NoRuleset) × IsFalse (has_name self.old name.now)) }
         ensures unchanged { OnErr result (self.new ≡ self.old) }
     {
-        self.check(name)?;
-        for set in self.sets.iter_mut() {
-            if set.name.is_same(name) {
-                set.rules = without_all(set.rules, rules);
+        match self.sets.get_mut(name) {
+            Some(set) => {
+                *set = without_all(*set, rules);
+                Ok(())
             }
+            None => Err(Refusal::NoRuleset),
         }
-        Ok(())
     }
 
     /// Takes the rule out of every ruleset.
     pub fn drop_rule(&mut self, rule: RuleId)
         ensures { self.new ≡ without_rule self.old rule }
     {
-        for set in self.sets.iter_mut() {
-            set.rules = set.rules.without(rule);
-        }
+        take_out(&mut self.sets, rule);
     }
 
     /// The rules of the ruleset of that name.
@@ -120,30 +117,22 @@ impl Rulesets {
         ensures members { result ≡ members_of self.now name.now }
         ensures distinct { AreDistinct self.now }
     {
-        for set in &self.sets {
-            if set.name.is_same(name) {
-                return Some(set.rules);
-            }
-        }
-        None
+        self.sets.get(name).copied()
     }
 
     /// Whether there is a ruleset of that name.
     fn has(&self, name: &Name) -> bool
         ensures { result ≡ has_name self.now name.now }
     {
-        self.sets.iter().any(|set| set.name.is_same(name))
+        self.sets.contains_key(name)
     }
+}
 
-    /// Refuses a name that no ruleset has.
-    fn check(&self, name: &Name) -> Result<(), Refusal>
-        ensures known { OnOk result (IsTrue (has_name self.now name.now)) }
-        ensures unknown { IfErr result (λ e. (e ≡ Refusal.NoRuleset) × IsFalse (has_name self.now name.now)) }
-    {
-        if self.has(name) {
-            Ok(())
-        } else {
-            Err(Refusal::NoRuleset)
-        }
+/// Takes the rule out of each set.
+fn take_out(sets: &mut IndexMap<Name, RuleSet>, rule: RuleId)
+    ensures { sets.new.entries ≡ map (λ e. (e.0, slice_set e.1 rule false)) sets.old.entries }
+{
+    for place in 0..sets.len() {
+        sets[place] = sets[place].without(rule);
     }
 }

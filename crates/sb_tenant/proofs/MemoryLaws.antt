@@ -44,7 +44,11 @@ use Rattle.sb_tenant.specs.declared.reply.Reply.TheVariants as reply
 use Rattle.sb_tenant.specs.State.{State, Catalog, session_at, is_open, has_transaction, another_has_transaction, setting_of, progress_of, committed}
 use Rattle.sb_tenant.specs.Catalog.{is_active, is_member}
 use Rattle.sb_tenant.specs.Resolved.{Class, opens, ends, begins, defines, works, Resolved, NewRule, open_session, end_session, begin, commit, rollback, process_rules, process_ruleset, process_rule, create_table, drop_table, create_rule, drop_rule, activate_rule, deactivate_rule, create_ruleset, drop_ruleset, add_rules, del_rules, query, change}
-use Rattle.sb_tenant.specs.Walk.{rule_named, trigger_places, walk_triggers, rule_condition, acyclic, walk_rule, of_members, walk, class_of}
+use Rattle.sb_check.specs.Triggers.{trigger_places, walk_triggers}
+use Rattle.sb_check.specs.RuleParts.{Parts, condition_parts, walk_parts}
+use Rattle.sb_catalog.specs.declared.rule.Rule.{Rule}
+use Rattle.sb_catalog.specs.Rules.{rule_named}
+use Rattle.sb_tenant.specs.Walk.{unless, acyclic, walk_lists, walk_rule, of_members, walk, class_of}
 use Rattle.sb_tenant.specs.Perform.{reply_rows, change_seen, with_request, reply_of, named, process_at, stays, select_seen, perform_change, perform}
 use Rattle.sb_tenant.specs.Step.{Language, first_of, session_refusal, outcome_of, reply_to_command, reply_to, numbered, is_full_for, step}
 use Rattle.sb_tenant.specs.Trail.{is_no_memory}
@@ -196,31 +200,44 @@ module _ (schema : Schema) where
 
 -- ---- all commands
 
-fine-rule_named : (catalog : Catalog) (name : Name) → IsFine (rule_named catalog name)
-fine-rule_named catalog name = search fine-some_or
+fine-rule_named : (rules : List Rule) (name : Name) → IsFine (rule_named rules name)
+fine-rule_named rules name = search fine-some_or
 
-fine-trigger_places : (e : Entry) (t : text.Trigger) → IsFine (trigger_places e t)
-fine-trigger_places e text.on_insert = given []
-fine-trigger_places e text.on_delete = given []
-fine-trigger_places e text.on_update = given []
-fine-trigger_places e (text.on_update_of names) = search (fine-in_order, fine-some_or)
+fine-trigger_places : (columns : List ColumnDefinition) (t : text.Trigger) → IsFine (trigger_places columns t)
+fine-trigger_places columns text.on_insert = given []
+fine-trigger_places columns text.on_delete = given []
+fine-trigger_places columns text.on_update = given []
+fine-trigger_places columns (text.on_update_of names) = search (fine-in_order, fine-some_or)
 
-fine-walk_triggers : (e : Entry) (triggers : List text.Trigger) → IsFine (walk_triggers e triggers)
-fine-walk_triggers e triggers = search (fine-and_then, fine-in_order, fine-trigger_places, given)
+fine-walk_triggers : (columns : List ColumnDefinition) (triggers : List text.Trigger) → IsFine (walk_triggers columns triggers)
+fine-walk_triggers columns triggers = search (fine-and_then, fine-in_order, fine-trigger_places, given)
 
-fine-rule_condition : (schema : Schema) (q : Option text.Query) → IsFine (rule_condition schema q)
-fine-rule_condition schema None = given None
-fine-rule_condition schema (Some q) = search (fine-and_then, fine-walk_query, given)
+fine-condition_parts : (schema : Schema) (q : Option text.Query) → IsFine (condition_parts schema q)
+fine-condition_parts schema None = given None
+fine-condition_parts schema (Some q) = search (fine-and_then, fine-walk_query, given)
+
+fine-walk_parts : (schema : Schema) (r : text.RuleText) → IsFine (walk_parts schema r)
+fine-walk_parts schema r =
+    search (fine-and_then, fine-table_named, fine-walk_triggers, fine-condition_parts, fine-in_order, fine-walk_action, given) depth 12 fits 4000
 
 fine-acyclic : (catalog : Catalog) (new : NewRule) → IsFine (acyclic catalog new)
 fine-acyclic catalog new = search (fine-required, given)
 
+fine-walk_lists : (most : ℕ) (catalog : Catalog) (r : text.RuleText) (parts : Parts) → IsFine (walk_lists most catalog r parts)
+fine-walk_lists most catalog r parts = search (fine-and_then, fine-in_order, fine-rule_named, fine-required, fine-acyclic) depth 9
+
 fine-walk_rule : (most : ℕ) (catalog : Catalog) (r : text.RuleText) → IsFine (walk_rule most catalog r)
-fine-walk_rule most catalog r =
-    search (fine-and_then, fine-required, fine-table_named, fine-walk_triggers, fine-rule_condition, fine-in_order, fine-walk_action, fine-rule_named, fine-acyclic, given) depth 12 fits 4000
+fine-walk_rule most catalog r = search (fine-required, fine-and_then, fine-walk_parts, fine-walk_lists)
 
 fine-of_members : (catalog : Catalog) (name : Name) (rules : List Name) (form : List ℕ → Resolved) → IsFine (of_members catalog name rules form)
 fine-of_members catalog name rules form = search (fine-and_then, fine-required, fine-in_order, fine-rule_named, given)
+
+-- by whether there is a ruleset of that name, and whether there are too many
+fine-create_ruleset : (name : Name) (taken many : Bool) →
+    IsFine (unless (if taken then Some refusal.RulesetExists else (if many then Some refusal.TooManyRulesets else None)) (Ok (create_ruleset name)))
+fine-create_ruleset name true many = refused _ refl
+fine-create_ruleset name false true = refused _ refl
+fine-create_ruleset name false false = given _
 
 pub fine-walk : (most : ℕ) (catalog : Catalog) (c : text.Command) → IsFine (walk most catalog c)
 fine-walk most catalog text.open_session = given _
@@ -231,13 +248,13 @@ fine-walk most catalog text.rollback = given _
 fine-walk most catalog text.process_rules = given _
 fine-walk most catalog (text.process_ruleset name) = search (fine-required, given)
 fine-walk most catalog (text.process_rule name) = search (fine-and_then, fine-rule_named, given)
-fine-walk most catalog (text.create_table name columns) = search (fine-required, given)
+fine-walk most catalog (text.create_table name columns) = search (fine-and_then, fine-required, given)
 fine-walk most catalog (text.drop_table name) = search (fine-and_then, fine-table_named, fine-required, given)
 fine-walk most catalog (text.create_rule r) = fine-walk_rule most catalog r
 fine-walk most catalog (text.drop_rule name) = search (fine-and_then, fine-rule_named, given)
 fine-walk most catalog (text.activate_rule name) = search (fine-and_then, fine-rule_named, given)
 fine-walk most catalog (text.deactivate_rule name) = search (fine-and_then, fine-rule_named, given)
-fine-walk most catalog (text.create_ruleset name) = search (fine-required, given)
+fine-walk most catalog (text.create_ruleset name) = fine-create_ruleset name _ _
 fine-walk most catalog (text.drop_ruleset name) = search (fine-required, given)
 fine-walk most catalog (text.add_rules name rules) = fine-of_members catalog name rules _
 fine-walk most catalog (text.del_rules name rules) = fine-of_members catalog name rules _

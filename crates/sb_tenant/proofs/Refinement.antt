@@ -1,5 +1,5 @@
 -- What an order does in memory is what its command does to the state.
-use Rattle.std.proofs.Common.{◌≡◌, ℕ, zero, suc, ◌+◌, ◌*◌, ◌≤◌, Bool, true, false, cond, not, ◌&&◌, ◌||◌, ◌==◌, nat_lt, List, [], ◌∷◌, ◌++◌, length, map, flat_map, find, slice_get, slice_set, Option, Some, None, Result, Ok, Err, refl, sym, ap, ◌∙◌, subst, arith, append-nil, length-append, option_map, option_and_then, if◌then◌else◌, le-ltb, lt-ltb, ltb-false}
+use Rattle.std.proofs.Common.{◌≡◌, ℕ, zero, suc, ◌+◌, ◌*◌, ◌≤◌, Bool, true, false, cond, not, ◌&&◌, ◌||◌, ◌==◌, nat_lt, List, [], ◌∷◌, ◌++◌, length, map, flat_map, find, slice_get, slice_set, Option, Some, None, Result, Ok, Err, refl, sym, ap, ◌∙◌, subst, arith, append-nil, option_map, option_and_then, if◌then◌else◌, le-ltb, lt-ltb, ltb-false}
 use Rattle.std.specs.List.{list_any}
 use Rattle.std.specs.Result.{result_err}
 use Rattle.sb_value.specs.declared.value.Value.{Value}
@@ -35,17 +35,20 @@ use Rattle.sb_tenant.specs.declared.reply.Reply.TheVariants as reply
 use Rattle.sb_tenant.specs.declared.phase.Phase.{Phase}
 use Rattle.sb_tenant.specs.declared.order.Order.{Order}
 use Rattle.sb_tenant.specs.declared.order.Order.TheVariants.{Open, End, Begin, Commit, Rollback, CreateTable, CreateGuard, Insert, DeleteAll, SelectAll}
-use Rattle.sb_tenant.specs.State.{State, Session, closed, idle, active, session_at, with_session, setting_of, progress_of, with_progress, rolled_back, committed}
+use Rattle.sb_tenant.specs.State.{State, Session, closed, idle, active, with_session, setting_of, progress_of, with_progress, rolled_back, committed}
 use Rattle.sb_tenant.specs.Resolved as resolved
 use Rattle.sb_tenant.specs.Limits.{table_limit}
 use Rattle.sb_tenant.specs.Logged.{who_of}
-use Rattle.sb_tenant.specs.Walk.{walk, walk_rule_on, named_twice}
-use Rattle.sb_tenant.specs.Catalog.{is_active, with_table, rule_from}
+use Rattle.sb_check.specs.Resolved.{named_twice, new_table as is_new_table}
+use Rattle.sb_check.specs.RuleParts.{walk_parts_on}
+use Rattle.sb_tenant.specs.Walk.{walk_lists, outside_rules}
+use Rattle.sb_catalog.specs.Rules.{rule_of}
+use Rattle.sb_tenant.specs.Catalog.{is_active, with_table}
 use Rattle.sb_tenant.specs.Perform.{process_at, after_processing, defined, change_seen, perform_change, reply_rows}
 use Rattle.sb_syntax.specs.Tree as tree
 use Rattle.sb_tenant.specs.declared.phase.Phase.TheVariants.{Closed, Idle, Active}
 use Rattle.sb_tenant.specs.Step.{Language, outcome_of, reply_to_command}
-use Rattle.sb_tenant.specs.Stored.{Kept, Stored, seen_rows, numbered, committed_entry, seen_entry, entries_from, only_committed, all_committed, with_rows, without_rows, with_changes, inserted_as, deleted_as, new_table, create_refusal, insert_refusal, rows_refusal, space_refusal, first_refusal, or_refused, created, inserted_in, deleted_in, selected_in, inserted_at, deleted_at, selected_at, guarded, guarded_at, place_of, on_inserts, finished, finished_by}
+use Rattle.sb_tenant.specs.Stored.{Kept, Stored, seen_rows, numbered, committed_entry, seen_entry, entries_from, only_committed, all_committed, with_rows, without_rows, with_changes, inserted_as, deleted_as, new_table, rows_refusal, space_refusal, first_refusal, or_refused, created, inserted_in, deleted_in, selected_in, inserted_at, deleted_at, selected_at, guarded, guarded_at, place_of, on_inserts, finished, finished_by}
 use Rattle.sb_tenant.specs.Orders.{order_tree, performed, guard_text, whole_table as whole_table_of}
 use Rattle.sb_syntax.specs.declared.ast.TableReference.TheVariants.{Named}
 use Rattle.sb_value.specs.Name.{same_name}
@@ -368,7 +371,7 @@ module _ (tenant : ℕ) (ts : List Kept) (held : ℕ → Mode → Bool) (n : ℕ
     under_guard = under (Some guard)
 
     abbrev rule : Rule
-    rule = rule_from 0 (guard_rule guard)
+    rule = rule_of 0 guard.name (guard_rule guard).parts
 
     -- the rule is next where it is triggered
     next_guard : (b : Bool) → is_triggered on_inserts guard.table changes ≡ b → next_rule (setting_of tenant under_guard 0) (is_active under_guard.catalog) (progress_of under_guard 0) ≡ cond b (Some rule) None
@@ -454,7 +457,8 @@ module _ (language : Language) (one_rule : language.rules ≡ 1) (tenant bound :
       -- by whether the name is taken, whether a column is named twice, and whether there is a place
       abbrev walked : Bool → Bool → Bool → Result resolved.Resolved Refusal
       walked taken twice room =
-          required (not taken) refusal.TableExists (required (not twice) refusal.Ambiguous (required room refusal.TooManyTables (Ok (resolved.create_table name columns))))
+          and_then (required (not taken) refusal.TableExists (required (not twice) refusal.Ambiguous (Ok is_new_table)))
+          (λ _. required room refusal.TooManyTables (Ok (resolved.create_table name columns)))
 
       abbrev refused_by : Bool → Bool → Bool → Option Refusal
       refused_by taken twice room = cond taken (Some refusal.TableExists) (cond twice (Some refusal.Ambiguous) (cond room None (Some refusal.TooManyTables)))
@@ -552,7 +556,10 @@ module _ (language : Language) (one_rule : language.rules ≡ 1) (tenant bound :
 
     -- the walk, by whether the name is taken, and by the table that is found
     abbrev walk_guard : Option Guard → Bool → Option Entry → ℕ → Result resolved.Resolved Refusal
-    walk_guard g taken x most = required (not taken) refusal.RuleExists (and_then (some_or refusal.NoTable x) (λ e. walk_rule_on most (state_under g).catalog (guard_text rule name) e))
+    walk_guard g taken x most =
+        required (not taken) refusal.RuleExists
+        (and_then (and_then (some_or refusal.NoTable x) (walk_parts_on (outside_rules (state_under g).catalog) (guard_text rule name)))
+        (walk_lists most (state_under g).catalog (guard_text rule name)))
 
     abbrev place_or_none : Option Kept → Option ℕ
     place_or_none x = elim x [ None ↦ None | Some t ↦ Some (place ts name) ]

@@ -16,7 +16,7 @@ use Rattle.sb_syntax.specs.declared.ast.SourceReference.{SourceReference}
 use Rattle.sb_syntax.specs.Tree.{Name, Expression, literal, column, binary, all, each_of, compare, expression, Filter, everything, those, Query, select, Change, insert_rows, insert_query, delete, update, Action, changes, Trigger, on_insert, Command, open_session, begin, commit, create_table, create_rule, query, change}
 use Rattle.sb_tenant.specs.declared.reply.Reply.{Reply}
 use Rattle.sb_tenant.specs.declared.reply.Reply.TheVariants as reply
-use Rattle.sb_tenant.specs.Limits.{rule_limit}
+use Rattle.sb_catalog.specs.Rules.{rule_limit}
 use Rattle.sb_tenant.specs.State.{opening}
 use Rattle.sb_tenant.specs.Step.{Language}
 use Rattle.sb_tenant.specs.Trail.{answers}

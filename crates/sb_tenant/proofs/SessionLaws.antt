@@ -22,7 +22,7 @@ use Rattle.sb_value.specs.declared.refusal.Refusal.TheVariants.{Locked}
 use Rattle.sb_value.specs.declared.refusal.Refusal.TheVariants as refusal
 use Rattle.sb_tenant.specs.State.{State, Session, idle, closed, active, session_at, is_open, with_session, with_progress, progress_of, setting_of, rolled_back, committed}
 use Rattle.sb_tenant.specs.Resolved.{Resolved, open_session, end_session, begin, commit, rollback, process_rules, process_ruleset, process_rule, create_table, drop_table, create_rule, drop_rule, activate_rule, deactivate_rule, create_ruleset, drop_ruleset, add_rules, del_rules, query, change, begins, defines, works}
-use Rattle.sb_tenant.specs.Walk.{walk, class_of}
+use Rattle.sb_tenant.specs.Walk.{unless, walk, class_of}
 use Rattle.sb_tenant.specs.Perform.{with_request, change_seen, select_seen, perform_change, stands_after, stays, process_at, perform}
 use Rattle.sb_tenant.specs.Catalog.{is_active, is_member}
 use Rattle.sb_tenant.specs.Step.{first_of, session_refusal, Language, outcome_of, reply_to_command, reply_to, step, numbered, is_full_for}
@@ -182,6 +182,10 @@ required-no_end : (b : Bool) (e : Refusal) (next : Result Resolved Refusal) → 
 required-no_end true e next h = h
 required-no_end false e next h = refused e
 
+unless-no_end : (o : Option Refusal) (w : Result Resolved Refusal) → IsNoEnd w → IsNoEnd (unless o w)
+unless-no_end None w h = h
+unless-no_end (Some e) w h = refused e
+
 and_then-no_end : {A : Type 0} (r : Result A Refusal) (next : A → Result Resolved Refusal) → ((a : A) → IsNoEnd (next a)) → IsNoEnd (and_then r next)
 and_then-no_end (Err e) next h = refused e
 and_then-no_end (Ok a) next h = h a
@@ -223,13 +227,13 @@ module _ (language : Language) (tenant bound : ℕ) (state : State) (s : ℕ) wh
   own_command text.process_rules = working (Ok process_rules) (resolved process_rules refl)
   own_command (text.process_ruleset name) = working (walk language.rules state.catalog (text.process_ruleset name)) (search (required-no_end, resolved))
   own_command (text.process_rule name) = working (walk language.rules state.catalog (text.process_rule name)) (search (and_then-no_end, resolved))
-  own_command (text.create_table name columns) = defining (walk language.rules state.catalog (text.create_table name columns)) (search (required-no_end, resolved))
+  own_command (text.create_table name columns) = defining (walk language.rules state.catalog (text.create_table name columns)) (search (and_then-no_end, required-no_end, resolved))
   own_command (text.drop_table name) = defining (walk language.rules state.catalog (text.drop_table name)) (search (required-no_end, and_then-no_end, resolved))
   own_command (text.create_rule r) = defining (walk language.rules state.catalog (text.create_rule r)) (search (required-no_end, and_then-no_end, resolved) depth 16)
   own_command (text.drop_rule name) = defining (walk language.rules state.catalog (text.drop_rule name)) (search (and_then-no_end, resolved))
   own_command (text.activate_rule name) = defining (walk language.rules state.catalog (text.activate_rule name)) (search (and_then-no_end, resolved))
   own_command (text.deactivate_rule name) = defining (walk language.rules state.catalog (text.deactivate_rule name)) (search (and_then-no_end, resolved))
-  own_command (text.create_ruleset name) = defining (walk language.rules state.catalog (text.create_ruleset name)) (search (required-no_end, resolved))
+  own_command (text.create_ruleset name) = defining (walk language.rules state.catalog (text.create_ruleset name)) (search (unless-no_end, resolved))
   own_command (text.drop_ruleset name) = defining (walk language.rules state.catalog (text.drop_ruleset name)) (search (required-no_end, resolved))
   own_command (text.add_rules name rules) = defining (walk language.rules state.catalog (text.add_rules name rules)) (search (required-no_end, and_then-no_end, resolved))
   own_command (text.del_rules name rules) = defining (walk language.rules state.catalog (text.del_rules name rules)) (search (required-no_end, and_then-no_end, resolved))

@@ -1,5 +1,5 @@
 -- The tables that are kept in memory, by their names and by their places.
-use Rattle.std.proofs.Common.{◌≡◌, ℕ, zero, suc, ◌+◌, ◌<◌, ◌≤◌, Bool, true, false, cond, not, ◌||◌, ◌==◌, nat_lt, List, [], ◌∷◌, ◌++◌, length, take, map, slice_get, slice_set, Option, Some, None, refl, sym, ap, ◌∙◌, arith, ne_eqb, eq-eqb, find, option_map, length-append, add-one, subst, ⊎_elim, lt-ltb, le-ltb}
+use Rattle.std.proofs.Common.{◌≡◌, ℕ, zero, suc, ◌+◌, ◌<◌, ◌≤◌, Bool, true, false, cond, not, ◌||◌, ◌==◌, List, [], ◌∷◌, ◌++◌, length, map, slice_get, slice_set, Option, Some, None, refl, sym, ap, ◌∙◌, arith, ne_eqb, eq-eqb, find, option_map, length-append, subst, ⊎_elim, lt-ltb, le-ltb}
 use Rattle.std.specs.List.{list_any, position_or_len}
 use Rattle.std.proofs.lemmas.Bool.{cases_lt}
 use Rattle.std.proofs.lemmas.List.{drop-append-le, length-take-le}
@@ -8,9 +8,8 @@ use Rattle.std.proofs.lemmas.Option.{same_Some}
 use Rattle.sb_value.specs.declared.value.Value.{Value}
 use Rattle.sb_value.specs.declared.value.ColumnDefinition.{ColumnDefinition}
 use Rattle.sb_value.specs.Name.{same_name}
-use Rattle.sb_value.specs.Table.{Table, Entry, table_at}
-use Rattle.sb_tenant.specs.Catalog.{least_free, least_free_from}
-use Rattle.sb_tenant.specs.declared.reply.Reply.{Reply}
+use Rattle.sb_value.specs.Table.{Entry, table_at}
+use Rattle.sb_catalog.specs.Rules.{least_free, least_free_from}
 use Rattle.sb_tenant.specs.Stored.{Kept, Stored, numbered, seen_rows, committed_entry, seen_entry, entries_from, only_committed, all_committed, with_rows, without_rows, new_table, place_of, inserted_at, inserted_in, deleted_at, deleted_in, selected_at, selected_in, guarded}
 use Rattle.sb_tenant.specs.Represents.{IsSound, AreSound}
 use Rattle.sb_tenant.proofs.StoredTables.{seen_table}

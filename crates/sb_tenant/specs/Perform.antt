@@ -19,7 +19,7 @@ use Rattle.sb_process.specs.declared.Outcome.TheVariants.{Done, ByRule, ByError,
 use Rattle.sb_tenant.specs.declared.reply.Reply.{Reply}
 use Rattle.sb_tenant.specs.declared.reply.Reply.TheVariants as reply
 use Rattle.sb_tenant.specs.State.{State, closed, idle, active, Catalog, with_session, setting_of, progress_of, with_progress, rolled_back, committed}
-use Rattle.sb_tenant.specs.Catalog.{with_table, without_table, with_rule, without_rule, with_active, with_ruleset, without_ruleset, with_members, is_active, is_member, rule_name}
+use Rattle.sb_tenant.specs.Catalog.{with_table, without_table, with_rule, without_rule, with_active, with_ruleset, without_ruleset, with_members, without_members, is_active, is_member, rule_name}
 use Rattle.sb_tenant.specs.Resolved.{Resolved, open_session, end_session, begin, commit, rollback, process_rules, process_ruleset, process_rule, create_table, drop_table, create_rule, drop_rule, activate_rule, deactivate_rule, create_ruleset, drop_ruleset, add_rules, del_rules, query, change}
 
 -- ---- statements
@@ -111,7 +111,7 @@ perform tenant bound state s (activate_rule id) = defined state (with_active sta
 perform tenant bound state s (deactivate_rule id) = defined state (with_active state.catalog id false)
 perform tenant bound state s (create_ruleset name) = defined state (with_ruleset state.catalog name)
 perform tenant bound state s (drop_ruleset name) = defined state (without_ruleset state.catalog name)
-perform tenant bound state s (add_rules name ids) = defined state (with_members state.catalog name ids true)
-perform tenant bound state s (del_rules name ids) = defined state (with_members state.catalog name ids false)
+perform tenant bound state s (add_rules name ids) = defined state (with_members state.catalog name ids)
+perform tenant bound state s (del_rules name ids) = defined state (without_members state.catalog name ids)
 perform tenant bound state s (query q) = with_request state s (query_locks q) (select_seen tenant state s q)
 perform tenant bound state s (change statement) = with_request state s (statement_locks statement) (perform_change tenant state s statement)

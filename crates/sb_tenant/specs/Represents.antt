@@ -1,11 +1,11 @@
 -- How what is kept in memory stands for the state of a tenant that uses its first session alone.
-use Rattle.std.specs.Prelude.{◌≡◌, ◌≤◌, ℕ, ◌+◌, Bool, true, false, ◌==◌, ◌&&◌, if◌then◌else◌, List, [], ◌∷◌, length, Option, Some, None}
+use Rattle.std.specs.Prelude.{◌≡◌, ◌≤◌, ℕ, Bool, true, false, ◌==◌, ◌&&◌, if◌then◌else◌, List, [], ◌∷◌, length, Option, Some, None}
 use Rattle.sb_value.specs.declared.change.Change.{Change}
 use Rattle.sb_value.specs.declared.lock.Mode.{Mode}
 use Rattle.sb_value.specs.Table.{after_all}
 use Rattle.sb_check.specs.declared.tree.Action.TheVariants.{Rollback}
 use Rattle.sb_catalog.specs.declared.rule.Rule.{Rule}
-use Rattle.sb_tenant.specs.Catalog.{rule_from}
+use Rattle.sb_catalog.specs.Rules.{rule_of}
 use Rattle.sb_tenant.specs.Logged.{who_of}
 use Rattle.sb_tenant.specs.Resolved.{NewRule}
 use Rattle.sb_tenant.specs.declared.phase.Phase.{Phase}
@@ -30,17 +30,14 @@ session_of Active changes = active changes (λ id. 0)
 abbrev pub guard_rule : Guard → NewRule
 guard_rule g = record {
   name = g.name;
-  table = g.table;
-  triggers = on_inserts;
-  condition = None;
-  actions = Rollback ∷ [];
+  parts = (g.table, on_inserts, None, Rollback ∷ []);
   precedes = [];
   follows = [];
 }
 
 abbrev pub rules_of : Option Guard → List Rule
 rules_of None = []
-rules_of (Some g) = rule_from 0 (guard_rule g) ∷ []
+rules_of (Some g) = rule_of 0 g.name (guard_rule g).parts ∷ []
 
 -- no more rows are committed or hidden than there are places, and 4,096 rows at most are committed, and are seen
 pub record IsSound (t : Kept) : Type 0 where

@@ -1,22 +1,18 @@
 -- Commands whose names are resolved, and what a command asks of its session.
-use Rattle.std.specs.Prelude.{ℕ, List, Option}
+use Rattle.std.specs.Prelude.{ℕ, List}
 use Rattle.sb_value.specs.declared.value.ColumnDefinition.{ColumnDefinition}
-use Rattle.sb_value.specs.declared.net.Triggers.{Triggers}
 use Rattle.sb_check.specs.Condition.{Query}
 use Rattle.sb_check.specs.declared.tree.Statement.{Statement}
-use Rattle.sb_check.specs.declared.tree.Action.{Action}
+use Rattle.sb_check.specs.RuleParts.{Parts}
 
--- a rule as a command gives it
+-- a rule as a command gives it: its name, what the tables tell of it, and the rules that it precedes and follows
 pub record NewRule : Type 0 where
   pub name : List ℕ
-  pub table : ℕ
-  pub triggers : Triggers
-  pub condition : Option Query
-  pub actions : List Action
+  pub parts : Parts
   pub precedes : List ℕ
   pub follows : List ℕ
 
--- tables and rules by their ids, rulesets by their names
+-- tables and rules by their ids, rulesets by their names; what a rule, a query and a statement name is resolved as the tables tell it
 pub data Resolved : Type 0 where
   open_session : Resolved
   end_session : Resolved

@@ -5,6 +5,7 @@ use Rattle.sb_value.specs.declared.change.Change.{Change}
 use Rattle.sb_value.specs.Name.{same_name}
 use Rattle.sb_value.specs.Table.{Table, Entry, after_all}
 use Rattle.sb_value.specs.Locks.{Locks, no_locks, released, sessions}
+use Rattle.sb_rulesets.specs.Ruleset.{Ruleset}
 use Rattle.sb_catalog.specs.declared.rule.Rule.{Rule}
 use Rattle.sb_process.specs.Setting.{Setting, Progress}
 
@@ -18,7 +19,7 @@ pub data Session : Type 0 where
 pub record Catalog : Type 0 where
   pub tables : List Entry
   pub rules : List Rule
-  pub rulesets : List (List ℕ × List Bool)
+  pub rulesets : List Ruleset
   pub pairs : List (ℕ × ℕ)
 
 -- the catalog with the committed tables, the locks, the sessions and the number of steps

@@ -1,5 +1,5 @@
 -- What a tenant keeps in memory as long as it has one session and one rule at most, and what each command does to it.
-use Rattle.std.specs.Prelude.{slice_get, slice_set, ℕ, ◌+◌, nat_lt, Bool, true, false, if◌then◌else◌, List, [], ◌∷◌, ◌++◌, map, length, take, drop, position, Option, Some, None}
+use Rattle.std.specs.Prelude.{slice_get, slice_set, ℕ, ◌+◌, nat_lt, true, false, if◌then◌else◌, List, [], ◌∷◌, ◌++◌, map, length, take, drop, position, Option, Some, None}
 use Rattle.std.specs.List.{list_any}
 use Rattle.std.specs.Result.{result_err}
 use Rattle.sb_value.specs.declared.value.Value.{Value}
@@ -13,7 +13,7 @@ use Rattle.sb_value.specs.declared.refusal.Verdict.TheVariants.{True}
 use Rattle.sb_value.specs.Columns.{set_of}
 use Rattle.sb_value.specs.Name.{same_name}
 use Rattle.sb_value.specs.NetEffect.{is_triggered}
-use Rattle.sb_value.specs.Table.{Table, Entry}
+use Rattle.sb_value.specs.Table.{Entry}
 use Rattle.sb_check.specs.Walk.{fitting, type_of}
 use Rattle.sb_eval.specs.Seen.{Seen, no_transition}
 use Rattle.sb_eval.specs.Statement.{row_limit, insert_change, delete_change}
@@ -23,7 +23,7 @@ use Rattle.sb_tenant.specs.declared.reply.Reply.TheVariants as reply
 use Rattle.sb_tenant.specs.declared.phase.Phase.{Phase}
 use Rattle.sb_tenant.specs.declared.phase.Phase.TheVariants.{Idle}
 use Rattle.sb_tenant.specs.Limits.{table_limit}
-use Rattle.sb_tenant.specs.Walk.{named_twice}
+use Rattle.sb_check.specs.Resolved.{named_twice}
 
 -- a table: the first so many places have the committed rows, and the transaction sees those from `hidden` on;
 -- the number of the next row, and the one that a rollback goes back to

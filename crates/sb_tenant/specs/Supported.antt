@@ -5,7 +5,7 @@ use Rattle.sb_syntax.specs.declared.ast.SourceReference.{SourceReference}
 use Rattle.sb_syntax.specs.declared.ast.TableReference.{TableReference}
 use Rattle.sb_syntax.specs.declared.ast.TableReference.TheVariants.{Named}
 use Rattle.sb_syntax.specs.Text.{command_of}
-use Rattle.sb_tenant.specs.Limits.{rule_limit}
+use Rattle.sb_catalog.specs.Rules.{rule_limit}
 use Rattle.sb_tenant.specs.Step.{Language}
 
 -- a table by its name alone

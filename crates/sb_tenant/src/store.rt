@@ -4,7 +4,7 @@ ghost use Rattle.sb_tenant.specs.Stored.{Stored, place_of, dropped, kept, with_p
 ghost use Rattle.sb_tenant.specs.Orders.{performed, Answers, AnswersOrder, aborted, order_refusal as phase_refusal};
 ghost use Rattle.std.specs.List.{list_any};
 ghost use Rattle.sb_value.specs.Name.{same_name};
-ghost use Rattle.sb_tenant.specs.Walk.{named_twice};
+ghost use Rattle.sb_check.specs.Resolved.{named_twice};
 
 use crate::changes::{deletes, inserts};
 use crate::guard::{Guard, violated, violation};

@@ -2,6 +2,8 @@
 #![tactic(auto)]
 
 #[cfg(test)]
+mod catalog;
+#[cfg(test)]
 mod changes;
 #[cfg(test)]
 mod index;

@@ -1,45 +1,49 @@
-use Rattle.std.proofs.lemmas.List.{with_items_is}
-use Rattle.std.proofs.Common.{length, ◌≡◌, ◌∙◌, ap, sym, set, get_or, true, false, cond, map, subst}
-use Rattle.std.proofs.lemmas.List.Edits.{map_over_more}
+use Rattle.std.proofs.Common.{◌∙◌, refl, sym, ap, subst, map, List, Bool}
+use Rattle.std.specs.Map.{set_value}
 use Rattle.sb_value.specs.Name.{same_name}
-use Rattle.sb_rulesets.specs.declared.ruleset.Ruleset.{Ruleset}
-use Rattle.sb_rulesets.specs.Members.{with_rules}
+use Rattle.sb_rulesets.specs.Ruleset.{Ruleset}
 use Rattle.sb_rulesets.specs.Distinct.{AreDistinct}
-use Rattle.sb_rulesets.proofs.Names.{distinct_changed, map_whole}
-use Rattle.sb_rulesets.specs.Sets.{changed_if}
+use Rattle.sb_rulesets.specs.Ruleset.{set_of}
+use Rattle.sb_rulesets.specs.Members.{with_rules}
+use Rattle.sb_rulesets.specs.Sets.{changed}
+use Rattle.sb_rulesets.proofs.Names.{distinct_changed}
+use Rattle.sb_rulesets.proofs.Entries.{written, named_as}
 use Rattle.sb_rulesets.proofs.rulesets.Rulesets.add_rules.Goals as goal
-use Rattle.sb_rulesets.proofs.rulesets.Rulesets.add_rules.Goals.{then-is_same, else-is_same}
+use Rattle.sb_rulesets.proofs.rulesets.Rulesets.add_rules.Goals.{in-Some, in-None}
 
--- one more ruleset is changed where it is the named one
-pub loop-set-preserved : goal.loop-set-preserved
-loop-set-preserved c =
-    let change = λ (s : Ruleset). changed_if (λ flags. with_rules flags c.args.rules.now) c.args.name.now s in
-    let old : Ruleset = get_or c.loop-set.set-items c.loop-set.set-index c.set-item.result in
-    let new : Ruleset = record old { rules = with_rules old.rules c.args.rules.now } in
-    let put = λ (s : Ruleset). set c.loop-set.set-items c.loop-set.set-index s in
-    let step =
-    ap (λ (s : Ruleset). put (change s)) (sym c.set-item.is)
-    ∙ map_over_more change c.deref_mut-set-items.result.now c.loop-set.set-items c.loop-set.set-index c.set-item.result c.loop-set-test.true c.loop-set.invariant c.set-item.is in
-    elim c.if-is_same.branch [
-      | then-is_same w ↦
-          let named : same_name old.name c.args.name.now ≡ true = sym c.is_same.ensures ∙ w.if-is_same.true in
-          w.set-items-is
-          ∙ ap put ((λ i. record old { rules = w.with_all-set.ensures i }) ∙ (λ i. cond (sym named i) new old))
-          ∙ step
-      | else-is_same w ↦
-          let named : same_name old.name c.args.name.now ≡ false = sym c.is_same.ensures ∙ w.if-is_same.false in
-          w.set-items-is
-          ∙ ap put (λ i. cond (sym named i) new old)
-          ∙ step
-    ]
-
--- the names are as they were
 pub invariant_of-self : goal.invariant_of-self
 invariant_of-self c =
-    let whole : c.loop-set.set-items ≡ map (changed_if (λ flags. with_rules flags c.args.rules.now) c.args.name.now) c.self.inside.sets.items =
-    c.loop-set.invariant
-    ∙ map_whole (changed_if (λ flags. with_rules flags c.args.rules.now) c.args.name.now) c.deref_mut-set-items.result.now c.loop-set.set-index c.loop-set-test.false
-    ∙ ap (map (changed_if (λ flags. with_rules flags c.args.rules.now) c.args.name.now)) c.deref_mut-set-items.ensures.value in
-    let held : length c.loop-set.set-items ≡ c.self.inside.sets.len =
-    c.loop-set.auto.set-items ∙ ap length c.deref_mut-set-items.ensures.value ∙ sym c.self.inside.sets.ok.0 in
-    subst AreDistinct (sym (with_items_is c.self.inside.sets c.loop-set.set-items held ∙ whole)) (distinct_changed (λ flags. with_rules flags c.args.rules.now) c.args.name.now c.self.inside.sets.items c.self.invariant)
+    let change : List Bool → List Bool = λ flags. with_rules flags c.args.rules.now in
+    let sets : List Ruleset = map set_of c.self.inside.sets.entries in
+    elim c.match-get_mut.branch [
+      | in-Some w ↦
+          let put = ap (map set_of) ((c.get_mut.follows.holds _).0) ∙ ap (λ flags. map set_of (set_value (same_name c.args.name.now) c.self.inside.sets.entries flags)) w.with_all.ensures
+          ∙ written c.args.name.now change w.in-Some.set.now c.self.inside.sets.entries c.self.invariant (sym w.in-Some.ensures.value) in
+          rw w.self-inside-is (subst AreDistinct (sym put) (distinct_changed change c.args.name.now sets c.self.invariant))
+      | in-None w ↦ rw (w.self-inside-is, c.get_mut.follows.holds-at-none) c.self.invariant
+    ]
+
+pub returns-clause-known : goal.returns-clause-known
+returns-clause-known c =
+    elim c.match-get_mut.branch [
+      | in-Some w ↦ rw w.result-is (named_as c.args.name.now c.self.inside.sets.entries c.args.self.now _ w.in-Some.ensures.value c.self.view_is)
+      | in-None w ↦ rw w.result-is tt
+    ]
+
+pub returns-clause-added : goal.returns-clause-added
+returns-clause-added c =
+    let change : List Bool → List Bool = λ flags. with_rules flags c.args.rules.now in
+    elim c.match-get_mut.branch [
+      | in-Some w ↦
+          let put = ap (map set_of) ((c.get_mut.follows.holds _).0) ∙ ap (λ flags. map set_of (set_value (same_name c.args.name.now) c.self.inside.sets.entries flags)) w.with_all.ensures
+          ∙ written c.args.name.now change w.in-Some.set.now c.self.inside.sets.entries c.self.invariant (sym w.in-Some.ensures.value) in
+          rw (w.result-is, w.self-inside-is) (put ∙ ap (λ (sets : List Ruleset). changed change sets c.args.name.now) c.self.view_is)
+      | in-None w ↦ rw w.result-is tt
+    ]
+
+pub returns-clause-refused : goal.returns-clause-refused
+returns-clause-refused c =
+    elim c.match-get_mut.branch [
+      | in-Some w ↦ rw w.result-is tt
+      | in-None w ↦ rw w.result-is (refl, named_as c.args.name.now c.self.inside.sets.entries c.args.self.now _ w.in-None.ensures.value c.self.view_is)
+    ]

@@ -2,7 +2,7 @@ use Rattle.std.proofs.Common.{◌≡◌, ◌∙◌, ◌&&◌, false, not, ap, sy
 use Rattle.std.proofs.lemmas.List.{get_or_default, at_drop_all}
 use Rattle.sb_rulesets.specs.Members.{without_rules}
 use Rattle.sb_rulesets.proofs.Marks.{marked-none, marked-more, and-not-true, and-not-false}
-use Rattle.sb_rulesets.proofs.ruleset.without_all.Goals as goal
+use Rattle.sb_rulesets.proofs.members.without_all.Goals as goal
 
 -- one more rule is marked
 pub loop-rule-preserved : goal.loop-rule-preserved

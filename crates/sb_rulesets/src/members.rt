@@ -1,15 +1,8 @@
-//! A named set of rules.
+//! Sets of rules, with the rules of a list or without them.
 ghost use Rattle.std.specs.Prelude.{◌≡◌};
 ghost use Rattle.sb_rulesets.specs.Members.{with_rules, without_rules};
 
-use sb_value::{Name, RuleId, RuleSet};
-
-/// A set of rules and the name that it is processed by.
-#[derive(Clone, Copy)]
-pub struct Ruleset {
-    pub name: Name,
-    pub rules: RuleSet,
-}
+use sb_value::{RuleId, RuleSet};
 
 /// The set with all these rules, too.
 pub fn with_all(set: RuleSet, rules: &[RuleId]) -> RuleSet

@@ -2,7 +2,7 @@ use Rattle.std.proofs.Common.{◌≡◌, ◌∙◌, ◌||◌, true, ap, sym, ref
 use Rattle.std.proofs.lemmas.List.{get_or_default, at_drop_all}
 use Rattle.sb_rulesets.specs.Members.{with_rules}
 use Rattle.sb_rulesets.proofs.Marks.{marked-none, marked-more, or-true, or-false}
-use Rattle.sb_rulesets.proofs.ruleset.with_all.Goals as goal
+use Rattle.sb_rulesets.proofs.members.with_all.Goals as goal
 
 -- one more rule is marked
 pub loop-rule-preserved : goal.loop-rule-preserved

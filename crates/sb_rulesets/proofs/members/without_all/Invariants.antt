@@ -1,6 +1,6 @@
 use Rattle.std.proofs.Common.{◌≡◌, drop}
 use Rattle.sb_rulesets.specs.Members.{without_rules}
-use Rattle.sb_rulesets.proofs.ruleset.without_all.Given as goal
+use Rattle.sb_rulesets.proofs.members.without_all.Given as goal
 
 -- with the rules that are left the set is what it is to be
 abbrev pub invariant-loop-rule : goal.invariant-loop-rule
