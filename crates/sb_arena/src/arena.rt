@@ -69,15 +69,29 @@ impl<T, A: Allocator> Arena<T, A> {
         self.block.cells.get(self.block.start, place).as_ref()
     }
 
-    /// Puts the value into the place, or frees it, and returns what it held.
-    pub fn set(&mut self, place: usize, value: Option<T>) -> Option<T>
-        requires { place < length self.old }
-        ensures value { result ≡ get_or self.old place None }
-        ensures places { self.new ≡ slice_set self.old place value }
+    /// Puts the value into a free place.
+    pub fn put(&mut self, place: usize, value: T)
+        requires within { place < length self.old }
+        requires free { get_or self.old place None ≡ None }
+        ensures { self.new ≡ slice_set self.old place (Some value) }
     {
-        let before = self.block.cells.read(self.block.start, place);
-        self.block.cells.write(self.block.start, place, value);
-        before
+        match self.block.cells.read(self.block.start, place) {
+            Some(_) => unreachable!(),
+            None => self.block.cells.write(self.block.start, place, Some(value)),
+        }
+    }
+
+    /// Takes the value out of the place, which is free then.
+    pub fn take(&mut self, place: usize) -> T
+        requires { (x : T) × (get_or self.old place None ≡ Some x) }
+        ensures value { get_or self.old place None ≡ Some result }
+        ensures places { self.new ≡ slice_set self.old place None }
+    {
+        let Some(value) = self.block.cells.read(self.block.start, place) else {
+            unreachable!()
+        };
+        self.block.cells.write(self.block.start, place, None);
+        value
     }
 
     /// Adds free places, up to `places` in all.
