@@ -6,7 +6,8 @@ use crate::node::{Links, Node, Which};
 use sb_arena::Arena;
 
 impl Links {
-    fn get(self, list: Which) -> Option<usize>
+    /// The link of the list.
+    pub fn get(self, list: Which) -> Option<usize>
         ensures { result ≡ link_of list self }
     {
         match list {
@@ -42,19 +43,18 @@ pub fn link<T>(arena: &Arena<Node<T>>, list: Which, place: usize) -> Option<usiz
 }
 
 /// Sets the next older place of the list.
-fn set_link<T: Drop>(arena: &mut Arena<Node<T>>, list: Which, place: usize, to: Option<usize>)
+fn set_link<T>(arena: &mut Arena<Node<T>>, list: Which, place: usize, to: Option<usize>)
     requires { IsNode arena.old place }
     ensures places { arena.new ≡ relinked list place to arena.old }
     ensures link { link list arena.new place ≡ to }
 {
-    if let Some(mut node) = arena.set(place, None) {
-        node.links = node.links.with(list, to);
-        let _ = arena.set(place, Some(node));
-    }
+    let mut node = arena.take(place);
+    node.links = node.links.with(list, to);
+    arena.put(place, node);
 }
 
 /// Takes the place out of the list that begins at `head`, and returns where the list begins then.
-pub fn unlink<T: Drop>(
+pub fn unlink<T>(
     arena: &mut Arena<Node<T>>,
     list: Which,
     head: Option<usize>,

@@ -4,3 +4,6 @@ pub mod Sessions
 pub mod Keys
 pub mod Found
 pub mod Steps
+pub mod Buckets
+pub mod Search
+pub mod Places

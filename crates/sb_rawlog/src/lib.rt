@@ -1,10 +1,13 @@
 //! The log of changes: what every log promises, specified as a list of changes in rising time, and a log kept as a plain list.
 #![tactic(auto)]
 
+mod bucket;
 mod find;
 mod key;
 mod log;
+mod places;
 mod plain;
+mod search;
 mod spot;
 mod walks;
 
