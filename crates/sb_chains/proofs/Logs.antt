@@ -252,3 +252,18 @@ module _ {X : Type 0} where
           ] in
           both (bucket_in bucket w (item_at cs p) == b) ∙ ap (λ c. cond (bucket_in bucket w (item_at cs p) == b) (filter sel (with_entry c (entries cs (in_bucket bucket w b cs ps)))) (filter sel (entries cs (in_bucket bucket w b cs ps)))) e
           ∙ ap (λ l. cond (bucket_in bucket w (item_at cs p) == b) (cond (sel r) (r ∷ l) l) l) rest ∙ chosen (bucket_in bucket w (item_at cs p) == b) refl ∙ ap (λ c. filter sel (with_entry c (entries cs ps))) (sym e)
+
+  -- places that hold the same hold the same log
+  pub same_log : (bucket : Which → X → ℕ) (cs ds : List (Option (Node X))) (heads : Which → List (Option ℕ)) (order : List ℕ) (clock : ℕ) → ((q : ℕ) → get_or ds q None ≡ get_or cs q None)
+      → IsLog bucket cs heads order clock → IsLog bucket ds heads order clock × (entries ds order ≡ entries cs order)
+  same_log bucket cs ds heads order clock same log = (
+    record {
+      falls = falls_framed cs ds clock order (λ q m. same q) log.falls;
+      all = λ q is. log.all q (is.0, sym (same q) ∙ is.1);
+      buckets = log.buckets;
+      chains = λ w b. subst (IsChain w ds clock (get_or (heads w) b None))
+          (filter_alike (λ q. bucket_in bucket w (item_at cs q) == b) (λ q. bucket_in bucket w (item_at ds q) == b) order (λ q m. ap (λ c. bucket_in bucket w (item_in c) == b) (sym (same q))))
+          (framed w cs ds clock (get_or (heads w) b None) (in_bucket bucket w b cs order) (λ q m. same q) (log.chains w b));
+    },
+    entries_framed cs ds order (λ q m. same q),
+  )

@@ -7,3 +7,5 @@ pub mod Steps
 pub mod Buckets
 pub mod Search
 pub mod Places
+pub mod Raw
+pub mod Fields

@@ -7,11 +7,13 @@ mod key;
 mod log;
 mod places;
 mod plain;
+mod raw;
 mod search;
 mod spot;
 mod walks;
 
 pub use log::ChangeLog;
 pub use plain::PlainLog;
+pub use raw::RawLog;
 pub use spot::Spot;
 pub use walks::{ByOp, ByTuple};

@@ -1,5 +1,5 @@
 //! A change enters a place and the lists, and leaves them.
-ghost use Rattle.std.specs.Prelude.{◌≡◌, ℕ, ◌-◌, ◌^◌, ◌<◌, List, Some, None, length, get_or, slice_set, vec_capacity};
+ghost use Rattle.std.specs.Prelude.{◌≡◌, ℕ, ◌+◌, ◌-◌, ◌^◌, ◌<◌, ◌≤◌, ◌++◌, List, Some, None, length, get_or, replicate, slice_set, vec_capacity, OnOk, OnErr};
 ghost use Rattle.sb_chains.specs.Links.{Member};
 ghost use Rattle.sb_chains.specs.declared.node.Which.TheVariants.{Op, Tuple, Session};
 ghost use Rattle.sb_rawlog.specs.Buckets.{bucket};
@@ -9,6 +9,8 @@ use crate::bucket::{op_bucket, session_bucket, tuple_bucket};
 use sb_arena::Arena;
 use sb_chains::{Links, Node, Which, unlink};
 use sb_value::Change;
+use std::alloc::AllocError;
+use std::cmp::max;
 
 /// Takes a free place: one that was given back, or else the next of those that were never used.
 pub(crate) fn claim(free: &mut Vec<usize>, used: &mut usize) -> usize
@@ -88,4 +90,31 @@ pub(crate) fn take_out(
     sessions[session] = unlink(arena, Which::Session, sessions[session], place);
     let Node { item, .. } = arena.take(place);
     item
+}
+
+/// Sees that there are at least `n` free places, and that they can all be given back without memory.
+pub(crate) fn make_places(
+    arena: &mut Arena<Node<Change>>,
+    free: &mut Vec<usize>,
+    used: usize,
+    n: usize,
+) -> Result<(), AllocError>
+    requires used { (length free.old.items ≤ used) × (used ≤ length arena.old) }
+    requires roomy { length arena.old ≤ vec_capacity free.old }
+    ensures free { free.new.items ≡ free.old.items }
+    ensures roomy { length arena.new ≤ vec_capacity free.new }
+    ensures ok { OnOk result ((more : ℕ) × (arena.new ≡ arena.old ++ replicate more None) × (n + used ≤ length free.old.items + length arena.new)) }
+    ensures err { OnErr result (arena.new ≡ arena.old) }
+{
+    let places = arena.places();
+    let spare = free.len() + (places - used);
+    if n <= spare {
+        return Ok(());
+    }
+    // At least twice as many, so that a change is moved seldom.
+    let Some(places) = places.checked_add(max(places, n - spare)) else {
+        return Err(AllocError);
+    };
+    free.reserve(places - free.len())?;
+    arena.grow(places)
 }
