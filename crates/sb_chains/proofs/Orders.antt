@@ -1,5 +1,5 @@
 -- The places in use, from the newest to the oldest, and what they hold.
-use Rattle.std.proofs.Common.{◌≡◌, ◌≢◌, ℕ, zero, suc, ◌+◌, ◌<◌, ◌≤◌, Bool, true, false, not, ◌==◌, cond, nat_lt, ◌⊎◌, inl, inr, List, [], ◌∷◌, ◌++◌, reverse, length, get_or, Option, Some, None, refl, sym, ap, ◌∙◌, subst, arith, append-nil, eq-eqb, ne_eqb}
+use Rattle.std.proofs.Common.{◌≡◌, ◌≢◌, ℕ, zero, suc, ◌+◌, ◌<◌, ◌≤◌, Bool, true, false, not, ◌==◌, cond, nat_lt, inl, inr, List, [], ◌∷◌, ◌++◌, reverse, length, get_or, Option, Some, None, refl, sym, ap, ◌∙◌, subst, arith, append-nil, eq-eqb, ne_eqb}
 use Rattle.std.specs.List.{filter}
 use Rattle.std.proofs.lemmas.List.{reverse-append}
 use Rattle.std.proofs.lemmas.Bool.{lt-ltb, le-ltb}
@@ -7,7 +7,7 @@ use Rattle.sb_arena.specs.Places.{somes}
 use Rattle.sb_chains.specs.declared.node.Which.{Which}
 use Rattle.sb_chains.specs.declared.node.Node.{Node}
 use Rattle.sb_chains.specs.Links.{link, time_in, time_at, item_in, item_at, IsNode, IsChain, Member, taken_out}
-use Rattle.sb_chains.specs.Logs.{with_entry, entries, Falls, bucket_in, in_bucket, shown, of_time, in_time, contents}
+use Rattle.sb_chains.specs.Logs.{with_entry, entries, Falls, bucket_in, in_bucket, shown, of_time, contents}
 use Rattle.sb_chains.proofs.Chains.{same_or_not}
 
 module _ {X : Type 0} (cs : List (Option (Node X))) where
@@ -84,7 +84,7 @@ module _ {X : Type 0} where
         (λ j. rest j ++ none j) ∙ append-nil (reverse (entries cs (p ∷ ps)))
   ]
 
--- ---- a place that leaves
+  -- ---- a place that leaves
 
   with_same : (c d : Option (Node X)) (l : List (ℕ × X)) → item_in c ≡ item_in d → time_in c ≡ time_in d → with_entry c l ≡ with_entry d l
   with_same None None l i t = refl
@@ -127,7 +127,7 @@ module _ {X : Type 0} where
       not_there [] no_one = refl
       not_there (r ∷ rs) no_one = rw (ne_eqb r p (λ e. no_one (inl (sym e)))) (ap (λ l. r ∷ l) (not_there rs (λ n. no_one (inr n))))
 
--- ---- the places that are older than one
+  -- ---- the places that are older than one
 
   abbrev pub older : List (Option (Node X)) → ℕ → List ℕ → List ℕ
   older cs t ps = filter (λ q. nat_lt (time_at cs q) t) ps

@@ -1,5 +1,5 @@
 -- Chains of places, from the newest to the oldest.
-use Rattle.std.specs.Prelude.{◌≡◌, ℕ, ◌<◌, Bool, not, ◌==◌, ◌⊎◌, List, [], ◌∷◌, length, get_or, set, slice_set, Option, Some, None}
+use Rattle.std.specs.Prelude.{◌≡◌, ℕ, ◌<◌, not, ◌==◌, ◌⊎◌, List, [], ◌∷◌, length, get_or, set, Option, Some, None}
 use Rattle.std.specs.List.{filter}
 use Rattle.sb_chains.specs.declared.node.Which.{Which}
 use Rattle.sb_chains.specs.declared.node.Which.TheVariants.{Op, Tuple, Session}

@@ -1,11 +1,11 @@
 -- What lies ahead of a walk along a list.
-use Rattle.std.proofs.Common.{◌≡◌, ℕ, zero, suc, ◌+◌, ◌<◌, ◌≤◌, Bool, true, false, ◌&&◌, cond, nat_le, nat_lt, List, [], ◌∷◌, get_or, Option, Some, None, refl, sym, ap, ◌∙◌, subst, arith}
+use Rattle.std.proofs.Common.{◌≡◌, ℕ, suc, ◌<◌, ◌≤◌, Bool, true, false, ◌&&◌, cond, nat_le, List, [], ◌∷◌, get_or, Option, Some, None, refl, ap, ◌∙◌, subst, arith}
 use Rattle.std.specs.List.{filter}
 use Rattle.std.proofs.lemmas.Bool.{lt-leb}
 use Rattle.sb_value.specs.declared.change.Change.{Change}
 use Rattle.sb_chains.specs.declared.node.Which.{Which}
 use Rattle.sb_chains.specs.declared.node.Node.{Node}
-use Rattle.sb_chains.specs.Links.{link_in, link, time_in, time_at, IsNode, IsChain}
+use Rattle.sb_chains.specs.Links.{link, time_in, time_at, IsNode, IsChain}
 use Rattle.sb_chains.specs.Logs.{with_entry, entries}
 use Rattle.sb_chains.proofs.Chains.{one_chain}
 use Rattle.sb_rawlog.specs.Records.{Record}

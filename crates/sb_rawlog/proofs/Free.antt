@@ -35,23 +35,39 @@ claimed free free' used used' place cs f h more = elim h [
       let last : Member place free = subst (Member place) (sym a.0) (member_last place free') in
       let at = f.given_back place last in
       let cut = apart_split free' place (subst Apart a.0 f.apart) in
-      let kept : (n : Node Change) (q : ℕ) → q ≢ place → get_or (set cs place (Some n)) q None ≡ get_or cs q None = λ n q ne. get_or-set_other cs place q (Some n) None ne in
-      (omega (arith, at.0, f.within), (at.1, ((let l = ap length a.0 in let m = length-append free' (place ∷ []) in omega (arith, a.1)), λ n. record {
-        within = (let l = length-set cs place (Some n) in omega (arith, f.within, a.1));
-        given_back = λ q m.
-            let was = f.given_back q (subst (Member q) (sym a.0) (member_front q free' (place ∷ []) m)) in
-            (omega (arith, was.0, a.1), kept n q (λ e. cut.1 (subst (λ k. Member k free') e m)) ∙ was.1);
-        apart = cut.0;
-        unused = λ q le. kept n q (λ e. omega (arith, at.0, le, a.1)) ∙ f.unused q (omega (arith, le, a.1));
-      })))
+      let kept : (n : Node Change) (q : ℕ) → q ≢ place → get_or (set cs place (Some n)) q None ≡ get_or cs q None = λ n q ne. get_or-set_other cs place q (Some n) None ne in (
+        omega (arith, at.0, f.within),
+        (
+          at.1,
+          (
+            (let l = ap length a.0 in let m = length-append free' (place ∷ []) in omega (arith, a.1)),
+            λ n. record {
+              within = (let l = length-set cs place (Some n) in omega (arith, f.within, a.1));
+              given_back = λ q m.
+                  let was = f.given_back q (subst (Member q) (sym a.0) (member_front q free' (place ∷ []) m)) in
+                  (omega (arith, was.0, a.1), kept n q (λ e. cut.1 (subst (λ k. Member k free') e m)) ∙ was.1);
+              apart = cut.0;
+              unused = λ q le. kept n q (λ e. omega (arith, at.0, le, a.1)) ∙ f.unused q (omega (arith, le, a.1));
+            },
+          ),
+        ),
+      )
   | inr a ↦
-      let lt : used < length cs = more (ap length a.0) in
-      (omega (arith, lt, a.2), (f.unused place (omega (arith, a.2)), ((let l = ap length a.0 in let m = ap length a.1 in omega (arith, a.3)), λ n. record {
-        within = (let l = length-set cs place (Some n) in omega (arith, lt, a.3));
-        given_back = λ q m. absurd (subst (Member q) a.1 m);
-        apart = subst Apart (sym a.1) tt;
-        unused = λ q le. get_or-set_other cs place q (Some n) None (λ e. omega (arith, a.2, a.3, le)) ∙ f.unused q (omega (arith, a.3, le));
-      })))
+      let lt : used < length cs = more (ap length a.0) in (
+        omega (arith, lt, a.2),
+        (
+          f.unused place (omega (arith, a.2)),
+          (
+            (let l = ap length a.0 in let m = ap length a.1 in omega (arith, a.3)),
+            λ n. record {
+              within = (let l = length-set cs place (Some n) in omega (arith, lt, a.3));
+              given_back = λ q m. absurd (subst (Member q) a.1 m);
+              apart = subst Apart (sym a.1) tt;
+              unused = λ q le. get_or-set_other cs place q (Some n) None (λ e. omega (arith, a.2, a.3, le)) ∙ f.unused q (omega (arith, a.3, le));
+            },
+          ),
+        ),
+      )
 ]
 
 none_same : (c d : Option (Node Change)) → entry_in c ≡ entry_in d → d ≡ None → c ≡ None

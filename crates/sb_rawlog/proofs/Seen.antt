@@ -1,5 +1,5 @@
 -- What a log in places is seen as, by the order of the places in use.
-use Rattle.std.proofs.Common.{◌≡◌, ◌≢◌, ℕ, zero, suc, ◌+◌, ◌<◌, ◌≤◌, Bool, true, false, cond, not, ◌&&◌, ◌==◌, nat_lt, nat_le, ◌⊎◌, inl, inr, List, [], ◌∷◌, ◌++◌, reverse, map, length, get_or, Option, Some, None, refl, sym, ap, ◌∙◌, subst, arith, append_assoc, append-nil, eq-eqb, eqb-true, slice_get}
+use Rattle.std.proofs.Common.{◌≡◌, ℕ, zero, suc, ◌+◌, ◌<◌, ◌≤◌, Bool, true, false, cond, not, ◌&&◌, ◌==◌, nat_lt, inl, inr, List, [], ◌∷◌, ◌++◌, reverse, length, get_or, Option, Some, None, refl, sym, ap, ◌∙◌, subst, arith, append_assoc, append-nil}
 use Rattle.std.specs.List.{filter, list_all}
 use Rattle.std.proofs.lemmas.List.{reverse-append, reverse-reverse, length-reverse}
 use Rattle.std.proofs.lemmas.List.Elements.{filter-append}
@@ -7,8 +7,8 @@ use Rattle.std.proofs.lemmas.List.Folds.{list_all-append}
 use Rattle.std.proofs.lemmas.Bool.{lt-ltb, ltb-true}
 use Rattle.sb_value.specs.declared.change.Change.{Change}
 use Rattle.sb_chains.specs.declared.node.Node.{Node}
-use Rattle.sb_chains.specs.Links.{time_in, time_at, IsNode, Member}
-use Rattle.sb_chains.specs.Logs.{with_entry, entries, Falls, entry_in, shown, contents}
+use Rattle.sb_chains.specs.Links.{time_in, time_at, Member}
+use Rattle.sb_chains.specs.Logs.{with_entry, entries, Falls, entry_in, shown}
 use Rattle.sb_chains.proofs.Orders.{older, entries_older}
 use Rattle.sb_rawlog.specs.Records.{Record, Rising, selected, walk, before, without, change_at}
 use Rattle.sb_rawlog.specs.Search.{selects}

@@ -198,9 +198,9 @@ none_of : (who : Who) (rs : List Record) → filter (λ (r : Record). is_by who 
 none_of who [] e = refl
 none_of who (r ∷ rs) e = elim (is_by who r.1) as (λ b. cond b (r ∷ filter (λ (q : Record). is_by who q.1) rs) (filter (λ (q : Record). is_by who q.1) rs) ≡ []
     → cond (not b) (r ∷ filter (λ (q : Record). not (is_by who q.1)) rs) (filter (λ (q : Record). not (is_by who q.1)) rs) ≡ r ∷ rs) [
-  | true ↦ λ f. absurd (cc)
-  | false ↦ λ f. ap (λ l. r ∷ l) (none_of who rs f)
-] e
+      | true ↦ λ f. absurd (cc)
+      | false ↦ λ f. ap (λ l. r ∷ l) (none_of who rs f)
+    ] e
 
 pub others-all : (who : Who) (rs : List Record) → walk (is_by who) 0 rs ≡ [] → others who rs ≡ rs
 unfolding others records_by

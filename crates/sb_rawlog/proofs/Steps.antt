@@ -1,5 +1,5 @@
 -- What the steps of a walk over a log in places answer, from what the search along a list found.
-use Rattle.std.proofs.Common.{◌≡◌, ◌≢◌, ℕ, ◌+◌, ◌%◌, ◌<◌, ◌≤◌, Bool, true, false, ◌&&◌, ◌==◌, nat_lt, nat_le, List, [], ◌∷◌, reverse, length, get_or, Option, Some, None, MatchOption, refl, sym, ap, ◌∙◌, subst, arith, eq-eqb, eqb-true}
+use Rattle.std.proofs.Common.{◌≡◌, ℕ, ◌%◌, Bool, true, ◌&&◌, ◌==◌, nat_le, List, [], ◌∷◌, reverse, length, get_or, Option, Some, None, MatchOption, refl, sym, ap, ◌∙◌, subst, arith, eq-eqb, eqb-true}
 use Rattle.std.specs.List.{filter}
 use Rattle.sb_value.specs.declared.id.Who.{Who}
 use Rattle.sb_value.specs.declared.change.Kind.{Kind}
@@ -7,10 +7,10 @@ use Rattle.sb_value.specs.declared.change.Kind.TheVariants.{Inserted, Deleted, U
 use Rattle.sb_value.specs.declared.change.Change.{Change}
 use Rattle.sb_chains.specs.declared.node.Which.{Which}
 use Rattle.sb_chains.specs.declared.node.Node.{Node}
-use Rattle.sb_chains.specs.Links.{link, time_in, time_at, item_in, item_at, IsNode, IsChain, Member}
+use Rattle.sb_chains.specs.Links.{link, time_in, time_at, item_in, item_at, IsChain}
 use Rattle.sb_chains.specs.Logs.{entries, entry_in, shown, contents, bucket_in, in_bucket}
 use Rattle.sb_chains.proofs.Logs.{bucket_enough}
-use Rattle.sb_chains.proofs.Orders.{older, entries_older, in_order, chain_behind, falls_below, length-entries}
+use Rattle.sb_chains.proofs.Orders.{older, entries_older, in_order, chain_behind, length-entries}
 use Rattle.sb_rawlog.specs.declared.key.Key.{Key}
 use Rattle.sb_rawlog.specs.declared.key.Key.TheVariants.{Op as OpKey, Tuple as TupleKey, Session as SessionKey}
 use Rattle.sb_rawlog.specs.declared.spot.Spot.{Spot}
@@ -18,10 +18,10 @@ use Rattle.sb_rawlog.specs.Buckets.{group, mixed, kind_number, session_number, b
 use Rattle.sb_rawlog.specs.Changes.{author, is_by, same_kind, is_op, is_tuple}
 use Rattle.sb_rawlog.specs.Keys.{fits}
 use Rattle.sb_rawlog.specs.Places.{HoldsLog}
-use Rattle.sb_rawlog.specs.Raw.{Raw, records_of, Stands}
+use Rattle.sb_rawlog.specs.Raw.{Raw, Stands}
 use Rattle.sb_rawlog.specs.Records.{Record, Rising, walk, before, change_at}
 use Rattle.sb_rawlog.specs.Search.{selects, spot_for, Hit}
-use Rattle.sb_rawlog.specs.Steps.{OpSpot, OpStep, OpFirst, TupleSpot, TupleStep, TupleFirst, Newest}
+use Rattle.sb_rawlog.specs.Steps.{OpSpot, OpStep, TupleSpot, TupleStep, Newest}
 use Rattle.sb_rawlog.proofs.Rises.{and_left, and_right}
 use Rattle.sb_rawlog.proofs.Seen.{get-shown, shown_node, falls-rise, rising-before, change_there, first_found, none_found, before-places, before-before, first_older, length-seen}
 use Rattle.sb_rawlog.proofs.Sessions.{author_is}

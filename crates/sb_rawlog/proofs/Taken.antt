@@ -1,13 +1,12 @@
 -- What a log in places is after a change is taken out, or one is added.
-use Rattle.std.proofs.Common.{◌≡◌, ◌≢◌, ℕ, ◌+◌, ◌<◌, ◌≤◌, Bool, true, false, not, ◌==◌, ◌⊎◌, inl, inr, List, [], ◌∷◌, ◌++◌, reverse, length, get_or, set, Option, Some, None, refl, sym, ap, ◌∙◌, subst, arith, eq-eqb, eqb-true, length-set, get_or-set_other}
-use Rattle.std.specs.List.{filter}
+use Rattle.std.proofs.Common.{◌≡◌, ◌≢◌, ℕ, ◌+◌, ◌<◌, Bool, true, false, ◌==◌, ◌⊎◌, inl, inr, List, [], ◌∷◌, ◌++◌, reverse, length, get_or, set, Option, Some, None, refl, sym, ap, ◌∙◌, subst, arith, eq-eqb, eqb-true, length-set, get_or-set_other}
 use Rattle.sb_value.specs.declared.id.Who.{Who}
 use Rattle.sb_value.specs.declared.change.Change.{Change}
 use Rattle.sb_chains.specs.declared.node.Which.{Which}
 use Rattle.sb_chains.specs.declared.node.Which.TheVariants.{Op, Tuple, Session}
 use Rattle.sb_chains.specs.declared.node.Node.{Node}
 use Rattle.sb_chains.specs.Links.{Member, taken_out, link_of}
-use Rattle.sb_chains.specs.Logs.{entries, entry_in, shown, contents, IsLog}
+use Rattle.sb_chains.specs.Logs.{entries, entry_in, shown, IsLog}
 use Rattle.sb_chains.proofs.Logs.{added}
 use Rattle.sb_chains.proofs.Orders.{length-taken}
 use Rattle.sb_rawlog.specs.declared.key.Key.TheVariants.{Session as SessionKey}
@@ -16,12 +15,12 @@ use Rattle.sb_rawlog.specs.Buckets.{bucket, by_which}
 use Rattle.sb_rawlog.specs.Changes.{is_by}
 use Rattle.sb_rawlog.specs.Places.{HoldsLog, TakesOut, node_for}
 use Rattle.sb_rawlog.specs.Raw.{Raw, records_of, Stands}
-use Rattle.sb_rawlog.specs.Records.{Record, without, change_at}
+use Rattle.sb_rawlog.specs.Records.{without, change_at}
 use Rattle.sb_rawlog.specs.Search.{Hit}
-use Rattle.sb_rawlog.specs.Steps.{SpotsStay, Newest, TakesNewest}
+use Rattle.sb_rawlog.specs.Steps.{SpotsStay, TakesNewest}
 use Rattle.sb_rawlog.proofs.Seen.{get-shown, without-turned, reverse_first}
 use Rattle.sb_rawlog.proofs.Sessions.{change_at-gone}
-use Rattle.sb_rawlog.proofs.Steps.{value, seen_is, seen_long, first_places, newest_is, standing}
+use Rattle.sb_rawlog.proofs.Steps.{seen_is, seen_long, first_places, newest_is, standing}
 
 same_place : (a b : ℕ) → (a ≡ b) ⊎ (a ≢ b)
 same_place a b = go (a == b) refl
@@ -75,9 +74,10 @@ takes_newest cs ds ops tuples sessions ops' tuples' sessions' order clock room r
     let one : t.node ≡ hit.node = cc in
     let is : hit.node.item ≡ change = sym (t.result_is ∙ ap (λ (k : Node Change). k.item) one) in
     let rs = records_of (record { places = shown cs; clock = clock; room = room }) in let news = records_of (record { places = shown ds; clock = clock; room = room' }) in
-    subst (λ c. TakesNewest who rs news (Some c)) is
-    (newest_is cs ops tuples sessions order clock room holds who s hit,
-      without_is cs ds ops tuples sessions ops' tuples' sessions' order clock room room' holds s.place change t ∙ ap (λ (k : Node Change). without k.time rs) one)
+    subst (λ c. TakesNewest who rs news (Some c)) is (
+      newest_is cs ops tuples sessions order clock room holds who s hit,
+      without_is cs ds ops tuples sessions ops' tuples' sessions' order clock room room' holds s.place change t ∙ ap (λ (k : Node Change). without k.time rs) one,
+    )
 
 -- ---- a change is added
 

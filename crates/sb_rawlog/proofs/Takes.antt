@@ -1,11 +1,11 @@
 -- A change leaves its place and the three lists, one list after another.
-use Rattle.std.proofs.Common.{◌≡◌, ◌≢◌, ℕ, ◌+◌, ◌<◌, ◌≤◌, Bool, true, false, not, ◌==◌, cond, ◌⊎◌, inl, inr, List, [], ◌∷◌, length, get_or, set, Option, Some, None, refl, sym, ap, ◌∙◌, subst, arith, length-set, get_or-set_same, get_or-set_other, eq-eqb}
+use Rattle.std.proofs.Common.{◌≡◌, ◌≢◌, ℕ, ◌<◌, Bool, true, false, not, ◌==◌, cond, inl, inr, List, [], ◌∷◌, length, get_or, set, Option, Some, None, refl, sym, ap, ◌∙◌, subst, arith, length-set, get_or-set_same, get_or-set_other, eq-eqb}
 use Rattle.std.specs.List.{filter}
 use Rattle.sb_value.specs.declared.change.Change.{Change}
 use Rattle.sb_chains.specs.declared.node.Which.{Which}
 use Rattle.sb_chains.specs.declared.node.Which.TheVariants.{Op, Tuple, Session}
 use Rattle.sb_chains.specs.declared.node.Node.{Node}
-use Rattle.sb_chains.specs.Links.{link, time_in, time_at, item_in, item_at, IsNode, IsChain, Member, taken_out, Leaves}
+use Rattle.sb_chains.specs.Links.{time_in, item_in, item_at, IsNode, IsChain, Member, taken_out, Leaves}
 use Rattle.sb_chains.specs.Logs.{entry_in, entries, bucket_in, in_bucket, IsLog}
 use Rattle.sb_chains.proofs.Chains.{node_within, node_by_item}
 use Rattle.sb_chains.proofs.Logs.{Partly, one_less, removed}
@@ -76,8 +76,13 @@ module _ (was : List (Option (Node Change))) (ops tuples sessions : List (Option
 
   -- the chain that the place is in, of a list that still has it
   abbrev asks : (w : Which) (cs : List (Option (Node Change))) (heads : Which → List (Option ℕ)) (orders : Which → List ℕ) → Part cs heads orders → orders w ≡ order → (head : Option ℕ) → head ≡ get_or (heads w) (in_list w n.item) None → Asked w cs head p
-  asks w cs heads orders part full head e = (clock, (in_bucket in_list w (mine w) was order,
-      (subst (λ (k : Option ℕ × List ℕ). IsChain w cs clock k.0 (in_bucket in_list w (mine w) was k.1)) (λ j. ((ap (λ b. get_or (heads w) b None) (mine_is w) ∙ sym e) j, full j)) (part.chains w (mine w)), in_chain w)))
+  asks w cs heads orders part full head e = (
+    clock,
+    (
+      in_bucket in_list w (mine w) was order,
+      (subst (λ (k : Option ℕ × List ℕ). IsChain w cs clock k.0 (in_bucket in_list w (mine w) was k.1)) (λ j. ((ap (λ b. get_or (heads w) b None) (mine_is w) ∙ sym e) j, full j)) (part.chains w (mine w)), in_chain w),
+    ),
+  )
 
   leaves : (w : Which) (cs ds : List (Option (Node Change))) (heads : Which → List (Option ℕ)) (orders : Which → List ℕ) → (part : Part cs heads orders) → (full : orders w ≡ order) → (head next : Option ℕ)
       → (e : head ≡ get_or (heads w) (in_list w n.item) None) → Told w cs ds head next p → Leaves w p clock (in_bucket in_list w (mine w) was order) cs ds next

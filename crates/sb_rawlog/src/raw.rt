@@ -5,6 +5,7 @@ ghost use Rattle.sb_rawlog.specs.Sessions.{OthersStay, TakesLast};
 ghost use Rattle.sb_rawlog.specs.Steps.{SpotsStay, TakesNewest};
 ghost use Rattle.sb_rawlog.specs.Raw.{records_of, Stands};
 
+use crate::bucket::SESSIONS;
 use crate::key::Key;
 use crate::log::ChangeLog;
 use crate::places::{claim, enter, make_places, take_out};
@@ -15,8 +16,6 @@ use sb_chains::{Node, Which, link};
 use sb_value::{Change, Kind, TableId, Who};
 use std::alloc::{AllocError, Global};
 use std::marker::Model;
-
-use crate::bucket::SESSIONS;
 
 /// A log over an arena, with three lists through its nodes.
 #[derive(Drop)]

@@ -1,4 +1,4 @@
-use Rattle.std.proofs.Common.{◌≡◌, ◌<◌, List, Option, None, Some, get_or, set, refl, sym, ap, ◌∙◌, subst}
+use Rattle.std.proofs.Common.{◌≡◌, ◌<◌, List, Option, Some, refl, sym, ap, ◌∙◌, subst}
 use Rattle.sb_chains.specs.declared.node.Node.{Node}
 use Rattle.sb_chains.specs.Links.{link, time_at, relinked, IsNode, Leaves}
 use Rattle.sb_chains.proofs.Chains.{member_node, no_head, leaves_first, leaves_later, starts, node_here, no_end, goes_on}
@@ -36,7 +36,7 @@ returns-then-next-place g c = λ top ps h m.
     let to : link c.args.list c.args.arena.now c.steps.at ≡ Some c.args.place = ap (λ (cs : List (Option (Node g.row.T.Denot))). link c.args.list cs c.steps.at) (sym i.arena) ∙ sym c.link.ensures ∙ c.in-Some-link.is ∙ ap Some c.if-next-place.true in
     subst (Leaves c.args.list c.args.place top ps c.args.arena.now c.set_link.new.arena) c.in-Some.is
     (leaves_later c.args.list c.args.arena.now c.args.head c.args.place c.set_link.new.arena c.steps.at top ps h i.here to
-        (c.set_link.ensures.places ∙ (λ j. relinked c.args.list c.steps.at (i.after j) (i.arena j))) (c.set_link.ensures.link ∙ i.after))
+    (c.set_link.ensures.places ∙ (λ j. relinked c.args.list c.steps.at (i.after j) (i.arena j))) (c.set_link.ensures.link ∙ i.after))
 
 pub steps-smaller : goal.steps-smaller
 steps-smaller g c =
@@ -51,6 +51,6 @@ steps-preserved g c =
     let to : link c.args.list c.args.arena.now c.steps.at ≡ Some c.in-Some-link.next = ap (λ (cs : List (Option (Node g.row.T.Denot))). link c.args.list cs c.steps.at) (sym i.arena) ∙ sym c.link.ensures ∙ c.in-Some-link.is in
     record {
       arena = i.arena;
-          after = i.after;
+      after = i.after;
       here = (goes_on c.args.list c.args.arena.now c.args.head c.args.place c.steps.at c.in-Some-link.next i.here to c.if-next-place.false).0;
     }

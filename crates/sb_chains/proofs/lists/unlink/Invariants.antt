@@ -1,4 +1,4 @@
-use Rattle.std.proofs.Common.{◌≡◌, get_or, None}
+use Rattle.std.proofs.Common.{◌≡◌}
 use Rattle.sb_chains.specs.Links.{time_at, link}
 use Rattle.sb_chains.proofs.Chains.{Walking}
 use Rattle.sb_chains.proofs.lists.unlink.Given as goal

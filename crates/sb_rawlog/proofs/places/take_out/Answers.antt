@@ -1,4 +1,4 @@
-use Rattle.std.proofs.Common.{◌≡◌, ℕ, ◌<◌, List, Option, Some, None, length, vec_len, get_or, set, arith, sym, ap, ◌∙◌}
+use Rattle.std.proofs.Common.{◌≡◌, length, vec_len, set, arith, sym, ap, ◌∙◌}
 use Rattle.sb_chains.specs.declared.node.Which.TheVariants.{Op, Tuple, Session}
 use Rattle.sb_chains.proofs.Chains.{node_within}
 use Rattle.sb_chains.proofs.Orders.{falls_node}

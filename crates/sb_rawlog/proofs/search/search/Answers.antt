@@ -1,6 +1,6 @@
-use Rattle.std.proofs.Common.{◌≡◌, ◌<◌, ℕ, Option, Some, None, nat_le, get_or, sym, ap, ◌∙◌, subst}
+use Rattle.std.proofs.Common.{◌<◌, ℕ, Option, nat_le, sym, ap, ◌∙◌, subst}
 use Rattle.std.proofs.lemmas.Bool.{le-leb}
-use Rattle.sb_chains.specs.Links.{link_of, link_in, link}
+use Rattle.sb_chains.specs.Links.{link_of, link_in}
 use Rattle.sb_chains.proofs.Chains.{node_within}
 use Rattle.sb_rawlog.specs.Buckets.{list_of}
 use Rattle.sb_rawlog.specs.Keys.{fits}

@@ -1,15 +1,13 @@
-use Rattle.std.proofs.Common.{◌≡◌, ℕ, ◌+◌, [], List, Option, Some, None, length, get_or, refl, sym, ap, ◌∙◌, subst, arith, length-append, ◌∷◌}
+use Rattle.std.proofs.Common.{◌≡◌, ℕ, ◌+◌, [], List, Some, None, length, get_or, refl, sym, ap, ◌∙◌, subst, arith, length-append, ◌∷◌}
 use Rattle.sb_chains.specs.Links.{Member}
 use Rattle.sb_chains.specs.Logs.{shown}
 use Rattle.sb_chains.proofs.Orders.{length-taken}
 use Rattle.sb_rawlog.specs.declared.key.Key.TheVariants.{Session as SessionKey}
 use Rattle.sb_rawlog.specs.Buckets.{key_bucket}
 use Rattle.sb_rawlog.specs.Changes.{is_by}
-use Rattle.sb_rawlog.specs.Fields.{seen}
 use Rattle.sb_rawlog.specs.Raw.{Raw, Stands, records_of}
 use Rattle.sb_rawlog.specs.Places.{AreFree}
 use Rattle.sb_rawlog.specs.Records.{Rising, walk, others}
-use Rattle.sb_rawlog.specs.Sessions.{OthersStay, TakesLast}
 use Rattle.sb_rawlog.specs.Steps.{SpotsStay, TakesNewest}
 use Rattle.sb_rawlog.proofs.Free.{released}
 use Rattle.sb_rawlog.proofs.Sessions.{takes_last, take_leaves_others, others-taken}

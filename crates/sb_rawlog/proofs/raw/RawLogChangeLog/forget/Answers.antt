@@ -1,4 +1,4 @@
-use Rattle.std.proofs.Common.{◌≡◌, ◌+◌, List, length, sym, ap, ◌∙◌, subst, arith}
+use Rattle.std.proofs.Common.{List, sym, ap, ◌∙◌, subst}
 use Rattle.sb_rawlog.specs.Raw.{records_of}
 use Rattle.sb_rawlog.specs.Records.{Record, change_at}
 use Rattle.sb_rawlog.specs.Sessions.{OthersStay}

@@ -1,8 +1,8 @@
-use Rattle.std.proofs.Common.{◌≡◌, ℕ, [], List, Option, Some, None, length, get_or, refl, sym, ap, ◌∙◌, subst, arith}
+use Rattle.std.proofs.Common.{◌≡◌, [], Some, None, get_or, sym, ap, ◌∙◌, subst}
 use Rattle.sb_rawlog.specs.declared.key.Key.TheVariants.{Session as SessionKey}
 use Rattle.sb_rawlog.specs.Buckets.{key_bucket}
 use Rattle.sb_rawlog.specs.Changes.{is_by}
-use Rattle.sb_rawlog.specs.Raw.{Raw, Stands, records_of}
+use Rattle.sb_rawlog.specs.Raw.{Raw, records_of}
 use Rattle.sb_rawlog.specs.Records.{walk}
 use Rattle.sb_rawlog.specs.Steps.{Newest}
 use Rattle.sb_chains.proofs.Chains.{node_within}

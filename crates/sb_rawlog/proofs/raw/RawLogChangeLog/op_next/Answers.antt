@@ -1,6 +1,5 @@
-use Rattle.std.proofs.Common.{◌≡◌, ℕ, List, Option, Some, None, length, get_or, refl, sym, ap, ◌∙◌, subst, arith}
-use Rattle.sb_rawlog.specs.declared.key.Key.TheVariants.{Op as OpKey, Tuple as TupleKey, Session as SessionKey}
-use Rattle.sb_rawlog.specs.Buckets.{key_bucket}
+use Rattle.std.proofs.Common.{sym, ap, ◌∙◌, subst}
+use Rattle.sb_rawlog.specs.declared.key.Key.TheVariants.{Op as OpKey}
 use Rattle.sb_rawlog.specs.Raw.{Raw, Stands, records_of}
 use Rattle.sb_rawlog.specs.Keys.{fits}
 use Rattle.sb_rawlog.specs.Steps.{OpNext}
