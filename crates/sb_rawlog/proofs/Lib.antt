@@ -2,3 +2,10 @@ pub mod Spots
 pub mod Rises
 pub mod Sessions
 pub mod Marks
+pub mod Ahead
+pub mod Takes
+pub mod Seen
+pub mod Steps
+pub mod Free
+pub mod Taken
+pub mod Empty

@@ -71,7 +71,7 @@ module _ {X : Type 0} (p q : X → Bool) where
   filter-same h [] = refl
   filter-same h (x ∷ xs) = λ i. cond (h x i) (x ∷ filter-same h xs i) (filter-same h xs i)
 
-filter_passed : {X : Type 0} (p : X → Bool) (xs : List X) → list_all p (filter p xs) ≡ true
+pub filter_passed : {X : Type 0} (p : X → Bool) (xs : List X) → list_all p (filter p xs) ≡ true
 filter_passed p [] = refl
 filter_passed {X} p (x ∷ xs) = elim (p x) as (λ b. (p x ≡ b) → list_all p (cond b (x ∷ filter p xs) (filter p xs)) ≡ true) [
   | true ↦ λ e. ap (λ b. b && list_all p (filter p xs)) e ∙ filter_passed p xs
@@ -170,23 +170,70 @@ module _ (who : Who) (rs : List Record) (c : Change) (n : Newest who rs c) where
       ap changes (newest_last who rs c n ∙ ap (λ l. l ++ (n.time, c) ∷ []) (sym front_left))
       ∙ map-append (λ (r : Record). r.1) (records_by who (without n.time rs)) ((n.time, c) ∷ [])
 
--- no record of another session has the time
-others-without : (other : Who) (t low : ℕ) (rs : List Record) (clock : ℕ) (c : Change) → Rising low rs clock → change_at t rs ≡ Some c → is_by other c ≡ false
-    → records_by other (without t rs) ≡ records_by other rs
-unfolding records_by without change_at
-others-without other t low [] clock c up here not_by = refl
-others-without other t low (r ∷ rs) clock c up here not_by =
-    elim (r.0 == t) as (λ b. (r.0 == t) ≡ b → cond b (Some r.1) (change_at t rs) ≡ Some c
-    → records_by other (cond (not b) (r ∷ without t rs) (without t rs)) ≡ cond (is_by other r.1) (r ∷ records_by other rs) (records_by other rs)) [
+-- a test that the record of the time doesn't pass
+pub unchosen-without : (q : Change → Bool) (t low : ℕ) (rs : List Record) (clock : ℕ) (c : Change) → Rising low rs clock → change_at t rs ≡ Some c → q c ≡ false → filter (λ r. q r.1) (without t rs) ≡ filter (λ r. q r.1) rs
+unfolding without change_at
+unchosen-without q t low [] clock c up here not_so = refl
+unchosen-without q t low (r ∷ rs) clock c up here not_so =
+    let chosen : List Record → List Record = filter (λ r. q r.1) in
+    elim (r.0 == t) as (λ b. (r.0 == t) ≡ b → cond b (Some r.1) (change_at t rs) ≡ Some c → chosen (cond (not b) (r ∷ without t rs) (without t rs)) ≡ cond (q r.1) (r ∷ chosen rs) (chosen rs)) [
       | true ↦ λ at same.
           let it : r.1 ≡ c = cc in
           let above : t < r.0 + 1 = omega (arith, eqb-true r.0 t at) in
-          ap (records_by other) (without-above t (r.0 + 1) rs clock above up.1) ∙ sym (ap (λ b. cond b (r ∷ records_by other rs) (records_by other rs)) (ap (is_by other) it ∙ not_by))
-      | false ↦ λ _ further. ap (λ l. cond (is_by other r.1) (r ∷ l) l) (others-without other t (r.0 + 1) rs clock c up.1 further not_by)
+          ap chosen (without-above t (r.0 + 1) rs clock above up.1) ∙ sym (ap (λ b. cond b (r ∷ chosen rs) (chosen rs)) (ap q it ∙ not_so))
+      | false ↦ λ _ further. ap (λ l. cond (q r.1) (r ∷ l) l) (unchosen-without q t (r.0 + 1) rs clock c up.1 further not_so)
     ] refl here
 
+untaken : (other : Who) (t : ℕ) (rs : List Record) (clock : ℕ) (c : Change) → Rising 0 rs clock → change_at t rs ≡ Some c → is_by other c ≡ false → records_by other (without t rs) ≡ records_by other rs
+unfolding records_by
+untaken other t rs clock c up here not_so = unchosen-without (is_by other) t 0 rs clock c up here not_so
+
+-- nor does it belong to the others
+pub others-taken : (who : Who) (rs : List Record) (clock : ℕ) (c : Change) → Rising 0 rs clock → (n : Newest who rs c) → others who (without n.time rs) ≡ others who rs
+unfolding others
+others-taken who rs clock c up n = unchosen-without (λ d. not (is_by who d)) n.time 0 rs clock c up n.here (not_true (is_by who c) (newest_by who rs c n))
+
+-- where a session has none, all are the others'
+none_of : (who : Who) (rs : List Record) → filter (λ (r : Record). is_by who r.1) rs ≡ [] → filter (λ (r : Record). not (is_by who r.1)) rs ≡ rs
+none_of who [] e = refl
+none_of who (r ∷ rs) e = elim (is_by who r.1) as (λ b. cond b (r ∷ filter (λ (q : Record). is_by who q.1) rs) (filter (λ (q : Record). is_by who q.1) rs) ≡ []
+    → cond (not b) (r ∷ filter (λ (q : Record). not (is_by who q.1)) rs) (filter (λ (q : Record). not (is_by who q.1)) rs) ≡ r ∷ rs) [
+      | true ↦ λ f. absurd (cc)
+      | false ↦ λ f. ap (λ l. r ∷ l) (none_of who rs f)
+    ] e
+
+pub others-all : (who : Who) (rs : List Record) → walk (is_by who) 0 rs ≡ [] → others who rs ≡ rs
+unfolding others records_by
+others-all who rs e = none_of who rs (sym (walked who rs) ∙ ap reverse e)
+
+-- ---- what is still there after a change is taken out
+
+pub change_at-gone : (t : ℕ) (rs : List Record) → change_at t (without t rs) ≡ None
+unfolding change_at without
+change_at-gone t [] = refl
+change_at-gone t (r ∷ rs) = elim (r.0 == t) as (λ b. (r.0 == t) ≡ b → change_at t (cond (not b) (r ∷ without t rs) (without t rs)) ≡ None) [
+  | true ↦ λ _. change_at-gone t rs
+  | false ↦ λ e. ap (λ b. cond b (Some r.1) (change_at t (without t rs))) e ∙ change_at-gone t rs
+] refl
+
+pub change_at-still : (s t : ℕ) (rs : List Record) (c : Change) → change_at s (without t rs) ≡ Some c → change_at s rs ≡ Some c
+unfolding change_at without
+change_at-still s t [] c e = e
+change_at-still s t (r ∷ rs) c e = elim (r.0 == t) as (λ b. (r.0 == t) ≡ b → change_at s (cond (not b) (r ∷ without t rs) (without t rs)) ≡ Some c → cond (r.0 == s) (Some r.1) (change_at s rs) ≡ Some c) [
+  | true ↦ λ at left. elim (r.0 == s) as (λ b. (r.0 == s) ≡ b → cond b (Some r.1) (change_at s rs) ≡ Some c) [
+    | true ↦ λ same.
+        let one : s ≡ t = sym (eqb-true r.0 s same) ∙ eqb-true r.0 t at in
+        let none : change_at s (without t rs) ≡ None = ap (λ k. change_at s (without k rs)) (sym one) ∙ change_at-gone s rs in absurd (cc)
+    | false ↦ λ _. change_at-still s t rs c left
+  ] refl
+  | false ↦ λ _ left. elim (r.0 == s) as (λ b. cond b (Some r.1) (change_at s (without t rs)) ≡ Some c → cond b (Some r.1) (change_at s rs) ≡ Some c) [
+    | true ↦ λ f. f
+    | false ↦ λ f. change_at-still s t rs c f
+  ] left
+] refl e
+
 pub others_untaken : (who : Who) (rs : List Record) (clock : ℕ) (c : Change) → Rising 0 rs clock → (n : Newest who rs c) → OthersStay who rs (without n.time rs)
-others_untaken who rs clock c up n other apart = others-without other n.time 0 rs clock c up n.here (by_one who other c apart (newest_by who rs c n))
+others_untaken who rs clock c up n other apart = untaken other n.time rs clock c up n.here (by_one who other c apart (newest_by who rs c n))
 
 -- what taking the newest change out means for the sessions
 pub takes_last : (who : Who) (old new : List Record) (o : Option Change) → TakesNewest who old new o → TakesLast who old new o

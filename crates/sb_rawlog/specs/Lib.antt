@@ -4,3 +4,8 @@ pub mod Sessions
 pub mod Keys
 pub mod Found
 pub mod Steps
+pub mod Buckets
+pub mod Search
+pub mod Places
+pub mod Raw
+pub mod Fields

@@ -1,5 +1,5 @@
 -- What a log holds of one session.
-use Rattle.std.specs.Prelude.{◌≡◌, ◌≢◌, ℕ, nat_lt, List, [], ◌∷◌, ◌++◌, map, length, drop, Option, Some, None}
+use Rattle.std.specs.Prelude.{◌≡◌, ◌≢◌, ℕ, List, [], ◌∷◌, ◌++◌, map, length, drop, Option, Some, None}
 use Rattle.std.specs.List.{filter}
 use Rattle.sb_value.specs.declared.id.Who.{Who}
 use Rattle.sb_value.specs.declared.change.Change.{Change}

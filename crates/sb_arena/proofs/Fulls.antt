@@ -1,0 +1,97 @@
+-- Rows of places that are all full, or all empty.
+use Rattle.std.proofs.Common.{◌≡◌, ℕ, zero, suc, ◌+◌, ◌-◌, ◌<◌, ◌≤◌, List, [], ◌∷◌, ◌++◌, map, length, take, drop, replicate, get_or, set, Option, Some, None, slice_get, refl, sym, ap, ◌∙◌, arith, ◌⊎◌, inl, inr, ext_get_or, length-append, get_or-drop}
+use Rattle.std.proofs.lemmas.List.{length-map, length-replicate, map-append, get_or_append_left, get_or-append_right}
+use Rattle.std.proofs.lemmas.Option.{slice_get-get_or}
+use Rattle.sb_arena.specs.Places.{somes, IsFilled, AreFull}
+
+module _ {X : Type 0} where
+  pub somes-map : (xs : List X) → somes (map Some xs) ≡ xs
+  somes-map [] = refl
+  somes-map (x ∷ xs) = ap (λ l. x ∷ l) (somes-map xs)
+
+  pub full_map : (cs : List (Option X)) (xs : List X) → cs ≡ map Some xs → AreFull cs
+  full_map cs xs e = e ∙ ap (map Some) (sym (ap somes e ∙ somes-map xs))
+
+  pub length-somes : (cs : List (Option X)) → AreFull cs → length (somes cs) ≡ length cs
+  length-somes cs f = sym (ap length f ∙ length-map (somes cs) Some)
+
+  get-map : (xs : List X) (i : ℕ) → get_or (map Some xs) i None ≡ slice_get xs i
+  get-map [] i = refl
+  get-map (x ∷ xs) zero = refl
+  get-map (x ∷ xs) (suc i) = get-map xs i
+
+  -- the value at an index
+  pub full_at : (cs : List (Option X)) (i : ℕ) (d : X) → AreFull cs → i < length cs → get_or cs i None ≡ Some (get_or (somes cs) i d)
+  full_at cs i d f lt = ap (λ l. get_or l i None) f ∙ get-map (somes cs) i ∙ slice_get-get_or (somes cs) i d (omega (arith, length-somes cs f))
+
+  set-map : (xs : List X) (i : ℕ) (v : X) → set (map Some xs) i (Some v) ≡ map Some (set xs i v)
+  set-map [] i v = refl
+  set-map (x ∷ xs) zero v = refl
+  set-map (x ∷ xs) (suc i) v = ap (λ l. Some x ∷ l) (set-map xs i v)
+
+  set-twice : (cs : List (Option X)) (i : ℕ) (a b : Option X) → set (set cs i a) i b ≡ set cs i b
+  set-twice [] i a b = refl
+  set-twice (c ∷ cs) zero a b = refl
+  set-twice (c ∷ cs) (suc i) a b = ap (λ l. c ∷ l) (set-twice cs i a b)
+
+  -- a value was taken out, and another put in its place
+  pub replaced : (cs ds es : List (Option X)) (i : ℕ) (v : X) → AreFull cs → ds ≡ set cs i None → es ≡ set ds i (Some v) → es ≡ map Some (set (somes cs) i v)
+  replaced cs ds es i v f e g = g ∙ ap (λ l. set l i (Some v)) e ∙ set-twice cs i None (Some v) ∙ ap (λ l. set l i (Some v)) f ∙ set-map (somes cs) i v
+
+below_or_not : (a b : ℕ) → (a < b) ⊎ (b ≤ a)
+below_or_not zero zero = inr (omega arith)
+below_or_not zero (suc b) = inl (omega arith)
+below_or_not (suc a) zero = inr (omega arith)
+below_or_not (suc a) (suc b) = elim (below_or_not a b) [ inl h ↦ inl (omega arith) | inr h ↦ inr (omega arith) ]
+
+pub get-replicate : {Y : Type 0} (n i : ℕ) (v d : Y) → i < n → get_or (replicate n v) i d ≡ v
+get-replicate zero i v d h = absurd (omega arith)
+get-replicate (suc n) zero v d h = refl
+get-replicate (suc n) (suc i) v d h = get-replicate n i v d (omega arith)
+
+module _ {X : Type 0} where
+  slice_some : (xs : List X) (i : ℕ) → i < length xs → (x : X) × (slice_get xs i ≡ Some x)
+  slice_some [] i h = absurd (omega arith)
+  slice_some (x ∷ xs) zero h = (x, refl)
+  slice_some (x ∷ xs) (suc i) h = slice_some xs i (omega arith)
+
+  pub filled_in : (cs : List (Option X)) (i : ℕ) → AreFull cs → i < length cs → IsFilled cs i
+  filled_in cs i f lt = let s = slice_some (somes cs) i (omega (arith, length-somes cs f)) in (s.0, ap (λ l. get_or l i None) f ∙ get-map (somes cs) i ∙ s.1)
+
+  pub get-nones : (n i : ℕ) → ◌≡◌ {A = Option X} (get_or (replicate n None) i None) None
+  get-nones zero i = refl
+  get-nones (suc n) zero = refl
+  get-nones (suc n) (suc i) = get-nones n i
+
+  pub all_none : (cs : List (Option X)) (n : ℕ) → length cs ≡ n → ((k : ℕ) → k < n → get_or cs k None ≡ None) → cs ≡ replicate n None
+  all_none cs n len h = ext_get_or None cs (replicate n None) (len ∙ sym (length-replicate n None)) (λ i lt. h i (omega arith) ∙ sym (get-nones n i))
+
+  -- a list that begins with another and goes on with one value
+  pub front_and : (cs ds : List (Option X)) (n : ℕ) (v : Option X) → length cs ≡ length ds + n → ((k : ℕ) → k < length ds → get_or cs k None ≡ get_or ds k None)
+      → ((k : ℕ) → length ds ≤ k → k < length cs → get_or cs k None ≡ v) → cs ≡ ds ++ replicate n v
+  front_and cs ds n v len front back =
+      ext_get_or None cs (ds ++ replicate n v) (len ∙ sym (length-append ds (replicate n v) ∙ ap (λ m. length ds + m) (length-replicate n v))) (λ i lt. elim (below_or_not i (length ds)) [
+        | inl h ↦ front i h ∙ sym (get_or_append_left ds (replicate n v) None i h)
+        | inr h ↦ back i h lt ∙ sym (get_or-append_right ds (replicate n v) (length ds) i None refl h ∙ get-replicate n (i - length ds) v None (omega arith))
+      ])
+
+  pub empty_past : (cs : List (Option X)) (start m : ℕ) → drop start cs ≡ replicate m None → (k : ℕ) → start ≤ k → get_or cs k None ≡ None
+  empty_past cs start m e k le =
+      let back : start + (k - start) ≡ k = omega arith in
+      ap (λ j. get_or cs j None) (sym back) ∙ sym (get_or-drop start cs (k - start) None) ∙ ap (λ l. get_or l (k - start) None) e ∙ get-nones m (k - start)
+
+  pub drop_front : (xs : List (Option X)) (n : ℕ) (ys : List (Option X)) → n ≡ length xs → drop n (xs ++ ys) ≡ ys
+  drop_front [] n ys e = ap (λ k. drop k ys) e
+  drop_front (x ∷ xs) n ys e = ap (λ k. drop k (x ∷ xs ++ ys)) e ∙ drop_front xs (length xs) ys refl
+
+  pub take_front : (xs : List (Option X)) (n : ℕ) (ys : List (Option X)) → n ≡ length xs → take n (xs ++ ys) ≡ xs
+  take_front [] n ys e = ap (λ k. take k ys) e
+  take_front (x ∷ xs) n ys e = ap (λ k. take k (x ∷ xs ++ ys)) e ∙ ap (λ l. x ∷ l) (take_front xs (length xs) ys refl)
+
+  map-replicate : (n : ℕ) (v : X) → replicate n (Some v) ≡ map Some (replicate n v)
+  map-replicate zero v = refl
+  map-replicate (suc n) v = ap (λ l. Some v ∷ l) (map-replicate n v)
+
+  -- full places, and further ones of one value
+  pub grown : (cs ds : List (Option X)) (n : ℕ) (v : X) → AreFull cs → ds ≡ cs ++ replicate n (Some v) → ds ≡ map Some (somes cs ++ replicate n v)
+  grown cs ds n v f e = e ∙ ap (λ l. l ++ replicate n (Some v)) f ∙ ap (λ l. map Some (somes cs) ++ l) (map-replicate n v) ∙ sym (map-append Some (somes cs) (replicate n v))

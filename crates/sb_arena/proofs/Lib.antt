@@ -1,0 +1,4 @@
+pub mod Fulls
+pub mod Names
+pub mod Rows
+pub mod Shared

@@ -1,0 +1,8 @@
+//! Places with numbers over raw memory, each free or with a value, specified as a list.
+#![tactic(auto)]
+
+mod arena;
+mod cells;
+mod moves;
+
+pub use arena::Arena;

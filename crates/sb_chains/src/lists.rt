@@ -1,0 +1,84 @@
+//! One code for all lists: `list` says which link of a node it follows.
+ghost use Rattle.std.specs.Prelude.{◌≡◌, ℕ, ◌<◌, List, Option, Some, None, length, get_or, slice_set, slice_index_or};
+ghost use Rattle.sb_chains.specs.Links.{link, link_of, with_link, relinked, IsNode, IsChain, Member, Leaves};
+
+use crate::node::{Links, Node, Which};
+use sb_arena::Arena;
+
+impl Links {
+    /// The link of the list.
+    pub fn get(self, list: Which) -> Option<usize>
+        ensures { result ≡ link_of list self }
+    {
+        match list {
+            Which::Op => self.op,
+            Which::Tuple => self.tuple,
+            Which::Session => self.session,
+        }
+    }
+
+    fn with(self, list: Which, to: Option<usize>) -> Links
+        ensures { result ≡ with_link list to self }
+    {
+        match list {
+            Which::Op => Links { op: to, ..self },
+            Which::Tuple => Links { tuple: to, ..self },
+            Which::Session => Links {
+                session: to,
+                ..self
+            },
+        }
+    }
+}
+
+/// The next older place of the list.
+pub fn link<T>(arena: &Arena<Node<T>>, list: Which, place: usize) -> Option<usize>
+    requires { IsNode arena.now place }
+    ensures { result ≡ link list arena.now place }
+{
+    match arena.get(place) {
+        Some(node) => node.links.get(list),
+        None => None,
+    }
+}
+
+/// Sets the next older place of the list.
+fn set_link<T>(arena: &mut Arena<Node<T>>, list: Which, place: usize, to: Option<usize>)
+    requires { IsNode arena.old place }
+    ensures places { arena.new ≡ relinked list place to arena.old }
+    ensures link { link list arena.new place ≡ to }
+{
+    let mut node = arena.take(place);
+    node.links = node.links.with(list, to);
+    arena.put(place, node);
+}
+
+/// Takes the place out of the list that begins at `head`, and returns where the list begins then.
+pub fn unlink<T>(
+    arena: &mut Arena<Node<T>>,
+    list: Which,
+    head: Option<usize>,
+    place: usize,
+) -> Option<usize>
+    requires { (top : ℕ) × ((ps : List ℕ) × (IsChain list arena.old top head ps × Member place ps)) }
+    ensures { (top : ℕ) (ps : List ℕ) → IsChain list arena.old top head ps → Member place ps → Leaves list place top ps arena.old arena.new result }
+{
+    let after = link(arena, list, place);
+    let Some(first) = head else {
+        return None;
+    };
+    if first == place {
+        return after;
+    }
+    let mut at = first;
+    'steps: loop {
+        let Some(next) = link(arena, list, at) else {
+            return None;
+        };
+        if next == place {
+            set_link(arena, list, at, after);
+            return head;
+        }
+        at = next;
+    }
+}

@@ -1,0 +1,13 @@
+use Rattle.std.proofs.Common.{subst}
+use Rattle.sb_rawlog.specs.Raw.{Raw, records_of}
+use Rattle.sb_rawlog.specs.Records.{Rising}
+use Rattle.sb_rawlog.specs.Sessions.{MarksCut}
+use Rattle.sb_rawlog.proofs.Marks.{marks_cut}
+use Rattle.sb_rawlog.proofs.Steps.{seen_rises}
+use Rattle.sb_rawlog.proofs.raw.RawLogChangeLog.now.Goals as goal
+
+pub returns-clause-rising : goal.returns-clause-rising
+returns-clause-rising c = let a = c.self.inside in let inv = c.self.invariant in subst (λ (v : Raw). Rising 0 (records_of v) a.clock) c.self.view_is (seen_rises a.arena a.ops.items a.tuples.items a.sessions.items inv.order a.clock a.room inv.holds)
+
+pub returns-clause-marks : goal.returns-clause-marks
+returns-clause-marks c = let a = c.self.inside in let inv = c.self.invariant in subst (λ (v : Raw). MarksCut (records_of v)) c.self.view_is (marks_cut _ a.clock (seen_rises a.arena a.ops.items a.tuples.items a.sessions.items inv.order a.clock a.room inv.holds))

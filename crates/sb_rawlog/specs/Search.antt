@@ -1,0 +1,24 @@
+-- What a walk along a list of a log in places finds.
+use Rattle.std.specs.Prelude.{◌≡◌, ℕ, Bool, true, ◌&&◌, nat_le, List, ◌∷◌, get_or, Option, Some, None}
+use Rattle.std.specs.List.{filter}
+use Rattle.sb_value.specs.declared.change.Change.{Change}
+use Rattle.sb_chains.specs.declared.node.Node.{Node}
+use Rattle.sb_chains.specs.Logs.{entries}
+use Rattle.sb_rawlog.specs.Changes.{author}
+use Rattle.sb_rawlog.specs.Records.{Record}
+use Rattle.sb_rawlog.specs.declared.spot.Spot.{Spot}
+
+abbrev pub selects : (Change → Bool) → ℕ → Record → Bool
+selects p since r = nat_le since r.0 && p r.1
+
+abbrev pub spot_for : ℕ → ℕ → Node Change → Spot
+spot_for place since n = record { place = place; time = n.time; since = since; who = author n.item; table = n.item.table; kind = n.item.kind; tuple = n.item.tuple }
+
+-- the spot's change comes first of those of the places that are selected
+pub record Hit (p : Change → Bool) (since : ℕ) (cs : List (Option (Node Change))) (ps : List ℕ) (s : Spot) : Type 0 where
+  pub node : Node Change
+  pub here : get_or cs s.place None ≡ Some node
+  pub is : s ≡ spot_for s.place since node
+  pub fits : p node.item ≡ true
+  pub rest : List Record
+  pub first : filter (selects p since) (entries cs ps) ≡ (node.time, node.item) ∷ rest

@@ -1,0 +1,109 @@
+//! Which list of which bucket a change is in.
+ghost use Rattle.std.specs.Prelude.{◌≡◌, ℕ, ◌<◌, List, Option, None, length, get_or};
+ghost use Rattle.sb_chains.specs.declared.node.Which.TheVariants.{Op, Tuple, Session};
+ghost use Rattle.sb_rawlog.specs.Buckets.{group, mixed, kind_number, session_number, bucket, key_bucket, list_of, by_which};
+
+use crate::key::Key;
+use sb_chains::Which;
+use sb_value::{Change, Kind, SessionId, TableId, TenantId};
+
+/// How many sessions there are. Each has a list of its own.
+pub(crate) const SESSIONS: usize = 2_048;
+
+/// One number for a session's table.
+#[tactic(auto, unfolding(crate::specs::Buckets::group))]
+fn group(tenant: TenantId, session: SessionId, table: TableId) -> u64
+    ensures { result ≡ group tenant session table }
+{
+    (tenant.number() as u64 * 8 + session.number() as u64) * 16 + table.number() as u64
+}
+
+/// A number below 2^32 that two small numbers, or two in a row, seldom share. The low bits of a product
+/// know only the low bits of its factors, so the upper half is taken, where all of them meet; the factors are odd
+/// and without pattern, so that numbers in a row are spread evenly.
+#[tactic(auto, unfolding(crate::specs::Buckets::mixed))]
+fn mixed(group: u64, number: u64) -> u64
+    ensures { result ≡ mixed group number }
+{
+    let sum = group.wrapping_mul(0x9e37_79b9_7f4a_7c15);
+    sum.wrapping_add(number.wrapping_mul(0xc2b2_ae3d_27d4_eb4f)) / 4_294_967_296
+}
+
+fn kind_number(kind: Kind) -> u64
+    ensures { result ≡ kind_number kind }
+{
+    match kind {
+        Kind::Inserted => 0,
+        Kind::Deleted => 1,
+        Kind::Updated => 2,
+    }
+}
+
+#[tactic(auto, unfolding(crate::specs::Buckets::session_number))]
+fn session_number(tenant: TenantId, session: SessionId) -> usize
+    ensures value { result ≡ session_number tenant session }
+    ensures within { result < 2048 }
+{
+    (tenant.index() * 8 + session.index()) % SESSIONS
+}
+
+pub(crate) fn op_bucket(change: &Change, count: usize) -> usize
+    requires { 0 < count }
+    ensures { result ≡ bucket count Op change.now }
+{
+    let group = group(change.tenant, change.session, change.table);
+    (mixed(group, kind_number(change.kind)) % count as u64) as usize
+}
+
+pub(crate) fn tuple_bucket(change: &Change, count: usize) -> usize
+    requires { 0 < count }
+    ensures { result ≡ bucket count Tuple change.now }
+{
+    let group = group(change.tenant, change.session, change.table);
+    (mixed(group, change.tuple) % count as u64) as usize
+}
+
+pub(crate) fn session_bucket(change: &Change) -> usize
+    ensures value { result ≡ session_number change.now.tenant change.now.session }
+    ensures within { result < 2048 }
+{
+    session_number(change.tenant, change.session)
+}
+
+impl Key {
+    /// The list of a log in places that has what fits the key.
+    pub(crate) fn list(&self) -> Which
+        ensures { result ≡ list_of self.now }
+    {
+        match self {
+            Key::Op(_, _, _) => Which::Op,
+            Key::Tuple(_, _, _) => Which::Tuple,
+            Key::Session(_) => Which::Session,
+        }
+    }
+
+    /// Where the list of the key's bucket begins.
+    pub(crate) fn head(
+        &self,
+        ops: &[Option<usize>],
+        tuples: &[Option<usize>],
+        sessions: &[Option<usize>],
+    ) -> Option<usize>
+        requires ops { 0 < length ops.now }
+        requires tuples { length tuples.now ≡ length ops.now }
+        requires sessions { length sessions.now ≡ 2048 }
+        ensures { result ≡ get_or (by_which ops.now tuples.now sessions.now (list_of self.now)) (key_bucket (length ops.now) self.now) None }
+    {
+        match self {
+            Key::Op(who, table, kind) => {
+                let mixed = mixed(group(who.tenant, who.session, *table), kind_number(*kind));
+                ops[(mixed % ops.len() as u64) as usize]
+            }
+            Key::Tuple(who, table, tuple) => {
+                let mixed = mixed(group(who.tenant, who.session, *table), *tuple);
+                tuples[(mixed % ops.len() as u64) as usize]
+            }
+            Key::Session(who) => sessions[session_number(who.tenant, who.session)],
+        }
+    }
+}

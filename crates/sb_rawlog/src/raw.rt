@@ -1,0 +1,193 @@
+//! A log whose changes lie in numbered places.
+ghost use Rattle.std.specs.Prelude.{◌≡◌, ◌+◌, ◌<◌, ◌≤◌, [], length, IfOk};
+ghost use Rattle.sb_rawlog.specs.Records.{others};
+ghost use Rattle.sb_rawlog.specs.Sessions.{OthersStay, TakesLast};
+ghost use Rattle.sb_rawlog.specs.Steps.{SpotsStay, TakesNewest};
+ghost use Rattle.sb_rawlog.specs.Raw.{records_of, Stands};
+
+use crate::bucket::SESSIONS;
+use crate::key::Key;
+use crate::log::ChangeLog;
+use crate::places::{claim, enter, make_places, take_out};
+use crate::search::search;
+use crate::spot::Spot;
+use sb_arena::Arena;
+use sb_chains::{Node, Which, link};
+use sb_value::{Change, Kind, TableId, Who};
+use std::alloc::{AllocError, Global};
+use std::marker::Model;
+
+/// A log over an arena, with three lists through its nodes.
+#[derive(Drop)]
+pub struct RawLog {
+    arena: Arena<Node<Change>>,
+    ops: Vec<Option<usize>>,
+    tuples: Vec<Option<usize>>,
+    sessions: Vec<Option<usize>>,
+    free: Vec<usize>,
+    used: usize,
+    clock: u64,
+    room: usize,
+}
+
+impl Model for RawLog {
+    ghost use Rattle.sb_rawlog.specs.Raw.{Raw};
+
+    ghost Value = { Raw };
+
+    ghost use Rattle.sb_rawlog.specs.Fields.{seen, IsRaw};
+
+    ghost view = { seen };
+
+    ghost invariant = { IsRaw };
+}
+
+impl RawLog {
+    /// An empty log, whose clock stands at 0. It is as right with one bucket as with many, and faster with more.
+    pub fn new(alloc: Global, buckets: usize) -> Result<Self, AllocError>
+        requires { (0 < buckets) × (buckets ≤ 65536) }
+        ensures records { IfOk result (λ l. ⟦<RawLog as ChangeLog>⟧.records l ≡ []) }
+        ensures clock { IfOk result (λ l. ⟦<RawLog as ChangeLog>⟧.clock l ≡ 0) }
+        ensures spare { IfOk result (λ l. ⟦<RawLog as ChangeLog>⟧.room l ≡ 0) }
+    {
+        Ok(RawLog {
+            arena: Arena::new(alloc)?,
+            ops: Vec::from_elem(alloc, None, buckets)?,
+            tuples: Vec::from_elem(alloc, None, buckets)?,
+            sessions: Vec::from_elem(alloc, None, SESSIONS)?,
+            free: Vec::new(alloc),
+            used: 0,
+            clock: 0,
+            room: 0,
+        })
+    }
+
+    /// Takes the session's newest change out of its place.
+    fn pop(&mut self, who: Who) -> Option<Change>
+        ensures taken { TakesNewest who (records_of self.old) (records_of self.new) result }
+        ensures spare { self.new.room + length (records_of self.new) ≡ self.old.room + length (records_of self.old) }
+        ensures clock { self.new.clock ≡ self.old.clock }
+        ensures spots { SpotsStay (Stands self.old) (Stands self.new) (records_of self.new) }
+        ensures own { TakesLast who (records_of self.old) (records_of self.new) result }
+        ensures others { OthersStay who (records_of self.old) (records_of self.new) }
+        ensures all_others { others who (records_of self.new) ≡ others who (records_of self.old) }
+    {
+        let key = Key::Session(who);
+        let head = key.head(&self.ops, &self.tuples, &self.sessions);
+        let Some(spot) = search(&self.arena, head, 0, &key) else {
+            return None;
+        };
+        let change = take_out(
+            &mut self.arena,
+            &mut self.ops,
+            &mut self.tuples,
+            &mut self.sessions,
+            spot.place,
+        );
+        self.free.push_reserved(spot.place);
+        self.room += 1;
+        Some(change)
+    }
+}
+
+impl ChangeLog for RawLog {
+    ghost records = { records_of };
+
+    ghost clock = { λ l. l.clock };
+
+    ghost room = { λ l. l.room };
+
+    ghost stands = { Stands };
+
+    fn reserve(&mut self, n: usize) -> Result<(), AllocError> {
+        if n > self.room {
+            make_places(&mut self.arena, &mut self.free, self.used, n)?;
+            self.room = n;
+        }
+        Ok(())
+    }
+
+    fn spare(&self) -> usize {
+        self.room
+    }
+
+    fn append(&mut self, change: Change) {
+        let place = claim(&mut self.free, &mut self.used);
+        enter(
+            &mut self.arena,
+            &mut self.ops,
+            &mut self.tuples,
+            &mut self.sessions,
+            place,
+            self.clock,
+            change,
+        );
+        self.clock += 1;
+        self.room -= 1;
+    }
+
+    fn now(&self) -> u64 {
+        self.clock
+    }
+
+    fn len(&self) -> usize {
+        self.used - self.free.len()
+    }
+
+    fn op_first(&self, who: Who, table: TableId, kind: Kind, since: u64) -> Option<Spot> {
+        let key = Key::Op(who, table, kind);
+        let head = key.head(&self.ops, &self.tuples, &self.sessions);
+        search(&self.arena, head, since, &key)
+    }
+
+    fn op_next(&self, spot: Spot) -> Option<Spot> {
+        let key = Key::Op(spot.who, spot.table, spot.kind);
+        let behind = link(&self.arena, Which::Op, spot.place);
+        search(&self.arena, behind, spot.since, &key)
+    }
+
+    fn tuple_first(&self, who: Who, table: TableId, tuple: u64, since: u64) -> Option<Spot> {
+        let key = Key::Tuple(who, table, tuple);
+        let head = key.head(&self.ops, &self.tuples, &self.sessions);
+        search(&self.arena, head, since, &key)
+    }
+
+    fn tuple_next(&self, spot: Spot) -> Option<Spot> {
+        let key = Key::Tuple(spot.who, spot.table, spot.tuple);
+        let behind = link(&self.arena, Which::Tuple, spot.place);
+        search(&self.arena, behind, spot.since, &key)
+    }
+
+    fn get(&self, spot: Spot) -> (u64, &Change) {
+        let Some(node) = self.arena.get(spot.place) else {
+            unreachable!()
+        };
+        (node.time, &node.item)
+    }
+
+    fn newest(&self, who: Who) -> Option<&Change> {
+        let key = Key::Session(who);
+        let head = key.head(&self.ops, &self.tuples, &self.sessions);
+        let Some(spot) = search(&self.arena, head, 0, &key) else {
+            return None;
+        };
+        let Some(node) = self.arena.get(spot.place) else {
+            return None;
+        };
+        Some(&node.item)
+    }
+
+    fn take_newest(&mut self, who: Who) -> Option<Change> {
+        self.pop(who)
+    }
+
+    fn forget(&mut self, who: Who) {
+        'newest: loop {
+            let session = who;
+            let Some(change) = self.pop(session) else {
+                return;
+            };
+            drop(change);
+        }
+    }
+}

@@ -1,0 +1,61 @@
+//! The walk along a list of a log in places.
+ghost use Rattle.std.specs.Prelude.{◌≡◌, ℕ, List, [], MatchOption};
+ghost use Rattle.std.specs.List.{filter};
+ghost use Rattle.sb_chains.specs.Links.{IsChain};
+ghost use Rattle.sb_chains.specs.Logs.{entries};
+ghost use Rattle.sb_rawlog.specs.Buckets.{list_of};
+ghost use Rattle.sb_rawlog.specs.Keys.{fits};
+ghost use Rattle.sb_rawlog.specs.Search.{selects, spot_for, Hit};
+
+use crate::key::Key;
+use crate::spot::Spot;
+use sb_arena::Arena;
+use sb_chains::Node;
+use sb_value::{Change, Who};
+
+/// The spot of the change in the place.
+fn spot_for(place: usize, since: u64, node: &Node<Change>) -> Spot
+    ensures { result ≡ spot_for place since node.now }
+{
+    let change = &node.item;
+    Spot {
+        place,
+        time: node.time,
+        since,
+        who: Who {
+            tenant: change.tenant,
+            session: change.session,
+        },
+        table: change.table,
+        kind: change.kind,
+        tuple: change.tuple,
+    }
+}
+
+/// The first change from `head` on that fits the key and is no older than `since`.
+pub(crate) fn search(
+    arena: &Arena<Node<Change>>,
+    head: Option<usize>,
+    since: u64,
+    key: &Key,
+) -> Option<Spot>
+    requires { (top : ℕ) × ((ps : List ℕ) × IsChain (list_of key.now) arena.now top head ps) }
+    ensures { (top : ℕ) (ps : List ℕ) → IsChain (list_of key.now) arena.now top head ps → MatchOption result (filter (selects (fits key.now) since) (entries arena.now ps) ≡ []) (Hit (fits key.now) since arena.now ps) }
+{
+    let list = key.list();
+    let mut at = head;
+    'steps: while let Some(place) = at {
+        let Some(node) = arena.get(place) else {
+            return None;
+        };
+        // Those behind it are older still.
+        if node.time < since {
+            return None;
+        }
+        if key.fits(&node.item) {
+            return Some(spot_for(place, since, node));
+        }
+        at = node.links.get(list);
+    }
+    None
+}
