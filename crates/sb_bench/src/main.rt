@@ -1,11 +1,14 @@
 //! Times parts of the server by themselves: `sb_bench WORK ROUNDS < LINES`, where the work is
-//! `read`, `resolve` or `join`. The lines are the commands of `read` and `resolve`; `join` takes
+//! `read`, `resolve`, `join`, `names`, `numbers` or `logs`. The lines are the commands of `read` and `resolve`; `join` takes
 //! none. Prints how many rounds went well and the nanoseconds of all. With no work, nothing is timed.
 #![tactic(auto)]
 
 mod join;
 mod lines;
+mod log;
+mod logs;
 mod rows;
+mod rules;
 mod tables;
 
 use std::env;
@@ -22,6 +25,12 @@ enum Work {
     Resolve,
     /// Two tables of 1,000 rows are joined.
     Join,
+    /// 64 rules are found by their names.
+    Names,
+    /// 64 rules are found by their numbers.
+    Numbers,
+    /// The two logs are filled, walked and emptied once in each round.
+    Logs,
 }
 
 fn work_of(word: &str) -> Option<Work> {
@@ -29,6 +38,9 @@ fn work_of(word: &str) -> Option<Work> {
         "read" => Some(Work::Read),
         "resolve" => Some(Work::Resolve),
         "join" => Some(Work::Join),
+        "names" => Some(Work::Names),
+        "numbers" => Some(Work::Numbers),
+        "logs" => Some(Work::Logs),
         _ => None,
     }
 }
@@ -51,7 +63,7 @@ fn timed(rt: &HostRuntime) -> io::Result<()> {
         return Ok(());
     };
     let (Some(work), Ok(rounds)) = (work_of(word.as_str()), rounds.as_str().parse::<u32>()) else {
-        println!(rt; "sb_bench read|resolve|join ROUNDS < LINES")?;
+        println!(rt; "sb_bench read|resolve|join|names|numbers|logs ROUNDS < LINES")?;
         return Ok(());
     };
     let mut input = Vec::new(rt.alloc());
@@ -61,7 +73,18 @@ fn timed(rt: &HostRuntime) -> io::Result<()> {
         Work::Read => lines::read(rt.alloc(), input.as_slice(), rounds),
         Work::Resolve => lines::resolve_all(rt.alloc(), input.as_slice(), rounds)?,
         Work::Join => join::join(rt.alloc(), rounds)?,
+        Work::Names => rules::by_name(rt.alloc(), rounds)?,
+        Work::Numbers => rules::by_number(rt.alloc(), rounds)?,
+        Work::Logs => time_often(rt, rounds)?,
     };
     let time = start.elapsed(rt)?;
     println!(rt; "{done} of {rounds} rounds, {} ns", time.as_nanos())
+}
+
+/// Times the logs so often.
+fn time_often(rt: &HostRuntime, rounds: u32) -> io::Result<u32> {
+    for _ in 0..rounds {
+        logs::time_logs(rt)?;
+    }
+    Ok(rounds)
 }

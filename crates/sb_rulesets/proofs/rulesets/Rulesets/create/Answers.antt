@@ -23,7 +23,7 @@ new c =
 one_more : (c : goal.Joined-insert) → map set_of (c.self.inside.sets.entries ++ (c.args.name, c.empty.result) ∷ []) ≡ created (map set_of c.self.inside.sets.entries) c.args.name
 one_more c =
     map-append set_of c.self.inside.sets.entries ((c.args.name, c.empty.result) ∷ [])
-    ∙ ap (λ (flags : List Bool). map set_of c.self.inside.sets.entries ++ record { name = c.args.name; rules = flags } ∷ []) c.empty.ensures
+    ∙ ap (λ (flags : List Bool). map set_of c.self.inside.sets.entries ++ record { name = c.args.name; rules = flags } ∷ []) c.empty.ensures.value
 
 pub invariant_of-self : goal.invariant_of-self
 invariant_of-self c =
