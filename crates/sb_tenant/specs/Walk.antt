@@ -1,6 +1,6 @@
 -- The walk of a command: the first refusal, or the command with its names resolved. What the tables tell comes first,
 -- but for the name of a new rule; the names of rules and rulesets, limits and cycles come after it.
-use Rattle.std.specs.Prelude.{ℕ, not, nat_lt, List, [], ◌++◌, length, Option, Some, None, Result, Ok, Err}
+use Rattle.std.specs.Prelude.{◌≡◌, ℕ, Bool, false, not, nat_lt, List, [], ◌++◌, length, Option, Some, None, Result, Ok, Err}
 use Rattle.sb_value.specs.declared.refusal.Refusal.{Refusal}
 use Rattle.sb_value.specs.declared.refusal.Refusal.TheVariants as refusal
 use Rattle.sb_value.specs.Order.{precedes}
@@ -94,6 +94,17 @@ walk most catalog (text.add_rules name rules) = of_members catalog name rules (a
 walk most catalog (text.del_rules name rules) = of_members catalog name rules (del_rules name)
 walk most catalog (text.query q) = and_then (walk_query (outside_rules catalog) q []) (λ w. Ok (query w.0))
 walk most catalog (text.change c) = and_then (walk_change (outside_rules catalog) c) (λ s. Ok (change s))
+
+-- a new rule whose name is taken
+abbrev pub is_taken : Catalog → Command → Bool
+is_taken catalog (text.create_rule r) = has_name catalog.rules r.name
+is_taken catalog other = false
+
+-- what names and types refuse is refused before all else, but for a new rule whose name is taken
+abbrev pub NamesComeFirst : Type 0
+NamesComeFirst =
+    (most : ℕ) (catalog : Catalog) (command : Command) (e : Refusal) → is_taken catalog command ≡ false →
+    walk_names (outside_rules catalog) command ≡ Err e → walk most catalog command ≡ Err e
 
 -- what each command asks of its session
 abbrev pub class_of : Command → Class

@@ -2,6 +2,7 @@
 ghost use Rattle.std.specs.Prelude.{ℕ};
 ghost use Rattle.sb_tenant.specs.Step.{Language};
 ghost use Rattle.sb_tenant.specs.TrailLaws.{TrailsFixStates, LegalStatesAreReplayed, StepsHaveMemory, OthersStay, OwnOpens, TrailsAreBounded};
+ghost use Rattle.sb_tenant.specs.Walk.{NamesComeFirst};
 
 /// A legal trail fixes the state after it.
 pub fn trails_fix_states()
@@ -27,4 +28,9 @@ pub fn entries_open_and_close()
 /// A legal trail has at most 65,536 entries and one more for the end of each open session.
 pub fn trails_are_bounded()
     ensures { (language : Language) (tenant bound : ℕ) → TrailsAreBounded language tenant bound }
+{}
+
+/// The walk of a command begins with its names and types, as they are resolved over the tables alone.
+pub fn names_come_first()
+    ensures { NamesComeFirst }
 {}
