@@ -53,7 +53,7 @@ fn three_changes<L: ChangeLog>(
     Ok(())
 }
 
-fn walks<L: ChangeLog>(rt: &impl Abort, alloc: Global, log: &mut L) -> Result<(), Fail> {
+pub fn walks<L: ChangeLog>(rt: &impl Abort, alloc: Global, log: &mut L) -> Result<(), Fail> {
     assert_eq!(rt; log.now(), 0);
     three_changes(rt, alloc, log)?;
     assert_eq!(rt; log.now(), 3);
@@ -70,7 +70,7 @@ fn walks<L: ChangeLog>(rt: &impl Abort, alloc: Global, log: &mut L) -> Result<()
     Ok(())
 }
 
-fn steps<L: ChangeLog>(rt: &impl Abort, alloc: Global, log: &mut L) -> Result<(), Fail> {
+pub fn steps<L: ChangeLog>(rt: &impl Abort, alloc: Global, log: &mut L) -> Result<(), Fail> {
     three_changes(rt, alloc, log)?;
     let Some(update) = log.tuple_first(session_of(0), table(), 1, 0) else {
         return Err(Fail::new("no change of the tuple"));
@@ -92,7 +92,7 @@ fn steps<L: ChangeLog>(rt: &impl Abort, alloc: Global, log: &mut L) -> Result<()
     Ok(())
 }
 
-fn takes_out<L: ChangeLog>(rt: &impl Abort, alloc: Global, log: &mut L) -> Result<(), Fail> {
+pub fn takes_out<L: ChangeLog>(rt: &impl Abort, alloc: Global, log: &mut L) -> Result<(), Fail> {
     three_changes(rt, alloc, log)?;
     let Some(shown) = log.newest(session_of(0)) else {
         return Err(Fail::new("no newest change"));
@@ -109,7 +109,7 @@ fn takes_out<L: ChangeLog>(rt: &impl Abort, alloc: Global, log: &mut L) -> Resul
 }
 
 /// A place that is free again shows nothing of what stood there.
-fn fills_again<L: ChangeLog>(rt: &impl Abort, alloc: Global, log: &mut L) -> Result<(), Fail> {
+pub fn fills_again<L: ChangeLog>(rt: &impl Abort, alloc: Global, log: &mut L) -> Result<(), Fail> {
     three_changes(rt, alloc, log)?;
     let _update = log.take_newest(session_of(0));
     log.forget(session_of(8));
