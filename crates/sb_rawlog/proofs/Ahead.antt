@@ -3,11 +3,11 @@ use Rattle.std.proofs.Common.{◌≡◌, ℕ, suc, ◌<◌, ◌≤◌, Bool, tru
 use Rattle.std.specs.List.{filter}
 use Rattle.std.proofs.lemmas.Bool.{lt-leb}
 use Rattle.sb_value.specs.declared.change.Change.{Change}
-use Rattle.sb_chains.specs.declared.node.Which.{Which}
-use Rattle.sb_chains.specs.declared.node.Node.{Node}
-use Rattle.sb_chains.specs.Links.{link, time_in, time_at, IsNode, IsChain}
-use Rattle.sb_chains.specs.Logs.{with_entry, entries}
-use Rattle.sb_chains.proofs.Chains.{one_chain}
+use Rattle.sb_rawlog.specs.declared.node.Which.{Which}
+use Rattle.sb_rawlog.specs.declared.node.Node.{Node}
+use Rattle.sb_rawlog.specs.Links.{link, time_in, time_at, IsNode, IsChain}
+use Rattle.sb_rawlog.specs.Logs.{with_entry, entries}
+use Rattle.sb_rawlog.proofs.Chains.{one_chain}
 use Rattle.sb_rawlog.specs.Records.{Record}
 use Rattle.sb_rawlog.specs.Search.{selects, spot_for, Hit}
 

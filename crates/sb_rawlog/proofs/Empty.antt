@@ -2,11 +2,11 @@
 use Rattle.std.proofs.Common.{◌≡◌, ℕ, zero, suc, ◌+◌, ◌*◌, ◌<◌, List, [], length, get_or, replicate, Option, None, refl, sym, ap, subst, arith, mod-lt}
 use Rattle.std.proofs.lemmas.List.{length-replicate}
 use Rattle.sb_value.specs.declared.change.Change.{Change}
-use Rattle.sb_chains.specs.declared.node.Which.{Which}
-use Rattle.sb_chains.specs.declared.node.Which.TheVariants.{Op, Tuple, Session}
-use Rattle.sb_chains.specs.declared.node.Node.{Node}
-use Rattle.sb_chains.specs.Links.{Member}
-use Rattle.sb_chains.specs.Logs.{IsLog}
+use Rattle.sb_rawlog.specs.declared.node.Which.{Which}
+use Rattle.sb_rawlog.specs.declared.node.Which.TheVariants.{Op, Tuple, Session}
+use Rattle.sb_rawlog.specs.declared.node.Node.{Node}
+use Rattle.sb_rawlog.specs.Links.{Member}
+use Rattle.sb_rawlog.specs.Logs.{IsLog}
 use Rattle.sb_rawlog.specs.Buckets.{bucket, by_which, session_number}
 use Rattle.sb_rawlog.specs.Fields.{IsRaw}
 use Rattle.sb_rawlog.specs.Places.{HoldsLog, Apart}

@@ -1,9 +1,9 @@
 -- The free places of a log, as changes enter and leave.
 use Rattle.std.proofs.Common.{◌≡◌, ◌≢◌, ℕ, zero, suc, ◌+◌, ◌<◌, ◌≤◌, ◌⊎◌, inl, inr, List, [], ◌∷◌, ◌++◌, length, get_or, set, replicate, Option, Some, None, refl, sym, ap, ◌∙◌, subst, arith, length-append, length-set, get_or-set_other}
 use Rattle.sb_value.specs.declared.change.Change.{Change}
-use Rattle.sb_chains.specs.declared.node.Node.{Node}
-use Rattle.sb_chains.specs.Links.{IsNode, Member}
-use Rattle.sb_chains.specs.Logs.{entry_in}
+use Rattle.sb_rawlog.specs.declared.node.Node.{Node}
+use Rattle.sb_rawlog.specs.Links.{IsNode, Member}
+use Rattle.sb_rawlog.specs.Logs.{entry_in}
 use Rattle.sb_rawlog.specs.Places.{Claims, Apart, AreFree}
 
 member_front : (q : ℕ) (ps qs : List ℕ) → Member q ps → Member q (ps ++ qs)

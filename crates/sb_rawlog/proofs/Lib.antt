@@ -9,3 +9,6 @@ pub mod Steps
 pub mod Free
 pub mod Taken
 pub mod Empty
+pub mod Chains
+pub mod Logs
+pub mod Orders

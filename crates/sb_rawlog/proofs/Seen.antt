@@ -6,10 +6,10 @@ use Rattle.std.proofs.lemmas.List.Elements.{filter-append}
 use Rattle.std.proofs.lemmas.List.Folds.{list_all-append}
 use Rattle.std.proofs.lemmas.Bool.{lt-ltb, ltb-true}
 use Rattle.sb_value.specs.declared.change.Change.{Change}
-use Rattle.sb_chains.specs.declared.node.Node.{Node}
-use Rattle.sb_chains.specs.Links.{time_in, time_at, Member}
-use Rattle.sb_chains.specs.Logs.{with_entry, entries, Falls, entry_in, shown}
-use Rattle.sb_chains.proofs.Orders.{older, entries_older}
+use Rattle.sb_rawlog.specs.declared.node.Node.{Node}
+use Rattle.sb_rawlog.specs.Links.{time_in, time_at, Member}
+use Rattle.sb_rawlog.specs.Logs.{with_entry, entries, Falls, entry_in, shown}
+use Rattle.sb_rawlog.proofs.Orders.{older, entries_older}
 use Rattle.sb_rawlog.specs.Records.{Record, Rising, selected, walk, before, without, change_at}
 use Rattle.sb_rawlog.specs.Search.{selects}
 use Rattle.sb_rawlog.proofs.Rises.{rising-push, before-split, change_at-split, rising-filter, and_left, and_right}

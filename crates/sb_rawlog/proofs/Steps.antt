@@ -5,12 +5,12 @@ use Rattle.sb_value.specs.declared.id.Who.{Who}
 use Rattle.sb_value.specs.declared.change.Kind.{Kind}
 use Rattle.sb_value.specs.declared.change.Kind.TheVariants.{Inserted, Deleted, Updated}
 use Rattle.sb_value.specs.declared.change.Change.{Change}
-use Rattle.sb_chains.specs.declared.node.Which.{Which}
-use Rattle.sb_chains.specs.declared.node.Node.{Node}
-use Rattle.sb_chains.specs.Links.{link, time_in, time_at, item_in, item_at, IsChain}
-use Rattle.sb_chains.specs.Logs.{entries, entry_in, shown, contents, bucket_in, in_bucket}
-use Rattle.sb_chains.proofs.Logs.{bucket_enough}
-use Rattle.sb_chains.proofs.Orders.{older, entries_older, in_order, chain_behind, length-entries}
+use Rattle.sb_rawlog.specs.declared.node.Which.{Which}
+use Rattle.sb_rawlog.specs.declared.node.Node.{Node}
+use Rattle.sb_rawlog.specs.Links.{link, time_in, time_at, item_in, item_at, IsChain}
+use Rattle.sb_rawlog.specs.Logs.{entries, entry_in, shown, contents, bucket_in, in_bucket}
+use Rattle.sb_rawlog.proofs.Logs.{bucket_enough}
+use Rattle.sb_rawlog.proofs.Orders.{older, entries_older, in_order, chain_behind, length-entries}
 use Rattle.sb_rawlog.specs.declared.key.Key.{Key}
 use Rattle.sb_rawlog.specs.declared.key.Key.TheVariants.{Op as OpKey, Tuple as TupleKey, Session as SessionKey}
 use Rattle.sb_rawlog.specs.declared.spot.Spot.{Spot}

@@ -2,13 +2,13 @@
 use Rattle.std.proofs.Common.{◌≡◌, ◌≢◌, ℕ, ◌+◌, ◌<◌, Bool, true, false, ◌==◌, ◌⊎◌, inl, inr, List, [], ◌∷◌, ◌++◌, reverse, length, get_or, set, Option, Some, None, refl, sym, ap, ◌∙◌, subst, arith, eq-eqb, eqb-true, length-set, get_or-set_other}
 use Rattle.sb_value.specs.declared.id.Who.{Who}
 use Rattle.sb_value.specs.declared.change.Change.{Change}
-use Rattle.sb_chains.specs.declared.node.Which.{Which}
-use Rattle.sb_chains.specs.declared.node.Which.TheVariants.{Op, Tuple, Session}
-use Rattle.sb_chains.specs.declared.node.Node.{Node}
-use Rattle.sb_chains.specs.Links.{Member, taken_out, link_of}
-use Rattle.sb_chains.specs.Logs.{entries, entry_in, shown, IsLog}
-use Rattle.sb_chains.proofs.Logs.{added}
-use Rattle.sb_chains.proofs.Orders.{length-taken}
+use Rattle.sb_rawlog.specs.declared.node.Which.{Which}
+use Rattle.sb_rawlog.specs.declared.node.Which.TheVariants.{Op, Tuple, Session}
+use Rattle.sb_rawlog.specs.declared.node.Node.{Node}
+use Rattle.sb_rawlog.specs.Links.{Member, taken_out, link_of}
+use Rattle.sb_rawlog.specs.Logs.{entries, entry_in, shown, IsLog}
+use Rattle.sb_rawlog.proofs.Logs.{added}
+use Rattle.sb_rawlog.proofs.Orders.{length-taken}
 use Rattle.sb_rawlog.specs.declared.key.Key.TheVariants.{Session as SessionKey}
 use Rattle.sb_rawlog.specs.declared.spot.Spot.{Spot}
 use Rattle.sb_rawlog.specs.Buckets.{bucket, by_which}

@@ -2,14 +2,14 @@
 use Rattle.std.proofs.Common.{◌≡◌, ◌≢◌, ℕ, ◌<◌, Bool, true, false, not, ◌==◌, cond, inl, inr, List, [], ◌∷◌, length, get_or, set, Option, Some, None, refl, sym, ap, ◌∙◌, subst, arith, length-set, get_or-set_same, get_or-set_other, eq-eqb}
 use Rattle.std.specs.List.{filter}
 use Rattle.sb_value.specs.declared.change.Change.{Change}
-use Rattle.sb_chains.specs.declared.node.Which.{Which}
-use Rattle.sb_chains.specs.declared.node.Which.TheVariants.{Op, Tuple, Session}
-use Rattle.sb_chains.specs.declared.node.Node.{Node}
-use Rattle.sb_chains.specs.Links.{time_in, item_in, item_at, IsNode, IsChain, Member, taken_out, Leaves}
-use Rattle.sb_chains.specs.Logs.{entry_in, entries, bucket_in, in_bucket, IsLog}
-use Rattle.sb_chains.proofs.Chains.{node_within, node_by_item}
-use Rattle.sb_chains.proofs.Logs.{Partly, one_less, removed}
-use Rattle.sb_chains.proofs.Orders.{entries_taken}
+use Rattle.sb_rawlog.specs.declared.node.Which.{Which}
+use Rattle.sb_rawlog.specs.declared.node.Which.TheVariants.{Op, Tuple, Session}
+use Rattle.sb_rawlog.specs.declared.node.Node.{Node}
+use Rattle.sb_rawlog.specs.Links.{time_in, item_in, item_at, IsNode, IsChain, Member, taken_out, Leaves}
+use Rattle.sb_rawlog.specs.Logs.{entry_in, entries, bucket_in, in_bucket, IsLog}
+use Rattle.sb_rawlog.proofs.Chains.{node_within, node_by_item}
+use Rattle.sb_rawlog.proofs.Logs.{Partly, one_less, removed}
+use Rattle.sb_rawlog.proofs.Orders.{entries_taken}
 use Rattle.sb_rawlog.specs.Buckets.{bucket, by_which}
 use Rattle.sb_rawlog.specs.Places.{HoldsLog, TakesOut}
 use Rattle.sb_rawlog.proofs.Rises.{read}

@@ -1,6 +1,6 @@
 -- What holds of the fields of a log in places.
 use Rattle.std.specs.Prelude.{◌≡◌, ℕ, ◌+◌, ◌≤◌, List, length, vec_capacity}
-use Rattle.sb_chains.specs.Logs.{shown}
+use Rattle.sb_rawlog.specs.Logs.{shown}
 use Rattle.sb_rawlog.specs.declared.raw.RawLog.TheInside.{Inside}
 use Rattle.sb_rawlog.specs.Places.{AreFree, HoldsLog}
 use Rattle.sb_rawlog.specs.Raw.{Raw}

@@ -9,3 +9,5 @@ pub mod Search
 pub mod Places
 pub mod Raw
 pub mod Fields
+pub mod Links
+pub mod Logs

@@ -2,10 +2,10 @@
 use Rattle.std.specs.Prelude.{◌≡◌, ℕ, ◌+◌, ◌<◌, ◌≤◌, ◌⊎◌, not, ◌==◌, List, [], ◌∷◌, ◌++◌, length, get_or, Option, Some, None}
 use Rattle.std.specs.List.{filter}
 use Rattle.sb_value.specs.declared.change.Change.{Change}
-use Rattle.sb_chains.specs.declared.node.Which.TheVariants.{Op, Tuple, Session}
-use Rattle.sb_chains.specs.declared.node.Node.{Node}
-use Rattle.sb_chains.specs.Links.{Member, taken_out}
-use Rattle.sb_chains.specs.Logs.{entry_in, entries, IsLog}
+use Rattle.sb_rawlog.specs.declared.node.Which.TheVariants.{Op, Tuple, Session}
+use Rattle.sb_rawlog.specs.declared.node.Node.{Node}
+use Rattle.sb_rawlog.specs.Links.{Member, taken_out}
+use Rattle.sb_rawlog.specs.Logs.{entry_in, entries, IsLog}
 use Rattle.sb_rawlog.specs.Buckets.{bucket, by_which}
 
 -- the node of a change that comes in front of its lists

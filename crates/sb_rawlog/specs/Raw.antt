@@ -1,7 +1,7 @@
 -- A log in places as a contract sees it.
 use Rattle.std.specs.Prelude.{◌≡◌, ℕ, List, get_or, Option, Some, None}
 use Rattle.sb_value.specs.declared.change.Change.{Change}
-use Rattle.sb_chains.specs.Logs.{contents}
+use Rattle.sb_rawlog.specs.Logs.{contents}
 use Rattle.sb_rawlog.specs.Changes.{author}
 use Rattle.sb_rawlog.specs.Records.{Record}
 use Rattle.sb_rawlog.specs.declared.spot.Spot.{Spot}

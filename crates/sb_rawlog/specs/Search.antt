@@ -2,8 +2,8 @@
 use Rattle.std.specs.Prelude.{◌≡◌, ℕ, Bool, true, ◌&&◌, nat_le, List, ◌∷◌, get_or, Option, Some, None}
 use Rattle.std.specs.List.{filter}
 use Rattle.sb_value.specs.declared.change.Change.{Change}
-use Rattle.sb_chains.specs.declared.node.Node.{Node}
-use Rattle.sb_chains.specs.Logs.{entries}
+use Rattle.sb_rawlog.specs.declared.node.Node.{Node}
+use Rattle.sb_rawlog.specs.Logs.{entries}
 use Rattle.sb_rawlog.specs.Changes.{author}
 use Rattle.sb_rawlog.specs.Records.{Record}
 use Rattle.sb_rawlog.specs.declared.spot.Spot.{Spot}

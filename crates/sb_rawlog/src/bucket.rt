@@ -1,10 +1,10 @@
 //! Which list of which bucket a change is in.
 ghost use Rattle.std.specs.Prelude.{◌≡◌, ℕ, ◌<◌, List, Option, None, length, get_or};
-ghost use Rattle.sb_chains.specs.declared.node.Which.TheVariants.{Op, Tuple, Session};
+ghost use Rattle.sb_rawlog.specs.declared.node.Which.TheVariants.{Op, Tuple, Session};
 ghost use Rattle.sb_rawlog.specs.Buckets.{group, mixed, kind_number, session_number, bucket, key_bucket, list_of, by_which};
 
 use crate::key::Key;
-use sb_chains::Which;
+use crate::node::Which;
 use sb_value::{Change, Kind, SessionId, TableId, TenantId};
 
 /// How many sessions there are. Each has a list of its own.

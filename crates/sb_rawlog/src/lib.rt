@@ -1,10 +1,13 @@
-//! The log of changes: what every log promises, specified as a list of changes in rising time, and a log kept as a plain list.
+//! The log of changes: what every log promises, specified as a list of changes in rising time, a log kept as a plain list,
+//! and one hashed over the places of an arena.
 #![tactic(auto)]
 
 mod bucket;
 mod find;
 mod key;
+mod lists;
 mod log;
+mod node;
 mod places;
 mod plain;
 mod raw;

@@ -1,13 +1,14 @@
 //! A change enters a place and the lists, and leaves them.
 ghost use Rattle.std.specs.Prelude.{◌≡◌, ℕ, ◌+◌, ◌-◌, ◌^◌, ◌<◌, ◌≤◌, ◌++◌, List, Some, None, length, get_or, replicate, slice_set, vec_capacity, OnOk, OnErr};
-ghost use Rattle.sb_chains.specs.Links.{Member};
-ghost use Rattle.sb_chains.specs.declared.node.Which.TheVariants.{Op, Tuple, Session};
+ghost use Rattle.sb_rawlog.specs.Links.{Member};
+ghost use Rattle.sb_rawlog.specs.declared.node.Which.TheVariants.{Op, Tuple, Session};
 ghost use Rattle.sb_rawlog.specs.Buckets.{bucket};
 ghost use Rattle.sb_rawlog.specs.Places.{node_for, Claims, HoldsLog, TakesOut};
 
 use crate::bucket::{op_bucket, session_bucket, tuple_bucket};
 use sb_arena::Arena;
-use sb_chains::{Links, Node, Which, unlink};
+use crate::lists::unlink;
+use crate::node::{Links, Node, Which};
 use sb_value::Change;
 use std::alloc::AllocError;
 use std::cmp::max;

@@ -1,8 +1,8 @@
 //! The walk along a list of a log in places.
 ghost use Rattle.std.specs.Prelude.{◌≡◌, ℕ, List, [], MatchOption};
 ghost use Rattle.std.specs.List.{filter};
-ghost use Rattle.sb_chains.specs.Links.{IsChain};
-ghost use Rattle.sb_chains.specs.Logs.{entries};
+ghost use Rattle.sb_rawlog.specs.Links.{IsChain};
+ghost use Rattle.sb_rawlog.specs.Logs.{entries};
 ghost use Rattle.sb_rawlog.specs.Buckets.{list_of};
 ghost use Rattle.sb_rawlog.specs.Keys.{fits};
 ghost use Rattle.sb_rawlog.specs.Search.{selects, spot_for, Hit};
@@ -10,7 +10,7 @@ ghost use Rattle.sb_rawlog.specs.Search.{selects, spot_for, Hit};
 use crate::key::Key;
 use crate::spot::Spot;
 use sb_arena::Arena;
-use sb_chains::Node;
+use crate::node::Node;
 use sb_value::{Change, Who};
 
 /// The spot of the change in the place.

@@ -1,7 +1,7 @@
 use Rattle.std.proofs.Common.{◌≡◌, length, vec_len, set, arith, sym, ap, ◌∙◌}
-use Rattle.sb_chains.specs.declared.node.Which.TheVariants.{Op, Tuple, Session}
-use Rattle.sb_chains.proofs.Chains.{node_within}
-use Rattle.sb_chains.proofs.Orders.{falls_node}
+use Rattle.sb_rawlog.specs.declared.node.Which.TheVariants.{Op, Tuple, Session}
+use Rattle.sb_rawlog.proofs.Chains.{node_within}
+use Rattle.sb_rawlog.proofs.Orders.{falls_node}
 use Rattle.sb_rawlog.specs.Buckets.{bucket}
 use Rattle.sb_rawlog.proofs.Takes.{read_head, asks1, asks2, asks3, still, takes_out}
 use Rattle.sb_rawlog.proofs.places.take_out.Goals as goal

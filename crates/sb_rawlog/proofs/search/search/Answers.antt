@@ -1,7 +1,7 @@
 use Rattle.std.proofs.Common.{◌<◌, ℕ, Option, nat_le, sym, ap, ◌∙◌, subst}
 use Rattle.std.proofs.lemmas.Bool.{le-leb}
-use Rattle.sb_chains.specs.Links.{link_of, link_in}
-use Rattle.sb_chains.proofs.Chains.{node_within}
+use Rattle.sb_rawlog.specs.Links.{link_of, link_in}
+use Rattle.sb_rawlog.proofs.Chains.{node_within}
 use Rattle.sb_rawlog.specs.Buckets.{list_of}
 use Rattle.sb_rawlog.specs.Keys.{fits}
 use Rattle.sb_rawlog.specs.Search.{selects, Hit}

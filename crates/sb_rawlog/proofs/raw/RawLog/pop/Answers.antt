@@ -1,7 +1,7 @@
 use Rattle.std.proofs.Common.{◌≡◌, ℕ, ◌+◌, [], List, Some, None, length, get_or, refl, sym, ap, ◌∙◌, subst, arith, length-append, ◌∷◌}
-use Rattle.sb_chains.specs.Links.{Member}
-use Rattle.sb_chains.specs.Logs.{shown}
-use Rattle.sb_chains.proofs.Orders.{length-taken}
+use Rattle.sb_rawlog.specs.Links.{Member}
+use Rattle.sb_rawlog.specs.Logs.{shown}
+use Rattle.sb_rawlog.proofs.Orders.{length-taken}
 use Rattle.sb_rawlog.specs.declared.key.Key.TheVariants.{Session as SessionKey}
 use Rattle.sb_rawlog.specs.Buckets.{key_bucket}
 use Rattle.sb_rawlog.specs.Changes.{is_by}

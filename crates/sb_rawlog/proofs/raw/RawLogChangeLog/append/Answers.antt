@@ -1,7 +1,7 @@
 use Rattle.std.proofs.Common.{◌≡◌, ◌<◌, ℕ, ◌+◌, ◌-◌, [], ◌∷◌, ◌++◌, List, Option, Some, length, sym, ap, ◌∙◌, subst, arith, length-set}
 use Rattle.sb_value.specs.declared.change.Change.{Change}
-use Rattle.sb_chains.specs.declared.node.Node.{Node}
-use Rattle.sb_chains.specs.Logs.{shown}
+use Rattle.sb_rawlog.specs.declared.node.Node.{Node}
+use Rattle.sb_rawlog.specs.Logs.{shown}
 use Rattle.sb_rawlog.specs.Changes.{author}
 use Rattle.sb_rawlog.specs.Places.{AreFree, HoldsLog, node_for}
 use Rattle.sb_rawlog.specs.Raw.{Raw, Stands, records_of}

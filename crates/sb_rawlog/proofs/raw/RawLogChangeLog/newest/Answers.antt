@@ -5,7 +5,7 @@ use Rattle.sb_rawlog.specs.Changes.{is_by}
 use Rattle.sb_rawlog.specs.Raw.{Raw, records_of}
 use Rattle.sb_rawlog.specs.Records.{walk}
 use Rattle.sb_rawlog.specs.Steps.{Newest}
-use Rattle.sb_chains.proofs.Chains.{node_within}
+use Rattle.sb_rawlog.proofs.Chains.{node_within}
 use Rattle.sb_rawlog.proofs.Steps.{first_chain, first_places, no_first, newest_is}
 use Rattle.sb_rawlog.proofs.raw.RawLogChangeLog.newest.Goals as goal
 

@@ -1,5 +1,5 @@
 use Rattle.std.proofs.Common.{ℕ, List, None, reverse, length, get_or, sym, ap, ◌∙◌, subst, arith}
-use Rattle.sb_chains.proofs.Logs.{same_log}
+use Rattle.sb_rawlog.proofs.Logs.{same_log}
 use Rattle.sb_rawlog.specs.Buckets.{bucket, by_which}
 use Rattle.sb_rawlog.specs.Places.{AreFree, HoldsLog}
 use Rattle.sb_rawlog.specs.Raw.{records_of}

@@ -1,10 +1,10 @@
 -- Chains of places, from the newest to the oldest.
 use Rattle.std.specs.Prelude.{◌≡◌, ℕ, ◌<◌, not, ◌==◌, ◌⊎◌, List, [], ◌∷◌, length, get_or, set, Option, Some, None}
 use Rattle.std.specs.List.{filter}
-use Rattle.sb_chains.specs.declared.node.Which.{Which}
-use Rattle.sb_chains.specs.declared.node.Which.TheVariants.{Op, Tuple, Session}
-use Rattle.sb_chains.specs.declared.node.Links.{Links as LinksOf}
-use Rattle.sb_chains.specs.declared.node.Node.{Node}
+use Rattle.sb_rawlog.specs.declared.node.Which.{Which}
+use Rattle.sb_rawlog.specs.declared.node.Which.TheVariants.{Op, Tuple, Session}
+use Rattle.sb_rawlog.specs.declared.node.Links.{Links as LinksOf}
+use Rattle.sb_rawlog.specs.declared.node.Node.{Node}
 
 abbrev pub link_of : Which → LinksOf → Option ℕ
 link_of Op l = l.op

@@ -1,8 +1,8 @@
 use Rattle.std.proofs.Common.{◌≡◌, ◌<◌, List, Option, Some, refl, sym, ap, ◌∙◌, subst}
-use Rattle.sb_chains.specs.declared.node.Node.{Node}
-use Rattle.sb_chains.specs.Links.{link, time_at, relinked, IsNode, Leaves}
-use Rattle.sb_chains.proofs.Chains.{member_node, no_head, leaves_first, leaves_later, starts, node_here, no_end, goes_on}
-use Rattle.sb_chains.proofs.lists.unlink.Goals as goal
+use Rattle.sb_rawlog.specs.declared.node.Node.{Node}
+use Rattle.sb_rawlog.specs.Links.{link, time_at, relinked, IsNode, Leaves}
+use Rattle.sb_rawlog.proofs.Chains.{member_node, no_head, leaves_first, leaves_later, starts, node_here, no_end, goes_on}
+use Rattle.sb_rawlog.proofs.lists.unlink.Goals as goal
 
 pub link-after-requires : goal.link-after-requires
 link-after-requires g c = let h = c.requires in member_node c.args.list c.args.arena.now h.0 _ h.1.0 c.args.place h.1.1.0 h.1.1.1

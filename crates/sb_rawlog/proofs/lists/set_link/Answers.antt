@@ -1,6 +1,6 @@
 use Rattle.std.proofs.Common.{sym}
-use Rattle.sb_chains.proofs.Chains.{relinked_is}
-use Rattle.sb_chains.proofs.lists.set_link.Goals as goal
+use Rattle.sb_rawlog.proofs.Chains.{relinked_is}
+use Rattle.sb_rawlog.proofs.lists.set_link.Goals as goal
 
 pub returns-clause-places : goal.returns-clause-places
 returns-clause-places g c =

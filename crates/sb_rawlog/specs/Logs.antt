@@ -2,9 +2,9 @@
 use Rattle.std.specs.Prelude.{ℕ, zero, suc, ◌<◌, ◌==◌, List, [], ◌∷◌, ◌++◌, length, map, get_or, Option, Some, None}
 use Rattle.std.specs.List.{filter}
 use Rattle.sb_arena.specs.Places.{somes}
-use Rattle.sb_chains.specs.declared.node.Which.{Which}
-use Rattle.sb_chains.specs.declared.node.Node.{Node}
-use Rattle.sb_chains.specs.Links.{time_at, item_at, IsNode, IsChain, Member}
+use Rattle.sb_rawlog.specs.declared.node.Which.{Which}
+use Rattle.sb_rawlog.specs.declared.node.Node.{Node}
+use Rattle.sb_rawlog.specs.Links.{time_at, item_at, IsNode, IsChain, Member}
 
 module _ {X : Type 0} where
   abbrev pub with_entry : Option (Node X) → List (ℕ × X) → List (ℕ × X)

@@ -1,7 +1,7 @@
 use Rattle.std.proofs.Common.{◌≡◌}
-use Rattle.sb_chains.specs.Links.{time_at, link}
-use Rattle.sb_chains.proofs.Chains.{Walking}
-use Rattle.sb_chains.proofs.lists.unlink.Given as goal
+use Rattle.sb_rawlog.specs.Links.{time_at, link}
+use Rattle.sb_rawlog.proofs.Chains.{Walking}
+use Rattle.sb_rawlog.proofs.lists.unlink.Given as goal
 
 -- the place lies past the one that the walk stands at
 abbrev pub invariant-steps : goal.invariant-steps

@@ -1,10 +1,10 @@
 -- What holds of chains of places whose times fall.
 use Rattle.std.proofs.Common.{◌≡◌, ◌≢◌, ℕ, zero, suc, ◌<◌, ◌≤◌, Bool, true, false, ◌==◌, ◌⊎◌, inl, inr, List, [], ◌∷◌, ◌++◌, length, get_or, set, Option, Some, None, refl, sym, ap, ◌∙◌, subst, arith, append_assoc, length-set, get_or-set_same, get_or-set_other, eq-eqb, ne_eqb, eqb-true}
-use Rattle.sb_chains.specs.declared.node.Which.{Which}
-use Rattle.sb_chains.specs.declared.node.Which.TheVariants.{Op, Tuple, Session}
-use Rattle.sb_chains.specs.declared.node.Links.{Links as LinksOf}
-use Rattle.sb_chains.specs.declared.node.Node.{Node}
-use Rattle.sb_chains.specs.Links.{link_of, with_link, link_in, link, time_in, time_at, item_in, item_at, IsNode, relink, relinked, IsChain, SameBut, Member, taken_out, Leaves}
+use Rattle.sb_rawlog.specs.declared.node.Which.{Which}
+use Rattle.sb_rawlog.specs.declared.node.Which.TheVariants.{Op, Tuple, Session}
+use Rattle.sb_rawlog.specs.declared.node.Links.{Links as LinksOf}
+use Rattle.sb_rawlog.specs.declared.node.Node.{Node}
+use Rattle.sb_rawlog.specs.Links.{link_of, with_link, link_in, link, time_in, time_at, item_in, item_at, IsNode, relink, relinked, IsChain, SameBut, Member, taken_out, Leaves}
 
 pub same_or_not : (a b : ℕ) → (a ≡ b) ⊎ (a ≢ b)
 same_or_not a b = go (a == b) refl

@@ -1,12 +1,12 @@
 -- A change that is added or taken out leaves a log.
 use Rattle.std.proofs.Common.{◌≡◌, ◌≢◌, ℕ, ◌+◌, ◌<◌, ◌≤◌, Bool, true, false, not, ◌==◌, cond, ◌⊎◌, inl, inr, List, [], ◌∷◌, length, get_or, set, Option, Some, None, refl, sym, ap, ◌∙◌, subst, arith, length-set, get_or-set_same, get_or-set_other, eq-eqb, ne_eqb, eqb-true}
 use Rattle.std.specs.List.{filter}
-use Rattle.sb_chains.specs.declared.node.Which.{Which}
-use Rattle.sb_chains.specs.declared.node.Which.TheVariants.{Op, Tuple, Session}
-use Rattle.sb_chains.specs.declared.node.Node.{Node}
-use Rattle.sb_chains.specs.Links.{link_of, link_in, link, time_in, time_at, item_in, item_at, IsNode, IsChain, Member, taken_out, Leaves}
-use Rattle.sb_chains.specs.Logs.{with_entry, entries, Falls, bucket_in, in_bucket, IsLog}
-use Rattle.sb_chains.proofs.Chains.{same_or_not, framed, framed_by, raised, node_by_item}
+use Rattle.sb_rawlog.specs.declared.node.Which.{Which}
+use Rattle.sb_rawlog.specs.declared.node.Which.TheVariants.{Op, Tuple, Session}
+use Rattle.sb_rawlog.specs.declared.node.Node.{Node}
+use Rattle.sb_rawlog.specs.Links.{link_of, link_in, link, time_in, time_at, item_in, item_at, IsNode, IsChain, Member, taken_out, Leaves}
+use Rattle.sb_rawlog.specs.Logs.{with_entry, entries, Falls, bucket_in, in_bucket, IsLog}
+use Rattle.sb_rawlog.proofs.Chains.{same_or_not, framed, framed_by, raised, node_by_item}
 
 pub member_filter : (f : ℕ → Bool) (p : ℕ) (ps : List ℕ) → Member p (filter f ps) → Member p ps × (f p ≡ true)
 member_filter f p [] m = absurd m

@@ -4,11 +4,11 @@ use Rattle.std.specs.List.{filter}
 use Rattle.std.proofs.lemmas.List.{reverse-append}
 use Rattle.std.proofs.lemmas.Bool.{lt-ltb, le-ltb}
 use Rattle.sb_arena.specs.Places.{somes}
-use Rattle.sb_chains.specs.declared.node.Which.{Which}
-use Rattle.sb_chains.specs.declared.node.Node.{Node}
-use Rattle.sb_chains.specs.Links.{link, time_in, time_at, item_in, item_at, IsNode, IsChain, Member, taken_out}
-use Rattle.sb_chains.specs.Logs.{with_entry, entries, Falls, bucket_in, in_bucket, shown, of_time, contents}
-use Rattle.sb_chains.proofs.Chains.{same_or_not}
+use Rattle.sb_rawlog.specs.declared.node.Which.{Which}
+use Rattle.sb_rawlog.specs.declared.node.Node.{Node}
+use Rattle.sb_rawlog.specs.Links.{link, time_in, time_at, item_in, item_at, IsNode, IsChain, Member, taken_out}
+use Rattle.sb_rawlog.specs.Logs.{with_entry, entries, Falls, bucket_in, in_bucket, shown, of_time, contents}
+use Rattle.sb_rawlog.proofs.Chains.{same_or_not}
 
 module _ {X : Type 0} (cs : List (Option (Node X))) where
   pub falls_below : (top : ℕ) (ps : List ℕ) (q : ℕ) → Falls cs top ps → Member q ps → time_at cs q < top

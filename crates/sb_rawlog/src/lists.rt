@@ -1,13 +1,13 @@
 //! One code for all lists: `list` says which link of a node it follows.
 ghost use Rattle.std.specs.Prelude.{◌≡◌, ℕ, ◌<◌, List, Option, Some, None, length, get_or, slice_set, slice_index_or};
-ghost use Rattle.sb_chains.specs.Links.{link, link_of, with_link, relinked, IsNode, IsChain, Member, Leaves};
+ghost use Rattle.sb_rawlog.specs.Links.{link, link_of, with_link, relinked, IsNode, IsChain, Member, Leaves};
 
 use crate::node::{Links, Node, Which};
 use sb_arena::Arena;
 
 impl Links {
     /// The link of the list.
-    pub fn get(self, list: Which) -> Option<usize>
+    pub(crate) fn get(self, list: Which) -> Option<usize>
         ensures { result ≡ link_of list self }
     {
         match list {
@@ -32,7 +32,7 @@ impl Links {
 }
 
 /// The next older place of the list.
-pub fn link<T>(arena: &Arena<Node<T>>, list: Which, place: usize) -> Option<usize>
+pub(crate) fn link<T>(arena: &Arena<Node<T>>, list: Which, place: usize) -> Option<usize>
     requires { IsNode arena.now place }
     ensures { result ≡ link list arena.now place }
 {
@@ -54,7 +54,7 @@ fn set_link<T>(arena: &mut Arena<Node<T>>, list: Which, place: usize, to: Option
 }
 
 /// Takes the place out of the list that begins at `head`, and returns where the list begins then.
-pub fn unlink<T>(
+pub(crate) fn unlink<T>(
     arena: &mut Arena<Node<T>>,
     list: Which,
     head: Option<usize>,

@@ -1,3 +1,0 @@
-pub mod Chains
-pub mod Logs
-pub mod Orders
