@@ -2,9 +2,7 @@
 
 use sb_net::{is_triggered, transition_tables};
 use sb_rawlog::ChangeLog;
-use sb_value::{
-    Change, Columns, Kind, Row, SessionId, TableId, TenantId, Triggers, Value, Who,
-};
+use sb_value::{Change, Columns, Kind, Row, SessionId, TableId, TenantId, Triggers, Value, Who};
 use std::alloc::{AllocError, Global};
 
 const TUPLES: u64 = 256;

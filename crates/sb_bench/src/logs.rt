@@ -22,7 +22,10 @@ fn time_log<L: ChangeLog>(rt: &HostRuntime, name: &str, log: &mut L) -> io::Resu
     println!(rt; "{name} walk {walked} {} ns", start.elapsed(rt)?.as_nanos())?;
     let start = Instant::now(rt)?;
     let rows = net_updated(rt.alloc(), &*log)?;
-    println!(rt; "{name} transition tables {rows} {} ns", start.elapsed(rt)?.as_nanos())?;
+    println!(rt;
+        "{name} transition tables {rows} {} ns",
+        start.elapsed(rt)?.as_nanos()
+    )?;
     let start = Instant::now(rt)?;
     let missed = is_missed(&*log);
     println!(rt; "{name} miss {missed} {} ns", start.elapsed(rt)?.as_nanos())?;

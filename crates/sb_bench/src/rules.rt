@@ -21,7 +21,11 @@ fn parts(alloc: Global) -> RuleParts {
 
 /// The name of the rule at a place.
 fn name(place: usize) -> Name {
-    let digits = [b'r', b'0' + (place / 10 % 10) as u8, b'0' + (place % 10) as u8];
+    let digits = [
+        b'r',
+        b'0' + (place / 10 % 10) as u8,
+        b'0' + (place % 10) as u8,
+    ];
     Name::new(&digits)
 }
 

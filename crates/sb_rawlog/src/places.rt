@@ -6,9 +6,9 @@ ghost use Rattle.sb_rawlog.specs.Buckets.{bucket};
 ghost use Rattle.sb_rawlog.specs.Places.{node_for, Claims, HoldsLog, TakesOut};
 
 use crate::bucket::{op_bucket, session_bucket, tuple_bucket};
-use sb_arena::Arena;
 use crate::lists::unlink;
 use crate::node::{Links, Node, Which};
+use sb_arena::Arena;
 use sb_value::Change;
 use std::alloc::AllocError;
 use std::cmp::max;

@@ -7,13 +7,13 @@ ghost use Rattle.sb_rawlog.specs.Raw.{records_of, Stands};
 
 use crate::bucket::SESSIONS;
 use crate::key::Key;
+use crate::lists::link;
 use crate::log::ChangeLog;
+use crate::node::{Node, Which};
 use crate::places::{claim, enter, make_places, take_out};
 use crate::search::search;
 use crate::spot::Spot;
 use sb_arena::Arena;
-use crate::lists::link;
-use crate::node::{Node, Which};
 use sb_value::{Change, Kind, TableId, Who};
 use std::alloc::{AllocError, Global};
 use std::marker::Model;

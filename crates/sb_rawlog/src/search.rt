@@ -8,9 +8,9 @@ ghost use Rattle.sb_rawlog.specs.Keys.{fits};
 ghost use Rattle.sb_rawlog.specs.Search.{selects, spot_for, Hit};
 
 use crate::key::Key;
+use crate::node::Node;
 use crate::spot::Spot;
 use sb_arena::Arena;
-use crate::node::Node;
 use sb_value::{Change, Who};
 
 /// The spot of the change in the place.

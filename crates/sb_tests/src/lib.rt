@@ -6,6 +6,8 @@ mod catalog;
 #[cfg(test)]
 mod changes;
 #[cfg(test)]
+mod hashed_log;
+#[cfg(test)]
 mod index;
 #[cfg(test)]
 mod locks;
