@@ -50,8 +50,9 @@ fn a_session_leaves_the_lists_of_others(rt: HostRuntime) -> Result<(), Fail> {
     log.forget(session_of(2));
     assert_eq!(&rt; (log.len(), log.now(), log.spare()), (2, 4, 6));
     for tenant in [1, 3] {
-        let walk = log.by_tuple(session_of(tenant), table(), 1, 0);
-        assert_eq!(&rt; walk.count(), 1);
+        let mut walk = log.by_tuple(session_of(tenant), table(), 1, 0);
+        assert!(&rt; walk.next().is_some());
+        assert!(&rt; walk.next().is_none());
     }
     assert!(&rt; log.newest(session_of(2)).is_none());
     Ok(())
