@@ -1,7 +1,7 @@
 //! The hashed log, by the tests that every log passes, with one bucket and with many.
 
-use crate::changes::{append, change, session_of, table};
-use crate::rawlog::{fills_again, steps, takes_out, walks};
+use crate::changes::{append, change, session_of};
+use crate::rawlog::{fills_again, steps, takes_out, three_changes, times_by_tuple, walks};
 use sb_rawlog::{ChangeLog, RawLog};
 use sb_value::Kind;
 use std::test::Fail;
@@ -30,29 +30,23 @@ fn a_hashed_log_is_filled_again(rt: HostRuntime) -> Result<(), Fail> {
     fills_again(&rt, rt.alloc(), &mut RawLog::new(rt.alloc(), 1_000)?)
 }
 
-/// A change that stands behind others in all its lists leaves them whole.
+/// A change that stands between others in all its lists leaves them whole.
 #[test]
 fn a_session_leaves_the_lists_of_others(rt: HostRuntime) -> Result<(), Fail> {
-    let mut log = RawLog::new(rt.alloc(), 1)?;
-    log.reserve(8)?;
-    for tenant in [1, 2, 3] {
-        append(
-            &rt,
-            &mut log,
-            change(rt.alloc(), tenant, 1, Kind::Inserted, None, Some(5))?,
-        );
-    }
+    let alloc = rt.alloc();
+    let mut log = RawLog::new(alloc, 1)?;
+    three_changes(&rt, alloc, &mut log)?;
+    log.reserve(1)?;
     append(
         &rt,
         &mut log,
-        change(rt.alloc(), 2, 1, Kind::Updated, Some(5), Some(6))?,
+        change(alloc, 8, 1, Kind::Updated, Some(7), Some(8))?,
     );
-    log.forget(session_of(2));
-    assert_eq!(&rt; (log.len(), log.now(), log.spare()), (2, 4, 6));
-    for tenant in [1, 3] {
-        let walk = log.by_tuple(session_of(tenant), table(), 1, 0);
-        assert_eq!(&rt; walk.count(), 1);
-    }
-    assert!(&rt; log.newest(session_of(2)).is_none());
+    log.forget(session_of(0));
+    assert_eq!(&rt; (log.len(), log.now(), log.spare()), (2, 4, 2));
+    let others = times_by_tuple(alloc, &log, session_of(8), 0)?;
+    assert_eq!(&rt; others.as_slice(), [3, 1].as_slice());
+    let none = times_by_tuple(alloc, &log, session_of(0), 0)?;
+    assert_eq!(&rt; none.len(), 0);
     Ok(())
 }

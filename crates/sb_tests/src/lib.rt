@@ -20,6 +20,8 @@ mod eval_memory;
 #[cfg(test)]
 mod eval_scripts;
 #[cfg(test)]
+mod hashed_log;
+#[cfg(test)]
 mod index;
 #[cfg(test)]
 mod locks;

@@ -23,7 +23,7 @@ fn times_by_op<L: ChangeLog>(
 }
 
 /// The times of a walk over the changes of tuple 1.
-fn times_by_tuple<L: ChangeLog>(
+pub fn times_by_tuple<L: ChangeLog>(
     alloc: Global,
     log: &L,
     who: Who,
@@ -37,7 +37,7 @@ fn times_by_tuple<L: ChangeLog>(
 }
 
 /// An insert by tenant 0, one by tenant 8, and an update by tenant 0, all of tuple 1.
-fn three_changes<L: ChangeLog>(
+pub fn three_changes<L: ChangeLog>(
     rt: &impl Abort,
     alloc: Global,
     log: &mut L,
