@@ -7,13 +7,13 @@ ghost use Rattle.sb_rawlog.specs.Raw.{records_of, Stands};
 
 use crate::bucket::SESSIONS;
 use crate::key::Key;
+use crate::lists::link;
 use crate::log::ChangeLog;
+use crate::node::{Node, Which};
 use crate::places::{claim, enter, make_places, take_out};
 use crate::search::search;
 use crate::spot::Spot;
 use sb_arena::Arena;
-use crate::lists::link;
-use crate::node::{Node, Which};
 use sb_value::{Change, Kind, TableId, Who};
 use std::alloc::{AllocError, Global};
 use std::marker::Model;
@@ -44,7 +44,7 @@ impl Model for RawLog {
 }
 
 impl RawLog {
-    /// An empty log, whose clock stands at 0. It is as right with one bucket as with many, and faster with more.
+    /// An empty log, whose clock stands at 0. One bucket is as right as many, and slower.
     pub fn new(alloc: Global, buckets: usize) -> Result<Self, AllocError>
         requires { (0 < buckets) × (buckets ≤ 65536) }
         ensures records { IfOk result (λ l. ⟦<RawLog as ChangeLog>⟧.records l ≡ []) }
