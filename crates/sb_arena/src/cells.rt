@@ -89,6 +89,7 @@ pub(crate) fn free<T, A: Allocator>(
 {
     let Cells { mark: _ } = cells;
     let Deed { mark: _ } = deed;
+    // The deed is of this block and this allocator, and no cell has a value.
     unsafe {
         alloc.deallocate(start.ptr as *mut u8, len * size_of::<T>(), align_of::<T>());
     }
@@ -100,6 +101,7 @@ impl<T> Cells<T> {
         requires { (start.ptr ≡ self.old.at) × (index < length self.old.slots) × (get_or self.old.slots index None ≡ None) }
         ensures { (self.new.at ≡ self.old.at) × (self.new.slots ≡ slice_set self.old.slots index (Some value)) }
     {
+        // The cell lies in the block, and nothing is overwritten.
         unsafe { start.ptr.add(index).write(value) }
     }
 
@@ -109,6 +111,7 @@ impl<T> Cells<T> {
         ensures value { get_or self.old.slots index None ≡ Some result }
         ensures slots { (self.new.at ≡ self.old.at) × (self.new.slots ≡ slice_set self.old.slots index None) }
     {
+        // The cell has a value, and counts as empty from now on, so the value is there once.
         unsafe { start.ptr.add(index).read() }
     }
 
@@ -117,6 +120,7 @@ impl<T> Cells<T> {
         requires { (start.ptr ≡ self.now.at) × IsFilled self.now.slots index }
         ensures { get_or self.now.slots index None ≡ Some result.now }
     {
+        // The cell has a value, and a `&` to the cells keeps it there.
         unsafe { &*start.ptr.add(index) }
     }
 }

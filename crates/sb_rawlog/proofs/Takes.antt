@@ -5,7 +5,7 @@ use Rattle.sb_value.specs.declared.change.Change.{Change}
 use Rattle.sb_rawlog.specs.declared.node.Which.{Which}
 use Rattle.sb_rawlog.specs.declared.node.Which.TheVariants.{Op, Tuple, Session}
 use Rattle.sb_rawlog.specs.declared.node.Node.{Node}
-use Rattle.sb_rawlog.specs.Links.{time_in, item_in, item_at, IsNode, IsChain, Member, taken_out, Leaves}
+use Rattle.sb_rawlog.specs.Links.{time_in, item_in, item_at, IsNode, IsChain, Member, taken_out, Leaves, IsInList, LeavesList}
 use Rattle.sb_rawlog.specs.Logs.{entry_in, entries, bucket_in, in_bucket, IsLog}
 use Rattle.sb_rawlog.proofs.Chains.{node_within, node_by_item}
 use Rattle.sb_rawlog.proofs.Logs.{Partly, one_less, removed}
@@ -40,14 +40,6 @@ read_head xs i j x e same lt =
     let a : slice_get xs j ≡ Some x = read xs j x (e ∙ ap (λ k. get_or xs k x) same) lt in
     let b = slice_get-get_or xs j None lt in cc
 
--- what a list is asked for before a place leaves it
-abbrev pub Asked : Which → List (Option (Node Change)) → Option ℕ → ℕ → Type 0
-Asked w cs head p = (top : ℕ) × ((ps : List ℕ) × (IsChain w cs top head ps × Member p ps))
-
--- and what it tells of the leaving
-abbrev pub Told : Which → List (Option (Node Change)) → List (Option (Node Change)) → Option ℕ → Option ℕ → ℕ → Type 0
-Told w cs ds head next p = (top : ℕ) (ps : List ℕ) → IsChain w cs top head ps → Member p ps → Leaves w p top ps cs ds next
-
 module _ (was : List (Option (Node Change))) (ops tuples sessions : List (Option ℕ)) (order : List ℕ) (clock p : ℕ) (holds : HoldsLog was ops tuples sessions order clock) (there : Member p order)
     (n : Node Change) (at : get_or was p None ≡ Some n) where
   abbrev in_list : Which → Change → ℕ
@@ -75,7 +67,7 @@ module _ (was : List (Option (Node Change))) (ops tuples sessions : List (Option
   start = record { items = λ q. refl; times = λ q. refl; chains = holds.log.chains }
 
   -- the chain that the place is in, of a list that still has it
-  abbrev asks : (w : Which) (cs : List (Option (Node Change))) (heads : Which → List (Option ℕ)) (orders : Which → List ℕ) → Part cs heads orders → orders w ≡ order → (head : Option ℕ) → head ≡ get_or (heads w) (in_list w n.item) None → Asked w cs head p
+  abbrev asks : (w : Which) (cs : List (Option (Node Change))) (heads : Which → List (Option ℕ)) (orders : Which → List ℕ) → Part cs heads orders → orders w ≡ order → (head : Option ℕ) → head ≡ get_or (heads w) (in_list w n.item) None → IsInList w cs head p
   asks w cs heads orders part full head e = (
     clock,
     (
@@ -85,34 +77,34 @@ module _ (was : List (Option (Node Change))) (ops tuples sessions : List (Option
   )
 
   leaves : (w : Which) (cs ds : List (Option (Node Change))) (heads : Which → List (Option ℕ)) (orders : Which → List ℕ) → (part : Part cs heads orders) → (full : orders w ≡ order) → (head next : Option ℕ)
-      → (e : head ≡ get_or (heads w) (in_list w n.item) None) → Told w cs ds head next p → Leaves w p clock (in_bucket in_list w (mine w) was order) cs ds next
+      → (e : head ≡ get_or (heads w) (in_list w n.item) None) → LeavesList w cs ds head next p → Leaves w p clock (in_bucket in_list w (mine w) was order) cs ds next
   leaves w cs ds heads orders part full head next e told = let a = asks w cs heads orders part full head e in told clock (in_bucket in_list w (mine w) was order) a.1.1.0 a.1.1.1
 
   module _ (head1 : Option ℕ) (e1 : head1 ≡ get_or ops (in_list Op n.item) None) where
-    pub asks1 : Asked Op was head1 p
+    pub asks1 : IsInList Op was head1 p
     asks1 = asks Op was (by_which ops tuples sessions) (λ _. order) start refl head1 e1
 
-    module _ (cs1 : List (Option (Node Change))) (next1 : Option ℕ) (told1 : Told Op was cs1 head1 next1 p) (ops1 : List (Option ℕ)) (put1 : ops1 ≡ set ops (in_list Op n.item) next1) where
+    module _ (cs1 : List (Option (Node Change))) (next1 : Option ℕ) (told1 : LeavesList Op was cs1 head1 next1 p) (ops1 : List (Option ℕ)) (put1 : ops1 ≡ set ops (in_list Op n.item) next1) where
       part1 : Part cs1 (by_which ops1 tuples sessions) (each out order order)
       part1 = one_less in_list was order clock was cs1 (by_which ops tuples sessions) (by_which ops1 tuples sessions) (λ _. order) (each out order order) Op p start refl refl
           (elim [ Op ↦ λ ne. absurd (ne refl) | Tuple ↦ λ ne. (refl, refl) | Session ↦ λ ne. (refl, refl) ])
           next1 (leaves Op was cs1 (by_which ops tuples sessions) (λ _. order) start refl head1 next1 e1 told1) (within Op) (put1 ∙ ap (λ b. set ops b next1) (sym (mine_is Op)))
 
       module _ (head2 : Option ℕ) (e2 : head2 ≡ get_or tuples (in_list Tuple n.item) None) where
-        pub asks2 : Asked Tuple cs1 head2 p
+        pub asks2 : IsInList Tuple cs1 head2 p
         asks2 = asks Tuple cs1 (by_which ops1 tuples sessions) (each out order order) part1 refl head2 e2
 
-        module _ (cs2 : List (Option (Node Change))) (next2 : Option ℕ) (told2 : Told Tuple cs1 cs2 head2 next2 p) (tuples1 : List (Option ℕ)) (put2 : tuples1 ≡ set tuples (in_list Tuple n.item) next2) where
+        module _ (cs2 : List (Option (Node Change))) (next2 : Option ℕ) (told2 : LeavesList Tuple cs1 cs2 head2 next2 p) (tuples1 : List (Option ℕ)) (put2 : tuples1 ≡ set tuples (in_list Tuple n.item) next2) where
           part2 : Part cs2 (by_which ops1 tuples1 sessions) (each out out order)
           part2 = one_less in_list was order clock cs1 cs2 (by_which ops1 tuples sessions) (by_which ops1 tuples1 sessions) (each out order order) (each out out order) Tuple p part1 refl refl
               (elim [ Op ↦ λ ne. (refl, refl) | Tuple ↦ λ ne. absurd (ne refl) | Session ↦ λ ne. (refl, refl) ])
               next2 (leaves Tuple cs1 cs2 (by_which ops1 tuples sessions) (each out order order) part1 refl head2 next2 e2 told2) (within Tuple) (put2 ∙ ap (λ b. set tuples b next2) (sym (mine_is Tuple)))
 
           module _ (head3 : Option ℕ) (e3 : head3 ≡ get_or sessions (in_list Session n.item) None) where
-            pub asks3 : Asked Session cs2 head3 p
+            pub asks3 : IsInList Session cs2 head3 p
             asks3 = asks Session cs2 (by_which ops1 tuples1 sessions) (each out out order) part2 refl head3 e3
 
-            module _ (cs3 : List (Option (Node Change))) (next3 : Option ℕ) (told3 : Told Session cs2 cs3 head3 next3 p) (sessions1 : List (Option ℕ)) (put3 : sessions1 ≡ set sessions (in_list Session n.item) next3) where
+            module _ (cs3 : List (Option (Node Change))) (next3 : Option ℕ) (told3 : LeavesList Session cs2 cs3 head3 next3 p) (sessions1 : List (Option ℕ)) (put3 : sessions1 ≡ set sessions (in_list Session n.item) next3) where
               part3 : Part cs3 (by_which ops1 tuples1 sessions1) (each out out out)
               part3 = one_less in_list was order clock cs2 cs3 (by_which ops1 tuples1 sessions) (by_which ops1 tuples1 sessions1) (each out out order) (each out out out) Session p part2 refl refl
                   (elim [ Op ↦ λ ne. (refl, refl) | Tuple ↦ λ ne. (refl, refl) | Session ↦ λ ne. absurd (ne refl) ])

@@ -76,3 +76,11 @@ module _ {X : Type 0} where
   pub record Leaves (list : Which) (place top : ℕ) (ps : List ℕ) (cs ds : List (Option (Node X))) (head : Option ℕ) : Type 0 where
     pub chain : IsChain list ds top head (taken_out place ps)
     pub same : SameBut list ps cs ds
+
+  -- the place is in the list that begins at the head
+  abbrev pub IsInList : Which → List (Option (Node X)) → Option ℕ → ℕ → Type 0
+  IsInList list cs head place = (top : ℕ) × ((ps : List ℕ) × (IsChain list cs top head ps × Member place ps))
+
+  -- and leaves it, whatever chain the list is
+  abbrev pub LeavesList : Which → List (Option (Node X)) → List (Option (Node X)) → Option ℕ → Option ℕ → ℕ → Type 0
+  LeavesList list cs ds head next place = (top : ℕ) (ps : List ℕ) → IsChain list cs top head ps → Member place ps → Leaves list place top ps cs ds next

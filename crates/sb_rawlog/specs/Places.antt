@@ -39,6 +39,10 @@ pub record HoldsLog (cs : List (Option (Node Change))) (ops tuples sessions : Li
   pub of_sessions : length sessions ≡ 2048
   pub log : IsLog (bucket (length ops)) cs (by_which ops tuples sessions) order clock
 
+-- the place is one of those of a log
+abbrev pub IsInLog : List (Option (Node Change)) → List (Option ℕ) → List (Option ℕ) → List (Option ℕ) → ℕ → Type 0
+IsInLog cs ops tuples sessions place = (order : List ℕ) × ((clock : ℕ) × (HoldsLog cs ops tuples sessions order clock × Member place order))
+
 -- the place's change is taken out, and what the other places hold stays
 pub record TakesOut (cs ds : List (Option (Node Change))) (ops tuples sessions : List (Option ℕ)) (order : List ℕ) (clock place : ℕ) (result : Change) : Type 0 where
   pub node : Node Change

@@ -18,9 +18,9 @@ fn group(tenant: TenantId, session: SessionId, table: TableId) -> u64
     (tenant.number() as u64 * 8 + session.number() as u64) * 16 + table.number() as u64
 }
 
-/// A number below 2^32 that two small numbers, or two in a row, seldom share. The low bits of a product
-/// know only the low bits of its factors, so the upper half is taken, where all of them meet; the factors are odd
-/// and without pattern, so that numbers in a row are spread evenly.
+/// A number below 2^32 that two pairs seldom share. The low bits of a product know only the low
+/// bits of its factors, so the upper half is taken, where all of them meet. The factors are odd and
+/// without pattern, so that numbers in a row are spread evenly.
 #[tactic(auto, unfolding(crate::specs::Buckets::mixed))]
 fn mixed(group: u64, number: u64) -> u64
     ensures { result ≡ mixed group number }

@@ -1,5 +1,5 @@
-//! The log of changes: what every log promises, specified as a list of changes in rising time, a log kept as a plain list,
-//! and one hashed over the places of an arena.
+//! The log of changes: what every log promises, specified as a list of changes in rising time,
+//! a log kept as a plain list, and one hashed over the places of an arena.
 #![tactic(auto)]
 
 mod bucket;

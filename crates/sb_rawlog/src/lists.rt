@@ -1,6 +1,6 @@
 //! One code for all lists: `list` says which link of a node it follows.
 ghost use Rattle.std.specs.Prelude.{◌≡◌, ℕ, ◌<◌, List, Option, Some, None, length, get_or, slice_set, slice_index_or};
-ghost use Rattle.sb_rawlog.specs.Links.{link, link_of, with_link, relinked, IsNode, IsChain, Member, Leaves};
+ghost use Rattle.sb_rawlog.specs.Links.{link, link_of, with_link, relinked, IsNode, IsInList, LeavesList};
 
 use crate::node::{Links, Node, Which};
 use sb_arena::Arena;
@@ -60,8 +60,8 @@ pub(crate) fn unlink<T>(
     head: Option<usize>,
     place: usize,
 ) -> Option<usize>
-    requires { (top : ℕ) × ((ps : List ℕ) × (IsChain list arena.old top head ps × Member place ps)) }
-    ensures { (top : ℕ) (ps : List ℕ) → IsChain list arena.old top head ps → Member place ps → Leaves list place top ps arena.old arena.new result }
+    requires { IsInList list arena.old head place }
+    ensures { LeavesList list arena.old arena.new head result place }
 {
     let after = link(arena, list, place);
     let Some(first) = head else {

@@ -3,7 +3,7 @@ ghost use Rattle.std.specs.Prelude.{◌≡◌, ℕ, ◌+◌, ◌-◌, ◌^◌, �
 ghost use Rattle.sb_rawlog.specs.Links.{Member};
 ghost use Rattle.sb_rawlog.specs.declared.node.Which.TheVariants.{Op, Tuple, Session};
 ghost use Rattle.sb_rawlog.specs.Buckets.{bucket};
-ghost use Rattle.sb_rawlog.specs.Places.{node_for, Claims, HoldsLog, TakesOut};
+ghost use Rattle.sb_rawlog.specs.Places.{node_for, Claims, HoldsLog, IsInLog, TakesOut};
 
 use crate::bucket::{op_bucket, session_bucket, tuple_bucket};
 use crate::lists::unlink;
@@ -77,8 +77,11 @@ pub(crate) fn take_out(
     sessions: &mut Vec<Option<usize>>,
     place: usize,
 ) -> Change
-    requires { (order : List ℕ) × ((clock : ℕ) × (HoldsLog arena.old ops.old.items tuples.old.items sessions.old.items order clock × Member place order)) }
-    ensures { (order : List ℕ) (clock : ℕ) → HoldsLog arena.old ops.old.items tuples.old.items sessions.old.items order clock → Member place order → TakesOut arena.old arena.new ops.new.items tuples.new.items sessions.new.items order clock place result }
+    requires { IsInLog arena.old ops.old.items tuples.old.items sessions.old.items place }
+    ensures { (order : List ℕ) (clock : ℕ)
+        → HoldsLog arena.old ops.old.items tuples.old.items sessions.old.items order clock
+        → Member place order
+        → TakesOut arena.old arena.new ops.new.items tuples.new.items sessions.new.items order clock place result }
 {
     let Some(node) = arena.get(place) else {
         unreachable!()
@@ -93,7 +96,7 @@ pub(crate) fn take_out(
     item
 }
 
-/// Sees that there are at least `n` free places, and that they can all be given back without memory.
+/// Sees that at least `n` places are free, and that all places can be given back without memory.
 pub(crate) fn make_places(
     arena: &mut Arena<Node<Change>>,
     free: &mut Vec<usize>,

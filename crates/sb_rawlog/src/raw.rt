@@ -44,7 +44,7 @@ impl Model for RawLog {
 }
 
 impl RawLog {
-    /// An empty log, whose clock stands at 0. It is as right with one bucket as with many, and faster with more.
+    /// An empty log, whose clock stands at 0. One bucket is as right as many, and slower.
     pub fn new(alloc: Global, buckets: usize) -> Result<Self, AllocError>
         requires { (0 < buckets) × (buckets ≤ 65536) }
         ensures records { IfOk result (λ l. ⟦<RawLog as ChangeLog>⟧.records l ≡ []) }

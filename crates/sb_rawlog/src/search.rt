@@ -1,11 +1,7 @@
 //! The walk along a list of a log in places.
-ghost use Rattle.std.specs.Prelude.{◌≡◌, ℕ, List, [], MatchOption};
-ghost use Rattle.std.specs.List.{filter};
-ghost use Rattle.sb_rawlog.specs.Links.{IsChain};
-ghost use Rattle.sb_rawlog.specs.Logs.{entries};
+ghost use Rattle.std.specs.Prelude.{◌≡◌};
 ghost use Rattle.sb_rawlog.specs.Buckets.{list_of};
-ghost use Rattle.sb_rawlog.specs.Keys.{fits};
-ghost use Rattle.sb_rawlog.specs.Search.{selects, spot_for, Hit};
+ghost use Rattle.sb_rawlog.specs.Search.{spot_for, BeginsList, FindsFirst};
 
 use crate::key::Key;
 use crate::node::Node;
@@ -39,8 +35,8 @@ pub(crate) fn search(
     since: u64,
     key: &Key,
 ) -> Option<Spot>
-    requires { (top : ℕ) × ((ps : List ℕ) × IsChain (list_of key.now) arena.now top head ps) }
-    ensures { (top : ℕ) (ps : List ℕ) → IsChain (list_of key.now) arena.now top head ps → MatchOption result (filter (selects (fits key.now) since) (entries arena.now ps) ≡ []) (Hit (fits key.now) since arena.now ps) }
+    requires { BeginsList (list_of key.now) arena.now head }
+    ensures { FindsFirst key.now since arena.now head result }
 {
     let list = key.list();
     let mut at = head;
