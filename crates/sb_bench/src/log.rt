@@ -7,9 +7,7 @@ use std::alloc::{AllocError, Global};
 
 const TUPLES: u64 = 256;
 
-const CHANGES: u64 = 4096;
-
-/// The columns that the updates name, and a trigger on another one.
+/// The table that is changed.
 const TABLE: u8 = 0;
 
 fn who(tenant: u8) -> Who {
@@ -34,7 +32,7 @@ fn update(alloc: Global, tenant: u8, number: u64) -> Result<Change, AllocError> 
         tuple: number % TUPLES,
         kind: Kind::Updated,
         old: Some(row(alloc, number)?),
-        new: Some(row(alloc, number + 1)?),
+        new: Some(row(alloc, number.saturating_add(1))?),
         columns: Columns::empty().with(0),
     })
 }
@@ -43,7 +41,7 @@ fn update(alloc: Global, tenant: u8, number: u64) -> Result<Change, AllocError> 
 pub fn updates(alloc: Global, tenant: u8, count: u64) -> Result<Vec<Change>, AllocError> {
     let mut list = Vec::new(alloc);
     for number in 0..count {
-        list.push(update(alloc, tenant, number.min(CHANGES))?)?;
+        list.push(update(alloc, tenant, number)?)?;
     }
     Ok(list)
 }
