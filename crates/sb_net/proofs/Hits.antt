@@ -3,7 +3,7 @@ use Rattle.std.proofs.Common.{◌≡◌, ℕ, Bool, true, false, ◌||◌, ◌&&
 use Rattle.std.specs.List.{list_any, filter}
 use Rattle.std.proofs.lemmas.List.{reverse-append}
 use Rattle.std.proofs.lemmas.List.Folds.{list_any-append}
-use Rattle.sb_value.specs.Flags.{share_place}
+use Rattle.sb_value.specs.Flags.{share_place, union}
 use Rattle.sb_value.specs.NetEffect.{is_of, history, last_of, all_columns, net_between, net_of, with_number, tuples_of, has_update, is_operation, is_triggered}
 use Rattle.sb_value.specs.declared.id.Who.{Who}
 use Rattle.sb_value.specs.declared.change.Kind.{Kind}
@@ -13,7 +13,7 @@ use Rattle.sb_value.specs.declared.net.Triggers.{Triggers}
 use Rattle.sb_rawlog.specs.Changes.{is_by, same_kind, is_op, is_tuple}
 use Rattle.sb_rawlog.specs.Records.{Record, selected, walk}
 use Rattle.sb_rawlog.specs.Sessions.{changes_since}
-use Rattle.sb_net.specs.Hits.{is_hit, any_hit, names_kind}
+use Rattle.sb_net.specs.Hits.{is_hit, any_hit, names_kind, counts}
 use Rattle.sb_net.proofs.Folds.{history-since}
 
 -- ---- tests
@@ -128,43 +128,96 @@ share_own (x ∷ xs) (y ∷ ys) h = elim (or_cases (x && y) (share_place xs ys) 
   | inr there ↦ or_right (x && x) (share_place xs xs) (share_own xs ys there)
 ]
 
-update_named : (triggers : Triggers) (columns : List Bool) → has_update triggers columns ≡ true → has_update triggers triggers.columns ≡ true
-update_named triggers columns h = elim (or_cases triggers.updated (share_place triggers.columns columns) h) [
-  | inl any ↦ or_left triggers.updated (share_place triggers.columns triggers.columns) any
-  | inr listed ↦ or_right triggers.updated (share_place triggers.columns triggers.columns) (share_own triggers.columns columns listed)
+-- the change counts as what it is
+abbrev counts_here : Triggers → Change → Bool
+counts_here triggers c = counts triggers c.kind c
+
+-- a column that the change shares makes it count, whatever it is
+by_column : (triggers : Triggers) (k : Kind) (c : Change) → share_place triggers.columns c.columns ≡ true → counts triggers k c ≡ true
+by_column triggers Inserted c h = or_right triggers.inserted (share_place triggers.columns c.columns) h
+by_column triggers Deleted c h = or_right triggers.deleted (share_place triggers.columns c.columns) h
+by_column triggers Updated c h = or_right triggers.updated (share_place triggers.columns c.columns) h
+
+-- where a change counts, its kind may
+or_own : (b : Bool) (xs ys : List Bool) → (b || share_place xs ys) ≡ true → (b || share_place xs xs) ≡ true
+or_own b xs ys h = elim (or_cases b (share_place xs ys) h) [
+  | inl any ↦ or_left b (share_place xs xs) any
+  | inr listed ↦ or_right b (share_place xs xs) (share_own xs ys listed)
 ]
 
--- an operation comes from a change of its kind, the first or the last
-by_ends : (triggers : Triggers) (a b : Kind) (first last : Change) (columns : List Bool) → is_operation triggers (net_between a b first last columns) ≡ true
-    → (k : Kind) × ((names_kind triggers k ≡ true) × ((same_kind a k ≡ true) ⊎ (same_kind b k ≡ true)))
-by_ends triggers Inserted Deleted first last columns h = absurd (cc)
-by_ends triggers Inserted Inserted first last columns h = (Inserted, (h, inl refl))
-by_ends triggers Inserted Updated first last columns h = (Inserted, (h, inl refl))
-by_ends triggers Deleted Deleted first last columns h = (Deleted, (h, inl refl))
-by_ends triggers Updated Deleted first last columns h = (Deleted, (h, inr refl))
-by_ends triggers Updated Updated first last columns h = (Updated, (update_named triggers columns h, inl refl))
-by_ends triggers Deleted Inserted first last columns h = absurd (cc)
-by_ends triggers Deleted Updated first last columns h = absurd (cc)
-by_ends triggers Updated Inserted first last columns h = absurd (cc)
+named : (triggers : Triggers) (k : Kind) (c : Change) → counts triggers k c ≡ true → names_kind triggers k ≡ true
+named triggers Inserted c h = or_own triggers.inserted triggers.columns c.columns h
+named triggers Deleted c h = or_own triggers.deleted triggers.columns c.columns h
+named triggers Updated c h = or_own triggers.updated triggers.columns c.columns h
+
+share_union : (xs ys zs : List Bool) → share_place xs (union ys zs) ≡ true → (share_place xs ys ≡ true) ⊎ (share_place xs zs ≡ true)
+share_union xs [] zs h = inr h
+share_union [] (y ∷ ys) zs h = absurd (cc)
+share_union (x ∷ xs) (y ∷ ys) [] h = inl h
+share_union (x ∷ xs) (y ∷ ys) (z ∷ zs) h = elim (or_cases (x && (y || z)) (share_place xs (union ys zs)) h) [
+  | inl here ↦ elim (or_cases y z (and_right x (y || z) here)) [
+    | inl left ↦ inl (or_left (x && y) (share_place xs ys) (and_both x y (and_left x (y || z) here) left))
+    | inr right ↦ inr (or_left (x && z) (share_place xs zs) (and_both x z (and_left x (y || z) here) right))
+  ]
+  | inr there ↦ elim (share_union xs ys zs there) [
+    | inl left ↦ inl (or_right (x && y) (share_place xs ys) left)
+    | inr right ↦ inr (or_right (x && z) (share_place xs zs) right)
+  ]
+]
+
+none_shared : (xs : List Bool) → share_place xs [] ≡ true → true ≡ false
+none_shared [] h = sym h
+none_shared (x ∷ xs) h = sym h
+
+-- a shared column of a list of changes is one of a change
+by_columns : (triggers : Triggers) (cs : List Change) → share_place triggers.columns (all_columns cs) ≡ true → list_any (counts_here triggers) cs ≡ true
+by_columns triggers [] h = absurd (let e : true ≡ false = none_shared triggers.columns h in cc)
+by_columns triggers (c ∷ cs) h = elim (share_union triggers.columns c.columns (all_columns cs) h) [
+  | inl here ↦ or_left (counts_here triggers c) (list_any (counts_here triggers) cs) (by_column triggers c.kind c here)
+  | inr there ↦ or_right (counts_here triggers c) (list_any (counts_here triggers) cs) (by_columns triggers cs there)
+]
 
 any_last : (p : Change → Bool) (c : Change) (cs : List Change) → p (last_of c cs) ≡ true → list_any p (c ∷ cs) ≡ true
 any_last p c [] e = or_left (p c) false e
 any_last p c (d ∷ ds) e = or_right (p c) (p d || list_any p ds) (any_last p d ds e)
 
-by_kind : (triggers : Triggers) (cs : List Change) → is_operation triggers (net_of cs) ≡ true → (k : Kind) × ((names_kind triggers k ≡ true) × (list_any (λ c. same_kind c.kind k) cs ≡ true))
+counts_as : (triggers : Triggers) (k : Kind) (c : Change) → c.kind ≡ k → counts triggers k c ≡ true → counts_here triggers c ≡ true
+counts_as triggers k c is h = ap (λ j. counts triggers j c) is ∙ h
+
+-- an operation comes from a change that counts: the first, the last, or one that shares a column
+by_ends : (triggers : Triggers) (c : Change) (cs : List Change) (a b : Kind) → c.kind ≡ a → (last_of c cs).kind ≡ b
+    → is_operation triggers (net_between a b c (last_of c cs) (all_columns (c ∷ cs))) ≡ true → list_any (counts_here triggers) (c ∷ cs) ≡ true
+by_ends triggers c cs Inserted Deleted first last h = absurd (cc)
+by_ends triggers c cs Inserted Inserted first last h =
+    or_left (counts_here triggers c) (list_any (counts_here triggers) cs) (counts_as triggers Inserted c first (or_left triggers.inserted (share_place triggers.columns c.columns) h))
+by_ends triggers c cs Inserted Updated first last h =
+    or_left (counts_here triggers c) (list_any (counts_here triggers) cs) (counts_as triggers Inserted c first (or_left triggers.inserted (share_place triggers.columns c.columns) h))
+by_ends triggers c cs Deleted Deleted first last h =
+    or_left (counts_here triggers c) (list_any (counts_here triggers) cs) (counts_as triggers Deleted c first (or_left triggers.deleted (share_place triggers.columns c.columns) h))
+by_ends triggers c cs Updated Deleted first last h =
+    any_last (counts_here triggers) c cs (counts_as triggers Deleted (last_of c cs) last (or_left triggers.deleted (share_place triggers.columns (last_of c cs).columns) h))
+by_ends triggers c cs Updated Updated first last h = elim (or_cases triggers.updated (share_place triggers.columns (all_columns (c ∷ cs))) h) [
+  | inl any ↦ or_left (counts_here triggers c) (list_any (counts_here triggers) cs) (counts_as triggers Updated c first (or_left triggers.updated (share_place triggers.columns c.columns) any))
+  | inr listed ↦ by_columns triggers (c ∷ cs) listed
+]
+by_ends triggers c cs Deleted Inserted first last h = absurd (cc)
+by_ends triggers c cs Deleted Updated first last h = absurd (cc)
+by_ends triggers c cs Updated Inserted first last h = absurd (cc)
+
+-- a change of the kind that counts
+abbrev of_kind : Triggers → Kind → Change → Bool
+of_kind triggers k c = same_kind c.kind k && counts triggers k c
+
+kind_of_one : (triggers : Triggers) (cs : List Change) → list_any (counts_here triggers) cs ≡ true → (k : Kind) × ((names_kind triggers k ≡ true) × (list_any (of_kind triggers k) cs ≡ true))
+kind_of_one triggers [] h = absurd (cc)
+kind_of_one triggers (c ∷ cs) h = elim (or_cases (counts_here triggers c) (list_any (counts_here triggers) cs) h) [
+  | inl here ↦ (c.kind, (named triggers c.kind c here, or_left (of_kind triggers c.kind c) (list_any (of_kind triggers c.kind) cs) (and_both (same_kind c.kind c.kind) (counts triggers c.kind c) (same_kind_self c.kind) here)))
+  | inr there ↦ let w = kind_of_one triggers cs there in (w.0, (w.1.0, or_right (of_kind triggers w.0 c) (list_any (of_kind triggers w.0) cs) w.1.1))
+]
+
+by_kind : (triggers : Triggers) (cs : List Change) → is_operation triggers (net_of cs) ≡ true → (k : Kind) × ((names_kind triggers k ≡ true) × (list_any (of_kind triggers k) cs ≡ true))
 by_kind triggers [] h = absurd (cc)
-by_kind triggers (c ∷ cs) h =
-    let found = by_ends triggers c.kind (last_of c cs).kind c (last_of c cs) (all_columns (c ∷ cs)) h in
-    let k = found.0 in (
-      k,
-      (
-        found.1.0,
-        elim found.1.1 [
-          | inl first ↦ or_left (same_kind c.kind k) (list_any (λ d. same_kind d.kind k) cs) first
-          | inr last ↦ any_last (λ d. same_kind d.kind k) c cs last
-        ],
-      ),
-    )
+by_kind triggers (c ∷ cs) h = kind_of_one triggers (c ∷ cs) (by_ends triggers c cs c.kind (last_of c cs).kind refl refl h)
 
 -- ---- the walks of a log
 
@@ -176,49 +229,55 @@ module _ (triggers : Triggers) (who : Who) (table since : ℕ) (rs : List Record
   hit = is_hit triggers table all
 
   abbrev pub found : Kind → Bool
-  found k = any_hit triggers table all (walk (is_op who table k) since rs)
+  found k = any_hit triggers table k all (walk (is_op who table k) since rs)
 
   triggered_as : is_triggered triggers table all ≡ list_any (λ r. (r.1.table == table) && hit r.1.tuple) (selected (is_by who) since rs)
   triggered_as = any-tuples_of hit table all ∙ list_any-map (λ (c : Change). (c.table == table) && hit c.tuple) (λ (r : Record). r.1) (selected (is_by who) since rs)
 
-  of_op : (k : Kind) (r : Record) → (nat_le since r.0 && is_op who table k r.1) ≡ true → hit r.1.tuple ≡ true
+  -- the record counts, and its tuple is hit
+  abbrev hit_by : Kind → Record → Bool
+  hit_by k r = counts triggers k r.1 && hit r.1.tuple
+
+  of_op : (k : Kind) (r : Record) → (nat_le since r.0 && is_op who table k r.1) ≡ true → hit_by k r ≡ true
       → ((nat_le since r.0 && is_by who r.1) ≡ true) × (((r.1.table == table) && hit r.1.tuple) ≡ true)
   of_op k r sel h =
       let c = r.1 in
       let op = and_right (nat_le since r.0) (is_op who table k c) sel in
       let here = and_right (is_by who c) ((c.table == table) && same_kind c.kind k) op in (
         and_both (nat_le since r.0) (is_by who c) (and_left (nat_le since r.0) (is_op who table k c) sel) (and_left (is_by who c) ((c.table == table) && same_kind c.kind k) op),
-        and_both (c.table == table) (hit c.tuple) (and_left (c.table == table) (same_kind c.kind k) here) h,
+        and_both (c.table == table) (hit c.tuple) (and_left (c.table == table) (same_kind c.kind k) here) (and_right (counts triggers k c) (hit c.tuple) h),
       )
 
   pub some_hit : (k : Kind) → (names_kind triggers k && found k) ≡ true → is_triggered triggers table all ≡ true
   unfolding walk selected
   some_hit k e =
-      let seen : list_any (λ (r : Record). hit r.1.tuple) (selected (is_op who table k) since rs) ≡ true =
-      sym (any-reverse (λ (r : Record). hit r.1.tuple) (selected (is_op who table k) since rs)) ∙ and_right (names_kind triggers k) (found k) e in
-      triggered_as ∙ any_from (λ (r : Record). nat_le since r.0 && is_op who table k r.1) (λ r. hit r.1.tuple) (λ r. nat_le since r.0 && is_by who r.1)
+      let seen : list_any (hit_by k) (selected (is_op who table k) since rs) ≡ true =
+      sym (any-reverse (hit_by k) (selected (is_op who table k) since rs)) ∙ and_right (names_kind triggers k) (found k) e in
+      triggered_as ∙ any_from (λ (r : Record). nat_le since r.0 && is_op who table k r.1) (hit_by k) (λ r. nat_le since r.0 && is_by who r.1)
       (λ r. (r.1.table == table) && hit r.1.tuple) (of_op k) rs seen
 
-  of_tuple : (x : ℕ) (k : Kind) → hit x ≡ true → (r : Record) → (nat_le since r.0 && is_tuple who table x r.1) ≡ true → same_kind r.1.kind k ≡ true
-      → ((nat_le since r.0 && is_op who table k r.1) ≡ true) × (hit r.1.tuple ≡ true)
-  of_tuple x k hx r sel same =
+  of_tuple : (x : ℕ) (k : Kind) → hit x ≡ true → (r : Record) → (nat_le since r.0 && is_tuple who table x r.1) ≡ true → of_kind triggers k r.1 ≡ true
+      → ((nat_le since r.0 && is_op who table k r.1) ≡ true) × (hit_by k r ≡ true)
+  of_tuple x k hx r sel both =
       let c = r.1 in
+      let same = and_left (same_kind c.kind k) (counts triggers k c) both in
       let it = and_right (nat_le since r.0) (is_tuple who table x c) sel in
       let here = and_right (is_by who c) (is_of table x c) it in (
         and_both (nat_le since r.0) (is_op who table k c) (and_left (nat_le since r.0) (is_tuple who table x c) sel)
             (and_both (is_by who c) ((c.table == table) && same_kind c.kind k) (and_left (is_by who c) (is_of table x c) it)
             (and_both (c.table == table) (same_kind c.kind k) (and_left (c.table == table) (c.tuple == x) here) same)),
-        ap hit (eqb-true c.tuple x (and_right (c.table == table) (c.tuple == x) here)) ∙ hx,
+        and_both (counts triggers k c) (hit c.tuple) (and_right (same_kind c.kind k) (counts triggers k c) both)
+            (ap hit (eqb-true c.tuple x (and_right (c.table == table) (c.tuple == x) here)) ∙ hx),
       )
 
-  kind_found : (x : ℕ) (k : Kind) → hit x ≡ true → list_any (λ c. same_kind c.kind k) (history all table x) ≡ true → found k ≡ true
+  kind_found : (x : ℕ) (k : Kind) → hit x ≡ true → list_any (of_kind triggers k) (history all table x) ≡ true → found k ≡ true
   unfolding walk selected
   kind_found x k hx h =
-      let sel : list_any (λ (r : Record). same_kind r.1.kind k) (selected (is_tuple who table x) since rs) ≡ true =
-      sym (list_any-map (λ (c : Change). same_kind c.kind k) (λ (r : Record). r.1) (selected (is_tuple who table x) since rs))
-      ∙ ap (list_any (λ c. same_kind c.kind k)) (sym (history-since who table x since rs)) ∙ h in
-      any-reverse (λ (r : Record). hit r.1.tuple) (selected (is_op who table k) since rs)
-      ∙ any_from (λ (r : Record). nat_le since r.0 && is_tuple who table x r.1) (λ r. same_kind r.1.kind k) (λ r. nat_le since r.0 && is_op who table k r.1) (λ r. hit r.1.tuple)
+      let sel : list_any (λ (r : Record). of_kind triggers k r.1) (selected (is_tuple who table x) since rs) ≡ true =
+      sym (list_any-map (of_kind triggers k) (λ (r : Record). r.1) (selected (is_tuple who table x) since rs))
+      ∙ ap (list_any (of_kind triggers k)) (sym (history-since who table x since rs)) ∙ h in
+      any-reverse (hit_by k) (selected (is_op who table k) since rs)
+      ∙ any_from (λ (r : Record). nat_le since r.0 && is_tuple who table x r.1) (λ r. of_kind triggers k r.1) (λ r. nat_le since r.0 && is_op who table k r.1) (hit_by k)
       (of_tuple x k hx) rs sel
 
   some_kind : is_triggered triggers table all ≡ true → (k : Kind) × ((names_kind triggers k && found k) ≡ true)

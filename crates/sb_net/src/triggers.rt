@@ -4,11 +4,11 @@ ghost use Rattle.sb_value.specs.NetEffect.{net_between, is_operation, is_trigger
 ghost use Rattle.sb_rawlog.specs.Changes.{is_op};
 ghost use Rattle.sb_rawlog.specs.Records.{walk};
 ghost use Rattle.sb_rawlog.specs.Sessions.{changes_since};
-ghost use Rattle.sb_net.specs.Hits.{is_hit, names_kind, any_hit};
+ghost use Rattle.sb_net.specs.Hits.{is_hit, names_kind, counts, any_hit};
 
 use crate::span::{Span, span_of};
 use sb_rawlog::ChangeLog;
-use sb_value::{Kind, TableId, Triggers, Who};
+use sb_value::{Change, Kind, TableId, Triggers, Who};
 
 /// Whether what the changes come to is one of the operations.
 fn is_operation(changes: &Span<'_>, triggers: &Triggers) -> bool
@@ -44,18 +44,32 @@ fn is_hit<L: ChangeLog>(
     }
 }
 
-/// Whether an operation of the kind is among the triggers.
+/// Whether changes of the kind may count.
 fn names_kind(triggers: &Triggers, kind: Kind) -> bool
     ensures { result ≡ names_kind triggers.now kind }
 {
+    let lists_a_column = triggers.columns.intersects(triggers.columns);
     match kind {
-        Kind::Inserted => triggers.inserted,
-        Kind::Deleted => triggers.deleted,
-        Kind::Updated => triggers.updated || triggers.columns.intersects(triggers.columns),
+        Kind::Inserted => triggers.inserted || lists_a_column,
+        Kind::Deleted => triggers.deleted || lists_a_column,
+        Kind::Updated => triggers.updated || lists_a_column,
     }
 }
 
-/// Whether there is such an operation, and a tuple with a change of the kind has one for its net effect.
+/// Whether a change of the kind counts by itself: its kind or one of its columns is among the triggers.
+fn counts(triggers: &Triggers, kind: Kind, change: &Change) -> bool
+    ensures { result ≡ counts triggers.now kind change.now }
+{
+    let names_a_column = triggers.columns.intersects(change.columns);
+    match kind {
+        Kind::Inserted => triggers.inserted || names_a_column,
+        Kind::Deleted => triggers.deleted || names_a_column,
+        Kind::Updated => triggers.updated || names_a_column,
+    }
+}
+
+/// Whether a change of the kind counts and its tuple has an operation for its net effect. A change that doesn't
+/// count costs one step of the walk.
 fn any_hit<L: ChangeLog>(
     log: &L,
     who: &Who,
@@ -66,13 +80,15 @@ fn any_hit<L: ChangeLog>(
 ) -> bool
     ensures { let changes = changes_since who.now since (L.records log.now) in
         result ≡ (names_kind triggers.now kind
-        && any_hit triggers.now table changes (walk (is_op who.now table kind) since (L.records log.now))) }
+        && any_hit triggers.now table kind changes (walk (is_op who.now table kind) since (L.records log.now))) }
 {
     if !names_kind(triggers, kind) {
         return false;
     }
     for (_, change) in log.by_op(*who, table, kind, since) {
-        if is_hit(log, who, table, change.tuple, triggers, since) {
+        if counts(triggers, kind, change)
+            && is_hit(log, who, table, change.tuple, triggers, since)
+        {
             return true;
         }
     }

@@ -6,12 +6,12 @@ use Rattle.sb_rawlog.specs.Steps.{op_todo}
 use Rattle.sb_net.specs.Hits.{any_hit}
 use Rattle.sb_net.proofs.triggers.any_hit.Given as goal
 
--- no tuple was hit so far
+-- no tuple of a change that counts was hit so far
 abbrev pub invariant-loop-change : goal.invariant-loop-change
 invariant-loop-change g l =
     let rs = g.L.ChangeLog.records l.log in
     let changes = changes_since l.who l.since rs in
     record {
       log : l.change-iterator.log.now ≡ l.log;
-      left : any_hit l.triggers l.table changes (walk (is_op l.who l.table l.fn.kind) l.since rs) ≡ any_hit l.triggers l.table changes (op_todo rs l.change-iterator.next);
+      left : any_hit l.triggers l.table l.fn.kind changes (walk (is_op l.who l.table l.fn.kind) l.since rs) ≡ any_hit l.triggers l.table l.fn.kind changes (op_todo rs l.change-iterator.next);
     }
