@@ -63,6 +63,17 @@ impl Locks {
         leave(&mut self.writers, session);
     }
 
+    /// Whether the session holds the table in that mode.
+    pub fn is_held(&self, session: SessionId, table: TableId, mode: Mode) -> bool
+        ensures { result ≡ held self.now session table mode }
+    {
+        let holders = match mode {
+            Mode::Read => self.readers[table.index()],
+            Mode::Write => self.writers[table.index()],
+        };
+        holders >> session.number() & 1 == 1
+    }
+
     /// The first table of the list that conflicts.
     fn first_conflict(&self, session: SessionId, request: &[(TableId, Mode)]) -> Option<TableId>
         ensures { result ≡ first_conflict (held self.now) session request.now }

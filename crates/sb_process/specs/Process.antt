@@ -41,3 +41,21 @@ process (suc n) setting eligible progress =
         | was_refused refusal ↦ ended (ByError rule.id refusal) ((rule.id, verdict.Error) ∷ []) progress
       ]
     ]
+
+-- ---- what stands afterwards
+
+-- the transaction goes on, or all of it is taken back: its changes are undone and its locks released
+pub data Standing : Type 0 where
+  goes_on : Progress → Standing
+  taken_back : Standing
+
+-- each outcome but Done rolls back
+abbrev pub stands_after : Outcome → Progress → Standing
+stands_after Done progress = goes_on progress
+stands_after (ByRule r) progress = taken_back
+stands_after (ByError r refusal) progress = taken_back
+stands_after ByLimit progress = taken_back
+
+-- what stands after processing
+abbrev pub standing : Processing → Standing
+standing p = stands_after p.outcome p.progress

@@ -1,8 +1,22 @@
 //! Rule processing.
 #![tactic(auto)]
 
+mod bounds;
+mod database;
+mod lock_list;
+mod make;
+mod marks;
+mod request;
+mod statement;
+mod transactions;
+mod undo;
+mod view;
+
+pub use database::Database;
+pub use marks::Marks;
 use sb_value::{Refusal, RuleId, Verdict};
 use std::marker::Model;
+pub use transactions::Transactions;
 
 /// How rule processing ended.
 #[derive(Drop)]

@@ -4,3 +4,5 @@ pub mod SlotLaws
 pub mod TableLaws
 pub mod UndoLaws
 pub mod KeepLaws
+pub mod TablesHeld
+pub mod Pigeons

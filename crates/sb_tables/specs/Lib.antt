@@ -3,3 +3,5 @@ pub mod Slots
 pub mod Stored
 pub mod Undo
 pub mod Laws
+pub mod Held
+pub mod Filled

@@ -31,3 +31,9 @@ room_before Updated room = room
 -- a stored table after a change
 abbrev pub stored_after : Change → Stored → Stored
 stored_after c s = record { table = after_change c s.table; places = places_after c.kind c.tuple s.places; room = s.room }
+
+-- what is stored once the change is undone, which was the newest of the table
+pub record Undoes (c : Change) (now before : Stored) : Type 0 where
+  pub table : (one : Table) → IsBefore c now.table one → before.table ≡ one
+  pub places : now.places ≡ places_after c.kind c.tuple before.places
+  pub room : before.room ≡ room_before c.kind now.room

@@ -4,8 +4,11 @@
 mod laws;
 mod rows;
 mod slot;
+mod slots;
 mod table;
+mod tables;
 
 pub use laws::{changes_keep_places, tables_before_are_one};
 pub use rows::Rows;
 pub use table::{ROW_LIMIT, Table, TooManyRows};
+pub use tables::Tables;

@@ -1,0 +1,143 @@
+-- Something else stored under one number.
+use Rattle.std.proofs.Common.{◌≡◌, ◌∙◌, ℕ, Bool, true, false, ◌||◌, ◌&&◌, not, true≢false, cond, nat_eq, List, [], ◌∷◌, map, Option, Some, None, Bor, option_map, unwrap_or, is_some, refl, sym, ap, subst, eqb-true, eq-eqb}
+use Rattle.std.specs.List.{list_any}
+use Rattle.std.specs.Option.{option_copied}
+use Rattle.sb_value.specs.declared.change.Change.{Change}
+use Rattle.sb_tables.specs.Laws.{ChangesKeepPlaces}
+use Rattle.sb_value.specs.Locks.{Locks, released}
+use Rattle.sb_value.specs.declared.lock.Mode.{Mode}
+use Rattle.sb_value.specs.declared.lock.Mode.TheVariants.{Write}
+use Rattle.sb_tables.specs.Stored.{Stored, IsStored, HavePlaces, numbers_of}
+use Rattle.sb_tables.specs.Held.{Held, entries, entry_of, numbered, has_number, stored_at, stored_as, with_stored, settled}
+use Rattle.sb_process.specs.Made.{AreNumbered, AreStored, AreMade, tables_after_all, without_room}
+use Rattle.sb_process.proofs.Making.{no_left, no_right, number-room, sound-after_all}
+
+pub number-with : (id : ℕ) (s : Stored) (tables : List Held) (k : ℕ) → has_number (with_stored id s tables) k ≡ has_number tables k
+number-with id s [] k = refl
+number-with id s (h ∷ tables) k = λ i. by (nat_eq h.id id) i || number-with id s tables k i
+  where
+    by : (b : Bool) → nat_eq (cond b (record h { stored = s }) h).id k ≡ nat_eq h.id k
+    by true = refl
+    by false = refl
+
+pub numbered-with : (id : ℕ) (s : Stored) (tables : List Held) → AreNumbered tables → AreNumbered (with_stored id s tables)
+numbered-with id s [] n = tt
+numbered-with id s (h ∷ tables) n = (number-with id s tables (stored_as id s h).id ∙ ap (has_number tables) (by (nat_eq h.id id)) ∙ n.0, numbered-with id s tables n.1)
+  where
+    by : (b : Bool) → (cond b (record h { stored = s }) h).id ≡ h.id
+    by true = refl
+    by false = refl
+
+pub stored-with : (id : ℕ) (s : Stored) (tables : List Held) → IsStored s → AreStored tables → AreStored (with_stored id s tables)
+stored-with id s [] is all = tt
+stored-with id s (h ∷ tables) is all = (by (nat_eq h.id id), stored-with id s tables is all.1)
+  where
+    by : (b : Bool) → IsStored (cond b (record h { stored = s }) h).stored
+    by true = is
+    by false = all.0
+
+-- nothing is written under a number that no table has
+pub none-with : (id : ℕ) (s : Stored) (tables : List Held) → has_number tables id ≡ false → with_stored id s tables ≡ tables
+none-with id s [] none = refl
+none-with id s (h ∷ tables) none =
+    λ i. cond (no_left (nat_eq h.id id) (has_number tables id) none i) (record h { stored = s }) h ∷ none-with id s tables (no_right (nat_eq h.id id) (has_number tables id) none) i
+
+-- with the same rows the tables are seen as they were
+pub entries-with : (id : ℕ) (s : Stored) (tables : List Held) → AreNumbered tables → s.table ≡ (stored_at tables id).table → entries (with_stored id s tables) ≡ entries tables
+entries-with id s [] n e = refl
+entries-with id s (h ∷ tables) n e = by (nat_eq h.id id) refl e (entries-with id s tables n.1)
+  where
+    by : (b : Bool) → nat_eq h.id id ≡ b → s.table ≡ (unwrap_or (option_map (λ (x : Held). x.stored) (cond b (Some h) (numbered tables id))) (stored_at [] id)).table →
+        (s.table ≡ (stored_at tables id).table → entries (with_stored id s tables) ≡ entries tables) →
+        entry_of (cond b (record h { stored = s }) h) ∷ entries (with_stored id s tables) ≡ entry_of h ∷ entries tables
+    by true p q rest =
+        λ i. record { id = h.id; name = h.name; table = q i } ∷ entries (none-with id s tables (ap (has_number tables) (sym (eqb-true h.id id p)) ∙ n.0) i)
+    by false p q rest = λ i. entry_of h ∷ rest q i
+
+other_by : (id : ℕ) (s : Stored) (h : Held) (tables : List Held) (k : ℕ) → nat_eq id k ≡ false → (b : Bool) → nat_eq h.id id ≡ b → numbered (with_stored id s tables) k ≡ numbered tables k →
+    cond (nat_eq (cond b (record h { stored = s }) h).id k) (Some (cond b (record h { stored = s }) h)) (numbered (with_stored id s tables) k) ≡ cond (nat_eq h.id k) (Some h) (numbered tables k)
+other_by id s h tables k e true p rest =
+    let no : nat_eq h.id k ≡ false = ap (λ n. nat_eq n k) (eqb-true h.id id p) ∙ e in
+    ap (λ (b : Bool). cond b (Some (record h { stored = s })) (numbered (with_stored id s tables) k)) no ∙ rest
+    ∙ ap (λ (b : Bool). cond b (Some h) (numbered tables k)) (sym no)
+other_by id s h tables k e false p rest = ap (cond (nat_eq h.id k) (Some h)) rest
+
+-- the other tables are untouched
+pub other-with : (id : ℕ) (s : Stored) (tables : List Held) (k : ℕ) → nat_eq id k ≡ false → numbered (with_stored id s tables) k ≡ numbered tables k
+other-with id s [] k e = refl
+other-with id s (h ∷ tables) k e = other_by id s h tables k e (nat_eq h.id id) refl (other-with id s tables k e)
+
+-- ---- the places of the rows alone
+
+one_more : (n m : ℕ) (ns places : List ℕ) → HavePlaces ns places → HavePlaces ns (m ∷ places)
+one_more n m [] places h = tt
+one_more n m (k ∷ ns) places h = (by (nat_eq m k) h.0, one_more n m ns places h.1)
+  where
+    by : (b : Bool) → list_any (λ j. nat_eq j k) places ≡ true → (b || list_any (λ j. nat_eq j k) places) ≡ true
+    by true e = refl
+    by false e = e
+
+pub same_number : (n : ℕ) → nat_eq n n ≡ true
+same_number n = eq-eqb n n refl
+
+have_all : (ns : List ℕ) → HavePlaces ns ns
+have_all [] = tt
+have_all (n ∷ ns) = (ap (λ (b : Bool). b || list_any (λ j. nat_eq j n) ns) (same_number n), one_more n n ns ns (have_all ns))
+
+pub settled-stored : (s : Stored) → IsStored s → IsStored (settled s)
+settled-stored s is = (is.0, have_all (numbers_of s.table.rows))
+
+-- ---- look-ups
+
+pub some_numbered : (tables : List Held) (id : ℕ) → is_some (numbered tables id) ≡ has_number tables id
+some_numbered [] id = refl
+some_numbered (h ∷ tables) id = by (nat_eq h.id id) (some_numbered tables id)
+  where
+    by : (b : Bool) → is_some (numbered tables id) ≡ has_number tables id → is_some (cond b (Some h) (numbered tables id)) ≡ (b || has_number tables id)
+    by true e = refl
+    by false e = e
+
+some_copied : {A : Type 0} (r : Option (Bor A)) → is_some (option_copied r) ≡ is_some r
+some_copied None = refl
+some_copied (Some x) = refl
+
+some_mapped : {A B : Type 0} (f : A → B) (o : Option A) → is_some (option_map f o) ≡ is_some o
+some_mapped f None = refl
+some_mapped f (Some x) = refl
+
+-- a table that is found has the number
+pub there : (tables : List Held) (id : ℕ) (r : Option (Bor Stored)) (b : Bool) → option_copied r ≡ option_map (λ (h : Held). h.stored) (numbered tables id) → b ≡ is_some r → b ≡ true → has_number tables id ≡ true
+there tables id r b e p q = sym (some_numbered tables id) ∙ sym (some_mapped (λ (h : Held). h.stored) (numbered tables id)) ∙ ap is_some (sym e) ∙ some_copied r ∙ sym p ∙ q
+
+-- ---- the tables for the next transaction
+
+same_number-room : (one other : List Held) → map without_room one ≡ map without_room other → (id : ℕ) → has_number one id ≡ has_number other id
+same_number-room one other e id = sym (number-room one id) ∙ ap (λ ts. has_number ts id) e ∙ number-room other id
+
+-- room makes no difference to soundness
+pub sound-room : (one other : List Held) → map without_room one ≡ map without_room other → AreNumbered one → AreStored one → AreNumbered other × AreStored other
+sound-room [] [] e n s = (tt, tt)
+sound-room [] (k ∷ other) e n s = absurd (cc)
+sound-room (h ∷ one) [] e n s = absurd (cc)
+sound-room (h ∷ one) (k ∷ other) e n s =
+    let first : without_room h ≡ without_room k = cc in
+    let rest : map without_room one ≡ map without_room other = cc in
+    let more = sound-room one other rest n.1 s.1 in (
+      (sym (same_number-room one other rest k.id) ∙ ap (has_number one) (sym (ap (λ (x : Held). x.id) first)) ∙ n.0, more.0),
+      (subst (λ (x : Held). IsStored x.stored) first s.0, more.1),
+    )
+
+-- the tables with a transaction's changes are sound, and the next transaction may begin on them
+pub sound-made : (law : ChangesKeepPlaces) (origin : List Held) (cs : List Change) (tables : List Held) → AreMade origin cs tables → AreNumbered tables × AreStored tables
+sound-made law origin cs tables m =
+    let sound = sound-after_all law cs origin m.numbered m.stored m.proper in
+    sound-room (tables_after_all cs origin) tables (sym m.made) sound.0 sound.1
+
+-- ---- locks
+
+pub same_released : (one other : Locks) (session : ℕ) → ((s t : ℕ) (m : Mode) → one s t m ≡ other s t m) → (s t : ℕ) (m : Mode) → released one session s t m ≡ released other session s t m
+same_released one other session h s t m = ap (λ b. not (nat_eq s session) && b) (h s t m)
+
+-- a table that is locked is none that isn't
+pub differ : (locked : ℕ → Mode → Bool) (id table : ℕ) (b : Bool) → id ≡ table → b ≡ true → b ≡ locked id Write → locked table Write ≡ false → ⊥
+differ locked id table b same p q free = true≢false (sym p ∙ q ∙ ap (λ n. locked n Write) same ∙ free)

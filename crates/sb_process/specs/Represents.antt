@@ -1,0 +1,97 @@
+-- What memory and a log hold of a session's transaction.
+use Rattle.std.specs.Prelude.{◌≡◌, ◌≤◌, ℕ, false, ◌&&◌, ◌==◌, List, [], ◌∷◌, map, IsTrue}
+use Rattle.std.specs.List.{list_any}
+use Rattle.sb_value.specs.declared.change.Change.{Change}
+use Rattle.sb_value.specs.declared.id.Who.{Who}
+use Rattle.sb_value.specs.declared.lock.Mode.{Mode}
+use Rattle.sb_value.specs.declared.lock.Mode.TheVariants.{Write}
+use Rattle.sb_value.specs.Locks.{Locks, released}
+use Rattle.sb_rawlog.specs.Records.{Record}
+use Rattle.sb_rawlog.specs.Sessions.{changes_by, mark_at}
+use Rattle.sb_tables.specs.Held.{Held, entries, numbered}
+use Rattle.sb_locks.specs.Held.{held}
+use Rattle.sb_index.specs.Operation.{Operation, names}
+use Rattle.sb_index.specs.Stands.{stands}
+use Rattle.sb_index.specs.TableSets.{TableSets}
+use Rattle.sb_priority.specs.Ranks.{Ranks, HasOrder}
+use Rattle.sb_catalog.specs.declared.rule.Rule.{Rule}
+use Rattle.sb_process.specs.declared.database.Database.{Database}
+use Rattle.sb_process.specs.Made.{AreMade}
+use Rattle.sb_process.specs.Transactions.{Kept, mark_of, is_candidate_of}
+use Rattle.sb_process.specs.Setting.{Setting, Progress, rule_is_triggered, tables_seen}
+
+-- the session of the tenant
+abbrev pub who_in : Database → ℕ → Who
+who_in database session = record { tenant = database.id; session = session }
+
+-- each active rule that its transition triggers is a candidate
+abbrev pub AreCandidates : Kept → ℕ → Progress → List Rule → Type 0
+AreCandidates kept session progress [] = Unit {0}
+AreCandidates kept session progress (rule ∷ rules) =
+    (IsTrue rule.active → IsTrue (rule_is_triggered progress rule) → IsTrue (is_candidate_of kept session rule.id)) × AreCandidates kept session progress rules
+
+-- each table that is changed is locked for writing
+abbrev pub AreLocked : Locks → ℕ → List Change → Type 0
+AreLocked locks session [] = Unit {0}
+AreLocked locks session (c ∷ cs) = IsTrue (locks session c.table Write) × AreLocked locks session cs
+
+-- what the log has of the session is the transaction's list; a time that isn't past the clock stands for each mark;
+-- the tables are those without the transaction, with its changes made; the locks are those that are held
+pub record Represents (database : Database) (session : ℕ) (records : List Record) (clock : ℕ) (setting : Setting) (progress : Progress) : Type 0 where
+  pub who : setting.who ≡ who_in database session
+  pub changes : changes_by (who_in database session) records ≡ progress.changes
+  pub past : (rule : ℕ) → mark_of database.transactions session rule ≤ clock
+  pub marks : (rule : ℕ) → progress.marks rule ≡ mark_at (who_in database session) (mark_of database.transactions session rule) records
+  pub tables : (origin : List Held) × (entries origin ≡ setting.base) × AreMade origin progress.changes database.tables
+  pub locks : (s t : ℕ) (m : Mode) → held database.locks s t m ≡ progress.locks s t m
+  pub locked : AreLocked progress.locks session progress.changes
+  pub candidates : AreCandidates database.transactions session progress setting.rules
+
+-- some transaction of the session is what memory and the log hold
+abbrev pub IsTransaction : Database → ℕ → List Record → ℕ → Type 0
+IsTransaction database session records clock = (setting : Setting) × (progress : Progress) × Represents database session records clock setting progress
+
+-- ---- the ends of a transaction
+
+-- the tables are as they are seen without the transaction, and its locks are released
+pub record IsTakenBack (old new : Database) (session : ℕ) (setting : Setting) (progress : Progress) : Type 0 where
+  pub id : new.id ≡ old.id
+  pub tables : entries new.tables ≡ setting.base
+  pub stored : (origin : List Held) → AreMade origin progress.changes old.tables → AreMade origin [] new.tables
+  pub locks : (s t : ℕ) (m : Mode) → held new.locks s t m ≡ released progress.locks session s t m
+  pub transactions : new.transactions ≡ old.transactions
+
+-- the tables are as the transaction saw them, sound for the next one; those that it had not locked for writing are untouched
+pub record IsKept (old new : Database) (session : ℕ) (setting : Setting) (progress : Progress) : Type 0 where
+  pub id : new.id ≡ old.id
+  pub tables : entries new.tables ≡ tables_seen setting progress
+  pub stored : AreMade new.tables [] new.tables
+  pub untouched : (table : ℕ) → progress.locks session table Write ≡ false → numbered new.tables table ≡ numbered old.tables table
+  pub locks : (s t : ℕ) (m : Mode) → held new.locks s t m ≡ released progress.locks session s t m
+  pub transactions : new.transactions ≡ old.transactions
+
+-- ---- rules
+
+-- the index has the operations of the tenant's active rules, and no others
+abbrev pub AreIndexed : List (List TableSets) → ℕ → List Rule → Type 0
+AreIndexed index tenant rules =
+    (table : ℕ) (operation : Operation) (id : ℕ) →
+    stands index tenant table operation id ≡ list_any (λ rule. rule.active && ((rule.table == table) && ((rule.id == id) && names rule.triggers operation))) rules
+
+-- the order is that of the rules, by these pairs
+pub record AreOrdered (ranks : Ranks) (rules : List Rule) (pairs : List (ℕ × ℕ)) : Type 0 where
+  pub order : HasOrder ranks pairs
+  pub listed : ranks.rules ≡ map (λ rule. rule.id) rules
+
+-- ---- the beginning of a transaction
+
+-- no changes, all marks at 0
+abbrev pub begun : Locks → Progress
+begun locks = record { changes = []; marks = λ rule. 0; locks = locks }
+
+-- the session has no transaction, and the tables are sound
+pub record IsIdle (database : Database) (session : ℕ) (records : List Record) (setting : Setting) : Type 0 where
+  pub who : setting.who ≡ who_in database session
+  pub none : changes_by (who_in database session) records ≡ []
+  pub base : entries database.tables ≡ setting.base
+  pub stored : AreMade database.tables [] database.tables

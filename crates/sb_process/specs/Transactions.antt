@@ -1,0 +1,16 @@
+-- What a tenant keeps of its sessions' transactions beside their changes.
+use Rattle.std.specs.Prelude.{ℕ, Bool, List, [], slice_index, slice_index_or}
+use Rattle.sb_value.specs.Flags.{flag_at}
+
+-- for each session a time for each rule, and a set of rules
+pub record Kept : Type 0 where
+  pub marks : List (List ℕ)
+  pub candidates : List (List Bool)
+
+-- the time of a rule's mark
+abbrev pub mark_of : Kept → ℕ → ℕ → ℕ
+mark_of kept session rule = slice_index (slice_index_or kept.marks session []) rule
+
+-- whether the rule is one of the session's candidates
+abbrev pub is_candidate_of : Kept → ℕ → ℕ → Bool
+is_candidate_of kept session rule = flag_at (slice_index_or kept.candidates session []) rule

@@ -1,0 +1,62 @@
+//! The beginning of a transaction, and its end by commit.
+ghost use Rattle.std.specs.Prelude.{◌≡◌, ◌==◌, ℕ, List, [], false};
+ghost use Rattle.sb_value.specs.declared.lock.Mode.TheVariants as mode;
+ghost use Rattle.sb_rawlog.specs.Sessions.{changes_by, OthersStay};
+ghost use Rattle.sb_locks.specs.Held.{held};
+ghost use Rattle.sb_tables.specs.Held.{entries, numbered};
+ghost use Rattle.sb_process.specs.Made.{AreNumbered, AreStored};
+ghost use Rattle.sb_process.specs.Represents.{Represents, IsTransaction, IsKept, IsIdle, begun, who_in};
+ghost use Rattle.sb_process.specs.Transactions.{mark_of, is_candidate_of};
+ghost use Rattle.sb_rawlog.specs.Records.{Record};
+ghost use Rattle.sb_process.specs.Setting.{Setting, Progress};
+
+use crate::database::Database;
+use sb_locks::Locks;
+use sb_rawlog::ChangeLog;
+use sb_tables::{Tables, changes_keep_places};
+use sb_value::{Mode, SessionId, TABLE_LIMIT, TableId, Who};
+
+impl Database {
+    /// Begins a transaction of the session.
+    pub fn begin(&mut self, session: SessionId)
+        ensures begun { (records : List Record) (clock : ℕ) (setting : Setting) → IsIdle self.old session records setting → Represents self.new session records clock setting (begun (held self.old.locks)) }
+        ensures tables { self.new.tables ≡ self.old.tables }
+        ensures others { (s r : ℕ) → (s == session) ≡ false → (mark_of self.new.transactions s r ≡ mark_of self.old.transactions s r) × (is_candidate_of self.new.transactions s r ≡ is_candidate_of self.old.transactions s r) }
+    {
+        self.transactions.begin(session);
+    }
+
+    /// Keeps all changes of the session's transaction, and releases its locks.
+    pub fn commit<L: ChangeLog>(&mut self, log: &mut L, session: SessionId)
+        requires { IsTransaction self.old session (L.records log.old) (L.clock log.old) }
+        ensures kept { (setting : Setting) (progress : Progress) → Represents self.old session (L.records log.old) (L.clock log.old) setting progress → IsKept self.old self.new session setting progress }
+        ensures none { changes_by (who_in self.old session) (L.records log.new) ≡ [] }
+        ensures others { OthersStay (who_in self.old session) (L.records log.old) (L.records log.new) }
+        ensures clock { L.clock log.new ≡ L.clock log.old }
+    {
+        // for the proof: tables with changes made are sound
+        changes_keep_places();
+        let who = Who {
+            tenant: self.id,
+            session,
+        };
+        settle_all(&mut self.tables, &self.locks, session);
+        log.forget(who);
+        self.locks.release(session);
+    }
+}
+
+/// Drops the deleted rows of the tables that the session has locked for writing.
+fn settle_all(tables: &mut Tables, locks: &Locks, session: SessionId)
+    ensures rows { AreNumbered tables.old → entries tables.new ≡ entries tables.old }
+    ensures numbers { AreNumbered tables.old → AreNumbered tables.new }
+    ensures sound { AreNumbered tables.old → AreStored tables.old → AreStored tables.new }
+    ensures untouched { (table : ℕ) → held locks.now session table mode.Write ≡ false → numbered tables.new table ≡ numbered tables.old table }
+{
+    for number in 0..TABLE_LIMIT {
+        let table = TableId::new(number as u8);
+        if locks.is_held(session, table, Mode::Write) && tables.get(table).is_some() {
+            tables.settle(table);
+        }
+    }
+}

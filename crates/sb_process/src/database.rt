@@ -1,0 +1,40 @@
+//! What statements and rules of a tenant change.
+ghost use Rattle.std.specs.Prelude.{◌≡◌, ℕ, []};
+ghost use Rattle.sb_value.specs.Locks.{no_locks};
+ghost use Rattle.sb_value.specs.declared.lock.Mode.{Mode};
+ghost use Rattle.sb_rawlog.specs.Sessions.{changes_by, OthersStay};
+ghost use Rattle.sb_locks.specs.Held.{held};
+ghost use Rattle.sb_process.specs.Setting.{Setting, Progress};
+ghost use Rattle.sb_process.specs.Transactions.{mark_of, is_candidate_of};
+
+use crate::transactions::Transactions;
+use sb_locks::Locks;
+use sb_rawlog::ChangeLog;
+use sb_tables::Tables;
+use sb_value::{SessionId, TenantId, Who};
+use std::alloc::Global;
+
+/// A tenant's tables, its locks, and what is kept of its transactions beside the log.
+#[derive(Drop)]
+pub struct Database {
+    pub id: TenantId,
+    pub tables: Tables,
+    pub locks: Locks,
+    pub transactions: Transactions,
+}
+
+impl Database {
+    /// No tables, and no transactions.
+    pub fn new(alloc: Global, id: TenantId) -> Database
+        ensures id { result.id ≡ id }
+        ensures tables { result.tables ≡ [] }
+        ensures locks { (s t : ℕ) (m : Mode) → held result.locks s t m ≡ no_locks s t m }
+    {
+        Database {
+            id,
+            tables: Tables::new(alloc),
+            locks: Locks::new(),
+            transactions: Transactions::new(),
+        }
+    }
+}

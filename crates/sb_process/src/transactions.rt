@@ -1,0 +1,83 @@
+//! The marks and the candidates of a tenant's sessions.
+ghost use Rattle.std.specs.Prelude.{◌≡◌, ℕ, false, not, ◌&&◌, ◌||◌, ◌==◌, if◌then◌else◌};
+ghost use Rattle.sb_value.specs.Flags.{flag_at};
+ghost use Rattle.sb_process.specs.Transactions.{mark_of, is_candidate_of};
+
+use crate::marks::Marks;
+use sb_value::{RuleId, RuleSet, SESSION_LIMIT, SessionId};
+use std::marker::Model;
+
+/// For each session the time of each rule's mark, and the rules that its changes may have triggered.
+#[derive(Drop)]
+pub struct Transactions {
+    marks: [Marks; SESSION_LIMIT],
+    candidates: [RuleSet; SESSION_LIMIT],
+}
+
+impl Model for Transactions {
+    ghost use Rattle.sb_process.specs.Transactions.{Kept};
+
+    ghost Value = { Kept };
+
+    ghost view = { λ t. record { marks = t.marks; candidates = t.candidates } };
+}
+
+impl Transactions {
+    /// All marks at 0, and no candidates.
+    pub fn new() -> Transactions
+        ensures marks { (s r : ℕ) → mark_of result s r ≡ 0 }
+        ensures candidates { (s r : ℕ) → is_candidate_of result s r ≡ false }
+    {
+        Transactions {
+            marks: [Marks::start(); SESSION_LIMIT],
+            candidates: [RuleSet::empty(); SESSION_LIMIT],
+        }
+    }
+
+    /// The marks of a session at 0, and no candidates.
+    pub fn begin(&mut self, session: SessionId)
+        ensures marks { (s r : ℕ) → mark_of self.new s r ≡ (if s == session then 0 else mark_of self.old s r) }
+        ensures candidates { (s r : ℕ) → is_candidate_of self.new s r ≡ (not (s == session) && is_candidate_of self.old s r) }
+    {
+        self.marks[session.index()] = Marks::start();
+        self.candidates[session.index()] = RuleSet::empty();
+    }
+
+    /// The time of a rule's mark.
+    pub fn mark(&self, session: SessionId, rule: RuleId) -> u64
+        ensures { result ≡ mark_of self.now session rule }
+    {
+        self.marks[session.index()].get(rule)
+    }
+
+    /// Sets a rule's mark.
+    pub fn set_mark(&mut self, session: SessionId, rule: RuleId, time: u64)
+        ensures marks { (s r : ℕ) → mark_of self.new s r ≡ (if (s == session) && (r == rule) then time else mark_of self.old s r) }
+        ensures candidates { (s r : ℕ) → is_candidate_of self.new s r ≡ is_candidate_of self.old s r }
+    {
+        self.marks[session.index()] = self.marks[session.index()].with(rule, time);
+    }
+
+    /// The candidates of a session.
+    pub fn candidates(&self, session: SessionId) -> RuleSet
+        ensures { (r : ℕ) → flag_at result r ≡ is_candidate_of self.now session r }
+    {
+        self.candidates[session.index()]
+    }
+
+    /// Makes rules candidates of a session.
+    pub fn join(&mut self, session: SessionId, rules: RuleSet)
+        ensures marks { (s r : ℕ) → mark_of self.new s r ≡ mark_of self.old s r }
+        ensures candidates { (s r : ℕ) → is_candidate_of self.new s r ≡ (is_candidate_of self.old s r || ((s == session) && flag_at rules r)) }
+    {
+        self.candidates[session.index()] = self.candidates[session.index()].union(rules);
+    }
+
+    /// Takes a rule from the candidates of a session.
+    pub fn leave(&mut self, session: SessionId, rule: RuleId)
+        ensures marks { (s r : ℕ) → mark_of self.new s r ≡ mark_of self.old s r }
+        ensures candidates { (s r : ℕ) → is_candidate_of self.new s r ≡ (is_candidate_of self.old s r && not ((s == session) && (r == rule))) }
+    {
+        self.candidates[session.index()] = self.candidates[session.index()].without(rule);
+    }
+}

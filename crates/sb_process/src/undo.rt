@@ -1,0 +1,45 @@
+//! Rollback.
+ghost use Rattle.std.specs.Prelude.{◌≡◌, List, []};
+ghost use Rattle.sb_process.specs.Represents.{Represents, IsTransaction, IsTakenBack, who_in};
+ghost use Rattle.sb_process.specs.Setting.{Setting, Progress};
+ghost use Rattle.sb_rawlog.specs.Sessions.{changes_by, OthersStay};
+ghost use Rattle.sb_tables.specs.Held.{Held};
+ghost use Rattle.sb_process.specs.Made.{AreMade};
+
+use crate::database::Database;
+use sb_rawlog::ChangeLog;
+use sb_tables::{Tables, changes_keep_places};
+use sb_value::{SessionId, Who};
+
+impl Database {
+    /// Takes all changes of the session's transaction back, and releases its locks.
+    pub fn rollback<L: ChangeLog>(&mut self, log: &mut L, session: SessionId)
+        requires { IsTransaction self.old session (L.records log.old) (L.clock log.old) }
+        ensures back { (setting : Setting) (progress : Progress) → Represents self.old session (L.records log.old) (L.clock log.old) setting progress → IsTakenBack self.old self.new session setting progress }
+        ensures none { changes_by (who_in self.old session) (L.records log.new) ≡ [] }
+        ensures others { OthersStay (who_in self.old session) (L.records log.old) (L.records log.new) }
+        ensures clock { L.clock log.new ≡ L.clock log.old }
+    {
+        let who = Who {
+            tenant: self.id,
+            session,
+        };
+        undo_all(&mut self.tables, log, &who);
+        self.locks.release(session);
+    }
+}
+
+/// Undoes the session's changes, the newest first.
+pub(crate) fn undo_all<L: ChangeLog>(tables: &mut Tables, log: &mut L, who: &Who)
+    requires { (origin : List Held) × AreMade origin (changes_by who.now (L.records log.old)) tables.old }
+    ensures tables { (origin : List Held) → AreMade origin (changes_by who.now (L.records log.old)) tables.old → AreMade origin [] tables.new }
+    ensures none { changes_by who.now (L.records log.new) ≡ [] }
+    ensures others { OthersStay who.now (L.records log.old) (L.records log.new) }
+    ensures clock { L.clock log.new ≡ L.clock log.old }
+{
+    // for the proof: a change that was made can be undone
+    changes_keep_places();
+    while let Some(change) = log.take_newest(*who) {
+        tables.undo(change);
+    }
+}

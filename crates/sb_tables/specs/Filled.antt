@@ -1,0 +1,17 @@
+-- Names with numbers, and a slot for each number.
+use Rattle.std.specs.Prelude.{◌≡◌, ℕ, ◌==◌, List, [], slice_get, unwrap_or, Option, None, is_some}
+use Rattle.std.specs.List.{list_any}
+use Rattle.sb_tables.specs.Stored.{Stored}
+use Rattle.sb_tables.specs.Held.{Held, no_rows}
+
+-- what the slot of a number holds
+abbrev pub slot_at : List (Option Stored) → ℕ → Option Stored
+slot_at slots id = unwrap_or (slice_get slots id) None
+
+-- the table of a name and a number
+abbrev pub held_in : List (Option Stored) → List ℕ × ℕ → Held
+held_in slots e = record { id = e.1; name = e.0; stored = unwrap_or (slot_at slots e.1) (no_rows []) }
+
+-- the slots that hold a table are those of the numbers that a name has
+abbrev pub AreFilled : List (List ℕ × ℕ) → List (Option Stored) → Type 0
+AreFilled named slots = (id : ℕ) → is_some (slot_at slots id) ≡ list_any (λ e. e.1 == id) named
