@@ -88,10 +88,10 @@ same_candidates : (kept : Kept) (session : ℕ) (p : Progress) (more : Locks) (r
 same_candidates kept session p more [] h = tt
 same_candidates kept session p more (rule ∷ rules) h = (h.0, same_candidates kept session p more rules h.1)
 
-module _ (d : Database) (session : ℕ) (records : List Record) (clock : ℕ) (setting : Setting) (progress : Progress) (r : Represents d session records clock setting progress) where
+module _ (d : Database) (session : ℕ) (records : List Record) (clock : ℕ) (setting : Setting) (progress : Progress) (origin : List Held) (r : Represents origin d session records clock setting progress) where
   -- the tables in memory are those that are seen
   pub seen_tables : entries d.tables ≡ tables_seen setting progress
-  seen_tables = entries-made r.tables.0 progress.changes d.tables r.tables.2 ∙ ap (after_all progress.changes) r.tables.1
+  seen_tables = entries-made origin progress.changes d.tables r.made ∙ ap (after_all progress.changes) r.base
 
   pub same_locks : held d.locks ≡ progress.locks
   same_locks = λ i s t m. r.locks s t m i
@@ -114,13 +114,14 @@ module _ (d : Database) (session : ℕ) (records : List Record) (clock : ℕ) (s
 
   -- with more locks
   pub with_more : (more : Holders) (list : List (ℕ × Mode)) → ((s t : ℕ) (m : Mode) → held more s t m ≡ with_locks (held d.locks) session list s t m) →
-      Represents (record d { locks = more }) session records clock setting (record progress { locks = with_locks progress.locks setting.who.session list })
+      Represents origin (record d { locks = more }) session records clock setting (record progress { locks = with_locks progress.locks setting.who.session list })
   with_more more list taken = record {
     who = r.who;
     changes = r.changes;
     past = r.past;
     marks = r.marks;
-    tables = r.tables;
+    base = r.base;
+    made = r.made;
     locks = λ s t m. taken s t m ∙ (λ i. with_locks (same_locks i) (sym same_session i) list s t m);
     locked = still_locked progress.locks setting.who.session session list progress.changes r.locked;
     candidates = same_candidates d.transactions session progress (with_locks progress.locks setting.who.session list) setting.rules r.candidates;

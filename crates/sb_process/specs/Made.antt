@@ -1,5 +1,5 @@
 -- The tables in memory of a tenant, against those that a transaction began with.
-use Rattle.std.specs.Prelude.{◌≡◌, ◌==◌, if◌then◌else◌, List, [], ◌∷◌, map, IsFalse}
+use Rattle.std.specs.Prelude.{◌≡◌, ℕ, ◌<◌, ◌==◌, if◌then◌else◌, List, [], ◌∷◌, map, IsFalse}
 use Rattle.sb_value.specs.declared.change.Change.{Change}
 use Rattle.sb_value.specs.Table.{IsProper}
 use Rattle.sb_tables.specs.Stored.{IsStored}
@@ -38,3 +38,8 @@ pub record AreMade (origin : List Held) (changes : List Change) (tables : List H
   pub stored : AreStored origin
   pub proper : IsProper (entries origin) changes
   pub made : map without_room tables ≡ map without_room (tables_after_all changes origin)
+
+-- each table's next number is below n
+abbrev pub NumbersBelow : ℕ → List Held → Type 0
+NumbersBelow n [] = Unit {0}
+NumbersBelow n (h ∷ tables) = (h.stored.table.next < n) × NumbersBelow n tables

@@ -17,7 +17,7 @@ use Rattle.sb_priority.specs.Ranks.{Ranks, HasOrder}
 use Rattle.sb_catalog.specs.declared.rule.Rule.{Rule}
 use Rattle.sb_process.specs.declared.database.Database.{Database}
 use Rattle.sb_process.specs.Made.{AreMade}
-use Rattle.sb_process.specs.Transactions.{Kept, mark_of, is_candidate_of}
+use Rattle.sb_process.specs.Transactions.{Kept, mark_of, is_candidate_of, OtherSessionsStay}
 use Rattle.sb_process.specs.Setting.{Setting, Progress, rule_is_triggered, tables_seen}
 
 -- the session of the tenant
@@ -36,39 +36,42 @@ AreLocked locks session [] = Unit {0}
 AreLocked locks session (c ∷ cs) = IsTrue (locks session c.table Write) × AreLocked locks session cs
 
 -- what the log has of the session is the transaction's list; a time that isn't past the clock stands for each mark;
--- the tables are those without the transaction, with its changes made; the locks are those that are held
-pub record Represents (database : Database) (session : ℕ) (records : List Record) (clock : ℕ) (setting : Setting) (progress : Progress) : Type 0 where
+-- the tables are those that stand without the transaction, with its changes made; the locks are those that are held
+pub record Represents (origin : List Held) (database : Database) (session : ℕ) (records : List Record) (clock : ℕ) (setting : Setting) (progress : Progress) : Type 0 where
   pub who : setting.who ≡ who_in database session
   pub changes : changes_by (who_in database session) records ≡ progress.changes
   pub past : (rule : ℕ) → mark_of database.transactions session rule ≤ clock
   pub marks : (rule : ℕ) → progress.marks rule ≡ mark_at (who_in database session) (mark_of database.transactions session rule) records
-  pub tables : (origin : List Held) × (entries origin ≡ setting.base) × AreMade origin progress.changes database.tables
+  pub base : entries origin ≡ setting.base
+  pub made : AreMade origin progress.changes database.tables
   pub locks : (s t : ℕ) (m : Mode) → held database.locks s t m ≡ progress.locks s t m
   pub locked : AreLocked progress.locks session progress.changes
   pub candidates : AreCandidates database.transactions session progress setting.rules
 
 -- some transaction of the session is what memory and the log hold
 abbrev pub IsTransaction : Database → ℕ → List Record → ℕ → Type 0
-IsTransaction database session records clock = (setting : Setting) × (progress : Progress) × Represents database session records clock setting progress
+IsTransaction database session records clock = (origin : List Held) × (setting : Setting) × (progress : Progress) × Represents origin database session records clock setting progress
 
 -- ---- the ends of a transaction
 
--- the tables are as they are seen without the transaction, and its locks are released
-pub record IsTakenBack (old new : Database) (session : ℕ) (setting : Setting) (progress : Progress) : Type 0 where
+-- the session has no changes; the tables are those that stand without them, and its locks are released
+pub record IsTakenBack (origin : List Held) (old new : Database) (session : ℕ) (records : List Record) (setting : Setting) (progress : Progress) : Type 0 where
   pub id : new.id ≡ old.id
+  pub none : changes_by (who_in new session) records ≡ []
   pub tables : entries new.tables ≡ setting.base
-  pub stored : (origin : List Held) → AreMade origin progress.changes old.tables → AreMade origin [] new.tables
+  pub made : AreMade origin [] new.tables
   pub locks : (s t : ℕ) (m : Mode) → held new.locks s t m ≡ released progress.locks session s t m
-  pub transactions : new.transactions ≡ old.transactions
+  pub sessions : OtherSessionsStay old.transactions new.transactions session
 
--- the tables are as the transaction saw them, sound for the next one; those that it had not locked for writing are untouched
-pub record IsKept (old new : Database) (session : ℕ) (setting : Setting) (progress : Progress) : Type 0 where
+-- the session has no changes; the tables are as the transaction saw them, sound for the next one; those that it had not locked for writing are untouched
+pub record IsKept (old new : Database) (session : ℕ) (records : List Record) (setting : Setting) (progress : Progress) : Type 0 where
   pub id : new.id ≡ old.id
+  pub none : changes_by (who_in new session) records ≡ []
   pub tables : entries new.tables ≡ tables_seen setting progress
-  pub stored : AreMade new.tables [] new.tables
+  pub made : AreMade new.tables [] new.tables
   pub untouched : (table : ℕ) → progress.locks session table Write ≡ false → numbered new.tables table ≡ numbered old.tables table
   pub locks : (s t : ℕ) (m : Mode) → held new.locks s t m ≡ released progress.locks session s t m
-  pub transactions : new.transactions ≡ old.transactions
+  pub sessions : OtherSessionsStay old.transactions new.transactions session
 
 -- ---- rules
 
@@ -89,9 +92,9 @@ pub record AreOrdered (ranks : Ranks) (rules : List Rule) (pairs : List (ℕ × 
 abbrev pub begun : Locks → Progress
 begun locks = record { changes = []; marks = λ rule. 0; locks = locks }
 
--- the session has no transaction, and the tables are sound
-pub record IsIdle (database : Database) (session : ℕ) (records : List Record) (setting : Setting) : Type 0 where
+-- the session has no transaction, and the tables stand without one
+pub record IsIdle (origin : List Held) (database : Database) (session : ℕ) (records : List Record) (setting : Setting) : Type 0 where
   pub who : setting.who ≡ who_in database session
   pub none : changes_by (who_in database session) records ≡ []
-  pub base : entries database.tables ≡ setting.base
-  pub stored : AreMade database.tables [] database.tables
+  pub base : entries origin ≡ setting.base
+  pub made : AreMade origin [] database.tables

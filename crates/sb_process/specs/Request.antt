@@ -50,6 +50,6 @@ refusal_for error.TooManyRows = TooManyRows
 refusal_for error.NoMemory = NoMemory
 
 -- a select answers its rows or its refusal and keeps its locks; where memory runs out, it has them or not
-pub record Selects (new : Database) (session : ℕ) (q : Query) (result : Result (List (List Value)) Refusal) (records : List Record) (clock : ℕ) (setting : Setting) (progress : Progress) : Type 0 where
+pub record Selects (origin : List Held) (new : Database) (session : ℕ) (q : Query) (result : Result (List (List Value)) Refusal) (records : List Record) (clock : ℕ) (setting : Setting) (progress : Progress) : Type 0 where
   pub answer : IsAnswer (selected setting q progress) result
-  pub stands : Represents new session records clock setting (after_request setting (query_locks q) progress) ⊎ ((result ≡ Err NoMemory) × Represents new session records clock setting progress)
+  pub stands : Represents origin new session records clock setting (after_request setting (query_locks q) progress) ⊎ ((result ≡ Err NoMemory) × Represents origin new session records clock setting progress)

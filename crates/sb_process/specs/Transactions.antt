@@ -1,5 +1,5 @@
 -- What a tenant keeps of its sessions' transactions beside their changes.
-use Rattle.std.specs.Prelude.{ℕ, Bool, List, [], slice_index, slice_index_or}
+use Rattle.std.specs.Prelude.{◌≡◌, ℕ, Bool, false, ◌==◌, List, [], slice_index, slice_index_or}
 use Rattle.sb_value.specs.Flags.{flag_at}
 
 -- for each session a time for each rule, and a set of rules
@@ -14,3 +14,8 @@ mark_of kept session rule = slice_index (slice_index_or kept.marks session []) r
 -- whether the rule is one of the session's candidates
 abbrev pub is_candidate_of : Kept → ℕ → ℕ → Bool
 is_candidate_of kept session rule = flag_at (slice_index_or kept.candidates session []) rule
+
+-- the marks and the candidates of the other sessions stay
+abbrev pub OtherSessionsStay : Kept → Kept → ℕ → Type 0
+OtherSessionsStay old new session =
+    (s r : ℕ) → (s == session) ≡ false → (mark_of new s r ≡ mark_of old s r) × (is_candidate_of new s r ≡ is_candidate_of old s r)

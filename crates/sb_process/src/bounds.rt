@@ -1,12 +1,12 @@
 //! The beginning of a transaction, and its end by commit.
 ghost use Rattle.std.specs.Prelude.{◌≡◌, ◌==◌, ℕ, List, [], false};
 ghost use Rattle.sb_value.specs.declared.lock.Mode.TheVariants as mode;
-ghost use Rattle.sb_rawlog.specs.Sessions.{changes_by, OthersStay};
+ghost use Rattle.sb_rawlog.specs.Sessions.{OthersStay};
 ghost use Rattle.sb_locks.specs.Held.{held};
-ghost use Rattle.sb_tables.specs.Held.{entries, numbered};
-ghost use Rattle.sb_process.specs.Made.{AreNumbered, AreStored};
+ghost use Rattle.sb_tables.specs.Held.{Held, entries, numbered};
+ghost use Rattle.sb_process.specs.Made.{AreNumbered, AreStored, NumbersBelow};
 ghost use Rattle.sb_process.specs.Represents.{Represents, IsTransaction, IsKept, IsIdle, begun, who_in};
-ghost use Rattle.sb_process.specs.Transactions.{mark_of, is_candidate_of};
+ghost use Rattle.sb_process.specs.Transactions.{OtherSessionsStay};
 ghost use Rattle.sb_rawlog.specs.Records.{Record};
 ghost use Rattle.sb_process.specs.Setting.{Setting, Progress};
 
@@ -19,9 +19,9 @@ use sb_value::{Mode, SessionId, TABLE_LIMIT, TableId, Who};
 impl Database {
     /// Begins a transaction of the session.
     pub fn begin(&mut self, session: SessionId)
-        ensures begun { (records : List Record) (clock : ℕ) (setting : Setting) → IsIdle self.old session records setting → Represents self.new session records clock setting (begun (held self.old.locks)) }
+        ensures begun { (origin : List Held) (records : List Record) (clock : ℕ) (setting : Setting) → IsIdle origin self.old session records setting → Represents origin self.new session records clock setting (begun (held self.old.locks)) }
         ensures tables { self.new.tables ≡ self.old.tables }
-        ensures others { (s r : ℕ) → (s == session) ≡ false → (mark_of self.new.transactions s r ≡ mark_of self.old.transactions s r) × (is_candidate_of self.new.transactions s r ≡ is_candidate_of self.old.transactions s r) }
+        ensures sessions { OtherSessionsStay self.old.transactions self.new.transactions session }
     {
         self.transactions.begin(session);
     }
@@ -29,8 +29,8 @@ impl Database {
     /// Keeps all changes of the session's transaction, and releases its locks.
     pub fn commit<L: ChangeLog>(&mut self, log: &mut L, session: SessionId)
         requires { IsTransaction self.old session (L.records log.old) (L.clock log.old) }
-        ensures kept { (setting : Setting) (progress : Progress) → Represents self.old session (L.records log.old) (L.clock log.old) setting progress → IsKept self.old self.new session setting progress }
-        ensures none { changes_by (who_in self.old session) (L.records log.new) ≡ [] }
+        ensures kept { (origin : List Held) (setting : Setting) (progress : Progress) → Represents origin self.old session (L.records log.old) (L.clock log.old) setting progress → IsKept self.old self.new session (L.records log.new) setting progress }
+        ensures numbers { (n : ℕ) → NumbersBelow n self.old.tables → NumbersBelow n self.new.tables }
         ensures others { OthersStay (who_in self.old session) (L.records log.old) (L.records log.new) }
         ensures clock { L.clock log.new ≡ L.clock log.old }
     {

@@ -6,7 +6,9 @@ mod database;
 mod lock_list;
 mod make;
 mod marks;
+mod process;
 mod request;
+mod run;
 mod statement;
 mod transactions;
 mod undo;
@@ -14,6 +16,7 @@ mod view;
 
 pub use database::Database;
 pub use marks::Marks;
+pub use process::Rules;
 use sb_value::{Refusal, RuleId, Verdict};
 use std::marker::Model;
 pub use transactions::Transactions;

@@ -3,6 +3,7 @@ ghost use Rattle.std.specs.Prelude.{◌≡◌, ℕ, List};
 ghost use Rattle.sb_eval.specs.Seen as seen;
 ghost use Rattle.sb_eval.specs.Statement as spec;
 ghost use Rattle.sb_rawlog.specs.Records.{Record};
+ghost use Rattle.sb_tables.specs.Held.{Held};
 ghost use Rattle.sb_process.specs.Represents.{Represents, who_in};
 ghost use Rattle.sb_process.specs.Request.{AreThere, IsAnswer, Selects, refusal_for};
 ghost use Rattle.sb_process.specs.Setting.{Setting, Progress};
@@ -26,7 +27,7 @@ impl Database {
         query: &Query,
     ) -> Result<RowList, Refusal>
         requires { AreThere self.old.tables (spec.query_locks query.now) }
-        ensures selected { (records : List Record) (clock : ℕ) (setting : Setting) (progress : Progress) → Represents self.old session records clock setting progress → Selects self.new session query.now result records clock setting progress }
+        ensures selected { (origin : List Held) (records : List Record) (clock : ℕ) (setting : Setting) (progress : Progress) → Represents origin self.old session records clock setting progress → Selects origin self.new session query.now result records clock setting progress }
         ensures only_locks { self.new ≡ record self.old { locks = self.new.locks } }
     {
         let Ok(list) = query_locks(alloc, query) else {

@@ -4,7 +4,7 @@ ghost use Rattle.sb_process.specs.Represents.{Represents, IsTransaction, IsTaken
 ghost use Rattle.sb_process.specs.Setting.{Setting, Progress};
 ghost use Rattle.sb_rawlog.specs.Sessions.{changes_by, OthersStay};
 ghost use Rattle.sb_tables.specs.Held.{Held};
-ghost use Rattle.sb_process.specs.Made.{AreMade};
+ghost use Rattle.sb_process.specs.Made.{AreMade, NumbersBelow};
 
 use crate::database::Database;
 use sb_rawlog::ChangeLog;
@@ -15,8 +15,8 @@ impl Database {
     /// Takes all changes of the session's transaction back, and releases its locks.
     pub fn rollback<L: ChangeLog>(&mut self, log: &mut L, session: SessionId)
         requires { IsTransaction self.old session (L.records log.old) (L.clock log.old) }
-        ensures back { (setting : Setting) (progress : Progress) → Represents self.old session (L.records log.old) (L.clock log.old) setting progress → IsTakenBack self.old self.new session setting progress }
-        ensures none { changes_by (who_in self.old session) (L.records log.new) ≡ [] }
+        ensures back { (origin : List Held) (setting : Setting) (progress : Progress) → Represents origin self.old session (L.records log.old) (L.clock log.old) setting progress → IsTakenBack origin self.old self.new session (L.records log.new) setting progress }
+        ensures numbers { (n : ℕ) → NumbersBelow n self.old.tables → NumbersBelow n self.new.tables }
         ensures others { OthersStay (who_in self.old session) (L.records log.old) (L.records log.new) }
         ensures clock { L.clock log.new ≡ L.clock log.old }
     {

@@ -14,14 +14,15 @@ no_candidates kept session locks [] = tt
 no_candidates kept session locks (r ∷ rules) = (λ active triggered. absurd (true≢false (sym triggered)), no_candidates kept session locks rules)
 
 pub returns-clause-begun : goal.returns-clause-begun
-returns-clause-begun c = λ records clock setting i.
+returns-clause-begun c = λ origin records clock setting i.
     let zero = λ (r : ℕ). c.begin.ensures.marks c.args.session r ∙ ap (λ (b : Bool). cond b 0 (mark_of c.args.self.now.transactions c.args.session r)) (same_number c.args.session) in
     record {
       who = i.who;
       changes = i.none;
       past = λ r. rw (zero r) (omega arith);
       marks = λ r. none_before (who_in c.args.self.now c.args.session) (mark_of c.begin.new.self c.args.session r) records i.none;
-      tables = (c.args.self.now.tables, i.base, i.stored);
+      base = i.base;
+      made = i.made;
       locks = λ s t m. refl;
       locked = tt;
       candidates = no_candidates c.begin.new.self c.args.session (held c.args.self.now.locks) setting.rules;

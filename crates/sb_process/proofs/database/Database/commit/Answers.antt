@@ -7,13 +7,13 @@ use Rattle.sb_process.proofs.Settling.{same_released, sound-made}
 use Rattle.sb_process.proofs.database.Database.commit.Goals as goal
 
 pub returns-clause-kept : goal.returns-clause-kept
-returns-clause-kept g c = λ setting progress r.
-    let origin : List Held = r.tables.0 in
-    let sound = sound-made c.changes_keep_places.ensures origin progress.changes c.args.self.now.tables r.tables.2 in
+returns-clause-kept g c = λ origin setting progress r.
+    let sound = sound-made c.changes_keep_places.ensures origin progress.changes c.args.self.now.tables r.made in
     record {
       id = refl;
-      tables = c.settle_all.ensures.rows sound.0 ∙ entries-made origin progress.changes c.args.self.now.tables r.tables.2 ∙ ap (after_all progress.changes) r.tables.1;
-      stored = record {
+      none = c.forget.ensures.own;
+      tables = c.settle_all.ensures.rows sound.0 ∙ entries-made origin progress.changes c.args.self.now.tables r.made ∙ ap (after_all progress.changes) r.base;
+      made = record {
         numbered = c.settle_all.ensures.numbers sound.0;
         stored = c.settle_all.ensures.sound sound.0 sound.1;
         proper = tt;
@@ -21,5 +21,5 @@ returns-clause-kept g c = λ setting progress r.
       };
       untouched = λ table free. c.settle_all.ensures.untouched table (r.locks c.args.session table Write ∙ free);
       locks = λ s t m. c.release.ensures s t m ∙ same_released _ progress.locks c.args.session r.locks s t m;
-      transactions = refl;
+      sessions = λ s o other. (refl, refl);
     }

@@ -1,0 +1,61 @@
+-- What processing works on, and what it leaves.
+use Rattle.std.specs.Prelude.{◌≡◌, ◌≤◌, ℕ, Bool, IsTrue, List, [], ◌∷◌, length, Option, Some, None}
+use Rattle.sb_value.specs.declared.refusal.Verdict.{Verdict}
+use Rattle.sb_check.specs.Condition.{Query}
+use Rattle.sb_check.specs.declared.tree.Action.{Action}
+use Rattle.sb_check.specs.declared.tree.Action.TheVariants as action
+use Rattle.sb_tables.specs.Held.{Held}
+use Rattle.sb_eval.specs.Statement.{query_locks, statement_locks}
+use Rattle.sb_index.specs.TableSets.{TableSets}
+use Rattle.sb_priority.specs.Ranks.{Ranks}
+use Rattle.sb_rawlog.specs.Records.{Record}
+use Rattle.sb_catalog.specs.declared.rule.Rule.{Rule}
+use Rattle.sb_process.specs.declared.database.Database.{Database}
+use Rattle.sb_process.specs.declared.Outcome.{Outcome}
+use Rattle.sb_process.specs.Represents.{Represents, IsTakenBack, AreIndexed, AreOrdered}
+use Rattle.sb_process.specs.Request.{AreThere}
+use Rattle.sb_process.specs.Setting.{Setting, Progress}
+use Rattle.sb_process.specs.Process.{Processing, Standing, goes_on, taken_back, standing}
+
+-- ---- rules that can run: the tables that they name are there, and they have 8 actions at most
+
+abbrev pub IsConditionThere : List Held → Option Query → Type 0
+IsConditionThere tables None = Unit {0}
+IsConditionThere tables (Some q) = AreThere tables (query_locks q)
+
+abbrev pub AreActionsThere : List Held → List Action → Type 0
+AreActionsThere tables [] = Unit {0}
+AreActionsThere tables (action.Rollback ∷ actions) = AreActionsThere tables actions
+AreActionsThere tables (action.Change statement ∷ actions) = AreThere tables (statement_locks statement) × AreActionsThere tables actions
+
+abbrev pub CanRun : List Held → List Rule → Type 0
+CanRun tables [] = Unit {0}
+CanRun tables (rule ∷ rules) =
+    (IsConditionThere tables rule.condition × AreActionsThere tables rule.actions × (length rule.actions ≤ 8)) × CanRun tables rules
+
+-- the eligible rules are active
+abbrev pub AreActive : (ℕ → Bool) → List Rule → Type 0
+AreActive eligible [] = Unit {0}
+AreActive eligible (rule ∷ rules) = (IsTrue (eligible rule.id) → IsTrue rule.active) × AreActive eligible rules
+
+-- ---- the work
+
+-- a transaction, the rules, the index of the operations that trigger them, and their order
+pub record IsWork (origin : List Held) (database : Database) (session : ℕ) (records : List Record) (clock : ℕ) (index : List (List TableSets)) (rules : List Rule) (order : Ranks) (setting : Setting) (progress : Progress) : Type 0 where
+  pub transaction : Represents origin database session records clock setting progress
+  pub rules : setting.rules ≡ rules
+  pub indexed : AreIndexed index database.id rules
+  pub ordered : AreOrdered order rules setting.pairs
+
+-- ---- what it leaves
+
+-- the transaction goes on, or all of it is taken back
+abbrev pub Stands : List Held → Database → Database → ℕ → List Record → ℕ → Setting → Progress → Standing → Type 0
+Stands origin old new session records clock setting progress (goes_on after) = Represents origin new session records clock setting after
+Stands origin old new session records clock setting progress taken_back = IsTakenBack origin old new session records setting progress
+
+-- the outcome, the verdicts in order, and what stands, as they are meant
+pub record Processes (origin : List Held) (old new : Database) (session : ℕ) (outcome : Outcome) (trace : List (ℕ × Verdict)) (records : List Record) (clock : ℕ) (setting : Setting) (progress : Progress) (meant : Processing) : Type 0 where
+  pub outcome : outcome ≡ meant.outcome
+  pub trace : trace ≡ meant.trace
+  pub stands : Stands origin old new session records clock setting progress (standing meant)

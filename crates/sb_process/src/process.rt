@@ -1,0 +1,59 @@
+//! Processing of eligible rules.
+ghost use Rattle.std.specs.Prelude.{◌≡◌, ℕ, ◌+◌, ◌*◌, ◌<◌, ◌^◌, List, IfOk, OnErr};
+ghost use Rattle.sb_value.specs.Flags.{flag_at};
+ghost use Rattle.sb_rawlog.specs.Sessions.{OthersStay};
+ghost use Rattle.sb_tables.specs.Held.{Held};
+ghost use Rattle.sb_process.specs.Made.{NumbersBelow};
+ghost use Rattle.sb_process.specs.Process as spec;
+ghost use Rattle.sb_process.specs.Represents.{IsTakenBack, who_in};
+ghost use Rattle.sb_process.specs.Setting.{Setting, Progress};
+ghost use Rattle.sb_process.specs.Statement.{RisesBy};
+ghost use Rattle.sb_process.specs.Transactions.{OtherSessionsStay};
+ghost use Rattle.sb_process.specs.Work.{AreActive, CanRun, IsWork, Processes};
+
+use crate::Processed;
+use crate::database::Database;
+use sb_catalog::Catalog;
+use sb_index::RuleIndex;
+use sb_priority::Priorities;
+use sb_rawlog::ChangeLog;
+use sb_value::{RuleSet, SessionId};
+use std::alloc::{AllocError, Global};
+
+/// A tenant's rules while they are processed: all of them, what triggers them, and their order.
+#[derive(Drop)]
+pub struct Rules<'a> {
+    pub catalog: &'a Catalog,
+    pub index: &'a RuleIndex,
+    pub order: &'a Priorities,
+}
+
+impl Database {
+    /// Considers eligible rules that are triggered, one after another, at most `bound` times.
+    /// After every outcome but `Done`, and where memory runs out, the transaction is taken back.
+    pub fn process<L: ChangeLog>(
+        &mut self,
+        alloc: Global,
+        log: &mut L,
+        rules: &Rules<'_>,
+        session: SessionId,
+        eligible: RuleSet,
+        bound: u32,
+    ) -> Result<Processed, AllocError>
+        requires work { (origin : List Held) × (setting : Setting) × (progress : Progress) × IsWork origin self.old session (L.records log.old) (L.clock log.old) rules.now.index.now rules.now.catalog.now rules.now.order.now setting progress }
+        requires rules { CanRun self.old.tables rules.now.catalog.now }
+        requires active { AreActive (flag_at eligible) rules.now.catalog.now }
+        requires times { L.clock log.old < 2 ^ 63 }
+        requires numbers { NumbersBelow (2 ^ 63) self.old.tables }
+        ensures processed { (origin : List Held) (setting : Setting) (progress : Progress) → IsWork origin self.old session (L.records log.old) (L.clock log.old) rules.now.index.now rules.now.catalog.now rules.now.order.now setting progress → IfOk result (λ p. Processes origin self.old self.new session p.outcome p.trace (L.records log.new) (L.clock log.new) setting progress (spec.process bound setting (flag_at eligible) progress)) }
+        ensures no_memory { (origin : List Held) (setting : Setting) (progress : Progress) → IsWork origin self.old session (L.records log.old) (L.clock log.old) rules.now.index.now rules.now.catalog.now rules.now.order.now setting progress → OnErr result (IsTakenBack origin self.old self.new session (L.records log.new) setting progress) }
+        ensures id { self.new.id ≡ self.old.id }
+        ensures sessions { OtherSessionsStay self.old.transactions self.new.transactions session }
+        ensures others { OthersStay (who_in self.old session) (L.records log.old) (L.records log.new) }
+        ensures times { RisesBy (32768 * bound) (L.clock log.old) (L.clock log.new) }
+        ensures numbers { (n : ℕ) → NumbersBelow n self.old.tables → NumbersBelow (n + 32768 * bound) self.new.tables }
+    {
+        self.rollback(log, session);
+        Err(AllocError)
+    }
+}
