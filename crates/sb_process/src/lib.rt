@@ -1,12 +1,14 @@
 //! Rule processing.
 #![tactic(auto)]
 
+mod apply;
 mod bounds;
 mod database;
 mod lock_list;
 mod make;
 mod marks;
 mod process;
+mod ready;
 mod request;
 mod run;
 mod statement;
