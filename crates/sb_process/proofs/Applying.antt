@@ -1,14 +1,15 @@
 -- Changes made one after another.
-use Rattle.std.proofs.Common.{◌≡◌, ◌∙◌, ℕ, ◌+◌, ◌<◌, ◌≤◌, Bool, true, false, ◌||◌, cond, nat_eq, List, [], ◌∷◌, map, Some, option_map, unwrap_or, refl, sym, ap, subst, arith}
+use Rattle.std.proofs.Common.{◌≡◌, ◌∙◌, ℕ, ◌+◌, ◌<◌, ◌≤◌, Bool, true, false, ◌||◌, cond, nat_eq, List, [], ◌∷◌, map, length, Some, option_map, unwrap_or, refl, sym, ap, subst, arith}
 use Rattle.sb_value.specs.declared.change.Change.{Change}
 use Rattle.sb_value.specs.declared.change.Kind.{Kind}
 use Rattle.sb_value.specs.declared.change.Kind.TheVariants.{Inserted, Deleted, Updated}
 use Rattle.sb_value.specs.declared.id.Who.{Who}
-use Rattle.sb_value.specs.Table.{Table, IsProper, after, after_kind, fits_kind}
+use Rattle.sb_value.specs.Table.{Entry, IsProper, after, after_change, after_kind, fits_kind, has_table, table_at}
 use Rattle.sb_tables.specs.Stored.{Stored}
 use Rattle.sb_tables.specs.Held.{Held, entries, numbered, has_number, stored_at, stored_as, with_stored}
-use Rattle.sb_process.specs.Made.{AreNumbered, NumbersBelow, tables_after, without_room}
+use Rattle.sb_process.specs.Made.{AreNumbered, EachBelow, NumbersBelow, tables_after, without_room}
 use Rattle.sb_process.specs.Make.{Makes}
+use Rattle.sb_process.specs.declared.ready.Ready.{Ready}
 use Rattle.sb_process.specs.Ready.{CanApply, HavePlacesFor, made_of}
 use Rattle.sb_process.proofs.Making.{entries-room, entries-after, room-with_stored, table-stored}
 use Rattle.sb_process.proofs.Makes.{written_on}
@@ -57,34 +58,30 @@ others_can old new who id c cs can made =
 
 -- ---- next numbers
 
-below_more : (n m : ℕ) (tables : List Held) → n ≤ m → NumbersBelow n tables → NumbersBelow m tables
-below_more n m [] le b = tt
-below_more n m (h ∷ tables) le b = (let q : h.stored.table.next < n = b.0 in omega (arith, q, le), below_more n m tables le b.1)
-
-below-with : (n id : ℕ) (s : Stored) (tables : List Held) → s.table.next < n → NumbersBelow n tables → NumbersBelow n (with_stored id s tables)
-below-with n id s [] less b = tt
-below-with n id s (h ∷ tables) less b = (by (nat_eq h.id id), below-with n id s tables less b.1)
-  where
-    by : (b : Bool) → (cond b (record h { stored = s }) h).stored.table.next < n
-    by true = less
-    by false = b.0
-
-pub next_below : (n id : ℕ) (tables : List Held) → has_number tables id ≡ true → NumbersBelow n tables → (stored_at tables id).table.next < n
+pub next_below : (n id : ℕ) (tables : List Entry) → has_table tables id ≡ true → EachBelow n tables → (table_at tables id).next < n
 next_below n id [] there b = absurd (cc)
-next_below n id (h ∷ tables) there b = by (nat_eq h.id id) there (λ q. next_below n id tables q b.1)
+next_below n id (e ∷ tables) there b = by (nat_eq e.id id) there (λ q. next_below n id tables q b.1)
   where
-    by : (b : Bool) → (b || has_number tables id) ≡ true → (has_number tables id ≡ true → (stored_at tables id).table.next < n) →
-        (unwrap_or (option_map (λ (x : Held). x.stored) (cond b (Some h) (numbered tables id))) (stored_at [] id)).table.next < n
+    by : (b : Bool) → (b || has_table tables id) ≡ true → (has_table tables id ≡ true → (table_at tables id).next < n) → (cond b e.table (table_at tables id)).next < n
     by true q rest = b.0
     by false q rest = rest q
 
-next_after : (k : Kind) (c : Change) (t : Table) → (after_kind k c t).next ≤ t.next + 1
-next_after Inserted c t = omega arith
-next_after Deleted c t = omega arith
-next_after Updated c t = omega arith
+below_after : (n : ℕ) (c : Change) (tables : List Entry) → EachBelow n tables → EachBelow (n + 1) (after c tables)
+below_after n c [] b = tt
+below_after n c (e ∷ tables) b = (by (nat_eq e.id c.table), below_after n c tables b.1)
+  where
+    of : (k : Kind) → e.table.next < n → (after_kind k c e.table).next < n + 1
+    of Inserted less = omega (arith, less)
+    of Deleted less = omega (arith, less)
+    of Updated less = omega (arith, less)
 
-pub below_one : (n : ℕ) (c : Change) (old new : List Held) → has_number old c.table ≡ true → Makes c old new → NumbersBelow n old → NumbersBelow (n + 1) new
-below_one n c old new there made b =
-    let next : (stored_at old c.table).table.next < n = next_below n c.table old there b in
-    subst (NumbersBelow (n + 1)) (sym made)
-    (below-with (n + 1) c.table (made_of c (stored_at old c.table)) old (omega (arith, next, next_after c.kind c (stored_at old c.table).table)) (below_more n (n + 1) old (omega arith) b))
+    by : (b : Bool) → (cond b (record e { table = after_change c e.table }) e).table.next < n + 1
+    by true = of c.kind b.0
+    by false = let q : e.table.next < n = b.0 in omega (arith, q)
+
+pub below_one : (n : ℕ) (c : Change) (old new : List Held) → AreNumbered old → Makes c old new → NumbersBelow n old → NumbersBelow (n + 1) new
+below_one n c old new numbered made b = subst (EachBelow (n + 1)) (sym (made_rows c old new numbered made)) (below_after n c (entries old) b)
+
+pub none_left : (list : List Ready) → length list ≡ 0 → list ≡ []
+none_left [] e = refl
+none_left (r ∷ rs) e = absurd (omega arith)

@@ -11,7 +11,7 @@ use Rattle.sb_process.specs.Made.{NumbersBelow}
 use Rattle.sb_process.specs.Ready.{AreCopied, CanApply, changes_in}
 use Rattle.sb_process.specs.Represents.{Represents, AreIndexed, who_in}
 use Rattle.sb_process.specs.Setting.{Setting, Progress}
-use Rattle.sb_process.proofs.Applying.{first_fits, others_can, below_one}
+use Rattle.sb_process.proofs.Applying.{first_fits, others_can, below_one, none_left}
 use Rattle.sb_process.proofs.database.Database.apply.Goals as goal
 
 pub loop-ready-init : goal.loop-ready-init
@@ -74,11 +74,22 @@ loop-ready-preserved g c =
           c.apply_one.ensures.others other (λ is. differs (is ∙ ap (λ (id : ℕ). let w : Who = record { tenant = id; session = c.args.session } in w) v.id)) ∙ v.others other differs;
       numbers = λ n b.
           let q = v.numbers n b in
-          (q.0 + 1, omega (arith, q.1, long), below_one q.0 x.change c.loop-ready.self.tables c.apply_one.new.self.tables can.proper.0 c.apply_one.ensures.makes q.2);
+          (q.0 + 1, omega (arith, q.1, long), below_one q.0 x.change c.loop-ready.self.tables c.apply_one.new.self.tables v.can.numbered c.apply_one.ensures.makes q.2);
     }
 
 pub returns-clause-all : goal.returns-clause-all
-returns-clause-all g c = λ origin setting progress r indexed. ?
+returns-clause-all g c = λ origin setting progress r indexed.
+    let v = c.loop-ready.invariant in
+    let none : into_iter_items c.loop-ready.ready-iterator ≡ [] = none_left (into_iter_items c.loop-ready.ready-iterator) (sym v.len ∙ c.in-None.ensures.steps.0) in
+    let whole : v.made.0 ≡ changes_in c.args.list.items = sym (append-nil v.made.0) ∙ ap (λ (l : List Ready). v.made.0 ++ changes_in l) (sym none) ∙ v.made.1 in
+    subst
+    (λ (cs : List Change). Represents origin c.loop-ready.self c.args.session (g.L.ChangeLog.records c.loop-ready.log) (g.L.ChangeLog.clock c.loop-ready.log) setting (record progress { changes = progress.changes ++ cs }))
+    whole (v.made.2 origin setting progress r indexed)
 
 pub returns-clause-numbers : goal.returns-clause-numbers
-returns-clause-numbers g c = λ n b. ?
+returns-clause-numbers g c = λ n b.
+    let v = c.loop-ready.invariant in
+    let q = v.numbers n b in
+    let none : length (into_iter_items c.loop-ready.ready-iterator) ≡ 0 = sym v.len ∙ c.in-None.ensures.steps.0 in
+    let end : q.0 ≡ n + length c.args.list.items = omega (arith, q.1, none) in
+    subst (λ (m : ℕ). NumbersBelow m c.loop-ready.self.tables) end q.2
