@@ -2,7 +2,7 @@
 ghost use Rattle.std.specs.Prelude.{◌≡◌, ◌≤◌, length, map, IsTrue, IfOk, OnOk};
 ghost use Rattle.sb_eval.specs.Laws.{inserts};
 ghost use Rattle.sb_tables.specs.Held.{has_number, stored_at};
-ghost use Rattle.sb_process.specs.Made.{without_room};
+ghost use Rattle.sb_process.specs.Made.{AreNumbered, without_room};
 ghost use Rattle.sb_process.specs.Ready.{AreCopied, changes_in};
 
 use sb_rawlog::ChangeLog;
@@ -25,7 +25,8 @@ pub(crate) fn prepare<L: ChangeLog>(
     target: TableId,
     changes: Vec<Change>,
 ) -> Result<Vec<Ready>, AllocError>
-    requires { IsTrue (has_number tables.old target) }
+    requires there { IsTrue (has_number tables.old target) }
+    requires numbered { AreNumbered tables.old }
     ensures changes { IfOk result (λ list. changes_in list.items ≡ changes.items) }
     ensures copied { IfOk result (λ list. AreCopied list.items) }
     ensures few { OnOk result (length changes.items ≤ 4096) }
@@ -52,7 +53,8 @@ fn reserve<L: ChangeLog>(
     target: TableId,
     changes: &[Change],
 ) -> Result<(), AllocError>
-    requires { IsTrue (has_number tables.old target) }
+    requires there { IsTrue (has_number tables.old target) }
+    requires numbered { AreNumbered tables.old }
     ensures log { OnOk result (length changes.now ≤ L.room log.new) }
     ensures table { OnOk result (inserts changes.now ≤ (stored_at tables.new target).room) }
     ensures same { map without_room tables.new ≡ map without_room tables.old }
