@@ -53,7 +53,7 @@ filtered {A} p (x ∷ xs) ys = by (p x) (filtered p xs ys)
     by true e = ap (λ (l : List A). x ∷ l) e
     by false e = e
 
-few : {A : Type 0} (p : A → Bool) (xs : List A) → length (filter p xs) ≤ length xs
+pub few : {A : Type 0} (p : A → Bool) (xs : List A) → length (filter p xs) ≤ length xs
 few p [] = omega arith
 few {A} p (x ∷ xs) = by (p x) (few p xs)
   where

@@ -12,6 +12,11 @@ use Rattle.sb_tables.specs.Undo.{stored_after}
 use Rattle.sb_process.specs.declared.ready.Ready.{Ready}
 use Rattle.sb_process.specs.Made.{AreNumbered}
 use Rattle.sb_process.specs.Make.{HasPlaceFor, room_after}
+use Rattle.sb_rawlog.specs.Records.{Record}
+use Rattle.sb_process.specs.declared.database.Database.{Database}
+use Rattle.sb_process.specs.Represents.{Represents}
+use Rattle.sb_process.specs.Setting.{Setting, Progress}
+use Rattle.sb_process.specs.Statement.{with_changes_of, counted}
 
 -- the changes by themselves
 abbrev pub changes_in : List Ready → List Change
@@ -38,3 +43,9 @@ pub record CanApply (tables : List Held) (who : Who) (id : ℕ) (changes : List 
   pub proper : IsProper (entries tables) changes
   pub own : AreChangesOf who id changes
   pub places : HavePlacesFor changes (stored_at tables id)
+
+-- with the locks granted, the changes that are meant are made and counted; or memory runs out, and none is made
+abbrev pub Changes : List Held → Database → ℕ → Result (List Change) Refusal → Result ℕ Refusal → List Record → ℕ → Setting → Progress → Type 0
+Changes origin new session meant result records clock setting progress =
+    ((result ≡ counted meant) × Represents origin new session records clock setting (with_changes_of meant progress))
+    ⊎ ((result ≡ Err NoMemory) × Represents origin new session records clock setting progress)

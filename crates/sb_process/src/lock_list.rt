@@ -50,7 +50,7 @@ fn push_statement(locks: &mut Vec<(TableId, Mode)>, statement: &Statement) -> Re
 }
 
 /// The table that a statement changes.
-fn target_of(statement: &Statement) -> TableId
+pub(crate) fn target_of(statement: &Statement) -> TableId
     ensures { result ≡ target statement.now }
 {
     match statement {

@@ -60,7 +60,7 @@ impl Database {
 }
 
 /// No transition tables.
-fn no_transition(alloc: Global) -> Transition
+pub(crate) fn no_transition(alloc: Global) -> Transition
     ensures { result ≡ seen.no_transition }
 {
     Transition {
@@ -72,7 +72,7 @@ fn no_transition(alloc: Global) -> Transition
 }
 
 /// The refusal for a fault of evaluation.
-fn refusal_for(error: EvalError) -> Refusal
+pub(crate) fn refusal_for(error: EvalError) -> Refusal
     ensures { result ≡ refusal_for error }
 {
     match error {
