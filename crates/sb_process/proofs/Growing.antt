@@ -90,7 +90,7 @@ life_end : (cs ds : List Change) → is_life (cs ++ ds) ≡ true → is_life ds 
 life_end [] ds h = h
 life_end (c ∷ cs) ds h = life_end cs ds (life_tail c (cs ++ ds) h)
 
-tables_are : (tables : List Held) (id : ℕ) → AreStored tables → IsTable (table_at (entries tables) id)
+pub tables_are : (tables : List Held) (id : ℕ) → AreStored tables → IsTable (table_at (entries tables) id)
 tables_are [] id s = (tt, tt)
 tables_are (h ∷ tables) id s = by (nat_eq h.id id) (tables_are tables id s.1)
   where
