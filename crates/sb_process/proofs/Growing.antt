@@ -221,7 +221,7 @@ with_change trig lives index d session records more clock later setting progress
     let who : Who = who_in d session in
     let cs : List Change = progress.changes ++ c ∷ [] in
     let within = λ (rule : ℕ).
-        subst (λ (m : ℕ). m ≤ length progress.changes) (sym (r.marks rule)) (subst (λ (l : List Change). mark_at who (mark_of d.transactions session rule) records ≤ length l) r.changes (mark_within who (mark_of d.transactions session rule) records)) in
+    subst (λ (m : ℕ). m ≤ length progress.changes) (sym (r.marks rule)) (subst (λ (l : List Change). mark_at who (mark_of d.transactions session rule) records ≤ length l) r.changes (mark_within who (mark_of d.transactions session rule) records)) in
     record {
       who = r.who;
       changes = subst (λ (w : Who). changes_by w more ≡ changes_by w records ++ c ∷ []) by own ∙ ap (λ (l : List Change). l ++ c ∷ []) r.changes;

@@ -24,9 +24,13 @@ loop-ready-init g c =
       locked = c.requires.locked;
       room = omega (arith, ap length same, c.requires.room);
       clock = omega (arith, ap length same);
-      made = ([], ap changes_in same, λ origin setting progress r indexed.
-          subst (λ (cs : List Change). Represents origin c.args.self.now c.args.session (g.L.ChangeLog.records c.args.log.now) (g.L.ChangeLog.clock c.args.log.now) setting (record progress { changes = cs }))
-          (sym (append-nil progress.changes)) r);
+      made = (
+        [],
+        ap changes_in same,
+        λ origin setting progress r indexed.
+            subst (λ (cs : List Change). Represents origin c.args.self.now c.args.session (g.L.ChangeLog.records c.args.log.now) (g.L.ChangeLog.clock c.args.log.now) setting (record progress { changes = cs }))
+            (sym (append-nil progress.changes)) r,
+      );
       id = refl;
       sessions = λ s r other. (refl, refl);
       others = λ other differs. refl;

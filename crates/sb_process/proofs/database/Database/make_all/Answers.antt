@@ -27,8 +27,8 @@ returns-in-Ok-clause-made g c = λ origin setting progress r indexed.
     inl (
       ap Ok (c.len-count.ensures ∙ c.args.changes.ok.0),
       subst
-      (λ (cs : List Change). Represents origin c.apply.new.self c.args.session (g.L.ChangeLog.records c.apply.new.log) (g.L.ChangeLog.clock c.apply.new.log) setting (record progress { changes = progress.changes ++ cs }))
-      c.in-Ok.ensures.changes all,
+          (λ (cs : List Change). Represents origin c.apply.new.self c.args.session (g.L.ChangeLog.records c.apply.new.log) (g.L.ChangeLog.clock c.apply.new.log) setting (record progress { changes = progress.changes ++ cs }))
+          c.in-Ok.ensures.changes all,
     )
 
 pub returns-in-Ok-clause-numbers : goal.returns-in-Ok-clause-numbers
@@ -42,7 +42,7 @@ returns-in-Err-clause-made g c = λ origin setting progress r indexed.
     inr (
       refl,
       with_room c.args.self.now c.prepare.new.tables c.args.session (g.L.ChangeLog.records c.args.log.now) (g.L.ChangeLog.records c.prepare.new.log) (g.L.ChangeLog.clock c.args.log.now)
-      (g.L.ChangeLog.clock c.prepare.new.log) setting progress origin r c.prepare.ensures.same c.prepare.ensures.records c.prepare.ensures.clock,
+          (g.L.ChangeLog.clock c.prepare.new.log) setting progress origin r c.prepare.ensures.same c.prepare.ensures.records c.prepare.ensures.clock,
     )
 
 pub returns-in-Err-clause-numbers : goal.returns-in-Err-clause-numbers

@@ -73,5 +73,5 @@ returns-clause-ran g c = λ origin setting progress r indexed.
     inl (
       ap Err (same_refusal d c.args.session records clock setting progress origin r no.0 c.in-Err.refusal no.2) ∙ ap counted (sym meant),
       subst (λ (q : Progress). Represents origin (record d { locks = c.request.new.locks }) c.args.session records clock setting q) (λ i. with_changes_of (sym meant i) (sym after i))
-      (subst (λ l. Represents origin (record d { locks = l }) c.args.session records clock setting progress) (sym c.in-Err.ensures.unchanged) r),
+          (subst (λ l. Represents origin (record d { locks = l }) c.args.session records clock setting progress) (sym c.in-Err.ensures.unchanged) r),
     )
