@@ -1,12 +1,12 @@
 -- Changes made one after another.
-use Rattle.std.proofs.Common.{◌≡◌, ◌∙◌, ℕ, ◌+◌, ◌<◌, ◌≤◌, Bool, true, false, ◌||◌, cond, nat_eq, List, [], ◌∷◌, map, length, Some, option_map, unwrap_or, refl, sym, ap, subst, arith}
+use Rattle.std.proofs.Common.{◌≡◌, ◌∙◌, ℕ, ◌+◌, ◌<◌, Bool, true, false, ◌||◌, cond, nat_eq, List, [], ◌∷◌, map, length, Some, option_map, unwrap_or, refl, sym, ap, subst, arith}
 use Rattle.sb_value.specs.declared.change.Change.{Change}
 use Rattle.sb_value.specs.declared.change.Kind.{Kind}
 use Rattle.sb_value.specs.declared.change.Kind.TheVariants.{Inserted, Deleted, Updated}
 use Rattle.sb_value.specs.declared.id.Who.{Who}
 use Rattle.sb_value.specs.Table.{Entry, IsProper, after, after_change, after_kind, fits_kind, has_table, table_at}
 use Rattle.sb_tables.specs.Stored.{Stored}
-use Rattle.sb_tables.specs.Held.{Held, entries, numbered, has_number, stored_at, stored_as, with_stored}
+use Rattle.sb_tables.specs.Held.{Held, entries, numbered, has_number, stored_at, with_stored}
 use Rattle.sb_process.specs.Made.{AreNumbered, EachBelow, NumbersBelow, tables_after, without_room}
 use Rattle.sb_process.specs.Make.{Makes}
 use Rattle.sb_process.specs.declared.ready.Ready.{Ready}

@@ -1,8 +1,7 @@
 -- A session's transaction with one change more.
-use Rattle.std.proofs.Common.{◌≡◌, ◌∙◌, ℕ, zero, suc, ◌+◌, ◌<◌, ◌≤◌, Bool, true, false, ◌&&◌, ◌||◌, cond, nat_eq, nat_lt, List, [], ◌∷◌, ◌++◌, map, filter, take, drop, length, refl, sym, ap, subst, arith, eq-eqb, true≢false}
+use Rattle.std.proofs.Common.{◌≡◌, ◌∙◌, ℕ, zero, suc, ◌+◌, ◌<◌, ◌≤◌, Bool, true, false, ◌&&◌, ◌||◌, cond, nat_eq, nat_lt, List, [], ◌∷◌, ◌++◌, map, filter, take, drop, length, refl, sym, ap, subst, arith, eq-eqb}
 use Rattle.std.proofs.lemmas.Bool.{le-ltb, lt-ltb}
 use Rattle.std.proofs.lemmas.List.{append-nil, append_assoc, length-map, take-append-drop, drop-append-le}
-use Rattle.std.specs.Prelude.{slice_index_or}
 use Rattle.std.specs.List.{list_any}
 use Rattle.sb_value.specs.declared.change.Change.{Change}
 use Rattle.sb_value.specs.declared.change.Kind.{Kind}
@@ -17,11 +16,11 @@ use Rattle.sb_value.specs.Locks.{Locks}
 use Rattle.sb_value.specs.Table.{IsTable, IsProper, table_at}
 use Rattle.sb_rawlog.specs.Changes.{author, is_by}
 use Rattle.sb_rawlog.specs.Records.{Record, before}
-use Rattle.sb_rawlog.specs.Sessions.{records_by, changes, changes_by, mark_at}
+use Rattle.sb_rawlog.specs.Sessions.{records_by, changes_by, mark_at}
 use Rattle.sb_tables.specs.Held.{Held, entries}
 use Rattle.sb_index.specs.Operation.{Operation, names, places}
 use Rattle.sb_index.specs.Operation.Operation.{insert, delete, update, update_of}
-use Rattle.sb_index.specs.Stands.{stands, triggers_of, no_table}
+use Rattle.sb_index.specs.Stands.{stands, triggers_of}
 use Rattle.sb_index.specs.TableSets.{TableSets}
 use Rattle.sb_locks.specs.Held.{held}
 use Rattle.sb_catalog.specs.declared.rule.Rule.{Rule}

@@ -1,16 +1,14 @@
-use Rattle.std.proofs.Common.{◌≡◌, ◌∙◌, ℕ, ◌+◌, ◌≤◌, List, [], ◌∷◌, ◌++◌, length, refl, sym, ap, subst, arith, append_assoc}
+use Rattle.std.proofs.Common.{◌≡◌, ◌∙◌, ℕ, ◌+◌, List, [], ◌∷◌, ◌++◌, length, refl, sym, ap, subst, arith, append_assoc}
 use Rattle.std.proofs.lemmas.List.{append-nil}
 use Rattle.std.specs.Vec.Iter.{into_iter_items}
 use Rattle.sb_value.specs.declared.change.Change.{Change}
 use Rattle.sb_value.specs.declared.id.Who.{Who}
 use Rattle.sb_value.specs.declared.lock.Mode.TheVariants.{Write}
-use Rattle.sb_tables.specs.Held.{Held}
 use Rattle.sb_locks.specs.Held.{Holders, held}
 use Rattle.sb_process.specs.declared.ready.Ready.{Ready}
 use Rattle.sb_process.specs.Made.{NumbersBelow}
 use Rattle.sb_process.specs.Ready.{AreCopied, CanApply, changes_in}
 use Rattle.sb_process.specs.Represents.{Represents, AreIndexed, who_in}
-use Rattle.sb_process.specs.Setting.{Setting, Progress}
 use Rattle.sb_process.proofs.Applying.{first_fits, others_can, below_one, none_left}
 use Rattle.sb_process.proofs.database.Database.apply.Goals as goal
 

@@ -1,11 +1,10 @@
-use Rattle.std.proofs.Common.{◌≡◌, ◌∙◌, ℕ, ◌+◌, ◌≤◌, List, ◌++◌, Ok, length, inl, inr, refl, sym, ap, subst, arith}
+use Rattle.std.proofs.Common.{◌≡◌, ◌∙◌, ◌+◌, List, ◌++◌, Ok, length, inl, inr, refl, sym, ap, subst, arith}
 use Rattle.std.proofs.lemmas.List.{length-map}
 use Rattle.sb_value.specs.declared.change.Change.{Change}
-use Rattle.sb_tables.specs.Held.{Held, entries}
+use Rattle.sb_tables.specs.Held.{entries}
 use Rattle.sb_process.specs.declared.database.Database.{Database}
 use Rattle.sb_process.specs.declared.ready.Ready.{Ready}
-use Rattle.sb_process.specs.Made.{NumbersBelow}
-use Rattle.sb_process.specs.Ready.{CanApply, changes_in}
+use Rattle.sb_process.specs.Ready.{CanApply}
 use Rattle.sb_process.specs.Represents.{Represents, who_in}
 use Rattle.sb_process.proofs.Numbers.{each-weaken}
 use Rattle.sb_process.proofs.Preparing.{can_apply, with_room, numbers_same}
