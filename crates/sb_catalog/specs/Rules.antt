@@ -1,5 +1,5 @@
 -- Rules in order of creation, and what the commands on rules do to them.
-use Rattle.std.specs.Prelude.{ℕ, zero, suc, ◌+◌, Bool, true, not, ◌==◌, nat_lt, if◌then◌else◌, List, [], ◌∷◌, ◌++◌, length, map, filter, find, Option, Some, None, option_map, Result}
+use Rattle.std.specs.Prelude.{◌≡◌, ℕ, zero, suc, ◌+◌, Bool, true, not, ◌==◌, nat_lt, if◌then◌else◌, List, [], ◌∷◌, ◌++◌, length, map, filter, find, Option, Some, None, option_map, Result}
 use Rattle.std.specs.List.{list_any}
 use Rattle.sb_value.specs.Name.{same_name}
 use Rattle.sb_value.specs.declared.refusal.Refusal.{Refusal}
@@ -80,3 +80,8 @@ set_active id active rule = if rule.id == id then record rule { active = active 
 -- the rules with one of them made active or not
 abbrev pub with_active : List Rule → ℕ → Bool → List Rule
 with_active rules id active = map (set_active id active) rules
+
+-- no two rules have one number
+abbrev pub AreNumbered : List Rule → Type 0
+AreNumbered [] = Unit {0}
+AreNumbered (r ∷ rules) = (numbered rules r.id ≡ None) × AreNumbered rules
