@@ -4,7 +4,7 @@ use Rattle.std.specs.List.{list_any, remove}
 use Rattle.std.proofs.lemmas.Bool.Decides.{nat_tests}
 use Rattle.std.proofs.lemmas.Option.{none-some, same_Some, slice_get-map}
 use Rattle.sb_catalog.specs.declared.rule.Rule.{Rule}
-use Rattle.sb_catalog.specs.Rules.{with_active, without_rule, numbered}
+use Rattle.sb_catalog.specs.Rules.{with_active, without_rule, numbered, AreFound}
 use Rattle.sb_catalog.proofs.LeastFree.{has}
 use Rattle.sb_catalog.specs.Places.{place_at, closed, AreNotedFrom}
 
@@ -131,6 +131,12 @@ numbered_none places n rules h other = by (numbered rules n) refl
 -- and where it has the number, it is that rule
 pub numbered_some : (places : List ℕ) (n : ℕ) (rules : List Rule) (r : Rule) → AreNotedFrom 0 places rules → slice_get rules (place_at places n) ≡ Some r → r.id ≡ n → numbered rules n ≡ Some r
 numbered_some places n rules r h e same = ap (numbered rules) (sym same) ∙ numbered_at places 0 (place_at places n) rules r h e
+
+-- each rule is found under its number
+pub found_all : (places : List ℕ) (all rules : List Rule) (k : ℕ) → AreNotedFrom 0 places all → ((i : ℕ) (r : Rule) → slice_get rules i ≡ Some r → slice_get all (k + i) ≡ Some r) → AreFound all rules
+found_all places all [] k h at = tt
+found_all places all (r ∷ rules) k h at =
+    (numbered_at places 0 (k + 0) all r h (at 0 r refl), found_all places all rules (k + 1) h (λ i s e. ap (slice_get all) (omega arith) ∙ at (suc i) s e))
 
 -- ---- a gap is closed
 

@@ -1,5 +1,5 @@
 -- Rules in order of creation, and what the commands on rules do to them.
-use Rattle.std.specs.Prelude.{ℕ, zero, suc, ◌+◌, Bool, true, not, ◌==◌, nat_lt, if◌then◌else◌, List, [], ◌∷◌, ◌++◌, length, map, filter, find, Option, Some, None, option_map, Result}
+use Rattle.std.specs.Prelude.{◌≡◌, ℕ, zero, suc, ◌+◌, Bool, true, not, ◌==◌, nat_lt, if◌then◌else◌, List, [], ◌∷◌, ◌++◌, length, map, filter, find, Option, Some, None, option_map, Result}
 use Rattle.std.specs.List.{list_any}
 use Rattle.sb_value.specs.Name.{same_name}
 use Rattle.sb_value.specs.declared.refusal.Refusal.{Refusal}
@@ -34,6 +34,11 @@ rule_named rules name = some_or NoRule (option_map (λ r. r.id) (named rules nam
 -- the rule of that number
 abbrev pub numbered : List Rule → ℕ → Option Rule
 numbered rules id = find (λ r. r.id == id) rules
+
+-- each of the rules is found under its number
+abbrev pub AreFound : List Rule → List Rule → Type 0
+AreFound all [] = Unit {0}
+AreFound all (r ∷ rules) = (numbered all r.id ≡ Some r) × AreFound all rules
 
 -- whether there is a rule of that name
 abbrev pub has_name : List Rule → List ℕ → Bool

@@ -3,7 +3,7 @@ ghost use Rattle.std.specs.Prelude.{◌≡◌, [], ◌∷◌, ◌++◌, IsTrue, 
 ghost use Rattle.std.specs.Option.{option_copied};
 ghost use Rattle.sb_check.specs.RulePartsView.{rule_parts};
 ghost use Rattle.sb_catalog.specs.Rules as spec;
-ghost use Rattle.sb_catalog.specs.Rules.{named, numbered, rule_named, create_refusal, created, without_rule, with_active};
+ghost use Rattle.sb_catalog.specs.Rules.{AreFound, named, numbered, rule_named, create_refusal, created, without_rule, with_active};
 ghost use Rattle.sb_catalog.specs.Uses.{is_used};
 
 use crate::mentions::rule_names;
@@ -176,6 +176,13 @@ impl Catalog {
         ensures { result.now ≡ self.now }
     {
         self.rules.values().as_slice()
+    }
+
+    /// No two rules have one number.
+    pub fn numbers_differ(&self)
+        ensures { AreFound self.now self.now }
+    {
+        let _ = &self.places;
     }
 
     /// Whether one more rule may be made.

@@ -1,7 +1,7 @@
 -- The tables in memory of a tenant, against those that a transaction began with.
 use Rattle.std.specs.Prelude.{◌≡◌, ℕ, ◌<◌, ◌==◌, if◌then◌else◌, List, [], ◌∷◌, map, IsFalse}
 use Rattle.sb_value.specs.declared.change.Change.{Change}
-use Rattle.sb_value.specs.Table.{IsProper}
+use Rattle.sb_value.specs.Table.{Entry, IsProper}
 use Rattle.sb_tables.specs.Stored.{IsStored}
 use Rattle.sb_tables.specs.Undo.{stored_after}
 use Rattle.sb_tables.specs.Held.{Held, has_number, entries}
@@ -40,6 +40,9 @@ pub record AreMade (origin : List Held) (changes : List Change) (tables : List H
   pub made : map without_room tables ≡ map without_room (tables_after_all changes origin)
 
 -- each table's next number is below n
+abbrev pub EachBelow : ℕ → List Entry → Type 0
+EachBelow n [] = Unit {0}
+EachBelow n (e ∷ tables) = (e.table.next < n) × EachBelow n tables
+
 abbrev pub NumbersBelow : ℕ → List Held → Type 0
-NumbersBelow n [] = Unit {0}
-NumbersBelow n (h ∷ tables) = (h.stored.table.next < n) × NumbersBelow n tables
+NumbersBelow n tables = EachBelow n (entries tables)

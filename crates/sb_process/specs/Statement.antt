@@ -39,7 +39,7 @@ abbrev pub Runs : List Held → Database → ℕ → Transition → Statement �
 Runs origin new session tables statement result records clock setting progress =
     ((result ≡ counted (changes_meant setting tables statement progress)) × Represents origin new session records clock setting (after_statement setting tables statement progress))
     ⊎ ((result ≡ Err NoMemory)
-      × (Represents origin new session records clock setting (after_request setting (statement_locks statement) progress) ⊎ Represents origin new session records clock setting progress))
+    × (Represents origin new session records clock setting (after_request setting (statement_locks statement) progress) ⊎ Represents origin new session records clock setting progress))
 
 -- a clock has moved on, by n at most
 abbrev pub RisesBy : ℕ → ℕ → ℕ → Type 0

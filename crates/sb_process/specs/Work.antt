@@ -41,11 +41,11 @@ AreActive eligible (rule ∷ rules) = (IsTrue (eligible rule.id) → IsTrue rule
 -- ---- the work
 
 -- a transaction, the rules, the index of the operations that trigger them, and their order
-pub record IsWork (origin : List Held) (database : Database) (session : ℕ) (records : List Record) (clock : ℕ) (index : List (List TableSets)) (rules : List Rule) (order : Ranks) (setting : Setting) (progress : Progress) : Type 0 where
+pub record IsWork (origin : List Held) (database : Database) (session : ℕ) (records : List Record) (clock : ℕ) (index : List (List TableSets)) (catalog : List Rule) (order : Ranks) (setting : Setting) (progress : Progress) : Type 0 where
   pub transaction : Represents origin database session records clock setting progress
-  pub rules : setting.rules ≡ rules
-  pub indexed : AreIndexed index database.id rules
-  pub ordered : AreOrdered order rules setting.pairs
+  pub rules : setting.rules ≡ catalog
+  pub indexed : AreIndexed index database.id catalog
+  pub ordered : AreOrdered order catalog setting.pairs
 
 -- ---- what it leaves
 
@@ -55,7 +55,7 @@ Stands origin old new session records clock setting progress (goes_on after) = R
 Stands origin old new session records clock setting progress taken_back = IsTakenBack origin old new session records setting progress
 
 -- the outcome, the verdicts in order, and what stands, as they are meant
-pub record Processes (origin : List Held) (old new : Database) (session : ℕ) (outcome : Outcome) (trace : List (ℕ × Verdict)) (records : List Record) (clock : ℕ) (setting : Setting) (progress : Progress) (meant : Processing) : Type 0 where
-  pub outcome : outcome ≡ meant.outcome
-  pub trace : trace ≡ meant.trace
+pub record Processes (origin : List Held) (old new : Database) (session : ℕ) (how : Outcome) (verdicts : List (ℕ × Verdict)) (records : List Record) (clock : ℕ) (setting : Setting) (progress : Progress) (meant : Processing) : Type 0 where
+  pub outcome : how ≡ meant.outcome
+  pub trace : verdicts ≡ meant.trace
   pub stands : Stands origin old new session records clock setting progress (standing meant)

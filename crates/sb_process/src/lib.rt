@@ -2,10 +2,14 @@
 #![tactic(auto)]
 
 mod bounds;
+mod candidates;
+mod condition;
+mod consider;
 mod database;
 mod lock_list;
 mod make;
 mod marks;
+mod note;
 mod process;
 mod request;
 mod run;

@@ -72,7 +72,7 @@ fn no_transition(alloc: Global) -> Transition
 }
 
 /// The refusal for a fault of evaluation.
-fn refusal_for(error: EvalError) -> Refusal
+pub(crate) fn refusal_for(error: EvalError) -> Refusal
     ensures { result ≡ refusal_for error }
 {
     match error {

@@ -1,5 +1,5 @@
 //! Rollback.
-ghost use Rattle.std.specs.Prelude.{◌≡◌, List, []};
+ghost use Rattle.std.specs.Prelude.{◌≡◌, ℕ, List, []};
 ghost use Rattle.sb_process.specs.Represents.{Represents, IsTransaction, IsTakenBack, who_in};
 ghost use Rattle.sb_process.specs.Setting.{Setting, Progress};
 ghost use Rattle.sb_rawlog.specs.Sessions.{changes_by, OthersStay};

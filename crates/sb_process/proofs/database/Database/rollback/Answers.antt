@@ -1,8 +1,10 @@
 use Rattle.std.proofs.Common.{◌∙◌, List, [], subst, sym, refl}
-use Rattle.sb_tables.specs.Held.{Held}
+use Rattle.sb_tables.specs.Held.{Held, entries}
 use Rattle.sb_process.specs.Made.{AreMade}
 use Rattle.sb_process.proofs.Making.{entries-made}
 use Rattle.sb_process.proofs.Settling.{same_released}
+use Rattle.sb_process.specs.Made.{EachBelow}
+use Rattle.sb_process.proofs.Numbers.{each-before}
 use Rattle.sb_process.proofs.database.Database.rollback.Goals as goal
 
 pub returns-clause-back : goal.returns-clause-back
@@ -16,3 +18,12 @@ returns-clause-back g c = λ origin setting progress r.
       locks = λ s t m. c.release.ensures s t m ∙ same_released _ progress.locks c.args.session r.locks s t m;
       sessions = λ s o other. (refl, refl);
     }
+
+pub returns-clause-numbers : goal.returns-clause-numbers
+returns-clause-numbers g c = λ n h.
+    let t = c.requires in
+    let origin : List Held = t.0 in
+    let cs = (t.2).changes in
+    let back = c.undo_all.ensures.tables origin (subst (λ l. AreMade origin l c.args.self.now.tables) (sym t.3.changes) t.3.made) in
+    subst (EachBelow n) (sym (entries-made origin [] c.undo_all.new.tables back))
+    (each-before n cs (entries origin) (subst (EachBelow n) (entries-made origin cs c.args.self.now.tables t.3.made) h))
