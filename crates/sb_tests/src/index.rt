@@ -77,6 +77,7 @@ fn candidates(rt: HostRuntime) -> Result<(), Fail> {
     for (tenant, kind, columns, expected) in rows {
         let set = index.candidates(&change(tenant, table, kind, columns));
         assert_eq!(rt; has(set), expected);
+        assert_eq!(rt; set.is_empty(), expected == [false; 3]);
     }
     index.drop_rule(TenantId::new(7), RuleId::new(0));
     let update = change(7, table, Kind::Updated, none.with(1));
