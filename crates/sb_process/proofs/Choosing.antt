@@ -1,5 +1,6 @@
 -- The rule that is considered next, as memory has it.
-use Rattle.std.proofs.Common.{◌≡◌, ◌∙◌, ℕ, ◌≤◌, Bool, true, false, ◌&&◌, cond, List, [], ◌∷◌, map, filter, drop, find, nat_eq, Option, Some, None, option_and_then, refl, sym, ap, subst}
+use Rattle.std.proofs.Common.{◌≡◌, ◌∙◌, ℕ, ◌≤◌, Bool, true, false, ◌&&◌, cond, List, [], ◌∷◌, map, filter, drop, find, nat_eq, Option, Some, None, option_and_then, Result, Ok, Err, IfOk, refl, sym, ap, subst}
+use Rattle.std.specs.declared.alloc.AllocError.{AllocError}
 use Rattle.sb_value.specs.declared.change.Change.{Change}
 use Rattle.sb_value.specs.declared.net.Transition.{Transition}
 use Rattle.sb_value.specs.Flags.{flag_at}
@@ -86,3 +87,7 @@ pub next-chosen : (set : List Bool) (eligible : ℕ → Bool) (setting : Setting
 next-chosen set eligible setting progress all ids found same listed h e =
     ap (option_and_then (numbered all)) (e ∙ ap (chosen setting.pairs) (ap (ranked set) listed ∙ ranked-candidates set eligible progress all h))
     ∙ ap (λ (rules : List Rule). option_and_then (numbered rules) (chosen setting.pairs (map (λ (rule : Rule). rule.id) (filter (is_candidate eligible progress) rules)))) (sym same)
+
+pub taken-ok : (result : Result Transition AllocError) (a b : Transition) → a ≡ b → IfOk result (λ t. t ≡ a) → IfOk result (λ t. t ≡ b)
+taken-ok (Ok t) a b e h = h ∙ e
+taken-ok (Err f) a b e h = tt

@@ -12,17 +12,19 @@ use Rattle.sb_value.specs.Table.{after_all, name_at}
 use Rattle.sb_check.specs.declared.tree.Statement.{Statement}
 use Rattle.sb_check.specs.declared.tree.Action.{Action}
 use Rattle.sb_check.specs.declared.tree.Action.TheVariants as action
+use Rattle.sb_catalog.specs.declared.rule.Rule.{Rule}
 use Rattle.sb_tables.specs.Held.{Held, has_number}
 use Rattle.sb_eval.specs.Statement.{statement_locks, statement_changes}
 use Rattle.sb_rawlog.specs.Records.{Record}
 use Rattle.sb_process.specs.declared.database.Database.{Database}
 use Rattle.sb_process.specs.declared.consider.Consideration.{Consideration}
-use Rattle.sb_process.specs.Consider.{Ending, ran, rolled_back, refused, with_changes, run_statement, run_actions, test_rows}
+use Rattle.sb_process.specs.declared.consider.Consideration.TheVariants.{False}
+use Rattle.sb_process.specs.Consider.{Ending, ran, rolled_back, refused, Considered, was_false, was_true, was_refused, with_changes, run_statement, run_actions, test_rows}
 use Rattle.sb_process.specs.Made.{AreMade, tables_after_all}
 use Rattle.sb_process.specs.Represents.{Represents, who_in}
 use Rattle.sb_process.specs.Request.{AreThere, IsAnswer, after_request}
-use Rattle.sb_process.specs.Running.{ComesTo, Tests, Acts, Ends, truth}
-use Rattle.sb_process.specs.Setting.{Setting, Progress, seen_with}
+use Rattle.sb_process.specs.Running.{ComesTo, Tests, Acts, Ends, Goes, truth}
+use Rattle.sb_process.specs.Setting.{Setting, Progress, marked, seen_with}
 use Rattle.sb_process.specs.Statement.{changes_meant, with_changes_of, after_statement, counted, Runs}
 use Rattle.sb_process.specs.View.{seen_by}
 use Rattle.sb_process.specs.Work.{AreActionsThere}
@@ -116,6 +118,17 @@ module _ (origin : List Held) (session : ℕ) (setting : Setting) (progress : Pr
 pub comes-on : (origin : List Held) (session : ℕ) (setting : Setting) (progress p q : Progress) (mid new : Database) (earlier later : List Record) (then time : ℕ) →
     ComesTo origin mid session earlier then setting progress p → ComesTo origin new session later time setting p q → ComesTo origin new session later time setting progress q
 comes-on origin session setting progress p q mid new earlier later then time a b = record { stands = b.stands; locks = λ s t m. b.locks s t m ∙ a.locks s t m }
+
+-- a mark takes no locks
+pub comes-marked : (origin : List Held) (session : ℕ) (setting : Setting) (rule : Rule) (progress p : Progress) (new : Database) (records : List Record) (clock : ℕ) →
+    ComesTo origin new session records clock setting (marked rule progress) p → ComesTo origin new session records clock setting progress p
+comes-marked origin session setting rule progress p new records clock h = record { stands = h.stands; locks = h.locks }
+
+pub tests-map : (S R : Progress → Type 0) → ((q : Progress) → S q → R q) → (tested : Result (Bool × Progress) Refusal) (result : Result Bool Refusal) → Tests S tested result ⊎ (result ≡ Err NoMemory) →
+    Tests R tested result ⊎ (result ≡ Err NoMemory)
+tests-map S R f (Ok t) result (inl h) = inl (h.0, f t.1 h.1)
+tests-map S R f (Err refusal) result (inl h) = inl h
+tests-map S R f tested result (inr h) = inr h
 
 pub ends-map : (S R : Progress → Type 0) → ((q : Progress) → S q → R q) → (ending : Ending) (result : Result Consideration Refusal) → Ends S ending result → Ends R ending result
 ends-map S R f (ran p) result h = (h.0, f p h.1)
@@ -250,3 +263,43 @@ pub ends-refused : (S : Progress → Type 0) (one all : Ending) (result : Result
     Acts S one result ⊎ (result ≡ Err NoMemory) → Ends S all (Err refusal) ⊎ ◌≡◌ {A = Result Consideration Refusal} (Err refusal) (Err NoMemory)
 ends-refused S one all result refusal e f (inl h) = inl (subst (λ (x : Ending). Ends S x (Err refusal)) (sym (f (subst (Acts S one) e h))) refl)
 ends-refused S one all result refusal e f (inr h) = inr (ap Err (refusal-of refusal NoMemory (sym e ∙ h)))
+
+-- ---- a condition before the actions
+
+tested-ok : (S : Progress → Type 0) (tested : Result (Bool × Progress) Refusal) (b : Bool) → Tests S tested (Ok b) → (q : Progress) × (S q) × (tested ≡ Ok (b, q))
+tested-ok S (Ok t) b h = let e : b ≡ t.0 = cc (h.0) in (t.1, h.1, λ i. Ok (sym e i, t.1))
+tested-ok S (Err refusal) b h = absurd (cc)
+
+module _ (setting : Setting) (tables : Transition) (rule : Rule) where
+  abbrev pub considered : Result (Bool × Progress) Refusal → Considered
+  considered tested = elim tested as (λ _. Considered) [
+    | Err refusal ↦ was_refused refusal
+    | Ok t ↦ elim t.0 as (λ _. Considered) [ true ↦ was_true (run_actions setting tables rule.actions t.1) | false ↦ was_false t.1 ]
+  ]
+
+  module _ (S : Progress → Type 0) (tested : Result (Bool × Progress) Refusal) (result : Result Bool Refusal) (h : Tests S tested result ⊎ (result ≡ Err NoMemory)) where
+    pub went : (b : Bool) → result ≡ Ok b → (q : Progress) × (S q) × (tested ≡ Ok (b, q))
+    went b e = by h
+      where
+        by : Tests S tested result ⊎ (result ≡ Err NoMemory) → (q : Progress) × (S q) × (tested ≡ Ok (b, q))
+        by (inl t) = tested-ok S tested b (subst (Tests S tested) e t)
+        by (inr n) = absurd (cc)
+
+    pub goes-false : result ≡ Ok false → Goes S (considered tested) (Ok False) ⊎ ◌≡◌ {A = Result Consideration Refusal} (Ok False) (Err NoMemory)
+    goes-false e = let w = went false e in inl (subst (λ (t : Result (Bool × Progress) Refusal). Goes S (considered t) (Ok False)) (sym w.2) (refl, w.1))
+
+    pub goes-refused : (refusal : Refusal) → result ≡ Err refusal → Goes S (considered tested) (Err refusal) ⊎ ◌≡◌ {A = Result Consideration Refusal} (Err refusal) (Err NoMemory)
+    goes-refused refusal e = by h
+      where
+        of : (t : Result (Bool × Progress) Refusal) → Tests S t (Err refusal) → Goes S (considered t) (Err refusal)
+        of (Ok t) p = absurd (let x = p.0 in cc)
+        of (Err other) p = ap Err (refusal-of refusal other p)
+
+        by : Tests S tested result ⊎ (result ≡ Err NoMemory) → Goes S (considered tested) (Err refusal) ⊎ ◌≡◌ {A = Result Consideration Refusal} (Err refusal) (Err NoMemory)
+        by (inl t) = inl (of tested (subst (Tests S tested) e t))
+        by (inr n) = inr (ap Err (refusal-of refusal NoMemory (sym e ∙ n)))
+
+    pub goes-true : (R : Progress → Type 0) (q : Progress) (last : Result Consideration Refusal) → tested ≡ Ok (true, q) → Ends R (run_actions setting tables rule.actions q) last ⊎ (last ≡ Err NoMemory) →
+        Goes R (considered tested) last ⊎ (last ≡ Err NoMemory)
+    goes-true R q last e (inl n) = inl (subst (λ (t : Result (Bool × Progress) Refusal). Goes R (considered t) last) (sym e) n)
+    goes-true R q last e (inr n) = inr n

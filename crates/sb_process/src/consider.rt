@@ -1,12 +1,12 @@
 //! One consideration of a rule.
-ghost use Rattle.std.specs.Prelude.{◌≡◌, ◌⊎◌, [], ◌∷◌, ◌-◌, ◌≤◌, ◌<◌, ◌+◌, ◌*◌, ◌^◌, ℕ, List, length};
+ghost use Rattle.std.specs.Prelude.{◌≡◌, ◌⊎◌, [], ◌∷◌, ◌-◌, ◌≤◌, ◌<◌, ◌+◌, ◌*◌, ◌^◌, ℕ, List, length, IfOk};
 ghost use Rattle.sb_rawlog.specs.Sessions.{OthersStay};
 ghost use Rattle.sb_tables.specs.Held.{Held};
 ghost use Rattle.sb_process.specs.Consider as spec;
 ghost use Rattle.sb_process.specs.Made.{NumbersBelow};
-ghost use Rattle.sb_process.specs.Represents.{who_in};
+ghost use Rattle.sb_process.specs.Represents.{Represents, who_in};
 ghost use Rattle.sb_process.specs.Running.{IsRunning, ComesTo, Acts, Ends, Goes};
-ghost use Rattle.sb_process.specs.Setting.{Setting, Progress};
+ghost use Rattle.sb_process.specs.Setting.{Setting, Progress, marked, rule_tables};
 ghost use Rattle.sb_process.specs.Statement.{RisesBy};
 ghost use Rattle.sb_process.specs.Transactions.{OtherSessionsStay};
 ghost use Rattle.sb_process.specs.Work.{AreActionsThere, IsConditionThere};
@@ -18,7 +18,7 @@ use sb_index::RuleIndex;
 use sb_net::transition_tables;
 use sb_rawlog::ChangeLog;
 use sb_value::{Refusal, SessionId, Transition, Who};
-use std::alloc::Global;
+use std::alloc::{AllocError, Global};
 
 /// What a consideration came to, where nothing is refused.
 #[derive(Drop)]
@@ -53,15 +53,10 @@ impl Database {
         ensures times { RisesBy 32768 (L.clock log.old) (L.clock log.new) }
         ensures numbers { (n : ℕ) → NumbersBelow n self.old.tables → NumbersBelow (n + 32768) self.new.tables }
     {
-        let who = Who {
-            tenant: self.id,
-            session,
-        };
-        let since = self.transactions.mark(session, rule.id);
-        let Ok(tables) = transition_tables(alloc, log, who, rule.table, rule.triggers, since) else {
+        let Ok(tables) = self.rule_tables(alloc, log, session, rule) else {
             return Err(Refusal::NoMemory);
         };
-        self.transactions.set_mark(session, rule.id, log.now());
+        self.mark_now(log, session, rule);
         match self.test(alloc, session, &tables, &rule.condition) {
             Ok(true) => {
                 self.run_actions(alloc, log, index, session, &tables, rule.actions.as_slice())
@@ -69,6 +64,35 @@ impl Database {
             Ok(false) => Ok(Consideration::False),
             Err(refusal) => Err(refusal),
         }
+    }
+
+    /// The transition tables of the session's changes since a rule's mark.
+    fn rule_tables<L: ChangeLog>(
+        &self,
+        alloc: Global,
+        log: &L,
+        session: SessionId,
+        rule: &Rule,
+    ) -> Result<Transition, AllocError>
+        ensures { (origin : List Held) (setting : Setting) (progress : Progress) → Represents origin self.now session (L.records log.now) (L.clock log.now) setting progress → IfOk result (λ tables. tables ≡ rule_tables progress rule.now) }
+    {
+        // for the proof: a time marks the changes that are older
+        let _now = log.now();
+        let who = Who {
+            tenant: self.id,
+            session,
+        };
+        let since = self.transactions.mark(session, rule.id);
+        transition_tables(alloc, log, who, rule.table, rule.triggers, since)
+    }
+
+    /// Sets a rule's mark at the end of the session's changes.
+    fn mark_now<L: ChangeLog>(&mut self, log: &L, session: SessionId, rule: &Rule)
+        ensures marked { (origin : List Held) (setting : Setting) (progress : Progress) → Represents origin self.old session (L.records log.now) (L.clock log.now) setting progress → Represents origin self.new session (L.records log.now) (L.clock log.now) setting (marked rule.now progress) }
+        ensures sessions { OtherSessionsStay self.old.transactions self.new.transactions session }
+        ensures only_marks { self.new ≡ record self.old { transactions = self.new.transactions } }
+    {
+        self.transactions.set_mark(session, rule.id, log.now());
     }
 
     /// Runs actions in order, up to a `rollback` or a refusal.
