@@ -303,3 +303,10 @@ module _ (setting : Setting) (tables : Transition) (rule : Rule) where
         Goes R (considered tested) last ⊎ (last ≡ Err NoMemory)
     goes-true R q last e (inl n) = inl (subst (λ (t : Result (Bool × Progress) Refusal). Goes R (considered t) last) (sym e) n)
     goes-true R q last e (inr n) = inr n
+
+-- a mark and locks leave the tables and the number of the tenant
+pub same-id : (old mid new : Database) → mid ≡ record old { transactions = mid.transactions } → new ≡ record mid { locks = new.locks } → old.id ≡ new.id
+same-id old mid new a b = sym (ap (λ (d : Database). d.id) b ∙ ap (λ (d : Database). d.id) a)
+
+pub same-held : (old mid new : Database) → mid ≡ record old { transactions = mid.transactions } → new ≡ record mid { locks = new.locks } → old.tables ≡ new.tables
+same-held old mid new a b = sym (ap (λ (d : Database). d.tables) b ∙ ap (λ (d : Database). d.tables) a)
