@@ -1,5 +1,5 @@
 -- Processing, consideration by consideration.
-use Rattle.std.proofs.Common.{◌≡◌, ◌≢◌, ◌∙◌, ◌⊎◌, inl, inr, ℕ, zero, suc, ◌+◌, ◌*◌, ◌≤◌, ◌<◌, Bool, true, false, nat_eq, cond, List, [], ◌∷◌, ◌++◌, length, find, Option, Some, None, option_and_then, Result, Ok, Err, IfOk, OnOk, refl, sym, ap, subst, arith, append_assoc, append-nil}
+use Rattle.std.proofs.Common.{◌≡◌, ◌≢◌, ◌∙◌, ◌⊎◌, inl, inr, ℕ, zero, suc, ◌+◌, ◌*◌, ◌≤◌, ◌<◌, Bool, true, false, nat_eq, cond, List, [], ◌∷◌, ◌++◌, length, map, filter, find, Option, Some, None, option_and_then, Result, Ok, Err, IfOk, OnOk, refl, sym, ap, subst, arith, append_assoc, append-nil}
 use Rattle.std.proofs.lemmas.Option.{none-some, same_Some}
 use Rattle.std.specs.declared.alloc.AllocError.{AllocError}
 use Rattle.sb_value.specs.declared.id.Who.{Who}
@@ -24,11 +24,11 @@ use Rattle.sb_process.specs.declared.database.Database.{Database}
 use Rattle.sb_process.specs.Consider.{ran, rolled_back, refused, Considered, was_false, was_true, was_refused, consider}
 use Rattle.sb_process.specs.Process.{Processing, ended, after_verdict, process}
 use Rattle.sb_process.specs.Represents.{AreIndexed, who_in}
-use Rattle.sb_process.specs.Running.{ComesTo, Goes, Notes, Finds, outcome_noted, verdict_noted, verdict_of, outcome_of, left_by}
-use Rattle.sb_process.specs.Setting.{Setting, Progress, next_rule}
+use Rattle.sb_process.specs.Running.{IsRunning, ComesTo, Goes, Notes, Finds, outcome_noted, verdict_noted, verdict_of, outcome_of, left_by}
+use Rattle.sb_process.specs.Setting.{Setting, Progress, is_candidate, next_rule}
 use Rattle.sb_process.specs.Transactions.{Kept, OtherSessionsStay}
 use Rattle.sb_process.specs.Work.{CanRun, IsConditionThere, AreActionsThere, IsWork}
-use Rattle.sb_process.proofs.Running.{there-same, actions-there}
+use Rattle.sb_process.proofs.Running.{there-same, actions-there, same-numbers}
 
 -- ---- a verdict
 
@@ -158,3 +158,54 @@ module _ (setting : Setting) (eligible : ℕ → Bool) (progress : Progress) (al
       meant = whole ∙ ap (behind r.noted) (none-left setting eligible n r.after rule (consider setting rule r.after) (sym h.outcome ∙ is))
           ∙ behind-more r.noted (rule.id, verdict_of (consider setting rule r.after)) (process n setting eligible (left_by r.after (consider setting rule r.after)));
     }
+
+-- ---- the work goes on
+
+pub sessions-on : (a b c : Kept) (session : ℕ) → OtherSessionsStay a b session → OtherSessionsStay b c session → OtherSessionsStay a c session
+sessions-on a b c session f h s r other = ((h s r other).0 ∙ (f s r other).0, (h s r other).1 ∙ (f s r other).1)
+
+pub others-on : (session : ℕ) (old mid : Database) (a b c : List Record) → mid.id ≡ old.id → OthersStay (who_in old session) a b → OthersStay (who_in mid session) b c → OthersStay (who_in old session) a c
+others-on session old mid a b c same f h = λ other differs. h other (λ e. differs (e ∙ ap (λ (id : ℕ). record { tenant = id; session = session }) same)) ∙ f other differs
+
+-- the rule that is next is in the catalog
+found-can-run : (tables : List Held) (rules : List Rule) (id : ℕ) (rule : Rule) → numbered rules id ≡ Some rule → CanRun tables rules →
+    IsConditionThere tables rule.condition × AreActionsThere tables rule.actions × (length rule.actions ≤ 8)
+found-can-run tables [] id rule e h = absurd (none-some rule e)
+found-can-run tables (r ∷ rules) id rule e h = by (nat_eq r.id id) e (λ p. found-can-run tables rules id rule p h.1)
+  where
+    by : (b : Bool) → cond b (Some r) (numbered rules id) ≡ Some rule → (numbered rules id ≡ Some rule → IsConditionThere tables rule.condition × AreActionsThere tables rule.actions × (length rule.actions ≤ 8)) →
+        IsConditionThere tables rule.condition × AreActionsThere tables rule.actions × (length rule.actions ≤ 8)
+    by true p rest = subst (λ (x : Rule). IsConditionThere tables x.condition × AreActionsThere tables x.actions × (length x.actions ≤ 8)) (same_Some r rule p) h.0
+    by false p rest = rest p
+
+and-then-some : (f : ℕ → Option Rule) (o : Option ℕ) (rule : Rule) → option_and_then f o ≡ Some rule → (id : ℕ) × (f id ≡ Some rule)
+and-then-some f None rule e = absurd (none-some rule e)
+and-then-some f (Some id) rule e = (id, e)
+
+condition-there : (old new : List Held) → ((id : ℕ) → has_number new id ≡ has_number old id) → (condition : Option Query) → IsConditionThere old condition → IsConditionThere new condition
+condition-there old new e None h = tt
+condition-there old new e (Some q) h = there-same old new e (query_locks q) h
+
+module _ (origin : List Held) (session : ℕ) (index : List (List TableSets)) (catalog : List Rule) (order : Ranks) (setting : Setting) (progress : Progress) (d : Database) (records : List Record) (clock : ℕ)
+  (w : IsWork origin d session records clock index catalog order setting progress) where
+  pub running-of : IsRunning origin d session records clock index setting progress
+  running-of = record { transaction = w.transaction; indexed = subst (AreIndexed index d.id) (sym w.rules) w.indexed }
+
+  module _ (new : Database) (later : List Record) (time : ℕ) (after : Progress) (k : ComesTo origin new session later time setting progress after) where
+    pub work-after : new.id ≡ d.id → IsWork origin new session later time index catalog order setting after
+    work-after same = record { transaction = k.stands; rules = w.rules; indexed = subst (λ (id : ℕ). AreIndexed index id catalog) (sym same) w.indexed; ordered = w.ordered }
+
+    -- a look at the candidates changes neither tables nor locks
+    pub comes-looked : (looked : Database) → IsWork origin looked session later time index catalog order setting after → ComesTo origin looked session later time setting progress after
+    comes-looked looked v = record { stands = v.transaction; locks = k.locks }
+
+    pub rule-can-run : (eligible : ℕ → Bool) (rule : Rule) → next_rule setting eligible after ≡ Some rule → CanRun d.tables catalog →
+        IsConditionThere new.tables rule.condition × AreActionsThere new.tables rule.actions × (length rule.actions ≤ 8)
+    rule-can-run eligible rule e h =
+        let found = and-then-some (numbered setting.rules) (chosen setting.pairs (map (λ (x : Rule). x.id) (filter (is_candidate eligible after) setting.rules))) rule e in
+        let can = found-can-run d.tables catalog found.0 rule (ap (λ (rules : List Rule). numbered rules found.0) (sym w.rules) ∙ found.1) h in
+        let same = same-numbers origin session setting progress d records clock w.transaction new later time after k in
+        (condition-there d.tables new.tables same rule.condition can.0, actions-there d.tables new.tables same rule.actions can.1, can.2)
+
+pub if-ok : {A : Type 0} (P : A → Type 0) (r : Result A AllocError) (x : A) → r ≡ Ok x → IfOk r P → P x
+if-ok P r x e h = subst (λ s. IfOk s P) e h
