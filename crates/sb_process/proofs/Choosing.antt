@@ -39,7 +39,7 @@ module _ (origin : List Held) (d : Database) (session : ℕ) (records : List Rec
     has-candidates [] f a h = tt
     has-candidates (rule ∷ rules) f a h = (
       by (flag_at set rule.id) (is_candidate_of new session rule.id) (flag_at eligible rule.id) (rule_is_triggered progress rule) (s.are_candidates rule.id)
-      (λ is. sym (hit-found rule f.0) ∙ s.are_hit rule.id is) (λ l t. s.stay rule.id (hit-found rule f.0 ∙ t) ∙ h.0 (a.0 l) t),
+          (λ is. sym (hit-found rule f.0) ∙ s.are_hit rule.id is) (λ l t. s.stay rule.id (hit-found rule f.0 ∙ t) ∙ h.0 (a.0 l) t),
       has-candidates rules f.1 a.1 h.1,
     )
       where

@@ -50,8 +50,8 @@ drop-all [] = refl
 drop-all (c ∷ cs) = drop-all cs
 
 module _ (origin : List Held) (d : Database) (session : ℕ) (records : List Record) (clock : ℕ) (setting : Setting) (progress : Progress) (r : Represents origin d session records clock setting progress)
-  (rising : Rising 0 records clock) (rule : Rule) (new : Kept) (marks : (s x : ℕ) → mark_of new s x ≡ cond ((nat_eq s session) && (nat_eq x rule.id)) clock (mark_of d.transactions s x))
-  (candidates : (s x : ℕ) → is_candidate_of new s x ≡ is_candidate_of d.transactions s x) where
+    (rising : Rising 0 records clock) (rule : Rule) (new : Kept) (marks : (s x : ℕ) → mark_of new s x ≡ cond ((nat_eq s session) && (nat_eq x rule.id)) clock (mark_of d.transactions s x))
+    (candidates : (s x : ℕ) → is_candidate_of new s x ≡ is_candidate_of d.transactions s x) where
   -- the session's own mark of a rule
   own-mark : (x : ℕ) → mark_of new session x ≡ cond (nat_eq x rule.id) clock (mark_of d.transactions session x)
   own-mark x = marks session x ∙ ap (λ (b : Bool). cond (b && (nat_eq x rule.id)) clock (mark_of d.transactions session x)) (eq-eqb session session refl)

@@ -19,6 +19,7 @@ each-after n c (e ∷ tables) h = (by (nat_eq e.id c.table) h.0, each-after n c 
     of Inserted l = omega (arith, l)
     of Deleted l = l
     of Updated l = l
+
     by : (b : Bool) → (cond b (record e { table = after_change c e.table }) e).table.next < n → e.table.next < n
     by true l = of c.kind l
     by false l = l

@@ -22,12 +22,12 @@ use Rattle.sb_process.specs.declared.Outcome.TheVariants.{Done, ByRule, ByError,
 use Rattle.sb_process.specs.declared.consider.Consideration.{Consideration}
 use Rattle.sb_process.specs.declared.database.Database.{Database}
 use Rattle.sb_process.specs.Consider.{ran, rolled_back, refused, Considered, was_false, was_true, was_refused, consider}
-use Rattle.sb_process.specs.Process.{Processing, ended, after_verdict, process}
-use Rattle.sb_process.specs.Represents.{AreIndexed, who_in}
-use Rattle.sb_process.specs.Running.{IsRunning, ComesTo, Goes, Notes, Finds, outcome_noted, verdict_noted, verdict_of, outcome_of, left_by}
+use Rattle.sb_process.specs.Process.{Processing, ended, after_verdict, process, stands_after}
+use Rattle.sb_process.specs.Represents.{Represents, IsTakenBack, AreIndexed, who_in}
+use Rattle.sb_process.specs.Running.{IsRunning, ComesTo, Goes, Notes, Finds, outcome_noted, verdict_noted, verdict_of, outcome_of, left_by, is_done}
 use Rattle.sb_process.specs.Setting.{Setting, Progress, is_candidate, next_rule}
 use Rattle.sb_process.specs.Transactions.{Kept, OtherSessionsStay}
-use Rattle.sb_process.specs.Work.{CanRun, IsConditionThere, AreActionsThere, IsWork}
+use Rattle.sb_process.specs.Work.{CanRun, IsConditionThere, AreActionsThere, IsWork, Stands, Processes}
 use Rattle.sb_process.proofs.Running.{there-same, actions-there, same-numbers}
 
 -- ---- a verdict
@@ -135,7 +135,7 @@ module _ (setting : Setting) (eligible : ℕ → Bool) (progress : Progress) (al
 
   -- a rule is considered
   module _ (rule : Rule) (e : next_rule setting eligible r.after ≡ Some rule) (n : ℕ) (more : left ≡ suc n) (new : List (ℕ × Verdict)) (R : Progress → Type 0) (ending : Option Outcome)
-    (h : Notes R rule.id r.after (consider setting rule r.after) mid new ending) where
+      (h : Notes R rule.id r.after (consider setting rule r.after) mid new ending) where
     whole : process all setting eligible progress ≡ behind r.noted (goes_on setting eligible n r.after rule (consider setting rule r.after))
     whole = r.meant ∙ ap (λ (k : ℕ). behind r.noted (process k setting eligible r.after)) more ∙ ap (behind r.noted) (some-next setting eligible n r.after rule e)
 
@@ -187,7 +187,7 @@ condition-there old new e None h = tt
 condition-there old new e (Some q) h = there-same old new e (query_locks q) h
 
 module _ (origin : List Held) (session : ℕ) (index : List (List TableSets)) (catalog : List Rule) (order : Ranks) (setting : Setting) (progress : Progress) (d : Database) (records : List Record) (clock : ℕ)
-  (w : IsWork origin d session records clock index catalog order setting progress) where
+    (w : IsWork origin d session records clock index catalog order setting progress) where
   pub running-of : IsRunning origin d session records clock index setting progress
   running-of = record { transaction = w.transaction; indexed = subst (AreIndexed index d.id) (sym w.rules) w.indexed }
 
@@ -209,3 +209,45 @@ module _ (origin : List Held) (session : ℕ) (index : List (List TableSets)) (c
 
 pub if-ok : {A : Type 0} (P : A → Type 0) (r : Result A AllocError) (x : A) → r ≡ Ok x → IfOk r P → P x
 if-ok P r x e h = subst (λ s. IfOk s P) e h
+
+-- ---- the end
+
+pub done-is : (o : Outcome) → is_done o ≡ true → o ≡ Done
+done-is Done e = refl
+done-is (ByRule r) e = absurd (cc)
+done-is (ByError r f) e = absurd (cc)
+done-is ByLimit e = absurd (cc)
+
+module _ (origin : List Held) (old new : Database) (session : ℕ) (records : List Record) (clock : ℕ) (setting : Setting) (progress : Progress) where
+  pub taken-back : (mid : Database) (earlier : List Record) (time : ℕ) (after : Progress) → ComesTo origin mid session earlier time setting progress after → mid.id ≡ old.id → OtherSessionsStay old.transactions mid.transactions session →
+      IsTakenBack origin mid new session records setting after → IsTakenBack origin old new session records setting progress
+  taken-back mid earlier time after k same f b = record {
+    id = b.id ∙ same;
+    none = b.none;
+    tables = b.tables;
+    made = b.made;
+    locks = λ s t m. b.locks s t m ∙ k.locks s t m;
+    sessions = sessions-on old.transactions mid.transactions new.transactions session f b.sessions;
+  }
+
+  stands-back : (o : Outcome) (p : Progress) → is_done o ≡ false → IsTakenBack origin old new session records setting progress → Stands origin old new session records clock setting progress (stands_after o p)
+  stands-back Done p e h = absurd (cc)
+  stands-back (ByRule r) p e h = h
+  stands-back (ByError r f) p e h = h
+  stands-back ByLimit p e h = h
+
+  pub processes-done : (S : Progress → Type 0) (meant : Processing) (verdicts empty : List (ℕ × Verdict)) (o : Outcome) → empty ≡ [] → ((q : Progress) → S q → Represents origin new session records clock setting q) →
+      is_done o ≡ true → Finds S meant empty verdicts o → Processes origin old new session o verdicts records clock setting progress meant
+  processes-done S meant verdicts empty o none f d h = record {
+    outcome = h.outcome;
+    trace = h.trace ∙ ap (λ l. l ++ meant.trace) none;
+    stands = subst (λ (x : Outcome). Stands origin old new session records clock setting progress (stands_after x meant.progress)) (sym (done-is o d) ∙ h.outcome) (f meant.progress (h.comes_to (done-is o d)));
+  }
+
+  pub processes-back : (S : Progress → Type 0) (meant : Processing) (verdicts empty : List (ℕ × Verdict)) (o : Outcome) → empty ≡ [] → is_done o ≡ false → IsTakenBack origin old new session records setting progress →
+      Finds S meant empty verdicts o → Processes origin old new session o verdicts records clock setting progress meant
+  processes-back S meant verdicts empty o none d b h = record {
+    outcome = h.outcome;
+    trace = h.trace ∙ ap (λ l. l ++ meant.trace) none;
+    stands = stands-back meant.outcome meant.progress (ap is_done (sym h.outcome) ∙ d) b;
+  }

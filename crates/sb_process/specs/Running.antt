@@ -12,7 +12,7 @@ use Rattle.sb_eval.specs.Meaning.{has_row}
 use Rattle.sb_rawlog.specs.Records.{Record}
 use Rattle.sb_process.specs.declared.database.Database.{Database}
 use Rattle.sb_process.specs.declared.Outcome.{Outcome}
-use Rattle.sb_process.specs.declared.Outcome.TheVariants.{Done, ByRule, ByError}
+use Rattle.sb_process.specs.declared.Outcome.TheVariants.{Done, ByRule, ByError, ByLimit}
 use Rattle.sb_process.specs.declared.consider.Consideration.{Consideration}
 use Rattle.sb_process.specs.declared.consider.Consideration.TheVariants as consideration
 use Rattle.sb_process.specs.Represents.{Represents, AreIndexed}
@@ -105,6 +105,13 @@ pub record Notes (stands : Progress → Type 0) (rule : ℕ) (progress : Progres
   pub outcome : ending ≡ outcome_of rule meant
   pub verdict : new ≡ old ++ (rule, verdict_of meant) ∷ []
   pub comes_to : ending ≡ None → stands (left_by progress meant)
+
+-- whether the transaction goes on
+abbrev pub is_done : Outcome → Bool
+is_done Done = true
+is_done (ByRule rule) = false
+is_done (ByError rule refusal) = false
+is_done ByLimit = false
 
 -- the outcome and the verdicts of processing, and where it is done, what the transaction has come to
 pub record Finds (stands : Progress → Type 0) (meant : Processing) (old new : List (ℕ × Verdict)) (how : Outcome) : Type 0 where

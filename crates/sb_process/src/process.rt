@@ -6,7 +6,7 @@ ghost use Rattle.sb_tables.specs.Held.{Held};
 ghost use Rattle.sb_process.specs.Made.{NumbersBelow};
 ghost use Rattle.sb_process.specs.Process as spec;
 ghost use Rattle.sb_process.specs.Represents.{IsTakenBack, who_in};
-ghost use Rattle.sb_process.specs.Running.{ComesTo, Finds};
+ghost use Rattle.sb_process.specs.Running.{ComesTo, Finds, is_done};
 ghost use Rattle.sb_process.specs.Setting.{Setting, Progress};
 ghost use Rattle.sb_process.specs.Statement.{RisesBy};
 ghost use Rattle.sb_process.specs.Transactions.{OtherSessionsStay};
@@ -27,6 +27,20 @@ pub struct Rules<'a> {
     pub catalog: &'a Catalog,
     pub index: &'a RuleIndex,
     pub order: &'a Priorities,
+}
+
+impl Outcome {
+    /// Whether no rule is left.
+    fn is_done(&self) -> bool
+        ensures { result ≡ is_done self.now }
+    {
+        match self {
+            Outcome::Done => true,
+            Outcome::ByRule(_) => false,
+            Outcome::ByError(_, _) => false,
+            Outcome::ByLimit => false,
+        }
+    }
 }
 
 impl Database {
@@ -56,11 +70,13 @@ impl Database {
     {
         let mut list = Vec::new(alloc);
         match self.consider_all(alloc, log, rules, session, eligible, bound, &mut list) {
-            Ok(Outcome::Done) => Ok(Processed {
-                outcome: Outcome::Done,
-                trace: Trace { list },
-            }),
             Ok(outcome) => {
+                if outcome.is_done() {
+                    return Ok(Processed {
+                        outcome,
+                        trace: Trace { list },
+                    });
+                }
                 self.rollback(log, session);
                 Ok(Processed {
                     outcome,

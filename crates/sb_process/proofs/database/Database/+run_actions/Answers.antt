@@ -28,18 +28,31 @@ run_actions-requires g t c = λ κs le.
     let n = c.requires.numbers in
     let e = whole c.args.actions.now c.first-item.result c.in-len1-up.len_at_least c.first-item.is in
     let l : length c.args.actions.now ≡ suc (length (take (length c.args.actions.now - 1) (drop 1 c.args.actions.now))) = ap length e in
-    let times = c.run_action.ensures.times in
-    (search rules, (le,
-      ((w.0, w.1, come.0, record {
-        transaction = come.1.stands;
-        indexed = subst (λ id. AreIndexed c.args.index.now id (w.1).rules) (sym c.run_action.ensures.id) w.3.indexed;
-      }),
-        (actions-there c.args.self.now.tables c.run_action.new.self.tables
-        (same-numbers w.0 c.args.session w.1 w.2 c.args.self.now (g.L.ChangeLog.records c.args.log.now) (g.L.ChangeLog.clock c.args.log.now) w.3.transaction c.run_action.new.self
-        (g.L.ChangeLog.records c.run_action.new.log) (g.L.ChangeLog.clock c.run_action.new.log) come.0 come.1)
-        (take (length c.args.actions.now - 1) (drop 1 c.args.actions.now))
-        (rest-there c.args.self.now.tables c.first-item.result (take (length c.args.actions.now - 1) (drop 1 c.args.actions.now)) (subst (AreActionsThere c.args.self.now.tables) e c.requires.actions)),
-          (omega (arith, l, times.1, c.requires.times), (n.0 + 4096, omega (arith, l, n.1), c.run_action.ensures.numbers n.0 n.2))))))
+    let times = c.run_action.ensures.times in (
+      search rules,
+      (
+        le,
+        (
+          (
+            w.0,
+            w.1,
+            come.0,
+            record {
+              transaction = come.1.stands;
+              indexed = subst (λ id. AreIndexed c.args.index.now id (w.1).rules) (sym c.run_action.ensures.id) w.3.indexed;
+            },
+          ),
+          (
+            actions-there c.args.self.now.tables c.run_action.new.self.tables
+                (same-numbers w.0 c.args.session w.1 w.2 c.args.self.now (g.L.ChangeLog.records c.args.log.now) (g.L.ChangeLog.clock c.args.log.now) w.3.transaction c.run_action.new.self
+                (g.L.ChangeLog.records c.run_action.new.log) (g.L.ChangeLog.clock c.run_action.new.log) come.0 come.1)
+                (take (length c.args.actions.now - 1) (drop 1 c.args.actions.now))
+                (rest-there c.args.self.now.tables c.first-item.result (take (length c.args.actions.now - 1) (drop 1 c.args.actions.now)) (subst (AreActionsThere c.args.self.now.tables) e c.requires.actions)),
+            (omega (arith, l, times.1, c.requires.times), (n.0 + 4096, omega (arith, l, n.1), c.run_action.ensures.numbers n.0 n.2)),
+          ),
+        ),
+      ),
+    )
 
 -- the others begin with what the first one came to
 pub returns-in-Ok-true-clause-ran : goal.returns-in-Ok-true-clause-ran
@@ -66,9 +79,11 @@ returns-in-Ok-true-clause-under_way g t c = λ origin setting progress w.
     let mid = c.run_action.new in let new = c.run_actions.new in
     let one = c.run_action.ensures.under_way origin setting progress w in
     let all = c.run_actions.ensures.under_way origin setting one.0
-    (record { transaction = (one.1).stands; indexed = subst (λ id. AreIndexed c.args.index.now id setting.rules) (sym c.run_action.ensures.id) w.indexed }) in
-    (all.0, comes-on origin session setting progress one.0 all.0 mid.self new.self (g.L.ChangeLog.records mid.log) (g.L.ChangeLog.records new.log) (g.L.ChangeLog.clock mid.log) (g.L.ChangeLog.clock new.log)
-    one.1 all.1)
+    (record { transaction = (one.1).stands; indexed = subst (λ id. AreIndexed c.args.index.now id setting.rules) (sym c.run_action.ensures.id) w.indexed }) in (
+      all.0,
+      comes-on origin session setting progress one.0 all.0 mid.self new.self (g.L.ChangeLog.records mid.log) (g.L.ChangeLog.records new.log) (g.L.ChangeLog.clock mid.log) (g.L.ChangeLog.clock new.log)
+          one.1 all.1,
+    )
 
 pub returns-in-Ok-true-clause-numbers : goal.returns-in-Ok-true-clause-numbers
 returns-in-Ok-true-clause-numbers g t c = λ n h.

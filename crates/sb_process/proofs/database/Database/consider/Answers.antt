@@ -25,11 +25,15 @@ run_actions-requires-clause-running g c =
     let records = g.L.ChangeLog.records c.args.log.now in
     let clock = g.L.ChangeLog.clock c.args.log.now in
     let m = c.mark_now.ensures.marked w.0 w.1 w.2 w.3.transaction in
-    let come = c.test.ensures.under_way w.0 records clock w.1 (marked c.args.rule.now w.2) m in
-    (w.0, w.1, come.0, record {
-      transaction = (come.1).stands;
-      indexed = subst (λ id. AreIndexed c.args.index.now id (w.1).rules) (same-id c.args.self.now c.mark_now.new.self c.test.new.self c.mark_now.ensures.only_marks c.test.ensures.only_locks) w.3.indexed;
-    })
+    let come = c.test.ensures.under_way w.0 records clock w.1 (marked c.args.rule.now w.2) m in (
+      w.0,
+      w.1,
+      come.0,
+      record {
+        transaction = (come.1).stands;
+        indexed = subst (λ id. AreIndexed c.args.index.now id (w.1).rules) (same-id c.args.self.now c.mark_now.new.self c.test.new.self c.mark_now.ensures.only_marks c.test.ensures.only_locks) w.3.indexed;
+      },
+    )
 
 pub returns-in-Ok-true-clause-considered : goal.returns-in-Ok-true-clause-considered
 returns-in-Ok-true-clause-considered g c = λ origin setting progress w.
@@ -64,9 +68,11 @@ returns-in-Ok-true-clause-under_way g c = λ origin setting progress w.
     let all = c.run_actions.ensures.under_way origin setting one.0 (record {
       transaction = (one.1).stands;
       indexed = subst (λ id. AreIndexed c.args.index.now id setting.rules) (same-id c.args.self.now c.mark_now.new.self mid c.mark_now.ensures.only_marks c.test.ensures.only_locks) w.indexed;
-    }) in
-    (all.0, comes-on origin session setting progress one.0 all.0 mid new.self records (g.L.ChangeLog.records new.log) clock (g.L.ChangeLog.clock new.log)
-    (comes-marked origin session setting rule progress one.0 mid records clock one.1) all.1)
+    }) in (
+      all.0,
+      comes-on origin session setting progress one.0 all.0 mid new.self records (g.L.ChangeLog.records new.log) clock (g.L.ChangeLog.clock new.log)
+          (comes-marked origin session setting rule progress one.0 mid records clock one.1) all.1,
+    )
 
 pub returns-in-Ok-true-clause-numbers : goal.returns-in-Ok-true-clause-numbers
 returns-in-Ok-true-clause-numbers g c = λ n h.

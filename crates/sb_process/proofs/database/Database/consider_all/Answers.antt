@@ -123,9 +123,11 @@ consider_noted-requires-clause-few g c =
 
 pub consider_noted-requires-clause-numbers : goal.consider_noted-requires-clause-numbers
 consider_noted-requires-clause-numbers g c =
-    let n = 9223372036854775808 + 32768 * c.loop-turn._turn in
-    (n, omega (arith, c.loop-turn-test.true, c.ranges.bound.fits),
-      subst (λ (d : Database). EachBelow n (entries d.tables)) (sym c.next_rule.ensures.only_candidates) (c.loop-turn.invariant.numbers 9223372036854775808 c.requires.numbers))
+    let n = 9223372036854775808 + 32768 * c.loop-turn._turn in (
+      n,
+      omega (arith, c.loop-turn-test.true, c.ranges.bound.fits),
+      subst (λ (d : Database). EachBelow n (entries d.tables)) (sym c.next_rule.ensures.only_candidates) (c.loop-turn.invariant.numbers 9223372036854775808 c.requires.numbers),
+    )
 
 pub returns-in-Ok-Some-clause-processed : goal.returns-in-Ok-Some-clause-processed
 returns-in-Ok-Some-clause-processed g c = λ origin setting progress w.
@@ -204,25 +206,25 @@ loop-turn-preserved g c =
     let same = ap (λ (d : Database). d.id) c.next_rule.ensures.only_candidates ∙ inv.id in
     record {
       reached = λ origin setting progress w.
-        let session = c.args.session in let index = c.args.rules.now.index.now in let catalog = c.args.rules.now.catalog.now in let order = c.args.rules.now.order.now in
-        let eligible = flag_at c.args.eligible in let bound = c.args.bound in let turn = c.loop-turn._turn in
-        let start = c.args.self.now in let records = g.L.ChangeLog.records c.args.log.now in let clock = g.L.ChangeLog.clock c.args.log.now in
-        let now = c.loop-turn.self in let later = g.L.ChangeLog.records c.loop-turn.log in let time = g.L.ChangeLog.clock c.loop-turn.log in
-        let looked = c.next_rule.new.self in
-        let r = c.loop-turn.invariant.reached origin setting progress w in
-        let M = λ (q : Progress). ComesTo origin now session later time setting progress q in
-        let L = λ (q : Progress). ComesTo origin looked session later time setting progress q in
-        let w0 = work-after origin session index catalog order setting progress start records clock w now later time r.after r.comes_to c.loop-turn.invariant.id in
-        let w1 = c.next_rule.ensures.work origin setting r.after w0 in
-        let k = comes-looked origin session index catalog order setting progress start records clock w now later time r.after r.comes_to looked w1 in
-        let new = c.consider_noted.new in let last = g.L.ChangeLog.records new.log in let end = g.L.ChangeLog.clock new.log in
-        let S = λ (q : Progress). ComesTo origin new.self session last end setting progress q in
-        let R = λ (q : Progress). ComesTo origin new.self session last end setting r.after q in
-        let rule : Rule = c.in-Some.rule.now in
-        let e = sym (c.next_rule.ensures.next origin setting r.after w0) ∙ ap option_copied c.in-Some.is in
-        let more : bound - turn ≡ suc (bound - (turn + 1)) = omega (arith, c.loop-turn-test.true) in
-        let notes = if-ok (λ (o : Option Outcome). Notes R rule.id r.after (consider setting rule r.after) c.loop-turn.trace.items new.trace.items o) c.consider_noted.result c.in-Ok-None.field-0 c.in-Ok-None.is
-        (c.consider_noted.ensures.noted origin setting r.after (running-of origin session index catalog order setting r.after looked later time w1)) in
+          let session = c.args.session in let index = c.args.rules.now.index.now in let catalog = c.args.rules.now.catalog.now in let order = c.args.rules.now.order.now in
+          let eligible = flag_at c.args.eligible in let bound = c.args.bound in let turn = c.loop-turn._turn in
+          let start = c.args.self.now in let records = g.L.ChangeLog.records c.args.log.now in let clock = g.L.ChangeLog.clock c.args.log.now in
+          let now = c.loop-turn.self in let later = g.L.ChangeLog.records c.loop-turn.log in let time = g.L.ChangeLog.clock c.loop-turn.log in
+          let looked = c.next_rule.new.self in
+          let r = c.loop-turn.invariant.reached origin setting progress w in
+          let M = λ (q : Progress). ComesTo origin now session later time setting progress q in
+          let L = λ (q : Progress). ComesTo origin looked session later time setting progress q in
+          let w0 = work-after origin session index catalog order setting progress start records clock w now later time r.after r.comes_to c.loop-turn.invariant.id in
+          let w1 = c.next_rule.ensures.work origin setting r.after w0 in
+          let k = comes-looked origin session index catalog order setting progress start records clock w now later time r.after r.comes_to looked w1 in
+          let new = c.consider_noted.new in let last = g.L.ChangeLog.records new.log in let end = g.L.ChangeLog.clock new.log in
+          let S = λ (q : Progress). ComesTo origin new.self session last end setting progress q in
+          let R = λ (q : Progress). ComesTo origin new.self session last end setting r.after q in
+          let rule : Rule = c.in-Some.rule.now in
+          let e = sym (c.next_rule.ensures.next origin setting r.after w0) ∙ ap option_copied c.in-Some.is in
+          let more : bound - turn ≡ suc (bound - (turn + 1)) = omega (arith, c.loop-turn-test.true) in
+          let notes = if-ok (λ (o : Option Outcome). Notes R rule.id r.after (consider setting rule r.after) c.loop-turn.trace.items new.trace.items o) c.consider_noted.result c.in-Ok-None.field-0 c.in-Ok-None.is
+          (c.consider_noted.ensures.noted origin setting r.after (running-of origin session index catalog order setting r.after looked later time w1)) in
           reaches-more setting eligible progress bound (bound - turn) c.args.trace.now.items c.loop-turn.trace.items M r rule e (bound - (turn + 1)) more new.trace.items R c.in-Ok-None.field-0 notes S (λ q h. comes-on origin session setting progress r.after q looked new.self later last time end k h) c.in-Ok-None.field-0-is;
       id = c.consider_noted.ensures.id ∙ same;
       sessions = sessions-on c.args.self.now.transactions c.next_rule.new.self.transactions c.consider_noted.new.self.transactions c.args.session

@@ -20,11 +20,13 @@ returns-in-Ok-request-clause-under_way c = λ origin records clock setting progr
     let list : List (ℕ × Mode) = query_locks c.args.query.now in
     let listed = c.as_slice.ensures.value ∙ c.in-Ok.ensures in
     let taken = λ (s t : ℕ) (m : Mode). c.in-Ok-request.ensures.taken s t m ∙ ap (λ l. with_locks (held d.locks) c.args.session l s t m) listed in
-    let p : Progress = record progress { locks = with_locks progress.locks setting.who.session list } in
-    (p, record {
-      stands = with_more d c.args.session records clock setting progress origin r c.request.new.locks list taken;
-      locks = released-with progress.locks setting.who.session c.args.session list (same_session d c.args.session records clock setting progress origin r);
-    })
+    let p : Progress = record progress { locks = with_locks progress.locks setting.who.session list } in (
+      p,
+      record {
+        stands = with_more d c.args.session records clock setting progress origin r c.request.new.locks list taken;
+        locks = released-with progress.locks setting.who.session c.args.session list (same_session d c.args.session records clock setting progress origin r);
+      },
+    )
 
 pub returns-in-Ok-request-clause-tested : goal.returns-in-Ok-request-clause-tested
 returns-in-Ok-request-clause-tested c = λ origin records clock setting progress r.
