@@ -1,14 +1,14 @@
 -- One change more is made.
-use Rattle.std.proofs.Common.{◌≡◌, ◌∙◌, ℕ, Bool, true, false, ◌||◌, cond, nat_eq, List, [], ◌∷◌, ◌++◌, map, Option, Some, option_map, unwrap_or, refl, sym, ap, subst, eqb-true}
+use Rattle.std.proofs.Common.{◌≡◌, ◌∙◌, Bool, true, false, cond, nat_eq, List, [], ◌∷◌, ◌++◌, map, Some, option_map, unwrap_or, refl, sym, ap, subst, eqb-true}
 use Rattle.sb_value.specs.declared.change.Change.{Change}
 use Rattle.sb_value.specs.Table.{Entry, IsProper, fits_kind, after, after_all, table_at, has_table}
 use Rattle.sb_tables.specs.Stored.{Stored}
-use Rattle.sb_tables.specs.Held.{Held, entries, numbered, has_number, stored_at, stored_as, with_stored}
+use Rattle.sb_tables.specs.Held.{Held, entries, numbered, has_number, stored_at, with_stored}
 use Rattle.sb_tables.specs.Laws.{ChangesKeepPlaces}
 use Rattle.sb_tables.specs.Undo.{stored_after}
-use Rattle.sb_process.specs.Made.{AreNumbered, AreMade, held_after, tables_after, tables_after_all, without_room}
+use Rattle.sb_process.specs.Made.{AreNumbered, AreMade, tables_after, tables_after_all, without_room}
 use Rattle.sb_process.specs.Make.{Makes}
-use Rattle.sb_process.proofs.Making.{no_left, no_right, number-room, number-entries, entries-after_all, entries-made, stored-room, table-stored, room-with_stored, after_all-push, sound-after_all}
+use Rattle.sb_process.proofs.Making.{no_left, no_right, number-room, number-entries, entries-made, stored-room, table-stored, room-with_stored, after_all-push, sound-after_all}
 use Rattle.sb_process.proofs.Settling.{none-with}
 
 proper_with : (cs : List Change) (c : Change) (ts : List Entry) → IsProper ts cs → has_table (after_all cs ts) c.table ≡ true → fits_kind c.kind c (table_at (after_all cs ts) c.table) → IsProper ts (cs ++ c ∷ [])

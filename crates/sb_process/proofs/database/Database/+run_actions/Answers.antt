@@ -1,18 +1,17 @@
-use Rattle.std.proofs.Common.{◌≡◌, ◌∙◌, ◌⊎◌, inl, inr, ℕ, suc, ◌+◌, ◌*◌, ◌-◌, ◌≤◌, List, [], ◌∷◌, length, take, drop, Bool, true, false, Result, Ok, Err, sym, ap, subst, refl, arith, rules}
+use Rattle.std.proofs.Common.{◌≡◌, ◌∙◌, inl, suc, ◌+◌, ◌*◌, ◌-◌, List, [], ◌∷◌, length, take, drop, true, false, Result, Ok, sym, ap, subst, refl, arith, rules}
 use Rattle.sb_value.specs.declared.refusal.Refusal.{Refusal}
-use Rattle.sb_value.specs.declared.refusal.Refusal.TheVariants.{NoMemory}
 use Rattle.sb_check.specs.declared.tree.Action.{Action}
-use Rattle.sb_tables.specs.Held.{Held, entries}
+use Rattle.sb_tables.specs.Held.{entries}
 use Rattle.sb_process.specs.declared.consider.Consideration.{Consideration}
 use Rattle.sb_process.specs.declared.consider.Consideration.TheVariants.{RolledBack}
 use Rattle.sb_process.specs.Consider.{Ending, run_actions}
 use Rattle.sb_process.specs.Represents.{AreIndexed}
-use Rattle.sb_process.specs.Running.{ComesTo, Acts, Ends}
+use Rattle.sb_process.specs.Running.{ComesTo, Ends}
 use Rattle.sb_process.specs.Setting.{Progress}
 use Rattle.sb_process.specs.Work.{AreActionsThere}
 use Rattle.sb_process.proofs.LockLists.{whole}
 use Rattle.sb_process.proofs.Numbers.{each-weaken}
-use Rattle.sb_process.proofs.Running.{actions-there, same-numbers, rest-there, first-there, comes-on, ends-map, first-ran, first-rolled_back, first-refused, acted, ends-after, ends-refused}
+use Rattle.sb_process.proofs.Running.{actions-there, same-numbers, rest-there, comes-on, first-ran, first-rolled_back, first-refused, acted, ends-after, ends-refused}
 use Rattle.sb_process.proofs.database.Database.+run_actions.Goals as goal
 
 -- one action runs, and there are the numbers for it

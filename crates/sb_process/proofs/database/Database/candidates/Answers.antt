@@ -1,5 +1,4 @@
-use Rattle.std.proofs.Common.{List, sym, subst}
-use Rattle.sb_catalog.specs.declared.rule.Rule.{Rule}
+use Rattle.std.proofs.Common.{sym, subst}
 use Rattle.sb_catalog.specs.Rules.{AreFound}
 use Rattle.sb_process.specs.Represents.{AreCandidates, Represents}
 use Rattle.sb_process.proofs.Choosing.{has-candidates, represents-sifted}

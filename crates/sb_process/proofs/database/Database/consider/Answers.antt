@@ -1,4 +1,4 @@
-use Rattle.std.proofs.Common.{◌≡◌, ◌∙◌, ◌⊎◌, ℕ, ◌+◌, ◌*◌, Bool, true, false, List, length, Result, Ok, Err, sym, ap, subst, refl, arith}
+use Rattle.std.proofs.Common.{◌≡◌, ◌∙◌, ◌⊎◌, ◌+◌, ◌*◌, true, List, length, Result, Ok, Err, sym, ap, subst, arith}
 use Rattle.sb_value.specs.declared.net.Transition.{Transition}
 use Rattle.sb_value.specs.declared.refusal.Refusal.{Refusal}
 use Rattle.sb_value.specs.declared.refusal.Refusal.TheVariants.{NoMemory}
@@ -6,11 +6,10 @@ use Rattle.sb_check.specs.declared.tree.Action.{Action}
 use Rattle.sb_tables.specs.Held.{Held, entries}
 use Rattle.sb_process.specs.declared.consider.Consideration.{Consideration}
 use Rattle.sb_process.specs.declared.consider.Consideration.TheVariants.{False}
-use Rattle.sb_process.specs.declared.database.Database.{Database}
 use Rattle.sb_process.specs.Consider.{Considered, test_condition, run_actions}
 use Rattle.sb_process.specs.Made.{EachBelow}
 use Rattle.sb_process.specs.Represents.{AreIndexed}
-use Rattle.sb_process.specs.Running.{ComesTo, Tests, Ends, Goes}
+use Rattle.sb_process.specs.Running.{ComesTo, Goes}
 use Rattle.sb_process.specs.Setting.{Progress, marked}
 use Rattle.sb_process.proofs.Numbers.{each-weaken}
 use Rattle.sb_process.proofs.Running.{same-id, same-held, ends-after, comes-on, comes-marked, tests-map, considered, went, goes-false, goes-refused, goes-true}

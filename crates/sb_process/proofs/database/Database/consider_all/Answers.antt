@@ -1,4 +1,4 @@
-use Rattle.std.proofs.Common.{◌≡◌, ◌∙◌, ℕ, suc, ◌+◌, ◌*◌, ◌-◌, List, Option, Some, None, sym, ap, subst, refl, arith}
+use Rattle.std.proofs.Common.{◌≡◌, ◌∙◌, suc, ◌+◌, ◌*◌, ◌-◌, Option, sym, ap, subst, arith}
 use Rattle.std.specs.Option.{option_copied}
 use Rattle.sb_value.specs.Flags.{flag_at}
 use Rattle.sb_catalog.specs.declared.rule.Rule.{Rule}

@@ -1,4 +1,4 @@
-use Rattle.std.proofs.Common.{◌∙◌, ap, subst, sym, Bool, cond, nat_eq, ◌&&◌, ℕ}
+use Rattle.std.proofs.Common.{◌∙◌, ap, subst, cond, nat_eq, ◌&&◌, ℕ}
 use Rattle.sb_rawlog.specs.Records.{Rising}
 use Rattle.sb_process.specs.Transactions.{mark_of}
 use Rattle.sb_process.proofs.MarkLaws.{represents-marked}

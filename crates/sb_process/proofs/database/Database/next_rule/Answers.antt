@@ -1,6 +1,5 @@
-use Rattle.std.proofs.Common.{◌∙◌, Option, Some, None, option_and_then, sym, ap, subst}
+use Rattle.std.proofs.Common.{◌∙◌, option_and_then, sym, ap, subst}
 use Rattle.sb_value.specs.Flags.{flag_at}
-use Rattle.sb_value.specs.declared.id.Who.{Who}
 use Rattle.sb_catalog.specs.Rules.{numbered}
 use Rattle.sb_process.specs.declared.database.Database.{Database}
 use Rattle.sb_process.specs.Represents.{AreIndexed}

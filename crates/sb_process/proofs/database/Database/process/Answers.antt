@@ -1,6 +1,5 @@
-use Rattle.std.proofs.Common.{◌≡◌, ◌∙◌, ℕ, ◌+◌, ◌*◌, List, Result, Ok, sym, ap, subst}
+use Rattle.std.proofs.Common.{◌∙◌, ◌+◌, ◌*◌, sym}
 use Rattle.sb_value.specs.Flags.{flag_at}
-use Rattle.sb_tables.specs.Held.{entries}
 use Rattle.sb_process.specs.declared.Outcome.{Outcome}
 use Rattle.sb_process.specs.Process.{process}
 use Rattle.sb_process.specs.Running.{ComesTo, Finds}

@@ -1,5 +1,4 @@
-use Rattle.std.proofs.Common.{◌≡◌, ◌∙◌, ℕ, sym, ap, IfOk, Result}
-use Rattle.std.specs.declared.alloc.AllocError.{AllocError}
+use Rattle.std.proofs.Common.{◌∙◌, ℕ, sym, ap}
 use Rattle.sb_value.specs.NetEffect.{transition_tables}
 use Rattle.sb_rawlog.specs.Sessions.{changes_since}
 use Rattle.sb_process.specs.Represents.{who_in}

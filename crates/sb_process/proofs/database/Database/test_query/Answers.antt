@@ -7,7 +7,6 @@ use Rattle.sb_eval.specs.Statement.{query_locks, condition_rows}
 use Rattle.sb_locks.specs.Held.{held}
 use Rattle.sb_process.specs.Consider.{test_rows}
 use Rattle.sb_process.specs.Setting.{Progress, seen_with}
-use Rattle.sb_process.specs.Represents.{Represents}
 use Rattle.sb_process.specs.Running.{ComesTo, Tests}
 use Rattle.sb_process.proofs.Requests.{same_conflict, same_refusal, with_more, same_session, refused_answer, granted_answer}
 use Rattle.sb_process.proofs.Running.{released-with, seen-same, tests-rows}
