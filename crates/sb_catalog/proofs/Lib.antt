@@ -1,3 +1,6 @@
 pub mod LeastFree
 pub mod Noted
 pub mod Named
+pub mod Indexing
+pub mod InOrder
+pub mod NewRules

@@ -4,7 +4,7 @@ use Rattle.std.specs.List.{list_any, remove}
 use Rattle.std.proofs.lemmas.Bool.Decides.{nat_tests}
 use Rattle.std.proofs.lemmas.Option.{none-some, same_Some, slice_get-map}
 use Rattle.sb_catalog.specs.declared.rule.Rule.{Rule}
-use Rattle.sb_catalog.specs.Rules.{with_active, without_rule, numbered, AreFound}
+use Rattle.sb_catalog.specs.Rules.{with_active, without_rule, numbered, AreNumbered}
 use Rattle.sb_catalog.proofs.LeastFree.{has}
 use Rattle.sb_catalog.specs.Places.{place_at, closed, AreNotedFrom}
 
@@ -116,6 +116,18 @@ pub no_rule : (found : Option Rule) → is_some found ≡ false → found ≡ No
 no_rule None e = refl
 no_rule (Some r) e = absurd (cc)
 
+-- no two rules have one number
+none_with : (places : List ℕ) (n j k : ℕ) (rules : List Rule) → slice_get places n ≡ Some j → j < k → AreNotedFrom k places rules → numbered rules n ≡ None
+none_with places n j k [] at l h = refl
+none_with places n j k (s ∷ rules) at l h =
+    let other = others places s.id n j k at h.0 (λ same. absurd (omega arith)) in
+    let rest = none_with places n j (k + 1) rules at (omega arith) h.1 in
+    λ i. cond (other i) (Some s) (rest i)
+
+pub noted_numbers : (places : List ℕ) (k : ℕ) (rules : List Rule) → AreNotedFrom k places rules → AreNumbered rules
+noted_numbers places k [] h = tt
+noted_numbers places k (s ∷ rules) h = (none_with places s.id k (k + 1) rules h.0 (omega arith) h.1, noted_numbers places (k + 1) rules h.1)
+
 -- where the rule at the noted place has another number, or there is none, no rule has the number
 pub numbered_none : (places : List ℕ) (n : ℕ) (rules : List Rule) → AreNotedFrom 0 places rules → ((r : Rule) → slice_get rules (place_at places n) ≡ Some r → r.id ≡ n → ⊥) →
     numbered rules n ≡ None
@@ -131,12 +143,6 @@ numbered_none places n rules h other = by (numbered rules n) refl
 -- and where it has the number, it is that rule
 pub numbered_some : (places : List ℕ) (n : ℕ) (rules : List Rule) (r : Rule) → AreNotedFrom 0 places rules → slice_get rules (place_at places n) ≡ Some r → r.id ≡ n → numbered rules n ≡ Some r
 numbered_some places n rules r h e same = ap (numbered rules) (sym same) ∙ numbered_at places 0 (place_at places n) rules r h e
-
--- each rule is found under its number
-pub found_all : (places : List ℕ) (all rules : List Rule) (k : ℕ) → AreNotedFrom 0 places all → ((i : ℕ) (r : Rule) → slice_get rules i ≡ Some r → slice_get all (k + i) ≡ Some r) → AreFound all rules
-found_all places all [] k h at = tt
-found_all places all (r ∷ rules) k h at =
-    (numbered_at places 0 (k + 0) all r h (at 0 r refl), found_all places all rules (k + 1) h (λ i s e. ap (slice_get all) (omega arith) ∙ at (suc i) s e))
 
 -- ---- a gap is closed
 

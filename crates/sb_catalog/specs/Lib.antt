@@ -1,3 +1,4 @@
 pub mod Rules
 pub mod Uses
+pub mod Definitions
 pub mod Places

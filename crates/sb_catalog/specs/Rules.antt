@@ -35,11 +35,6 @@ rule_named rules name = some_or NoRule (option_map (λ r. r.id) (named rules nam
 abbrev pub numbered : List Rule → ℕ → Option Rule
 numbered rules id = find (λ r. r.id == id) rules
 
--- each of the rules is found under its number
-abbrev pub AreFound : List Rule → List Rule → Type 0
-AreFound all [] = Unit {0}
-AreFound all (r ∷ rules) = (numbered all r.id ≡ Some r) × AreFound all rules
-
 -- whether there is a rule of that name
 abbrev pub has_name : List Rule → List ℕ → Bool
 has_name rules name = list_any (λ r. same_name r.name name) rules
@@ -85,3 +80,8 @@ set_active id active rule = if rule.id == id then record rule { active = active 
 -- the rules with one of them made active or not
 abbrev pub with_active : List Rule → ℕ → Bool → List Rule
 with_active rules id active = map (set_active id active) rules
+
+-- no two rules have one number
+abbrev pub AreNumbered : List Rule → Type 0
+AreNumbered [] = Unit {0}
+AreNumbered (r ∷ rules) = (numbered rules r.id ≡ None) × AreNumbered rules

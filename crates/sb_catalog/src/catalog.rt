@@ -3,7 +3,7 @@ ghost use Rattle.std.specs.Prelude.{◌≡◌, [], ◌∷◌, ◌++◌, IsTrue, 
 ghost use Rattle.std.specs.Option.{option_copied};
 ghost use Rattle.sb_check.specs.RulePartsView.{rule_parts};
 ghost use Rattle.sb_catalog.specs.Rules as spec;
-ghost use Rattle.sb_catalog.specs.Rules.{AreFound, named, numbered, rule_named, create_refusal, created, without_rule, with_active};
+ghost use Rattle.sb_catalog.specs.Rules.{AreNumbered, named, numbered, rule_named, create_refusal, created, without_rule, with_active};
 ghost use Rattle.sb_catalog.specs.Uses.{is_used};
 
 use crate::mentions::rule_names;
@@ -173,16 +173,10 @@ impl Catalog {
 
     /// The rules, the earliest created first.
     pub fn rules(&self) -> &[Rule]
-        ensures { result.now ≡ self.now }
+        ensures value { result.now ≡ self.now }
+        ensures numbered { AreNumbered self.now }
     {
         self.rules.values().as_slice()
-    }
-
-    /// No two rules have one number.
-    pub fn numbers_differ(&self)
-        ensures { AreFound self.now self.now }
-    {
-        let _ = &self.places;
     }
 
     /// Whether one more rule may be made.

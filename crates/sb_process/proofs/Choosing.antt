@@ -1,12 +1,13 @@
 -- The rule that is considered next, as memory has it.
-use Rattle.std.proofs.Common.{◌≡◌, ◌∙◌, ℕ, ◌≤◌, Bool, true, false, ◌&&◌, cond, List, [], ◌∷◌, map, filter, drop, Option, Some, option_and_then, Result, Ok, Err, IfOk, refl, sym, ap, subst}
+use Rattle.std.proofs.Common.{◌≡◌, ◌∙◌, ℕ, ◌≤◌, Bool, true, false, ◌&&◌, cond, List, [], ◌∷◌, map, filter, drop, Option, Some, option_and_then, Result, Ok, Err, IfOk, refl, sym, ap, subst, nat_eq, None, eq-eqb, eqb-true}
+use Rattle.std.proofs.lemmas.Option.{none-some}
 use Rattle.std.specs.declared.alloc.AllocError.{AllocError}
 use Rattle.sb_value.specs.declared.net.Transition.{Transition}
 use Rattle.sb_value.specs.Flags.{flag_at}
 use Rattle.sb_value.specs.NetEffect.{is_triggered, transition_tables}
 use Rattle.sb_value.specs.Order.{chosen}
 use Rattle.sb_catalog.specs.declared.rule.Rule.{Rule}
-use Rattle.sb_catalog.specs.Rules.{AreFound, numbered}
+use Rattle.sb_catalog.specs.Rules.{AreNumbered, numbered}
 use Rattle.sb_priority.specs.Ranks.{ranked}
 use Rattle.sb_rawlog.specs.Records.{Record}
 use Rattle.sb_rawlog.specs.Sessions.{MarksCut, changes_since, mark_at}
@@ -17,6 +18,23 @@ use Rattle.sb_process.specs.Setting.{Setting, Progress, transition, rule_is_trig
 use Rattle.sb_process.specs.Transactions.{Kept, mark_of, is_candidate_of}
 use Rattle.sb_process.specs.Triggered.{is_hit, AreSifted, HasCandidates}
 use Rattle.sb_process.specs.Work.{AreActive}
+
+-- each of the rules is found under its number
+abbrev pub AreFound : List Rule → List Rule → Type 0
+AreFound all [] = Unit {0}
+AreFound all (rule ∷ rules) = (numbered all rule.id ≡ Some rule) × AreFound all rules
+
+found-wider : (first : Rule) (all rules : List Rule) → numbered all first.id ≡ None → AreFound all rules → AreFound (first ∷ all) rules
+found-wider first all [] e h = tt
+found-wider first all (rule ∷ rules) e h = (by (nat_eq first.id rule.id) refl, found-wider first all rules e h.1)
+  where
+    by : (b : Bool) → nat_eq first.id rule.id ≡ b → cond b (Some first) (numbered all rule.id) ≡ Some rule
+    by true p = absurd (none-some rule (sym e ∙ ap (numbered all) (eqb-true first.id rule.id p) ∙ h.0))
+    by false p = h.0
+
+pub all-found : (rules : List Rule) → AreNumbered rules → AreFound rules rules
+all-found [] h = tt
+all-found (rule ∷ rules) h = (ap (λ (b : Bool). cond b (Some rule) (numbered rules rule.id)) (eq-eqb rule.id rule.id refl), found-wider rule rules rules h.0 (all-found rules h.1))
 
 module _ (origin : List Held) (d : Database) (session : ℕ) (records : List Record) (clock : ℕ) (setting : Setting) (progress : Progress) (r : Represents origin d session records clock setting progress) (cut : MarksCut records) where
   -- the changes since a rule's mark, by its time

@@ -11,7 +11,7 @@ use Rattle.sb_eval.specs.Statement.{read_of, write_of, statement_locks}
 use Rattle.sb_value.specs.declared.lock.Mode.TheVariants.{Write}
 use Rattle.sb_check.specs.declared.tree.Statement.{Statement}
 use Rattle.sb_check.specs.declared.tree.Statement.TheVariants.{InsertRows, InsertQuery, Delete, Update}
-use Rattle.sb_process.specs.Target.{target, mentioned}
+use Rattle.sb_eval.specs.Target.{target, mentioned}
 
 abbrev pub reads : List Source → List (ℕ × Mode)
 reads sources = filter_map read_of sources

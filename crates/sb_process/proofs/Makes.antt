@@ -34,7 +34,7 @@ written_by c h tables false p alone rest =
     λ i. cond (p i) (record (without_room h) { stored = record (stored_after c (stored_at tables c.table)) { room = 0 } }) (without_room h) ∷ rest i
 
 -- what is stored after the change is written
-written_on : (c : Change) (tables : List Held) → AreNumbered tables →
+pub written_on : (c : Change) (tables : List Held) → AreNumbered tables →
     with_stored c.table (record (stored_after c (stored_at tables c.table)) { room = 0 }) (map without_room tables) ≡ map without_room (tables_after c tables)
 written_on c [] n = refl
 written_on c (h ∷ tables) n =

@@ -1,5 +1,5 @@
 -- Locks asked for, as memory holds them.
-use Rattle.std.proofs.Common.{◌≡◌, ◌∙◌, ℕ, Bool, true, false, ◌&&◌, ◌||◌, cond, nat_eq, List, [], ◌∷◌, find, IsSome, Option, Some, None, Bor, Result, Ok, Err, option_map, is_some, refl, sym, ap, inl, inr}
+use Rattle.std.proofs.Common.{◌≡◌, ◌∙◌, ℕ, Bool, true, false, ◌&&◌, ◌||◌, cond, nat_eq, List, [], ◌∷◌, map, subst, find, IsSome, Option, Some, None, Bor, Result, Ok, Err, option_map, is_some, refl, sym, ap, inl, inr}
 use Rattle.std.proofs.lemmas.Option.{none-some, same_Some}
 use Rattle.std.specs.Option.{option_copied}
 use Rattle.sb_value.specs.declared.change.Change.{Change}
@@ -11,7 +11,10 @@ use Rattle.sb_value.specs.declared.refusal.Refusal.TheVariants.{Locked}
 use Rattle.sb_value.specs.Locks.{Locks, same_mode, conflicts, first_conflict, with_locks}
 use Rattle.sb_value.specs.Table.{Entry, name_at, after, after_all, after_change}
 use Rattle.sb_tables.specs.Held.{Held, entries, numbered, has_number}
-use Rattle.sb_eval.specs.Seen.{no_transition}
+use Rattle.sb_value.specs.declared.net.Transition.{Transition}
+use Rattle.sb_check.specs.declared.tree.Statement.{Statement}
+use Rattle.sb_eval.specs.Statement.{statement_locks, write_of}
+use Rattle.sb_eval.specs.Target.{target, mentioned}
 use Rattle.sb_process.specs.Setting.{Setting, Progress, seen_with, tables_seen}
 use Rattle.sb_process.specs.View.{seen_by}
 use Rattle.sb_process.specs.Request.{AreThere, IsLocked, IsAnswer, after_request, refusal_for}
@@ -26,8 +29,9 @@ use Rattle.sb_catalog.specs.declared.rule.Rule.{Rule}
 use Rattle.std.specs.List.{list_any}
 use Rattle.sb_rawlog.specs.Records.{Record}
 use Rattle.sb_locks.specs.Held.{Holders, held}
+use Rattle.sb_process.proofs.LockLists.{reads, locks_of}
 use Rattle.sb_process.proofs.Making.{entries-made}
-use Rattle.sb_process.proofs.Settling.{some_numbered}
+use Rattle.sb_process.proofs.Settling.{same_number, some_numbered}
 
 -- ---- names
 
@@ -108,9 +112,9 @@ module _ (d : Database) (session : ℕ) (records : List Record) (clock : ℕ) (s
   pub same_conflict : (list : List (ℕ × Mode)) → first_conflict progress.locks setting.who.session list ≡ first_conflict (held d.locks) session list
   same_conflict list = λ i. first_conflict (sym same_locks i) (same_session i) list
 
-  -- a statement without transition tables sees what memory holds
-  pub same_seen : (p : Progress) → p.changes ≡ progress.changes → seen_with setting no_transition p ≡ seen_by d.tables no_transition (who_in d session)
-  same_seen p e = λ i. record { tables = (ap (λ cs. after_all cs setting.base) e ∙ sym seen_tables) i; transition = no_transition; who = r.who i }
+  -- a statement sees what memory holds
+  pub same_seen : (t : Transition) (p : Progress) → p.changes ≡ progress.changes → seen_with setting t p ≡ seen_by d.tables t (who_in d session)
+  same_seen t p e = λ i. record { tables = (ap (λ cs. after_all cs setting.base) e ∙ sym seen_tables) i; transition = t; who = r.who i }
 
   -- with more locks
   pub with_more : (more : Holders) (list : List (ℕ × Mode)) → ((s t : ℕ) (m : Mode) → held more s t m ≡ with_locks (held d.locks) session list s t m) →
@@ -158,3 +162,21 @@ answer_err view meant same error.TooBig f a p s = inl (ap Err p ∙ sym a ∙ s)
 answer_err view meant same error.Overflow f a p s = inl (ap Err p ∙ sym a ∙ s)
 answer_err view meant same error.TooManyRows f a p s = inl (ap Err p ∙ sym a ∙ s)
 answer_err view meant same error.NoMemory f a p s = inr (ap Err p)
+
+-- ---- statements
+
+-- the target of a statement is locked for writing once its locks are taken
+first_locked : (locks : Locks) (session t : ℕ) (list : List (ℕ × Mode)) → with_locks locks session ((t, Write) ∷ list) session t Write ≡ true
+first_locked locks session t list = by (locks session t Write)
+  where
+    rest : (((nat_eq session session) && (((nat_eq t t) && true) || list_any (λ (x : ℕ × Mode). (nat_eq x.0 t) && same_mode x.1 Write) list))) ≡ true
+    rest = λ i. same_number session i && ((same_number t i && true) || list_any (λ (x : ℕ × Mode). (nat_eq x.0 t) && same_mode x.1 Write) list)
+
+    by : (b : Bool) → (b || ((nat_eq session session) && (((nat_eq t t) && true) || list_any (λ (x : ℕ × Mode). (nat_eq x.0 t) && same_mode x.1 Write) list))) ≡ true
+    by true = refl
+    by false = rest
+
+pub target_locked : (locks : Locks) (session : ℕ) (s : Statement) → with_locks locks session (statement_locks s) session (target s) Write ≡ true
+target_locked locks session s =
+    let rest : List (ℕ × Mode) = map (write_of (target s)) (reads (mentioned s)) in
+    subst (λ (l : List (ℕ × Mode)). with_locks locks session l session (target s) Write ≡ true) (locks_of s ((target s, Write) ∷ rest) refl) (first_locked locks session (target s) rest)

@@ -1,6 +1,7 @@
 //! Rule processing.
 #![tactic(auto)]
 
+mod apply;
 mod bounds;
 mod candidates;
 mod condition;
@@ -11,6 +12,7 @@ mod make;
 mod marks;
 mod note;
 mod process;
+mod ready;
 mod request;
 mod run;
 mod statement;

@@ -2,7 +2,7 @@
 ghost use Rattle.std.specs.Prelude.{◌≡◌, [], ◌∷◌, ◌++◌, map, filter_map, IfOk, OnOk};
 ghost use Rattle.sb_check.specs.Mentions.{sources_of, operand_sources, query_sources, assignment_sources};
 ghost use Rattle.sb_eval.specs.Statement as spec;
-ghost use Rattle.sb_process.specs.Target.{target, mentioned};
+ghost use Rattle.sb_eval.specs.Target.{target, mentioned};
 ghost use Rattle.sb_value.specs.declared.lock.Mode.TheVariants as mode;
 ghost use Rattle.sb_eval.specs.Statement.{read_of, write_of as locked};
 
@@ -50,7 +50,7 @@ fn push_statement(locks: &mut Vec<(TableId, Mode)>, statement: &Statement) -> Re
 }
 
 /// The table that a statement changes.
-fn target_of(statement: &Statement) -> TableId
+pub(crate) fn target_of(statement: &Statement) -> TableId
     ensures { result ≡ target statement.now }
 {
     match statement {

@@ -1,21 +1,35 @@
 //! Statements that change tables.
-ghost use Rattle.std.specs.Prelude.{◌≡◌, ℕ, ◌+◌, ◌-◌, ◌<◌, ◌^◌, List};
+ghost use Rattle.std.specs.Prelude.{◌≡◌, ◌⊎◌, ℕ, ◌+◌, ◌-◌, ◌<◌, ◌^◌, List, IsTrue, IfOk, IfErr, Ok, Err};
+ghost use Rattle.sb_value.specs.declared.lock.Mode.TheVariants as mode;
+ghost use Rattle.sb_value.specs.declared.refusal.Refusal.TheVariants as variant;
+ghost use Rattle.sb_eval.specs.Laws.{AreMakeable};
 ghost use Rattle.sb_eval.specs.Seen.{no_transition};
 ghost use Rattle.sb_eval.specs.Statement as spec;
+ghost use Rattle.sb_eval.specs.Target.{target};
 ghost use Rattle.sb_rawlog.specs.Sessions.{OthersStay};
-ghost use Rattle.sb_tables.specs.Held.{Held};
-ghost use Rattle.sb_process.specs.Made.{NumbersBelow};
+ghost use Rattle.sb_locks.specs.Held.{held};
+ghost use Rattle.sb_tables.specs.Held.{Held, entries, has_number};
+ghost use Rattle.sb_process.specs.Made.{AreNumbered, AreStored, NumbersBelow};
+ghost use Rattle.sb_process.specs.Ready.{Changes};
 ghost use Rattle.sb_process.specs.Represents.{Represents, IsTransaction, AreIndexed, who_in};
 ghost use Rattle.sb_process.specs.Request.{AreThere};
-ghost use Rattle.sb_process.specs.Setting.{Setting, Progress};
+ghost use Rattle.sb_process.specs.Setting.{Setting, Progress, seen_with};
 ghost use Rattle.sb_process.specs.Statement.{Runs, RisesBy};
 ghost use Rattle.sb_process.specs.Transactions.{OtherSessionsStay};
+ghost use Rattle.sb_process.specs.View.{seen_by};
 
 use crate::database::Database;
+use crate::lock_list::{statement_locks, target_of};
+use crate::ready::prepare;
+use crate::request::request;
+use crate::statement::{no_transition, refusal_for};
+use crate::view::View;
 use sb_check::Statement;
+use sb_eval::{changes, changes_are_proper};
 use sb_index::RuleIndex;
 use sb_rawlog::ChangeLog;
-use sb_value::{Refusal, SessionId, Transition};
+use sb_tables::changes_keep_places;
+use sb_value::{Change, Refusal, SessionId, TableId, Transition, Who};
 use std::alloc::Global;
 
 impl Database {
@@ -40,7 +54,8 @@ impl Database {
         ensures times { RisesBy 4096 (L.clock log.old) (L.clock log.new) }
         ensures numbers { (n : ℕ) → NumbersBelow n self.old.tables → NumbersBelow (n + 4096) self.new.tables }
     {
-        Err(Refusal::NoMemory)
+        let none = no_transition(alloc);
+        self.run(alloc, log, index, session, &none, statement)
     }
 
     /// Runs a statement of a session or of a rule, which sees these transition tables.
@@ -64,6 +79,104 @@ impl Database {
         ensures times { RisesBy 4096 (L.clock log.old) (L.clock log.new) }
         ensures numbers { (n : ℕ) → NumbersBelow n self.old.tables → NumbersBelow (n + 4096) self.new.tables }
     {
-        Err(Refusal::NoMemory)
+        let Ok(list) = statement_locks(alloc, statement) else {
+            return Err(Refusal::NoMemory);
+        };
+        match request(&mut self.locks, &self.tables, session, list.as_slice()) {
+            Ok(()) => self.run_granted(alloc, log, index, session, tables, statement),
+            Err(refusal) => Err(refusal),
+        }
+    }
+
+    /// The same, once all locks are taken.
+    fn run_granted<L: ChangeLog>(
+        &mut self,
+        alloc: Global,
+        log: &mut L,
+        index: &RuleIndex,
+        session: SessionId,
+        tables: &Transition,
+        statement: &Statement,
+    ) -> Result<usize, Refusal>
+        requires transaction { IsTransaction self.old session (L.records log.old) (L.clock log.old) }
+        requires there { IsTrue (has_number self.old.tables (target statement.now)) }
+        requires locked { IsTrue (held self.old.locks session (target statement.now) mode.Write) }
+        requires times { L.clock log.old + 4096 < 2 ^ 64 }
+        requires numbers { NumbersBelow (2 ^ 64 - 4097) self.old.tables }
+        ensures ran { (origin : List Held) (setting : Setting) (progress : Progress) → Represents origin self.old session (L.records log.old) (L.clock log.old) setting progress → AreIndexed index.now self.old.id setting.rules → Changes origin self.new session (spec.statement_changes (seen_with setting tables.now progress) statement.now) result (L.records log.new) (L.clock log.new) setting progress }
+        ensures id { self.new.id ≡ self.old.id }
+        ensures sessions { OtherSessionsStay self.old.transactions self.new.transactions session }
+        ensures others { OthersStay (who_in self.old session) (L.records log.old) (L.records log.new) }
+        ensures times { RisesBy 4096 (L.clock log.old) (L.clock log.new) }
+        ensures numbers { (n : ℕ) → NumbersBelow n self.old.tables → NumbersBelow (n + 4096) self.new.tables }
+    {
+        // for the proof: the tables are sound, and the changes of a statement can be made of them
+        changes_keep_places();
+        changes_are_proper();
+        match self.evaluate(alloc, session, tables, statement) {
+            Ok(changes) => {
+                self.make_all(alloc, log, index, session, target_of(statement), changes)
+            }
+            Err(refusal) => Err(refusal),
+        }
+    }
+
+    /// The changes of a statement over the tables as they are.
+    fn evaluate(
+        &self,
+        alloc: Global,
+        session: SessionId,
+        tables: &Transition,
+        statement: &Statement,
+    ) -> Result<Vec<Change>, Refusal>
+        ensures ok { IfOk result (λ changes. spec.statement_changes (seen_by self.now.tables tables.now (who_in self.now session)) statement.now ≡ Ok changes.items) }
+        ensures err { IfErr result (λ refusal. (spec.statement_changes (seen_by self.now.tables tables.now (who_in self.now session)) statement.now ≡ Err refusal) ⊎ (refusal ≡ variant.NoMemory)) }
+    {
+        let view = View {
+            tables: &self.tables,
+            transition: tables,
+            who: Who {
+                tenant: self.id,
+                session,
+            },
+        };
+        match changes(alloc, statement, &view) {
+            Ok(changes) => Ok(changes),
+            Err(error) => Err(refusal_for(error)),
+        }
+    }
+
+    /// Makes the changes, once all memory that they need is there, and counts them.
+    fn make_all<L: ChangeLog>(
+        &mut self,
+        alloc: Global,
+        log: &mut L,
+        index: &RuleIndex,
+        session: SessionId,
+        target: TableId,
+        changes: Vec<Change>,
+    ) -> Result<usize, Refusal>
+        requires makeable { AreMakeable (entries self.old.tables) (who_in self.old session) target changes.items }
+        requires there { IsTrue (has_number self.old.tables target) }
+        requires numbered { AreNumbered self.old.tables }
+        requires stored { AreStored self.old.tables }
+        requires locked { IsTrue (held self.old.locks session target mode.Write) }
+        requires times { L.clock log.old + 4096 < 2 ^ 64 }
+        requires numbers { NumbersBelow (2 ^ 64 - 4097) self.old.tables }
+        ensures made { (origin : List Held) (setting : Setting) (progress : Progress) → Represents origin self.old session (L.records log.old) (L.clock log.old) setting progress → AreIndexed index.now self.old.id setting.rules → Changes origin self.new session (Ok changes.items) result (L.records log.new) (L.clock log.new) setting progress }
+        ensures id { self.new.id ≡ self.old.id }
+        ensures sessions { OtherSessionsStay self.old.transactions self.new.transactions session }
+        ensures others { OthersStay (who_in self.old session) (L.records log.old) (L.records log.new) }
+        ensures times { RisesBy 4096 (L.clock log.old) (L.clock log.new) }
+        ensures numbers { (n : ℕ) → NumbersBelow n self.old.tables → NumbersBelow (n + 4096) self.new.tables }
+    {
+        let count = changes.len();
+        match prepare(alloc, &mut self.tables, log, target, changes) {
+            Ok(list) => {
+                self.apply(log, index, session, target, list);
+                Ok(count)
+            }
+            Err(_) => Err(Refusal::NoMemory),
+        }
     }
 }

@@ -60,7 +60,7 @@ impl Database {
 }
 
 /// No transition tables.
-fn no_transition(alloc: Global) -> Transition
+pub(crate) fn no_transition(alloc: Global) -> Transition
     ensures { result ≡ seen.no_transition }
 {
     Transition {

@@ -121,7 +121,7 @@ impl Rulesets {
     }
 
     /// Whether there is a ruleset of that name.
-    fn has(&self, name: &Name) -> bool
+    pub fn has(&self, name: &Name) -> bool
         ensures { result ≡ has_name self.now name.now }
     {
         self.sets.contains_key(name)

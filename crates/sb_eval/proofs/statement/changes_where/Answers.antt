@@ -1,5 +1,4 @@
 use Rattle.std.proofs.Common.{rules, Vec, Global}
-use Rattle.sb_value.specs.Table.{table_at}
 use Rattle.sb_value.specs.declared.change.Change.{Change}
 use Rattle.sb_eval.specs.Effect.{change_of}
 use Rattle.sb_eval.specs.Meaning.{holds}

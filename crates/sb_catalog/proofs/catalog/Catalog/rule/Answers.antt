@@ -13,7 +13,7 @@ returns-in_err-rule c =
     let noted : AreNotedFrom 0 c.self.inside.places rules = subst (AreNotedFrom 0 c.self.inside.places) c.self.view_is c.self.invariant.noted in
     let past : slice_get c.rules.result.now c.get.result ≡ None = slice_get_past c.rules.result.now c.get.result (ltb-false _ _ (sym c.in_err-rule.ensures.lookup.0)) in
     rw c.from_residual.ensures (sym (numbered_none c.self.inside.places c.args.id rules noted
-    (λ r e same. none-some r (sym past ∙ ap (λ (l : List Rule). slice_get l c.get.result) c.rules.ensures ∙ ap (slice_get rules) c.get.ensures ∙ e))))
+    (λ r e same. none-some r (sym past ∙ ap (λ (l : List Rule). slice_get l c.get.result) c.rules.ensures.value ∙ ap (slice_get rules) c.get.ensures ∙ e))))
 
 -- the rule at the place has the number
 pub returns-then-eq : goal.returns-then-eq
@@ -23,7 +23,7 @@ returns-then-eq c =
     let at : slice_get c.rules.result.now c.get.result ≡ Some c.in_ok-rule.rule.now =
     slice_get_read c.rules.result.now (length c.rules.result.now) c.get.result c.in_ok-rule.rule.now refl (ltb-true _ _ (sym c.in_ok-rule.ensures.lookup.0)) c.in_ok-rule.ensures.lookup.1 in
     sym (numbered_some c.self.inside.places c.args.id rules c.in_ok-rule.rule.now noted
-    (ap (slice_get rules) (sym c.get.ensures) ∙ ap (λ (l : List Rule). slice_get l c.get.result) (sym c.rules.ensures) ∙ at)
+    (ap (slice_get rules) (sym c.get.ensures) ∙ ap (λ (l : List Rule). slice_get l c.get.result) (sym c.rules.ensures.value) ∙ at)
     (eqb-true c.in_ok-rule.rule.now.id c.args.id (sym c.eq.ensures ∙ c.if-eq.true)))
 
 -- it has another
@@ -35,4 +35,4 @@ returns-else-eq c =
     slice_get_read c.rules.result.now (length c.rules.result.now) c.get.result c.in_ok-rule.rule.now refl (ltb-true _ _ (sym c.in_ok-rule.ensures.lookup.0)) c.in_ok-rule.ensures.lookup.1 in
     sym (numbered_none c.self.inside.places c.args.id rules noted
     (λ r e same. eqb-false c.in_ok-rule.rule.now.id c.args.id (sym c.eq.ensures ∙ c.if-eq.false)
-    (ap (λ (x : Rule). x.id) (same_Some c.in_ok-rule.rule.now r (sym at ∙ ap (λ (l : List Rule). slice_get l c.get.result) c.rules.ensures ∙ ap (slice_get rules) c.get.ensures ∙ e)) ∙ same)))
+    (ap (λ (x : Rule). x.id) (same_Some c.in_ok-rule.rule.now r (sym at ∙ ap (λ (l : List Rule). slice_get l c.get.result) c.rules.ensures.value ∙ ap (slice_get rules) c.get.ensures ∙ e)) ∙ same)))

@@ -1,7 +1,15 @@
-use Rattle.std.proofs.Common.{◌+◌, arith}
+use Rattle.std.proofs.Common.{◌-◌, ◌^◌, arith, subst}
+use Rattle.sb_value.specs.declared.net.Transition.{Transition}
 use Rattle.sb_tables.specs.Held.{entries}
+use Rattle.sb_process.specs.Statement.{Runs}
 use Rattle.sb_process.proofs.Numbers.{each-weaken}
 use Rattle.sb_process.proofs.database.Database.change.Goals as goal
 
-pub returns-clause-numbers : goal.returns-clause-numbers
-returns-clause-numbers g c = λ n h. each-weaken n (n + 4096) (entries c.args.self.now.tables) (omega arith) h
+pub run-requires-clause-numbers : goal.run-requires-clause-numbers
+run-requires-clause-numbers g c = each-weaken (2 ^ 63) (2 ^ 64 - 4097) (entries c.args.self.now.tables) (omega arith) c.requires.numbers
+
+pub returns-clause-changed : goal.returns-clause-changed
+returns-clause-changed g c = λ origin setting progress r indexed.
+    subst
+    (λ (t : Transition). Runs origin c.run.new.self c.args.session t c.args.statement.now c.run.result (g.L.ChangeLog.records c.run.new.log) (g.L.ChangeLog.clock c.run.new.log) setting progress)
+    c.no_transition-none.ensures (c.run.ensures.ran origin setting progress r indexed)

@@ -34,7 +34,7 @@ returns-in-Ok-request-clause-selected c = λ origin records clock setting progre
     let p : Progress = record progress { locks = with_locks progress.locks setting.who.session list } in
     let meant =
     granted_answer setting progress list (λ p. select_rows (seen_with setting no_transition p) c.args.query.now) none
-    ∙ ap (λ seen. select_rows seen c.args.query.now) (same_seen d c.args.session records clock setting progress origin r p refl) in
+    ∙ ap (λ seen. select_rows seen c.args.query.now) (same_seen d c.args.session records clock setting progress origin r no_transition p refl) in
     record {
       answer = subst (λ m. IsAnswer m c.rows.result) (sym meant) c.rows.ensures;
       stands = inl (subst (λ q. Represents origin (record d { locks = c.request.new.locks }) c.args.session records clock setting q) (sym (after_granted setting progress list none))

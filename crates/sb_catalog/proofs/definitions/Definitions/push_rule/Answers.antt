@@ -1,0 +1,44 @@
+use Rattle.std.proofs.Common.{◌≡◌, ◌∙◌, ℕ, not, List, [], ◌∷◌, ◌++◌, map, Option, Ok, IfOk, option_map, refl, sym, ap, subst, inl}
+use Rattle.std.proofs.lemmas.List.{map-append}
+use Rattle.sb_value.specs.Order.{precedes}
+use Rattle.sb_value.specs.declared.refusal.Refusal.TheVariants.{NoRule, Cycle}
+use Rattle.sb_check.specs.Names.{some_or, required}
+use Rattle.sb_check.specs.RulePartsView.{rule_parts}
+use Rattle.sb_priority.specs.Ranks.{pairs_of}
+use Rattle.sb_catalog.specs.declared.rule.Rule.{Rule}
+use Rattle.sb_catalog.specs.Rules.{free_rule, numbered, rule_named, rule_of, without_rule}
+use Rattle.sb_catalog.proofs.Indexing.{named_last, without_last}
+use Rattle.sb_catalog.proofs.definitions.Definitions.push_rule.Goals as goal
+
+pub returns-in-Ok-add : goal.returns-in-Ok-add
+returns-in-Ok-add c = λ pairs o.
+    let rules = c.args.self.now.rules in
+    let more : List (ℕ × ℕ) = pairs_of c.args.rule c.args.before.now c.args.after.now in
+    let linked = c.in-Ok-add.ensures.linked pairs o.order in (
+      (λ i. required (not ((ap (λ id. precedes (pairs ++ more) id id) (sym c.requires.number) ∙ linked.acyclic c.args.rule) i)) Cycle (Ok more)),
+      c.in-Ok.ensures.added,
+      record {
+        order = linked;
+        listed = c.in-Ok-add.ensures.last ∙ (λ i. o.listed i ++ c.requires.number i ∷ []) ∙ sym (map-append (λ (r : Rule). r.id) rules (rule_of (free_rule rules) c.args.name (rule_parts c.args.parts) ∷ [])) ∙ ap (map (λ (r : Rule). r.id)) (sym c.in-Ok.ensures.added);
+      },
+      refl,
+    )
+
+-- the rule that was made is found and dropped again
+dropped : (c : goal.After-drop_rule) → c.drop_rule.new.self ≡ c.args.self.now.rules
+dropped c =
+    let rules = c.args.self.now.rules in
+    let rule : Rule = rule_of (free_rule rules) c.args.name (rule_parts c.args.parts) in
+    let found : c.drop_rule.result ≡ Ok rule.id =
+    c.drop_rule.ensures.found ∙ ap (λ (l : List Rule). rule_named l c.args.name) c.in-Ok.ensures.added
+    ∙ ap (λ (f : Option Rule). some_or NoRule (option_map (λ r. r.id) f)) (named_last rules rule c.requires.new_name) in
+    subst (λ r. IfOk r (λ id. c.drop_rule.new.self ≡ without_rule c.create.new.self id)) found c.drop_rule.ensures.dropped
+    ∙ ap (λ (l : List Rule). without_rule l rule.id) c.in-Ok.ensures.added
+    ∙ without_last rules rule (ap (numbered rules) (sym c.requires.number) ∙ c.requires.free)
+
+pub returns-in-Err-add : goal.returns-in-Err-add
+returns-in-Err-add c = λ pairs o.
+    let more : List (ℕ × ℕ) = pairs_of c.args.rule c.args.before.now c.args.after.now in (
+      inl (λ i. required (not ((ap (λ id. precedes (pairs ++ more) id id) (sym c.requires.number) ∙ c.in-Err-add.ensures.cycle pairs o.order) i)) Cycle (Ok more)),
+      λ i. record { rules = dropped c i; order = c.in-Err-add.ensures.unchanged i; rulesets = c.args.self.now.rulesets },
+    )

@@ -1,0 +1,258 @@
+//! The rules with their order, and the rulesets: what commands on them do, in step with the index.
+ghost use Rattle.std.specs.Prelude.{◌≡◌, ℕ, List, [], ◌&&◌, ◌==◌, true, false, None, Ok, Err, IsTrue, IsFalse, IfOk, OnErr, MatchOption};
+ghost use Rattle.sb_value.specs.Flags.{flag_at};
+ghost use Rattle.sb_check.specs.Answer.{Answers};
+ghost use Rattle.sb_check.specs.RulePartsView.{rule_parts};
+ghost use Rattle.sb_rulesets.specs.Sets.{has_name as has_ruleset};
+ghost use Rattle.sb_priority.specs.Ranks.{pairs_of};
+ghost use Rattle.sb_rulesets.specs.Members.{with_rules, without_rules};
+ghost use Rattle.sb_catalog.specs.Definitions as spec;
+ghost use Rattle.sb_catalog.specs.Definitions.{AreIndexed, AreOrdered, ChangesMembers, Creates, Drops, OtherTenantsStay, Pushes, SetsActive, is_active};
+ghost use Rattle.sb_catalog.specs.Rules.{free_rule, has_name, has_room, numbered, rule_named};
+
+use crate::catalog::Catalog;
+use sb_check::RuleParts;
+use sb_index::RuleIndex;
+use sb_priority::Priorities;
+use sb_rulesets::Rulesets;
+use sb_value::{Name, Refusal, RuleId, RuleSet, TenantId};
+use std::alloc::Global;
+
+/// All rules of a tenant, their order and its rulesets.
+#[derive(Drop)]
+pub struct Definitions {
+    pub rules: Catalog,
+    pub order: Priorities,
+    pub rulesets: Rulesets,
+}
+
+impl Definitions {
+    /// No rules and no rulesets.
+    pub fn new(alloc: Global) -> Definitions
+        ensures rules { result.rules ≡ [] }
+        ensures order { AreOrdered result.order [] [] }
+        ensures rulesets { result.rulesets ≡ [] }
+    {
+        Definitions {
+            rules: Catalog::new(alloc),
+            order: Priorities::new(),
+            rulesets: Rulesets::new(alloc),
+        }
+    }
+
+    /// Adds an active rule that precedes those of the one list and follows those of the other.
+    /// Room in the index is had before the rules change.
+    pub fn create_rule(
+        &mut self,
+        alloc: Global,
+        index: &mut RuleIndex,
+        tenant: TenantId,
+        name: Name,
+        parts: RuleParts,
+        precedes: &[Name],
+        follows: &[Name],
+    ) -> Result<(), Refusal>
+        requires new_name { IsFalse (has_name self.old.rules name) }
+        requires ordered { (pairs : List (ℕ × ℕ)) × AreOrdered self.old.order self.old.rules pairs }
+        ensures created { (pairs : List (ℕ × ℕ)) → AreOrdered self.old.order self.old.rules pairs → Creates self.old self.new pairs name (rule_parts parts) precedes.now follows.now result }
+        ensures indexed { AreIndexed index.old tenant self.old.rules → AreIndexed index.new tenant self.new.rules }
+        ensures others { OtherTenantsStay tenant index.old index.new }
+    {
+        let before = self.numbers(alloc, precedes)?;
+        let after = self.numbers(alloc, follows)?;
+        if !self.rules.has_room() {
+            return Err(Refusal::TooManyRules);
+        }
+        let rule = self.rules.free_rule();
+        let Ok(()) = index.add_rule(tenant, rule, parts.table, parts.triggers) else {
+            return Err(Refusal::NoMemory);
+        };
+        match self.push_rule(rule, name, parts, before.as_slice(), after.as_slice()) {
+            Ok(()) => Ok(()),
+            Err(refusal) => {
+                index.drop_rule(tenant, rule);
+                Err(refusal)
+            }
+        }
+    }
+
+    /// Puts a new rule behind the others, unless its pairs close a cycle.
+    fn push_rule(
+        &mut self,
+        rule: RuleId,
+        name: Name,
+        parts: RuleParts,
+        before: &[RuleId],
+        after: &[RuleId],
+    ) -> Result<(), Refusal>
+        requires number { rule ≡ free_rule self.old.rules }
+        requires free { numbered self.old.rules rule ≡ None }
+        requires new_name { IsFalse (has_name self.old.rules name) }
+        requires room { IsTrue (has_room self.old.rules) }
+        requires ordered { (pairs : List (ℕ × ℕ)) × AreOrdered self.old.order self.old.rules pairs }
+        ensures { (pairs : List (ℕ × ℕ)) → AreOrdered self.old.order self.old.rules pairs → Pushes self.old self.new pairs name (rule_parts parts) (pairs_of rule before.now after.now) result }
+    {
+        match self.rules.create(name, parts) {
+            Ok(_) => match self.order.add(rule, before, after) {
+                Ok(()) => Ok(()),
+                Err(_) => {
+                    let _ = self.rules.drop_rule(&name);
+                    Err(Refusal::Cycle)
+                }
+            },
+            Err(refusal) => Err(refusal),
+        }
+    }
+
+    /// The numbers of rules by their names.
+    fn numbers(&self, alloc: Global, names: &[Name]) -> Result<Vec<RuleId>, Refusal>
+        ensures { Answers (λ ids. ids.items) (spec.rules_named self.now.rules names.now) result }
+    {
+        let mut numbers = Vec::new(alloc);
+        for name in names {
+            let Some(rule) = self.rules.find(name) else {
+                return Err(Refusal::NoRule);
+            };
+            if numbers.push(rule.id).is_err() {
+                return Err(Refusal::NoMemory);
+            }
+        }
+        Ok(numbers)
+    }
+
+    /// Drops the rule of that name, and gives its number.
+    pub fn drop_rule(
+        &mut self,
+        index: &mut RuleIndex,
+        tenant: TenantId,
+        name: &Name,
+    ) -> Result<RuleId, Refusal>
+        ensures found { result ≡ rule_named self.old.rules name.now }
+        ensures dropped { IfOk result (λ id. Drops self.old self.new id) }
+        ensures indexed { AreIndexed index.old tenant self.old.rules → AreIndexed index.new tenant self.new.rules }
+        ensures others { OtherTenantsStay tenant index.old index.new }
+        ensures unchanged { OnErr result (self.new ≡ self.old) }
+    {
+        match self.rules.drop_rule(name) {
+            Ok(rule) => {
+                self.order.drop_rule(rule);
+                self.rulesets.drop_rule(rule);
+                index.drop_rule(tenant, rule);
+                Ok(rule)
+            }
+            Err(refusal) => Err(refusal),
+        }
+    }
+
+    /// Makes the rule of that name active, and gives its number. Room in the index is had before
+    /// the rule changes.
+    pub fn activate(
+        &mut self,
+        index: &mut RuleIndex,
+        tenant: TenantId,
+        name: &Name,
+    ) -> Result<RuleId, Refusal>
+        ensures found { Answers (λ id. id) (rule_named self.old.rules name.now) result }
+        ensures active { IfOk result (λ id. SetsActive self.old self.new id true) }
+        ensures indexed { AreIndexed index.old tenant self.old.rules → AreIndexed index.new tenant self.new.rules }
+        ensures others { OtherTenantsStay tenant index.old index.new }
+        ensures unchanged { OnErr result (self.new ≡ self.old) }
+    {
+        // for the proof: no other rule has its number
+        let _ = self.rules.rules();
+        let Some(rule) = self.rules.find(name) else {
+            return Err(Refusal::NoRule);
+        };
+        match index.add_rule(tenant, rule.id, rule.table, rule.triggers) {
+            Ok(()) => self.rules.activate(name),
+            Err(_) => Err(Refusal::NoMemory),
+        }
+    }
+
+    /// Makes the rule of that name inactive, and gives its number.
+    pub fn deactivate(
+        &mut self,
+        index: &mut RuleIndex,
+        tenant: TenantId,
+        name: &Name,
+    ) -> Result<RuleId, Refusal>
+        ensures found { result ≡ rule_named self.old.rules name.now }
+        ensures inactive { IfOk result (λ id. SetsActive self.old self.new id false) }
+        ensures indexed { AreIndexed index.old tenant self.old.rules → AreIndexed index.new tenant self.new.rules }
+        ensures others { OtherTenantsStay tenant index.old index.new }
+        ensures unchanged { OnErr result (self.new ≡ self.old) }
+    {
+        match self.rules.deactivate(name) {
+            Ok(rule) => {
+                index.drop_rule(tenant, rule);
+                Ok(rule)
+            }
+            Err(refusal) => Err(refusal),
+        }
+    }
+
+    /// Puts the rules of these names into the ruleset.
+    pub fn add_rules(&mut self, alloc: Global, set: &Name, names: &[Name]) -> Result<(), Refusal>
+        ensures { ChangesMembers with_rules self.old self.new set.now (spec.members_named self.old.rulesets self.old.rules set.now names.now) result }
+    {
+        let members = match self.members(alloc, set, names) {
+            Ok(members) => members,
+            Err(refusal) => return Err(refusal),
+        };
+        self.rulesets.add_rules(set, members.as_slice())
+    }
+
+    /// Takes the rules of these names out of the ruleset.
+    pub fn del_rules(&mut self, alloc: Global, set: &Name, names: &[Name]) -> Result<(), Refusal>
+        ensures { ChangesMembers without_rules self.old self.new set.now (spec.members_named self.old.rulesets self.old.rules set.now names.now) result }
+    {
+        let members = match self.members(alloc, set, names) {
+            Ok(members) => members,
+            Err(refusal) => return Err(refusal),
+        };
+        self.rulesets.del_rules(set, members.as_slice())
+    }
+
+    /// The numbers of rules that are named beside a ruleset.
+    fn members(&self, alloc: Global, set: &Name, names: &[Name]) -> Result<Vec<RuleId>, Refusal>
+        ensures { Answers (λ ids. ids.items) (spec.members_named self.now.rulesets self.now.rules set.now names.now) result }
+    {
+        if !self.rulesets.has(set) {
+            return Err(Refusal::NoRuleset);
+        }
+        self.numbers(alloc, names)
+    }
+
+    /// The active rules.
+    pub fn active(&self) -> RuleSet
+        ensures { (id : ℕ) → flag_at result id ≡ is_active self.now.rules id }
+    {
+        let mut active = RuleSet::empty();
+        for rule in self.rules.rules() {
+            if rule.active {
+                active = active.with(rule.id);
+            }
+        }
+        active
+    }
+
+    /// The active rules of a ruleset.
+    pub fn active_members(&self, set: &Name) -> Option<RuleSet>
+        ensures { MatchOption result (IsFalse (has_ruleset self.now.rulesets set.now)) (λ rules. (id : ℕ) → flag_at rules id ≡ (is_active self.now.rules id && spec.is_member self.now.rulesets set.now id)) }
+    {
+        match self.rulesets.members(set) {
+            Some(members) => Some(self.active().intersection(members)),
+            None => None,
+        }
+    }
+
+    /// The rule of that name alone, if it is active.
+    pub fn active_rule(&self, name: &Name) -> Option<RuleSet>
+        ensures { MatchOption result (rule_named self.now.rules name.now ≡ Err Refusal.NoRule) (λ rules. (r : ℕ) × (rule_named self.now.rules name.now ≡ Ok r) × ((id : ℕ) → flag_at rules id ≡ ((id == r) && is_active self.now.rules id))) }
+    {
+        match self.rules.find(name) {
+            Some(rule) => Some(RuleSet::empty().with(rule.id).intersection(self.active())),
+            None => None,
+        }
+    }
+}

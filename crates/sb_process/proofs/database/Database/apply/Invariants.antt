@@ -1,0 +1,35 @@
+use Rattle.std.proofs.Common.{◌≡◌, ℕ, ◌+◌, ◌≤◌, List, ◌++◌, true, length}
+use Rattle.std.specs.Vec.Iter.{into_iter_items, into_iter_len}
+use Rattle.sb_value.specs.declared.change.Change.{Change}
+use Rattle.sb_value.specs.declared.lock.Mode.TheVariants.{Write}
+use Rattle.sb_rawlog.specs.Sessions.{OthersStay}
+use Rattle.sb_tables.specs.Held.{Held}
+use Rattle.sb_locks.specs.Held.{held}
+use Rattle.sb_process.specs.declared.ready.Ready.{Ready}
+use Rattle.sb_process.specs.Made.{NumbersBelow}
+use Rattle.sb_process.specs.Ready.{AreCopied, CanApply, changes_in}
+use Rattle.sb_process.specs.Represents.{Represents, AreIndexed, who_in}
+use Rattle.sb_process.specs.Setting.{Setting, Progress}
+use Rattle.sb_process.specs.Transactions.{OtherSessionsStay}
+use Rattle.sb_process.proofs.database.Database.apply.Given as goal
+
+-- the changes that are left can be made, and those before them are
+abbrev pub invariant-loop-ready : goal.invariant-loop-ready
+invariant-loop-ready g l =
+    let left : List Ready = into_iter_items l.ready-iterator in
+    record {
+      can : CanApply l.self.tables (who_in l.self l.session) l.fn.target (changes_in left);
+      len : into_iter_len l.ready-iterator ≡ length left;
+      copied : AreCopied left;
+      locked : held l.self.locks l.session l.fn.target Write ≡ true;
+      room : length left ≤ g.L.ChangeLog.room l.log;
+      clock : g.L.ChangeLog.clock l.log + length left ≡ g.L.ChangeLog.clock l.initial.log + length l.fn.list.items;
+      made : (done : List Change) × (done ++ changes_in left ≡ changes_in l.fn.list.items) × ((origin : List Held) (setting : Setting) (progress : Progress) →
+          Represents origin l.initial.self l.session (g.L.ChangeLog.records l.initial.log) (g.L.ChangeLog.clock l.initial.log) setting progress →
+          AreIndexed l.index l.initial.self.id setting.rules →
+          Represents origin l.self l.session (g.L.ChangeLog.records l.log) (g.L.ChangeLog.clock l.log) setting (record progress { changes = progress.changes ++ done }));
+      id : l.self.id ≡ l.initial.self.id;
+      sessions : OtherSessionsStay l.initial.self.transactions l.self.transactions l.session;
+      others : OthersStay (who_in l.initial.self l.session) (g.L.ChangeLog.records l.initial.log) (g.L.ChangeLog.records l.log);
+      numbers : (n : ℕ) → NumbersBelow n l.initial.self.tables → (m : ℕ) × (m + length left ≡ n + length l.fn.list.items) × NumbersBelow m l.self.tables;
+    }

@@ -1,0 +1,49 @@
+use Rattle.std.proofs.Common.{◌≡◌, ◌∙◌, ◌+◌, List, ◌++◌, Ok, length, inl, inr, refl, sym, ap, subst, arith}
+use Rattle.std.proofs.lemmas.List.{length-map}
+use Rattle.sb_value.specs.declared.change.Change.{Change}
+use Rattle.sb_tables.specs.Held.{entries}
+use Rattle.sb_process.specs.declared.database.Database.{Database}
+use Rattle.sb_process.specs.declared.ready.Ready.{Ready}
+use Rattle.sb_process.specs.Ready.{CanApply}
+use Rattle.sb_process.specs.Represents.{Represents, who_in}
+use Rattle.sb_process.proofs.Numbers.{each-weaken}
+use Rattle.sb_process.proofs.Preparing.{can_apply, with_room, numbers_same}
+use Rattle.sb_process.proofs.database.Database.make_all.Goals as goal
+
+pub apply-requires-clause-can : goal.apply-requires-clause-can
+apply-requires-clause-can g c =
+    subst (λ (cs : List Change). CanApply c.prepare.new.tables (who_in c.args.self.now c.args.session) c.args.target cs) (sym c.in-Ok.ensures.changes)
+    (can_apply c.args.self.now.tables c.prepare.new.tables (who_in c.args.self.now c.args.session) c.args.target c.args.changes.items c.requires.makeable c.requires.numbered c.requires.stored c.requires.there c.requires.numbers
+    c.prepare.ensures.same c.in-Ok.ensures.few c.in-Ok.ensures.table)
+
+-- the changes are made of the tables with room for them
+pub returns-in-Ok-clause-made : goal.returns-in-Ok-clause-made
+returns-in-Ok-clause-made g c = λ origin setting progress r indexed.
+    let d : Database = record c.args.self.now { tables = c.prepare.new.tables } in
+    let ready = with_room c.args.self.now c.prepare.new.tables c.args.session (g.L.ChangeLog.records c.args.log.now) (g.L.ChangeLog.records c.prepare.new.log) (g.L.ChangeLog.clock c.args.log.now)
+    (g.L.ChangeLog.clock c.prepare.new.log) setting progress origin r c.prepare.ensures.same c.prepare.ensures.records c.prepare.ensures.clock in
+    let all = c.apply.ensures.all origin setting progress ready indexed in
+    inl (
+      ap Ok (c.len-count.ensures ∙ c.args.changes.ok.0),
+      subst
+          (λ (cs : List Change). Represents origin c.apply.new.self c.args.session (g.L.ChangeLog.records c.apply.new.log) (g.L.ChangeLog.clock c.apply.new.log) setting (record progress { changes = progress.changes ++ cs }))
+          c.in-Ok.ensures.changes all,
+    )
+
+pub returns-in-Ok-clause-numbers : goal.returns-in-Ok-clause-numbers
+returns-in-Ok-clause-numbers g c = λ n b.
+    let long : length c.args.changes.items ≡ length c.in-Ok.list.items = sym (ap (λ (l : List Change). length l) c.in-Ok.ensures.changes) ∙ length-map c.in-Ok.list.items (λ (r : Ready). r.change) in
+    each-weaken (n + length c.in-Ok.list.items) (n + 4096) (entries c.apply.new.self.tables) (omega (arith, long, c.in-Ok.ensures.few))
+    (c.apply.ensures.numbers n (numbers_same n c.args.self.now.tables c.prepare.new.tables (sym c.prepare.ensures.same) b))
+
+pub returns-in-Err-clause-made : goal.returns-in-Err-clause-made
+returns-in-Err-clause-made g c = λ origin setting progress r indexed.
+    inr (
+      refl,
+      with_room c.args.self.now c.prepare.new.tables c.args.session (g.L.ChangeLog.records c.args.log.now) (g.L.ChangeLog.records c.prepare.new.log) (g.L.ChangeLog.clock c.args.log.now)
+          (g.L.ChangeLog.clock c.prepare.new.log) setting progress origin r c.prepare.ensures.same c.prepare.ensures.records c.prepare.ensures.clock,
+    )
+
+pub returns-in-Err-clause-numbers : goal.returns-in-Err-clause-numbers
+returns-in-Err-clause-numbers g c = λ n b.
+    each-weaken n (n + 4096) (entries c.prepare.new.tables) (omega arith) (numbers_same n c.args.self.now.tables c.prepare.new.tables (sym c.prepare.ensures.same) b)

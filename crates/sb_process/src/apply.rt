@@ -1,0 +1,85 @@
+//! Changes made one after another, for which all memory is there.
+ghost use Rattle.std.specs.Prelude.{◌≡◌, ℕ, ◌+◌, ◌-◌, ◌<◌, ◌≤◌, ◌^◌, List, [], ◌∷◌, ◌++◌, length, IsTrue};
+ghost use Rattle.sb_value.specs.declared.lock.Mode.TheVariants as mode;
+ghost use Rattle.sb_value.specs.Table.{fits_kind};
+ghost use Rattle.sb_rawlog.specs.Changes.{author};
+ghost use Rattle.sb_rawlog.specs.Sessions.{OthersStay};
+ghost use Rattle.sb_tables.specs.Held.{Held, has_number, stored_at};
+ghost use Rattle.sb_locks.specs.Held.{held};
+ghost use Rattle.sb_process.specs.Made.{NumbersBelow};
+ghost use Rattle.sb_process.specs.Make.{HasPlaceFor, Makes};
+ghost use Rattle.sb_process.specs.Ready.{AreCopied, CanApply, changes_in};
+ghost use Rattle.sb_process.specs.Represents.{Represents, AreIndexed, who_in};
+ghost use Rattle.sb_process.specs.Setting.{Setting, Progress};
+ghost use Rattle.sb_process.specs.Statement.{with_changes_of};
+ghost use Rattle.sb_process.specs.Transactions.{OtherSessionsStay};
+
+use crate::database::Database;
+use crate::make::make;
+use crate::ready::Ready;
+use sb_index::RuleIndex;
+use sb_rawlog::ChangeLog;
+use sb_value::{SessionId, TableId, last_change_triggers, proper_lists_have_lives};
+
+impl Database {
+    /// Makes the session's changes of a table, in order.
+    pub(crate) fn apply<L: ChangeLog>(
+        &mut self,
+        log: &mut L,
+        index: &RuleIndex,
+        session: SessionId,
+        target: TableId,
+        list: Vec<Ready>,
+    )
+        requires can { CanApply self.old.tables (who_in self.old session) target (changes_in list.items) }
+        requires copied { AreCopied list.items }
+        requires locked { IsTrue (held self.old.locks session target mode.Write) }
+        requires room { length list.items ≤ L.room log.old }
+        requires clock { L.clock log.old + length list.items < 2 ^ 64 }
+        ensures all { (origin : List Held) (setting : Setting) (progress : Progress) → Represents origin self.old session (L.records log.old) (L.clock log.old) setting progress → AreIndexed index.now self.old.id setting.rules → Represents origin self.new session (L.records log.new) (L.clock log.new) setting (record progress { changes = progress.changes ++ changes_in list.items }) }
+        ensures id { self.new.id ≡ self.old.id }
+        ensures sessions { OtherSessionsStay self.old.transactions self.new.transactions session }
+        ensures others { OthersStay (who_in self.old session) (L.records log.old) (L.records log.new) }
+        ensures clock { L.clock log.new ≡ L.clock log.old + length list.items }
+        ensures numbers { (n : ℕ) → NumbersBelow n self.old.tables → NumbersBelow (n + length list.items) self.new.tables }
+    {
+        for ready in list {
+            self.apply_one(log, index, session, ready);
+        }
+    }
+
+    /// Makes one change: of its table, of the session's candidates and of the log.
+    fn apply_one<L: ChangeLog>(
+        &mut self,
+        log: &mut L,
+        index: &RuleIndex,
+        session: SessionId,
+        ready: Ready,
+    )
+        requires by { author ready.change ≡ who_in self.old session }
+        requires columns { length ready.change.columns ≤ 8 }
+        requires there { IsTrue (has_number self.old.tables ready.change.table) }
+        requires fits { fits_kind ready.change.kind ready.change (stored_at self.old.tables ready.change.table).table }
+        requires place { HasPlaceFor ready.change.kind (stored_at self.old.tables ready.change.table) }
+        requires copied { ready.copy ≡ ready.change.new }
+        requires locked { IsTrue (held self.old.locks session ready.change.table mode.Write) }
+        requires room { 0 < L.room log.old }
+        requires clock { L.clock log.old < 2 ^ 64 - 1 }
+        ensures one { (origin : List Held) (setting : Setting) (progress : Progress) → Represents origin self.old session (L.records log.old) (L.clock log.old) setting progress → AreIndexed index.now self.old.id setting.rules → Represents origin self.new session (L.records log.new) (L.clock log.new) setting (record progress { changes = progress.changes ++ ready.change ∷ [] }) }
+        ensures makes { Makes ready.change self.old.tables self.new.tables }
+        ensures id { self.new.id ≡ self.old.id }
+        ensures locks { self.new.locks ≡ self.old.locks }
+        ensures sessions { OtherSessionsStay self.old.transactions self.new.transactions session }
+        ensures others { OthersStay (who_in self.old session) (L.records log.old) (L.records log.new) }
+        ensures clock { L.clock log.new ≡ L.clock log.old + 1 }
+        ensures room { L.room log.new + 1 ≡ L.room log.old }
+    {
+        // for the proof: a rule that a new change triggers is one that names it
+        last_change_triggers();
+        proper_lists_have_lives();
+        let Ready { change, copy } = ready;
+        make(&mut self.tables, &change, copy);
+        self.transactions.join(session, index.candidates(&change));
+        log.append(change);
+    }
+}
