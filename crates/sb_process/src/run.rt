@@ -23,13 +23,12 @@ use crate::lock_list::{statement_locks, target_of};
 use crate::ready::prepare;
 use crate::request::request;
 use crate::statement::{no_transition, refusal_for};
-use crate::view::View;
 use sb_check::Statement;
 use sb_eval::{changes, changes_are_proper};
 use sb_index::RuleIndex;
 use sb_rawlog::ChangeLog;
 use sb_tables::changes_keep_places;
-use sb_value::{Change, Refusal, SessionId, TableId, Transition, Who};
+use sb_value::{Change, Refusal, SessionId, TableId, Transition};
 use std::alloc::Global;
 
 impl Database {
@@ -132,14 +131,7 @@ impl Database {
         ensures ok { IfOk result (λ changes. spec.statement_changes (seen_by self.now.tables tables.now (who_in self.now session)) statement.now ≡ Ok changes.items) }
         ensures err { IfErr result (λ refusal. (spec.statement_changes (seen_by self.now.tables tables.now (who_in self.now session)) statement.now ≡ Err refusal) ⊎ (refusal ≡ variant.NoMemory)) }
     {
-        let view = View {
-            tables: &self.tables,
-            transition: tables,
-            who: Who {
-                tenant: self.id,
-                session,
-            },
-        };
+        let view = self.view(session, tables);
         match changes(alloc, statement, &view) {
             Ok(changes) => Ok(changes),
             Err(error) => Err(refusal_for(error)),

@@ -44,17 +44,26 @@ impl Database {
         ensures { IsAnswer (spec.select_rows (seen_by self.now.tables seen.no_transition (who_in self.now session)) query.now) result }
     {
         let none = no_transition(alloc);
-        let view = View {
+        let view = self.view(session, &none);
+        match select_rows(alloc, query, &view) {
+            Ok(rows) => Ok(rows),
+            Err(error) => Err(refusal_for(error)),
+        }
+    }
+
+    /// What a statement of the session sees, with these transition tables.
+    pub(crate) fn view<'a>(&'a self, session: SessionId, transition: &'a Transition) -> View<'a>
+        ensures tables { result.tables.now ≡ self.now.tables }
+        ensures transition { result.transition.now ≡ transition.now }
+        ensures who { result.who ≡ who_in self.now session }
+    {
+        View {
             tables: &self.tables,
-            transition: &none,
+            transition,
             who: Who {
                 tenant: self.id,
                 session,
             },
-        };
-        match select_rows(alloc, query, &view) {
-            Ok(rows) => Ok(rows),
-            Err(error) => Err(refusal_for(error)),
         }
     }
 }
