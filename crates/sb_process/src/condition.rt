@@ -15,10 +15,9 @@ use crate::database::Database;
 use crate::lock_list::query_locks;
 use crate::request::request;
 use crate::statement::refusal_for;
-use crate::view::View;
 use sb_check::Query;
 use sb_eval::condition_rows;
-use sb_value::{Refusal, SessionId, Transition, Who};
+use sb_value::{Refusal, SessionId, Transition};
 use std::alloc::Global;
 
 impl Database {
@@ -72,14 +71,7 @@ impl Database {
     ) -> Result<bool, Refusal>
         ensures { IsAnswer (truth (statement.condition_rows (seen_by self.now.tables tables.now (who_in self.now session)) query.now)) result }
     {
-        let view = View {
-            tables: &self.tables,
-            transition: tables,
-            who: Who {
-                tenant: self.id,
-                session,
-            },
-        };
+        let view = self.view(session, tables);
         match condition_rows(alloc, query, &view) {
             Ok(rows) => Ok(rows.len() > 0),
             Err(error) => Err(refusal_for(error)),
