@@ -39,12 +39,12 @@ locks_of (InsertQuery t q) l e = e
 locks_of (Delete t c) l e = e
 locks_of (Update t assignments c) l e = e
 
-take_all : (xs : List Assignment) → take (length xs) xs ≡ xs
+take_all : {A : Type 0} (xs : List A) → take (length xs) xs ≡ xs
 take_all [] = refl
 take_all (x ∷ xs) = λ i. x ∷ take_all xs i
 
 -- what has a first element is that element and the others
-whole : (xs : List Assignment) (x : Assignment) → 1 ≤ length xs → x ≡ get_or xs 0 x → xs ≡ x ∷ take (length xs - 1) (drop 1 xs)
+pub whole : {A : Type 0} (xs : List A) (x : A) → 1 ≤ length xs → x ≡ get_or xs 0 x → xs ≡ x ∷ take (length xs - 1) (drop 1 xs)
 whole [] x some e = absurd (omega arith)
 whole (y ∷ ys) x some e =
     let n : length (y ∷ ys) - 1 ≡ length ys = omega arith in

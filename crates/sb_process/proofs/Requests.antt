@@ -105,7 +105,7 @@ module _ (d : Database) (session : ℕ) (records : List Record) (clock : ℕ) (s
   same_refusal table refusal l =
       l.2 ∙ ap Locked (sym (name-held d.tables table l.0 l.1) ∙ ap (λ es. name_at es table) seen_tables ∙ name-after_all progress.changes setting.base table)
 
-  same_session : setting.who.session ≡ session
+  pub same_session : setting.who.session ≡ session
   same_session = ap (λ (w : Who). w.session) r.who
 
   -- the conflict that is found is the definition's

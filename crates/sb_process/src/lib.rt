@@ -3,10 +3,14 @@
 
 mod apply;
 mod bounds;
+mod candidates;
+mod condition;
+mod consider;
 mod database;
 mod lock_list;
 mod make;
 mod marks;
+mod note;
 mod process;
 mod ready;
 mod request;

@@ -1,16 +1,78 @@
-use Rattle.std.proofs.Common.{ℕ, ◌+◌, ◌*◌, arith}
-use Rattle.sb_tables.specs.Held.{entries}
-use Rattle.sb_process.proofs.Numbers.{each-weaken}
+use Rattle.std.proofs.Common.{◌∙◌, ◌+◌, ◌*◌, sym}
+use Rattle.sb_value.specs.Flags.{flag_at}
+use Rattle.sb_process.specs.declared.Outcome.{Outcome}
+use Rattle.sb_process.specs.Process.{process}
+use Rattle.sb_process.specs.Running.{ComesTo, Finds}
+use Rattle.sb_process.specs.Setting.{Progress}
+use Rattle.sb_process.proofs.Processing.{sessions-on, taken-back, processes-done, processes-back, if-ok}
 use Rattle.sb_process.proofs.database.Database.process.Goals as goal
 
-pub returns-clause-no_memory : goal.returns-clause-no_memory
-returns-clause-no_memory g c = λ origin setting progress w. c.rollback.ensures.back origin setting progress w.transaction
+pub returns-then-is_done-clause-processed : goal.returns-then-is_done-clause-processed
+returns-then-is_done-clause-processed g c = λ origin setting progress w.
+    let mid = c.consider_all.new in let later = g.L.ChangeLog.records mid.log in let time = g.L.ChangeLog.clock mid.log in
+    let S = λ (q : Progress). ComesTo origin mid.self c.args.session later time setting progress q in
+    let meant = process c.args.bound setting (flag_at c.args.eligible) progress in
+    let found = if-ok (λ (o : Outcome). Finds S meant c.new-list.result.items mid.trace.items o) c.consider_all.result c.in-Ok.outcome c.in-Ok.is (c.consider_all.ensures.processed origin setting progress w) in
+    processes-done origin c.args.self.now mid.self c.args.session later time setting progress S meant mid.trace.items c.new-list.result.items c.in-Ok.outcome c.new-list.ensures.items (λ q k. k.stands)
+    (sym c.is_done.ensures ∙ c.if-is_done.true) found
 
-pub returns-clause-id : goal.returns-clause-id
-returns-clause-id g c = let w = c.requires.work in (c.rollback.ensures.back w.0 w.1 w.2 w.3.transaction).id
+pub returns-else-is_done-clause-processed : goal.returns-else-is_done-clause-processed
+returns-else-is_done-clause-processed g c = λ origin setting progress w.
+    let mid = c.consider_all.new in let later = g.L.ChangeLog.records mid.log in let time = g.L.ChangeLog.clock mid.log in
+    let new = c.rollback.new in let last = g.L.ChangeLog.records new.log in let end = g.L.ChangeLog.clock new.log in
+    let S = λ (q : Progress). ComesTo origin mid.self c.args.session later time setting progress q in
+    let meant = process c.args.bound setting (flag_at c.args.eligible) progress in
+    let found = if-ok (λ (o : Outcome). Finds S meant c.new-list.result.items mid.trace.items o) c.consider_all.result c.in-Ok.outcome c.in-Ok.is (c.consider_all.ensures.processed origin setting progress w) in
+    let come = c.consider_all.ensures.under_way origin setting progress w in
+    processes-back origin c.args.self.now new.self c.args.session last end setting progress S meant mid.trace.items c.new-list.result.items c.in-Ok.outcome c.new-list.ensures.items
+    (sym c.is_done.ensures ∙ c.if-is_done.false)
+    (taken-back origin c.args.self.now new.self c.args.session last end setting progress mid.self later time come.0 come.1 c.consider_all.ensures.id c.consider_all.ensures.sessions
+    (c.rollback.ensures.back origin setting come.0 (come.1).stands)) found
 
-pub returns-clause-sessions : goal.returns-clause-sessions
-returns-clause-sessions g c = let w = c.requires.work in (c.rollback.ensures.back w.0 w.1 w.2 w.3.transaction).sessions
+pub returns-in-Err-clause-no_memory : goal.returns-in-Err-clause-no_memory
+returns-in-Err-clause-no_memory g c = λ origin setting progress w.
+    let mid = c.consider_all.new in let later = g.L.ChangeLog.records mid.log in let time = g.L.ChangeLog.clock mid.log in
+    let new = c.rollback-in-Err.new in let last = g.L.ChangeLog.records new.log in let end = g.L.ChangeLog.clock new.log in
+    let come = c.consider_all.ensures.under_way origin setting progress w in
+    taken-back origin c.args.self.now new.self c.args.session last end setting progress mid.self later time come.0 come.1 c.consider_all.ensures.id c.consider_all.ensures.sessions
+    (c.rollback-in-Err.ensures.back origin setting come.0 (come.1).stands)
 
-pub returns-clause-numbers : goal.returns-clause-numbers
-returns-clause-numbers g c = λ n h. each-weaken n (n + 32768 * c.args.bound) (entries c.rollback.new.self.tables) (omega arith) (c.rollback.ensures.numbers n h)
+pub rollback-requires : goal.rollback-requires
+rollback-requires g c =
+    let w = c.requires.work in let come = c.consider_all.ensures.under_way w.0 w.1 w.2 w.3 in (w.0, w.1, come.0, (come.1).stands)
+
+pub rollback-requires-in-Err : goal.rollback-requires-in-Err
+rollback-requires-in-Err g c =
+    let w = c.requires.work in let come = c.consider_all.ensures.under_way w.0 w.1 w.2 w.3 in (w.0, w.1, come.0, (come.1).stands)
+
+pub returns-else-is_done-clause-id : goal.returns-else-is_done-clause-id
+returns-else-is_done-clause-id g c =
+    let w = c.requires.work in
+    let come = c.consider_all.ensures.under_way w.0 w.1 w.2 w.3 in
+    (c.rollback.ensures.back w.0 w.1 come.0 (come.1).stands).id ∙ c.consider_all.ensures.id
+
+pub returns-else-is_done-clause-sessions : goal.returns-else-is_done-clause-sessions
+returns-else-is_done-clause-sessions g c =
+    let w = c.requires.work in
+    let come = c.consider_all.ensures.under_way w.0 w.1 w.2 w.3 in
+    sessions-on c.args.self.now.transactions c.consider_all.new.self.transactions c.rollback.new.self.transactions c.args.session c.consider_all.ensures.sessions
+    (c.rollback.ensures.back w.0 w.1 come.0 (come.1).stands).sessions
+
+pub returns-else-is_done-clause-numbers : goal.returns-else-is_done-clause-numbers
+returns-else-is_done-clause-numbers g c = λ n h. c.rollback.ensures.numbers (n + 32768 * c.args.bound) (c.consider_all.ensures.numbers n h)
+
+pub returns-in-Err-clause-id : goal.returns-in-Err-clause-id
+returns-in-Err-clause-id g c =
+    let w = c.requires.work in
+    let come = c.consider_all.ensures.under_way w.0 w.1 w.2 w.3 in
+    (c.rollback-in-Err.ensures.back w.0 w.1 come.0 (come.1).stands).id ∙ c.consider_all.ensures.id
+
+pub returns-in-Err-clause-sessions : goal.returns-in-Err-clause-sessions
+returns-in-Err-clause-sessions g c =
+    let w = c.requires.work in
+    let come = c.consider_all.ensures.under_way w.0 w.1 w.2 w.3 in
+    sessions-on c.args.self.now.transactions c.consider_all.new.self.transactions c.rollback-in-Err.new.self.transactions c.args.session c.consider_all.ensures.sessions
+    (c.rollback-in-Err.ensures.back w.0 w.1 come.0 (come.1).stands).sessions
+
+pub returns-in-Err-clause-numbers : goal.returns-in-Err-clause-numbers
+returns-in-Err-clause-numbers g c = λ n h. c.rollback-in-Err.ensures.numbers (n + 32768 * c.args.bound) (c.consider_all.ensures.numbers n h)

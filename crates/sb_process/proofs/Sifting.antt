@@ -1,0 +1,79 @@
+-- Candidates that are looked at one after another.
+use Rattle.std.proofs.Common.{◌≡◌, ◌∙◌, ◌≢◌, ℕ, zero, suc, ◌+◌, ◌<◌, Bool, true, false, not, ◌&&◌, nat_eq, List, [], ◌∷◌, length, Option, Some, None, refl, sym, ap, arith, eq-eqb, eqb-true}
+use Rattle.sb_value.specs.declared.id.Who.{Who}
+use Rattle.sb_value.specs.Flags.{flag_at}
+use Rattle.sb_value.specs.NetEffect.{is_triggered}
+use Rattle.sb_rawlog.specs.Records.{Record}
+use Rattle.sb_rawlog.specs.Sessions.{changes_since}
+use Rattle.sb_catalog.specs.declared.rule.Rule.{Rule}
+use Rattle.sb_process.specs.Transactions.{Kept, mark_of}
+use Rattle.sb_process.specs.Triggered.{is_hit}
+
+both-left : (a b : Bool) → (a && b) ≡ true → a ≡ true
+both-left true b h = refl
+both-left false b h = h
+
+both-right : (a b : Bool) → (a && b) ≡ true → b ≡ true
+both-right true b h = h
+both-right false b h = absurd (cc)
+
+-- a rule is hit where the marks are the same
+pub hit-same : (who : Who) (old new : Kept) (records : List Record) (rule : Option Rule) → ((s r : ℕ) → mark_of new s r ≡ mark_of old s r) → is_hit who new records rule ≡ is_hit who old records rule
+hit-same who old new records None h = refl
+hit-same who old new records (Some rule) h = ap (λ (t : ℕ). is_triggered rule.triggers rule.table (changes_since who t records)) (h who.session rule.id)
+
+-- of the numbers below n + 1 the last one is n
+last-below : (P : ℕ → Type 0) (n r : ℕ) → r < n + 1 → (r < n → P r) → P n → P r
+last-below P n r l below here = by (nat_eq r n) refl
+  where
+    by : (b : Bool) → nat_eq r n ≡ b → P r
+    by true e = rw (eqb-true r n e) here
+    by false e = below (let differ : r ≢ n = λ same. absurd (let at = eq-eqb r n same in cc) in omega arith)
+
+-- another session's candidates stay
+pub left-other : (c s q : Bool) → s ≡ false → (c && not (s && q)) ≡ c
+left-other true false q e = refl
+left-other false false q e = refl
+left-other c true q e = absurd (cc)
+
+pub flag-within : (flags : List Bool) (r : ℕ) → flag_at flags r ≡ true → r < length flags
+flag-within [] r e = absurd (cc)
+flag-within (x ∷ xs) zero e = omega arith
+flag-within (x ∷ xs) (suc r) e = let h = flag-within xs r e in omega arith
+
+module _ (hit : ℕ → Bool) (rule : ℕ) (flag kept : ℕ → Bool) (eligible : ℕ → Bool) where
+  -- a rule that isn't hit is taken from the set and from the candidates
+
+  pub left-candidates : (same : Bool) → same ≡ true → ((r : ℕ) → flag r ≡ (kept r && eligible r)) → (r : ℕ) → (flag r && not (nat_eq r rule)) ≡ ((kept r && not (same && nat_eq r rule)) && eligible r)
+  left-candidates same e h r = by (flag r) (kept r) (eligible r) (nat_eq r rule) same (h r) e
+    where
+      by : (f c l q s : Bool) → f ≡ (c && l) → s ≡ true → (f && not q) ≡ ((c && not (s && q)) && l)
+      by f true true true true p u = ap (λ (x : Bool). x && false) p
+      by f true true false true p u = ap (λ (x : Bool). x && true) p
+      by f true false true true p u = ap (λ (x : Bool). x && false) p
+      by f true false false true p u = ap (λ (x : Bool). x && true) p
+      by f false true q true p u = ap (λ (x : Bool). x && not q) p
+      by f false false q true p u = ap (λ (x : Bool). x && not q) p
+      by f c l q false p u = absurd (cc)
+
+  pub left-hit : (n : ℕ) → rule ≡ n → ((r : ℕ) → r < n → flag r ≡ true → hit r ≡ true) → (r : ℕ) → r < n + 1 → (flag r && not (nat_eq r rule)) ≡ true → hit r ≡ true
+  left-hit n same h r l e = last-below (λ (k : ℕ). (flag k && not (nat_eq k rule)) ≡ true → hit k ≡ true) n r l (λ below f. h r below (both-left (flag r) (not (nat_eq r rule)) f)) never e
+    where
+      never : (flag n && not (nat_eq n rule)) ≡ true → hit n ≡ true
+      never f = let gone = both-right (flag n) (not (nat_eq n rule)) f in let at = eq-eqb n rule (sym same) in absurd (cc (ap not at))
+
+  pub left-stay : (same : Bool) → same ≡ true → hit rule ≡ false → (first : ℕ → Bool) → ((r : ℕ) → hit r ≡ true → kept r ≡ first r) → (r : ℕ) → hit r ≡ true → (kept r && not (same && nat_eq r rule)) ≡ first r
+  left-stay same e missed first h r it = by (kept r) same (nat_eq r rule) refl e ∙ h r it
+    where
+      by : (c s q : Bool) → nat_eq r rule ≡ q → s ≡ true → (c && not (s && q)) ≡ c
+      by c s true p u = absurd (let same_rule = ap hit (eqb-true r rule p) in cc)
+      by true true false p u = refl
+      by false true false p u = refl
+      by c false false p u = absurd (cc)
+
+  -- a rule that is hit or not in the set stays
+  pub here-hit : (n : ℕ) → rule ≡ n → hit rule ≡ true → ((r : ℕ) → r < n → flag r ≡ true → hit r ≡ true) → (r : ℕ) → r < n + 1 → flag r ≡ true → hit r ≡ true
+  here-hit n same it h r l e = last-below (λ (k : ℕ). flag k ≡ true → hit k ≡ true) n r l (h r) (λ f. ap hit (sym same) ∙ it) e
+
+  pub here-out : (n : ℕ) → rule ≡ n → flag rule ≡ false → ((r : ℕ) → r < n → flag r ≡ true → hit r ≡ true) → (r : ℕ) → r < n + 1 → flag r ≡ true → hit r ≡ true
+  here-out n same out h r l e = last-below (λ (k : ℕ). flag k ≡ true → hit k ≡ true) n r l (h r) (λ f. absurd (let at = ap flag same in cc)) e

@@ -1,0 +1,20 @@
+use Rattle.std.proofs.Common.{◌≡◌, ℕ, ◌+◌, List, [], ◌∷◌, ◌++◌, OnOk, subst, arith}
+use Rattle.sb_value.specs.declared.refusal.Verdict.{Verdict}
+use Rattle.sb_tables.specs.Held.{entries}
+use Rattle.sb_process.specs.Consider.{consider}
+use Rattle.sb_process.specs.Running.{ComesTo, verdict_noted}
+use Rattle.sb_process.specs.Setting.{Progress}
+use Rattle.sb_process.proofs.Numbers.{each-weaken}
+use Rattle.sb_process.proofs.Processing.{noted-as}
+use Rattle.sb_process.proofs.database.Database.consider_noted.Goals as goal
+
+pub returns-then-is_err-clause-numbers : goal.returns-then-is_err-clause-numbers
+returns-then-is_err-clause-numbers g c = λ n h. each-weaken n (n + 32768) (entries c.args.self.now.tables) (omega arith) h
+
+pub returns-clause-noted : goal.returns-clause-noted
+returns-clause-noted g c = λ origin setting progress w.
+    let new = c.consider-considered.new in
+    let S = λ (q : Progress). ComesTo origin new.self c.args.session (g.L.ChangeLog.records new.log) (g.L.ChangeLog.clock new.log) setting progress q in
+    noted-as S c.args.rule.now.id progress c.args.trace.now.items c.note.new.trace.items (consider setting c.args.rule.now progress) c.consider-considered.result c.note.result
+    (c.consider-considered.ensures.considered origin setting progress w) c.note.ensures.outcome
+    (subst (λ (l : List (ℕ × Verdict)). OnOk c.note.result (c.note.new.trace.items ≡ l ++ (c.args.rule.now.id, verdict_noted c.consider-considered.result) ∷ [])) c.reserve.ensures.items c.note.ensures.verdict) c.note.ensures.had_memory

@@ -1,0 +1,14 @@
+use Rattle.std.proofs.Common.{◌∙◌, ℕ, sym, ap}
+use Rattle.sb_value.specs.NetEffect.{transition_tables}
+use Rattle.sb_rawlog.specs.Sessions.{changes_since}
+use Rattle.sb_process.specs.Represents.{who_in}
+use Rattle.sb_process.proofs.Choosing.{tables-taken, taken-ok}
+use Rattle.sb_process.proofs.database.Database.rule_tables.Goals as goal
+
+pub returns : goal.returns
+returns g c = λ origin setting progress r.
+    let d = c.args.self.now in
+    let records = g.L.ChangeLog.records c.args.log.now in
+    taken-ok c.transition_tables.result _ _
+    (ap (λ (t : ℕ). transition_tables c.args.rule.now.triggers c.args.rule.now.table (changes_since (who_in d c.args.session) t records)) c.mark-since.ensures
+    ∙ sym (tables-taken origin d c.args.session records (g.L.ChangeLog.clock c.args.log.now) setting progress r c.now-now.ensures.marks c.args.rule.now)) c.transition_tables.ensures

@@ -1,0 +1,107 @@
+//! The rules that a session's changes have triggered, and the one that is considered next.
+ghost use Rattle.std.specs.Prelude.{◌≡◌, ℕ, List};
+ghost use Rattle.std.specs.Option.{option_copied};
+ghost use Rattle.sb_value.specs.Flags.{flag_at};
+ghost use Rattle.sb_catalog.specs.Rules.{numbered};
+ghost use Rattle.sb_tables.specs.Held.{Held};
+ghost use Rattle.sb_process.specs.Represents.{Represents, who_in};
+ghost use Rattle.sb_process.specs.Setting as spec;
+ghost use Rattle.sb_process.specs.Setting.{Setting, Progress};
+ghost use Rattle.sb_process.specs.Transactions.{OtherSessionsStay};
+ghost use Rattle.sb_process.specs.Triggered.{AreSifted, HasCandidates, is_hit};
+ghost use Rattle.sb_process.specs.Work.{AreActive, IsWork};
+
+use crate::database::Database;
+use crate::process::Rules;
+use sb_catalog::{Catalog, Rule};
+use sb_net::is_triggered;
+use sb_rawlog::ChangeLog;
+use sb_value::{RuleId, RuleSet, SessionId, Who};
+
+impl Database {
+    /// The rule that is considered next: of the eligible rules that are triggered, the earliest created that no other
+    /// of them precedes.
+    pub(crate) fn next_rule<'a, L: ChangeLog>(
+        &mut self,
+        log: &L,
+        rules: &Rules<'a>,
+        session: SessionId,
+        eligible: RuleSet,
+    ) -> Option<&'a Rule>
+        requires { AreActive (flag_at eligible) rules.now.catalog.now }
+        ensures next { (origin : List Held) (setting : Setting) (progress : Progress) → IsWork origin self.old session (L.records log.now) (L.clock log.now) rules.now.index.now rules.now.catalog.now rules.now.order.now setting progress → option_copied result ≡ spec.next_rule setting (flag_at eligible) progress }
+        ensures work { (origin : List Held) (setting : Setting) (progress : Progress) → IsWork origin self.old session (L.records log.now) (L.clock log.now) rules.now.index.now rules.now.catalog.now rules.now.order.now setting progress → IsWork origin self.new session (L.records log.now) (L.clock log.now) rules.now.index.now rules.now.catalog.now rules.now.order.now setting progress }
+        ensures sessions { OtherSessionsStay self.old.transactions self.new.transactions session }
+        ensures only_candidates { self.new ≡ record self.old { transactions = self.new.transactions } }
+    {
+        let set = self.candidates(log, rules.catalog, session, eligible);
+        match rules.order.choose(set) {
+            Some(id) => rules.catalog.rule(id),
+            None => None,
+        }
+    }
+
+    /// The eligible rules that are triggered.
+    fn candidates<L: ChangeLog>(
+        &mut self,
+        log: &L,
+        catalog: &Catalog,
+        session: SessionId,
+        eligible: RuleSet,
+    ) -> RuleSet
+        requires { AreActive (flag_at eligible) catalog.now }
+        ensures set { (origin : List Held) (setting : Setting) (progress : Progress) → Represents origin self.old session (L.records log.now) (L.clock log.now) setting progress → setting.rules ≡ catalog.now → HasCandidates result (flag_at eligible) progress catalog.now }
+        ensures stands { (origin : List Held) (setting : Setting) (progress : Progress) → Represents origin self.old session (L.records log.now) (L.clock log.now) setting progress → setting.rules ≡ catalog.now → Represents origin self.new session (L.records log.now) (L.clock log.now) setting progress }
+        ensures sessions { OtherSessionsStay self.old.transactions self.new.transactions session }
+        ensures only_candidates { self.new ≡ record self.old { transactions = self.new.transactions } }
+    {
+        // for the proof: a time marks the changes that are older, and a rule's number is its own
+        let _now = log.now();
+        let _rules = catalog.rules();
+        self.sift(log, catalog, session, eligible)
+    }
+
+    /// The eligible candidates that are triggered. One that isn't leaves the candidates, and a later change puts it back.
+    fn sift<L: ChangeLog>(
+        &mut self,
+        log: &L,
+        catalog: &Catalog,
+        session: SessionId,
+        eligible: RuleSet,
+    ) -> RuleSet
+        ensures sifted { AreSifted (who_in self.old session) (L.records log.now) catalog.now eligible self.old.transactions self.new.transactions result }
+        ensures sessions { OtherSessionsStay self.old.transactions self.new.transactions session }
+        ensures only_candidates { self.new ≡ record self.old { transactions = self.new.transactions } }
+    {
+        let mut set = self.transactions.candidates(session).intersection(eligible);
+        for number in 0..set.capacity() {
+            let rule = RuleId::new(number as u8);
+            if set.contains(rule) && !self.is_hit(log, catalog, session, rule) {
+                self.transactions.leave(session, rule);
+                set = set.without(rule);
+            }
+        }
+        set
+    }
+
+    /// Whether the session's changes since the rule's mark trigger it.
+    fn is_hit<L: ChangeLog>(
+        &self,
+        log: &L,
+        catalog: &Catalog,
+        session: SessionId,
+        rule: RuleId,
+    ) -> bool
+        ensures { result ≡ is_hit (who_in self.now session) self.now.transactions (L.records log.now) (numbered catalog.now rule) }
+    {
+        let Some(rule) = catalog.rule(rule) else {
+            return false;
+        };
+        let who = Who {
+            tenant: self.id,
+            session,
+        };
+        let since = self.transactions.mark(session, rule.id);
+        is_triggered(log, who, rule.table, rule.triggers, since)
+    }
+}

@@ -1,0 +1,80 @@
+//! The condition of a rule.
+ghost use Rattle.std.specs.Prelude.{◌≡◌, ◌⊎◌, ℕ, List};
+ghost use Rattle.sb_eval.specs.Statement as statement;
+ghost use Rattle.sb_rawlog.specs.Records.{Record};
+ghost use Rattle.sb_tables.specs.Held.{Held};
+ghost use Rattle.sb_process.specs.Consider.{test_condition};
+ghost use Rattle.sb_process.specs.Represents.{Represents, who_in};
+ghost use Rattle.sb_process.specs.Request.{AreThere, IsAnswer};
+ghost use Rattle.sb_process.specs.Running.{ComesTo, Tests, truth};
+ghost use Rattle.sb_process.specs.Setting.{Setting, Progress};
+ghost use Rattle.sb_process.specs.View.{seen_by};
+ghost use Rattle.sb_process.specs.Work.{IsConditionThere};
+
+use crate::database::Database;
+use crate::lock_list::query_locks;
+use crate::request::request;
+use crate::statement::refusal_for;
+use sb_check::Query;
+use sb_eval::condition_rows;
+use sb_value::{Refusal, SessionId, Transition};
+use std::alloc::Global;
+
+impl Database {
+    /// Whether a rule's condition is true over these transition tables, once all its locks are taken.
+    pub(crate) fn test(
+        &mut self,
+        alloc: Global,
+        session: SessionId,
+        tables: &Transition,
+        condition: &Option<Query>,
+    ) -> Result<bool, Refusal>
+        requires { IsConditionThere self.old.tables condition.now }
+        ensures tested { (origin : List Held) (records : List Record) (clock : ℕ) (setting : Setting) (progress : Progress) → Represents origin self.old session records clock setting progress → Tests (ComesTo origin self.new session records clock setting progress) (test_condition setting tables.now condition.now progress) result ⊎ (result ≡ Err Refusal.NoMemory) }
+        ensures under_way { (origin : List Held) (records : List Record) (clock : ℕ) (setting : Setting) (progress : Progress) → Represents origin self.old session records clock setting progress → (after : Progress) × ComesTo origin self.new session records clock setting progress after }
+        ensures only_locks { self.new ≡ record self.old { locks = self.new.locks } }
+    {
+        match condition {
+            Some(query) => self.test_query(alloc, session, tables, query),
+            None => Ok(true),
+        }
+    }
+
+    fn test_query(
+        &mut self,
+        alloc: Global,
+        session: SessionId,
+        tables: &Transition,
+        query: &Query,
+    ) -> Result<bool, Refusal>
+        requires { AreThere self.old.tables (statement.query_locks query.now) }
+        ensures tested { (origin : List Held) (records : List Record) (clock : ℕ) (setting : Setting) (progress : Progress) → Represents origin self.old session records clock setting progress → Tests (ComesTo origin self.new session records clock setting progress) (test_condition setting tables.now (Some query.now) progress) result ⊎ (result ≡ Err Refusal.NoMemory) }
+        ensures under_way { (origin : List Held) (records : List Record) (clock : ℕ) (setting : Setting) (progress : Progress) → Represents origin self.old session records clock setting progress → (after : Progress) × ComesTo origin self.new session records clock setting progress after }
+        ensures only_locks { self.new ≡ record self.old { locks = self.new.locks } }
+    {
+        let Ok(list) = query_locks(alloc, query) else {
+            return Err(Refusal::NoMemory);
+        };
+        match request(&mut self.locks, &self.tables, session, list.as_slice()) {
+            Ok(()) => self.has_row(alloc, session, tables, query),
+            Err(refusal) => Err(refusal),
+        }
+    }
+
+    /// Whether a query has a row over the tables as they are.
+    fn has_row(
+        &self,
+        alloc: Global,
+        session: SessionId,
+        tables: &Transition,
+        query: &Query,
+    ) -> Result<bool, Refusal>
+        ensures { IsAnswer (truth (statement.condition_rows (seen_by self.now.tables tables.now (who_in self.now session)) query.now)) result }
+    {
+        let view = self.view(session, tables);
+        match condition_rows(alloc, query, &view) {
+            Ok(rows) => Ok(rows.len() > 0),
+            Err(error) => Err(refusal_for(error)),
+        }
+    }
+}

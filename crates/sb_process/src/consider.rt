@@ -1,0 +1,164 @@
+//! One consideration of a rule.
+ghost use Rattle.std.specs.Prelude.{◌≡◌, ◌⊎◌, [], ◌∷◌, ◌-◌, ◌≤◌, ◌<◌, ◌+◌, ◌*◌, ◌^◌, ℕ, List, length, IfOk};
+ghost use Rattle.sb_rawlog.specs.Sessions.{OthersStay};
+ghost use Rattle.sb_tables.specs.Held.{Held};
+ghost use Rattle.sb_process.specs.Consider as spec;
+ghost use Rattle.sb_process.specs.Made.{NumbersBelow};
+ghost use Rattle.sb_process.specs.Represents.{Represents, who_in};
+ghost use Rattle.sb_process.specs.Running.{IsRunning, ComesTo, Acts, Ends, Goes};
+ghost use Rattle.sb_process.specs.Setting.{Setting, Progress, marked, rule_tables};
+ghost use Rattle.sb_process.specs.Statement.{RisesBy};
+ghost use Rattle.sb_process.specs.Transactions.{OtherSessionsStay};
+ghost use Rattle.sb_process.specs.Work.{AreActionsThere, IsConditionThere};
+
+use crate::database::Database;
+use sb_catalog::Rule;
+use sb_check::Action;
+use sb_index::RuleIndex;
+use sb_net::transition_tables;
+use sb_rawlog::ChangeLog;
+use sb_value::{Refusal, SessionId, Transition, Who};
+use std::alloc::{AllocError, Global};
+
+/// What a consideration came to, where nothing is refused.
+#[derive(Drop)]
+pub(crate) enum Consideration {
+    False,
+    True,
+    RolledBack,
+}
+
+impl Database {
+    /// Considers a rule: its transition tables are taken and stay, its mark is set, and where its condition is true its
+    /// actions run.
+    pub(crate) fn consider<L: ChangeLog>(
+        &mut self,
+        alloc: Global,
+        log: &mut L,
+        index: &RuleIndex,
+        session: SessionId,
+        rule: &Rule,
+    ) -> Result<Consideration, Refusal>
+        requires running { (origin : List Held) × (setting : Setting) × (progress : Progress) × IsRunning origin self.old session (L.records log.old) (L.clock log.old) index.now setting progress }
+        requires condition { IsConditionThere self.old.tables rule.now.condition }
+        requires actions { AreActionsThere self.old.tables rule.now.actions }
+        requires few { length rule.now.actions ≤ 8 }
+        requires times { L.clock log.old + 32768 < 2 ^ 64 }
+        requires numbers { (n : ℕ) × (n + 32768 < 2 ^ 64) × NumbersBelow n self.old.tables }
+        ensures considered { (origin : List Held) (setting : Setting) (progress : Progress) → IsRunning origin self.old session (L.records log.old) (L.clock log.old) index.now setting progress → Goes (ComesTo origin self.new session (L.records log.new) (L.clock log.new) setting progress) (spec.consider setting rule.now progress) result ⊎ (result ≡ Err Refusal.NoMemory) }
+        ensures under_way { (origin : List Held) (setting : Setting) (progress : Progress) → IsRunning origin self.old session (L.records log.old) (L.clock log.old) index.now setting progress → (after : Progress) × ComesTo origin self.new session (L.records log.new) (L.clock log.new) setting progress after }
+        ensures id { self.new.id ≡ self.old.id }
+        ensures sessions { OtherSessionsStay self.old.transactions self.new.transactions session }
+        ensures others { OthersStay (who_in self.old session) (L.records log.old) (L.records log.new) }
+        ensures times { RisesBy 32768 (L.clock log.old) (L.clock log.new) }
+        ensures numbers { (n : ℕ) → NumbersBelow n self.old.tables → NumbersBelow (n + 32768) self.new.tables }
+    {
+        let Ok(tables) = self.rule_tables(alloc, log, session, rule) else {
+            return Err(Refusal::NoMemory);
+        };
+        self.mark_now(log, session, rule);
+        match self.test(alloc, session, &tables, &rule.condition) {
+            Ok(true) => {
+                self.run_actions(alloc, log, index, session, &tables, rule.actions.as_slice())
+            }
+            Ok(false) => Ok(Consideration::False),
+            Err(refusal) => Err(refusal),
+        }
+    }
+
+    /// The transition tables of the session's changes since a rule's mark.
+    fn rule_tables<L: ChangeLog>(
+        &self,
+        alloc: Global,
+        log: &L,
+        session: SessionId,
+        rule: &Rule,
+    ) -> Result<Transition, AllocError>
+        ensures { (origin : List Held) (setting : Setting) (progress : Progress) → Represents origin self.now session (L.records log.now) (L.clock log.now) setting progress → IfOk result (λ tables. tables ≡ rule_tables progress rule.now) }
+    {
+        // for the proof: a time marks the changes that are older
+        let _now = log.now();
+        let who = Who {
+            tenant: self.id,
+            session,
+        };
+        let since = self.transactions.mark(session, rule.id);
+        transition_tables(alloc, log, who, rule.table, rule.triggers, since)
+    }
+
+    /// Sets a rule's mark at the end of the session's changes.
+    fn mark_now<L: ChangeLog>(&mut self, log: &L, session: SessionId, rule: &Rule)
+        ensures marked { (origin : List Held) (setting : Setting) (progress : Progress) → Represents origin self.old session (L.records log.now) (L.clock log.now) setting progress → Represents origin self.new session (L.records log.now) (L.clock log.now) setting (marked rule.now progress) }
+        ensures sessions { OtherSessionsStay self.old.transactions self.new.transactions session }
+        ensures only_marks { self.new ≡ record self.old { transactions = self.new.transactions } }
+    {
+        self.transactions.set_mark(session, rule.id, log.now());
+    }
+
+    /// Runs actions in order, up to a `rollback` or a refusal.
+    fn run_actions<L: ChangeLog>(
+        &mut self,
+        alloc: Global,
+        log: &mut L,
+        index: &RuleIndex,
+        session: SessionId,
+        tables: &Transition,
+        actions: &[Action],
+    ) -> Result<Consideration, Refusal>
+        requires running { (origin : List Held) × (setting : Setting) × (progress : Progress) × IsRunning origin self.old session (L.records log.old) (L.clock log.old) index.now setting progress }
+        requires actions { AreActionsThere self.old.tables actions.now }
+        requires times { L.clock log.old + 4096 * length actions.now < 2 ^ 64 }
+        requires numbers { (n : ℕ) × (n + 4096 * length actions.now < 2 ^ 64) × NumbersBelow n self.old.tables }
+        ensures ran { (origin : List Held) (setting : Setting) (progress : Progress) → IsRunning origin self.old session (L.records log.old) (L.clock log.old) index.now setting progress → Ends (ComesTo origin self.new session (L.records log.new) (L.clock log.new) setting progress) (spec.run_actions setting tables.now actions.now progress) result ⊎ (result ≡ Err Refusal.NoMemory) }
+        ensures under_way { (origin : List Held) (setting : Setting) (progress : Progress) → IsRunning origin self.old session (L.records log.old) (L.clock log.old) index.now setting progress → (after : Progress) × ComesTo origin self.new session (L.records log.new) (L.clock log.new) setting progress after }
+        ensures id { self.new.id ≡ self.old.id }
+        ensures sessions { OtherSessionsStay self.old.transactions self.new.transactions session }
+        ensures others { OthersStay (who_in self.old session) (L.records log.old) (L.records log.new) }
+        ensures times { RisesBy (4096 * length actions.now) (L.clock log.old) (L.clock log.new) }
+        ensures numbers { (n : ℕ) → NumbersBelow n self.old.tables → NumbersBelow (n + 4096 * length actions.now) self.new.tables }
+    {
+        match actions {
+            [] => Ok(Consideration::True),
+            [first, rest @ ..] => {
+                match self.run_action(alloc, log, index, session, tables, first) {
+                    Ok(true) => self.run_actions(alloc, log, index, session, tables, rest),
+                    Ok(false) => Ok(Consideration::RolledBack),
+                    Err(refusal) => Err(refusal),
+                }
+            }
+        }
+    }
+
+    /// Runs an action, and says whether the next one is to run.
+    fn run_action<L: ChangeLog>(
+        &mut self,
+        alloc: Global,
+        log: &mut L,
+        index: &RuleIndex,
+        session: SessionId,
+        tables: &Transition,
+        action: &Action,
+    ) -> Result<bool, Refusal>
+        requires running { (origin : List Held) × (setting : Setting) × (progress : Progress) × IsRunning origin self.old session (L.records log.old) (L.clock log.old) index.now setting progress }
+        requires action { AreActionsThere self.old.tables (action.now ∷ []) }
+        requires times { L.clock log.old + 4096 < 2 ^ 64 }
+        requires numbers { NumbersBelow (2 ^ 64 - 4097) self.old.tables }
+        ensures ran { (origin : List Held) (setting : Setting) (progress : Progress) → IsRunning origin self.old session (L.records log.old) (L.clock log.old) index.now setting progress → Acts (ComesTo origin self.new session (L.records log.new) (L.clock log.new) setting progress) (spec.run_actions setting tables.now (action.now ∷ []) progress) result ⊎ (result ≡ Err Refusal.NoMemory) }
+        ensures under_way { (origin : List Held) (setting : Setting) (progress : Progress) → IsRunning origin self.old session (L.records log.old) (L.clock log.old) index.now setting progress → (after : Progress) × ComesTo origin self.new session (L.records log.new) (L.clock log.new) setting progress after }
+        ensures id { self.new.id ≡ self.old.id }
+        ensures sessions { OtherSessionsStay self.old.transactions self.new.transactions session }
+        ensures others { OthersStay (who_in self.old session) (L.records log.old) (L.records log.new) }
+        ensures times { RisesBy 4096 (L.clock log.old) (L.clock log.new) }
+        ensures numbers { (n : ℕ) → NumbersBelow n self.old.tables → NumbersBelow (n + 4096) self.new.tables }
+    {
+        match action {
+            Action::Rollback => Ok(false),
+            Action::Change(statement) => {
+                match self.run(alloc, log, index, session, tables, statement) {
+                    Ok(_) => Ok(true),
+                    Err(refusal) => Err(refusal),
+                }
+            }
+        }
+    }
+}

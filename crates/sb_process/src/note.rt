@@ -1,0 +1,95 @@
+//! A consideration with its verdict in the trace.
+ghost use Rattle.std.specs.Prelude.{◌≡◌, ◌≢◌, ◌≤◌, ◌<◌, ◌+◌, ◌^◌, ◌++◌, ◌∷◌, [], ℕ, List, length, IfOk, OnOk, OnErr, vec_len, vec_capacity};
+ghost use Rattle.sb_rawlog.specs.Sessions.{OthersStay};
+ghost use Rattle.sb_tables.specs.Held.{Held};
+ghost use Rattle.sb_process.specs.Consider as spec;
+ghost use Rattle.sb_process.specs.Made.{NumbersBelow};
+ghost use Rattle.sb_process.specs.Represents.{who_in};
+ghost use Rattle.sb_process.specs.Running.{IsRunning, ComesTo, Notes, outcome_noted, verdict_noted};
+ghost use Rattle.sb_process.specs.Setting.{Setting, Progress};
+ghost use Rattle.sb_process.specs.Statement.{RisesBy};
+ghost use Rattle.sb_process.specs.Transactions.{OtherSessionsStay};
+ghost use Rattle.sb_process.specs.Work.{AreActionsThere, IsConditionThere};
+
+use crate::Outcome;
+use crate::consider::Consideration;
+use crate::database::Database;
+use sb_catalog::Rule;
+use sb_index::RuleIndex;
+use sb_rawlog::ChangeLog;
+use sb_value::{Refusal, RuleId, SessionId, Verdict};
+use std::alloc::{AllocError, Global};
+
+impl Database {
+    /// Considers a rule and notes the verdict. The answer is the outcome, where processing ends with it.
+    pub(crate) fn consider_noted<L: ChangeLog>(
+        &mut self,
+        alloc: Global,
+        log: &mut L,
+        index: &RuleIndex,
+        session: SessionId,
+        rule: &Rule,
+        trace: &mut Vec<(RuleId, Verdict)>,
+    ) -> Result<Option<Outcome>, AllocError>
+        requires running { (origin : List Held) × (setting : Setting) × (progress : Progress) × IsRunning origin self.old session (L.records log.old) (L.clock log.old) index.now setting progress }
+        requires condition { IsConditionThere self.old.tables rule.now.condition }
+        requires actions { AreActionsThere self.old.tables rule.now.actions }
+        requires few { length rule.now.actions ≤ 8 }
+        requires times { L.clock log.old + 32768 < 2 ^ 64 }
+        requires numbers { (n : ℕ) × (n + 32768 < 2 ^ 64) × NumbersBelow n self.old.tables }
+        ensures noted { (origin : List Held) (setting : Setting) (progress : Progress) → IsRunning origin self.old session (L.records log.old) (L.clock log.old) index.now setting progress → IfOk result (λ o. Notes (ComesTo origin self.new session (L.records log.new) (L.clock log.new) setting progress) rule.now.id progress (spec.consider setting rule.now progress) trace.old.items trace.new.items o) }
+        ensures under_way { (origin : List Held) (setting : Setting) (progress : Progress) → IsRunning origin self.old session (L.records log.old) (L.clock log.old) index.now setting progress → (after : Progress) × ComesTo origin self.new session (L.records log.new) (L.clock log.new) setting progress after }
+        ensures id { self.new.id ≡ self.old.id }
+        ensures sessions { OtherSessionsStay self.old.transactions self.new.transactions session }
+        ensures others { OthersStay (who_in self.old session) (L.records log.old) (L.records log.new) }
+        ensures times { RisesBy 32768 (L.clock log.old) (L.clock log.new) }
+        ensures numbers { (n : ℕ) → NumbersBelow n self.old.tables → NumbersBelow (n + 32768) self.new.tables }
+    {
+        if trace.reserve(1).is_err() {
+            return Err(AllocError);
+        }
+        let considered = self.consider(alloc, log, index, session, rule);
+        note(trace, rule.id, considered)
+    }
+}
+
+/// Notes the verdict, in the place that it has, and says how processing ends with it.
+fn note(
+    trace: &mut Vec<(RuleId, Verdict)>,
+    rule: RuleId,
+    considered: Result<Consideration, Refusal>,
+) -> Result<Option<Outcome>, AllocError>
+    requires { vec_len trace.old < vec_capacity trace.old }
+    ensures outcome { IfOk result (λ o. o ≡ outcome_noted rule considered) }
+    ensures verdict { OnOk result (trace.new.items ≡ trace.old.items ++ (rule, verdict_noted considered) ∷ []) }
+    ensures had_memory { OnOk result (considered ≢ Err Refusal.NoMemory) }
+    ensures no_memory { OnErr result (considered ≡ Err Refusal.NoMemory) }
+{
+    match considered {
+        Ok(Consideration::False) => {
+            push_reserved(trace, rule, Verdict::False);
+            Ok(None)
+        }
+        Ok(Consideration::True) => {
+            push_reserved(trace, rule, Verdict::True);
+            Ok(None)
+        }
+        Ok(Consideration::RolledBack) => {
+            push_reserved(trace, rule, Verdict::True);
+            Ok(Some(Outcome::ByRule(rule)))
+        }
+        Err(Refusal::NoMemory) => Err(AllocError),
+        Err(refusal) => {
+            push_reserved(trace, rule, Verdict::Error);
+            Ok(Some(Outcome::ByError(rule, refusal)))
+        }
+    }
+}
+
+fn push_reserved(trace: &mut Vec<(RuleId, Verdict)>, rule: RuleId, verdict: Verdict)
+    requires { vec_len trace.old < vec_capacity trace.old }
+    ensures { trace.new.items ≡ trace.old.items ++ (rule, verdict) ∷ [] }
+{
+    // The place is there.
+    let _ = trace.push((rule, verdict));
+}
