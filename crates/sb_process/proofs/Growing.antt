@@ -26,7 +26,8 @@ use Rattle.sb_locks.specs.Held.{held}
 use Rattle.sb_catalog.specs.declared.rule.Rule.{Rule}
 use Rattle.sb_process.specs.declared.database.Database.{Database}
 use Rattle.sb_process.specs.Made.{AreStored, AreMade}
-use Rattle.sb_process.specs.Represents.{Represents, AreCandidates, AreIndexed, AreLocked, who_in}
+use Rattle.sb_catalog.specs.Definitions.{AreIndexed}
+use Rattle.sb_process.specs.Represents.{Represents, AreCandidates, AreLocked, who_in}
 use Rattle.sb_process.specs.Setting.{Setting, Progress, rule_is_triggered}
 use Rattle.sb_process.specs.Transactions.{Kept, mark_of, is_candidate_of}
 

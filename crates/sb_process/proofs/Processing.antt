@@ -22,7 +22,8 @@ use Rattle.sb_process.specs.declared.consider.Consideration.{Consideration}
 use Rattle.sb_process.specs.declared.database.Database.{Database}
 use Rattle.sb_process.specs.Consider.{ran, rolled_back, refused, Considered, was_false, was_true, was_refused, consider}
 use Rattle.sb_process.specs.Process.{Processing, ended, after_verdict, process, stands_after}
-use Rattle.sb_process.specs.Represents.{Represents, IsTakenBack, AreIndexed, who_in}
+use Rattle.sb_catalog.specs.Definitions.{AreIndexed}
+use Rattle.sb_process.specs.Represents.{Represents, IsTakenBack, who_in}
 use Rattle.sb_process.specs.Running.{IsRunning, ComesTo, Goes, Notes, Finds, outcome_noted, verdict_noted, verdict_of, outcome_of, left_by, is_done}
 use Rattle.sb_process.specs.Setting.{Setting, Progress, is_candidate, next_rule}
 use Rattle.sb_process.specs.Transactions.{Kept, OtherSessionsStay}

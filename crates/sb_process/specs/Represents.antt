@@ -1,6 +1,5 @@
 -- What memory and a log hold of a session's transaction.
-use Rattle.std.specs.Prelude.{◌≡◌, ◌≤◌, ℕ, false, ◌&&◌, ◌==◌, List, [], ◌∷◌, map, IsTrue}
-use Rattle.std.specs.List.{list_any}
+use Rattle.std.specs.Prelude.{◌≡◌, ◌≤◌, ℕ, false, List, [], ◌∷◌, IsTrue}
 use Rattle.sb_value.specs.declared.change.Change.{Change}
 use Rattle.sb_value.specs.declared.id.Who.{Who}
 use Rattle.sb_value.specs.declared.lock.Mode.{Mode}
@@ -10,10 +9,6 @@ use Rattle.sb_rawlog.specs.Records.{Record}
 use Rattle.sb_rawlog.specs.Sessions.{changes_by, mark_at}
 use Rattle.sb_tables.specs.Held.{Held, entries, numbered}
 use Rattle.sb_locks.specs.Held.{held}
-use Rattle.sb_index.specs.Operation.{Operation, names}
-use Rattle.sb_index.specs.Stands.{stands}
-use Rattle.sb_index.specs.TableSets.{TableSets}
-use Rattle.sb_priority.specs.Ranks.{Ranks, HasOrder}
 use Rattle.sb_catalog.specs.declared.rule.Rule.{Rule}
 use Rattle.sb_process.specs.declared.database.Database.{Database}
 use Rattle.sb_process.specs.Made.{AreMade}
@@ -72,19 +67,6 @@ pub record IsKept (old new : Database) (session : ℕ) (records : List Record) (
   pub untouched : (table : ℕ) → progress.locks session table Write ≡ false → numbered new.tables table ≡ numbered old.tables table
   pub locks : (s t : ℕ) (m : Mode) → held new.locks s t m ≡ released progress.locks session s t m
   pub sessions : OtherSessionsStay old.transactions new.transactions session
-
--- ---- rules
-
--- the index has the operations of the tenant's active rules, and no others
-abbrev pub AreIndexed : List (List TableSets) → ℕ → List Rule → Type 0
-AreIndexed index tenant rules =
-    (table : ℕ) (operation : Operation) (id : ℕ) →
-    stands index tenant table operation id ≡ list_any (λ rule. rule.active && ((rule.table == table) && ((rule.id == id) && names rule.triggers operation))) rules
-
--- the order is that of the rules, by these pairs
-pub record AreOrdered (ranks : Ranks) (rules : List Rule) (pairs : List (ℕ × ℕ)) : Type 0 where
-  pub order : HasOrder ranks pairs
-  pub listed : ranks.rules ≡ map (λ rule. rule.id) rules
 
 -- ---- the beginning of a transaction
 

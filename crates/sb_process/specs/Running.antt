@@ -15,7 +15,8 @@ use Rattle.sb_process.specs.declared.Outcome.{Outcome}
 use Rattle.sb_process.specs.declared.Outcome.TheVariants.{Done, ByRule, ByError, ByLimit}
 use Rattle.sb_process.specs.declared.consider.Consideration.{Consideration}
 use Rattle.sb_process.specs.declared.consider.Consideration.TheVariants as consideration
-use Rattle.sb_process.specs.Represents.{Represents, AreIndexed}
+use Rattle.sb_catalog.specs.Definitions.{AreIndexed}
+use Rattle.sb_process.specs.Represents.{Represents}
 use Rattle.sb_process.specs.Setting.{Setting, Progress}
 use Rattle.sb_process.specs.Process.{Processing}
 use Rattle.sb_process.specs.Consider.{Ending, ran, rolled_back, refused, Considered, was_false, was_true, was_refused}

@@ -12,7 +12,8 @@ use Rattle.sb_rawlog.specs.Records.{Record}
 use Rattle.sb_catalog.specs.declared.rule.Rule.{Rule}
 use Rattle.sb_process.specs.declared.database.Database.{Database}
 use Rattle.sb_process.specs.declared.Outcome.{Outcome}
-use Rattle.sb_process.specs.Represents.{Represents, IsTakenBack, AreIndexed, AreOrdered}
+use Rattle.sb_catalog.specs.Definitions.{AreIndexed, AreOrdered}
+use Rattle.sb_process.specs.Represents.{Represents, IsTakenBack}
 use Rattle.sb_process.specs.Request.{AreThere}
 use Rattle.sb_process.specs.Setting.{Setting, Progress}
 use Rattle.sb_process.specs.Process.{Processing, Standing, goes_on, taken_back, standing}

@@ -5,7 +5,7 @@ use Rattle.sb_tables.specs.Held.{entries}
 use Rattle.sb_process.specs.declared.consider.Consideration.{Consideration}
 use Rattle.sb_process.specs.declared.consider.Consideration.TheVariants.{RolledBack}
 use Rattle.sb_process.specs.Consider.{Ending, run_actions}
-use Rattle.sb_process.specs.Represents.{AreIndexed}
+use Rattle.sb_catalog.specs.Definitions.{AreIndexed}
 use Rattle.sb_process.specs.Running.{ComesTo, Ends}
 use Rattle.sb_process.specs.Setting.{Progress}
 use Rattle.sb_process.specs.Work.{AreActionsThere}

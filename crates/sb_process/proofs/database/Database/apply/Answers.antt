@@ -8,7 +8,8 @@ use Rattle.sb_locks.specs.Held.{Holders, held}
 use Rattle.sb_process.specs.declared.ready.Ready.{Ready}
 use Rattle.sb_process.specs.Made.{NumbersBelow}
 use Rattle.sb_process.specs.Ready.{AreCopied, CanApply, changes_in}
-use Rattle.sb_process.specs.Represents.{Represents, AreIndexed, who_in}
+use Rattle.sb_catalog.specs.Definitions.{AreIndexed}
+use Rattle.sb_process.specs.Represents.{Represents, who_in}
 use Rattle.sb_process.proofs.Applying.{first_fits, others_can, below_one, none_left}
 use Rattle.sb_process.proofs.database.Database.apply.Goals as goal
 

@@ -8,7 +8,8 @@ use Rattle.sb_locks.specs.Held.{held}
 use Rattle.sb_process.specs.declared.ready.Ready.{Ready}
 use Rattle.sb_process.specs.Made.{NumbersBelow}
 use Rattle.sb_process.specs.Ready.{AreCopied, CanApply, changes_in}
-use Rattle.sb_process.specs.Represents.{Represents, AreIndexed, who_in}
+use Rattle.sb_catalog.specs.Definitions.{AreIndexed}
+use Rattle.sb_process.specs.Represents.{Represents, who_in}
 use Rattle.sb_process.specs.Setting.{Setting, Progress}
 use Rattle.sb_process.specs.Transactions.{OtherSessionsStay}
 use Rattle.sb_process.proofs.database.Database.apply.Given as goal

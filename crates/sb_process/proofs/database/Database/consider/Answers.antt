@@ -8,7 +8,7 @@ use Rattle.sb_process.specs.declared.consider.Consideration.{Consideration}
 use Rattle.sb_process.specs.declared.consider.Consideration.TheVariants.{False}
 use Rattle.sb_process.specs.Consider.{Considered, test_condition, run_actions}
 use Rattle.sb_process.specs.Made.{EachBelow}
-use Rattle.sb_process.specs.Represents.{AreIndexed}
+use Rattle.sb_catalog.specs.Definitions.{AreIndexed}
 use Rattle.sb_process.specs.Running.{ComesTo, Goes}
 use Rattle.sb_process.specs.Setting.{Progress, marked}
 use Rattle.sb_process.proofs.Numbers.{each-weaken}

@@ -2,7 +2,7 @@ use Rattle.std.proofs.Common.{◌∙◌, option_and_then, sym, ap, subst}
 use Rattle.sb_value.specs.Flags.{flag_at}
 use Rattle.sb_catalog.specs.Rules.{numbered}
 use Rattle.sb_process.specs.declared.database.Database.{Database}
-use Rattle.sb_process.specs.Represents.{AreIndexed}
+use Rattle.sb_catalog.specs.Definitions.{AreIndexed}
 use Rattle.sb_process.proofs.Choosing.{next-chosen}
 use Rattle.sb_process.proofs.database.Database.next_rule.Goals as goal
 
