@@ -110,9 +110,6 @@ pub record Reaches (stands : Progress → Type 0) (setting : Setting) (eligible 
   pub trace : new ≡ old ++ noted
   pub meant : process all setting eligible progress ≡ behind noted (process left setting eligible after)
 
-pub reaches-start : (S : Progress → Type 0) (setting : Setting) (eligible : ℕ → Bool) (progress : Progress) (n : ℕ) (old : List (ℕ × Verdict)) → S progress → Reaches S setting eligible progress n n old old
-reaches-start S setting eligible progress n old s = record { after = progress; comes_to = s; noted = []; trace = sym (append-nil old); meant = refl }
-
 module _ (setting : Setting) (eligible : ℕ → Bool) (progress : Progress) (all left : ℕ) (old mid : List (ℕ × Verdict)) (M : Progress → Type 0) (r : Reaches M setting eligible progress all left old mid) where
   -- no rule is left
   pub finds-done : (S : Progress → Type 0) → (M r.after → S r.after) → next_rule setting eligible r.after ≡ None → Finds S (process all setting eligible progress) old mid Done

@@ -74,10 +74,6 @@ pub rest-there : (tables : List Held) (first : Action) (actions : List Action) �
 rest-there tables action.Rollback actions h = h
 rest-there tables (action.Change statement) actions h = h.1
 
-pub first-there : (tables : List Held) (first : Action) (actions : List Action) → AreActionsThere tables (first ∷ actions) → AreActionsThere tables (first ∷ [])
-first-there tables action.Rollback actions h = tt
-first-there tables (action.Change statement) actions h = (h.0, tt)
-
 module _ (origin : List Held) (session : ℕ) (setting : Setting) (progress : Progress) (d : Database) (records : List Record) (clock : ℕ) (r : Represents origin d session records clock setting progress) where
   -- a statement with these transition tables sees what memory holds
   pub seen-same : (tables : Transition) (p : Progress) → p.changes ≡ progress.changes → seen_with setting tables p ≡ seen_by d.tables tables (who_in d session)
