@@ -86,7 +86,7 @@ assignments-same schema e [] a b same = refl
 assignments-same schema e (x ∷ xs) a b same = λ i. one_assigned schema e x (λ c. same c.0 i) (λ k. assignments-same schema e xs (k ∷ a) (k ∷ b) (more_taken k a b same) i)
 
 -- and of the table only its name and its columns
-assignments-seen : (schema : Schema) (e f : Entry) → e.name ≡ f.name → e.table.columns ≡ f.table.columns → (xs : List text.Assignment) (taken : List ℕ)
+pub assignments-seen : (schema : Schema) (e f : Entry) → e.name ≡ f.name → e.table.columns ≡ f.table.columns → (xs : List text.Assignment) (taken : List ℕ)
     → walk_assignments schema e taken xs ≡ walk_assignments schema f taken xs
 assignments-seen schema e f n c [] taken = refl
 assignments-seen schema e f n c (x ∷ xs) taken = λ i.

@@ -305,6 +305,26 @@ fitting_fits ks cs b h =
     let r = required_ok (length ks == length cs) refusal.WrongCount (of_types ks cs) b h in
     of_types_fit ks cs b (eqb-true (length ks) (length cs) r.0) r.1
 
+module _ (schema : Schema) where
+  -- the parts of a query that was walked
+  abbrev pub Selected : text.Items → List SourceReference → (Scope → Result Condition Refusal) → Scope → Walked → Type 0
+  Selected its refs filter scope w =
+      (ss : List (Source × Visible)) × (walk_sources schema [] refs ≡ Ok ss)
+      × (i : Items × List ColumnType) × (walk_items (map (λ s. s.1) ss ∷ scope) (map (λ s. s.1) ss) its ≡ Ok i)
+      × (c : Condition) × (filter (map (λ s. s.1) ss ∷ scope) ≡ Ok c)
+      × ((select i.0 (map (λ s. s.0) ss) c, i.1) ≡ w)
+
+  pub selected : (its : text.Items) (refs : List SourceReference) (filter : Scope → Result Condition Refusal) (scope : Scope) (w : Walked) → walk_select schema its refs filter scope ≡ Ok w → Selected its refs filter scope w
+  selected its refs filter scope w h =
+      let p = then_ok (walk_sources schema [] refs) (λ ss.
+      and_then (walk_items (map (λ s. s.1) ss ∷ scope) (map (λ s. s.1) ss) its) (λ i.
+      and_then (filter (map (λ s. s.1) ss ∷ scope)) (λ c. Ok (select i.0 (map (λ s. s.0) ss) c, i.1)))) w h in
+      let seen = map (λ s. s.1) p.0 in
+      let q = then_ok (walk_items (seen ∷ scope) seen its) (λ i. and_then (filter (seen ∷ scope)) (λ c. Ok (select i.0 (map (λ s. s.0) p.0) c, i.1))) w p.2 in
+      let r = then_ok (filter (seen ∷ scope)) (λ c. Ok (select q.0.0 (map (λ s. s.0) p.0) c, q.0.1)) w q.2 in
+      let e : (select q.0.0 (map (λ s. s.0) p.0) r.0, q.0.1) ≡ w = cc r.2 in
+      (p.0, p.1, q.0, q.1, r.0, r.1, e)
+
 -- ---- sources
 
 module _ (schema : Schema) (types_of : Source → List ColumnType) (are : AreTypesOf schema types_of) where
@@ -337,25 +357,6 @@ module _ (schema : Schema) (types_of : Source → List ColumnType) (are : AreTyp
   not_fits : (scope : Scope) (b : Bool) (c : Condition) → ConditionIs scope c → ConditionIs scope (with_not b c)
   not_fits scope true c h = h
   not_fits scope false c h = h
-
-  -- the parts of a query that was walked
-  abbrev Selected : text.Items → List SourceReference → (Scope → Result Condition Refusal) → Scope → Walked → Type 0
-  Selected its refs filter scope w =
-      (ss : List (Source × Visible)) × (walk_sources schema [] refs ≡ Ok ss)
-      × (i : Items × List ColumnType) × (walk_items (map (λ s. s.1) ss ∷ scope) (map (λ s. s.1) ss) its ≡ Ok i)
-      × (c : Condition) × (filter (map (λ s. s.1) ss ∷ scope) ≡ Ok c)
-      × ((select i.0 (map (λ s. s.0) ss) c, i.1) ≡ w)
-
-  selected : (its : text.Items) (refs : List SourceReference) (filter : Scope → Result Condition Refusal) (scope : Scope) (w : Walked) → walk_select schema its refs filter scope ≡ Ok w → Selected its refs filter scope w
-  selected its refs filter scope w h =
-      let p = then_ok (walk_sources schema [] refs) (λ ss.
-      and_then (walk_items (map (λ s. s.1) ss ∷ scope) (map (λ s. s.1) ss) its) (λ i.
-      and_then (filter (map (λ s. s.1) ss ∷ scope)) (λ c. Ok (select i.0 (map (λ s. s.0) ss) c, i.1)))) w h in
-      let seen = map (λ s. s.1) p.0 in
-      let q = then_ok (walk_items (seen ∷ scope) seen its) (λ i. and_then (filter (seen ∷ scope)) (λ c. Ok (select i.0 (map (λ s. s.0) p.0) c, i.1))) w p.2 in
-      let r = then_ok (filter (seen ∷ scope)) (λ c. Ok (select q.0.0 (map (λ s. s.0) p.0) c, q.0.1)) w q.2 in
-      let e : (select q.0.0 (map (λ s. s.0) p.0) r.0, q.0.1) ≡ w = cc r.2 in
-      (p.0, p.1, q.0, q.1, r.0, r.1, e)
 
   abbrev QueryOver : Scope → List (List ColumnType) → Items × List ColumnType → Condition → Type 0
   QueryOver scope here i c = Lists (here ∷ types_of_scope scope) here i.0 i.1 × ConditionFits types_of (here ∷ types_of_scope scope) c
@@ -413,7 +414,7 @@ module _ (schema : Schema) (types_of : Source → List ColumnType) (are : AreTyp
 
     pub query_fits : (q : text.Query) (scope : Scope) (w : Walked) → walk_query schema q scope ≡ Ok w → QueryIs scope w
     query_fits (text.select its refs filter) scope w h =
-        let s = selected its refs (walk_filter schema filter) scope w h in
+        let s = selected schema its refs (walk_filter schema filter) scope w h in
         let seen = map (λ s. s.1) s.0 in
         let here : types_seen seen ≡ map types_of (map (λ s. s.0) s.0) = sym (sources_fit [] refs s.0 s.1) in
         let over : QueryOver scope (types_seen seen) s.2 s.4 = (items_fit (seen ∷ scope) seen its s.2 s.3, filter_fits filter (seen ∷ scope) s.4 s.5) in
@@ -422,7 +423,7 @@ module _ (schema : Schema) (types_of : Source → List ColumnType) (are : AreTyp
 
     one_value : (q : text.Query) (scope : Scope) (w : Walked) → walk_query schema q scope ≡ Ok w → has_aggregate q ≡ true → IsOneValue w.0 × (w.1 ≡ Int ∷ [])
     one_value (text.select its refs filter) scope w h a =
-        let s = selected its refs (walk_filter schema filter) scope w h in
+        let s = selected schema its refs (walk_filter schema filter) scope w h in
         let seen = map (λ s. s.1) s.0 in
         let P : Walked → Type 0 = λ w. IsOneValue w.0 × (w.1 ≡ Int ∷ []) in
         subst P s.6 (one_integer (seen ∷ scope) seen (map (λ s. s.0) s.0) s.4 its s.2 s.3 a)

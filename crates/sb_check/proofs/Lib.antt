@@ -8,4 +8,6 @@ mod RuleWalk
 mod Found
 mod Fitting
 mod CommandFits
+mod Presence
+mod Seeing
 mod SameName

@@ -4,7 +4,7 @@ ghost use Rattle.std.specs.List.{list_any};
 ghost use Rattle.sb_value.specs.Name.{same_name};
 ghost use Rattle.sb_check.specs.Answer.{Answers};
 ghost use Rattle.sb_check.specs.Fits.{Fits};
-ghost use Rattle.sb_check.specs.Resolved.{named_twice, resolved, walk_names};
+ghost use Rattle.sb_check.specs.Resolved.{named_twice, new_table, resolved, walk_names};
 ghost use Rattle.sb_syntax.specs.Tree as tree;
 ghost use Rattle.sb_syntax.specs.Views as view;
 
@@ -46,7 +46,12 @@ fn command<'s, S: Schema>(alloc: Global, text: &Command, schema: &'s S) -> Resul
     ensures { Answers resolved (walk_names (S.names schema.now) (view.command text.now)) result }
 {
     match text {
-        Command::CreateTable(name, columns) => new_table(name, columns.as_slice(), schema),
+        Command::CreateTable(name, columns) => {
+            match resolve_new_table(name, columns.as_slice(), schema) {
+                Ok(()) => Ok(Resolved::NewTable),
+                Err(refusal) => Err(refusal),
+            }
+        }
         Command::DropTable(name) => old_table(name, schema),
         Command::CreateRule(rule) => match resolve_rule(alloc, rule, schema) {
             Ok(parts) => Ok(Resolved::Rule(parts)),
@@ -64,13 +69,13 @@ fn command<'s, S: Schema>(alloc: Global, text: &Command, schema: &'s S) -> Resul
     }
 }
 
-fn new_table<S: Schema>(
+/// Whether a table of that name and with these columns may be made.
+pub fn resolve_new_table<S: Schema>(
     name: &Name,
     columns: &[ColumnDefinition],
     schema: &S,
-) -> Result<Resolved, Refusal>
-    ensures { Answers resolved
-        (walk_names (S.names schema.now) (tree.create_table name.now columns.now)) result }
+) -> Result<(), Refusal>
+    ensures { Answers (λ u. new_table) (walk_names (S.names schema.now) (tree.create_table name.now columns.now)) result }
 {
     if has_table(schema, name) {
         return Err(Refusal::TableExists);
@@ -78,7 +83,7 @@ fn new_table<S: Schema>(
     if is_named_twice(columns) {
         return Err(Refusal::Ambiguous);
     }
-    Ok(Resolved::NewTable)
+    Ok(())
 }
 
 /// Whether there is a table of that name.
