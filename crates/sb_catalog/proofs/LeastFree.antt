@@ -2,7 +2,7 @@
 use Rattle.std.proofs.Common.{◌≡◌, ◌∙◌, ◌⊎◌, ℕ, zero, suc, ◌+◌, ◌<◌, ◌≤◌, Bool, true, false, not, ◌||◌, cond, nat_eq, List, [], ◌∷◌, filter, length, refl, sym, ap, arith, eqb-true, inl, inr}
 use Rattle.std.proofs.lemmas.Bool.{cases_eq}
 use Rattle.std.specs.List.{list_any}
-use Rattle.sb_catalog.specs.Rules.{least_free_from, least_free}
+use Rattle.sb_catalog.specs.Rules.{least_free_from, least_free, IsLeastFree}
 
 abbrev pub has : List ℕ → ℕ → Bool
 has used k = list_any (λ u. nat_eq u k) used
@@ -77,3 +77,26 @@ lacks_next n used short all = by (has used n) refl
     by : (b : Bool) → has used n ≡ b → b ≡ false
     by false e = refl
     by true e = absurd (omega (arith, as_many (suc n) used (λ k below. next e k (cases_eq k n) below)))
+
+-- ---- it is the least one
+
+one_more : (n : ℕ) (used : List ℕ) → ((k : ℕ) → k < n → has used k ≡ true) → has used n ≡ true → (k : ℕ) → (k ≡ n) ⊎ (k ≡ n → ⊥) → k < n + 1 → has used k ≡ true
+one_more n used all e k (inl same) below = ap (has used) same ∙ e
+one_more n used all e k (inr other) below = all k (omega arith)
+
+least_by : (n k : ℕ) (used : List ℕ) (b : Bool) → has used k ≡ b → ((j : ℕ) → j < k → has used j ≡ true)
+    → (has used k ≡ true → IsLeastFree used (least_free_from n (k + 1) used)) → IsLeastFree used (cond b (least_free_from n (k + 1) used) k)
+least_by n k used true e all rest = rest e
+least_by n k used false e all rest = record { free = e; least = all }
+
+least_from : (n k : ℕ) (used : List ℕ) → length used ≤ k + n → ((j : ℕ) → j < k → has used j ≡ true) → IsLeastFree used (least_free_from n k used)
+least_from zero k used short all = record { free = lacks_next k used (omega arith) all; least = all }
+least_from (suc n) k used short all =
+    least_by n k used (has used k) refl all
+    (λ e. least_from n (k + 1) used (omega arith) (λ j below. one_more k used all e j (cases_eq j k) below))
+
+pub is_least : (used : List ℕ) → IsLeastFree used (least_free used)
+is_least used = least_from (length used) 0 used (omega arith) (λ j below. absurd (omega arith))
+
+pub is_few : (used : List ℕ) → least_free used ≤ length used
+is_few used = as_many (least_free used) used (is_least used).least

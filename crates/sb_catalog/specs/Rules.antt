@@ -1,5 +1,5 @@
 -- Rules in order of creation, and what the commands on rules do to them.
-use Rattle.std.specs.Prelude.{◌≡◌, ℕ, zero, suc, ◌+◌, Bool, true, not, ◌==◌, nat_lt, if◌then◌else◌, List, [], ◌∷◌, ◌++◌, length, map, filter, find, Option, Some, None, option_map, Result}
+use Rattle.std.specs.Prelude.{◌≡◌, ℕ, zero, suc, ◌+◌, ◌<◌, IsTrue, IsFalse, Bool, true, not, ◌==◌, nat_lt, if◌then◌else◌, List, [], ◌∷◌, ◌++◌, length, map, filter, find, Option, Some, None, option_map, Result}
 use Rattle.std.specs.List.{list_any}
 use Rattle.sb_value.specs.Name.{same_name}
 use Rattle.sb_value.specs.declared.refusal.Refusal.{Refusal}
@@ -20,6 +20,11 @@ least_free_from (suc n) k used = if list_any (λ u. u == k) used then least_free
 -- the least number that isn't in the list
 abbrev pub least_free : List ℕ → ℕ
 least_free used = least_free_from (length used) 0 used
+
+-- a number isn't in the list, and all below it are
+pub record IsLeastFree (used : List ℕ) (n : ℕ) : Type 0 where
+  pub free : IsFalse (list_any (λ u. u == n) used)
+  pub least : (k : ℕ) → k < n → IsTrue (list_any (λ u. u == k) used)
 
 -- ---- look-ups
 

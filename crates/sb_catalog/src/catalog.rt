@@ -77,7 +77,7 @@ impl Catalog {
     }
 
     /// Whether there is a rule of that name.
-    fn has(&self, name: &Name) -> bool
+    pub fn has(&self, name: &Name) -> bool
         ensures { result ≡ spec.has_name self.now name.now }
     {
         self.rules.contains_key(name)
