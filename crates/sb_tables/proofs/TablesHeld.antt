@@ -6,6 +6,7 @@ use Rattle.std.specs.Map.{lookup}
 use Rattle.std.proofs.lemmas.Option.{none-some, same_Some}
 use Rattle.std.specs.Cmp.{eq_by_cmp_equiv}
 use Rattle.std.specs.Cmp.Lexicographic.{nat_list_cmp_total}
+use Rattle.std.proofs.Math.Bool.{or-true}
 use Rattle.std.proofs.lemmas.Bool.{eqb-false}
 use Rattle.std.proofs.lemmas.List.{map-append}
 use Rattle.sb_value.specs.Name.{same_name}
@@ -225,6 +226,39 @@ lookup_named slots (e ∷ es) name =
     by : (b : Bool) → cond b (Some e.1) (option_map (λ (h : Held). h.id) (named (map (held_in slots) es) name)) ≡ option_map (λ (h : Held). h.id) (cond b (Some (held_in slots e)) (named (map (held_in slots) es) name))
     by true = refl
     by false = refl
+
+-- a table under a name is what is stored under its number
+by_number : (slots : Slotted) (es : Named) (name : List ℕ)
+    → option_map (λ (h : Held). h.stored) (named (map (held_in slots) es) name) ≡ option_map (λ (id : ℕ). unwrap_or (slot_at slots id) (no_rows [])) (option_map (λ (h : Held). h.id) (named (map (held_in slots) es) name))
+by_number slots [] name = refl
+by_number slots (e ∷ es) name = by (same_name e.0 name) (by_number slots es name)
+  where
+    by : (b : Bool)
+        → option_map (λ (h : Held). h.stored) (named (map (held_in slots) es) name) ≡ option_map (λ (id : ℕ). unwrap_or (slot_at slots id) (no_rows [])) (option_map (λ (h : Held). h.id) (named (map (held_in slots) es) name))
+        → option_map (λ (h : Held). h.stored) (cond b (Some (held_in slots e)) (named (map (held_in slots) es) name))
+        ≡ option_map (λ (id : ℕ). unwrap_or (slot_at slots id) (no_rows [])) (option_map (λ (h : Held). h.id) (cond b (Some (held_in slots e)) (named (map (held_in slots) es) name)))
+    by true rest = refl
+    by false rest = rest
+
+has_found : (test : List ℕ → Bool) (es : Named) (id : ℕ) → lookup test es ≡ Some id → has es id ≡ true
+has_found test [] id h = absurd (cc)
+has_found test (e ∷ es) id h = by (test e.0) h (has_found test es id)
+  where
+    by : (b : Bool) → cond b (Some e.1) (lookup test es) ≡ Some id → (lookup test es ≡ Some id → has es id ≡ true) → (nat_eq e.1 id || has es id) ≡ true
+    by true h rest = ap (λ (b : Bool). b || has es id) (eq-eqb e.1 id (same_Some e.1 id h))
+    by false h rest = ap (λ (b : Bool). nat_eq e.1 id || b) (rest h) ∙ or-true (nat_eq e.1 id)
+
+-- the slot that a name leads to holds the table of that name
+pub slot_named : (slots : Slotted) (es : Named) (name : List ℕ) (id : ℕ) → AreFilled es slots → lookup (same_name name) es ≡ Some id
+    → slot_at slots id ≡ option_map (λ (h : Held). h.stored) (named (map (held_in slots) es) name)
+slot_named slots es name id filled h =
+    sym (some_there (slot_at slots id) (no_rows []) (filled id ∙ has_found (same_name name) es id h))
+    ∙ ap (option_map (λ (k : ℕ). unwrap_or (slot_at slots k) (no_rows []))) (sym h ∙ lookup_named slots es name)
+    ∙ sym (by_number slots es name)
+
+pub none_named : (slots : Slotted) (es : Named) (name : List ℕ) → lookup (same_name name) es ≡ None → None ≡ option_map (λ (h : Held). h.stored) (named (map (held_in slots) es) name)
+none_named slots es name h =
+    ap (option_map (λ (k : ℕ). unwrap_or (slot_at slots k) (no_rows []))) (sym h ∙ lookup_named slots es name) ∙ sym (by_number slots es name)
 
 pub some_named : (tables : List Held) (name : List ℕ) → is_some (named tables name) ≡ has_name tables name
 some_named [] name = refl

@@ -83,6 +83,16 @@ impl Tables {
         self.slots.get(id)
     }
 
+    /// The table of that name.
+    pub fn by_name(&self, name: &Name) -> Option<&Table>
+        ensures { option_copied result ≡ option_map (λ h. h.stored) (named self.now name.now) }
+    {
+        match self.numbers.get(name) {
+            Some(id) => self.slots.get(*id),
+            None => None,
+        }
+    }
+
     /// Adds a table, which has the least free number, as the last.
     pub fn create(
         &mut self,
