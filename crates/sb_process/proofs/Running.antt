@@ -21,7 +21,6 @@ use Rattle.sb_process.specs.declared.database.Database.{Database}
 use Rattle.sb_process.specs.declared.consider.Consideration.{Consideration}
 use Rattle.sb_process.specs.declared.consider.Consideration.TheVariants.{False}
 use Rattle.sb_process.specs.Consider.{Ending, ran, rolled_back, refused, Considered, was_false, was_true, was_refused, with_changes, run_statement, run_actions, test_rows}
-use Rattle.sb_process.specs.Made.{AreMade, tables_after_all}
 use Rattle.sb_process.specs.Represents.{Represents, who_in}
 use Rattle.sb_process.specs.Request.{AreThere, IsAnswer, after_request}
 use Rattle.sb_process.specs.Running.{ComesTo, Tests, Acts, Ends, Goes, truth}
@@ -29,8 +28,8 @@ use Rattle.sb_process.specs.Setting.{Setting, Progress, marked, seen_with}
 use Rattle.sb_process.specs.Statement.{changes_meant, with_changes_of, after_statement, counted, Runs}
 use Rattle.sb_process.specs.View.{seen_by}
 use Rattle.sb_process.specs.Work.{AreActionsThere}
-use Rattle.sb_process.proofs.Making.{number-after_all, number-room}
 use Rattle.sb_process.proofs.Requests.{seen_tables, same_session}
+use Rattle.sb_process.proofs.Sharing.{there}
 
 -- ---- locks
 
@@ -57,10 +56,6 @@ same-locks (Err refusal) p = refl
 
 -- ---- tables
 
--- tables with changes made have the numbers that they had
-made-numbers : (origin : List Held) (cs : List Change) (tables : List Held) → AreMade origin cs tables → (id : ℕ) → has_number tables id ≡ has_number origin id
-made-numbers origin cs tables m id = sym (number-room tables id) ∙ ap (λ ts. has_number ts id) m.made ∙ number-room (tables_after_all cs origin) id ∙ number-after_all cs origin id
-
 pub there-same : (old new : List Held) → ((id : ℕ) → has_number new id ≡ has_number old id) → (request : List (ℕ × Mode)) → AreThere old request → AreThere new request
 there-same old new e [] h = tt
 there-same old new e (r ∷ request) h = (e r.0 ∙ h.0, there-same old new e request h.1)
@@ -82,7 +77,7 @@ module _ (origin : List Held) (session : ℕ) (setting : Setting) (progress : Pr
 
   module _ (new : Database) (later : List Record) (time : ℕ) where
     pub same-numbers : (after : Progress) → ComesTo origin new session later time setting progress after → (id : ℕ) → has_number new.tables id ≡ has_number d.tables id
-    same-numbers after n id = made-numbers origin after.changes new.tables n.stands.made id ∙ sym (made-numbers origin progress.changes d.tables r.made id)
+    same-numbers after n id = there origin new.tables after.changes n.stands.made id ∙ sym (there origin d.tables progress.changes r.made id)
 
     -- after the request, after the statement
     pub comes-request : (list : List (ℕ × Mode)) → Represents origin new session later time setting (after_request setting list progress) →

@@ -1,14 +1,13 @@
 -- Something else stored under one number.
-use Rattle.std.proofs.Common.{◌≡◌, ◌∙◌, ℕ, Bool, true, false, ◌||◌, ◌&&◌, not, true≢false, cond, nat_eq, List, [], ◌∷◌, map, Option, Some, None, Bor, option_map, unwrap_or, is_some, refl, sym, ap, subst, eqb-true, eq-eqb}
+use Rattle.std.proofs.Common.{◌≡◌, ◌∙◌, ℕ, Bool, true, false, ◌||◌, ◌&&◌, not, cond, nat_eq, List, [], ◌∷◌, map, Option, Some, None, Bor, option_map, is_some, refl, sym, ap, subst, eq-eqb}
 use Rattle.std.specs.List.{list_any}
 use Rattle.std.specs.Option.{option_copied}
 use Rattle.sb_value.specs.declared.change.Change.{Change}
 use Rattle.sb_tables.specs.Laws.{ChangesKeepPlaces}
 use Rattle.sb_value.specs.Locks.{Locks, released}
 use Rattle.sb_value.specs.declared.lock.Mode.{Mode}
-use Rattle.sb_value.specs.declared.lock.Mode.TheVariants.{Write}
 use Rattle.sb_tables.specs.Stored.{Stored, IsStored, HavePlaces, numbers_of}
-use Rattle.sb_tables.specs.Held.{Held, entries, entry_of, numbered, has_number, stored_at, stored_as, with_stored, settled}
+use Rattle.sb_tables.specs.Held.{Held, numbered, has_number, stored_as, with_stored, settled}
 use Rattle.sb_process.specs.Made.{AreNumbered, AreStored, AreMade, tables_after_all, without_room}
 use Rattle.sb_process.proofs.Making.{no_left, no_right, number-room, sound-after_all}
 
@@ -28,44 +27,11 @@ numbered-with id s (h ∷ tables) n = (number-with id s tables (stored_as id s h
     by true = refl
     by false = refl
 
-pub stored-with : (id : ℕ) (s : Stored) (tables : List Held) → IsStored s → AreStored tables → AreStored (with_stored id s tables)
-stored-with id s [] is all = tt
-stored-with id s (h ∷ tables) is all = (by (nat_eq h.id id), stored-with id s tables is all.1)
-  where
-    by : (b : Bool) → IsStored (cond b (record h { stored = s }) h).stored
-    by true = is
-    by false = all.0
-
 -- nothing is written under a number that no table has
 pub none-with : (id : ℕ) (s : Stored) (tables : List Held) → has_number tables id ≡ false → with_stored id s tables ≡ tables
 none-with id s [] none = refl
 none-with id s (h ∷ tables) none =
     λ i. cond (no_left (nat_eq h.id id) (has_number tables id) none i) (record h { stored = s }) h ∷ none-with id s tables (no_right (nat_eq h.id id) (has_number tables id) none) i
-
--- with the same rows the tables are seen as they were
-pub entries-with : (id : ℕ) (s : Stored) (tables : List Held) → AreNumbered tables → s.table ≡ (stored_at tables id).table → entries (with_stored id s tables) ≡ entries tables
-entries-with id s [] n e = refl
-entries-with id s (h ∷ tables) n e = by (nat_eq h.id id) refl e (entries-with id s tables n.1)
-  where
-    by : (b : Bool) → nat_eq h.id id ≡ b → s.table ≡ (unwrap_or (option_map (λ (x : Held). x.stored) (cond b (Some h) (numbered tables id))) (stored_at [] id)).table →
-        (s.table ≡ (stored_at tables id).table → entries (with_stored id s tables) ≡ entries tables) →
-        entry_of (cond b (record h { stored = s }) h) ∷ entries (with_stored id s tables) ≡ entry_of h ∷ entries tables
-    by true p q rest =
-        λ i. record { id = h.id; name = h.name; table = q i } ∷ entries (none-with id s tables (ap (has_number tables) (sym (eqb-true h.id id p)) ∙ n.0) i)
-    by false p q rest = λ i. entry_of h ∷ rest q i
-
-other_by : (id : ℕ) (s : Stored) (h : Held) (tables : List Held) (k : ℕ) → nat_eq id k ≡ false → (b : Bool) → nat_eq h.id id ≡ b → numbered (with_stored id s tables) k ≡ numbered tables k →
-    cond (nat_eq (cond b (record h { stored = s }) h).id k) (Some (cond b (record h { stored = s }) h)) (numbered (with_stored id s tables) k) ≡ cond (nat_eq h.id k) (Some h) (numbered tables k)
-other_by id s h tables k e true p rest =
-    let no : nat_eq h.id k ≡ false = ap (λ n. nat_eq n k) (eqb-true h.id id p) ∙ e in
-    ap (λ (b : Bool). cond b (Some (record h { stored = s })) (numbered (with_stored id s tables) k)) no ∙ rest
-    ∙ ap (λ (b : Bool). cond b (Some h) (numbered tables k)) (sym no)
-other_by id s h tables k e false p rest = ap (cond (nat_eq h.id k) (Some h)) rest
-
--- the other tables are untouched
-pub other-with : (id : ℕ) (s : Stored) (tables : List Held) (k : ℕ) → nat_eq id k ≡ false → numbered (with_stored id s tables) k ≡ numbered tables k
-other-with id s [] k e = refl
-other-with id s (h ∷ tables) k e = other_by id s h tables k e (nat_eq h.id id) refl (other-with id s tables k e)
 
 -- ---- the places of the rows alone
 
@@ -105,9 +71,9 @@ some_mapped : {A B : Type 0} (f : A → B) (o : Option A) → is_some (option_ma
 some_mapped f None = refl
 some_mapped f (Some x) = refl
 
--- a table that is found has the number
-pub there : (tables : List Held) (id : ℕ) (r : Option (Bor Stored)) (b : Bool) → option_copied r ≡ option_map (λ (h : Held). h.stored) (numbered tables id) → b ≡ is_some r → b ≡ true → has_number tables id ≡ true
-there tables id r b e p q = sym (some_numbered tables id) ∙ sym (some_mapped (λ (h : Held). h.stored) (numbered tables id)) ∙ ap is_some (sym e) ∙ some_copied r ∙ sym p ∙ q
+-- a table that is found has the number, and no other
+pub there : (tables : List Held) (id : ℕ) (r : Option (Bor Stored)) (b : Bool) → option_copied r ≡ option_map (λ (h : Held). h.stored) (numbered tables id) → b ≡ is_some r → has_number tables id ≡ b
+there tables id r b e p = sym (some_numbered tables id) ∙ sym (some_mapped (λ (h : Held). h.stored) (numbered tables id)) ∙ ap is_some (sym e) ∙ some_copied r ∙ sym p
 
 -- ---- the tables for the next transaction
 
@@ -137,7 +103,3 @@ sound-made law origin cs tables m =
 
 pub same_released : (one other : Locks) (session : ℕ) → ((s t : ℕ) (m : Mode) → one s t m ≡ other s t m) → (s t : ℕ) (m : Mode) → released one session s t m ≡ released other session s t m
 same_released one other session h s t m = ap (λ b. not (nat_eq s session) && b) (h s t m)
-
--- a table that is locked is none that isn't
-pub differ : (locked : ℕ → Mode → Bool) (id table : ℕ) (b : Bool) → id ≡ table → b ≡ true → b ≡ locked id Write → locked table Write ≡ false → ⊥
-differ locked id table b same p q free = true≢false (sym p ∙ q ∙ ap (λ n. locked n Write) same ∙ free)

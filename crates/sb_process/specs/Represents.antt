@@ -1,5 +1,5 @@
 -- What memory and a log hold of a session's transaction.
-use Rattle.std.specs.Prelude.{◌≡◌, ◌≤◌, ℕ, false, List, [], ◌∷◌, IsTrue}
+use Rattle.std.specs.Prelude.{◌≡◌, ◌≤◌, ℕ, Bool, ◌&&◌, nat_lt, List, [], ◌∷◌, IsTrue}
 use Rattle.sb_value.specs.declared.change.Change.{Change}
 use Rattle.sb_value.specs.declared.id.Who.{Who}
 use Rattle.sb_value.specs.declared.lock.Mode.{Mode}
@@ -7,11 +7,12 @@ use Rattle.sb_value.specs.declared.lock.Mode.TheVariants.{Write}
 use Rattle.sb_value.specs.Locks.{Locks, released}
 use Rattle.sb_rawlog.specs.Records.{Record}
 use Rattle.sb_rawlog.specs.Sessions.{changes_by, mark_at}
-use Rattle.sb_tables.specs.Held.{Held, entries, numbered}
+use Rattle.sb_tables.specs.Held.{Held, entries}
 use Rattle.sb_locks.specs.Held.{held}
 use Rattle.sb_catalog.specs.declared.rule.Rule.{Rule}
 use Rattle.sb_process.specs.declared.database.Database.{Database}
 use Rattle.sb_process.specs.Made.{AreMade}
+use Rattle.sb_process.specs.Sharing.{settled_where}
 use Rattle.sb_process.specs.Transactions.{Kept, mark_of, is_candidate_of, OtherSessionsStay}
 use Rattle.sb_process.specs.Setting.{Setting, Progress, rule_is_triggered, tables_seen}
 
@@ -43,6 +44,10 @@ pub record Represents (origin : List Held) (database : Database) (session : ℕ)
   pub locked : AreLocked progress.locks session progress.changes
   pub candidates : AreCandidates database.transactions session progress setting.rules
 
+-- whether the session has locked one of the 16 tables for writing
+abbrev pub is_written : Locks → ℕ → ℕ → Bool
+is_written locks session table = nat_lt table 16 && locks session table Write
+
 -- some transaction of the session is what memory and the log hold
 abbrev pub IsTransaction : Database → ℕ → List Record → ℕ → Type 0
 IsTransaction database session records clock = (origin : List Held) × (setting : Setting) × (progress : Progress) × Represents origin database session records clock setting progress
@@ -58,13 +63,13 @@ pub record IsTakenBack (origin : List Held) (old new : Database) (session : ℕ)
   pub locks : (s t : ℕ) (m : Mode) → held new.locks s t m ≡ released progress.locks session s t m
   pub sessions : OtherSessionsStay old.transactions new.transactions session
 
--- the session has no changes; the tables are as the transaction saw them, sound for the next one; those that it had not locked for writing are untouched
+-- the session has no changes; the tables are as the transaction saw them, sound for the next one; those that it had locked for writing are settled
 pub record IsKept (old new : Database) (session : ℕ) (records : List Record) (setting : Setting) (progress : Progress) : Type 0 where
   pub id : new.id ≡ old.id
   pub none : changes_by (who_in new session) records ≡ []
   pub tables : entries new.tables ≡ tables_seen setting progress
   pub made : AreMade new.tables [] new.tables
-  pub untouched : (table : ℕ) → progress.locks session table Write ≡ false → numbered new.tables table ≡ numbered old.tables table
+  pub settled : new.tables ≡ settled_where (is_written progress.locks session) old.tables
   pub locks : (s t : ℕ) (m : Mode) → held new.locks s t m ≡ released progress.locks session s t m
   pub sessions : OtherSessionsStay old.transactions new.transactions session
 

@@ -1,14 +1,14 @@
 //! The beginning of a transaction, and its end by commit.
-ghost use Rattle.std.specs.Prelude.{◌≡◌, ◌==◌, ℕ, List, [], false};
-ghost use Rattle.sb_value.specs.declared.lock.Mode.TheVariants as mode;
+ghost use Rattle.std.specs.Prelude.{◌≡◌, ◌==◌, ℕ, List};
 ghost use Rattle.sb_rawlog.specs.Sessions.{OthersStay};
 ghost use Rattle.sb_locks.specs.Held.{held};
-ghost use Rattle.sb_tables.specs.Held.{Held, entries, numbered};
-ghost use Rattle.sb_process.specs.Made.{AreNumbered, AreStored, NumbersBelow};
-ghost use Rattle.sb_process.specs.Represents.{Represents, IsTransaction, IsKept, IsIdle, begun, who_in};
+ghost use Rattle.sb_tables.specs.Held.{Held};
+ghost use Rattle.sb_process.specs.Made.{AreNumbered, NumbersBelow};
+ghost use Rattle.sb_process.specs.Represents.{Represents, IsTransaction, IsKept, IsIdle, begun, is_written, who_in};
 ghost use Rattle.sb_process.specs.Transactions.{OtherSessionsStay};
 ghost use Rattle.sb_rawlog.specs.Records.{Record};
 ghost use Rattle.sb_process.specs.Setting.{Setting, Progress};
+ghost use Rattle.sb_process.specs.Sharing.{settled_where};
 
 use crate::database::Database;
 use sb_locks::Locks;
@@ -20,6 +20,7 @@ impl Database {
     /// Begins a transaction of the session.
     pub fn begin(&mut self, session: SessionId)
         ensures begun { (origin : List Held) (records : List Record) (clock : ℕ) (setting : Setting) → IsIdle origin self.old session records setting → Represents origin self.new session records clock setting (begun (held self.old.locks)) }
+        ensures id { self.new.id ≡ self.old.id }
         ensures tables { self.new.tables ≡ self.old.tables }
         ensures sessions { OtherSessionsStay self.old.transactions self.new.transactions session }
     {
@@ -33,6 +34,7 @@ impl Database {
         ensures numbers { (n : ℕ) → NumbersBelow n self.old.tables → NumbersBelow n self.new.tables }
         ensures others { OthersStay (who_in self.old session) (L.records log.old) (L.records log.new) }
         ensures clock { L.clock log.new ≡ L.clock log.old }
+        ensures transactions { self.new.transactions ≡ self.old.transactions }
     {
         // for the proof: tables with changes made are sound
         changes_keep_places();
@@ -48,15 +50,21 @@ impl Database {
 
 /// Drops the deleted rows of the tables that the session has locked for writing.
 fn settle_all(tables: &mut Tables, locks: &Locks, session: SessionId)
-    ensures rows { AreNumbered tables.old → entries tables.new ≡ entries tables.old }
-    ensures numbers { AreNumbered tables.old → AreNumbered tables.new }
-    ensures sound { AreNumbered tables.old → AreStored tables.old → AreStored tables.new }
-    ensures untouched { (table : ℕ) → held locks.now session table mode.Write ≡ false → numbered tables.new table ≡ numbered tables.old table }
+    ensures { AreNumbered tables.old → tables.new ≡ settled_where (is_written (held locks.now) session) tables.old }
 {
     for number in 0..TABLE_LIMIT {
         let table = TableId::new(number as u8);
-        if locks.is_held(session, table, Mode::Write) && tables.get(table).is_some() {
-            tables.settle(table);
+        if locks.is_held(session, table, Mode::Write) {
+            settle_at(tables, table);
         }
+    }
+}
+
+/// Drops the deleted rows of the table of that number, if it is there.
+fn settle_at(tables: &mut Tables, table: TableId)
+    ensures { AreNumbered tables.old → tables.new ≡ settled_where (λ t. t == table) tables.old }
+{
+    if tables.get(table).is_some() {
+        tables.settle(table);
     }
 }

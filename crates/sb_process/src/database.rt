@@ -29,6 +29,7 @@ impl Database {
         ensures id { result.id ≡ id }
         ensures tables { result.tables ≡ [] }
         ensures locks { (s t : ℕ) (m : Mode) → held result.locks s t m ≡ no_locks s t m }
+        ensures marks { (s r : ℕ) → mark_of result.transactions s r ≡ 0 }
     {
         Database {
             id,

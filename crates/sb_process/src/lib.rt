@@ -1,12 +1,15 @@
 //! Rule processing.
 #![tactic(auto)]
 
+ghost use Rattle.std.specs.Prelude.{◌≡◌};
+
 mod apply;
 mod bounds;
 mod candidates;
 mod condition;
 mod consider;
 mod database;
+mod laws;
 mod lock_list;
 mod make;
 mod marks;
@@ -21,6 +24,7 @@ mod undo;
 mod view;
 
 pub use database::Database;
+pub use laws::transactions_share_tables;
 pub use marks::Marks;
 pub use process::Rules;
 use sb_value::{Refusal, RuleId, Verdict};
@@ -49,6 +53,15 @@ impl Model for Trace {
     ghost Value = { List (ℕ × Verdict) };
 
     ghost view = { λ t. t.list.items };
+}
+
+impl Trace {
+    /// The verdicts in order.
+    pub fn as_slice(&self) -> &[(RuleId, Verdict)]
+        ensures { result.now ≡ self.now }
+    {
+        self.list.as_slice()
+    }
 }
 
 /// The outcome, and the rules that were considered.

@@ -1,5 +1,5 @@
 //! Processing of eligible rules.
-ghost use Rattle.std.specs.Prelude.{◌≡◌, ℕ, ◌+◌, ◌*◌, ◌<◌, ◌^◌, List, IfOk, OnErr};
+ghost use Rattle.std.specs.Prelude.{◌≡◌, ℕ, ◌+◌, ◌*◌, ◌<◌, ◌≤◌, ◌^◌, List, IfOk, OnErr};
 ghost use Rattle.sb_value.specs.Flags.{flag_at};
 ghost use Rattle.sb_rawlog.specs.Sessions.{OthersStay};
 ghost use Rattle.sb_tables.specs.Held.{Held};
@@ -9,7 +9,7 @@ ghost use Rattle.sb_process.specs.Represents.{IsTakenBack, who_in};
 ghost use Rattle.sb_process.specs.Running.{ComesTo, Finds, is_done};
 ghost use Rattle.sb_process.specs.Setting.{Setting, Progress};
 ghost use Rattle.sb_process.specs.Statement.{RisesBy};
-ghost use Rattle.sb_process.specs.Transactions.{OtherSessionsStay};
+ghost use Rattle.sb_process.specs.Transactions.{OtherSessionsStay, mark_of};
 ghost use Rattle.sb_process.specs.Work.{AreActive, CanRun, IsWork, Processes};
 
 use crate::database::Database;
@@ -31,7 +31,7 @@ pub struct Rules<'a> {
 
 impl Outcome {
     /// Whether no rule is left.
-    fn is_done(&self) -> bool
+    pub fn is_done(&self) -> bool
         ensures { result ≡ is_done self.now }
     {
         match self {
@@ -67,6 +67,7 @@ impl Database {
         ensures others { OthersStay (who_in self.old session) (L.records log.old) (L.records log.new) }
         ensures times { RisesBy (32768 * bound) (L.clock log.old) (L.clock log.new) }
         ensures numbers { (n : ℕ) → NumbersBelow n self.old.tables → NumbersBelow (n + 32768 * bound) self.new.tables }
+        ensures past { (rule : ℕ) → mark_of self.new.transactions session rule ≤ L.clock log.new }
     {
         let mut list = Vec::new(alloc);
         match self.consider_all(alloc, log, rules, session, eligible, bound, &mut list) {

@@ -19,6 +19,7 @@ impl Database {
         ensures numbers { (n : ℕ) → NumbersBelow n self.old.tables → NumbersBelow n self.new.tables }
         ensures others { OthersStay (who_in self.old session) (L.records log.old) (L.records log.new) }
         ensures clock { L.clock log.new ≡ L.clock log.old }
+        ensures transactions { self.new.transactions ≡ self.old.transactions }
     {
         let who = Who {
             tenant: self.id,

@@ -1,29 +1,33 @@
-use Rattle.std.proofs.Common.{◌∙◌, ℕ, List, refl, ne_eqb}
+use Rattle.std.proofs.Common.{◌≡◌, ◌∙◌, ℕ, ◌+◌, nat_eq, List, ap, sym, subst, arith}
+use Rattle.sb_value.specs.declared.lock.Mode.TheVariants.{Write}
 use Rattle.sb_locks.specs.Held.{held}
-use Rattle.sb_tables.specs.Held.{Held, stored_at, settled}
-use Rattle.sb_process.proofs.Making.{stored-of}
-use Rattle.sb_process.proofs.Settling.{differ, there, numbered-with, stored-with, entries-with, other-with, settled-stored}
+use Rattle.sb_tables.specs.Held.{Held}
+use Rattle.sb_process.specs.Made.{AreNumbered}
+use Rattle.sb_process.specs.Sharing.{settled_where}
+use Rattle.sb_process.proofs.Sharing.{numbered-settled}
+use Rattle.sb_process.proofs.Settled.{up_to, none-yet, skip-next, take-next}
 use Rattle.sb_process.proofs.bounds.settle_all.Goals as goal
-use Rattle.sb_process.proofs.bounds.settle_all.Goals.{then-is_held+then-is_some, else-is_held}
+use Rattle.sb_process.proofs.bounds.settle_all.Goals.{then-is_held, else-is_held}
 
-pub settle-requires : goal.settle-requires
-settle-requires c = there c.loop-number.tables c.new-table.result c.get.result c.is_some.result c.get.ensures c.is_some.ensures c.if-is_some.true
+pub loop-number-init : goal.loop-number-init
+loop-number-init c = λ n. none-yet (λ t. held c.args.locks.now c.args.session t Write) c.args.tables.now
 
 pub loop-number-preserved : goal.loop-number-preserved
-loop-number-preserved c =
-    let ts : List Held = c.loop-number.tables in
-    let id : ℕ = c.new-table.result in
+loop-number-preserved c = λ n.
+    let test = λ (t : ℕ). held c.args.locks.now c.args.session t Write in
+    let table : ℕ = c.new-table.result in
+    let old : List Held = c.args.tables.now in
+    let number : table ≡ c.loop-number.number = c.new-table.ensures in
+    let so : c.loop-number.tables ≡ settled_where (up_to test table) old = c.loop-number.invariant n ∙ ap (λ (k : ℕ). settled_where (up_to test k) old) (sym number) in
+    let on : settled_where (up_to test (table + 1)) old ≡ settled_where (up_to test (c.loop-number.number + 1)) old = ap (λ (k : ℕ). settled_where (up_to test (k + 1)) old) number in
     elim c.if-is_held.branch [
-      | then-is_held+then-is_some w ↦
-          let here = there ts id w.get.result w.is_some.result w.get.ensures w.is_some.ensures w.if-is_some.true in
-          rw (w.tables-is, w.settle.ensures) record {
-            rows = λ n. entries-with id (settled (stored_at ts id)) ts (c.loop-number.invariant.numbers n) refl ∙ c.loop-number.invariant.rows n;
-            numbers = λ n. numbered-with id (settled (stored_at ts id)) ts (c.loop-number.invariant.numbers n);
-            sound = λ n s. let old = c.loop-number.invariant.sound n s in
-                stored-with id (settled (stored_at ts id)) ts (settled-stored (stored_at ts id) (stored-of ts id old here)) old;
-            untouched = λ table free.
-                other-with id (settled (stored_at ts id)) ts table (ne_eqb id table (λ same. differ (held c.args.locks.now c.args.session) id table c.is_held.result same w.if-is_held.true c.is_held.ensures free))
-                ∙ c.loop-number.invariant.untouched table free;
-          }
-      | else-is_held w ↦ rw w.tables-is c.loop-number.invariant
+      | then-is_held w ↦
+          w.tables-is ∙ w.settle_at.ensures (subst AreNumbered (sym so) (numbered-settled (up_to test table) old n)) ∙ ap (settled_where (λ t. nat_eq t table)) so
+          ∙ take-next test table (sym c.is_held.ensures ∙ w.if-is_held.true) old ∙ on
+      | else-is_held w ↦ w.tables-is ∙ so ∙ skip-next test table (sym c.is_held.ensures ∙ w.if-is_held.false) old ∙ on
     ]
+
+pub returns : goal.returns
+returns c = λ n.
+    let end : c.loop-number.number ≡ 16 = omega arith in
+    c.loop-number.invariant n ∙ ap (λ (k : ℕ). settled_where (up_to (λ t. held c.args.locks.now c.args.session t Write) k) c.args.tables.now) end

@@ -76,3 +76,17 @@ returns-in-Err-clause-sessions g c =
 
 pub returns-in-Err-clause-numbers : goal.returns-in-Err-clause-numbers
 returns-in-Err-clause-numbers g c = λ n h. c.rollback-in-Err.ensures.numbers (n + 32768 * c.args.bound) (c.consider_all.ensures.numbers n h)
+
+pub returns-then-is_done-clause-past : goal.returns-then-is_done-clause-past
+returns-then-is_done-clause-past g c = λ rule.
+    let w = c.requires.work in let come = c.consider_all.ensures.under_way w.0 w.1 w.2 w.3 in (come.1).stands.past rule
+
+pub returns-else-is_done-clause-past : goal.returns-else-is_done-clause-past
+returns-else-is_done-clause-past g c = λ rule.
+    let w = c.requires.work in let come = c.consider_all.ensures.under_way w.0 w.1 w.2 w.3 in
+    rw (c.rollback.ensures.transactions, c.rollback.ensures.clock) ((come.1).stands.past rule)
+
+pub returns-in-Err-clause-past : goal.returns-in-Err-clause-past
+returns-in-Err-clause-past g c = λ rule.
+    let w = c.requires.work in let come = c.consider_all.ensures.under_way w.0 w.1 w.2 w.3 in
+    rw (c.rollback-in-Err.ensures.transactions, c.rollback-in-Err.ensures.clock) ((come.1).stands.past rule)
