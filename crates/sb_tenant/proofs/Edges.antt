@@ -12,9 +12,8 @@ use Rattle.sb_tenant.specs.declared.reply.Entry.{Entry}
 use Rattle.sb_tenant.specs.declared.reply.Reply.TheVariants as reply
 use Rattle.sb_tenant.specs.State.{State, idle, opening, session_at, has_transaction, is_open, with_session}
 use Rattle.sb_tenant.specs.Step.{step}
-use Rattle.sb_tenant.specs.Supported.{engine}
 use Rattle.sb_tenant.specs.Trail.{entry_of, state_of}
-use Rattle.sb_tenant.proofs.Script.{numbered, replies, replies_in_sessions, row, t, h, a, integer_column, named, number, source, a_of, show, insert, plus_one, start, empties_h, no}
+use Rattle.sb_tenant.proofs.Script.{replies, replies_in_sessions, row, t, h, a, integer_column, named, number, source, a_of, show, insert, plus_one, start, empties_h, no}
 
 -- ---- limits of the catalog
 
@@ -62,7 +61,7 @@ abbrev full : State
 full = record (with_session opening 0 idle) { steps = 65536 }
 
 abbrev answer_to : State → List ℕ → Answer
-answer_to state line = (step engine 0 1000 state 0 line).1
+answer_to state line = (step 0 1000 state 0 line).1
 
 abbrev refused_by_full : Answer
 refused_by_full = record { number = None; reply = no refusal.TrailFull }
@@ -77,49 +76,32 @@ pub full_trail_ends_the_session : answer_to full (codes "end") ≡ record { numb
 unfolding command_of
 full_trail_ends_the_session = refl
 
-pub full_trail_refuses_end_of_closed : answer_to (step engine 0 1000 full 0 (codes "end")).0 (codes "end") ≡ refused_by_full
+pub full_trail_refuses_end_of_closed : answer_to (step 0 1000 full 0 (codes "end")).0 (codes "end") ≡ refused_by_full
 unfolding command_of
 full_trail_refuses_end_of_closed = refl
 
 -- ---- an abort
 
 abbrev entries : List Entry
-entries = entry_of 0 (0 ∷ []) reply.Ok ∷ entry_of 0 (1 ∷ []) reply.Ok ∷ entry_of 0 (2 ∷ []) reply.Ok ∷ entry_of 0 (3 ∷ []) (reply.Count 1) ∷ entry_of 0 (3 ∷ []) (no refusal.NoMemory) ∷ []
+entries = entry_of 0 (codes "open") reply.Ok ∷ entry_of 0 (codes "create table t (a int)") reply.Ok ∷ entry_of 0 (codes "begin") reply.Ok
+    ∷ entry_of 0 (codes "insert into t values (1)") (reply.Count 1) ∷ entry_of 0 (codes "insert into t values (1)") (no refusal.NoMemory) ∷ []
 
--- `open`, `create table t`, `begin`, `insert` and an aborted `insert`
+-- after an aborted insert
 abbrev aborted : State
-aborted = state_of (numbered (open_session ∷ create_table t (integer_column a ∷ []) ∷ begin ∷ insert t (row 1 ∷ []) ∷ [])) 0 1000 entries
+aborted = state_of 0 1000 entries
 
 pub abort_ends_the_transaction : has_transaction (session_at aborted 0) ≡ false
+unfolding command_of
 abort_ends_the_transaction = refl
 
 pub abort_keeps_the_session : is_open (session_at aborted 0) ≡ true
+unfolding command_of
 abort_keeps_the_session = refl
 
 pub abort_releases_locks : aborted.locks 0 0 Write ≡ false
+unfolding command_of
 abort_releases_locks = refl
 
 pub abort_is_a_step : aborted.steps ≡ 5
+unfolding command_of
 abort_is_a_step = refl
-
--- ---- what the engine handles
-
-pub whole_tables_are_handled : engine.command (codes "select * from t") ≡ Some (show t)
-unfolding command_of
-whole_tables_are_handled = refl
-
-pub other_queries_are_not_handled : map engine.command (codes "select a from t" ∷ codes "select * from t x" ∷ codes "select * from t, h" ∷ codes "select * from inserted" ∷ codes "select * from t where a = 1" ∷ [])
-    ≡ None ∷ None ∷ None ∷ None ∷ None ∷ []
-unfolding command_of
-other_queries_are_not_handled = refl
-
-pub other_statements_are_not_handled : map engine.command (codes "insert into t select * from t" ∷ codes "delete from t where a = 1" ∷ codes "drop table t" ∷ codes "process rules" ∷ [])
-    ≡ None ∷ None ∷ None ∷ None ∷ []
-unfolding command_of
-other_statements_are_not_handled = refl
-
-pub other_rules_are_not_handled : map engine.command (codes "create rule r on t when deleted then rollback" ∷ codes "create rule r on t when inserted, deleted then rollback" ∷ codes "create rule r on t when inserted if select * from t then rollback"
-    ∷ codes "create rule r on t when inserted then delete from t" ∷ codes "create rule r on t when inserted then rollback; rollback" ∷ codes "create rule r on t when inserted then rollback precedes q" ∷ codes "create rule r on t when inserted then rollback follows q" ∷ [])
-    ≡ None ∷ None ∷ None ∷ None ∷ None ∷ None ∷ None ∷ []
-unfolding command_of
-other_rules_are_not_handled = refl

@@ -6,6 +6,7 @@ use Rattle.sb_value.specs.declared.net.Triggers.{Triggers}
 use Rattle.sb_value.specs.declared.refusal.Refusal.{Refusal}
 use Rattle.sb_value.specs.declared.refusal.Refusal.TheVariants as refusal
 use Rattle.sb_value.specs.Table.{Entry}
+use Rattle.sb_syntax.specs.Text.{command_of}
 use Rattle.sb_syntax.specs.Tree.{Name}
 use Rattle.sb_syntax.specs.Tree as text
 use Rattle.sb_syntax.specs.declared.ast.ColumnReference.{ColumnReference}
@@ -42,15 +43,15 @@ use Rattle.sb_tenant.specs.declared.reply.Answer.{Answer}
 use Rattle.sb_tenant.specs.declared.reply.Reply.{Reply}
 use Rattle.sb_tenant.specs.declared.reply.Reply.TheVariants as reply
 use Rattle.sb_tenant.specs.State.{State, Catalog, session_at, is_open, has_transaction, another_has_transaction, setting_of, progress_of, committed}
-use Rattle.sb_tenant.specs.Catalog.{is_active, is_member}
-use Rattle.sb_tenant.specs.Resolved.{Class, opens, ends, begins, defines, works, Resolved, NewRule, open_session, end_session, begin, commit, rollback, process_rules, process_ruleset, process_rule, create_table, drop_table, create_rule, drop_rule, activate_rule, deactivate_rule, create_ruleset, drop_ruleset, add_rules, del_rules, query, change}
+use Rattle.sb_catalog.specs.Definitions.{acyclic, new_pairs, is_active, is_member}
+use Rattle.sb_tenant.specs.Resolved.{Class, opens, ends, begins, defines, works, Resolved, open_session, end_session, begin, commit, rollback, process_rules, process_ruleset, process_rule, create_table, drop_table, create_rule, drop_rule, activate_rule, deactivate_rule, create_ruleset, drop_ruleset, add_rules, del_rules, query, change}
 use Rattle.sb_check.specs.Triggers.{trigger_places, walk_triggers}
 use Rattle.sb_check.specs.RuleParts.{Parts, condition_parts, walk_parts}
 use Rattle.sb_catalog.specs.declared.rule.Rule.{Rule}
 use Rattle.sb_catalog.specs.Rules.{rule_named}
-use Rattle.sb_tenant.specs.Walk.{unless, acyclic, walk_lists, walk_rule, of_members, walk, class_of}
+use Rattle.sb_tenant.specs.Walk.{unless, walk_lists, walk_rule, of_members, walk, class_of}
 use Rattle.sb_tenant.specs.Perform.{reply_rows, change_seen, with_request, reply_of, named, process_at, stays, select_seen, perform_change, perform}
-use Rattle.sb_tenant.specs.Step.{Language, first_of, session_refusal, outcome_of, reply_to_command, reply_to, numbered, is_full_for, step}
+use Rattle.sb_tenant.specs.Step.{first_of, session_refusal, outcome_of, reply_to_command, reply_to, numbered, is_full_for, step}
 use Rattle.sb_tenant.specs.Trail.{is_no_memory}
 
 abbrev is_memory : Refusal → Bool
@@ -220,14 +221,17 @@ fine-walk_parts : (schema : Schema) (r : text.RuleText) → IsFine (walk_parts s
 fine-walk_parts schema r =
     search (fine-and_then, fine-table_named, fine-walk_triggers, fine-condition_parts, fine-in_order, fine-walk_action, given) depth 12 fits 4000
 
-fine-acyclic : (catalog : Catalog) (new : NewRule) → IsFine (acyclic catalog new)
-fine-acyclic catalog new = search (fine-required, given)
+fine-acyclic : (rules : List Rule) (pairs more : List (ℕ × ℕ)) → IsFine (acyclic rules pairs more)
+fine-acyclic rules pairs more = search (fine-required, given)
 
-fine-walk_lists : (most : ℕ) (catalog : Catalog) (r : text.RuleText) (parts : Parts) → IsFine (walk_lists most catalog r parts)
-fine-walk_lists most catalog r parts = search (fine-and_then, fine-in_order, fine-rule_named, fine-required, fine-acyclic) depth 9
+fine-new_pairs : (rules : List Rule) (pairs : List (ℕ × ℕ)) (precedes follows : List Name) → IsFine (new_pairs rules pairs precedes follows)
+fine-new_pairs rules pairs precedes follows = search (fine-and_then, fine-in_order, fine-rule_named, fine-required, fine-acyclic) depth 9
 
-fine-walk_rule : (most : ℕ) (catalog : Catalog) (r : text.RuleText) → IsFine (walk_rule most catalog r)
-fine-walk_rule most catalog r = search (fine-required, fine-and_then, fine-walk_parts, fine-walk_lists)
+fine-walk_lists : (catalog : Catalog) (r : text.RuleText) (parts : Parts) → IsFine (walk_lists catalog r parts)
+fine-walk_lists catalog r parts = search (fine-and_then, fine-new_pairs, given)
+
+fine-walk_rule : (catalog : Catalog) (r : text.RuleText) → IsFine (walk_rule catalog r)
+fine-walk_rule catalog r = search (fine-required, fine-and_then, fine-walk_parts, fine-walk_lists)
 
 fine-of_members : (catalog : Catalog) (name : Name) (rules : List Name) (form : List ℕ → Resolved) → IsFine (of_members catalog name rules form)
 fine-of_members catalog name rules form = search (fine-and_then, fine-required, fine-in_order, fine-rule_named, given)
@@ -239,27 +243,27 @@ fine-create_ruleset name true many = refused _ refl
 fine-create_ruleset name false true = refused _ refl
 fine-create_ruleset name false false = given _
 
-pub fine-walk : (most : ℕ) (catalog : Catalog) (c : text.Command) → IsFine (walk most catalog c)
-fine-walk most catalog text.open_session = given _
-fine-walk most catalog text.end_session = given _
-fine-walk most catalog text.begin = given _
-fine-walk most catalog text.commit = given _
-fine-walk most catalog text.rollback = given _
-fine-walk most catalog text.process_rules = given _
-fine-walk most catalog (text.process_ruleset name) = search (fine-required, given)
-fine-walk most catalog (text.process_rule name) = search (fine-and_then, fine-rule_named, given)
-fine-walk most catalog (text.create_table name columns) = search (fine-and_then, fine-required, given)
-fine-walk most catalog (text.drop_table name) = search (fine-and_then, fine-table_named, fine-required, given)
-fine-walk most catalog (text.create_rule r) = fine-walk_rule most catalog r
-fine-walk most catalog (text.drop_rule name) = search (fine-and_then, fine-rule_named, given)
-fine-walk most catalog (text.activate_rule name) = search (fine-and_then, fine-rule_named, given)
-fine-walk most catalog (text.deactivate_rule name) = search (fine-and_then, fine-rule_named, given)
-fine-walk most catalog (text.create_ruleset name) = fine-create_ruleset name _ _
-fine-walk most catalog (text.drop_ruleset name) = search (fine-required, given)
-fine-walk most catalog (text.add_rules name rules) = fine-of_members catalog name rules _
-fine-walk most catalog (text.del_rules name rules) = fine-of_members catalog name rules _
-fine-walk most catalog (text.query q) = search (fine-and_then, fine-walk_query, given)
-fine-walk most catalog (text.change c) = search (fine-and_then, fine-walk_change, given)
+pub fine-walk : (catalog : Catalog) (c : text.Command) → IsFine (walk catalog c)
+fine-walk catalog text.open_session = given _
+fine-walk catalog text.end_session = given _
+fine-walk catalog text.begin = given _
+fine-walk catalog text.commit = given _
+fine-walk catalog text.rollback = given _
+fine-walk catalog text.process_rules = given _
+fine-walk catalog (text.process_ruleset name) = search (fine-required, given)
+fine-walk catalog (text.process_rule name) = search (fine-and_then, fine-rule_named, given)
+fine-walk catalog (text.create_table name columns) = search (fine-and_then, fine-required, given)
+fine-walk catalog (text.drop_table name) = search (fine-and_then, fine-table_named, fine-required, given)
+fine-walk catalog (text.create_rule r) = fine-walk_rule catalog r
+fine-walk catalog (text.drop_rule name) = search (fine-and_then, fine-rule_named, given)
+fine-walk catalog (text.activate_rule name) = search (fine-and_then, fine-rule_named, given)
+fine-walk catalog (text.deactivate_rule name) = search (fine-and_then, fine-rule_named, given)
+fine-walk catalog (text.create_ruleset name) = fine-create_ruleset name _ _
+fine-walk catalog (text.drop_ruleset name) = search (fine-required, given)
+fine-walk catalog (text.add_rules name rules) = fine-of_members catalog name rules _
+fine-walk catalog (text.del_rules name rules) = fine-of_members catalog name rules _
+fine-walk catalog (text.query q) = search (fine-and_then, fine-walk_query, given)
+fine-walk catalog (text.change c) = search (fine-and_then, fine-walk_change, given)
 
 -- ---- statements
 
@@ -337,11 +341,11 @@ module _ (tenant bound : ℕ) (state : State) (s : ℕ) where
   fine-perform open_session = refl
   fine-perform end_session = refl
   fine-perform begin = refl
-  fine-perform commit = fine-process_at (is_active state.catalog) (λ after. committed after s)
+  fine-perform commit = fine-process_at (is_active state.catalog.rules) (λ after. committed after s)
   fine-perform rollback = refl
-  fine-perform process_rules = fine-process_at (is_active state.catalog) stays
-  fine-perform (process_ruleset name) = fine-process_at (λ id. is_active state.catalog id && is_member state.catalog name id) stays
-  fine-perform (process_rule r) = fine-process_at (λ id. (id == r) && is_active state.catalog id) stays
+  fine-perform process_rules = fine-process_at (is_active state.catalog.rules) stays
+  fine-perform (process_ruleset name) = fine-process_at (λ id. is_active state.catalog.rules id && is_member state.catalog.rulesets name id) stays
+  fine-perform (process_rule r) = fine-process_at (λ id. (id == r) && is_active state.catalog.rules id) stays
   fine-perform (create_table name columns) = refl
   fine-perform (drop_table id) = refl
   fine-perform (create_rule new) = refl
@@ -360,22 +364,22 @@ module _ (tenant bound : ℕ) (state : State) (s : ℕ) where
       (λ p. fine-change_seen state s p (statement_changes (seen_with (setting_of tenant state s) no_transition p) statement)
       (fine-statement_changes (seen_with (setting_of tenant state s) no_transition p) statement))
 
-module _ (language : Language) (tenant bound : ℕ) (state : State) (s : ℕ) where
-  fine-outcome_of : (r : Option Refusal) (w : Result Resolved Refusal) → IsFineIfAny r → IsFine w → is_no_memory (outcome_of language tenant bound state s r w).1 ≡ false
+module _ (tenant bound : ℕ) (state : State) (s : ℕ) where
+  fine-outcome_of : (r : Option Refusal) (w : Result Resolved Refusal) → IsFineIfAny r → IsFine w → is_no_memory (outcome_of tenant bound state s r w).1 ≡ false
   fine-outcome_of (Some r) w p h = p
   fine-outcome_of None w p (refused e q) = q
   fine-outcome_of None w p (given r) = fine-perform tenant bound state s r
 
-  fine-reply_to : (line : List ℕ) → is_no_memory (reply_to language tenant bound state s line).1 ≡ false
+  fine-reply_to : (line : List ℕ) → is_no_memory (reply_to tenant bound state s line).1 ≡ false
   fine-reply_to line =
-      elim (language.command line) as (λ c.
-      let r : State × Reply = elim c [ None ↦ (state, reply.No refusal.Syntax) | Some command ↦ reply_to_command language tenant bound state s command ] in is_no_memory r.1 ≡ false) [
+      elim (command_of line) as (λ c.
+      let r : State × Reply = elim c [ None ↦ (state, reply.No refusal.Syntax) | Some command ↦ reply_to_command tenant bound state s command ] in is_no_memory r.1 ≡ false) [
         | None ↦ refl
-        | Some command ↦ fine-outcome_of (session_refusal (class_of command) state s) (walk language.rules state.catalog command) (fine-session_refusal (class_of command) state s) (fine-walk language.rules state.catalog command)
+        | Some command ↦ fine-outcome_of (session_refusal (class_of command) state s) (walk state.catalog command) (fine-session_refusal (class_of command) state s) (fine-walk state.catalog command)
       ]
 
-  pub fine-step : (line : List ℕ) → is_no_memory (step language tenant bound state s line).1.reply ≡ false
+  pub fine-step : (line : List ℕ) → is_no_memory (step tenant bound state s line).1.reply ≡ false
   fine-step line =
       elim (is_full_for state s line) as (λ b.
-      let r : State × Answer = elim b [ true ↦ (state, record { number = None; reply = reply.No refusal.TrailFull }) | false ↦ numbered state (reply_to language tenant bound state s line) ] in
+      let r : State × Answer = elim b [ true ↦ (state, record { number = None; reply = reply.No refusal.TrailFull }) | false ↦ numbered state (reply_to tenant bound state s line) ] in
       is_no_memory r.1.reply ≡ false) [ true ↦ refl | false ↦ fine-reply_to line ]

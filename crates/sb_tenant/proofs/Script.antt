@@ -1,5 +1,5 @@
--- Scripts of commands, each in its session: the language of a script has its commands under their numbers.
-use Rattle.std.specs.Prelude.{ℕ, ◌+◌, List, [], ◌∷◌, map, slice_get, Option, Some, None, pos, codes}
+-- Scripts of commands, each in its session.
+use Rattle.std.specs.Prelude.{ℕ, List, [], ◌∷◌, map, Option, Some, None, pos, codes}
 use Rattle.sb_value.specs.declared.value.Value.{Value}
 use Rattle.sb_value.specs.declared.value.Value.TheVariants.{Int}
 use Rattle.sb_value.specs.declared.value.ColumnType.TheVariants as type
@@ -16,27 +16,19 @@ use Rattle.sb_syntax.specs.declared.ast.SourceReference.{SourceReference}
 use Rattle.sb_syntax.specs.Tree.{Name, Expression, literal, column, binary, all, each_of, compare, expression, Filter, everything, those, Query, select, Change, insert_rows, insert_query, delete, update, Action, changes, Trigger, on_insert, Command, open_session, begin, commit, create_table, create_rule, query, change}
 use Rattle.sb_tenant.specs.declared.reply.Reply.{Reply}
 use Rattle.sb_tenant.specs.declared.reply.Reply.TheVariants as reply
-use Rattle.sb_catalog.specs.Rules.{rule_limit}
-use Rattle.sb_tenant.specs.State.{opening}
-use Rattle.sb_tenant.specs.Step.{Language}
-use Rattle.sb_tenant.specs.Trail.{answers}
+use Rattle.sb_tenant.specs.State.{State, opening}
+use Rattle.sb_tenant.specs.Step.{reply_to_command}
 
 -- ---- running a script
 
-abbrev numbered_line : List Command → List ℕ → Option Command
-numbered_line script [] = None
-numbered_line script (n ∷ ns) = slice_get script n
+-- the replies to commands of sessions, from a state on
+abbrev replies_from : ℕ → State → List (ℕ × Command) → List Reply
+replies_from bound state [] = []
+replies_from bound state (c ∷ cs) = let r = reply_to_command 0 bound state c.0 c.1 in r.1 ∷ replies_from bound r.0 cs
 
-abbrev pub numbered : List Command → Language
-numbered script = record { command = numbered_line script; rules = rule_limit }
-
-abbrev pub lines_from : ℕ → List (ℕ × Command) → List (ℕ × List ℕ)
-lines_from n [] = []
-lines_from n (c ∷ cs) = (c.0, n ∷ []) ∷ lines_from (n + 1) cs
-
--- the replies to commands of sessions
+-- from the opening state
 abbrev pub replies_in_sessions : ℕ → List (ℕ × Command) → List Reply
-replies_in_sessions bound script = map (λ a. a.reply) (answers (numbered (map (λ c. c.1) script)) 0 bound opening (lines_from 0 script))
+replies_in_sessions bound script = replies_from bound opening script
 
 -- the replies to commands of one session
 abbrev pub replies : ℕ → List Command → List Reply

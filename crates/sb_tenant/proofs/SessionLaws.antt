@@ -6,6 +6,7 @@ use Rattle.sb_value.specs.declared.lock.Mode.{Mode}
 use Rattle.sb_value.specs.declared.refusal.Refusal.{Refusal}
 use Rattle.sb_value.specs.Table.{name_at}
 use Rattle.sb_value.specs.Locks.{first_conflict, with_locks}
+use Rattle.sb_syntax.specs.Text.{command_of}
 use Rattle.sb_syntax.specs.Tree as text
 use Rattle.sb_syntax.specs.Tree.{Command}
 use Rattle.sb_check.specs.Names.{and_then, required}
@@ -24,8 +25,8 @@ use Rattle.sb_tenant.specs.State.{State, Session, idle, closed, active, session_
 use Rattle.sb_tenant.specs.Resolved.{Resolved, open_session, end_session, begin, commit, rollback, process_rules, process_ruleset, process_rule, create_table, drop_table, create_rule, drop_rule, activate_rule, deactivate_rule, create_ruleset, drop_ruleset, add_rules, del_rules, query, change, begins, defines, works}
 use Rattle.sb_tenant.specs.Walk.{unless, walk, class_of}
 use Rattle.sb_tenant.specs.Perform.{with_request, change_seen, select_seen, perform_change, stands_after, stays, process_at, perform}
-use Rattle.sb_tenant.specs.Catalog.{is_active, is_member}
-use Rattle.sb_tenant.specs.Step.{first_of, session_refusal, Language, outcome_of, reply_to_command, reply_to, step, numbered, is_full_for}
+use Rattle.sb_catalog.specs.Definitions.{is_active, is_member}
+use Rattle.sb_tenant.specs.Step.{first_of, session_refusal, outcome_of, reply_to_command, reply_to, step, numbered, is_full_for}
 use Rattle.sb_tenant.specs.TrailLaws.{open_by}
 use Rattle.sb_tenant.proofs.Tests.{no_way}
 
@@ -73,7 +74,7 @@ module _ (s o : ℕ) (other : (o == s) ≡ false) where
 
   commit-other : (tenant bound : ℕ) (state : State) → session_at (perform tenant bound state s commit).0 o ≡ session_at state o
   commit-other tenant bound state =
-      let p = process bound (setting_of tenant state s) (is_active state.catalog) (progress_of state s) in stands-commit state p.outcome p.progress
+      let p = process bound (setting_of tenant state s) (is_active state.catalog.rules) (progress_of state s) in stands-commit state p.outcome p.progress
 
   process-other : (tenant bound : ℕ) (state : State) (eligible : ℕ → Bool) → session_at (process_at tenant bound state s eligible stays).0 o ≡ session_at state o
   process-other tenant bound state eligible =
@@ -85,9 +86,9 @@ module _ (s o : ℕ) (other : (o == s) ≡ false) where
   perform-other tenant bound state begin = other_session state s (active [] (λ id. 0)) o other
   perform-other tenant bound state commit = commit-other tenant bound state
   perform-other tenant bound state rollback = other_session state s idle o other
-  perform-other tenant bound state process_rules = process-other tenant bound state (is_active state.catalog)
-  perform-other tenant bound state (process_ruleset name) = process-other tenant bound state (λ id. is_active state.catalog id && is_member state.catalog name id)
-  perform-other tenant bound state (process_rule r) = process-other tenant bound state (λ id. (id == r) && is_active state.catalog id)
+  perform-other tenant bound state process_rules = process-other tenant bound state (is_active state.catalog.rules)
+  perform-other tenant bound state (process_ruleset name) = process-other tenant bound state (λ id. is_active state.catalog.rules id && is_member state.catalog.rulesets name id)
+  perform-other tenant bound state (process_rule r) = process-other tenant bound state (λ id. (id == r) && is_active state.catalog.rules id)
   perform-other tenant bound state (create_table name columns) = refl
   perform-other tenant bound state (drop_table id) = refl
   perform-other tenant bound state (create_rule new) = refl
@@ -146,7 +147,7 @@ module _ (tenant bound : ℕ) (state : State) (s : ℕ) (was_open : is_open (ses
 
   commit-open : is_open (session_at (perform tenant bound state s commit).0 s) ≡ true
   commit-open =
-      let p = process bound (setting_of tenant state s) (is_active state.catalog) (progress_of state s) in stands-commit-open p.outcome p.progress
+      let p = process bound (setting_of tenant state s) (is_active state.catalog.rules) (progress_of state s) in stands-commit-open p.outcome p.progress
 
   process-open : (eligible : ℕ → Bool) → is_open (session_at (process_at tenant bound state s eligible stays).0 s) ≡ true
   process-open eligible =
@@ -158,9 +159,9 @@ module _ (tenant bound : ℕ) (state : State) (s : ℕ) (was_open : is_open (ses
   perform-open begin h = set_open state (active [] (λ id. 0)) refl
   perform-open commit h = commit-open
   perform-open rollback h = set_open state idle refl
-  perform-open process_rules h = process-open (is_active state.catalog)
-  perform-open (process_ruleset name) h = process-open (λ id. is_active state.catalog id && is_member state.catalog name id)
-  perform-open (process_rule r) h = process-open (λ id. (id == r) && is_active state.catalog id)
+  perform-open process_rules h = process-open (is_active state.catalog.rules)
+  perform-open (process_ruleset name) h = process-open (λ id. is_active state.catalog.rules id && is_member state.catalog.rulesets name id)
+  perform-open (process_rule r) h = process-open (λ id. (id == r) && is_active state.catalog.rules id)
   perform-open (create_table name columns) h = was_open
   perform-open (drop_table id) h = was_open
   perform-open (create_rule new) h = was_open
@@ -196,83 +197,83 @@ none_of_first : (r : Refusal) (b : Bool) (others : Option Refusal) → first_of 
 none_of_first r true others h = refl
 none_of_first r false others h = cc
 
-module _ (language : Language) (tenant bound : ℕ) (state : State) (s : ℕ) where
+module _ (tenant bound : ℕ) (state : State) (s : ℕ) where
   stays-open : (r : Option Refusal) (w : Result Resolved Refusal) → IsNoEnd w → (r ≡ None → is_open (session_at state s) ≡ true) →
-      is_open (session_at (outcome_of language tenant bound state s r w).0 s) ≡ is_open (session_at state s)
+      is_open (session_at (outcome_of tenant bound state s r w).0 s) ≡ is_open (session_at state s)
   stays-open (Some r) w h opened = refl
   stays-open None w (refused e) opened = refl
   stays-open None w (resolved r h) opened = perform-open tenant bound state s (opened refl) r h ∙ sym (opened refl)
 
-  defining : (w : Result Resolved Refusal) → IsNoEnd w → is_open (session_at (outcome_of language tenant bound state s (session_refusal defines state s) w).0 s) ≡ is_open (session_at state s)
+  defining : (w : Result Resolved Refusal) → IsNoEnd w → is_open (session_at (outcome_of tenant bound state s (session_refusal defines state s) w).0 s) ≡ is_open (session_at state s)
   defining w h = stays-open (session_refusal defines state s) w h (none_of_first refusal.NotOpen (is_open (session_at state s)) _)
 
-  working : (w : Result Resolved Refusal) → IsNoEnd w → is_open (session_at (outcome_of language tenant bound state s (session_refusal works state s) w).0 s) ≡ is_open (session_at state s)
+  working : (w : Result Resolved Refusal) → IsNoEnd w → is_open (session_at (outcome_of tenant bound state s (session_refusal works state s) w).0 s) ≡ is_open (session_at state s)
   working w h = stays-open (session_refusal works state s) w h (none_of_first refusal.NotOpen (is_open (session_at state s)) _)
 
   -- `open` and `end`, by whether the session is open
-  opening_of : (b : Bool) → is_open (session_at state s) ≡ b → is_open (session_at (outcome_of language tenant bound state s (first_of b refusal.AlreadyOpen None) (Ok open_session)).0 s) ≡ true
+  opening_of : (b : Bool) → is_open (session_at state s) ≡ b → is_open (session_at (outcome_of tenant bound state s (first_of b refusal.AlreadyOpen None) (Ok open_session)).0 s) ≡ true
   opening_of true h = h
   opening_of false h = ap is_open (own_session state s idle)
 
-  ending_of : (b : Bool) → is_open (session_at state s) ≡ b → is_open (session_at (outcome_of language tenant bound state s (first_of (not b) refusal.NotOpen None) (Ok end_session)).0 s) ≡ false
+  ending_of : (b : Bool) → is_open (session_at state s) ≡ b → is_open (session_at (outcome_of tenant bound state s (first_of (not b) refusal.NotOpen None) (Ok end_session)).0 s) ≡ false
   ending_of true h = ap is_open (own_session (rolled_back state s) s closed)
   ending_of false h = h
 
-  pub own_command : (c : Command) → is_open (session_at (reply_to_command language tenant bound state s c).0 s) ≡ open_by (Some c) (is_open (session_at state s))
+  pub own_command : (c : Command) → is_open (session_at (reply_to_command tenant bound state s c).0 s) ≡ open_by (Some c) (is_open (session_at state s))
   own_command text.open_session = opening_of (is_open (session_at state s)) refl
   own_command text.end_session = ending_of (is_open (session_at state s)) refl
   own_command text.begin = stays-open (session_refusal begins state s) (Ok begin) (resolved begin refl) (none_of_first refusal.NotOpen (is_open (session_at state s)) _)
   own_command text.commit = working (Ok commit) (resolved commit refl)
   own_command text.rollback = working (Ok rollback) (resolved rollback refl)
   own_command text.process_rules = working (Ok process_rules) (resolved process_rules refl)
-  own_command (text.process_ruleset name) = working (walk language.rules state.catalog (text.process_ruleset name)) (search (required-no_end, resolved))
-  own_command (text.process_rule name) = working (walk language.rules state.catalog (text.process_rule name)) (search (and_then-no_end, resolved))
-  own_command (text.create_table name columns) = defining (walk language.rules state.catalog (text.create_table name columns)) (search (and_then-no_end, required-no_end, resolved))
-  own_command (text.drop_table name) = defining (walk language.rules state.catalog (text.drop_table name)) (search (required-no_end, and_then-no_end, resolved))
-  own_command (text.create_rule r) = defining (walk language.rules state.catalog (text.create_rule r)) (search (required-no_end, and_then-no_end, resolved) depth 16)
-  own_command (text.drop_rule name) = defining (walk language.rules state.catalog (text.drop_rule name)) (search (and_then-no_end, resolved))
-  own_command (text.activate_rule name) = defining (walk language.rules state.catalog (text.activate_rule name)) (search (and_then-no_end, resolved))
-  own_command (text.deactivate_rule name) = defining (walk language.rules state.catalog (text.deactivate_rule name)) (search (and_then-no_end, resolved))
-  own_command (text.create_ruleset name) = defining (walk language.rules state.catalog (text.create_ruleset name)) (search (unless-no_end, resolved))
-  own_command (text.drop_ruleset name) = defining (walk language.rules state.catalog (text.drop_ruleset name)) (search (required-no_end, resolved))
-  own_command (text.add_rules name rules) = defining (walk language.rules state.catalog (text.add_rules name rules)) (search (required-no_end, and_then-no_end, resolved))
-  own_command (text.del_rules name rules) = defining (walk language.rules state.catalog (text.del_rules name rules)) (search (required-no_end, and_then-no_end, resolved))
-  own_command (text.query q) = working (walk language.rules state.catalog (text.query q)) (search (and_then-no_end, resolved))
-  own_command (text.change c) = working (walk language.rules state.catalog (text.change c)) (search (and_then-no_end, resolved))
+  own_command (text.process_ruleset name) = working (walk state.catalog (text.process_ruleset name)) (search (required-no_end, resolved))
+  own_command (text.process_rule name) = working (walk state.catalog (text.process_rule name)) (search (and_then-no_end, resolved))
+  own_command (text.create_table name columns) = defining (walk state.catalog (text.create_table name columns)) (search (and_then-no_end, required-no_end, resolved))
+  own_command (text.drop_table name) = defining (walk state.catalog (text.drop_table name)) (search (required-no_end, and_then-no_end, resolved))
+  own_command (text.create_rule r) = defining (walk state.catalog (text.create_rule r)) (search (required-no_end, and_then-no_end, resolved) depth 16)
+  own_command (text.drop_rule name) = defining (walk state.catalog (text.drop_rule name)) (search (and_then-no_end, resolved))
+  own_command (text.activate_rule name) = defining (walk state.catalog (text.activate_rule name)) (search (and_then-no_end, resolved))
+  own_command (text.deactivate_rule name) = defining (walk state.catalog (text.deactivate_rule name)) (search (and_then-no_end, resolved))
+  own_command (text.create_ruleset name) = defining (walk state.catalog (text.create_ruleset name)) (search (unless-no_end, resolved))
+  own_command (text.drop_ruleset name) = defining (walk state.catalog (text.drop_ruleset name)) (search (required-no_end, resolved))
+  own_command (text.add_rules name rules) = defining (walk state.catalog (text.add_rules name rules)) (search (required-no_end, and_then-no_end, resolved))
+  own_command (text.del_rules name rules) = defining (walk state.catalog (text.del_rules name rules)) (search (required-no_end, and_then-no_end, resolved))
+  own_command (text.query q) = working (walk state.catalog (text.query q)) (search (and_then-no_end, resolved))
+  own_command (text.change c) = working (walk state.catalog (text.change c)) (search (and_then-no_end, resolved))
 
 -- ---- a line, and a step
 
-module _ (language : Language) (tenant bound : ℕ) (state : State) (s : ℕ) where
-  pub own_line : (line : List ℕ) → is_open (session_at (reply_to language tenant bound state s line).0 s) ≡ open_by (language.command line) (is_open (session_at state s))
+module _ (tenant bound : ℕ) (state : State) (s : ℕ) where
+  pub own_line : (line : List ℕ) → is_open (session_at (reply_to tenant bound state s line).0 s) ≡ open_by (command_of line) (is_open (session_at state s))
   own_line line =
-      elim (language.command line) as (λ c.
-      let r : State × Reply = elim c [ None ↦ (state, reply.No refusal.Syntax) | Some command ↦ reply_to_command language tenant bound state s command ] in
-      is_open (session_at r.0 s) ≡ open_by c (is_open (session_at state s))) [ None ↦ refl | Some command ↦ own_command language tenant bound state s command ]
+      elim (command_of line) as (λ c.
+      let r : State × Reply = elim c [ None ↦ (state, reply.No refusal.Syntax) | Some command ↦ reply_to_command tenant bound state s command ] in
+      is_open (session_at r.0 s) ≡ open_by c (is_open (session_at state s))) [ None ↦ refl | Some command ↦ own_command tenant bound state s command ]
 
-  other_outcome : (o : ℕ) → (o == s) ≡ false → (r : Option Refusal) (w : Result Resolved Refusal) → session_at (outcome_of language tenant bound state s r w).0 o ≡ session_at state o
+  other_outcome : (o : ℕ) → (o == s) ≡ false → (r : Option Refusal) (w : Result Resolved Refusal) → session_at (outcome_of tenant bound state s r w).0 o ≡ session_at state o
   other_outcome o other (Some r) w = refl
   other_outcome o other None (Err r) = refl
   other_outcome o other None (Ok r) = perform-other s o other tenant bound state r
 
-  pub other_line : (line : List ℕ) (o : ℕ) → (o == s) ≡ false → session_at (reply_to language tenant bound state s line).0 o ≡ session_at state o
+  pub other_line : (line : List ℕ) (o : ℕ) → (o == s) ≡ false → session_at (reply_to tenant bound state s line).0 o ≡ session_at state o
   other_line line o other =
-      elim (language.command line) as (λ c.
-      let r : State × Reply = elim c [ None ↦ (state, reply.No refusal.Syntax) | Some command ↦ reply_to_command language tenant bound state s command ] in
+      elim (command_of line) as (λ c.
+      let r : State × Reply = elim c [ None ↦ (state, reply.No refusal.Syntax) | Some command ↦ reply_to_command tenant bound state s command ] in
       session_at r.0 o ≡ session_at state o) [
         | None ↦ refl
-        | Some command ↦ other_outcome o other (session_refusal (class_of command) state s) (walk language.rules state.catalog command)
+        | Some command ↦ other_outcome o other (session_refusal (class_of command) state s) (walk state.catalog command)
       ]
 
   -- where the trail has a place, the step is what the line does
   pub own_step : (line : List ℕ) → is_full_for state s line ≡ false →
-      is_open (session_at (step language tenant bound state s line).0 s) ≡ open_by (language.command line) (is_open (session_at state s))
+      is_open (session_at (step tenant bound state s line).0 s) ≡ open_by (command_of line) (is_open (session_at state s))
   own_step line room = (λ i. is_open (session_at (placed (room i)).0 s)) ∙ own_line line
     where
       placed : Bool → State × Answer
-      placed b = elim b [ true ↦ (state, record { number = None; reply = reply.No refusal.TrailFull }) | false ↦ numbered state (reply_to language tenant bound state s line) ]
+      placed b = elim b [ true ↦ (state, record { number = None; reply = reply.No refusal.TrailFull }) | false ↦ numbered state (reply_to tenant bound state s line) ]
 
-  pub other_step : (line : List ℕ) (o : ℕ) → (o == s) ≡ false → session_at (step language tenant bound state s line).0 o ≡ session_at state o
+  pub other_step : (line : List ℕ) (o : ℕ) → (o == s) ≡ false → session_at (step tenant bound state s line).0 o ≡ session_at state o
   other_step line o other =
       elim (is_full_for state s line) as (λ b.
-      let r : State × Answer = elim b [ true ↦ (state, record { number = None; reply = reply.No refusal.TrailFull }) | false ↦ numbered state (reply_to language tenant bound state s line) ] in
+      let r : State × Answer = elim b [ true ↦ (state, record { number = None; reply = reply.No refusal.TrailFull }) | false ↦ numbered state (reply_to tenant bound state s line) ] in
       session_at r.0 o ≡ session_at state o) [ true ↦ refl | false ↦ other_line line o other ]

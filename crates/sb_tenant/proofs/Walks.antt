@@ -18,26 +18,26 @@ refuses (Err d) form next e h = ap (λ (x : Refusal). Err x) (same_Some d e (ap 
 refuses (Ok a) form next e h = absurd (cc)
 
 pub first : NamesComeFirst
-first most catalog text.open_session e free h = absurd (cc)
-first most catalog text.end_session e free h = absurd (cc)
-first most catalog text.begin e free h = absurd (cc)
-first most catalog text.commit e free h = absurd (cc)
-first most catalog text.rollback e free h = absurd (cc)
-first most catalog text.process_rules e free h = absurd (cc)
-first most catalog (text.process_ruleset name) e free h = absurd (cc)
-first most catalog (text.process_rule name) e free h = absurd (cc)
-first most catalog (text.drop_rule name) e free h = absurd (cc)
-first most catalog (text.activate_rule name) e free h = absurd (cc)
-first most catalog (text.deactivate_rule name) e free h = absurd (cc)
-first most catalog (text.create_ruleset name) e free h = absurd (cc)
-first most catalog (text.drop_ruleset name) e free h = absurd (cc)
-first most catalog (text.add_rules name rules) e free h = absurd (cc)
-first most catalog (text.del_rules name rules) e free h = absurd (cc)
-first most catalog (text.create_table name columns) e free h =
+first catalog text.open_session e free h = absurd (cc)
+first catalog text.end_session e free h = absurd (cc)
+first catalog text.begin e free h = absurd (cc)
+first catalog text.commit e free h = absurd (cc)
+first catalog text.rollback e free h = absurd (cc)
+first catalog text.process_rules e free h = absurd (cc)
+first catalog (text.process_ruleset name) e free h = absurd (cc)
+first catalog (text.process_rule name) e free h = absurd (cc)
+first catalog (text.drop_rule name) e free h = absurd (cc)
+first catalog (text.activate_rule name) e free h = absurd (cc)
+first catalog (text.deactivate_rule name) e free h = absurd (cc)
+first catalog (text.create_ruleset name) e free h = absurd (cc)
+first catalog (text.drop_ruleset name) e free h = absurd (cc)
+first catalog (text.add_rules name rules) e free h = absurd (cc)
+first catalog (text.del_rules name rules) e free h = absurd (cc)
+first catalog (text.create_table name columns) e free h =
     ap (λ (r : Result names.Resolved Refusal). and_then r (λ _. required (nat_lt (length catalog.tables) table_limit) refusal.TooManyTables (Ok (create_table name columns)))) h
-first most catalog (text.drop_table name) e free h = refuses _ _ _ e h
-first most catalog (text.create_rule r) e free h =
-    ap (λ (b : Bool). required (not b) refusal.RuleExists (and_then (walk_parts (outside_rules catalog) r) (walk_lists most catalog r))) free
-    ∙ refuses (walk_parts (outside_rules catalog) r) names.rule (walk_lists most catalog r) e h
-first most catalog (text.query q) e free h = refuses _ _ _ e h
-first most catalog (text.change c) e free h = refuses _ _ _ e h
+first catalog (text.drop_table name) e free h = refuses _ _ _ e h
+first catalog (text.create_rule r) e free h =
+    ap (λ (b : Bool). required (not b) refusal.RuleExists (and_then (walk_parts (outside_rules catalog) r) (walk_lists catalog r))) free
+    ∙ refuses (walk_parts (outside_rules catalog) r) names.rule (walk_lists catalog r) e h
+first catalog (text.query q) e free h = refuses _ _ _ e h
+first catalog (text.change c) e free h = refuses _ _ _ e h

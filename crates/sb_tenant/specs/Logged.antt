@@ -1,8 +1,11 @@
--- A tenant's transactions in a log that others use, too. Nothing is said of the others' records.
+-- A tenant's transactions in a log and its rules in an index that others use, too. Nothing is said of what is the others'.
 use Rattle.std.specs.Prelude.{◌≡◌, ◌≤◌, ℕ, List, IsTrue}
 use Rattle.sb_value.specs.declared.id.Who.{Who}
 use Rattle.sb_rawlog.specs.Records.{Record}
 use Rattle.sb_rawlog.specs.Sessions.{changes_by, mark_at}
+use Rattle.sb_index.specs.TableSets.{TableSets}
+use Rattle.sb_catalog.specs.Definitions.{AreIndexed}
+use Rattle.sb_process.specs.Transactions.{Kept, mark_of}
 use Rattle.sb_tenant.specs.Limits.{is_session}
 use Rattle.sb_tenant.specs.State.{State, session_at, changes_of, marks_of}
 
@@ -17,3 +20,9 @@ HoldsTransactions tenant state records = (s : ℕ) → IsTrue (is_session s) →
 abbrev pub StandsFor : ℕ → ℕ → State → List Record → ℕ → (ℕ → ℕ) → Type 0
 StandsFor tenant s state records clock times =
     (rule : ℕ) → (times rule ≤ clock) × (mark_at (who_of tenant s) (times rule) records ≡ marks_of (session_at state s) rule)
+
+-- the log has the transactions of a tenant in this state, a time for each of its marks, and the index has its active rules
+pub record Agrees (tenant : ℕ) (state : State) (kept : Kept) (records : List Record) (clock : ℕ) (index : List (List TableSets)) : Type 0 where
+  pub transactions : HoldsTransactions tenant state records
+  pub marks : (s : ℕ) → IsTrue (is_session s) → StandsFor tenant s state records clock (mark_of kept s)
+  pub indexed : AreIndexed index tenant state.catalog.rules

@@ -16,10 +16,11 @@ use Rattle.sb_process.specs.Setting.{Progress, seen_with}
 use Rattle.sb_process.specs.Process.{Processing, process}
 use Rattle.sb_process.specs.declared.Outcome.{Outcome}
 use Rattle.sb_process.specs.declared.Outcome.TheVariants.{Done, ByRule, ByError, ByLimit}
+use Rattle.sb_catalog.specs.Definitions.{is_active, is_member}
 use Rattle.sb_tenant.specs.declared.reply.Reply.{Reply}
 use Rattle.sb_tenant.specs.declared.reply.Reply.TheVariants as reply
 use Rattle.sb_tenant.specs.State.{State, closed, idle, active, Catalog, with_session, setting_of, progress_of, with_progress, rolled_back, committed}
-use Rattle.sb_tenant.specs.Catalog.{with_table, without_table, with_rule, without_rule, with_active, with_ruleset, without_ruleset, with_members, without_members, is_active, is_member, rule_name}
+use Rattle.sb_tenant.specs.Catalog.{with_table, without_table, with_rule, without_rule, with_active, with_ruleset, without_ruleset, with_members, without_members, rule_name}
 use Rattle.sb_tenant.specs.Resolved.{Resolved, open_session, end_session, begin, commit, rollback, process_rules, process_ruleset, process_rule, create_table, drop_table, create_rule, drop_rule, activate_rule, deactivate_rule, create_ruleset, drop_ruleset, add_rules, del_rules, query, change}
 
 -- ---- statements
@@ -98,11 +99,11 @@ abbrev pub perform : ℕ → ℕ → State → ℕ → Resolved → State × Rep
 perform tenant bound state s open_session = (with_session state s idle, reply.Ok)
 perform tenant bound state s end_session = (with_session (rolled_back state s) s closed, reply.Ok)
 perform tenant bound state s begin = (with_session state s (active [] (λ id. 0)), reply.Ok)
-perform tenant bound state s commit = process_at tenant bound state s (is_active state.catalog) (λ after. committed after s)
+perform tenant bound state s commit = process_at tenant bound state s (is_active state.catalog.rules) (λ after. committed after s)
 perform tenant bound state s rollback = (rolled_back state s, reply.Ok)
-perform tenant bound state s process_rules = process_at tenant bound state s (is_active state.catalog) stays
-perform tenant bound state s (process_ruleset name) = process_at tenant bound state s (λ id. is_active state.catalog id && is_member state.catalog name id) stays
-perform tenant bound state s (process_rule r) = process_at tenant bound state s (λ id. (id == r) && is_active state.catalog id) stays
+perform tenant bound state s process_rules = process_at tenant bound state s (is_active state.catalog.rules) stays
+perform tenant bound state s (process_ruleset name) = process_at tenant bound state s (λ id. is_active state.catalog.rules id && is_member state.catalog.rulesets name id) stays
+perform tenant bound state s (process_rule r) = process_at tenant bound state s (λ id. (id == r) && is_active state.catalog.rules id) stays
 perform tenant bound state s (create_table name columns) = defined state (with_table state.catalog name columns)
 perform tenant bound state s (drop_table id) = defined state (without_table state.catalog id)
 perform tenant bound state s (create_rule new) = defined state (with_rule state.catalog new)

@@ -5,12 +5,11 @@ use Rattle.sb_check.specs.Condition.{Query}
 use Rattle.sb_check.specs.declared.tree.Statement.{Statement}
 use Rattle.sb_check.specs.RuleParts.{Parts}
 
--- a rule as a command gives it: its name, what the tables tell of it, and the rules that it precedes and follows
+-- a rule as a command gives it: its name, what the tables tell of it, and the pairs of precedence that it brings
 pub record NewRule : Type 0 where
   pub name : List ℕ
   pub parts : Parts
-  pub precedes : List ℕ
-  pub follows : List ℕ
+  pub pairs : List (ℕ × ℕ)
 
 -- tables and rules by their ids, rulesets by their names; what a rule, a query and a statement name is resolved as the tables tell it
 pub data Resolved : Type 0 where

@@ -9,6 +9,7 @@ use Rattle.sb_tenant.specs.Limits.{trail_limit}
 use Rattle.sb_tenant.specs.State.{State, session_at, is_open, has_transaction, another_has_transaction}
 use Rattle.sb_value.specs.Name.{same_name}
 use Rattle.sb_syntax.specs.Tree.{Command}
+use Rattle.sb_syntax.specs.Text.{command_of}
 use Rattle.sb_tenant.specs.Resolved.{Resolved, Class, opens, ends, begins, defines, works}
 use Rattle.sb_tenant.specs.Walk.{class_of, walk}
 use Rattle.sb_tenant.specs.Perform.{perform}
@@ -26,28 +27,22 @@ abbrev pub first_of : Bool → Refusal → Option Refusal → Option Refusal
 first_of true r others = Some r
 first_of false r others = others
 
--- by what a command asks of its session
+-- by what a command asks of its session, and whether that is open, has a transaction, and another session has one
+abbrev pub refusal_by : Class → Bool → Bool → Bool → Option Refusal
+refusal_by opens opened own another = first_of opened refusal.AlreadyOpen None
+refusal_by ends opened own another = first_of (not opened) refusal.NotOpen None
+refusal_by begins opened own another = first_of (not opened) refusal.NotOpen (first_of own refusal.InTransaction None)
+refusal_by defines opened own another = first_of (not opened) refusal.NotOpen (first_of own refusal.InTransaction (first_of another refusal.Busy None))
+refusal_by works opened own another = first_of (not opened) refusal.NotOpen (first_of (not own) refusal.NoTransaction None)
+
 abbrev pub session_refusal : Class → State → ℕ → Option Refusal
-session_refusal opens state s = first_of (is_open (session_at state s)) refusal.AlreadyOpen None
-session_refusal ends state s = first_of (not (is_open (session_at state s))) refusal.NotOpen None
-session_refusal begins state s =
-    first_of (not (is_open (session_at state s))) refusal.NotOpen (first_of (has_transaction (session_at state s)) refusal.InTransaction None)
-session_refusal defines state s =
-    first_of (not (is_open (session_at state s))) refusal.NotOpen
-    (first_of (has_transaction (session_at state s)) refusal.InTransaction (first_of (another_has_transaction state s) refusal.Busy None))
-session_refusal works state s =
-    first_of (not (is_open (session_at state s))) refusal.NotOpen (first_of (not (has_transaction (session_at state s))) refusal.NoTransaction None)
+session_refusal class state s = refusal_by class (is_open (session_at state s)) (has_transaction (session_at state s)) (another_has_transaction state s)
 
 -- the number of steps goes up by one and is the answer's number
 abbrev pub numbered : State → State × Reply → State × Answer
 numbered before r = let n = before.steps + 1 in (record r.0 { steps = n }, record { number = Some n; reply = r.1 })
 
--- which command a text has, if it has one, and the most rules of a tenant
-pub record Language : Type 0 where
-  pub command : List ℕ → Option Command
-  pub rules : ℕ
-
-module _ (language : Language) (tenant bound : ℕ) where
+module _ (tenant bound : ℕ) where
   -- a command is refused by its session, or else by its walk, or else is performed
   abbrev pub outcome_of : State → ℕ → Option Refusal → Result Resolved Refusal → State × Reply
   outcome_of state s (Some r) walked = (state, No r)
@@ -56,12 +51,12 @@ module _ (language : Language) (tenant bound : ℕ) where
 
   -- a command, in a session
   abbrev pub reply_to_command : State → ℕ → Command → State × Reply
-  reply_to_command state s command = outcome_of state s (session_refusal (class_of command) state s) (walk language.rules state.catalog command)
+  reply_to_command state s command = outcome_of state s (session_refusal (class_of command) state s) (walk state.catalog command)
 
   -- a line, in a session
   abbrev pub reply_to : State → ℕ → List ℕ → State × Reply
   reply_to state s line =
-      elim (language.command line) [
+      elim (command_of line) [
         | None ↦ (state, No refusal.Syntax)
         | Some command ↦ reply_to_command state s command
       ]

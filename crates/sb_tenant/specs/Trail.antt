@@ -7,11 +7,15 @@ use Rattle.sb_tenant.specs.declared.reply.Answer.{Answer}
 use Rattle.sb_tenant.specs.declared.reply.Entry.{Entry}
 use Rattle.sb_tenant.specs.Limits.{is_session}
 use Rattle.sb_tenant.specs.State.{State, opening, session_at, has_transaction, rolled_back}
-use Rattle.sb_tenant.specs.Step.{Language, step, is_full_for, is_end_of_open}
+use Rattle.sb_tenant.specs.Step.{step, is_full_for, is_end_of_open}
 
--- the session's transaction, if there is one, is rolled back; the abort is a step
+-- the session's transaction, if there is one, is rolled back
+abbrev pub aborted : State → ℕ → State
+aborted state s = elim (has_transaction (session_at state s)) [ true ↦ rolled_back state s | false ↦ state ]
+
+-- an abort is a step
 abbrev pub after_abort : State → ℕ → State
-after_abort state s = record (elim (has_transaction (session_at state s)) [ true ↦ rolled_back state s | false ↦ state ]) { steps = state.steps + 1 }
+after_abort state s = record (aborted state s) { steps = state.steps + 1 }
 
 -- a step may be aborted where the trail has a place for it and it is not the end of an open session
 abbrev pub MayAbort : State → ℕ → List ℕ → Type 0
@@ -26,11 +30,11 @@ is_no_memory reply = false
 abbrev pub entry_of : ℕ → List ℕ → Reply → Entry
 entry_of s line reply = record { session = s; line = line; reply = reply }
 
-module _ (language : Language) (tenant bound : ℕ) where
+module _ (tenant bound : ℕ) where
   -- an entry as a step with its number, or as an abort
   abbrev pub IsStep : State → Entry → State → Type 0
   IsStep before entry after =
-      (entry.reply ≡ No NoMemory → ⊥) × (step language tenant bound before entry.session entry.line ≡ (after, record { number = Some (before.steps + 1); reply = entry.reply }))
+      (entry.reply ≡ No NoMemory → ⊥) × (step tenant bound before entry.session entry.line ≡ (after, record { number = Some (before.steps + 1); reply = entry.reply }))
 
   abbrev pub IsAbort : State → Entry → State → Type 0
   IsAbort before entry after =
@@ -50,7 +54,7 @@ module _ (language : Language) (tenant bound : ℕ) where
   -- an entry is a step, or an abort where its reply says so
   abbrev pub after_entry : State → Entry → State
   after_entry state entry =
-      elim (is_no_memory entry.reply) [ true ↦ after_abort state entry.session | false ↦ (step language tenant bound state entry.session entry.line).0 ]
+      elim (is_no_memory entry.reply) [ true ↦ after_abort state entry.session | false ↦ (step tenant bound state entry.session entry.line).0 ]
 
   -- one entry after another
   abbrev pub replayed : State → List Entry → State
@@ -90,8 +94,8 @@ module _ (language : Language) (tenant bound : ℕ) where
   -- the answers to these lines of these sessions, one after another, and the state after them
   abbrev pub answers : State → List (ℕ × List ℕ) → List Answer
   answers state [] = []
-  answers state (e ∷ es) = let r = step language tenant bound state e.0 e.1 in r.1 ∷ answers r.0 es
+  answers state (e ∷ es) = let r = step tenant bound state e.0 e.1 in r.1 ∷ answers r.0 es
 
   abbrev pub state_after : State → List (ℕ × List ℕ) → State
   state_after state [] = state
-  state_after state (e ∷ es) = state_after (step language tenant bound state e.0 e.1).0 es
+  state_after state (e ∷ es) = state_after (step tenant bound state e.0 e.1).0 es

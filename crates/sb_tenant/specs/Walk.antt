@@ -1,57 +1,42 @@
 -- The walk of a command: the first refusal, or the command with its names resolved. What the tables tell comes first,
 -- but for the name of a new rule; the names of rules and rulesets, limits and cycles come after it.
-use Rattle.std.specs.Prelude.{◌≡◌, ℕ, Bool, false, not, nat_lt, List, [], ◌++◌, length, Option, Some, None, Result, Ok, Err}
+use Rattle.std.specs.Prelude.{◌≡◌, ℕ, Bool, false, not, nat_lt, List, [], length, Option, Some, None, Result, Ok, Err}
 use Rattle.sb_value.specs.declared.refusal.Refusal.{Refusal}
 use Rattle.sb_value.specs.declared.refusal.Refusal.TheVariants as refusal
-use Rattle.sb_value.specs.Order.{precedes}
 use Rattle.sb_syntax.specs.Tree.{Name, Command, RuleText}
 use Rattle.sb_syntax.specs.Tree as text
-use Rattle.sb_check.specs.Names.{and_then, in_order, required}
+use Rattle.sb_check.specs.Names.{and_then, required}
 use Rattle.sb_check.specs.Walk.{Schema, table_named, walk_query, walk_change}
 use Rattle.sb_check.specs.RuleParts.{Parts, walk_parts}
 use Rattle.sb_check.specs.Resolved.{walk_names}
-use Rattle.sb_catalog.specs.Rules.{has_name, rule_named, free_rule}
+use Rattle.sb_catalog.specs.Definitions.{rules_named, new_pairs}
+use Rattle.sb_catalog.specs.Rules.{has_name, rule_named}
 use Rattle.sb_catalog.specs.Uses.{is_used}
 use Rattle.sb_rulesets.specs.Sets as rulesets
 use Rattle.sb_tenant.specs.Limits.{table_limit}
 use Rattle.sb_tenant.specs.State.{Catalog}
-use Rattle.sb_tenant.specs.Catalog.{pairs_from}
-use Rattle.sb_tenant.specs.Resolved.{Class, opens, ends, begins, defines, works, NewRule, Resolved, open_session, end_session, begin, commit, rollback, process_rules, process_ruleset, process_rule, create_table, drop_table, create_rule, drop_rule, activate_rule, deactivate_rule, create_ruleset, drop_ruleset, add_rules, del_rules, query, change}
+use Rattle.sb_tenant.specs.Resolved.{Class, opens, ends, begins, defines, works, Resolved, open_session, end_session, begin, commit, rollback, process_rules, process_ruleset, process_rule, create_table, drop_table, create_rule, drop_rule, activate_rule, deactivate_rule, create_ruleset, drop_ruleset, add_rules, del_rules, query, change}
 
 -- what a statement outside of rules may name
 abbrev pub outside_rules : Catalog → Schema
 outside_rules catalog = record { tables = catalog.tables; rule = None }
-
--- the ids of rules by their names, in order
-abbrev pub rules_named : Catalog → List Name → Result (List ℕ) Refusal
-rules_named catalog names = in_order (rule_named catalog.rules) names
 
 -- unless something refuses it
 abbrev pub unless : {A : Type 0} → Option Refusal → Result A Refusal → Result A Refusal
 unless None next = next
 unless (Some e) next = Err e
 
--- ---- rules
-
--- the pairs of the new rule close no cycle
-abbrev pub acyclic : Catalog → NewRule → Result Resolved Refusal
-acyclic catalog new =
-    let id = free_rule catalog.rules in
-    required (not (precedes (catalog.pairs ++ pairs_from catalog new) id id)) refusal.Cycle (Ok (create_rule new))
-
 -- a new rule whose parts are resolved: its lists, the limit, a cycle
-abbrev pub walk_lists : ℕ → Catalog → RuleText → Parts → Result Resolved Refusal
-walk_lists most catalog r parts =
-    and_then (rules_named catalog r.precedes) (λ before.
-    and_then (rules_named catalog r.follows) (λ after.
-    required (nat_lt (length catalog.rules) most) refusal.TooManyRules
-    (acyclic catalog (record { name = r.name; parts = parts; precedes = before; follows = after }))))
+abbrev pub walk_lists : Catalog → RuleText → Parts → Result Resolved Refusal
+walk_lists catalog r parts =
+    and_then (new_pairs catalog.rules catalog.pairs r.precedes r.follows) (λ pairs.
+    Ok (create_rule (record { name = r.name; parts = parts; pairs = pairs })))
 
 -- a new rule: its name, what the tables tell of it, and then the rest
-abbrev pub walk_rule : ℕ → Catalog → RuleText → Result Resolved Refusal
-walk_rule most catalog r =
+abbrev pub walk_rule : Catalog → RuleText → Result Resolved Refusal
+walk_rule catalog r =
     required (not (has_name catalog.rules r.name)) refusal.RuleExists
-    (and_then (walk_parts (outside_rules catalog) r) (walk_lists most catalog r))
+    (and_then (walk_parts (outside_rules catalog) r) (walk_lists catalog r))
 
 -- ---- all commands
 
@@ -66,34 +51,34 @@ of_ruleset catalog name form = required (rulesets.has_name catalog.rulesets name
 -- a command on members of a ruleset
 abbrev pub of_members : Catalog → Name → List Name → (List ℕ → Resolved) → Result Resolved Refusal
 of_members catalog name rules form =
-    required (rulesets.has_name catalog.rulesets name) refusal.NoRuleset (and_then (rules_named catalog rules) (λ ids. Ok (form ids)))
+    required (rulesets.has_name catalog.rulesets name) refusal.NoRuleset (and_then (rules_named catalog.rules rules) (λ ids. Ok (form ids)))
 
--- each command, in the order in which it is refused, with the most rules that there may be
-abbrev pub walk : ℕ → Catalog → Command → Result Resolved Refusal
-walk most catalog text.open_session = Ok open_session
-walk most catalog text.end_session = Ok end_session
-walk most catalog text.begin = Ok begin
-walk most catalog text.commit = Ok commit
-walk most catalog text.rollback = Ok rollback
-walk most catalog text.process_rules = Ok process_rules
-walk most catalog (text.process_ruleset name) = of_ruleset catalog name (process_ruleset name)
-walk most catalog (text.process_rule name) = of_rule catalog name process_rule
-walk most catalog (text.create_table name columns) =
+-- each command, in the order in which it is refused
+abbrev pub walk : Catalog → Command → Result Resolved Refusal
+walk catalog text.open_session = Ok open_session
+walk catalog text.end_session = Ok end_session
+walk catalog text.begin = Ok begin
+walk catalog text.commit = Ok commit
+walk catalog text.rollback = Ok rollback
+walk catalog text.process_rules = Ok process_rules
+walk catalog (text.process_ruleset name) = of_ruleset catalog name (process_ruleset name)
+walk catalog (text.process_rule name) = of_rule catalog name process_rule
+walk catalog (text.create_table name columns) =
     and_then (walk_names (outside_rules catalog) (text.create_table name columns)) (λ _.
     required (nat_lt (length catalog.tables) table_limit) refusal.TooManyTables (Ok (create_table name columns)))
-walk most catalog (text.drop_table name) =
+walk catalog (text.drop_table name) =
     and_then (table_named (outside_rules catalog) name) (λ e.
     required (not (is_used catalog.rules e.id)) refusal.TableInUse (Ok (drop_table e.id)))
-walk most catalog (text.create_rule r) = walk_rule most catalog r
-walk most catalog (text.drop_rule name) = of_rule catalog name drop_rule
-walk most catalog (text.activate_rule name) = of_rule catalog name activate_rule
-walk most catalog (text.deactivate_rule name) = of_rule catalog name deactivate_rule
-walk most catalog (text.create_ruleset name) = unless (rulesets.create_refusal catalog.rulesets name) (Ok (create_ruleset name))
-walk most catalog (text.drop_ruleset name) = of_ruleset catalog name (drop_ruleset name)
-walk most catalog (text.add_rules name rules) = of_members catalog name rules (add_rules name)
-walk most catalog (text.del_rules name rules) = of_members catalog name rules (del_rules name)
-walk most catalog (text.query q) = and_then (walk_query (outside_rules catalog) q []) (λ w. Ok (query w.0))
-walk most catalog (text.change c) = and_then (walk_change (outside_rules catalog) c) (λ s. Ok (change s))
+walk catalog (text.create_rule r) = walk_rule catalog r
+walk catalog (text.drop_rule name) = of_rule catalog name drop_rule
+walk catalog (text.activate_rule name) = of_rule catalog name activate_rule
+walk catalog (text.deactivate_rule name) = of_rule catalog name deactivate_rule
+walk catalog (text.create_ruleset name) = unless (rulesets.create_refusal catalog.rulesets name) (Ok (create_ruleset name))
+walk catalog (text.drop_ruleset name) = of_ruleset catalog name (drop_ruleset name)
+walk catalog (text.add_rules name rules) = of_members catalog name rules (add_rules name)
+walk catalog (text.del_rules name rules) = of_members catalog name rules (del_rules name)
+walk catalog (text.query q) = and_then (walk_query (outside_rules catalog) q []) (λ w. Ok (query w.0))
+walk catalog (text.change c) = and_then (walk_change (outside_rules catalog) c) (λ s. Ok (change s))
 
 -- a new rule whose name is taken
 abbrev pub is_taken : Catalog → Command → Bool
@@ -103,8 +88,8 @@ is_taken catalog other = false
 -- what names and types refuse is refused before all else, but for a new rule whose name is taken
 abbrev pub NamesComeFirst : Type 0
 NamesComeFirst =
-    (most : ℕ) (catalog : Catalog) (command : Command) (e : Refusal) → is_taken catalog command ≡ false →
-    walk_names (outside_rules catalog) command ≡ Err e → walk most catalog command ≡ Err e
+    (catalog : Catalog) (command : Command) (e : Refusal) → is_taken catalog command ≡ false →
+    walk_names (outside_rules catalog) command ≡ Err e → walk catalog command ≡ Err e
 
 -- what each command asks of its session
 abbrev pub class_of : Command → Class

@@ -1,33 +1,32 @@
 //! What holds of the definitions alone: each law is the contract of a function that does nothing.
 ghost use Rattle.std.specs.Prelude.{ℕ};
-ghost use Rattle.sb_tenant.specs.Step.{Language};
 ghost use Rattle.sb_tenant.specs.TrailLaws.{TrailsFixStates, LegalStatesAreReplayed, StepsHaveMemory, OthersStay, OwnOpens, TrailsAreBounded};
 ghost use Rattle.sb_tenant.specs.Walk.{NamesComeFirst};
 
 /// A legal trail fixes the state after it.
 pub fn trails_fix_states()
-    ensures { (language : Language) (tenant bound : ℕ) → TrailsFixStates language tenant bound }
+    ensures { (tenant bound : ℕ) → TrailsFixStates tenant bound }
 {}
 
 /// The state after a legal trail is the trail's replay, and its steps are the trail's entries.
 pub fn legal_states_are_replayed()
-    ensures { (language : Language) (tenant bound : ℕ) → LegalStatesAreReplayed language tenant bound }
+    ensures { (tenant bound : ℕ) → LegalStatesAreReplayed tenant bound }
 {}
 
 /// The definitions never run out of memory: `NoMemory` is the reply of an abort alone.
 pub fn steps_have_memory()
-    ensures { (language : Language) (tenant bound : ℕ) → StepsHaveMemory language tenant bound }
+    ensures { (tenant bound : ℕ) → StepsHaveMemory tenant bound }
 {}
 
 /// An entry changes no session but its own, and opens or closes that one as its command says.
 pub fn entries_open_and_close()
-    ensures others { (language : Language) (tenant bound : ℕ) → OthersStay language tenant bound }
-    ensures own { (language : Language) (tenant bound : ℕ) → OwnOpens language tenant bound }
+    ensures others { (tenant bound : ℕ) → OthersStay tenant bound }
+    ensures own { (tenant bound : ℕ) → OwnOpens tenant bound }
 {}
 
 /// A legal trail has at most 65,536 entries and one more for the end of each open session.
 pub fn trails_are_bounded()
-    ensures { (language : Language) (tenant bound : ℕ) → TrailsAreBounded language tenant bound }
+    ensures { (tenant bound : ℕ) → TrailsAreBounded tenant bound }
 {}
 
 /// The walk of a command begins with its names and types, as they are resolved over the tables alone.

@@ -1,7 +1,0 @@
-use Rattle.std.proofs.Common.{◌≡◌, ◌≤◌, length, map, take, vec_len, vec_capacity}
-use Rattle.sb_tenant.specs.Stored.{deleted_as}
-use Rattle.sb_tenant.proofs.changes.deletes.Given as goal
-
-abbrev pub invariant-loop-place : goal.invariant-loop-place
-invariant-loop-place l =
-    (l.made.items ≡ map (deleted_as l.who l.table) (take l.place-index l.places)) × (vec_len l.made ≡ l.place-index) × (length l.places ≤ vec_capacity l.made)

@@ -1,6 +1,0 @@
-use Rattle.std.proofs.Common.{◌≡◌, ◌++◌, map, take, drop}
-use Rattle.sb_tenant.specs.Stored.{only_committed}
-use Rattle.sb_tenant.proofs.store.roll_back_all.Given as goal
-
-abbrev pub invariant-loop-table : goal.invariant-loop-table
-invariant-loop-table l = l.tables ≡ map only_committed (take l.table-index l.initial.tables) ++ drop l.table-index l.initial.tables
