@@ -1,79 +1,101 @@
--- How what is kept in memory stands for the state of a tenant that uses its first session alone.
-use Rattle.std.specs.Prelude.{◌≡◌, ◌≤◌, ℕ, Bool, true, false, ◌==◌, ◌&&◌, if◌then◌else◌, List, [], ◌∷◌, length, Option, Some, None}
+-- What a tenant keeps in memory, against its state.
+use Rattle.std.specs.Prelude.{◌≡◌, ◌⊎◌, ℕ, ◌+◌, Bool, false, ◌==◌, List, flat_map, slice_index_or, Result, Ok, Err, IsTrue, IsFalse}
 use Rattle.sb_value.specs.declared.change.Change.{Change}
 use Rattle.sb_value.specs.declared.lock.Mode.{Mode}
-use Rattle.sb_value.specs.Table.{after_all}
-use Rattle.sb_check.specs.declared.tree.Action.TheVariants.{Rollback}
-use Rattle.sb_catalog.specs.declared.rule.Rule.{Rule}
-use Rattle.sb_catalog.specs.Rules.{rule_of}
-use Rattle.sb_tenant.specs.Logged.{who_of}
-use Rattle.sb_tenant.specs.Resolved.{NewRule}
+use Rattle.sb_value.specs.declared.lock.Mode.TheVariants.{Write}
+use Rattle.sb_value.specs.declared.refusal.Refusal.{Refusal}
+use Rattle.sb_value.specs.declared.refusal.Refusal.TheVariants.{NoMemory}
+use Rattle.sb_value.specs.Locks.{Locks, sessions}
+use Rattle.sb_rawlog.specs.Records.{Record}
+use Rattle.sb_rawlog.specs.Sessions.{OthersStay as OtherRecordsStay}
+use Rattle.sb_tables.specs.Held.{Held, entries}
+use Rattle.sb_locks.specs.Held.{held}
+use Rattle.sb_index.specs.TableSets.{TableSets}
+use Rattle.sb_catalog.specs.Definitions.{AreOrdered}
+use Rattle.sb_process.specs.declared.Processed.{Processed}
+use Rattle.sb_process.specs.Made.{AreMade, NumbersBelow}
+use Rattle.sb_process.specs.Process.{process}
+use Rattle.sb_process.specs.Represents.{AreCandidates, AreLocked}
+use Rattle.sb_process.specs.Statement.{RisesBy}
+use Rattle.sb_process.specs.Work.{CanRun}
 use Rattle.sb_tenant.specs.declared.phase.Phase.{Phase}
 use Rattle.sb_tenant.specs.declared.phase.Phase.TheVariants.{Closed, Idle, Active}
-use Rattle.sb_tenant.specs.State.{State, Session, closed, idle, active}
-use Rattle.sb_tenant.specs.declared.guard.Guard.{Guard}
-use Rattle.sb_tenant.specs.Stored.{Kept, Stored, committed_entry, seen_entry, entries_from, seen_rows, on_inserts}
+use Rattle.sb_tenant.specs.declared.reply.Reply.{Reply}
+use Rattle.sb_tenant.specs.declared.reply.Reply.TheVariants.{No}
+use Rattle.sb_tenant.specs.declared.store.Store.{Store}
+use Rattle.sb_tenant.specs.Limits.{is_session}
+use Rattle.sb_tenant.specs.Logged.{Agrees, who_of}
+use Rattle.sb_tenant.specs.Perform.{process_at, stays}
+use Rattle.sb_tenant.specs.State.{State, Session, closed, idle, active, session_at, changes_of, setting_of, progress_of}
+use Rattle.sb_tenant.specs.Trail.{aborted}
 
--- whether a session of this phase is open
-abbrev pub not_closed : Phase → Bool
-not_closed Closed = false
-not_closed Idle = true
-not_closed Active = true
+-- how far a session is
+abbrev pub phase_of : Session → Phase
+phase_of closed = Closed
+phase_of idle = Idle
+phase_of (active changes marks) = Active
 
--- the session of this phase with these changes, in which no rule was considered
-abbrev pub session_of : Phase → List Change → Session
-session_of Closed changes = closed
-session_of Idle changes = idle
-session_of Active changes = active changes (λ id. 0)
+abbrev pub phase_at : List Phase → ℕ → Phase
+phase_at phases s = slice_index_or phases s Closed
 
--- the rule that a guard is
-abbrev pub guard_rule : Guard → NewRule
-guard_rule g = record {
-  name = g.name;
-  parts = (g.table, on_inserts, None, Rollback ∷ []);
-  precedes = [];
-  follows = [];
-}
+-- the changes of all sessions
+abbrev pub all_changes : State → List Change
+all_changes state = flat_map (λ s. changes_of (session_at state s)) sessions
 
-abbrev pub rules_of : Option Guard → List Rule
-rules_of None = []
-rules_of (Some g) = rule_of 0 g.name (guard_rule g).parts ∷ []
+-- a table that a session has locked for writing is locked by no other session
+abbrev pub AreExclusive : Locks → Type 0
+AreExclusive locks = (s o t : ℕ) (m : Mode) → IsTrue (is_session s) → IsTrue (is_session o) → IsFalse (s == o) → IsTrue (locks s t Write) → locks o t m ≡ false
 
--- no more rows are committed or hidden than there are places, and 4,096 rows at most are committed, and are seen
-pub record IsSound (t : Kept) : Type 0 where
-  pub committed : t.committed ≤ length t.places
-  pub hidden : t.hidden ≤ length t.places
-  pub few : t.committed ≤ 4096
-  pub few_seen : length (seen_rows t) ≤ 4096
+-- the tables in memory are the committed ones with the changes of all sessions made, and each session has locked the tables that it changed;
+-- locks, phases and candidates are those of the sessions; rules, their order and rulesets are the catalog's, and the rules can run
+pub record Holds (origin : List Held) (store : Store) (state : State) : Type 0 where
+  pub committed : entries origin ≡ state.catalog.tables
+  pub made : AreMade origin (all_changes state) store.database.tables
+  pub locked : (s : ℕ) → IsTrue (is_session s) → AreLocked state.locks s (changes_of (session_at state s))
+  pub exclusive : AreExclusive state.locks
+  pub locks : (s t : ℕ) (m : Mode) → held store.database.locks s t m ≡ state.locks s t m
+  pub phases : (s : ℕ) → IsTrue (is_session s) → phase_at store.phases s ≡ phase_of (session_at state s)
+  pub candidates : (s : ℕ) → IsTrue (is_session s) → AreCandidates store.database.transactions s (progress_of state s) state.catalog.rules
+  pub rules : store.definitions.rules ≡ state.catalog.rules
+  pub ordered : AreOrdered store.definitions.order state.catalog.rules state.catalog.pairs
+  pub rulesets : store.definitions.rulesets ≡ state.catalog.rulesets
+  pub runnable : CanRun store.database.tables state.catalog.rules
 
-abbrev pub AreSound : List Kept → Type 0
-AreSound [] = Unit {0}
-AreSound (t ∷ ts) = IsSound t × AreSound ts
+-- memory, the log and the index stand for a state
+abbrev pub StandFor : Store → List Record → ℕ → List (List TableSets) → State → Type 0
+StandFor store records clock index state =
+    ((origin : List Held) × Holds origin store state) × Agrees store.database.id state store.database.transactions records clock index
 
--- the state with these committed tables and this rule, in which the first session alone is open or holds a lock
-abbrev pub standing : List Kept → Option Guard → Session → (ℕ → Mode → Bool) → ℕ → State
-standing tables guard session held steps = record {
-  catalog = record { tables = entries_from committed_entry 0 tables; rules = rules_of guard; rulesets = []; pairs = [] };
-  locks = λ s t m. (s == 0) && held t m;
-  sessions = λ s. if s == 0 then session else closed;
-  steps = steps;
-}
+-- ---- what a call leaves
 
--- the committed tables with the changes are the tables with the rows that are seen
-abbrev pub ShowsRows : List Kept → List Change → Type 0
-ShowsRows tables changes = after_all changes (entries_from committed_entry 0 tables) ≡ entries_from seen_entry 0 tables
+-- the reply is the one that is meant, and what stands is what is meant; or memory ran out, and the session's transaction is taken back
+abbrev pub Performs : Store → List Record → ℕ → List (List TableSets) → State → ℕ → State × Reply → Reply → Type 0
+Performs new records clock index before s meant reply =
+    ((reply ≡ meant.1) × StandFor new records clock index meant.0)
+    ⊎ ((reply ≡ No NoMemory) × StandFor new records clock index (aborted before s))
 
--- there are changes in a transaction alone
-abbrev pub AreOf : Phase → List Change → Type 0
-AreOf Closed changes = changes ≡ []
-AreOf Idle changes = changes ≡ []
-AreOf Active changes = Unit {0}
+-- what stands in the middle of a call: with the session's transaction taken back it is what stood before, with it taken back
+abbrev pub StandAside : Store → List Record → ℕ → List (List TableSets) → State → ℕ → Type 0
+StandAside store records clock index before s = (during : State) × StandFor store records clock index during × (aborted during s ≡ aborted before s)
 
--- the state is such a one, in which the tables with the session's changes are those with the rows that are seen
-pub record Represents (tenant : ℕ) (state : State) (v : Stored) : Type 0 where
-  pub held : ℕ → Mode → Bool
-  pub who : v.who ≡ who_of tenant 0
-  pub is : state ≡ standing v.tables v.guard (session_of v.phase v.changes) held state.steps
-  pub changes : AreOf v.phase v.changes
-  pub seen : ShowsRows v.tables v.changes
-  pub sound : AreSound v.tables
+-- the refusal is the one that is meant, and what stands is what is meant; or memory ran out
+abbrev pub Refuses : (State → Type 0) → State × Reply → Refusal → Type 0
+Refuses stands meant refusal = ((meant.1 ≡ No refusal) × stands meant.0) ⊎ (refusal ≡ NoMemory)
+
+-- the same of an answer
+abbrev pub Comes : {A : Type 0} → (A → Reply) → (State → Type 0) → State × Reply → Result A Refusal → Type 0
+Comes reply stands meant (Ok x) = (meant.1 ≡ reply x) × stands meant.0
+Comes reply stands meant (Err refusal) = Refuses stands meant refusal
+
+-- the outcome and the verdicts of an assertion point, and what stands after it
+pub record Finds (tenant : ℕ) (new : Store) (records : List Record) (clock : ℕ) (index : List (List TableSets)) (before : State) (s bound : ℕ) (eligible : ℕ → Bool) (found : Processed) : Type 0 where
+  pub outcome : found.outcome ≡ (process bound (setting_of tenant before s) eligible (progress_of before s)).outcome
+  pub trace : found.trace ≡ (process bound (setting_of tenant before s) eligible (progress_of before s)).trace
+  pub stands : StandFor new records clock index (process_at tenant bound before s eligible stays).0
+
+-- the tenant keeps its number; the records of other sessions stay; the clock and the tables' next numbers rise by n at most
+pub record Leaves (n : ℕ) (old new : Store) (s : ℕ) (before after : List Record) (clock later : ℕ) : Type 0 where
+  pub id : new.database.id ≡ old.database.id
+  pub others : OtherRecordsStay (who_of old.database.id s) before after
+  pub times : RisesBy n clock later
+  pub numbers : (m : ℕ) → NumbersBelow m old.database.tables → NumbersBelow (m + n) new.database.tables

@@ -1,0 +1,19 @@
+use Rattle.std.proofs.Common.{◌∙◌, subst, refl}
+use Rattle.sb_tenant.specs.Perform.{stands_after, stays}
+use Rattle.sb_tenant.specs.Represents.{StandFor}
+use Rattle.sb_tenant.proofs.Calls.{commits, commits-not}
+use Rattle.sb_tenant.proofs.Leaving.{leaves-none}
+use Rattle.sb_tenant.proofs.store.Store.finish.Goals as goal
+
+pub returns-then-done-clause-finished : goal.returns-then-done-clause-finished
+returns-then-done-clause-finished g c = λ index state outcome progress e h.
+    let s = c.args.session in
+    subst (StandFor c.keep.new.self (g.L.ChangeLog.records c.keep.new.log) (g.L.ChangeLog.clock c.keep.new.log) index) (commits state s outcome progress (e ∙ c.if-done.true))
+    (c.keep.ensures.kept index (stands_after state s stays outcome progress) h)
+
+pub returns-else-done-clause-finished : goal.returns-else-done-clause-finished
+returns-else-done-clause-finished g c = λ index state outcome progress e h.
+    subst (StandFor c.args.self.now (g.L.ChangeLog.records c.args.log.now) (g.L.ChangeLog.clock c.args.log.now) index) (commits-not state c.args.session outcome progress (e ∙ c.if-done.false)) h
+
+pub returns-else-done-clause-leaves : goal.returns-else-done-clause-leaves
+returns-else-done-clause-leaves g c = leaves-none c.args.self.now c.args.self.now c.args.session (g.L.ChangeLog.records c.args.log.now) (g.L.ChangeLog.clock c.args.log.now) refl refl

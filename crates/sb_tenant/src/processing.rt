@@ -1,0 +1,159 @@
+//! Assertion points of a session's transaction.
+ghost use Rattle.std.specs.Prelude.{◌≡◌, ◌<◌, ◌≤◌, ◌^◌, ◌*◌, ℕ, Bool, List, IsTrue, IfOk, true};
+ghost use Rattle.sb_value.specs.Flags.{flag_at};
+ghost use Rattle.sb_catalog.specs.Definitions.{is_active};
+ghost use Rattle.sb_index.specs.TableSets.{TableSets};
+ghost use Rattle.sb_process.specs.Made.{NumbersBelow};
+ghost use Rattle.sb_process.specs.Running.{is_done};
+ghost use Rattle.sb_process.specs.Setting.{Progress};
+ghost use Rattle.sb_process.specs.declared.Outcome.{Outcome};
+ghost use Rattle.sb_tenant.specs.Perform.{perform, process_at, stands_after, stays};
+ghost use Rattle.sb_tenant.specs.Represents.{Finds, Leaves, Performs, StandAside, StandFor, phase_at};
+ghost use Rattle.sb_tenant.specs.Resolved.{commit as commit_command};
+ghost use Rattle.sb_tenant.specs.State.{State, committed};
+ghost use Rattle.sb_tenant.specs.declared.phase.Phase.TheVariants as phase;
+
+use crate::phase::Phase;
+use crate::store::{Replies, Store};
+use crate::told::told;
+use sb_index::RuleIndex;
+use sb_process::{Processed, Rules, transactions_share_tables};
+use sb_rawlog::ChangeLog;
+use sb_value::{RuleSet, SessionId};
+use std::alloc::{AllocError, Global};
+
+impl Store {
+    /// Processes eligible rules; the transaction goes on, or is taken back.
+    pub(crate) fn process<L: ChangeLog>(
+        &mut self,
+        alloc: Global,
+        log: &mut L,
+        index: &RuleIndex,
+        session: SessionId,
+        eligible: RuleSet,
+        bound: u32,
+    ) -> Replies
+        requires stand { (state : State) × StandFor self.old (L.records log.old) (L.clock log.old) index.now state }
+        requires active { phase_at self.old.phases session ≡ phase.Active }
+        requires rules { (id : ℕ) → IsTrue (flag_at eligible id) → IsTrue (is_active self.old.definitions.rules id) }
+        requires bound { bound ≤ 1000 }
+        requires times { L.clock log.old < 2 ^ 63 }
+        requires numbers { NumbersBelow (2 ^ 63) self.old.database.tables }
+        ensures performed { (state : State) (chosen : ℕ → Bool) → StandFor self.old (L.records log.old) (L.clock log.old) index.now state → ((id : ℕ) → flag_at eligible id ≡ chosen id) → Performs self.new (L.records log.new) (L.clock log.new) index.now state session (process_at self.old.database.id bound state session chosen stays) result.0 }
+        ensures twice { result.1 ≡ result.0 }
+        ensures leaves { Leaves 32768000 self.old self.new session (L.records log.old) (L.records log.new) (L.clock log.old) (L.clock log.new) }
+    {
+        match self.run(alloc, log, index, session, eligible, bound) {
+            Ok(processed) => match told(alloc, &self.definitions.rules, &processed) {
+                Ok(replies) => replies,
+                Err(_) => self.run_out(log, session),
+            },
+            Err(_) => self.run_out(log, session),
+        }
+    }
+
+    /// Processes all active rules, and keeps what the transaction has changed or takes it back.
+    pub(crate) fn commit<L: ChangeLog>(
+        &mut self,
+        alloc: Global,
+        log: &mut L,
+        index: &RuleIndex,
+        session: SessionId,
+        bound: u32,
+    ) -> Replies
+        requires stand { (state : State) × StandFor self.old (L.records log.old) (L.clock log.old) index.now state }
+        requires active { phase_at self.old.phases session ≡ phase.Active }
+        requires bound { bound ≤ 1000 }
+        requires times { L.clock log.old < 2 ^ 63 }
+        requires numbers { NumbersBelow (2 ^ 63) self.old.database.tables }
+        ensures performed { (state : State) → StandFor self.old (L.records log.old) (L.clock log.old) index.now state → Performs self.new (L.records log.new) (L.clock log.new) index.now state session (perform self.old.database.id bound state session commit_command) result.0 }
+        ensures twice { result.1 ≡ result.0 }
+        ensures leaves { Leaves 32768000 self.old self.new session (L.records log.old) (L.records log.new) (L.clock log.old) (L.clock log.new) }
+    {
+        let eligible = self.definitions.active();
+        match self.run(alloc, log, index, session, eligible, bound) {
+            Ok(processed) => match told(alloc, &self.definitions.rules, &processed) {
+                Ok(replies) => {
+                    self.finish(log, session, processed.outcome.is_done());
+                    replies
+                }
+                Err(_) => self.run_out(log, session),
+            },
+            Err(_) => self.run_out(log, session),
+        }
+    }
+
+    /// Processes eligible rules, without a reply.
+    fn run<L: ChangeLog>(
+        &mut self,
+        alloc: Global,
+        log: &mut L,
+        index: &RuleIndex,
+        session: SessionId,
+        eligible: RuleSet,
+        bound: u32,
+    ) -> Result<Processed, AllocError>
+        requires stand { (state : State) × StandFor self.old (L.records log.old) (L.clock log.old) index.now state }
+        requires active { phase_at self.old.phases session ≡ phase.Active }
+        requires rules { (id : ℕ) → IsTrue (flag_at eligible id) → IsTrue (is_active self.old.definitions.rules id) }
+        requires times { L.clock log.old < 2 ^ 63 }
+        requires numbers { NumbersBelow (2 ^ 63) self.old.database.tables }
+        ensures found { (state : State) (chosen : ℕ → Bool) → StandFor self.old (L.records log.old) (L.clock log.old) index.now state → ((id : ℕ) → flag_at eligible id ≡ chosen id) → IfOk result (λ p. Finds self.old.database.id self.new (L.records log.new) (L.clock log.new) index.now state session bound chosen p) }
+        ensures aside { (state : State) → StandFor self.old (L.records log.old) (L.clock log.old) index.now state → StandAside self.new (L.records log.new) (L.clock log.new) index.now state session }
+        ensures under_way { IfOk result (λ p. is_done p.outcome ≡ true → phase_at self.new.phases session ≡ phase.Active) }
+        ensures definitions { self.new.definitions ≡ self.old.definitions }
+        ensures leaves { Leaves (32768 * bound) self.old self.new session (L.records log.old) (L.records log.new) (L.clock log.old) (L.clock log.new) }
+    {
+        // for the proof: the transactions may be taken in any order; a session's number is below 8, and a rule's its own
+        transactions_share_tables();
+        let _number = session.number();
+        let _rules = self.definitions.rules.rules();
+        let rules = Rules {
+            catalog: &self.definitions.rules,
+            index,
+            order: &self.definitions.order,
+        };
+        match self
+            .database
+            .process(alloc, log, &rules, session, eligible, bound)
+        {
+            Ok(processed) => {
+                if processed.outcome.is_done() {
+                    return Ok(processed);
+                }
+                self.phases.set(session, Phase::Idle);
+                Ok(processed)
+            }
+            Err(error) => {
+                self.phases.set(session, Phase::Idle);
+                Err(error)
+            }
+        }
+    }
+
+    /// Keeps what the transaction has changed, where no rule is left.
+    fn finish<L: ChangeLog>(&mut self, log: &mut L, session: SessionId, done: bool)
+        requires stand { (index : List (List TableSets)) × (state : State) × StandFor self.old (L.records log.old) (L.clock log.old) index state }
+        requires active { done ≡ true → phase_at self.old.phases session ≡ phase.Active }
+        ensures finished { (index : List (List TableSets)) (state : State) (outcome : Outcome) (progress : Progress) → is_done outcome ≡ done → StandFor self.old (L.records log.old) (L.clock log.old) index (stands_after state session stays outcome progress) → StandFor self.new (L.records log.new) (L.clock log.new) index (stands_after state session (λ now. committed now session) outcome progress) }
+        ensures leaves { Leaves 0 self.old self.new session (L.records log.old) (L.records log.new) (L.clock log.old) (L.clock log.new) }
+    {
+        if done {
+            self.keep(log, session);
+        }
+    }
+
+    /// Keeps what the transaction has changed.
+    fn keep<L: ChangeLog>(&mut self, log: &mut L, session: SessionId)
+        requires stand { (index : List (List TableSets)) × (state : State) × StandFor self.old (L.records log.old) (L.clock log.old) index state }
+        requires active { phase_at self.old.phases session ≡ phase.Active }
+        ensures kept { (index : List (List TableSets)) (state : State) → StandFor self.old (L.records log.old) (L.clock log.old) index state → StandFor self.new (L.records log.new) (L.clock log.new) index (committed state session) }
+        ensures leaves { Leaves 0 self.old self.new session (L.records log.old) (L.records log.new) (L.clock log.old) (L.clock log.new) }
+    {
+        // for the proof: the transactions may be taken in any order; a session's number is below 8
+        transactions_share_tables();
+        let _number = session.number();
+        self.database.commit(log, session);
+        self.phases.set(session, Phase::Idle);
+    }
+}

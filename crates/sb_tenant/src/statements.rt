@@ -1,0 +1,120 @@
+//! Statements of a session's transaction.
+ghost use Rattle.std.specs.Prelude.{◌≡◌, ◌<◌, ◌^◌, ℕ, List, IfOk};
+ghost use Rattle.sb_eval.specs.Statement as locks;
+ghost use Rattle.sb_index.specs.TableSets.{TableSets};
+ghost use Rattle.sb_process.specs.Made.{NumbersBelow};
+ghost use Rattle.sb_process.specs.Request.{AreThere};
+ghost use Rattle.sb_rawlog.specs.Records.{Record};
+ghost use Rattle.sb_tenant.specs.Perform.{perform};
+ghost use Rattle.sb_tenant.specs.Represents.{Comes, Leaves, Performs, StandAside, StandFor, phase_at};
+ghost use Rattle.sb_tenant.specs.Resolved.{query as query_of, change as change_of};
+ghost use Rattle.sb_tenant.specs.State.{State};
+ghost use Rattle.sb_tenant.specs.declared.phase.Phase.TheVariants as phase;
+
+use crate::reply::{Reply, SharedRows};
+use crate::store::{Replies, Store};
+use sb_check::{Query, Statement};
+use sb_index::RuleIndex;
+use sb_process::transactions_share_tables;
+use sb_rawlog::ChangeLog;
+use sb_value::{Refusal, RowList, SessionId};
+use std::alloc::{AllocError, Global};
+
+impl Store {
+    /// The rows of a query, once all its locks are taken.
+    pub(crate) fn select<L: ChangeLog>(
+        &mut self,
+        alloc: Global,
+        log: &mut L,
+        session: SessionId,
+        query: &Query,
+    ) -> Replies
+        requires stand { (index : List (List TableSets)) × (state : State) × StandFor self.old (L.records log.old) (L.clock log.old) index state }
+        requires active { phase_at self.old.phases session ≡ phase.Active }
+        requires there { AreThere self.old.database.tables (locks.query_locks query.now) }
+        ensures performed { (index : List (List TableSets)) (state : State) (bound : ℕ) → StandFor self.old (L.records log.old) (L.clock log.old) index state → Performs self.new (L.records log.new) (L.clock log.new) index state session (perform self.old.database.id bound state session (query_of query.now)) result.0 }
+        ensures twice { result.1 ≡ result.0 }
+        ensures leaves { Leaves 0 self.old self.new session (L.records log.old) (L.records log.new) (L.clock log.old) (L.clock log.new) }
+    {
+        match self.rows(alloc, session, query) {
+            Ok(rows) => match shared(alloc, rows) {
+                Ok(replies) => replies,
+                Err(_) => self.run_out(log, session),
+            },
+            Err(refusal) => self.refuse(log, session, refusal),
+        }
+    }
+
+    /// The rows themselves.
+    fn rows(&mut self, alloc: Global, session: SessionId, query: &Query) -> Result<RowList, Refusal>
+        requires active { phase_at self.old.phases session ≡ phase.Active }
+        requires there { AreThere self.old.database.tables (locks.query_locks query.now) }
+        ensures comes { (records : List Record) (clock : ℕ) (index : List (List TableSets)) (state : State) (bound : ℕ) → StandFor self.old records clock index state → Comes Reply.Rows (StandFor self.new records clock index) (perform self.old.database.id bound state session (query_of query.now)) result }
+        ensures aside { (records : List Record) (clock : ℕ) (index : List (List TableSets)) (state : State) → StandFor self.old records clock index state → StandAside self.new records clock index state session }
+        ensures id { self.new.database.id ≡ self.old.database.id }
+        ensures tables { self.new.database.tables ≡ self.old.database.tables }
+    {
+        // for the proof: the transactions may be taken in any order; a session's number is below 8
+        transactions_share_tables();
+        let _number = session.number();
+        self.database.select(alloc, session, query)
+    }
+
+    /// Makes the changes of a statement, once all its locks are taken, and counts them.
+    pub(crate) fn change<L: ChangeLog>(
+        &mut self,
+        alloc: Global,
+        log: &mut L,
+        index: &RuleIndex,
+        session: SessionId,
+        statement: &Statement,
+    ) -> Replies
+        requires stand { (state : State) × StandFor self.old (L.records log.old) (L.clock log.old) index.now state }
+        requires active { phase_at self.old.phases session ≡ phase.Active }
+        requires there { AreThere self.old.database.tables (locks.statement_locks statement.now) }
+        requires times { L.clock log.old < 2 ^ 63 }
+        requires numbers { NumbersBelow (2 ^ 63) self.old.database.tables }
+        ensures performed { (state : State) (bound : ℕ) → StandFor self.old (L.records log.old) (L.clock log.old) index.now state → Performs self.new (L.records log.new) (L.clock log.new) index.now state session (perform self.old.database.id bound state session (change_of statement.now)) result.0 }
+        ensures twice { result.1 ≡ result.0 }
+        ensures leaves { Leaves 4096 self.old self.new session (L.records log.old) (L.records log.new) (L.clock log.old) (L.clock log.new) }
+    {
+        match self.count(alloc, log, index, session, statement) {
+            Ok(count) => (Reply::Count(count as u64), Reply::Count(count as u64)),
+            Err(refusal) => self.refuse(log, session, refusal),
+        }
+    }
+
+    /// The number of changes, which are made.
+    fn count<L: ChangeLog>(
+        &mut self,
+        alloc: Global,
+        log: &mut L,
+        index: &RuleIndex,
+        session: SessionId,
+        statement: &Statement,
+    ) -> Result<usize, Refusal>
+        requires stand { (state : State) × StandFor self.old (L.records log.old) (L.clock log.old) index.now state }
+        requires active { phase_at self.old.phases session ≡ phase.Active }
+        requires there { AreThere self.old.database.tables (locks.statement_locks statement.now) }
+        requires times { L.clock log.old < 2 ^ 63 }
+        requires numbers { NumbersBelow (2 ^ 63) self.old.database.tables }
+        ensures comes { (state : State) (bound : ℕ) → StandFor self.old (L.records log.old) (L.clock log.old) index.now state → Comes Reply.Count (StandFor self.new (L.records log.new) (L.clock log.new) index.now) (perform self.old.database.id bound state session (change_of statement.now)) result }
+        ensures aside { (state : State) → StandFor self.old (L.records log.old) (L.clock log.old) index.now state → StandAside self.new (L.records log.new) (L.clock log.new) index.now state session }
+        ensures leaves { Leaves 4096 self.old self.new session (L.records log.old) (L.records log.new) (L.clock log.old) (L.clock log.new) }
+    {
+        // for the proof: the transactions may be taken in any order; a session's number is below 8
+        transactions_share_tables();
+        let _number = session.number();
+        self.database.change(alloc, log, index, session, statement)
+    }
+}
+
+/// The reply of a select, twice.
+fn shared(alloc: Global, rows: RowList) -> Result<Replies, AllocError>
+    ensures rows { IfOk result (λ r. r.0 ≡ Reply.Rows rows) }
+    ensures twice { IfOk result (λ r. r.1 ≡ r.0) }
+{
+    let rows = SharedRows::new(alloc, rows)?;
+    let copy = rows.share()?;
+    Ok((Reply::Rows(rows), Reply::Rows(copy)))
+}

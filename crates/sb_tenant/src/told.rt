@@ -1,0 +1,65 @@
+//! The reply of an assertion point, with the rules' names.
+ghost use Rattle.std.specs.Prelude.{◌≡◌, IfOk};
+ghost use Rattle.sb_tenant.specs.Perform.{named, reply_of};
+ghost use Rattle.sb_tenant.specs.Catalog.{rule_name};
+ghost use Rattle.sb_tenant.specs.State as state;
+
+use crate::reply::{NamedTrace, Reply};
+use crate::store::Replies;
+use sb_catalog::Catalog;
+use sb_process::{Outcome, Processed};
+use sb_value::{Name, RuleId, Verdict};
+use std::alloc::{AllocError, Global};
+
+/// The reply, twice.
+pub(crate) fn told(
+    alloc: Global,
+    rules: &Catalog,
+    processed: &Processed,
+) -> Result<Replies, AllocError>
+    ensures told { (catalog : state.Catalog) → catalog.rules ≡ rules.now → IfOk result (λ r. r.0 ≡ reply_of catalog processed.now.outcome (named catalog processed.now.trace)) }
+    ensures twice { IfOk result (λ r. r.1 ≡ r.0) }
+{
+    let reply = told_once(alloc, rules, processed)?;
+    let copy = told_once(alloc, rules, processed)?;
+    Ok((reply, copy))
+}
+
+fn told_once(alloc: Global, rules: &Catalog, processed: &Processed) -> Result<Reply, AllocError>
+    ensures { (catalog : state.Catalog) → catalog.rules ≡ rules.now → IfOk result (λ r. r ≡ reply_of catalog processed.now.outcome (named catalog processed.now.trace)) }
+{
+    let trace = named(alloc, rules, processed.trace.as_slice())?;
+    match processed.outcome {
+        Outcome::Done => Ok(Reply::Done(trace)),
+        Outcome::ByRule(rule) => Ok(Reply::ByRule(name_of(rules, rule)?, trace)),
+        Outcome::ByError(rule, refusal) => {
+            Ok(Reply::ByError(name_of(rules, rule)?, refusal, trace))
+        }
+        Outcome::ByLimit => Ok(Reply::ByLimit(trace)),
+    }
+}
+
+/// The verdicts with the rules' names.
+fn named(
+    alloc: Global,
+    rules: &Catalog,
+    verdicts: &[(RuleId, Verdict)],
+) -> Result<NamedTrace, AllocError>
+    ensures { (catalog : state.Catalog) → catalog.rules ≡ rules.now → IfOk result (λ trace. trace ≡ named catalog verdicts.now) }
+{
+    let mut trace = NamedTrace::empty(alloc);
+    for (rule, verdict) in verdicts {
+        trace.push(name_of(rules, *rule)?, *verdict)?;
+    }
+    Ok(trace)
+}
+
+/// The name of a rule. One that isn't there can't occur, and is answered as want of memory.
+fn name_of(rules: &Catalog, rule: RuleId) -> Result<Name, AllocError>
+    ensures { (catalog : state.Catalog) → catalog.rules ≡ rules.now → IfOk result (λ name. name ≡ rule_name catalog rule) }
+{
+    match rules.rule(rule) {
+        Some(rule) => Ok(rule.name),
+        None => Err(AllocError),
+    }
+}
