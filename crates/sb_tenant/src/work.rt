@@ -1,0 +1,134 @@
+//! The commands that work in a session's transaction.
+ghost use Rattle.std.specs.Prelude.{◌≡◌, ◌<◌, ◌≤◌, ◌^◌, ℕ, List, None};
+ghost use Rattle.sb_index.specs.TableSets.{TableSets};
+ghost use Rattle.sb_process.specs.Made.{NumbersBelow};
+ghost use Rattle.sb_syntax.specs.Tree as text;
+ghost use Rattle.sb_syntax.specs.Views as view;
+ghost use Rattle.sb_tenant.specs.declared.phase.Phase.TheVariants as phase;
+ghost use Rattle.sb_tenant.specs.Represents.{Leaves, Performs, StandFor, phase_at};
+ghost use Rattle.sb_tenant.specs.Resolved.{works};
+ghost use Rattle.sb_tenant.specs.State.{State};
+ghost use Rattle.sb_tenant.specs.Step.{outcome_of};
+ghost use Rattle.sb_tenant.specs.Walk.{class_of, walk};
+
+use crate::answer::{done, refused};
+use crate::names::Names;
+use crate::store::{Replies, Store};
+use sb_check::{resolve_change, resolve_query, resolved_tables_are_there, walks_see_columns};
+use sb_index::RuleIndex;
+use sb_rawlog::ChangeLog;
+use sb_syntax::{Change, Command, Query};
+use sb_value::{Refusal, SessionId};
+use std::alloc::Global;
+
+impl Store {
+    /// Does a command in a transaction, or is refused.
+    pub(crate) fn work<L: ChangeLog>(
+        &mut self,
+        alloc: Global,
+        log: &mut L,
+        index: &RuleIndex,
+        session: SessionId,
+        bound: u32,
+        command: Command,
+    ) -> Replies
+        requires class { class_of (view.command command) ≡ works }
+        requires stand { (state : State) × StandFor self.old (L.records log.old) (L.clock log.old) index.now state }
+        requires active { phase_at self.old.phases session ≡ phase.Active }
+        requires bound { bound ≤ 1000 }
+        requires times { L.clock log.old < 2 ^ 63 }
+        requires numbers { NumbersBelow (2 ^ 63) self.old.database.tables }
+        ensures performed { (state : State) → StandFor self.old (L.records log.old) (L.clock log.old) index.now state → Performs self.new (L.records log.new) (L.clock log.new) index.now state session (outcome_of self.old.database.id bound state session None (walk state.catalog (view.command command))) result.0 }
+        ensures twice { result.1 ≡ result.0 }
+        ensures leaves { Leaves 32768000 self.old self.new session (L.records log.old) (L.records log.new) (L.clock log.old) (L.clock log.new) }
+    {
+        match command {
+            Command::Commit => self.commit(alloc, log, index, session, bound),
+            Command::Rollback => {
+                self.roll_back(log, session);
+                done()
+            }
+            Command::ProcessRules => {
+                let eligible = self.definitions.active();
+                self.process(alloc, log, index, session, eligible, bound)
+            }
+            Command::ProcessRuleset(name) => {
+                if !self.definitions.rulesets.has(&name) {
+                    return refused(Refusal::NoRuleset);
+                }
+                match self.definitions.active_members(&name) {
+                    Some(eligible) => self.process(alloc, log, index, session, eligible, bound),
+                    None => refused(Refusal::NoRuleset),
+                }
+            }
+            Command::ProcessRule(name) => match self.definitions.active_rule(&name) {
+                Some(eligible) => self.process(alloc, log, index, session, eligible, bound),
+                None => refused(Refusal::NoRule),
+            },
+            Command::Query(query) => self.query(alloc, log, session, &query),
+            Command::Change(change) => self.write(alloc, log, index, session, &change),
+            _ => unreachable!(),
+        }
+    }
+
+    /// A query in a transaction.
+    fn query<L: ChangeLog>(
+        &mut self,
+        alloc: Global,
+        log: &mut L,
+        session: SessionId,
+        query: &Query,
+    ) -> Replies
+        requires stand { (index : List (List TableSets)) × (state : State) × StandFor self.old (L.records log.old) (L.clock log.old) index state }
+        requires active { phase_at self.old.phases session ≡ phase.Active }
+        ensures performed { (index : List (List TableSets)) (state : State) (bound : ℕ) → StandFor self.old (L.records log.old) (L.clock log.old) index state → Performs self.new (L.records log.new) (L.clock log.new) index state session (outcome_of self.old.database.id bound state session None (walk state.catalog (text.query (view.query query.now)))) result.0 }
+        ensures twice { result.1 ≡ result.0 }
+        ensures leaves { Leaves 0 self.old self.new session (L.records log.old) (L.records log.new) (L.clock log.old) (L.clock log.new) }
+    {
+        resolved_tables_are_there();
+        walks_see_columns();
+        let names = Names {
+            tables: &self.database.tables,
+        };
+        match resolve_query(alloc, query, &names) {
+            Ok(resolved) => {
+                let replies = self.select(alloc, log, session, &resolved);
+                drop(resolved);
+                replies
+            }
+            Err(refusal) => self.decline(log, session, refusal),
+        }
+    }
+
+    /// A statement in a transaction.
+    fn write<L: ChangeLog>(
+        &mut self,
+        alloc: Global,
+        log: &mut L,
+        index: &RuleIndex,
+        session: SessionId,
+        change: &Change,
+    ) -> Replies
+        requires stand { (state : State) × StandFor self.old (L.records log.old) (L.clock log.old) index.now state }
+        requires active { phase_at self.old.phases session ≡ phase.Active }
+        requires times { L.clock log.old < 2 ^ 63 }
+        requires numbers { NumbersBelow (2 ^ 63) self.old.database.tables }
+        ensures performed { (state : State) (bound : ℕ) → StandFor self.old (L.records log.old) (L.clock log.old) index.now state → Performs self.new (L.records log.new) (L.clock log.new) index.now state session (outcome_of self.old.database.id bound state session None (walk state.catalog (text.change (view.change change.now)))) result.0 }
+        ensures twice { result.1 ≡ result.0 }
+        ensures leaves { Leaves 4096 self.old self.new session (L.records log.old) (L.records log.new) (L.clock log.old) (L.clock log.new) }
+    {
+        resolved_tables_are_there();
+        walks_see_columns();
+        let names = Names {
+            tables: &self.database.tables,
+        };
+        match resolve_change(alloc, change, &names) {
+            Ok(statement) => {
+                let replies = self.change(alloc, log, index, session, &statement);
+                drop(statement);
+                replies
+            }
+            Err(refusal) => self.decline(log, session, refusal),
+        }
+    }
+}
