@@ -1,192 +1,330 @@
 -- A line that is answered in memory is the tenant's next entry.
-use Rattle.std.proofs.Common.{◌≡◌, ℕ, zero, suc, ◌+◌, ◌≤◌, Bool, true, false, cond, not, ◌&&◌, ◌==◌, nat_le, List, [], ◌∷◌, ◌++◌, length, Option, Some, None, inl, inr, refl, sym, ap, ◌∙◌, subst, arith, option_map, codes}
+use Rattle.std.proofs.Common.{◌≡◌, ℕ, ◌+◌, ◌-◌, ◌^◌, ◌≤◌, true, false, not, ◌&&◌, nat_le, List, [], ◌∷◌, ◌++◌, length, Option, Some, None, inl, inr, Ok, refl, sym, ap, ◌∙◌, subst, arith, codes, length-append, vec_len, vec_capacity}
 use Rattle.std.proofs.Math.Bool.{and-false}
-use Rattle.std.proofs.lemmas.Bool.{ltb-true}
-use Rattle.sb_value.specs.declared.change.Change.{Change}
-use Rattle.sb_value.specs.declared.lock.Mode.{Mode}
 use Rattle.sb_value.specs.declared.refusal.Refusal.TheVariants as refusal
-use Rattle.sb_value.specs.Name.{same_name}
 use Rattle.sb_syntax.specs.Text.{command_of}
-use Rattle.sb_syntax.specs.Tree.{Command, end_session, open_session}
+use Rattle.sb_syntax.specs.Tree.{Command, open_session}
+use Rattle.sb_rawlog.specs.Records.{Record, before}
+use Rattle.sb_rawlog.specs.Sessions.{changes}
+use Rattle.sb_index.specs.TableSets.{TableSets}
+use Rattle.sb_tables.specs.Held.{Held}
+use Rattle.sb_catalog.specs.Definitions.{OtherTenantsStay}
+use Rattle.sb_process.specs.declared.database.Database.{Database}
+use Rattle.sb_process.specs.Made.{NumbersBelow}
+use Rattle.sb_process.specs.Transactions.{Kept, mark_of}
+use Rattle.sb_tenant.specs.declared.phase.Phase.TheVariants.{Closed, Idle, Active}
+use Rattle.sb_tenant.specs.declared.reply.Answer.{Answer}
 use Rattle.sb_tenant.specs.declared.reply.Entry.{Entry}
 use Rattle.sb_tenant.specs.declared.reply.Reply.{Reply}
 use Rattle.sb_tenant.specs.declared.reply.Reply.TheVariants as reply
-use Rattle.sb_tenant.specs.declared.phase.Phase.{Phase}
-use Rattle.sb_tenant.specs.declared.phase.Phase.TheVariants.{Closed, Idle, Active}
-use Rattle.sb_tenant.specs.declared.order.Order.{Order}
-use Rattle.sb_tenant.specs.declared.order.Order.TheVariants.{Open, End}
-use Rattle.sb_tenant.specs.Limits.{trail_limit}
-use Rattle.sb_tenant.specs.State.{State, Session, closed, idle, active, opening, session_at, is_open, has_transaction, rolled_back}
-use Rattle.sb_tenant.specs.Step.{is_full_for, is_end_of_open, reply_to, reply_to_command, step}
+use Rattle.sb_tenant.specs.declared.store.Store.{Store}
+use Rattle.sb_tenant.specs.Limits.{is_session, trail_limit}
+use Rattle.sb_tenant.specs.Logged.{Agrees}
+use Rattle.sb_tenant.specs.declared.tenant.Tenant.TheInside.{Inside}
+use Rattle.sb_tenant.specs.Remembered.{IsRemembered, number_limit, seen}
+use Rattle.sb_tenant.specs.Represents.{Holds, Leaves, StandFor, Performs, phase_of}
+use Rattle.sb_tenant.specs.Resolved as resolved
+use Rattle.sb_tenant.specs.State.{State, Session, closed, idle, active, opening, session_at, is_open, open_count, with_session, rolled_back}
+use Rattle.sb_tenant.specs.Step.{first_of, is_full_for, is_end_of_open, numbered, outcome_of, reply_to, reply_to_command, step}
+use Rattle.sb_tenant.specs.Tenant.{Tenant, HoldNothing, InStep, IsLegal, IsSame, MakesStep, StaysInStep, state}
 use Rattle.sb_tenant.specs.Trail.{after_abort, IsNext, state_of, IsTrail, entry_of}
-use Rattle.sb_tenant.specs.Supported.{engine, is_served}
-use Rattle.sb_tenant.specs.Tenant.{Tenant, IsLegal, MakesStep, with_trail, state as state_now}
-use Rattle.sb_tenant.specs.Stored.{Kept, Stored, dropped, with_phase}
-use Rattle.sb_tenant.specs.Orders.{order_tree, performed, answered, aborted, AnswersOrder, Answers}
-use Rattle.sb_tenant.specs.declared.guard.Guard.{Guard}
-use Rattle.sb_tenant.specs.Represents.{session_of, not_closed, AreSound, standing, ShowsRows, AreOf, Represents}
-use Rattle.sb_tenant.proofs.Refinement.{memory, stays, rolled, refines}
-use Rattle.sb_tenant.proofs.ReplayLaws.{legal_states_are_replayed, trails_are_bounded}
-use Rattle.sb_tenant.proofs.Extensions.{step-numbered, step_is_next, abort_is_next, extended, state_of-extended, length-extended}
+use Rattle.sb_tenant.proofs.Extensions.{step-numbered, step_is_next, abort_is_next, extended, state_of-extended}
+use Rattle.sb_tenant.proofs.ReplayLaws.{ends as end_is_command, legal_states_are_replayed, open-ended, open_at_most, trails_are_bounded}
 
--- the lines `end` and `open` are the commands
-end_is_end : engine.command (codes "end") ≡ option_map order_tree (Some End)
-unfolding command_of
-end_is_end = refl
-
-open_is_open : engine.command (codes "open") ≡ option_map order_tree (Some Open)
+-- the line `open` is that command
+open_is_open : command_of (codes "open") ≡ Some open_session
 unfolding command_of
 open_is_open = refl
 
+-- ---- the lines `end` and `open`
+
+module _ (id bound : ℕ) (st : State) (s : ℕ) where
+  abbrev by_command : Option Command → State × Reply
+  by_command c = elim c [ None ↦ (st, reply.No refusal.Syntax) | Some command ↦ reply_to_command id bound st s command ]
+
+  pub ends : is_open (session_at st s) ≡ true → reply_to id bound st s (codes "end") ≡ (with_session (rolled_back st s) s closed, reply.Ok)
+  ends up = (λ i. by_command (end_is_command i)) ∙ (λ i. outcome_of id bound st s (first_of (not (up i)) refusal.NotOpen None) (Ok resolved.end_session))
+
+  pub opens : is_open (session_at st s) ≡ false → reply_to id bound st s (codes "open") ≡ (with_session st s idle, reply.Ok)
+  opens shut = (λ i. by_command (open_is_open i)) ∙ (λ i. outcome_of id bound st s (first_of (shut i) refusal.AlreadyOpen None) (Ok resolved.open_session))
+
+pub end_has_room : (st : State) (s : ℕ) → is_open (session_at st s) ≡ true → is_full_for st s (codes "end") ≡ false
+end_has_room st s up = ap (λ b. nat_le trail_limit st.steps && not (b && true)) up ∙ and-false (nat_le trail_limit st.steps)
+
+pub open_has_room : (st : State) (s : ℕ) (line : List ℕ) → nat_le trail_limit st.steps ≡ false → is_full_for st s line ≡ false
+open_has_room st s line room = ap (λ b. b && not (is_end_of_open st s line)) room
+
+-- ---- the next entry
+
 -- the number of steps isn't kept in memory
-restepped : (id : ℕ) (st : State) (v : Stored) (n : ℕ) → Represents id st v → Represents id (record st { steps = n }) v
-restepped id st v n r =
-    record { held = r.held; who = r.who; is = λ i. record (r.is i) { steps = n }; changes = r.changes; seen = r.seen; sound = r.sound }
+restepped_store : (store : Store) (st : State) (n : ℕ) → (origin : List Held) × Holds origin store st → (origin : List Held) × Holds origin store (record st { steps = n })
+restepped_store store st n (origin, h) = (
+  origin,
+  record {
+    committed = h.committed;
+    made = h.made;
+    locked = h.locked;
+    exclusive = h.exclusive;
+    locks = h.locks;
+    phases = h.phases;
+    candidates = h.candidates;
+    rules = h.rules;
+    ordered = h.ordered;
+    rulesets = h.rulesets;
+    runnable = h.runnable;
+  },
+)
 
--- ---- an abort
+restepped : (store : Store) (records : List Record) (clock : ℕ) (index : List (List TableSets)) (st : State) (n : ℕ) → StandFor store records clock index st → StandFor store records clock index (record st { steps = n })
+restepped store records clock index st n (h, agrees) =
+    (restepped_store store st n h, record { transactions = agrees.transactions; marks = agrees.marks; indexed = agrees.indexed })
 
-aborted-standing : (id : ℕ) (ts : List Kept) (g : Option Guard) (held : ℕ → Mode → Bool) (n m : ℕ) (sound : AreSound ts) (phase : Phase) (changes : List Change) → AreOf phase changes → ShowsRows ts changes
-    → Represents id (record (elim (has_transaction (session_of phase changes)) [ true ↦ rolled_back (standing ts g (session_of phase changes) held n) 0 | false ↦ standing ts g (session_of phase changes) held n ]) { steps = m })
-    (aborted (memory id ts g phase changes))
-aborted-standing id ts g held n m sound Closed changes none seen = restepped id _ _ m (stays id ts g held n sound Closed changes none seen)
-aborted-standing id ts g held n m sound Idle changes none seen = restepped id _ _ m (stays id ts g held n sound Idle changes none seen)
-aborted-standing id ts g held n m sound Active changes none seen = restepped id _ _ m (rolled id ts g held n sound (active changes (λ rule. 0)))
+-- a trail with one more entry, and the state after it, for which memory, the log and the index stand
+pub record IsEntered (id bound : ℕ) (trail : List Entry) (s : ℕ) (line : List ℕ) (told : Reply) (store : Store) (records : List Record) (clock : ℕ) (index : List (List TableSets)) (after : State) : Type 0 where
+  pub legal : IsTrail id bound (trail ++ entry_of s line told ∷ [])
+  pub state : state_of id bound (trail ++ entry_of s line told ∷ []) ≡ after
+  pub next : IsNext id bound (state_of id bound trail) (entry_of s line told) after
+  pub stands : StandFor store records clock index after
 
-represents-aborted : (id : ℕ) (st : State) (v : Stored) → Represents id st v → Represents id (after_abort st 0) (aborted v)
-represents-aborted id st v r =
-    subst (λ s. Represents id (after_abort s 0) (aborted v)) (sym r.is)
-    (subst (λ who. Represents id (after_abort (standing v.tables v.guard (session_of v.phase v.changes) r.held st.steps) 0) (aborted (record v { who = who }))) (sym r.who)
-    (aborted-standing id v.tables v.guard r.held st.steps (st.steps + 1) r.sound v.phase v.changes r.changes r.seen))
+module _ (id bound : ℕ) (trail : List Entry) (legal : IsTrail id bound trail) (s : ℕ) (line : List ℕ) (is_one : is_session s ≡ true) (room : is_full_for (state_of id bound trail) s line ≡ false)
+    (told : Reply) (store : Store) (records : List Record) (clock : ℕ) (index : List (List TableSets)) where
+  abbrev now : State
+  now = state_of id bound trail
 
-module _ (id bound : ℕ) where
-  -- ---- a line's answer
+  abbrev Entered : State → Type 0
+  Entered after = IsEntered id bound trail s line told store records clock index after
 
-  -- the same reply, and what is in memory stands for the state again
-  abbrev Replied : State × Reply → Reply → Stored → Type 0
-  Replied r told new = (r.1 ≡ told) × Represents id r.0 new
+  entered : (after : State) → IsNext id bound now (entry_of s line told) after → StandFor store records clock index after → Entered after
+  entered after next stands = record {
+    legal = extended id bound trail legal s line told after next;
+    state = state_of-extended id bound trail legal s line told after next;
+    next = next;
+    stands = stands;
+  }
 
-  replied_to : (st : State) (v : Stored) (line : List ℕ) (order : Option Order) → Represents id st v → engine.command line ≡ option_map order_tree order
-      → Replied (reply_to engine id bound st 0 line) (answered bound v order).1 (answered bound v order).0
-  replied_to st v line order r is =
-      subst (λ (c : Option Command).
-      let said : State × Reply = elim c [ None ↦ (st, reply.No refusal.Syntax) | Some command ↦ reply_to_command engine id bound st 0 command ] in
-      Replied said (answered bound v order).1 (answered bound v order).0) (sym is) (by_order order)
-    where
-      by_order : (o : Option Order) →
-          let said : State × Reply = elim (option_map order_tree o) [ None ↦ (st, reply.No refusal.Syntax) | Some command ↦ reply_to_command engine id bound st 0 command ] in
-          Replied said (answered bound v o).1 (answered bound v o).0
-      by_order None = (refl, r)
-      by_order (Some o) = refines engine refl id bound st v o r
+  -- an answered line is the next entry
+  pub answered : (meant : State × Reply) → reply_to id bound now s line ≡ meant → told ≡ meant.1 → StandFor store records clock index meant.0 → Entered (record meant.0 { steps = now.steps + 1 })
+  answered meant is told_is stands =
+      let numbers : step id bound now s line ≡ numbered now meant = step-numbered id bound now s line room ∙ ap (numbered now) is in
+      let next = subst (λ (r : State × Answer). IsNext id bound now (entry_of s line r.1.reply) r.0) numbers (step_is_next id bound now s line is_one room) in
+      entered (record meant.0 { steps = now.steps + 1 })
+      (subst (λ (r : Reply). IsNext id bound now (entry_of s line r) (record meant.0 { steps = now.steps + 1 })) (sym told_is) next)
+      (restepped store records clock index meant.0 (now.steps + 1) stands)
 
-  replied : (st : State) (v : Stored) (line : List ℕ) (told : Reply) (new : Stored) → Represents id st v → AnswersOrder bound v line told new
-      → Replied (reply_to engine id bound st 0 line) told new
-  replied st v line told new r (order, is, gives) =
-      subst (λ (p : Stored × Reply). Replied (reply_to engine id bound st 0 line) p.1 p.0) gives (replied_to st v line order r is)
+  -- and so is an abort
+  pub performed : is_end_of_open now s line ≡ false → Performs store records clock index now s (reply_to id bound now s line) told → (after : State) × Entered after
+  performed no_end (inl (told_is, stands)) = (record (reply_to id bound now s line).0 { steps = now.steps + 1 }, answered (reply_to id bound now s line) refl told_is stands)
+  performed no_end (inr (told_is, stands)) = (
+    after_abort now s,
+    entered (after_abort now s)
+        (subst (λ (r : Reply). IsNext id bound now (entry_of s line r) (after_abort now s)) (sym told_is) (abort_is_next id bound now s line is_one room no_end))
+        (restepped store records clock index _ (now.steps + 1) stands),
+  )
 
-  module _ (trail : List Entry) (v : Stored) (legal : IsTrail engine id bound trail) (stands : Represents id (state_of engine id bound trail) v) where
-    -- as many steps as entries
-    pub steps_are_entries : (state_of engine id bound trail).steps ≡ length trail
-    steps_are_entries = (legal_states_are_replayed engine id bound trail (state_of engine id bound trail) legal).1
+-- ---- the tenant's value
 
-    -- whether the first session is open
-    pub open_by_phase : (s : ℕ) → is_open (session_at (state_of engine id bound trail) s) ≡ cond (s == 0) (not_closed v.phase) false
-    open_by_phase s = ap (λ (st : State). is_open (session_at st s)) stands.is ∙ by_test (s == 0) ∙ ap (λ b. cond (s == 0) b false) (by_session v.phase v.changes)
-      where
-        by_session : (phase : Phase) (changes : List Change) → is_open (session_of phase changes) ≡ not_closed phase
-        by_session Closed changes = refl
-        by_session Idle changes = refl
-        by_session Active changes = refl
+module _ (t new : Tenant) (same : IsSame t new) (s : ℕ) (line : List ℕ) (told : Reply) (store : Store) (records : List Record) (clock : ℕ) (index : List (List TableSets)) (after : State)
+    (longer : new.trail ≡ t.trail ++ entry_of s line told ∷ []) (e : IsEntered t.id t.bound t.trail s line told store records clock index after) where
+  pub new_state : state new ≡ after
+  new_state = (λ i. state_of (same.0 i) (same.1 i) (longer i)) ∙ e.state
 
-        by_test : (b : Bool) → is_open (cond b (session_of v.phase v.changes) closed) ≡ cond b (is_open (session_of v.phase v.changes)) false
-        by_test true = refl
-        by_test false = refl
+  pub new_legal : IsLegal new
+  new_legal =
+      subst (λ (es : List Entry). IsTrail new.id new.bound es) (sym longer)
+      (subst (λ (b : ℕ). IsTrail new.id b (t.trail ++ entry_of s line told ∷ [])) (sym same.1)
+      (subst (λ (i : ℕ). IsTrail i t.bound (t.trail ++ entry_of s line told ∷ [])) (sym same.0) e.legal))
 
-    abbrev pub Next : List ℕ → Reply → Stored → Type 0
-    Next line told new =
-        let longer = trail ++ entry_of 0 line told ∷ [] in
-        IsTrail engine id bound longer × Represents id (state_of engine id bound longer) new × IsNext engine id bound (state_of engine id bound trail) (entry_of 0 line told) (state_of engine id bound longer)
+  pub new_holds : (origin : List Held) × Holds origin store (state new)
+  new_holds = subst (λ (st : State). (origin : List Held) × Holds origin store st) (sym new_state) e.stands.0
 
-    entered : (line : List ℕ) (told : Reply) (new : Stored) (after : State) → IsNext engine id bound (state_of engine id bound trail) (entry_of 0 line told) after → Represents id after new → Next line told new
-    entered line told new after next r =
-        let is = sym (state_of-extended engine id bound trail legal 0 line told after next) in (
-          extended engine id bound trail legal 0 line told after next,
-          subst (λ s. Represents id s new) is r,
-          subst (λ s. IsNext engine id bound (state_of engine id bound trail) (entry_of 0 line told) s) is next,
-        )
+  pub new_agrees : Agrees store.database.id (state new) store.database.transactions records clock index
+  new_agrees = subst (λ (st : State). Agrees store.database.id st store.database.transactions records clock index) (sym new_state) e.stands.1
 
-    answered_line : (line : List ℕ) (told : Reply) (new : Stored) → is_full_for (state_of engine id bound trail) 0 line ≡ false → AnswersOrder bound v line told new → Next line told new
-    answered_line line told new room a =
-        let st = state_of engine id bound trail in
-        let is = step-numbered engine id bound st 0 line room in
-        let said = replied st v line told new stands a in
-        let next = step_is_next engine id bound st 0 line refl room in
-        entered line told new (step engine id bound st 0 line).0
-        (subst (λ r. IsNext engine id bound st (entry_of 0 line r) (step engine id bound st 0 line).0) (ap (λ r. r.1.reply) is ∙ said.0) next)
-        (subst (λ s. Represents id s new) (ap (λ r. r.0) (sym is)) (restepped id (reply_to engine id bound st 0 line).0 new (st.steps + 1) said.1))
+  pub made : (number : ℕ) → number ≡ length new.trail → MakesStep t s line (record { number = Some number; reply = told }) new
+  made number is = (
+    same,
+    (
+      longer,
+      ap Some is,
+      subst (λ (st : State). IsNext t.id t.bound (state t) (entry_of s line told) st) (sym (ap (state_of t.id t.bound) longer ∙ e.state)) e.next,
+    ),
+  )
 
-    -- an answered line is the next entry
-    pub stepped : (line : List ℕ) (told : Reply) (new : Stored) → is_full_for (state_of engine id bound trail) 0 line ≡ false → is_end_of_open (state_of engine id bound trail) 0 line ≡ false
-        → Answers bound v line told new → Next line told new
-    stepped line told new room no_end (inl a) = answered_line line told new room a
-    stepped line told new room no_end (inr (told_is, new_is)) =
-        let st = state_of engine id bound trail in
-        entered line told new (after_abort st 0)
-        (subst (λ r. IsNext engine id bound st (entry_of 0 line r) (after_abort st 0)) (sym told_is) (abort_is_next engine id bound st 0 line refl room no_end))
-        (subst (λ w. Represents id (after_abort st 0) w) (sym new_is) (represents-aborted id st v stands))
+-- ---- numbers
 
-    -- ---- the lines `open` and `end`
-
-    -- whether the first session is open, by what is in memory
-    pub first_is_open : is_open (session_at (state_of engine id bound trail) 0) ≡ not_closed v.phase
-    first_is_open = open_by_phase 0
-
-    end_has_room : not_closed v.phase ≡ true → is_full_for (state_of engine id bound trail) 0 (codes "end") ≡ false
-    end_has_room up =
-        ap (λ b. nat_le trail_limit (state_of engine id bound trail).steps && not (b && true)) (first_is_open ∙ up) ∙ and-false (nat_le trail_limit (state_of engine id bound trail).steps)
-
-    ends_open : (phase : Phase) → not_closed phase ≡ true → performed bound (record v { phase = phase }) End ≡ (dropped v Closed, reply.Ok)
-    ends_open Closed up = cc
-    ends_open Idle up = refl
-    ends_open Active up = refl
-
-    -- the end of an open session is the next entry
-    pub ended : not_closed v.phase ≡ true → Next (codes "end") reply.Ok (dropped v Closed)
-    ended up = answered_line (codes "end") reply.Ok (dropped v Closed) (end_has_room up) (Some End, end_is_end, ends_open v.phase up)
-
-    opens_closed : (phase : Phase) → not_closed phase ≡ false → performed bound (record v { phase = phase }) Open ≡ (with_phase v Idle, reply.Ok)
-    opens_closed Closed shut = refl
-    opens_closed Idle shut = cc
-    opens_closed Active shut = cc
-
-    -- the opening of a closed session is the next entry
-    pub opened : not_closed v.phase ≡ false → is_full_for (state_of engine id bound trail) 0 (codes "open") ≡ false → Next (codes "open") reply.Ok (with_phase v Idle)
-    opened shut room = answered_line (codes "open") reply.Ok (with_phase v Idle) room (Some Open, open_is_open, opens_closed v.phase shut)
-
--- a served session is the first
-pub first_session : (s : ℕ) → is_served s ≡ true → s ≡ 0
-first_session s served = let below = ltb-true s 1 served in omega (arith, below)
-
--- the trail's bound
+-- a trail's length is bounded, and is the number of its steps
 pub few_entries : (t : Tenant) → IsLegal t → length t.trail ≤ 65544
 few_entries t legal =
-    let bounded = trails_are_bounded engine t.id t.bound end_is_end t.trail (state_now t) legal in omega (arith, bounded)
+    let bounded = trails_are_bounded t.id t.bound t.trail (state t) legal in omega (arith, bounded)
 
--- an entry that comes next makes a step of the tenant
-pub makes_step : (t : Tenant) (v new : Stored) (legal : IsLegal t) (stands : Represents t.id (state_now t) v) (s : ℕ) (line : List ℕ) (told : Reply) (items : List Entry) (number : ℕ)
-    → is_served s ≡ true → Next t.id t.bound t.trail v legal stands line told new → items ≡ t.trail ++ entry_of s line told ∷ [] → number ≡ length items
-    → MakesStep t s line (record { number = Some number; reply = told }) (with_trail t items) × IsLegal (with_trail t items) × Represents t.id (state_now (with_trail t items)) new
-makes_step t v new legal stands s line told items number served next items_are number_is =
-    let first = first_session s served in
-    let own : items ≡ t.trail ++ entry_of 0 line told ∷ [] = items_are ∙ ap (λ (n : ℕ). t.trail ++ entry_of n line told ∷ []) first in (
-      (
-        refl,
-        (
-          items_are,
-          ap Some number_is,
-          subst (λ (n : ℕ). IsNext engine t.id t.bound (state_now t) (entry_of n line told) (state_now (with_trail t items))) (sym first)
-              (subst (λ (es : List Entry). IsNext engine t.id t.bound (state_now t) (entry_of 0 line told) (state_now (with_trail t es))) (sym own) next.2),
-        ),
-      ),
-      subst (λ (es : List Entry). IsLegal (with_trail t es)) (sym own) next.0,
-      subst (λ (es : List Entry). Represents t.id (state_now (with_trail t es)) new) (sym own) next.1,
-    )
+pub steps_are_entries : (t : Tenant) → IsLegal t → (state t).steps ≡ length t.trail
+steps_are_entries t legal = (legal_states_are_replayed t.id t.bound t.trail (state t) legal).1
+
+-- the tables' next numbers stay below 2^63
+pub few_numbers : (n : ℕ) → n ≤ 65544 → number_limit n ≤ 2 ^ 63
+few_numbers n h = omega arith
+
+-- and rise with the steps
+pub grown : (old new : List Held) (n by : ℕ) → by ≤ 32768000 → ((m : ℕ) → number_limit n ≤ m → NumbersBelow m old) → ((m : ℕ) → NumbersBelow m old → NumbersBelow (m + by) new) →
+    (m : ℕ) → number_limit (n + 1) ≤ m → NumbersBelow m new
+grown old new n by few before rises m h =
+    let is : m - by + by ≡ m = omega arith in
+    let enough : number_limit n ≤ m - by = omega arith in
+    subst (λ (k : ℕ). NumbersBelow k new) is (rises (m - by) (before (m - by) enough))
+
+-- ---- whether a session is open
+
+pub open_phase : (session : Session) → phase_of session ≡ Idle → is_open session ≡ true
+open_phase closed h = cc
+open_phase idle h = refl
+open_phase (active changes marks) h = refl
+
+pub active_phase : (session : Session) → phase_of session ≡ Active → is_open session ≡ true
+active_phase closed h = cc
+active_phase idle h = refl
+active_phase (active changes marks) h = refl
+
+pub closed_phase : (session : Session) → phase_of session ≡ Closed → is_open session ≡ false
+closed_phase closed h = refl
+closed_phase idle h = cc
+closed_phase (active changes marks) h = cc
+
+pub phase_closed : (session : Session) → is_open session ≡ false → phase_of session ≡ Closed
+phase_closed closed h = refl
+phase_closed idle h = cc
+phase_closed (active changes marks) h = cc
+
+-- ---- before the first step
+
+none_before : (time : ℕ) → length (before time []) ≡ 0
+unfolding before
+none_before time = refl
+
+pub new_in_step : (id bound : ℕ) (kept : Kept) → ((s r : ℕ) → mark_of kept s r ≡ 0) → (records : List Record) (clock : ℕ) (index : List (List TableSets)) → HoldNothing id records index →
+    Agrees id (state_of id bound []) kept records clock index
+new_in_step id bound kept marks records clock index nothing = record {
+  transactions = λ s is_one. ap changes (nothing.0 s);
+  marks = λ s is_one rule. let none = marks s rule in (omega (arith, none), ap (λ (rs : List Record). length (before (mark_of kept s rule) rs)) (nothing.0 s) ∙ none_before (mark_of kept s rule));
+  indexed = nothing.1;
+}
+
+-- ---- what a call leaves in memory
+
+-- one entry more
+module _ (t new : Inside) (r : IsRemembered t) (same : IsSame (seen t) (seen new)) (s : ℕ) (line : List ℕ) (told : Reply) (longer : (seen new).trail ≡ (seen t).trail ++ entry_of s line told ∷ []) where
+  pub remembered : IsLegal (seen new) → (after : State) → state (seen new) ≡ after → (origin : List Held) × Holds origin new.store after → (by : ℕ) → by ≤ 32768000 →
+      ((m : ℕ) → NumbersBelow m t.store.database.tables → NumbersBelow (m + by) new.store.database.tables) → vec_len new.trail + open_count after ≤ vec_capacity new.trail → open_count after ≤ new.end_lines → IsRemembered new
+  remembered legal after now_is holds by few rises places ends = record {
+    legal = legal;
+    holds = subst (λ (st : State). (origin : List Held) × Holds origin new.store st) (sym now_is) holds;
+    bound = subst (λ (b : ℕ). b ≤ 1000) (sym same.1) r.bound;
+    numbers = λ m enough.
+        grown t.store.database.tables new.store.database.tables (length t.trail.items) by few r.numbers rises m
+        (subst (λ (k : ℕ). number_limit k ≤ m) (ap length longer ∙ length-append (seen t).trail (entry_of s line told ∷ [])) enough);
+    places = subst (λ (st : State). vec_len new.trail + open_count st ≤ vec_capacity new.trail) (sym now_is) places;
+    ends = subst (λ (st : State). open_count st ≤ new.end_lines) (sym now_is) ends;
+  }
+
+-- none, but perhaps more room
+pub still_remembered : (t new : Inside) → IsRemembered t → new.bound ≡ t.bound → new.store ≡ t.store → new.trail.items ≡ t.trail.items → vec_len new.trail ≡ vec_len t.trail → vec_capacity t.trail ≤ vec_capacity new.trail →
+    t.end_lines ≤ new.end_lines → IsRemembered new
+still_remembered t new r bound store items len capacity ends = record {
+  legal = subst IsLegal (sym seen_is) r.legal;
+  holds = subst (λ (x : Store × Tenant). (origin : List Held) × Holds origin x.0 (state x.1)) (λ i. (sym store i, sym seen_is i)) r.holds;
+  bound = subst (λ (b : ℕ). b ≤ 1000) (sym bound) r.bound;
+  numbers = λ m enough. subst (λ (kept : Store). NumbersBelow m kept.database.tables) (sym store) (r.numbers m (subst (λ (es : List Entry). number_limit (length es) ≤ m) items enough));
+  places = let same_count = ap (λ (v : Tenant). open_count (state v)) seen_is in omega (arith, same_count, r.places);
+  ends = let same_count = ap (λ (v : Tenant). open_count (state v)) seen_is in omega (arith, same_count, r.ends);
+}
+  where
+    seen_is : seen new ≡ seen t
+    seen_is = λ i. record { id = (store i).database.id; bound = bound i; trail = items i; transactions = (store i).database.transactions }
+
+-- ---- the calls of a tenant
+
+-- a line that is answered
+module _ (t new : Inside) (r : IsRemembered t) (same : IsSame (seen t) (seen new)) (s : ℕ) (line : List ℕ) (told : Reply) (records records' : List Record) (clock clock' : ℕ) (index index' : List (List TableSets)) (after : State)
+    (n : ℕ) (leaves : Leaves n t.store new.store s records records' clock clock') (longer : (seen new).trail ≡ (seen t).trail ++ entry_of s line told ∷ [])
+    (e : IsEntered (seen t).id (seen t).bound (seen t).trail s line told new.store records' clock' index' after) where
+  pub entered_in_step : OtherTenantsStay t.store.database.id index index' → StaysInStep n (seen t) (seen new) s records records' clock clock' index index'
+  entered_in_step tenants = record {
+    in_step = new_agrees (seen t) (seen new) same s line told new.store records' clock' index' after longer e;
+    others = leaves.others;
+    rises = leaves.times;
+    tenants = tenants;
+  }
+
+  pub entered_legal : IsLegal (seen new)
+  entered_legal = new_legal (seen t) (seen new) same s line told new.store records' clock' index' after longer e
+
+  pub entered_remembered : n ≤ 32768000 → vec_len new.trail + open_count after ≤ vec_capacity new.trail → open_count after ≤ new.end_lines → IsRemembered new
+  entered_remembered few places at_hand =
+      remembered t new r same s line told longer entered_legal after (new_state (seen t) (seen new) same s line told new.store records' clock' index' after longer e) e.stands.0 n few leaves.numbers places at_hand
+
+  pub entered_made : (number : ℕ) → number ≡ length new.trail.items → MakesStep (seen t) s line (record { number = Some number; reply = told }) (seen new)
+  entered_made = made (seen t) (seen new) same s line told new.store records' clock' index' after longer e
+
+-- the end of an open session
+module _ (t new : Inside) (r : IsRemembered t) (s : ℕ) (is_one : is_session s ≡ true) (up : is_open (session_at (state (seen t)) s) ≡ true) (records records' : List Record) (clock clock' : ℕ)
+    (stands : (index : List (List TableSets)) (st : State) → StandFor t.store records clock index st → StandFor new.store records' clock' index (with_session (rolled_back st s) s closed)) where
+  abbrev pub ended_state : State
+  ended_state = record (with_session (rolled_back (state (seen t)) s) s closed) { steps = (state (seen t)).steps + 1 }
+
+  pub ended : (index : List (List TableSets)) → InStep (seen t) records clock index → IsEntered (seen t).id (seen t).bound (seen t).trail s (codes "end") reply.Ok new.store records' clock' index ended_state
+  ended index in_step =
+      answered (seen t).id (seen t).bound (seen t).trail r.legal s (codes "end") is_one (end_has_room (state (seen t)) s up) reply.Ok new.store records' clock' index
+      (with_session (rolled_back (state (seen t)) s) s closed, reply.Ok) (ends (seen t).id (seen t).bound (state (seen t)) s up) refl (stands index (state (seen t)) (r.holds, in_step))
+
+  pub ended_fewer : open_count ended_state + 1 ≡ open_count (state (seen t))
+  ended_fewer = open-ended (state (seen t)) s is_one up
+
+-- the opening of a closed session
+module _ (t new : Inside) (r : IsRemembered t) (same : IsSame (seen t) (seen new)) (s : ℕ) (is_one : is_session s ≡ true) (shut : is_open (session_at (state (seen t)) s) ≡ false) (room : nat_le trail_limit (state (seen t)).steps ≡ false)
+    (longer : new.trail.items ≡ t.trail.items ++ entry_of s (codes "open") reply.Ok ∷ []) where
+  abbrev now_open : State
+  now_open = record (with_session (state (seen t)) s idle) { steps = (state (seen t)).steps + 1 }
+
+  open_next : IsNext (seen t).id (seen t).bound (state (seen t)) (entry_of s (codes "open") reply.Ok) now_open
+  open_next =
+      let here = open_has_room (state (seen t)) s (codes "open") room in
+      let is = step-numbered (seen t).id (seen t).bound (state (seen t)) s (codes "open") here ∙ ap (numbered (state (seen t))) (opens (seen t).id (seen t).bound (state (seen t)) s shut) in
+      subst (λ (a : State × Answer). IsNext (seen t).id (seen t).bound (state (seen t)) (entry_of s (codes "open") a.1.reply) a.0) is (step_is_next (seen t).id (seen t).bound (state (seen t)) s (codes "open") is_one here)
+
+  open_now : state (seen new) ≡ now_open
+  open_now = (λ i. state_of (same.0 i) (same.1 i) (longer i)) ∙ state_of-extended (seen t).id (seen t).bound (seen t).trail r.legal s (codes "open") reply.Ok now_open open_next
+
+  pub opened_legal : IsLegal (seen new)
+  opened_legal =
+      let trail = extended (seen t).id (seen t).bound (seen t).trail r.legal s (codes "open") reply.Ok now_open open_next in
+      subst (λ (es : List Entry). IsTrail (seen new).id (seen new).bound es) (sym longer)
+      (subst (λ (b : ℕ). IsTrail (seen new).id b ((seen t).trail ++ entry_of s (codes "open") reply.Ok ∷ [])) (sym same.1)
+      (subst (λ (i : ℕ). IsTrail i (seen t).bound ((seen t).trail ++ entry_of s (codes "open") reply.Ok ∷ [])) (sym same.0) trail))
+
+  pub opened_made : (number : ℕ) → number ≡ length new.trail.items → MakesStep (seen t) s (codes "open") (record { number = Some number; reply = reply.Ok }) (seen new)
+  opened_made number is = (
+    same,
+    (
+      longer,
+      ap Some is,
+      subst (λ (st : State). IsNext (seen t).id (seen t).bound (state (seen t)) (entry_of s (codes "open") reply.Ok) st)
+          (sym (ap (state_of (seen t).id (seen t).bound) longer ∙ state_of-extended (seen t).id (seen t).bound (seen t).trail r.legal s (codes "open") reply.Ok now_open open_next)) open_next,
+    ),
+  )
+
+  pub opened_remembered : ((origin : List Held) (st : State) → Holds origin t.store st → Holds origin new.store (with_session st s idle)) → new.store.database ≡ t.store.database →
+      vec_len new.trail + 8 ≤ vec_capacity new.trail → 8 ≤ new.end_lines → IsRemembered new
+  opened_remembered holds database places at_hand =
+      let few = open_at_most now_open in
+      let zero_more : (m : ℕ) → NumbersBelow m t.store.database.tables → NumbersBelow (m + 0) new.store.database.tables =
+      λ m below. subst (λ (k : ℕ). NumbersBelow k new.store.database.tables) (sym_zero m) (subst (λ (d : Database). NumbersBelow m d.tables) (sym database) below) in
+      remembered t new r same s (codes "open") reply.Ok longer opened_legal now_open open_now (restepped_store new.store (with_session (state (seen t)) s idle) ((state (seen t)).steps + 1) (r.holds.0, holds r.holds.0 (state (seen t)) r.holds.1)) 0
+      (omega arith) zero_more (omega arith) (omega arith)
+    where
+      sym_zero : (m : ℕ) → m ≡ m + 0
+      sym_zero m = omega arith
+
+  pub opened_in_step : ((records : List Record) (clock : ℕ) (index : List (List TableSets)) (st : State) → StandFor t.store records clock index st → StandFor new.store records clock index (with_session st s idle)) →
+      (records : List Record) (clock : ℕ) (index : List (List TableSets)) → InStep (seen t) records clock index → InStep (seen new) records clock index
+  opened_in_step opened records clock index in_step =
+      let stands = restepped new.store records clock index (with_session (state (seen t)) s idle) ((state (seen t)).steps + 1) (opened records clock index (state (seen t)) (r.holds, in_step)) in
+      subst (λ (st : State). Agrees new.store.database.id st new.store.database.transactions records clock index) (sym open_now) stands.1

@@ -1,17 +1,24 @@
 //! One tenant's steps: a database of its own, specified by the replay of its trail.
 #![tactic(auto)]
 
-mod changes;
-mod guard;
-mod journal;
+mod answer;
+mod class;
+mod define;
+mod end_lines;
 pub mod laws;
 mod lines;
-mod order;
+mod names;
 mod phase;
+mod processing;
 mod reply;
+mod rule_commands;
+mod ruleset_commands;
+mod statements;
 mod store;
-mod table;
+mod table_commands;
 mod tenant;
+mod told;
+mod work;
 
 pub use reply::{Answer, Entry, Line, NamedTrace, Reply, SharedRows};
-pub use tenant::{NotBegun, SESSIONS_SERVED, Tenant};
+pub use tenant::{NotBegun, Tenant};

@@ -1,25 +1,27 @@
 //! A tenant: its steps, each with its answer and its entry in the trail.
-ghost use Rattle.std.specs.Prelude.{◌≡◌, ◌≤◌, ◌⊎◌, true, false, IfOk, OnErr, OnOk, IfSome, Some, nat_le, codes, [], ◌∷◌, ◌++◌, ◌+◌, ◌<◌, length, vec_len, vec_capacity};
+ghost use Rattle.std.specs.Prelude.{◌≡◌, ◌≤◌, ◌<◌, ◌^◌, ◌++◌, ◌∷◌, [], ◌+◌, ℕ, List, true, false, IfOk, OnErr, OnOk, Some, nat_le, codes, length, vec_len, vec_capacity, option_copied, option_map};
+ghost use Rattle.sb_index.specs.TableSets.{TableSets};
+ghost use Rattle.sb_rawlog.specs.Records.{Record};
 ghost use Rattle.sb_tenant.specs.declared.reply.Reply.TheVariants as told;
-ghost use Rattle.sb_tenant.specs.Limits.{trail_limit};
-ghost use Rattle.sb_tenant.specs.State.{session_at, is_open as session_is_open};
+ghost use Rattle.sb_tenant.specs.Limits.{is_session, trail_limit};
+ghost use Rattle.sb_tenant.specs.State.{session_at, is_open as session_is_open, table_seen};
 ghost use Rattle.sb_tenant.specs.Step.{is_full_for, is_end_of_open};
-ghost use Rattle.sb_tenant.specs.Supported.{is_served};
-ghost use Rattle.sb_tenant.specs.Tenant.{new_tenant, state, IsLegal, AnswersLine, MakesStep, LeavesLine};
+ghost use Rattle.sb_tenant.specs.Tenant.{state, IsLegal, IsNew, AnswersLine, MakesStep, LeavesLine, InStep, HoldNothing, StaysInStep, rise_of};
 
+use crate::end_lines::EndLines;
 use crate::lines::ShortLines;
 use crate::phase::Phase;
 use crate::reply::{Answer, Entry, Line, Reply};
 use crate::store::Store;
-use sb_value::{Refusal, SessionId, TenantId, Who};
-use std::alloc::{AllocError, Global};
+use sb_index::RuleIndex;
+use sb_rawlog::ChangeLog;
+use sb_tables::Table;
+use sb_value::{Name, Refusal, SESSION_LIMIT, SessionId, TenantId};
+use std::alloc::Global;
 use std::marker::Model;
 
 /// The most entries, without those of the ends of open sessions.
 const TRAIL_LIMIT: usize = 65_536;
-
-/// How many sessions of a tenant are served so far.
-pub const SESSIONS_SERVED: u32 = 1;
 
 /// The line that opens a session.
 const OPEN: &[u8] = b"open";
@@ -34,48 +36,37 @@ pub struct NotBegun;
 /// A database of its own, with the trail of its steps.
 #[derive(Drop)]
 pub struct Tenant {
-    id: TenantId,
     bound: u32,
     store: Store,
     trail: Vec<Entry>,
-    // the line of the next `end`, which needs no memory then
-    end_line: Option<Line>,
+    end_lines: EndLines,
     short_lines: ShortLines,
 }
 
 impl Model for Tenant {
-    ghost use Rattle.std.specs.Prelude.{◌≡◌, ◌<◌, true, IsSome, IfSome, codes, vec_len, vec_capacity};
-    ghost use Rattle.sb_tenant.specs.Tenant.{Tenant, IsLegal, state};
-    ghost use Rattle.sb_tenant.specs.Represents.{Represents, not_closed};
+    ghost use Rattle.sb_tenant.specs.Tenant.{Tenant};
 
     ghost Value = { Tenant };
 
-    ghost view = { λ t. record { id = t.id; bound = t.bound; trail = t.trail.items } };
+    ghost use Rattle.sb_tenant.specs.Remembered.{seen, IsRemembered};
 
-    ghost invariant = { λ t.
-        IsLegal (record { id = t.id; bound = t.bound; trail = t.trail.items })
-        × Represents t.id (state (record { id = t.id; bound = t.bound; trail = t.trail.items })) t.store
-        × IfSome t.end_line (λ line. line ≡ codes "end")
-        × (not_closed t.store.phase ≡ true → (vec_len t.trail < vec_capacity t.trail) × IsSome t.end_line) };
+    ghost view = { seen };
+
+    ghost invariant = { IsRemembered };
 }
 
 impl Tenant {
-    /// A tenant without tables, its sessions closed.
+    /// A tenant without tables and rules, its sessions closed.
     pub fn new(alloc: Global, id: TenantId, bound: u32) -> Tenant
-        ensures { result ≡ new_tenant id bound }
+        requires { bound ≤ 1000 }
+        ensures is_new { IsNew id bound result }
+        ensures in_step { (records : List Record) (clock : ℕ) (index : List (List TableSets)) → HoldNothing id records index → InStep result records clock index }
     {
         Tenant {
-            id,
             bound,
-            store: Store::new(
-                alloc,
-                Who {
-                    tenant: id,
-                    session: SessionId::new(0),
-                },
-            ),
+            store: Store::new(alloc, id),
             trail: Vec::new(alloc),
-            end_line: None,
+            end_lines: EndLines::new(alloc),
             short_lines: ShortLines::new(alloc),
         }
     }
@@ -92,7 +83,12 @@ impl Tenant {
     pub fn is_open(&self, session: SessionId) -> bool
         ensures { result ≡ session_is_open (session_at (state self.now) session) }
     {
-        session.index() == 0 && self.store.phase() != Phase::Closed
+        in_range(session);
+        match self.store.phases.get(session) {
+            Phase::Closed => false,
+            Phase::Idle => true,
+            Phase::Active => true,
+        }
     }
 
     /// Whether the trail has no place but for the ends of open sessions.
@@ -102,22 +98,38 @@ impl Tenant {
         self.trail.as_slice().len() >= TRAIL_LIMIT
     }
 
+    /// The table of that name, with the changes of all sessions.
+    pub fn table(&self, name: &Name) -> Option<&Table>
+        ensures { option_map (λ t. t.table) (option_copied result) ≡ table_seen (state self.now) name.now }
+    {
+        match self.store.database.tables.find(name) {
+            Some(id) => self.store.database.tables.get(id),
+            None => None,
+        }
+    }
+
     /// Makes a step of the line, or is refused by the full trail. Where memory runs out before the
     /// step has begun, nothing changes.
-    pub fn step(
+    pub fn step<L: ChangeLog>(
         &mut self,
         alloc: Global,
+        log: &mut L,
+        index: &mut RuleIndex,
         session: SessionId,
         line: &[u8],
     ) -> Result<Answer, NotBegun>
-        requires { is_served session ≡ true }
+        requires in_step { InStep self.old (L.records log.old) (L.clock log.old) index.old }
+        requires times { L.clock log.old < 2 ^ 63 }
         ensures ok { IfOk result (λ answer. AnswersLine self.old session line.now answer self.new) }
         ensures err { OnErr result (LeavesLine self.old session line.now self.new) }
-        ensures legal { IsLegal self.old }
+        ensures legal { IsLegal self.new }
+        ensures in_step { StaysInStep (rise_of result) self.old self.new session (L.records log.old) (L.records log.new) (L.clock log.old) (L.clock log.new) index.old index.new }
+        ensures unused { OnErr result ((log.new ≡ log.old) × (index.new ≡ index.old)) }
     {
-        let _ = &self.id;
+        // for the proof: the trail is legal
+        let _ = &self.trail;
         if self.ends(session, line) {
-            return Ok(self.end(session));
+            return Ok(self.end(log, session));
         }
         if self.is_full() {
             return Ok(Answer {
@@ -125,26 +137,28 @@ impl Tenant {
                 reply: Reply::No(Refusal::TrailFull),
             });
         }
-        self.enter(alloc, session, line)
+        self.enter(alloc, log, index, session, line)
     }
 
     /// Makes the step `open`.
     pub fn open(&mut self, alloc: Global, session: SessionId) -> Result<Answer, NotBegun>
-        requires served { is_served session ≡ true }
         requires closed { session_is_open (session_at (state self.old) session) ≡ false }
         requires room { nat_le trail_limit (state self.old).steps ≡ false }
         ensures ok { IfOk result (λ answer.
             MakesStep self.old session (codes "open") answer self.new × (answer.reply ≡ told.Ok)) }
         ensures err { OnErr result (self.new ≡ self.old) }
+        ensures legal { IsLegal self.new }
+        ensures in_step { (records : List Record) (clock : ℕ) (index : List (List TableSets)) → InStep self.old records clock index → InStep self.new records clock index }
     {
+        in_range(session);
         let line = make_ready(
             alloc,
             &mut self.trail,
-            &mut self.end_line,
+            &mut self.end_lines,
             &mut self.short_lines,
             OPEN,
         )?;
-        self.store.set_phase(Phase::Idle);
+        self.store.open(session);
         let entry = Entry {
             session,
             line,
@@ -157,16 +171,17 @@ impl Tenant {
     }
 
     /// Makes the step `end`. It needs no memory.
-    pub fn end(&mut self, session: SessionId) -> Answer
-        requires served { is_served session ≡ true }
+    pub fn end<L: ChangeLog>(&mut self, log: &mut L, session: SessionId) -> Answer
+        requires in_step { (index : List (List TableSets)) × InStep self.old (L.records log.old) (L.clock log.old) index }
         requires open { session_is_open (session_at (state self.old) session) ≡ true }
         ensures made { MakesStep self.old session (codes "end") result self.new }
         ensures done { result.reply ≡ told.Ok }
+        ensures legal { IsLegal self.new }
+        ensures in_step { (index : List (List TableSets)) → InStep self.old (L.records log.old) (L.clock log.old) index → StaysInStep 0 self.old self.new session (L.records log.old) (L.records log.new) (L.clock log.old) (L.clock log.new) index index }
     {
-        let Some(line) = self.end_line.take() else {
-            unreachable!()
-        };
-        self.store.roll_back(Phase::Closed);
+        in_range(session);
+        let line = self.end_lines.take();
+        self.store.end(log, session);
         let entry = Entry {
             session,
             line,
@@ -186,21 +201,35 @@ impl Tenant {
     }
 
     /// Makes a step of the line in a trail with a place for it.
-    fn enter(&mut self, alloc: Global, session: SessionId, line: &[u8]) -> Result<Answer, NotBegun>
-        requires served { is_served session ≡ true }
+    fn enter<L: ChangeLog>(
+        &mut self,
+        alloc: Global,
+        log: &mut L,
+        index: &mut RuleIndex,
+        session: SessionId,
+        line: &[u8],
+    ) -> Result<Answer, NotBegun>
+        requires in_step { InStep self.old (L.records log.old) (L.clock log.old) index.old }
+        requires times { L.clock log.old < 2 ^ 63 }
         requires room { is_full_for (state self.old) session line.now ≡ false }
         requires goes_on { is_end_of_open (state self.old) session line.now ≡ false }
         ensures ok { IfOk result (λ answer. MakesStep self.old session line.now answer self.new) }
         ensures err { OnErr result (LeavesLine self.old session line.now self.new) }
+        ensures legal { IsLegal self.new }
+        ensures in_step { StaysInStep (rise_of result) self.old self.new session (L.records log.old) (L.records log.new) (L.clock log.old) (L.clock log.new) index.old index.new }
+        ensures unused { OnErr result ((log.new ≡ log.old) × (index.new ≡ index.old)) }
     {
+        in_range(session);
         let kept = make_ready(
             alloc,
             &mut self.trail,
-            &mut self.end_line,
+            &mut self.end_lines,
             &mut self.short_lines,
             line,
         )?;
-        let (reply, copy) = self.store.answer(alloc, self.bound, line);
+        let (reply, copy) = self
+            .store
+            .answer(alloc, log, index, session, self.bound, line);
         let entry = Entry {
             session,
             line: kept,
@@ -213,42 +242,37 @@ impl Tenant {
     }
 }
 
-/// Has what a step needs before it begins: a place for its entry, one for the session's end, the
-/// line of that end, and a copy of the line.
+/// For the proofs: a session's number is below 8.
+fn in_range(session: SessionId)
+    ensures { is_session session ≡ true }
+{
+    let _number = session.number();
+}
+
+/// Has what a step needs before it begins: a place for its entry, a place and a line for the end of
+/// each session, and a copy of the line.
 fn make_ready(
     alloc: Global,
     trail: &mut Vec<Entry>,
-    end_line: &mut Option<Line>,
+    end_lines: &mut EndLines,
     short_lines: &mut ShortLines,
     line: &[u8],
 ) -> Result<Line, NotBegun>
-    requires { IfSome end_line.old (λ l. l ≡ codes "end") }
     ensures items { trail.new.items ≡ trail.old.items }
-    ensures ok { IfOk result (λ kept. (kept ≡ line.now)
-        × (vec_len trail.new + 2 ≤ vec_capacity trail.new) × (end_line.new ≡ Some (codes "end"))) }
     ensures len { vec_len trail.new ≡ vec_len trail.old }
     ensures capacity { vec_capacity trail.old ≤ vec_capacity trail.new }
-    ensures err { OnErr result ((end_line.new ≡ end_line.old) ⊎ (end_line.new ≡ Some (codes "end"))) }
+    ensures ends { end_lines.old ≤ end_lines.new }
+    ensures line { IfOk result (λ kept. kept ≡ line.now) }
+    ensures places { OnOk result (vec_len trail.new + 9 ≤ vec_capacity trail.new) }
+    ensures filled { OnOk result (8 ≤ end_lines.new) }
 {
-    if trail.reserve(2).is_err() || keep_end(alloc, end_line).is_err() {
+    if trail.reserve(1 + SESSION_LIMIT).is_err() || end_lines.fill(alloc, SESSION_LIMIT).is_err() {
         return Err(NotBegun);
     }
     match short_lines.line(alloc, line) {
         Ok(kept) => Ok(kept),
         Err(_) => Err(NotBegun),
     }
-}
-
-/// Has the line of a later `end` at hand.
-fn keep_end(alloc: Global, end_line: &mut Option<Line>) -> Result<(), AllocError>
-    requires { IfSome end_line.old (λ line. line ≡ codes "end") }
-    ensures ok { OnOk result (end_line.new ≡ Some (codes "end")) }
-    ensures err { OnErr result (end_line.new ≡ end_line.old) }
-{
-    if end_line.is_none() {
-        *end_line = Some(Line::new(alloc, END)?);
-    }
-    Ok(())
 }
 
 /// Puts an entry behind the others, where there is a place for it, and gives its number.

@@ -1,50 +1,62 @@
-use Rattle.std.proofs.Common.{◌++◌, ◌∷◌, [], ◌≡◌, ◌∙◌, ap, sym, subst, codes, true, ℕ, Some, None}
-use Rattle.std.specs.Prelude.{IfSome, List}
-use Rattle.sb_tenant.specs.State.{session_at, is_open}
-use Rattle.sb_tenant.specs.Stored.{Stored, dropped}
-use Rattle.sb_tenant.specs.declared.phase.Phase.TheVariants.{Closed}
+use Rattle.std.proofs.Common.{◌≡◌, ◌∙◌, ◌++◌, ◌∷◌, [], List, ℕ, ap, sym, subst, refl, codes, true, Some, arith}
+use Rattle.sb_index.specs.TableSets.{TableSets}
 use Rattle.sb_tenant.specs.declared.reply.Reply.TheVariants.{Ok}
-use Rattle.sb_tenant.specs.Tenant.{Tenant, IsLegal, MakesStep, state, with_trail}
-use Rattle.sb_tenant.specs.Represents.{Represents, not_closed}
-use Rattle.sb_tenant.proofs.Tests.{no_way}
-use Rattle.sb_tenant.proofs.Steps.{first_session, few_entries, first_is_open, ended, makes_step}
+use Rattle.sb_tenant.specs.State.{session_at, is_open}
+use Rattle.sb_tenant.specs.Remembered.{seen}
+use Rattle.sb_tenant.specs.Tenant.{Tenant, InStep, IsSame, MakesStep, StaysInStep, state}
+use Rattle.sb_tenant.specs.Trail.{entry_of}
+use Rattle.sb_tenant.specs.declared.tenant.Tenant.TheInside.{Inside}
+use Rattle.sb_tenant.proofs.Steps.{IsEntered, few_entries, ended, ended_fewer, ended_state, entered_in_step, entered_legal, entered_made, entered_remembered}
+use Rattle.sb_tenant.proofs.tenant.Tenant.end.Given.{Over}
 use Rattle.sb_tenant.proofs.tenant.Tenant.end.Goals as goal
 
 pub put-requires-clause-few : goal.put-requires-clause-few
-put-requires-clause-few c =
-    let t = c.self.inside in few_entries (record { id = t.id; bound = t.bound; trail = t.trail.items }) c.self.invariant.0
+put-requires-clause-few g c = few_entries (seen c.self.inside) c.self.invariant.legal
 
--- the tenant before
-abbrev before : goal.After-put → Tenant
-before c = let t = c.self.inside in record { id = t.id; bound = t.bound; trail = t.trail.items }
+up : (g : Over) (c : goal.After-put g) → is_open (session_at (state (seen c.self.inside)) c.args.session) ≡ true
+up g c = subst (λ (v : Tenant). is_open (session_at (state v) c.args.session) ≡ true) (sym c.self.view_is) c.requires.open
 
--- the session is open
-up : (c : goal.After-put) → not_closed c.self.inside.store.phase ≡ true
-up c =
-    let t = c.self.inside in
-    sym (first_is_open t.id t.bound t.trail.items t.store c.self.invariant.0 c.self.invariant.1)
-    ∙ subst (λ (now : Tenant). is_open (session_at (state now) 0) ≡ true) (sym c.self.view_is)
-    (subst (λ (s : ℕ). is_open (session_at (state c.args.self.now) s) ≡ true) (first_session c.args.session c.requires.served) c.requires.open)
+in_step : (g : Over) (c : goal.After-put g) (index : List (List TableSets)) → InStep c.args.self.now (g.L.ChangeLog.records c.args.log.now) (g.L.ChangeLog.clock c.args.log.now) index →
+    InStep (seen c.self.inside) (g.L.ChangeLog.records c.args.log.now) (g.L.ChangeLog.clock c.args.log.now) index
+in_step g c index = subst (λ (v : Tenant). InStep v (g.L.ChangeLog.records c.args.log.now) (g.L.ChangeLog.clock c.args.log.now) index) (sym c.self.view_is)
 
-is_end : (c : goal.After-put) → c.in-Some.line ≡ codes "end"
-is_end c = subst (λ line. IfSome line (λ l. l ≡ codes "end")) (sym c.take.ensures.value ∙ c.in-Some.is) c.self.invariant.2
+longer : (g : Over) (c : goal.After-put g) → c.put.new.trail.items ≡ c.self.inside.trail.items ++ entry_of c.args.session (codes "end") Ok ∷ []
+longer g c = c.put.ensures.items ∙ ap (λ (l : List ℕ). c.self.inside.trail.items ++ entry_of c.args.session l Ok ∷ []) c.take-line.ensures.line
 
-made : (c : goal.After-put) → MakesStep (before c) c.args.session (codes "end") (record { number = Some c.put.result; reply = Ok }) (with_trail (before c) c.put.new.trail.items)
-    × IsLegal (with_trail (before c) c.put.new.trail.items) × Represents (before c).id (state (with_trail (before c) c.put.new.trail.items)) (dropped c.self.inside.store Closed)
-made c =
-    let t = c.self.inside in
-    let entry_is = ap (λ (line : List ℕ). t.trail.items ++ record { session = c.args.session; line = line; reply = Ok } ∷ []) (is_end c) in
-    makes_step (before c) t.store (dropped t.store Closed) c.self.invariant.0 c.self.invariant.1 c.args.session (codes "end") Ok c.put.new.trail.items c.put.result c.requires.served
-    (ended t.id t.bound t.trail.items t.store c.self.invariant.0 c.self.invariant.1 (up c)) (c.put.ensures.items ∙ entry_is) c.put.ensures.number
+-- the fields after it
+abbrev after : (g : Over) → goal.After-put g → Inside
+after g c = record c.self.inside { store = c.end.new.self; trail = c.put.new.trail; end_lines = c.take-line.new.self }
+
+same : (g : Over) (c : goal.After-put g) → IsSame (seen c.self.inside) (seen (after g c))
+same g c = (c.end.ensures.leaves.id, refl)
+
+entered : (g : Over) (c : goal.After-put g) (index : List (List TableSets)) (agrees : InStep (seen c.self.inside) (g.L.ChangeLog.records c.args.log.now) (g.L.ChangeLog.clock c.args.log.now) index) →
+    IsEntered (seen c.self.inside).id (seen c.self.inside).bound (seen c.self.inside).trail c.args.session (codes "end") Ok c.end.new.self (g.L.ChangeLog.records c.end.new.log) (g.L.ChangeLog.clock c.end.new.log) index
+    (ended_state c.self.inside (after g c) c.self.invariant c.args.session c.in_range.ensures (up g c) (g.L.ChangeLog.records c.args.log.now) (g.L.ChangeLog.records c.end.new.log) (g.L.ChangeLog.clock c.args.log.now) (g.L.ChangeLog.clock c.end.new.log) c.end.ensures.ended)
+entered g c index agrees =
+    ended c.self.inside (after g c) c.self.invariant c.args.session c.in_range.ensures (up g c) (g.L.ChangeLog.records c.args.log.now) (g.L.ChangeLog.records c.end.new.log) (g.L.ChangeLog.clock c.args.log.now) (g.L.ChangeLog.clock c.end.new.log)
+    c.end.ensures.ended index agrees
 
 pub invariant_of-self : goal.invariant_of-self
-invariant_of-self c = (
-  (made c).1,
-  subst (Represents (before c).id (state (with_trail (before c) c.put.new.trail.items))) (sym c.roll_back.ensures) (made c).2,
-  subst (λ line. IfSome line (λ l. l ≡ codes "end")) (sym c.take.ensures.after) tt,
-  (λ open_now. no_way (ap (λ (v : Stored). not_closed v.phase) (sym c.roll_back.ensures) ∙ open_now)),
-)
+invariant_of-self g c =
+    let index = c.requires.in_step.0 in
+    let e = entered g c index (in_step g c index c.requires.in_step.1) in
+    let fewer = ended_fewer c.self.inside (after g c) c.self.invariant c.args.session c.in_range.ensures (up g c) (g.L.ChangeLog.records c.args.log.now) (g.L.ChangeLog.records c.end.new.log) (g.L.ChangeLog.clock c.args.log.now) (g.L.ChangeLog.clock c.end.new.log) c.end.ensures.ended in
+    entered_remembered c.self.inside (after g c) c.self.invariant (same g c) c.args.session (codes "end") Ok _ _ _ _ index index _ 0 c.end.ensures.leaves (longer g c) e (omega arith)
+    (omega (arith, fewer, c.self.invariant.places, c.put.ensures.len, c.put.ensures.capacity)) (omega (arith, fewer, c.self.invariant.ends, c.take-line.ensures.left))
 
 pub returns-clause-made : goal.returns-clause-made
-returns-clause-made c =
-    subst (λ (now : Tenant). MakesStep now c.args.session (codes "end") (record { number = Some c.put.result; reply = Ok }) (with_trail (before c) c.put.new.trail.items)) c.self.view_is (made c).0
+returns-clause-made g c =
+    let index = c.requires.in_step.0 in
+    subst (λ (v : Tenant). MakesStep v c.args.session (codes "end") (record { number = Some c.put.result; reply = Ok }) (seen (after g c))) c.self.view_is
+    (entered_made c.self.inside (after g c) c.self.invariant (same g c) c.args.session (codes "end") Ok _ _ _ _ index index _ 0 c.end.ensures.leaves (longer g c) (entered g c index (in_step g c index c.requires.in_step.1)) c.put.result c.put.ensures.number)
+
+pub returns-clause-legal : goal.returns-clause-legal
+returns-clause-legal g c =
+    let index = c.requires.in_step.0 in
+    entered_legal c.self.inside (after g c) c.self.invariant (same g c) c.args.session (codes "end") Ok _ _ _ _ index index _ 0 c.end.ensures.leaves (longer g c) (entered g c index (in_step g c index c.requires.in_step.1))
+
+pub returns-clause-in_step : goal.returns-clause-in_step
+returns-clause-in_step g c = λ index agrees.
+    subst (λ (v : Tenant). StaysInStep 0 v (seen (after g c)) c.args.session (g.L.ChangeLog.records c.args.log.now) (g.L.ChangeLog.records c.end.new.log) (g.L.ChangeLog.clock c.args.log.now) (g.L.ChangeLog.clock c.end.new.log) index index) c.self.view_is
+    (entered_in_step c.self.inside (after g c) c.self.invariant (same g c) c.args.session (codes "end") Ok _ _ _ _ index index _ 0 c.end.ensures.leaves (longer g c) (entered g c index (in_step g c index agrees)) (λ n table operation rule other. refl))

@@ -1,47 +1,71 @@
-use Rattle.std.proofs.Common.{rules, length, ◌≤◌, ◌≡◌, ◌∙◌, ap, sym, subst, codes, true, false, ℕ, Some, None, List, ◌++◌, ◌∷◌, [], arith}
-use Rattle.std.specs.Prelude.{IfSome, IsSome, OnOk}
-use Rattle.sb_tenant.specs.Step.{is_full_for, is_end_of_open}
-use Rattle.sb_tenant.specs.Tenant.{Tenant, IsLegal, MakesStep, state, with_trail}
-use Rattle.sb_tenant.specs.Represents.{Represents, not_closed}
+use Rattle.std.proofs.Common.{◌≡◌, ◌≤◌, ◌∙◌, ◌++◌, ◌∷◌, [], List, sym, subst, refl, length, false, Some, arith}
 use Rattle.sb_tenant.specs.declared.reply.Entry.{Entry}
 use Rattle.sb_tenant.specs.declared.reply.Reply.{Reply}
-use Rattle.sb_tenant.proofs.Steps.{first_session, few_entries, stepped, makes_step}
+use Rattle.sb_tenant.specs.declared.tenant.Tenant.TheInside.{Inside}
+use Rattle.sb_tenant.specs.Remembered.{seen}
+use Rattle.sb_tenant.specs.State.{State}
+use Rattle.sb_tenant.specs.Step.{is_full_for, is_end_of_open}
+use Rattle.sb_tenant.specs.Tenant.{Tenant, InStep, IsSame, MakesStep, StaysInStep, state}
+use Rattle.sb_tenant.specs.Trail.{entry_of}
+use Rattle.sb_tenant.proofs.ReplayLaws.{open_at_most}
+use Rattle.sb_tenant.proofs.Steps.{IsEntered, few_entries, few_numbers, performed, still_remembered, entered_in_step, entered_legal, entered_made, entered_remembered}
+use Rattle.sb_tenant.proofs.tenant.Tenant.enter.Given.{Over}
 use Rattle.sb_tenant.proofs.tenant.Tenant.enter.Goals as goal
 
+pub invariant_of-self : goal.invariant_of-self
+invariant_of-self g c =
+    still_remembered c.self.inside _ c.self.invariant refl refl c.make_ready.ensures.items c.make_ready.ensures.len c.make_ready.ensures.capacity c.make_ready.ensures.ends
+
+pub answer-reply-requires-clause-numbers : goal.answer-reply-requires-clause-numbers
+answer-reply-requires-clause-numbers g c =
+    c.self.invariant.numbers _ (few_numbers (length c.self.inside.trail.items) (few_entries (seen c.self.inside) c.self.invariant.legal))
+
 pub put-requires-clause-few : goal.put-requires-clause-few
-put-requires-clause-few c =
-    let t = c.self.inside in
-    subst (λ (es : List Entry). length es ≤ 65544) (sym c.make_ready.ensures.items) (few_entries (record { id = t.id; bound = t.bound; trail = t.trail.items }) c.self.invariant.0)
+put-requires-clause-few g c =
+    subst (λ (es : List Entry). length es ≤ 65544) (sym c.make_ready.ensures.items) (few_entries (seen c.self.inside) c.self.invariant.legal)
 
--- the tenant before
-abbrev before : goal.After-put → Tenant
-before c = let t = c.self.inside in record { id = t.id; bound = t.bound; trail = t.trail.items }
+-- the fields after it
+abbrev after : (g : Over) → goal.After-put g → Inside
+after g c = record c.self.inside { store = c.answer-reply.new.self; trail = c.put.new.trail; end_lines = c.make_ready.new.end_lines; short_lines = c.make_ready.new.short_lines }
 
-room : (c : goal.After-put) → is_full_for (state (before c)) 0 c.args.line.now ≡ false
-room c =
-    subst (λ (now : Tenant). is_full_for (state now) 0 c.args.line.now ≡ false) (sym c.self.view_is)
-    (subst (λ (s : ℕ). is_full_for (state c.args.self.now) s c.args.line.now ≡ false) (first_session c.args.session c.requires.served) c.requires.room)
+same : (g : Over) (c : goal.After-put g) → IsSame (seen c.self.inside) (seen (after g c))
+same g c = (c.answer-reply.ensures.leaves.id, refl)
 
-goes_on : (c : goal.After-put) → is_end_of_open (state (before c)) 0 c.args.line.now ≡ false
-goes_on c =
-    subst (λ (now : Tenant). is_end_of_open (state now) 0 c.args.line.now ≡ false) (sym c.self.view_is)
-    (subst (λ (s : ℕ). is_end_of_open (state c.args.self.now) s c.args.line.now ≡ false) (first_session c.args.session c.requires.served) c.requires.goes_on)
+longer : (g : Over) (c : goal.After-put g) → c.put.new.trail.items ≡ c.self.inside.trail.items ++ entry_of c.args.session c.args.line.now c.answer-reply.result.0 ∷ []
+longer g c = c.put.ensures.items ∙ (λ i. c.make_ready.ensures.items i ++ entry_of c.args.session (c.in_ok-kept.ensures.line i) c.answer-reply.result.0 ∷ [])
 
-made : (c : goal.After-put) → MakesStep (before c) c.args.session c.args.line.now (record { number = Some c.put.result; reply = c.answer-reply.result.0 }) (with_trail (before c) c.put.new.trail.items)
-    × IsLegal (with_trail (before c) c.put.new.trail.items) × Represents (before c).id (state (with_trail (before c) c.put.new.trail.items)) c.answer-reply.new.self
-made c =
-    let t = c.self.inside in
-    let told = c.answer-reply.result.0 in
-    let line_is : c.in_ok-kept.kept ≡ c.args.line.now = c.in_ok-kept.ensures.ok.0 in
-    let items_are = c.put.ensures.items ∙ (λ i. c.make_ready.ensures.items i ++ record { session = c.args.session; line = line_is i; reply = told } ∷ []) in
-    makes_step (before c) t.store c.answer-reply.new.self c.self.invariant.0 c.self.invariant.1 c.args.session c.args.line.now told c.put.new.trail.items c.put.result c.requires.served
-    (stepped t.id t.bound t.trail.items t.store c.self.invariant.0 c.self.invariant.1 c.args.line.now told c.answer-reply.new.self (room c) (goes_on c) c.answer-reply.ensures.answers)
-    items_are c.put.ensures.number
+-- the answer is the next entry
+entered : (g : Over) (c : goal.After-put g) → (next : State) × IsEntered (seen c.self.inside).id (seen c.self.inside).bound (seen c.self.inside).trail c.args.session c.args.line.now c.answer-reply.result.0 c.answer-reply.new.self
+    (g.L.ChangeLog.records c.answer-reply.new.log) (g.L.ChangeLog.clock c.answer-reply.new.log) c.answer-reply.new.index next
+entered g c =
+    let t = seen c.self.inside in
+    let room = subst (λ (v : Tenant). is_full_for (state v) c.args.session c.args.line.now ≡ false) (sym c.self.view_is) c.requires.room in
+    let goes_on = subst (λ (v : Tenant). is_end_of_open (state v) c.args.session c.args.line.now ≡ false) (sym c.self.view_is) c.requires.goes_on in
+    let agrees = subst (λ (v : Tenant). InStep v (g.L.ChangeLog.records c.args.log.now) (g.L.ChangeLog.clock c.args.log.now) c.args.index.now) (sym c.self.view_is) c.requires.in_step in
+    performed t.id t.bound t.trail c.self.invariant.legal c.args.session c.args.line.now c.in_range.ensures room c.answer-reply.result.0 c.answer-reply.new.self (g.L.ChangeLog.records c.answer-reply.new.log) (g.L.ChangeLog.clock c.answer-reply.new.log)
+    c.answer-reply.new.index goes_on (c.answer-reply.ensures.answered (state t) (c.self.invariant.holds, agrees))
 
 pub invariant_of-self-2 : goal.invariant_of-self-2
-invariant_of-self-2 c = ((made c).1, (made c).2, search rules, search rules)
+invariant_of-self-2 g c =
+    let e = entered g c in
+    let few = open_at_most e.0 in
+    entered_remembered c.self.inside (after g c) c.self.invariant (same g c) c.args.session c.args.line.now c.answer-reply.result.0 _ _ _ _ c.args.index.now _ e.0 32768000 c.answer-reply.ensures.leaves (longer g c) e.1 (omega arith)
+    (omega (arith, few, c.in_ok-kept.ensures.places, c.put.ensures.len, c.put.ensures.capacity)) (omega (arith, few, c.in_ok-kept.ensures.filled))
 
 pub returns-clause-ok : goal.returns-clause-ok
-returns-clause-ok c =
-    subst (λ (told : Reply). MakesStep c.args.self.now c.args.session c.args.line.now (record { number = Some c.put.result; reply = told }) (with_trail (before c) c.put.new.trail.items)) (sym c.answer-reply.ensures.twice)
-    (subst (λ (now : Tenant). MakesStep now c.args.session c.args.line.now (record { number = Some c.put.result; reply = c.answer-reply.result.0 }) (with_trail (before c) c.put.new.trail.items)) c.self.view_is (made c).0)
+returns-clause-ok g c =
+    let e = entered g c in
+    subst (λ (told : Reply). MakesStep c.args.self.now c.args.session c.args.line.now (record { number = Some c.put.result; reply = told }) (seen (after g c))) (sym c.answer-reply.ensures.twice)
+    (subst (λ (v : Tenant). MakesStep v c.args.session c.args.line.now (record { number = Some c.put.result; reply = c.answer-reply.result.0 }) (seen (after g c))) c.self.view_is
+    (entered_made c.self.inside (after g c) c.self.invariant (same g c) c.args.session c.args.line.now c.answer-reply.result.0 _ _ _ _ c.args.index.now _ e.0 32768000 c.answer-reply.ensures.leaves (longer g c) e.1 c.put.result c.put.ensures.number))
+
+pub returns-clause-legal : goal.returns-clause-legal
+returns-clause-legal g c =
+    let e = entered g c in
+    entered_legal c.self.inside (after g c) c.self.invariant (same g c) c.args.session c.args.line.now c.answer-reply.result.0 _ _ _ _ c.args.index.now _ e.0 32768000 c.answer-reply.ensures.leaves (longer g c) e.1
+
+pub returns-clause-in_step : goal.returns-clause-in_step
+returns-clause-in_step g c =
+    let e = entered g c in
+    subst (λ (v : Tenant). StaysInStep 32768000 v (seen (after g c)) c.args.session (g.L.ChangeLog.records c.args.log.now) (g.L.ChangeLog.records c.answer-reply.new.log) (g.L.ChangeLog.clock c.args.log.now) (g.L.ChangeLog.clock c.answer-reply.new.log) c.args.index.now c.answer-reply.new.index) c.self.view_is
+    (entered_in_step c.self.inside (after g c) c.self.invariant (same g c) c.args.session c.args.line.now c.answer-reply.result.0 _ _ _ _ c.args.index.now _ e.0 32768000 c.answer-reply.ensures.leaves (longer g c) e.1 c.answer-reply.ensures.others)

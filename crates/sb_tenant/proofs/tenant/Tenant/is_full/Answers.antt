@@ -1,10 +1,11 @@
 use Rattle.std.proofs.Common.{◌∙◌, ap, sym, nat_le, length, List}
 use Rattle.sb_tenant.specs.declared.reply.Entry.{Entry}
-use Rattle.sb_tenant.proofs.Steps.{steps_are_entries}
+use Rattle.sb_tenant.specs.Remembered.{seen}
 use Rattle.sb_tenant.specs.Tenant.{state}
+use Rattle.sb_tenant.proofs.Steps.{steps_are_entries}
 use Rattle.sb_tenant.proofs.tenant.Tenant.is_full.Goals as goal
 
 pub returns : goal.returns
 returns c =
-    let t = c.self.inside in
-    ap (λ (es : List Entry). nat_le 65536 (length es)) c.as_slice.ensures.value ∙ ap (nat_le 65536) (sym (steps_are_entries t.id t.bound t.trail.items t.store c.self.invariant.0 c.self.invariant.1)) ∙ ap (λ v. nat_le 65536 (state v).steps) c.self.view_is
+    ap (λ (es : List Entry). nat_le 65536 (length es)) c.as_slice.ensures.value ∙ ap (nat_le 65536) (sym (steps_are_entries (seen c.self.inside) c.self.invariant.legal))
+    ∙ ap (λ v. nat_le 65536 (state v).steps) c.self.view_is

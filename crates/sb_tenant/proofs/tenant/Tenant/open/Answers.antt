@@ -1,50 +1,62 @@
-use Rattle.std.proofs.Common.{rules, length, ◌≤◌, ◌≡◌, ◌∙◌, ap, sym, subst, codes, true, false, not, ◌&&◌, nat_le, Bool, ℕ, Some, None, List, ◌++◌, ◌∷◌, [], refl}
-use Rattle.sb_tenant.specs.Limits.{trail_limit}
-use Rattle.sb_tenant.specs.State.{session_at, is_open}
-use Rattle.sb_tenant.specs.Step.{is_full_for, is_end_of_open}
-use Rattle.sb_tenant.specs.Stored.{Stored, with_phase}
-use Rattle.sb_tenant.specs.declared.phase.Phase.TheVariants.{Idle}
+use Rattle.std.proofs.Common.{◌≡◌, ◌≤◌, ◌∙◌, ◌++◌, ◌∷◌, [], List, ap, sym, subst, refl, length, codes, false, nat_le, Some, arith}
+use Rattle.sb_process.specs.declared.database.Database.{Database}
 use Rattle.sb_tenant.specs.declared.reply.Entry.{Entry}
 use Rattle.sb_tenant.specs.declared.reply.Reply.TheVariants.{Ok}
-use Rattle.sb_tenant.specs.Tenant.{Tenant, IsLegal, MakesStep, state, with_trail}
-use Rattle.sb_tenant.specs.Represents.{Represents, not_closed}
-use Rattle.sb_tenant.proofs.Steps.{first_session, few_entries, first_is_open, opened, makes_step}
+use Rattle.sb_tenant.specs.declared.tenant.Tenant.TheInside.{Inside}
+use Rattle.sb_tenant.specs.Limits.{trail_limit}
+use Rattle.sb_tenant.specs.Remembered.{seen}
+use Rattle.sb_tenant.specs.State.{session_at, is_open}
+use Rattle.sb_tenant.specs.Tenant.{Tenant, InStep, IsSame, MakesStep, state}
+use Rattle.sb_tenant.specs.Trail.{entry_of}
+use Rattle.sb_tenant.proofs.Steps.{few_entries, phase_closed, still_remembered, opened_in_step, opened_legal, opened_made, opened_remembered}
 use Rattle.sb_tenant.proofs.tenant.Tenant.open.Goals as goal
+
+pub invariant_of-self : goal.invariant_of-self
+invariant_of-self c =
+    still_remembered c.self.inside _ c.self.invariant refl refl c.make_ready.ensures.items c.make_ready.ensures.len c.make_ready.ensures.capacity c.make_ready.ensures.ends
+
+pub open-requires : goal.open-requires
+open-requires c =
+    let t = seen c.self.inside in
+    let shut = subst (λ (v : Tenant). is_open (session_at (state v) c.args.session) ≡ false) (sym c.self.view_is) c.requires.closed in
+    c.self.invariant.holds.1.phases c.args.session c.in_range.ensures ∙ phase_closed (session_at (state t) c.args.session) shut
 
 pub put-requires-clause-few : goal.put-requires-clause-few
 put-requires-clause-few c =
-    let t = c.self.inside in
-    subst (λ (es : List Entry). length es ≤ 65544) (sym c.make_ready.ensures.items) (few_entries (record { id = t.id; bound = t.bound; trail = t.trail.items }) c.self.invariant.0)
+    subst (λ (es : List Entry). length es ≤ 65544) (sym c.make_ready.ensures.items) (few_entries (seen c.self.inside) c.self.invariant.legal)
 
--- the tenant before
-abbrev before : goal.After-put → Tenant
-before c = let t = c.self.inside in record { id = t.id; bound = t.bound; trail = t.trail.items }
+shut : (c : goal.After-put) → is_open (session_at (state (seen c.self.inside)) c.args.session) ≡ false
+shut c = subst (λ (v : Tenant). is_open (session_at (state v) c.args.session) ≡ false) (sym c.self.view_is) c.requires.closed
 
--- the session is closed
-shut : (c : goal.After-put) → not_closed c.self.inside.store.phase ≡ false
-shut c =
-    let t = c.self.inside in
-    sym (first_is_open t.id t.bound t.trail.items t.store c.self.invariant.0 c.self.invariant.1)
-    ∙ subst (λ (now : Tenant). is_open (session_at (state now) 0) ≡ false) (sym c.self.view_is)
-    (subst (λ (s : ℕ). is_open (session_at (state c.args.self.now) s) ≡ false) (first_session c.args.session c.requires.served) c.requires.closed)
+room : (c : goal.After-put) → nat_le trail_limit (state (seen c.self.inside)).steps ≡ false
+room c = subst (λ (v : Tenant). nat_le trail_limit (state v).steps ≡ false) (sym c.self.view_is) c.requires.room
 
-room : (c : goal.After-put) → is_full_for (state (before c)) 0 (codes "open") ≡ false
-room c =
-    let st = state (before c) in
-    ap (λ (b : Bool). b && not (is_end_of_open st 0 (codes "open"))) (subst (λ (now : Tenant). nat_le trail_limit (state now).steps ≡ false) (sym c.self.view_is) c.requires.room)
+-- the fields after it
+abbrev after : goal.After-put → Inside
+after c = record c.self.inside { store = c.open.new.self; trail = c.put.new.trail; end_lines = c.make_ready.new.end_lines; short_lines = c.make_ready.new.short_lines }
 
-made : (c : goal.After-put) → MakesStep (before c) c.args.session (codes "open") (record { number = Some c.put.result; reply = Ok }) (with_trail (before c) c.put.new.trail.items)
-    × IsLegal (with_trail (before c) c.put.new.trail.items) × Represents (before c).id (state (with_trail (before c) c.put.new.trail.items)) (with_phase c.self.inside.store Idle)
-made c =
-    let t = c.self.inside in
-    let items_are = c.put.ensures.items ∙ (λ i. c.make_ready.ensures.items i ++ record { session = c.args.session; line = c.in_ok-line.ensures.ok.0 i; reply = Ok } ∷ []) in
-    makes_step (before c) t.store (with_phase t.store Idle) c.self.invariant.0 c.self.invariant.1 c.args.session (codes "open") Ok c.put.new.trail.items c.put.result c.requires.served
-    (opened t.id t.bound t.trail.items t.store c.self.invariant.0 c.self.invariant.1 (shut c) (room c)) items_are c.put.ensures.number
+same : (c : goal.After-put) → IsSame (seen c.self.inside) (seen (after c))
+same c = (ap (λ (d : Database). d.id) c.open.ensures.database, refl)
+
+longer : (c : goal.After-put) → c.put.new.trail.items ≡ c.self.inside.trail.items ++ entry_of c.args.session (codes "open") Ok ∷ []
+longer c = c.put.ensures.items ∙ (λ i. c.make_ready.ensures.items i ++ entry_of c.args.session (c.in_ok-line.ensures.line i) Ok ∷ [])
 
 pub invariant_of-self-2 : goal.invariant_of-self-2
 invariant_of-self-2 c =
-    ((made c).1, subst (Represents (before c).id (state (with_trail (before c) c.put.new.trail.items))) (sym c.set_phase.ensures) (made c).2, search rules, search rules)
+    opened_remembered c.self.inside (after c) c.self.invariant (same c) c.args.session c.in_range.ensures (shut c) (room c) (longer c) c.open.ensures.holds c.open.ensures.database
+    (omega (arith, c.in_ok-line.ensures.places, c.put.ensures.len, c.put.ensures.capacity)) c.in_ok-line.ensures.filled
 
 pub returns-clause-ok : goal.returns-clause-ok
-returns-clause-ok c =
-    (subst (λ (now : Tenant). MakesStep now c.args.session (codes "open") (record { number = Some c.put.result; reply = Ok }) (with_trail (before c) c.put.new.trail.items)) c.self.view_is (made c).0, refl)
+returns-clause-ok c = (
+  subst (λ (v : Tenant). MakesStep v c.args.session (codes "open") (record { number = Some c.put.result; reply = Ok }) (seen (after c))) c.self.view_is
+      (opened_made c.self.inside (after c) c.self.invariant (same c) c.args.session c.in_range.ensures (shut c) (room c) (longer c) c.put.result c.put.ensures.number),
+  refl,
+)
+
+pub returns-clause-legal : goal.returns-clause-legal
+returns-clause-legal c = opened_legal c.self.inside (after c) c.self.invariant (same c) c.args.session c.in_range.ensures (shut c) (room c) (longer c)
+
+pub returns-clause-in_step : goal.returns-clause-in_step
+returns-clause-in_step c = λ records clock index agrees.
+    opened_in_step c.self.inside (after c) c.self.invariant (same c) c.args.session c.in_range.ensures (shut c) (room c) (longer c) c.open.ensures.opened records clock index
+    (subst (λ (v : Tenant). InStep v records clock index) (sym c.self.view_is) agrees)

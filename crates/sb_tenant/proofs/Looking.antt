@@ -1,0 +1,42 @@
+-- A table that is looked up by its name, as the walk of a command sees it.
+use Rattle.std.proofs.Common.{◌≡◌, ◌∙◌, ℕ, Bool, true, false, cond, List, [], ◌∷◌, find, Option, Some, None, option_map, refl, sym, ap}
+use Rattle.std.proofs.lemmas.Option.{same_Some}
+use Rattle.sb_value.specs.declared.value.ColumnDefinition.{ColumnDefinition}
+use Rattle.sb_value.specs.Name.{same_name}
+use Rattle.sb_value.specs.NameEquality.{same_name_is}
+use Rattle.sb_value.specs.Table.{Entry}
+use Rattle.sb_check.specs.Lent.{table_seen}
+use Rattle.sb_tables.specs.Held.{Held, entries, entry_of, named}
+use Rattle.sb_tables.specs.Stored.{Stored}
+use Rattle.sb_tenant.proofs.TableCommands.{find_entry}
+
+has_its_name : (tables : List Held) (name : List ℕ) (h : Held) → named tables name ≡ Some h → h.name ≡ name
+has_its_name [] name h e = absurd (cc e)
+has_its_name (t ∷ tables) name h e = by (same_name t.name name) refl e (has_its_name tables name h)
+  where
+    by : (b : Bool) → same_name t.name name ≡ b → cond b (Some t) (named tables name) ≡ Some h → (named tables name ≡ Some h → h.name ≡ name) → h.name ≡ name
+    by true p e rest = ap (λ (x : Held). x.name) (sym (same_Some t h e)) ∙ same_name_is t.name name p
+    by false p e rest = rest e
+
+seen_by : (name : List ℕ) (found : Option Held) (id : ℕ) (s : Stored) (columns : List ColumnDefinition) → ((h : Held) → found ≡ Some h → h.name ≡ name)
+    → Some id ≡ option_map (λ (h : Held). h.id) found → Some s ≡ option_map (λ (h : Held). h.stored) found → columns ≡ s.table.columns
+    → Some (id, name, columns) ≡ option_map table_seen (option_map entry_of found)
+seen_by name None id s columns named_so e f c = absurd (cc e)
+seen_by name (Some h) id s columns named_so e f c =
+    λ i. Some (same_Some id h.id e i, sym (named_so h refl) i, (c ∙ ap (λ (x : Stored). x.table.columns) (same_Some s h.stored f)) i)
+
+-- a table that is there
+pub seen_there : (tables : List Held) (name : List ℕ) (id : ℕ) (s : Stored) (columns : List ColumnDefinition)
+    → Some id ≡ option_map (λ (h : Held). h.id) (named tables name) → Some s ≡ option_map (λ (h : Held). h.stored) (named tables name) → columns ≡ s.table.columns
+    → Some (id, name, columns) ≡ option_map table_seen (find (λ (e : Entry). same_name e.name name) (entries tables))
+seen_there tables name id s columns e f c =
+    seen_by name (named tables name) id s columns (has_its_name tables name) e f c ∙ ap (option_map table_seen) (sym (find_entry tables name))
+
+nothing_by : (found : Option Held) → None ≡ option_map (λ (h : Held). h.id) found → None ≡ option_map table_seen (option_map entry_of found)
+nothing_by None e = refl
+nothing_by (Some h) e = absurd (cc e)
+
+-- no table
+pub nothing_there : (tables : List Held) (name : List ℕ) → None ≡ option_map (λ (h : Held). h.id) (named tables name)
+    → None ≡ option_map table_seen (find (λ (e : Entry). same_name e.name name) (entries tables))
+nothing_there tables name e = nothing_by (named tables name) e ∙ ap (option_map table_seen) (sym (find_entry tables name))
