@@ -1,124 +1,250 @@
--- One tenant's step in a cell.
-use Rattle.std.proofs.Common.{◌≡◌, ℕ, zero, suc, ◌+◌, ◌<◌, ◌≤◌, Bool, true, false, cond, not, ◌&&◌, ◌==◌, nat_lt, List, [], ◌∷◌, ◌++◌, length, slice_set, get_or, Option, Some, None, Result, Ok, Err, inl, inr, ◌⊎◌, refl, sym, ap, ◌∙◌, subst, arith, length-append, length-set}
+-- A cell after a call of one of its tenants: what holds of it at any time still holds, and the line is answered as an event.
+use Rattle.std.proofs.Common.{◌≡◌, ◌≢◌, ℕ, ◌+◌, ◌*◌, ◌/◌, ◌%◌, ◌^◌, suc, ◌<◌, ◌≤◌, Bool, true, false, cond, ◌&&◌, ◌==◌, nat_lt, nat_le, not, codes, get_or, List, [], ◌∷◌, length, slice_set, Option, Some, None, Result, inl, inr, IsFalse, refl, sym, ap, ◌∙◌, subst, arith, length-append, length-set}
 use Rattle.std.specs.List.{slice_get}
-use Rattle.std.proofs.lemmas.Bool.{true≢false, eqb-false}
-use Rattle.std.proofs.lemmas.Option.{slice_get-get_or, same_Some}
-use Rattle.sb_value.specs.declared.refusal.Refusal.{Refusal}
-use Rattle.sb_value.specs.declared.refusal.Refusal.TheVariants.{NoMemory, TrailFull}
+use Rattle.std.proofs.lemmas.Bool.{true≢false, eqb-true, eqb-false, ne_eqb}
+use Rattle.std.proofs.lemmas.List.Sums.{sum_by-cons, sum_by-set}
+use Rattle.std.proofs.lemmas.Option.{get_or_from_slice_get, same_Some}
+use Rattle.sb_value.specs.declared.id.Who.{Who}
+use Rattle.sb_rawlog.specs.Records.{Record, before}
+use Rattle.sb_rawlog.specs.Sessions.{OthersStay, changes, records_by}
+use Rattle.sb_index.specs.TableSets.{TableSets}
+use Rattle.sb_catalog.specs.Definitions.{AreIndexed, OtherTenantsStay}
+use Rattle.sb_process.specs.Transactions.{mark_of}
 use Rattle.sb_tenant.specs.declared.reply.Answer.{Answer}
-use Rattle.sb_tenant.specs.declared.reply.Reply.{Reply}
-use Rattle.sb_tenant.specs.declared.reply.Reply.TheVariants.{No}
-use Rattle.sb_tenant.specs.State.{State}
-use Rattle.sb_tenant.specs.Step.{Language, step, is_full_for, reply_to, numbered}
-use Rattle.sb_tenant.specs.Supported.{engine}
-use Rattle.sb_tenant.specs.Tenant.{Tenant, new_tenant, IsLegal, AnswersLine, LeavesLine, state, with_trail}
-use Rattle.sb_tenant.specs.Trail.{Steps, Extends, IsFull, IsNext, IsStep, IsAbort, MayAbort, entry_of}
-use Rattle.sb_tenant.specs.TrailLaws.{LegalStatesAreReplayed}
-use Rattle.sb_cell.specs.declared.Event.{Event}
+use Rattle.sb_tenant.specs.declared.reply.Entry.{Entry}
+use Rattle.sb_value.specs.Name.{same_name}
+use Rattle.sb_tenant.specs.Limits.{is_session, trail_limit}
+use Rattle.sb_tenant.specs.Logged.{who_of}
+use Rattle.sb_tenant.specs.Tenant.{Tenant, IsLegal, InStep, StaysInStep, AnswersLine, LeavesLine, MakesStep, rise_of_number, state}
+use Rattle.sb_tenant.specs.State.{session_at, is_open}
+use Rattle.sb_tenant.specs.Step.{is_end_of_open}
+use Rattle.sb_tenant.specs.Tenant as tenant
+use Rattle.sb_tenant.specs.Trail.{entry_of}
+use Rattle.sb_tenant.specs.TrailLaws.{TrailsAreBounded}
 use Rattle.sb_cell.specs.declared.StepError.{StepError}
-use Rattle.sb_cell.specs.declared.StepError.TheVariants.{NoTenant, NoSession, NotBegun}
-use Rattle.sb_cell.specs.Headline.{IsTurn, IsEvent}
-use Rattle.sb_cell.specs.Tenants.{Cell, hosts, states, state_of, AreNumbered, new_tenants}
+use Rattle.sb_cell.specs.Events.{IsTurn}
+use Rattle.sb_cell.specs.Hosting.{IsAt, IsHosted, entry_count}
+use Rattle.sb_cell.specs.Tenants.{Cell, IsSame, AnswersBy, hosts, tenant_at, trail_of, trails}
+use Rattle.sb_cell.proofs.Hosted.{set-own, set-other, place_of, number_of, within, by_place, number_is}
 
--- ---- places
+-- ---- a tenant beside another's call
 
-pub numbered-at : (bound k i : ℕ) (ts : List Tenant) (w : Tenant) → AreNumbered bound k ts → slice_get ts i ≡ Some w → (w.id ≡ k + i) × (w.bound ≡ bound)
-numbered-at bound k i [] w all at = cc
-numbered-at bound k zero (t ∷ ts) w all at =
-    let is = same_Some t w at in let e : k ≡ k + 0 = omega arith in (ap (λ (u : Tenant). u.id) (sym is) ∙ all.0 ∙ e, ap (λ (u : Tenant). u.bound) (sym is) ∙ all.1)
-numbered-at bound k (suc i) (t ∷ ts) w all at =
-    let later = numbered-at bound (k + 1) i ts w all.2 at in let e : k + 1 + i ≡ k + suc i = omega arith in (later.0 ∙ e, later.1)
-
-pub numbered-set : (bound k i : ℕ) (ts : List Tenant) (w : Tenant) → AreNumbered bound k ts → w.id ≡ k + i → w.bound ≡ bound → AreNumbered bound k (slice_set ts i w)
-numbered-set bound k i [] w all id is = tt
-numbered-set bound k zero (t ∷ ts) w all id is = let e : k + 0 ≡ k = omega arith in (id ∙ e, is, all.2)
-numbered-set bound k (suc i) (t ∷ ts) w all id is = let e : k + suc i ≡ k + 1 + i = omega arith in (all.0, all.1, numbered-set bound (k + 1) i ts w all.2 (id ∙ e) is)
-
-pub numbered-new : (bound k n : ℕ) → AreNumbered bound k (new_tenants bound k n)
-numbered-new bound k zero = tt
-numbered-new bound k (suc n) = (refl, refl, numbered-new bound (k + 1) n)
-
-pub one_tenant : (bound k n m : ℕ) → n ≡ suc m → new_tenants bound k n ≡ new_tenant k bound ∷ new_tenants bound (k + 1) m
-one_tenant bound k n m is = ap (new_tenants bound k) is
-
-pub set-own : {A : Type 0} (xs : List A) (i : ℕ) (x : A) → i < length xs → slice_get (slice_set xs i x) i ≡ Some x
-set-own [] i x h = absurd (omega arith)
-set-own (y ∷ xs) zero x h = refl
-set-own (y ∷ xs) (suc i) x h = set-own xs i x (omega arith)
-
-pub set-other : {A : Type 0} (xs : List A) (i j : ℕ) (x : A) → (j ≡ i → ⊥) → slice_get (slice_set xs i x) j ≡ slice_get xs j
-set-other [] i j x h = refl
-set-other (y ∷ xs) zero zero x h = absurd (h refl)
-set-other (y ∷ xs) zero (suc j) x h = refl
-set-other (y ∷ xs) (suc i) zero x h = refl
-set-other (y ∷ xs) (suc i) (suc j) x h = set-other xs i j x (λ e. h (ap suc e))
-
--- ---- a turn
-
-full-step : (t bound s : ℕ) (st : State) (line : List ℕ) → is_full_for st s line ≡ true → step engine t bound st s line ≡ (st, record { number = None; reply = No TrailFull })
-full-step t bound s st line full = λ i. elim (full i) [ true ↦ (st, record { number = None; reply = No TrailFull }) | false ↦ numbered st (reply_to engine t bound st s line) ]
-
-abbrev is_full_trail : Reply → Bool
-is_full_trail (No TrailFull) = true
-is_full_trail told = false
-
-full-told : (a : Answer) → a ≡ record { number = None; reply = No TrailFull } → a.reply ≡ No NoMemory → ⊥
-full-told a is told = true≢false (ap is_full_trail (sym (ap (λ (x : Answer). x.reply) is) ∙ told))
-
--- a legal trail has as many entries as its state has steps
-abbrev pub Replays : Type 0
-Replays = (language : Language) (tenant bound : ℕ) → LegalStatesAreReplayed language tenant bound
-
--- an answer of the tenant is its turn
-pub turn : Replays → (w new : Tenant) (s : ℕ) (line : List ℕ) (a : Answer) → IsLegal w → AnswersLine w s line a new → IsTurn engine w.bound w.id (state w) (s, line) (Ok a) (state new)
-turn replays w new s line a legal (is, inr (full, told, same)) =
-    inl (
-      full-told a told,
-      full-step w.id w.bound s (state w) line full ∙ (λ i. (state (sym stays i), sym told i)),
-    )
+-- what another tenant's session does leaves a tenant in step
+stays_in_step : (w : Tenant) (id s : ℕ) (records records' : List Record) (clock clock' : ℕ) (index index' : List (List TableSets)) → (w.id ≡ id → ⊥) →
+    OthersStay (who_of id s) records records' → clock ≤ clock' → OtherTenantsStay id index index' → InStep w records clock index → InStep w records' clock' index'
+stays_in_step w id s records records' clock clock' index index' other stay rises tenants in_step = record {
+  transactions = λ o is_one. ap changes (own o) ∙ in_step.transactions o is_one;
+  marks = λ o is_one rule.
+      let was = in_step.marks o is_one rule in
+      (omega (arith, was.0), ap (λ (rs : List Record). length (before (mark_of w.transactions o rule) rs)) (own o) ∙ was.1);
+  indexed = λ table operation rule. tenants w.id table operation rule (ne_eqb w.id id other) ∙ in_step.indexed table operation rule;
+}
   where
-    stays : new ≡ w
-    stays = is ∙ ap (with_trail w) same
-turn replays w new s line a legal (is, inl (longer, number, next)) =
-    subst (λ (v : Tenant). IsTurn engine w.bound w.id (state w) (s, line) (Ok a) (state v)) (sym is) (by_next next.1)
+    own : (o : ℕ) → records_by (who_of w.id o) records' ≡ records_by (who_of w.id o) records
+    own o = stay (who_of w.id o) (λ same. other (ap (λ (who : Who). who.tenant) same))
+
+-- ---- a call of one tenant
+
+-- by how many entries its trail grows, each of which may have raised the clock
+abbrev pub Grows : ℕ → Tenant → Tenant → Type 0
+Grows n old new = (more : ℕ) × (length new.trail ≡ length old.trail + more) × (n ≤ 32768000 * more)
+
+-- what a call in a session of the tenant leaves
+pub record IsCalled (c : Cell) (t s n : ℕ) (w new : Tenant) (records' : List Record) (clock' : ℕ) (index' : List (List TableSets)) : Type 0 where
+  pub hosted : hosts c t ≡ true
+  pub is_one : is_session s ≡ true
+  pub at : slice_get c.tenants (t / c.stride) ≡ Some w
+  pub same : tenant.IsSame w new
+  pub legal : IsLegal new
+  pub stays : StaysInStep n w new s c.records records' c.clock clock' c.index index'
+  pub grows : Grows n w new
+
+module _ (c : Cell) (h : IsHosted c) (t s n : ℕ) (w new : Tenant) (records' : List Record) (clock' : ℕ) (index' : List (List TableSets)) (call : IsCalled c t s n w new records' clock' index') where
+  abbrev place : ℕ
+  place = t / c.stride
+
+  abbrev pub after : Cell
+  after = record c { tenants = slice_set c.tenants (t / c.stride) new; records = records'; clock = clock'; index = index' }
+
+  inside : place < length c.tenants
+  inside = within c t call.hosted
+
+  was : IsAt c place w
+  was = h.tenants place w call.at
+
+  pub id_is : w.id ≡ t
+  id_is = was.id ∙ number_is c t h call.hosted
+
+  same_hosts : (u : ℕ) → hosts after u ≡ hosts c u
+  same_hosts u = ap (λ k. (u % c.stride == c.first) && nat_lt (u / c.stride) k) (length-set c.tenants place new)
+
+  -- ---- what holds at any time
+
+  here : IsAt after place new
+  here = record { id = call.same.0 ∙ was.id; bound = call.same.1 ∙ was.bound; legal = call.legal; in_step = call.stays.in_step }
+
+  beside : (o : ℕ) → (o ≡ place → ⊥) → (v : Tenant) → IsAt c o v → IsAt after o v
+  beside o other v is = record {
+    id = is.id;
+    bound = is.bound;
+    legal = is.legal;
+    in_step =
+        stays_in_step v w.id s c.records records' c.clock clock' c.index index' (λ same. other (place_of c.first c.stride o place h.first (sym is.id ∙ same ∙ was.id))) call.stays.others call.stays.rises.0
+        call.stays.tenants is.in_step;
+  }
+
+  tenants_at : (o : ℕ) (v : Tenant) → slice_get (slice_set c.tenants place new) o ≡ Some v → IsAt after o v
+  tenants_at o v at =
+      elim (o == place) as (λ b. (o == place) ≡ b → IsAt after o v) [
+        | true ↦ λ same.
+            let o_is = eqb-true o place same in
+            let v_is : new ≡ v = same_Some new v (sym (set-own c.tenants place new inside) ∙ ap (slice_get (slice_set c.tenants place new)) (sym o_is) ∙ at) in
+            subst (λ (x : Tenant). IsAt after o x) v_is (subst (λ (k : ℕ). IsAt after k new) (sym o_is) here)
+        | false ↦ λ other.
+            let no = eqb-false o place other in
+            beside o no v (h.tenants o v (sym (set-other c.tenants place o new no) ∙ at))
+      ] refl
+
+  no_records : (who : Who) → IsFalse (hosts after who.tenant && is_session who.session) → records_by who records' ≡ []
+  no_records who none = call.stays.others who (λ same. true≢false (sym (own same) ∙ none_before)) ∙ h.records who none_before
+    where
+      none_before : (hosts c who.tenant && is_session who.session) ≡ false
+      none_before = ap (λ b. b && is_session who.session) (sym (same_hosts who.tenant)) ∙ none
+
+      own : who ≡ who_of w.id s → (hosts c who.tenant && is_session who.session) ≡ true
+      own same = ap (λ (v : Who). hosts c v.tenant && is_session v.session) (same ∙ ap (λ i. who_of i s) id_is) ∙ ap (λ b. b && is_session s) call.hosted ∙ call.is_one
+
+  no_rules : (u : ℕ) → IsFalse (hosts after u) → AreIndexed index' u []
+  no_rules u none = λ table operation rule. call.stays.tenants u table operation rule (ne_eqb u w.id other) ∙ h.rules u none_before table operation rule
+    where
+      none_before : hosts c u ≡ false
+      none_before = sym (same_hosts u) ∙ none
+
+      other : u ≡ w.id → ⊥
+      other same = true≢false (sym call.hosted ∙ ap (hosts c) (sym id_is ∙ sym same) ∙ none_before)
+
+  pub after_hosted : IsHosted after
+  after_hosted = record {
+    first = h.first;
+    few = subst (λ k. k ≤ 256) (sym (length-set c.tenants place new)) h.few;
+    tenants = tenants_at;
+    records = no_records;
+    rules = no_rules;
+    clock =
+        let summed = sum_by-set (λ (v : Tenant). length v.trail) c.tenants place new w inside in
+        let read : get_or c.tenants place w ≡ w = get_or_from_slice_get c.tenants place w w call.at in
+        let one : length (get_or c.tenants place w).trail ≡ length w.trail = ap (λ (v : Tenant). length v.trail) read in
+        omega (arith, summed, one, call.grows.1, call.grows.2, h.clock, call.stays.rises.1);
+  }
+
+  -- ---- the event
+
+  pub own : tenant_at after t ≡ Some new
+  own = by_place after t (same_hosts t ∙ call.hosted) ∙ set-own c.tenants place new inside
+
+  pub own_before : tenant_at c t ≡ Some w
+  own_before = by_place c t call.hosted ∙ call.at
+
+  pub others : (u : ℕ) → IsFalse (u == t) → tenant_at after u ≡ tenant_at c u
+  others u other =
+      elim (u % c.stride == c.first) as (λ b. (u % c.stride == c.first) ≡ b → cond b (slice_get (slice_set c.tenants place new) (u / c.stride)) None ≡ cond b (slice_get c.tenants (u / c.stride)) None) [
+        | true ↦ λ class. set-other c.tenants place (u / c.stride) new (λ same. eqb-false u t other (sym (number_of c.first c.stride u h.first class) ∙ ap (λ k. c.first + c.stride * k) same ∙ number_is c t h call.hosted))
+        | false ↦ λ class. refl
+      ] refl
+
+  pub is_same : IsSame c after
+  is_same = (refl, refl, refl, length-set c.tenants place new)
+
+  -- the turn is that of the tenant
+  pub event : (line : List ℕ) (given : Result Answer StepError) → IsTurn w.bound w.id w.trail (s, line) given new.trail → AnswersBy (hosts c t) (is_session s) c t s line given after
+  event line given turn =
+      subst (λ (a : Bool). AnswersBy a (is_session s) c t s line given after) (sym call.hosted)
+      (subst (λ (b : Bool). AnswersBy true b c t s line given after) (sym call.is_one) (by_trails, others, is_same))
+    where
+      by_trails : IsTurn c.bound t (trails c t) (s, line) given (trails after t)
+      by_trails =
+          subst (λ (es : List Entry). IsTurn c.bound t es (s, line) given (trails after t)) (ap trail_of (sym own_before))
+          (subst (λ (es : List Entry). IsTurn c.bound t w.trail (s, line) given es) (ap trail_of (sym own))
+          (subst (λ (k : ℕ). IsTurn k t w.trail (s, line) given new.trail) was.bound
+          (subst (λ (i : ℕ). IsTurn w.bound i w.trail (s, line) given new.trail) id_is turn)))
+
+-- ---- how a trail grows
+
+-- a step's entry raises the clock, a refusal by the full trail doesn't
+pub answer_grows : (w new : Tenant) (s : ℕ) (line : List ℕ) (a : Answer) → AnswersLine w s line a new → Grows (rise_of_number a.number) w new
+answer_grows w new s line a (same, inl (longer, number, next)) = (
+  1,
+  ap length longer ∙ length-append w.trail (entry_of s line a.reply ∷ []),
+  subst (λ (k : Option ℕ). rise_of_number k ≤ 32768000 * 1) (sym number) (omega arith),
+)
+answer_grows w new s line a (same, inr (full, told, stays)) = (
+  0,
+  ap length stays ∙ sym_zero (length w.trail),
+  subst (λ (k : Option ℕ). rise_of_number k ≤ 32768000 * 0) (sym (ap (λ (x : Answer). x.number) told)) (omega arith),
+)
   where
-    numbered_so : a.number ≡ Some ((state w).steps + 1)
-    numbered_so =
-        let steps = (replays engine w.id w.bound w.trail (state w) legal).1 in
-        let n : length new.trail ≡ (state w).steps + 1 = ap length longer ∙ omega (arith, steps, length-append w.trail (entry_of s line a.reply ∷ [])) in
-        number ∙ ap Some n
+    sym_zero : (k : ℕ) → k ≡ k + 0
+    sym_zero k = omega arith
 
-    by_next : (IsStep engine w.id w.bound (state w) (entry_of s line a.reply) (state (with_trail w new.trail))) ⊎ (IsAbort engine w.id w.bound (state w) (entry_of s line a.reply) (state (with_trail w new.trail)))
-        → IsTurn engine w.bound w.id (state w) (s, line) (Ok a) (state (with_trail w new.trail))
-    by_next (inl (other, stepped)) = inl (other, stepped ∙ (λ i. (state (with_trail w new.trail), record { number = sym numbered_so i; reply = a.reply })))
-    by_next (inr (told, after, may)) = inr ((λ i. record { number = numbered_so i; reply = told i }), after, may)
+pub unbegun_grows : (w new : Tenant) (s : ℕ) (line : List ℕ) → LeavesLine w s line new → Grows 0 w new
+unbegun_grows w new s line (same, left) = (0, is, omega arith)
+  where
+    is : length new.trail ≡ length w.trail + 0
+    is = let e = ap (λ (v : Tenant). length v.trail) same in omega (arith, e)
 
--- ---- in the cell
+made_grows : (w new : Tenant) (s : ℕ) (line : List ℕ) (a : Answer) → MakesStep w s line a new → Grows 0 w new
+made_grows w new s line a (same, (longer, number, next)) = (1, ap length longer ∙ length-append w.trail (entry_of s line a.reply ∷ []), omega arith)
 
-module _ (c : Cell) (t s : ℕ) (line : List ℕ) (w new : Tenant) (at : slice_get c.tenants t ≡ Some w) (inside : t < length c.tenants) (id : w.id ≡ t) (bound : w.bound ≡ c.bound) where
-  abbrev event : Event
-  event = record { tenant = t; session = s; line = line }
+-- ---- the calls
 
-  abbrev after : Cell
-  after = record c { tenants = slice_set c.tenants t new }
+module _ (c : Cell) (t s : ℕ) (w new : Tenant) (records' : List Record) (clock' : ℕ) (index' : List (List TableSets)) (hosted : hosts c t ≡ true) (is_one : is_session s ≡ true) (at : slice_get c.tenants (t / c.stride) ≡ Some w) (legal : IsLegal new) where
+  pub answered : (line : List ℕ) (a : Answer) → AnswersLine w s line a new → StaysInStep (rise_of_number a.number) w new s c.records records' c.clock clock' c.index index' →
+      IsCalled c t s (rise_of_number a.number) w new records' clock' index'
+  answered line a answers stays = record { hosted = hosted; is_one = is_one; at = at; same = answers.0; legal = legal; stays = stays; grows = answer_grows w new s line a answers }
 
-  own : states after t ≡ state new
-  own = ap state_of (set-own c.tenants t new inside)
+  pub unbegun : (line : List ℕ) → LeavesLine w s line new → StaysInStep 0 w new s c.records records' c.clock clock' c.index index' → IsCalled c t s 0 w new records' clock' index'
+  unbegun line left stays = record {
+    hosted = hosted;
+    is_one = is_one;
+    at = at;
+    same = (ap (λ (v : Tenant). v.id) left.0, ap (λ (v : Tenant). v.bound) left.0);
+    legal = legal;
+    stays = stays;
+    grows = unbegun_grows w new s line left;
+  }
 
-  others : (u : ℕ) → (u == t) ≡ false → states after u ≡ states c u
-  others u other = ap state_of (set-other c.tenants t u new (eqb-false u t other))
+  pub stepped : (line : List ℕ) (a : Answer) → MakesStep w s line a new → StaysInStep 0 w new s c.records records' c.clock clock' c.index index' → IsCalled c t s 0 w new records' clock' index'
+  stepped line a made stays = record { hosted = hosted; is_one = is_one; at = at; same = made.0; legal = legal; stays = stays; grows = made_grows w new s line a made }
 
-  pub event-ok : Replays → (a : Answer) → IsLegal w → AnswersLine w s line a new → IsEvent engine c.bound true true (states c) event (Ok a) (states after)
-  event-ok replays a legal answers = (
-    subst (λ (st : State). IsTurn engine c.bound t st (s, line) (Ok a) (states after t)) (ap state_of (sym at))
-        (subst (λ (st : State). IsTurn engine c.bound t (state w) (s, line) (Ok a) st) (sym own)
-        (subst (λ (b : ℕ). IsTurn engine b t (state w) (s, line) (Ok a) (state new)) bound
-        (subst (λ (i : ℕ). IsTurn engine w.bound i (state w) (s, line) (Ok a) (state new)) id (turn replays w new s line a legal answers)))),
-    others,
-  )
+-- a call that touches neither the log nor the index
+pub untouched : (w new : Tenant) (s : ℕ) (records : List Record) (clock : ℕ) (index : List (List TableSets)) → InStep new records clock index → StaysInStep 0 w new s records records clock clock index index
+untouched w new s records clock index in_step = record {
+  in_step = in_step;
+  others = λ other different. refl;
+  rises = (omega arith, omega arith);
+  tenants = λ n table operation rule other. refl;
+}
 
-  pub event-left : LeavesLine w s line new → IsEvent engine c.bound true true (states c) event (Err NotBegun) (states after)
-  event-left (same, left) = (
-    (own ∙ ap state same ∙ ap state_of (sym at), subst (λ (st : State). MayAbort st s line) (ap state_of (sym at)) left.1),
-    others,
-  )
+-- an opening that isn't begun
+pub open_left : (w new : Tenant) (s : ℕ) → is_open (session_at (state w) s) ≡ false → nat_le trail_limit (state w).steps ≡ false → new ≡ w → LeavesLine w s (codes "open") new
+open_left w new s shut room same = (
+  same,
+  (
+    ap (λ (v : Tenant). v.trail) same,
+    (ap (λ b. b && not (is_end_of_open (state w) s (codes "open"))) room, ap (λ b. b && same_name (codes "open") (codes "end")) shut),
+  ),
+)
+
+-- ---- the clock
+
+few_entries : ((tenant bound : ℕ) → TrailsAreBounded tenant bound) → (tenants : List Tenant) → ((place : ℕ) (v : Tenant) → slice_get tenants place ≡ Some v → IsLegal v) → entry_count tenants ≤ 65544 * length tenants
+few_entries bounded [] legal = omega arith
+few_entries bounded (v ∷ vs) legal =
+    let own = bounded v.id v.bound v.trail (state v) (legal 0 v refl) in
+    let rest = few_entries bounded vs (λ place u at. legal (suc place) u at) in
+    let one_more = sum_by-cons (λ (u : Tenant). length u.trail) v vs in
+    omega (arith, own, rest, one_more)
+
+pub clock_low : ((tenant bound : ℕ) → TrailsAreBounded tenant bound) → (c : Cell) → IsHosted c → c.clock < 2 ^ 63
+clock_low bounded c h =
+    let entries = few_entries bounded c.tenants (λ place v at. (h.tenants place v at).legal) in omega (arith, entries, h.few, h.clock)

@@ -1,43 +1,82 @@
-//! Tenants that are served one step at a time.
-ghost use Rattle.std.specs.Prelude.{◌≡◌, ◌≤◌, IfOk, length};
-ghost use Rattle.sb_cell.specs.Tenants.{AnswersEvent, new_tenants};
+//! Tenants that are served one step at a time, over one log and one index.
+ghost use Rattle.std.specs.Prelude.{◌≡◌, ◌≤◌, ◌<◌, ◌+◌, ◌*◌, ◌==◌, ◌%◌, ◌&&◌, ℕ, true, false, nat_le, nat_lt, Ok, Some, IfOk, OnErr, MatchOption, codes, length, option_copied, option_map};
+ghost use Rattle.sb_tenant.specs.declared.reply.Reply.TheVariants as told;
+ghost use Rattle.sb_tenant.specs.Limits.{trail_limit};
+ghost use Rattle.sb_tenant.specs.State.{session_at, is_open as session_is_open, table_seen};
+ghost use Rattle.sb_cell.specs.Events.{AreEvents};
+ghost use Rattle.sb_cell.specs.Headline.{RunsInTurn, RunsAlone};
+ghost use Rattle.sb_cell.specs.Hosting.{AreFresh};
+ghost use Rattle.sb_cell.specs.Memory.{HoldsTransactions, HoldsRules, AreInStep};
+ghost use Rattle.sb_cell.specs.Tenants.{AnswersEvent, IsNew, IsSame, hosts, trails, states, run_of};
 
-use crate::StepError;
-use sb_tenant::laws::legal_states_are_replayed;
-use sb_tenant::{Answer, SESSIONS_SERVED, Tenant};
-use sb_value::{SessionId, TENANT_LIMIT, TenantId};
+use crate::laws::{events_run_in_turn, turns_run_alone};
+use crate::{Answers, Event, StepError};
+use sb_index::RuleIndex;
+use sb_rawlog::{ChangeLog, RawLog};
+use sb_tables::Table;
+use sb_tenant::laws::trails_are_bounded;
+use sb_tenant::{Answer, Entry, Tenant};
+use sb_value::{Name, SESSION_LIMIT, SessionId, TenantId};
 use std::alloc::{AllocError, Global};
 use std::marker::Model;
 
-/// The tenants from 0 on, each with its own state.
+/// The log of a cell, and how many buckets it is made with.
+pub type Log = RawLog;
+
+const BUCKETS: usize = 1_024;
+
+/// The tenants whose numbers are `first`, `first + stride`, .. with what their transactions share.
 #[derive(Drop)]
 pub struct Cell {
+    first: u32,
+    stride: u32,
     bound: u32,
     tenants: Vec<Tenant>,
+    log: Log,
+    index: RuleIndex,
 }
 
 impl Model for Cell {
-    ghost use Rattle.std.specs.Prelude.{◌≤◌, length};
-    ghost use Rattle.sb_cell.specs.Tenants.{Cell, AreNumbered};
+    ghost use Rattle.sb_cell.specs.Tenants.{Cell};
+    ghost use Rattle.sb_cell.specs.Hosting.{IsHosted};
 
     ghost Value = { Cell };
 
-    ghost view = { λ c. record { bound = c.bound; tenants = c.tenants.items } };
+    ghost view = { λ c. record { first = c.first; stride = c.stride; bound = c.bound; tenants = c.tenants.items; records = ⟦<Log as ChangeLog>⟧.records c.log; clock = ⟦<Log as ChangeLog>⟧.clock c.log; index = c.index } };
 
-    ghost invariant = { λ c. AreNumbered c.bound 0 c.tenants.items };
+    ghost invariant = { λ c. IsHosted (record { first = c.first; stride = c.stride; bound = c.bound; tenants = c.tenants.items; records = ⟦<Log as ChangeLog>⟧.records c.log; clock = ⟦<Log as ChangeLog>⟧.clock c.log; index = c.index }) };
 }
 
 impl Cell {
-    /// So many tenants, without tables, and at most so many considerations at an assertion point.
-    pub fn new(alloc: Global, tenants: u32, bound: u32) -> Result<Cell, AllocError>
-        requires { tenants ≤ 256 }
-        ensures { IfOk result (λ c.
-            c ≡ record { bound = bound; tenants = new_tenants bound 0 tenants }) }
+    /// The tenants below the number `tenants`, without tables and rules, and at most so many
+    /// considerations at an assertion point.
+    pub fn new(
+        alloc: Global,
+        first: u32,
+        stride: u32,
+        tenants: u32,
+        bound: u32,
+    ) -> Result<Cell, AllocError>
+        requires first { first < stride }
+        requires tenants { tenants ≤ 256 }
+        requires bound { bound ≤ 1000 }
+        ensures { IfOk result (IsNew first stride tenants bound) }
     {
         Ok(Cell {
+            first,
+            stride,
             bound,
-            tenants: opened(alloc, tenants, bound)?,
+            tenants: opened(alloc, first, stride, tenants, bound)?,
+            log: Log::new(alloc, BUCKETS)?,
+            index: RuleIndex::new(alloc),
         })
+    }
+
+    /// Whether it has the tenant of that number.
+    pub fn hosts(&self, tenant: u32) -> bool
+        ensures { result ≡ hosts self.now tenant }
+    {
+        tenant % self.stride == self.first && ((tenant / self.stride) as usize) < self.tenants.len()
     }
 
     /// Makes a step of a line of a tenant's session.
@@ -49,31 +88,173 @@ impl Cell {
         line: &[u8],
     ) -> Result<Answer, StepError>
         ensures step { AnswersEvent self.old tenant session line.now result self.new }
-        ensures same { (self.new.bound ≡ self.old.bound)
-            × (length self.new.tenants ≡ length self.old.tenants) }
+        ensures same { IsSame self.old self.new }
     {
-        let place = tenant as usize;
-        if place >= self.tenants.len() {
+        if !self.hosts(tenant) {
             return Err(StepError::NoTenant);
         }
-        if session >= SESSIONS_SERVED {
+        if session >= SESSION_LIMIT as u32 {
             return Err(StepError::NoSession);
         }
-        legal_states_are_replayed();
-        match self.tenants[place].step(alloc, SessionId::new(session as u8), line) {
+        trails_are_bounded();
+        let place = (tenant / self.stride) as usize;
+        let session = SessionId::new(session as u8);
+        match self.tenants[place].step(alloc, &mut self.log, &mut self.index, session, line) {
             Ok(answer) => Ok(answer),
             Err(_) => Err(StepError::NotBegun),
         }
     }
+
+    /// Makes the step `open` of a tenant's session.
+    pub fn open(
+        &mut self,
+        alloc: Global,
+        tenant: u32,
+        session: SessionId,
+    ) -> Result<Answer, StepError>
+        requires hosted { hosts self.old tenant ≡ true }
+        requires closed { session_is_open (session_at (states self.old tenant) session) ≡ false }
+        requires room { nat_le trail_limit (states self.old tenant).steps ≡ false }
+        ensures step { AnswersEvent self.old tenant session (codes "open") result self.new }
+        ensures same { IsSame self.old self.new }
+        ensures ok { IfOk result (λ answer. answer.reply ≡ told.Ok) }
+    {
+        // for the proof: it is one of the tenant's sessions
+        let _number = session.number();
+        let place = (tenant / self.stride) as usize;
+        match self.tenants[place].open(alloc, session) {
+            Ok(answer) => Ok(answer),
+            Err(_) => Err(StepError::NotBegun),
+        }
+    }
+
+    /// Makes the step `end` of a tenant's session. It needs no memory.
+    pub fn end(&mut self, tenant: u32, session: SessionId) -> Answer
+        requires hosted { hosts self.old tenant ≡ true }
+        requires open { session_is_open (session_at (states self.old tenant) session) ≡ true }
+        ensures step { AnswersEvent self.old tenant session (codes "end") (Ok result) self.new }
+        ensures same { IsSame self.old self.new }
+        ensures ok { result.reply ≡ told.Ok }
+    {
+        let place = (tenant / self.stride) as usize;
+        self.tenants[place].end(&mut self.log, session)
+    }
+
+    /// Whether a tenant's session is open.
+    pub fn is_open(&self, tenant: u32, session: SessionId) -> bool
+        requires { hosts self.now tenant ≡ true }
+        ensures { result ≡ session_is_open (session_at (states self.now tenant) session) }
+    {
+        self.tenants[(tenant / self.stride) as usize].is_open(session)
+    }
+
+    /// Whether a tenant's trail has no place but for the ends of open sessions.
+    pub fn is_full(&self, tenant: u32) -> bool
+        requires { hosts self.now tenant ≡ true }
+        ensures { result ≡ nat_le trail_limit (states self.now tenant).steps }
+    {
+        self.tenants[(tenant / self.stride) as usize].is_full()
+    }
+
+    /// The steps of a tenant so far.
+    pub fn trail(&self, tenant: u32) -> Option<&[Entry]>
+        ensures { MatchOption result (hosts self.now tenant ≡ false) (λ trail. (hosts self.now tenant ≡ true) × (trail.now ≡ trails self.now tenant)) }
+    {
+        if self.hosts(tenant) {
+            Some(self.tenants[(tenant / self.stride) as usize].trail())
+        } else {
+            None
+        }
+    }
+
+    /// A tenant's table of that name, with the changes of all sessions.
+    pub fn table(&self, tenant: u32, name: &Name) -> Option<&Table>
+        ensures { option_map (λ t. t.table) (option_copied result) ≡ table_seen (states self.now tenant) name.now }
+    {
+        if self.hosts(tenant) {
+            self.tenants[(tenant / self.stride) as usize].table(name)
+        } else {
+            None
+        }
+    }
+
+    /// How many changes the open transactions of its tenants have.
+    pub fn log_len(&self) -> usize
+        ensures { result ≡ length self.now.records }
+    {
+        self.log.len()
+    }
+
+    /// The log of all its tenants.
+    pub fn log(&self) -> &Log
+        ensures records { ⟦<Log as ChangeLog>⟧.records result.now ≡ self.now.records }
+        ensures clock { ⟦<Log as ChangeLog>⟧.clock result.now ≡ self.now.clock }
+        ensures transactions { HoldsTransactions self.now }
+        ensures in_step { AreInStep self.now }
+    {
+        &self.log
+    }
+
+    /// The index of all its tenants' rules.
+    pub fn index(&self) -> &RuleIndex
+        ensures index { result.now ≡ self.now.index }
+        ensures rules { HoldsRules self.now }
+    {
+        &self.index
+    }
+
+    /// The answers to events, one after another. All room for them is had before the first one runs.
+    pub fn run(&mut self, alloc: Global, events: &[Event]) -> Result<Answers, AllocError>
+        ensures events { IfOk result (λ given. AreEvents self.old.bound (hosts self.old) (trails self.old) events.now given (trails self.new)) }
+        ensures in_turn { IfOk result (λ given. RunsInTurn self.old.bound (run_of self.old events.now given self.new)) }
+        ensures alone { IfOk result (λ given. RunsAlone self.old.bound (run_of self.old events.now given self.new)) }
+        ensures same { IsSame self.old self.new }
+        ensures err { OnErr result (self.new ≡ self.old) }
+    {
+        // for the proof: the trails are legal
+        let _ = &self.tenants;
+        events_run_in_turn();
+        turns_run_alone();
+        let mut list = Vec::with_capacity(alloc, events.len())?;
+        for event in events {
+            let answer = self.step(alloc, event.tenant, event.session, event.line.as_slice());
+            list.push_reserved(answer);
+        }
+        Ok(Answers { list })
+    }
 }
 
-fn opened(alloc: Global, tenants: u32, bound: u32) -> Result<Vec<Tenant>, AllocError>
-    requires { tenants ≤ 256 }
-    ensures { IfOk result (λ made. made.items ≡ new_tenants bound 0 tenants) }
+/// New tenants at their places.
+fn opened(
+    alloc: Global,
+    first: u32,
+    stride: u32,
+    tenants: u32,
+    bound: u32,
+) -> Result<Vec<Tenant>, AllocError>
+    requires first { first < stride }
+    requires tenants { tenants ≤ 256 }
+    requires bound { bound ≤ 1000 }
+    ensures fresh { IfOk result (λ made. AreFresh first stride bound made.items) }
+    ensures all { IfOk result (λ made. (place : ℕ) → nat_lt place (length made.items) ≡ nat_lt (first + stride * place) tenants) }
 {
-    let mut made = Vec::with_capacity(alloc, tenants as usize)?;
-    for number in 0..tenants {
+    let places = place_count(first, stride, tenants);
+    let mut made = Vec::with_capacity(alloc, places as usize)?;
+    for place in 0..places {
+        let number = first + stride * place;
         made.push(Tenant::new(alloc, TenantId::new(number as u8), bound))?;
     }
     Ok(made)
+}
+
+/// How many numbers below `tenants` are `first` and a multiple of `stride`.
+fn place_count(first: u32, stride: u32, tenants: u32) -> u32
+    requires { first < stride }
+    ensures count { (place : ℕ) → nat_lt place result ≡ nat_lt (first + stride * place) tenants }
+{
+    if first < tenants {
+        (tenants - first - 1) / stride + 1
+    } else {
+        0
+    }
 }

@@ -1,17 +1,19 @@
-use Rattle.std.proofs.Common.{◌≡◌, ◌∙◌, sym, ap, suc, ◌+◌, ◌-◌, ◌++◌, ◌∷◌, [], List, ℕ, arith, append_assoc}
-use Rattle.sb_tenant.specs.Tenant.{Tenant, new_tenant}
-use Rattle.sb_cell.specs.Tenants.{new_tenants}
-use Rattle.sb_cell.proofs.Cells.{one_tenant}
+use Rattle.std.proofs.Common.{rules, ◌+◌, ◌*◌, ℕ, length, sym, ap, subst, ◌∙◌}
+use Rattle.sb_tenant.specs.Tenant.{HoldNothing}
+use Rattle.sb_cell.specs.Hosting.{AreFresh, IsFresh}
+use Rattle.sb_cell.proofs.Beginning.{fresh-one_more}
 use Rattle.sb_cell.proofs.cell.opened.Goals as goal
 
-pub loop-number-preserved : goal.loop-number-preserved
-loop-number-preserved c =
-    let n = c.loop-number.number in
-    let left = c.args.tenants - (n + 1) in
-    let one_less : c.args.tenants - n ≡ suc left = omega (arith, c.loop-number-test.true) in
-    let made_so : c.new-in-loop-number.result ≡ new_tenant n c.args.bound = c.new-in-loop-number.ensures ∙ ap (λ (k : ℕ). new_tenant k c.args.bound) c.new.ensures in
-    ap (λ (ts : List Tenant). ts ++ new_tenants c.args.bound (n + 1) left) c.in_ok-push.ensures.items
-    ∙ append_assoc c.loop-number.made.items (c.new-in-loop-number.result ∷ []) (new_tenants c.args.bound (n + 1) left)
-    ∙ ap (λ (t : Tenant). c.loop-number.made.items ++ t ∷ new_tenants c.args.bound (n + 1) left) made_so
-    ∙ ap (λ (ts : List Tenant). c.loop-number.made.items ++ ts) (sym (one_tenant c.args.bound n (c.args.tenants - n) left one_less))
-    ∙ c.loop-number.invariant
+-- the tenant of the next place
+next_fresh : (c : goal.In_ok-push) → IsFresh (c.args.first + c.args.stride * length c.loop-place.made.items) c.args.bound c.new-in-loop-place.result
+next_fresh c =
+    let is_new = c.new-in-loop-place.ensures.is_new in
+    subst (λ (k : ℕ). IsFresh k c.args.bound c.new-in-loop-place.result) (c.new.ensures ∙ ap (λ (k : ℕ). c.args.first + c.args.stride * k) (sym c.loop-place.invariant.1))
+    (is_new, λ records clock index nothing. c.new-in-loop-place.ensures.in_step records clock index (subst (λ (i : ℕ). HoldNothing i records index) is_new.0 nothing))
+
+pub loop-place-preserved : goal.loop-place-preserved
+loop-place-preserved c = (
+  subst (AreFresh c.args.first c.args.stride c.args.bound) (sym c.in_ok-push.ensures.items)
+      (fresh-one_more c.args.first c.args.stride c.args.bound c.loop-place.made.items c.new-in-loop-place.result c.loop-place.invariant.0 (next_fresh c)),
+  search rules,
+)

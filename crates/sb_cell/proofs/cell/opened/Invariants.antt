@@ -1,7 +1,6 @@
-use Rattle.std.proofs.Common.{◌≡◌, ◌++◌, ◌-◌}
-use Rattle.sb_cell.specs.Tenants.{new_tenants}
+use Rattle.std.proofs.Common.{◌≡◌, length}
+use Rattle.sb_cell.specs.Hosting.{AreFresh}
 use Rattle.sb_cell.proofs.cell.opened.Given as goal
 
--- with those that are left these are all
-abbrev pub invariant-loop-number : goal.invariant-loop-number
-invariant-loop-number l = l.made.items ++ new_tenants l.bound l.number (l.tenants - l.number) ≡ new_tenants l.bound 0 l.tenants
+abbrev pub invariant-loop-place : goal.invariant-loop-place
+invariant-loop-place l = AreFresh l.first l.stride l.bound l.made.items × (length l.made.items ≡ l.place)

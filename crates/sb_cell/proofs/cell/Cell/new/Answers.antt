@@ -1,7 +1,8 @@
-use Rattle.std.proofs.Common.{sym, subst}
-use Rattle.sb_cell.specs.Tenants.{AreNumbered}
-use Rattle.sb_cell.proofs.Cells.{numbered-new}
+use Rattle.sb_cell.proofs.Beginning.{new_hosted, new_is}
 use Rattle.sb_cell.proofs.cell.Cell.new.Goals as goal
 
 pub invariant_of-result : goal.invariant_of-result
-invariant_of-result c = subst (AreNumbered c.args.bound 0) (sym c.in_ok-opened.ensures) (numbered-new c.args.bound 0 c.args.tenants)
+invariant_of-result c = new_hosted _ c.args.tenants c.requires.first c.requires.tenants c.in_ok-opened.ensures.fresh c.in_ok-opened.ensures.all c.in_ok-new.ensures.records c.in_ok-new.ensures.clock c.new-2.ensures
+
+pub returns : goal.returns
+returns c = new_is _ c.args.tenants c.requires.first c.requires.tenants c.in_ok-opened.ensures.fresh c.in_ok-opened.ensures.all c.in_ok-new.ensures.records c.in_ok-new.ensures.clock c.new-2.ensures

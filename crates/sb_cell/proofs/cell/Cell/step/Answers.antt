@@ -1,68 +1,70 @@
-use Rattle.std.proofs.Common.{rules, ◌≡◌, ◌∙◌, sym, ap, subst, refl, ◌+◌, ◌<◌, ◌≤◌, Bool, true, false, nat_lt, List, ℕ, Some, Result, Ok, Err, length, slice_set, arith, lt-ltb}
+use Rattle.std.proofs.Common.{rules, ◌≡◌, ◌/◌, ◌<◌, ◌∙◌, sym, ap, subst, true, ℕ, Result, Ok, Err, lt-ltb}
 use Rattle.std.specs.List.{slice_get}
-use Rattle.std.proofs.lemmas.Option.{slice_get_read}
+use Rattle.std.proofs.Common.{Some}
+use Rattle.std.specs.Vec.{with_item}
 use Rattle.sb_tenant.specs.declared.reply.Answer.{Answer}
-use Rattle.sb_tenant.specs.Tenant.{Tenant, AnswersLine, LeavesLine}
-use Rattle.sb_tenant.specs.Supported.{engine, is_served}
-use Rattle.sb_cell.specs.declared.Event.{Event}
+use Rattle.sb_tenant.specs.Limits.{is_session}
 use Rattle.sb_cell.specs.declared.StepError.{StepError}
 use Rattle.sb_cell.specs.declared.StepError.TheVariants.{NotBegun}
-use Rattle.sb_cell.specs.Headline.{IsEvent}
-use Rattle.sb_cell.specs.Tenants.{Cell, hosts, states, AreNumbered}
-use Rattle.sb_cell.proofs.Cells.{numbered-at, numbered-set, event-ok, event-left}
+use Rattle.sb_cell.specs.contracts.cell.Cell.{the_view}
+use Rattle.sb_cell.specs.Tenants.{Cell, AnswersEvent, hosts}
+use Rattle.sb_cell.proofs.Hosted.{read_at}
+use Rattle.sb_cell.proofs.Cells.{after_hosted, answered, clock_low, event, unbegun}
 use Rattle.sb_cell.proofs.cell.Cell.step.Goals.{in-Ok, in-Err}
 use Rattle.sb_cell.proofs.cell.Cell.step.Goals as goal
 
+pub step-requires-clause-in_step : goal.step-requires-clause-in_step
+step-requires-clause-in_step c =
+    let told : c.hosts.result ≡ true = search rules in
+    let hosted = subst (λ (x : Cell). hosts x c.args.tenant ≡ true) (sym c.self.view_is) (sym c.hosts.ensures ∙ told) in
+    (c.self.invariant.tenants (c.args.tenant / c.self.inside.stride) c.index_mut.result.now (read_at (the_view c.self.inside) c.args.tenant hosted c.index_mut.result.now c.index_mut.ensures.value)).in_step
+
+pub step-requires-clause-times : goal.step-requires-clause-times
+step-requires-clause-times c = clock_low c.trails_are_bounded.ensures (the_view c.self.inside) c.self.invariant
+
 -- ---- the tenant that is there
 
-inside : (c : goal.Joined-step) → c.args.tenant < length c.self.inside.tenants.items
-inside c = search rules
+hosted : (c : goal.Joined-step) → hosts (the_view c.self.inside) c.args.tenant ≡ true
+hosted c = let told : c.hosts.result ≡ true = search rules in subst (λ (x : Cell). hosts x c.args.tenant ≡ true) (sym c.self.view_is) (sym c.hosts.ensures ∙ told)
 
-at : (c : goal.Joined-step) → slice_get c.self.inside.tenants.items c.args.tenant ≡ Some c.index_mut.result.now
-at c =
-    let same : length c.self.inside.tenants.items ≡ length c.self.inside.tenants.items = λ i. length c.self.inside.tenants.items in
-    slice_get_read c.self.inside.tenants.items (length c.self.inside.tenants.items) c.args.tenant c.index_mut.result.now same (inside c) c.index_mut.ensures.value
+at : (c : goal.Joined-step) → slice_get c.self.inside.tenants.items (c.args.tenant / c.self.inside.stride) ≡ Some c.index_mut.result.now
+at c = read_at (the_view c.self.inside) c.args.tenant (hosted c) c.index_mut.result.now c.index_mut.ensures.value
 
-own_number : (c : goal.Joined-step) → (c.index_mut.result.now.id ≡ c.args.tenant) × (c.index_mut.result.now.bound ≡ c.self.inside.bound)
-own_number c =
-    let n = numbered-at c.self.inside.bound 0 c.args.tenant c.self.inside.tenants.items c.index_mut.result.now c.self.invariant (at c) in
-    let from_zero : 0 + c.args.tenant ≡ c.args.tenant = omega arith in (n.0 ∙ from_zero, n.1)
-
--- it keeps its number and its bound
-stays : (c : goal.Joined-step) → (new : Tenant) → (new.id ≡ c.index_mut.result.now.id) → (new.bound ≡ c.index_mut.result.now.bound) → AreNumbered c.self.inside.bound 0 (slice_set c.self.inside.tenants.items c.args.tenant new)
-stays c new id bound =
-    let from_zero : c.args.tenant ≡ 0 + c.args.tenant = omega arith in
-    numbered-set c.self.inside.bound 0 c.args.tenant c.self.inside.tenants.items new c.self.invariant (id ∙ (own_number c).0 ∙ from_zero) (bound ∙ (own_number c).1)
+is_one : (c : goal.Joined-step) → is_session c.new-session.result ≡ true
+is_one c = let below : c.args.session < 8 = search rules in ap is_session c.new-session.ensures ∙ lt-ltb c.args.session 8 below
 
 pub invariant_of-self : goal.invariant_of-self
-invariant_of-self c = elim c.match-step.branch [
-  | in-Ok w ↦ let is = w.in-Ok.ensures.ok.0 in stays c c.step.new.self (ap (λ (t : Tenant). t.id) is) (ap (λ (t : Tenant). t.bound) is)
-  | in-Err w ↦ let is = w.in-Err.ensures.err.0 in stays c c.step.new.self (ap (λ (t : Tenant). t.id) is) (ap (λ (t : Tenant). t.bound) is)
-]
+invariant_of-self c =
+    let v = the_view c.self.inside in
+    let s = c.new-session.result in
+    let w = c.index_mut.result.now in
+    elim c.match-step.branch [
+      | in-Ok a ↦ after_hosted v c.self.invariant c.args.tenant s _ w c.step.new.self _ _ _
+          (answered v c.args.tenant s w c.step.new.self _ _ _ (hosted c) (is_one c) (at c) a.in-Ok.ensures.legal c.args.line.now a.in-Ok.answer a.in-Ok.ensures.ok a.in-Ok.ensures.in_step)
+      | in-Err a ↦ after_hosted v c.self.invariant c.args.tenant s _ w c.step.new.self _ _ _
+          (unbegun v c.args.tenant s w c.step.new.self _ _ _ (hosted c) (is_one c) (at c) a.in-Err.ensures.legal c.args.line.now a.in-Err.ensures.err a.in-Err.ensures.in_step)
+    ]
 
--- ---- the answer
+-- the cell after it
+abbrev after : goal.Joined-step → Cell
+after c = the_view (record c.self.inside { tenants = with_item c.self.inside.tenants (c.args.tenant / c.self.inside.stride) c.step.new.self; log = c.step.new.log; index = c.step.new.index })
 
-abbrev Given : goal.Joined-step → Bool → Bool → Result Answer StepError → Type 0
-Given c hosted served given =
-    IsEvent engine c.self.inside.bound hosted served (states (record { bound = c.self.inside.bound; tenants = c.self.inside.tenants.items })) (record { tenant = c.args.tenant; session = c.args.session; line = c.args.line.now })
-    given (states (record { bound = c.self.inside.bound; tenants = slice_set c.self.inside.tenants.items c.args.tenant c.step.new.self }))
+-- the event, from the cell that was opened to the one that was called
+told : (c : goal.Joined-step) (given : Result Answer StepError) → AnswersEvent (the_view c.self.inside) c.args.tenant c.new-session.result c.args.line.now given (after c) → AnswersEvent c.args.self.now c.args.tenant c.args.session c.args.line.now given (after c)
+told c given is =
+    subst (λ (x : Cell). AnswersEvent x c.args.tenant c.args.session c.args.line.now given (after c)) c.self.view_is
+    (subst (λ (s : ℕ). AnswersEvent (the_view c.self.inside) c.args.tenant s c.args.line.now given (after c)) c.new-session.ensures is)
 
 pub returns-clause-step : goal.returns-clause-step
 returns-clause-step c =
-    let cell : Cell = record { bound = c.self.inside.bound; tenants = c.self.inside.tenants.items } in
-    let after : Cell = record { bound = c.self.inside.bound; tenants = slice_set c.self.inside.tenants.items c.args.tenant c.step.new.self } in
-    let event : Event = record { tenant = c.args.tenant; session = c.args.session; line = c.args.line.now } in
-    let hosted : hosts cell c.args.tenant ≡ true = lt-ltb c.args.tenant (length c.self.inside.tenants.items) (inside c) in
-    let served : is_served c.args.session ≡ true = lt-ltb c.args.session 1 (search rules) in
-    subst (λ (now : Cell). IsEvent engine now.bound (hosts now c.args.tenant) (is_served c.args.session) (states now) event c.match-step.result (states after)) c.self.view_is
-    (subst (λ (h : Bool). Given c h (is_served c.args.session) c.match-step.result) (sym hosted)
-    (subst (λ (b : Bool). Given c true b c.match-step.result) (sym served)
-    (elim c.match-step.branch [
-      | in-Ok w ↦ subst (Given c true true) (sym w.result-is)
-          (event-ok cell c.args.tenant c.args.session c.args.line.now c.index_mut.result.now c.step.new.self (at c) (inside c) (own_number c).0 (own_number c).1
-          c.legal_states_are_replayed.ensures w.in-Ok.answer w.in-Ok.ensures.legal
-          (subst (λ (s : ℕ). AnswersLine c.index_mut.result.now s c.args.line.now w.in-Ok.answer c.step.new.self) c.new.ensures w.in-Ok.ensures.ok))
-      | in-Err w ↦ subst (Given c true true) (sym w.result-is)
-          (event-left cell c.args.tenant c.args.session c.args.line.now c.index_mut.result.now c.step.new.self (at c) (inside c) (own_number c).0 (own_number c).1
-          (subst (λ (s : ℕ). LeavesLine c.index_mut.result.now s c.args.line.now c.step.new.self) c.new.ensures w.in-Err.ensures.err))
-    ])))
+    let v = the_view c.self.inside in
+    let s = c.new-session.result in
+    let w = c.index_mut.result.now in
+    elim c.match-step.branch [
+      | in-Ok a ↦ subst (λ (given : Result Answer StepError). AnswersEvent c.args.self.now c.args.tenant c.args.session c.args.line.now given (after c)) (sym a.result-is)
+          (told c (Ok a.in-Ok.answer) (event v c.self.invariant c.args.tenant s _ w c.step.new.self _ _ _
+          (answered v c.args.tenant s w c.step.new.self _ _ _ (hosted c) (is_one c) (at c) a.in-Ok.ensures.legal c.args.line.now a.in-Ok.answer a.in-Ok.ensures.ok a.in-Ok.ensures.in_step) c.args.line.now (Ok a.in-Ok.answer) a.in-Ok.ensures.ok.1))
+      | in-Err a ↦ subst (λ (given : Result Answer StepError). AnswersEvent c.args.self.now c.args.tenant c.args.session c.args.line.now given (after c)) (sym a.result-is)
+          (told c (Err NotBegun) (event v c.self.invariant c.args.tenant s _ w c.step.new.self _ _ _
+          (unbegun v c.args.tenant s w c.step.new.self _ _ _ (hosted c) (is_one c) (at c) a.in-Err.ensures.legal c.args.line.now a.in-Err.ensures.err a.in-Err.ensures.in_step) c.args.line.now (Err NotBegun) a.in-Err.ensures.err.1))
+    ]
