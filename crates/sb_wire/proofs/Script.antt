@@ -1,10 +1,8 @@
 -- Scripts from bytes to bytes.
 use Rattle.std.specs.Prelude.{ℕ, nat_lt, List, codes}
-use Rattle.sb_tenant.specs.Limits.{is_session}
 use Rattle.sb_tenant.specs.State.{opening}
-use Rattle.sb_tenant.specs.Step.{Language}
 use Rattle.sb_wire.specs.Output.{prefixed, output}
 
 -- what the first session of a lone tenant is answered to these lines
-abbrev pub answered_by : Language → List (List ℕ) → List ℕ
-answered_by language lines = output language (λ t. nat_lt t 1) is_session 1000 (λ t. opening) (prefixed (codes "0 0") lines)
+abbrev pub answered_by : List (List ℕ) → List ℕ
+answered_by lines = output (λ t. nat_lt t 1) 1000 (λ t. opening) (prefixed (codes "0 0") lines)

@@ -1,6 +1,6 @@
 //! The answer to one piece of an input.
-ghost use Rattle.std.specs.Prelude.{◌≡◌, ◌++◌, List, ℕ, OnOk, OnErr, IfOk, Result, length};
-ghost use Rattle.sb_cell.specs.Tenants.{AnswersEvent};
+ghost use Rattle.std.specs.Prelude.{◌≡◌, ◌++◌, List, ℕ, OnOk, OnErr, IfOk, Result};
+ghost use Rattle.sb_cell.specs.Tenants.{AnswersEvent, IsSame};
 ghost use Rattle.sb_wire.specs.Output.{answer_text, text_behind};
 ghost use Rattle.sb_wire.specs.Seen.{piece_seen, addressed_seen};
 ghost use Rattle.sb_wire.specs.Stream.{AnswersPiece};
@@ -23,7 +23,7 @@ pub(crate) fn answer_piece(
 ) -> Result<(), AllocError>
     ensures ok { OnOk result ((text : List ℕ) × (out.new.items ≡ out.old.items ++ text)
         × AnswersPiece cell.old (piece_seen piece.entry) text cell.new) }
-    ensures same { (cell.new.bound ≡ cell.old.bound) × (length cell.new.tenants ≡ length cell.old.tenants) }
+    ensures same { IsSame cell.old cell.new }
 {
     let Piece::Line(line) = piece else {
         return write_refusal(out, &Prefix::none(), WireRefusal::TooLong);
@@ -45,7 +45,7 @@ fn answer_line(
         × (out.new.items ≡ out.old.items ++ answer_text (addressed_seen line.entry) given)
         × AnswersEvent cell.old line.entry.tenant line.entry.session line.entry.command.now given
         cell.new) }
-    ensures same { (cell.new.bound ≡ cell.old.bound) × (length cell.new.tenants ≡ length cell.old.tenants) }
+    ensures same { IsSame cell.old cell.new }
 {
     let given = cell.step(alloc, line.tenant, line.session, line.command);
     write_answer(out, &Prefix::new(line.tenant, line.session), &given)

@@ -1,6 +1,7 @@
 //! A stream: the lines of an input, each answered in order.
-ghost use Rattle.std.specs.Prelude.{◌≡◌, ◌++◌, List, ℕ, [], OnOk, IfSome, length, map};
+ghost use Rattle.std.specs.Prelude.{◌≡◌, ◌++◌, List, ℕ, [], OnOk, IfSome, map};
 ghost use Rattle.std.specs.Io.KnownBytes.{Appends};
+ghost use Rattle.sb_cell.specs.Tenants.{IsSame};
 ghost use Rattle.sb_wire.specs.Seen.{piece_seen};
 ghost use Rattle.sb_wire.specs.Stream.{AnswersPiece, AnswersInput};
 
@@ -73,7 +74,7 @@ fn answer_next<W: Write>(
         × (out.old.items ++ text ≡ written ++ out.new.items)
         × Appends (W.contents writer.old) (W.contents writer.new) written
         × AnswersPiece cell.old (piece_seen piece.entry) text cell.new) }
-    ensures same { (cell.new.bound ≡ cell.old.bound) × (length cell.new.tenants ≡ length cell.old.tenants) }
+    ensures same { IsSame cell.old cell.new }
 {
     if answer_piece(alloc, cell, piece, out).is_err() {
         return Err(StreamError::NoMemory);

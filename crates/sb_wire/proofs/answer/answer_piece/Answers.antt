@@ -1,9 +1,9 @@
 use Rattle.std.proofs.Common.{◌≡◌, ◌∙◌, sym, ap, subst, Some, ℕ, List, option_map}
-use Rattle.sb_tenant.specs.Supported.{engine, is_served}
-use Rattle.sb_cell.specs.Tenants.{hosts, states}
+use Rattle.sb_cell.specs.Tenants.{hosts}
 use Rattle.sb_wire.specs.Lines.{Piece, addressed_of}
 use Rattle.sb_wire.specs.Output.{answer_text, IsAnswer}
 use Rattle.sb_wire.specs.Seen.{piece_seen, addressed_seen}
+use Rattle.sb_wire.specs.Stream.{states}
 use Rattle.sb_wire.proofs.Answers.{addressed_answer, on_ok}
 use Rattle.sb_wire.proofs.answer.answer_piece.Goals as goal
 
@@ -17,6 +17,6 @@ returns-in-Some-clause-ok c =
     on_ok c.answer_line.result (λ x. (
       answer_text (addressed_seen c.in-Some.addressed) x.0,
       x.1,
-      subst (λ (p : Piece). IsAnswer engine (hosts cell) is_served cell.bound (states cell) p (answer_text (addressed_seen c.in-Some.addressed) x.0) (states c.answer_line.new.cell)) (ap piece_seen (sym c.in-Line.is))
-          (addressed_answer engine (hosts cell) is_served cell.bound (addressed_seen c.in-Some.addressed) (states cell) (states c.answer_line.new.cell) c.in-Line.line.now x.0 (numbers c) x.2),
+      subst (λ (p : Piece). IsAnswer (hosts cell) cell.bound (states cell) p (answer_text (addressed_seen c.in-Some.addressed) x.0) (states c.answer_line.new.cell)) (ap piece_seen (sym c.in-Line.is))
+          (addressed_answer (addressed_seen c.in-Some.addressed) cell c.answer_line.new.cell c.in-Line.line.now x.0 (numbers c) x.2),
     )) c.answer_line.ensures.ok
