@@ -1,8 +1,10 @@
 //! Times parts of the server by themselves: `sb_bench WORK ROUNDS < LINES`, where the work is
-//! `read`, `resolve`, `join`, `names`, `numbers` or `logs`. The lines are the commands of `read` and `resolve`; `join` takes
-//! none. Prints how many rounds went well and the nanoseconds of all. With no work, nothing is timed.
+//! `read`, `resolve`, `join`, `names`, `numbers`, `logs`, `cell` or `tenant`. The lines are the commands of `read` and `resolve`, and what
+//! `cell` and `tenant` play; the others take none. Prints how many rounds went well and the nanoseconds of all. With no work, nothing is
+//! timed.
 #![tactic(auto)]
 
+mod cell;
 mod join;
 mod lines;
 mod log;
@@ -31,6 +33,10 @@ enum Work {
     Numbers,
     /// The two logs are filled, walked and emptied once in each round.
     Logs,
+    /// Lines of 256 tenants in turn are played on a cell.
+    Cell,
+    /// The same with one tenant.
+    LoneTenant,
 }
 
 fn work_of(word: &str) -> Option<Work> {
@@ -41,6 +47,8 @@ fn work_of(word: &str) -> Option<Work> {
         "names" => Some(Work::Names),
         "numbers" => Some(Work::Numbers),
         "logs" => Some(Work::Logs),
+        "cell" => Some(Work::Cell),
+        "tenant" => Some(Work::LoneTenant),
         _ => None,
     }
 }
@@ -63,7 +71,7 @@ fn timed(rt: &HostRuntime) -> io::Result<()> {
         return Ok(());
     };
     let (Some(work), Ok(rounds)) = (work_of(word.as_str()), rounds.as_str().parse::<u32>()) else {
-        println!(rt; "sb_bench read|resolve|join|names|numbers|logs ROUNDS < LINES")?;
+        println!(rt; "sb_bench read|resolve|join|names|numbers|logs|cell|tenant ROUNDS < LINES")?;
         return Ok(());
     };
     let mut input = Vec::new(rt.alloc());
@@ -76,6 +84,8 @@ fn timed(rt: &HostRuntime) -> io::Result<()> {
         Work::Names => rules::by_name(rt.alloc(), rounds)?,
         Work::Numbers => rules::by_number(rt.alloc(), rounds)?,
         Work::Logs => time_often(rt, rounds)?,
+        Work::Cell => cell::time_cell(rt, input.as_slice(), 256, rounds)?,
+        Work::LoneTenant => cell::time_cell(rt, input.as_slice(), 1, rounds)?,
     };
     let time = start.elapsed(rt)?;
     println!(rt; "{done} of {rounds} rounds, {} ns", time.as_nanos())

@@ -14,6 +14,8 @@ pub enum Lines {
     Changes,
     /// Lines of a session of a tenant by itself.
     Tenant,
+    /// Lines of a stream, with what the tenants share.
+    Shared,
 }
 
 #[derive(Clone, Copy)]
@@ -77,6 +79,7 @@ fn read_lines(value: &[u8]) -> Result<Lines, ScriptFault> {
         b"statements" => Ok(Lines::Statements),
         b"changes" => Ok(Lines::Changes),
         b"tenant" => Ok(Lines::Tenant),
+        b"shared" => Ok(Lines::Shared),
         _ => Err(ScriptFault::BadHeader),
     }
 }

@@ -7,6 +7,7 @@
 //!   cell, `pieces=7` that a read gives at most 7 bytes, `cut=1` that the last byte isn't sent,
 //!   `fails=30` that reads fail behind 30 bytes, `room=6` that the writer has room for 6 bytes;
 //! - with `lines=tenant`, of session 0 of one tenant by itself, as `tenant` shows it;
+//! - with `lines=shared`, of a stream, with what the tenants' log and index hold, as `shared` shows it;
 //! - with `lines=statements`, over fresh tables, as `statements` has them; with `lines=changes` each
 //!   change of a statement is shown, too.
 //!
@@ -21,6 +22,7 @@ mod fault;
 mod header;
 mod player;
 mod repeat;
+mod shared;
 mod statements;
 mod stream;
 mod tables;

@@ -3,6 +3,7 @@
 use crate::fault::ScriptFault;
 use crate::header::{Header, Lines};
 use crate::repeat::{push_folded, push_lines};
+use crate::shared::play_shared;
 use crate::statements::play_statements;
 use crate::stream::play_stream;
 use crate::tenant::play_tenant;
@@ -75,6 +76,7 @@ impl Player {
             Lines::Statements => play_statements(self.alloc, false, commands, &mut text)?,
             Lines::Changes => play_statements(self.alloc, true, commands, &mut text)?,
             Lines::Tenant => play_tenant(self.alloc, commands, &mut text)?,
+            Lines::Shared => play_shared(self.alloc, &header, commands, &mut text)?,
         }
         self.commands.clear();
         push_folded(text.as_slice(), &mut self.answers)

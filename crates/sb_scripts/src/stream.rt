@@ -10,6 +10,9 @@ use std::alloc::Global;
 /// The most tenants of a cell.
 const MOST_TENANTS: u32 = 256;
 
+/// The most considerations at an assertion point.
+const MOST_BOUND: u32 = 1000;
+
 /// Adds the replies to these lines, and the fault that ends them, if one does.
 pub fn play_stream(
     alloc: Global,
@@ -17,10 +20,7 @@ pub fn play_stream(
     input: &[u8],
     out: &mut Vec<u8>,
 ) -> Result<(), ScriptFault> {
-    if header.tenants > MOST_TENANTS {
-        return Err(ScriptFault::BadHeader);
-    }
-    let mut cell = Cell::new(alloc, header.tenants, header.bound)?;
+    let mut cell = fresh_cell(alloc, header)?;
     let sent = input.len().saturating_sub(header.cut as usize);
     let mut reader = Failing::new(header, &input[..sent]);
     let mut writer = Narrow::new(header, out);
@@ -28,8 +28,16 @@ pub fn play_stream(
     push_end(ended, out)
 }
 
+/// A cell with the tenants and the bound that a header says.
+pub fn fresh_cell(alloc: Global, header: &Header) -> Result<Cell, ScriptFault> {
+    if header.tenants > MOST_TENANTS || header.bound > MOST_BOUND {
+        return Err(ScriptFault::BadHeader);
+    }
+    Ok(Cell::new(alloc, 0, 1, header.tenants, header.bound)?)
+}
+
 /// Adds the fault that ended a stream.
-fn push_end(ended: Result<(), StreamError>, out: &mut Vec<u8>) -> Result<(), ScriptFault> {
+pub fn push_end(ended: Result<(), StreamError>, out: &mut Vec<u8>) -> Result<(), ScriptFault> {
     let fault: &[u8] = match ended {
         Ok(()) => return Ok(()),
         Err(StreamError::ReadFault) => b"fault: read failed\n",

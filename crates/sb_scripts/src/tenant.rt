@@ -1,42 +1,51 @@
-//! A block as lines of a session of a tenant by itself. What the wire doesn't tell is shown: each
+//! A block as lines of a session of a lone tenant. What the wire doesn't tell is shown: each
 //! answer's number, and at the end how many entries the trail has, with their last ones.
 
 use crate::fault::ScriptFault;
 use crate::repeat::push_number;
-use sb_tenant::{Answer, NotBegun, Tenant};
-use sb_value::{SessionId, TenantId};
+use sb_cell::{Cell, StepError};
+use sb_tenant::{Answer, Entry};
+use sb_value::SessionId;
 use sb_wire::write_bare_reply;
 use std::alloc::Global;
+
+/// The tenant's number.
+const LONE: u32 = 255;
 
 /// So many of a trail's last entries are shown.
 const SHOWN: usize = 4;
 
 /// Adds the numbers and the answers, and the end of the trail.
 pub fn play_tenant(alloc: Global, lines: &[u8], out: &mut Vec<u8>) -> Result<(), ScriptFault> {
-    let mut tenant = Tenant::new(alloc, TenantId::new(255), 0);
+    let mut cell = Cell::new(alloc, LONE, LONE + 1, LONE + 1, 0)?;
     for line in lines.split(|byte| *byte == b'\n') {
         if !line.is_empty() {
-            push_answer(answer(alloc, &mut tenant, line), out)?;
+            push_answer(answer(alloc, &mut cell, line), out)?;
         }
     }
-    push_trail(&tenant, out)
+    match cell.trail(LONE) {
+        Some(trail) => push_trail(trail, out),
+        None => Err(ScriptFault::NoMemory),
+    }
 }
 
 /// The answer to a line. Sessions open and end by the calls for it, where they can.
-fn answer(alloc: Global, tenant: &mut Tenant, line: &[u8]) -> Result<Answer, NotBegun> {
+fn answer(alloc: Global, cell: &mut Cell, line: &[u8]) -> Result<Answer, StepError> {
+    if !cell.hosts(LONE) {
+        return Err(StepError::NoTenant);
+    }
     let session = SessionId::new(0);
-    let is_open = tenant.is_open(session);
-    let is_full = tenant.is_full();
-    if line == b"open".as_slice() && !is_open && !is_full {
-        tenant.open(alloc, session)
+    let is_open = cell.is_open(LONE, session);
+    if line == b"open".as_slice() && !is_open && !cell.is_full(LONE) {
+        cell.open(alloc, LONE, session)
     } else if line == b"end".as_slice() && is_open {
-        Ok(tenant.end(session))
+        Ok(cell.end(LONE, session))
     } else {
-        tenant.step(alloc, session, line)
+        cell.step(alloc, LONE, 0, line)
     }
 }
 
-fn push_answer(answer: Result<Answer, NotBegun>, out: &mut Vec<u8>) -> Result<(), ScriptFault> {
+fn push_answer(answer: Result<Answer, StepError>, out: &mut Vec<u8>) -> Result<(), ScriptFault> {
     let Ok(answer) = answer else {
         return Err(ScriptFault::NoMemory);
     };
@@ -49,8 +58,7 @@ fn push_answer(answer: Result<Answer, NotBegun>, out: &mut Vec<u8>) -> Result<()
     Ok(())
 }
 
-fn push_trail(tenant: &Tenant, out: &mut Vec<u8>) -> Result<(), ScriptFault> {
-    let trail = tenant.trail();
+fn push_trail(trail: &[Entry], out: &mut Vec<u8>) -> Result<(), ScriptFault> {
     push_number(trail.len() as u64, out)?;
     out.extend_from_slice(b" entries\n")?;
     for entry in trail.iter().skip(trail.len().saturating_sub(SHOWN)) {

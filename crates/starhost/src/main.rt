@@ -1,4 +1,4 @@
-//! The server for one tenant: the lines of standard input, answered on standard output.
+//! The server: the lines of standard input, answered on standard output.
 #![tactic(auto)]
 
 use sb_cell::Cell;
@@ -7,7 +7,7 @@ use std::io;
 use std::process::ExitCode;
 
 /// How many tenants are hosted.
-const TENANTS: u32 = 1;
+const TENANTS: u32 = 16;
 
 /// The most considerations at an assertion point.
 const BOUND: u32 = 1000;
@@ -25,7 +25,7 @@ fn main(rt: HostRuntime) -> ExitCode {
 
 /// Answers the lines of standard input on a fresh cell.
 fn serve(rt: &HostRuntime) -> Result<(), StreamError> {
-    let Ok(mut cell) = Cell::new(rt.alloc(), TENANTS, BOUND) else {
+    let Ok(mut cell) = Cell::new(rt.alloc(), 0, 1, TENANTS, BOUND) else {
         return Err(StreamError::NoMemory);
     };
     run_stream(rt.alloc(), &mut rt.reader(), &mut io::writer(rt), &mut cell)
