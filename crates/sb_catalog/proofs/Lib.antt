@@ -4,3 +4,4 @@ pub mod Named
 pub mod Indexing
 pub mod InOrder
 pub mod NewRules
+pub mod Active

@@ -13,7 +13,7 @@ use Rattle.sb_value.specs.declared.refusal.Refusal.TheVariants.{NoRule}
 use Rattle.sb_check.specs.Names.{some_or}
 use Rattle.sb_catalog.specs.declared.rule.Rule.{Rule}
 use Rattle.sb_catalog.specs.Rules.{named, with_active}
-use Rattle.sb_catalog.specs.Places.{under_name, AreNotedFrom, AreKept}
+use Rattle.sb_catalog.specs.Places.{under_name, AreNotedFrom, HasActive, AreKept}
 use Rattle.sb_catalog.proofs.Noted.{changed}
 
 pub values_under : (rules : List Rule) → values_of (map under_name rules) ≡ rules
@@ -63,18 +63,18 @@ found_at name active [] r e = absurd (none-some r e)
 found_at name active (s ∷ rules) r e = found_by name active s rules r (same_name name s.name) refl e (found_at name active rules r)
 
 -- what is written through the name is the rule with that number made active or not
-pub written : (places : List ℕ) (name : List ℕ) (active : Bool) (entries : List (List ℕ × Rule)) (r : Rule) → AreKept entries places → lookup (same_name name) entries ≡ Some r →
+pub written : (places : List ℕ) (flags : List Bool) (name : List ℕ) (active : Bool) (entries : List (List ℕ × Rule)) (r : Rule) → AreKept entries places flags → lookup (same_name name) entries ≡ Some r →
     set_value (same_name name) entries (made r active) ≡ map under_name (with_active (values_of entries) r.id active)
-written places name active entries r h e =
+written places flags name active entries r h e =
     let rules : List Rule = values_of entries in
     let f = found_at name active rules r (ap (lookup (same_name name)) (sym h.named) ∙ e) in
     ap (λ es. set_value (same_name name) es (made r active)) h.named ∙ f.2 ∙ ap (map under_name) (sym (changed places active 0 f.0 rules r h.noted f.1))
 
-pub kept_with : (places : List ℕ) (entries : List (List ℕ × Rule)) (rules : List Rule) → entries ≡ map under_name rules → AreNotedFrom 0 places rules → AreKept entries places
-kept_with places entries rules e h = record {
-  named = kept_under entries rules e;
-  noted = subst (AreNotedFrom 0 places) (sym (ap values_of e ∙ values_under rules)) h;
-}
+pub kept_with : (places : List ℕ) (flags : List Bool) (entries : List (List ℕ × Rule)) (rules : List Rule) → entries ≡ map under_name rules → AreNotedFrom 0 places rules → HasActive flags rules →
+    AreKept entries places flags
+kept_with places flags entries rules e h a =
+    let same : values_of entries ≡ rules = ap values_of e ∙ values_under rules in
+    record { named = kept_under entries rules e; noted = subst (AreNotedFrom 0 places) (sym same) h; active = subst (HasActive flags) (sym same) a }
 
 pub values_with : (entries : List (List ℕ × Rule)) (rules : List Rule) → entries ≡ map under_name rules → values_of entries ≡ rules
 values_with entries rules e = ap values_of e ∙ values_under rules

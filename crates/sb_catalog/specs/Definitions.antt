@@ -29,10 +29,6 @@ rules_named rules names = in_order (rule_named rules) names
 abbrev pub members_named : List Ruleset → List Rule → Name → List Name → Result (List ℕ) Refusal
 members_named sets rules set names = required (has_name sets set) NoRuleset (rules_named rules names)
 
--- whether the rule is active
-abbrev pub is_active : List Rule → ℕ → Bool
-is_active rules id = list_any (λ r. (r.id == id) && r.active) rules
-
 -- whether the rule is in the ruleset of that name
 abbrev pub is_member : List Ruleset → Name → ℕ → Bool
 is_member sets set id = flag_at (unwrap_or (members_of sets set) []) id

@@ -1,7 +1,9 @@
 -- Where the rules stand: under their names in order of creation, with a place for each number.
-use Rattle.std.specs.Prelude.{◌≡◌, ℕ, ◌+◌, ◌-◌, nat_lt, if◌then◌else◌, List, [], ◌∷◌, map, slice_get, unwrap_or, Some}
+use Rattle.std.specs.Prelude.{◌≡◌, ℕ, Bool, ◌+◌, ◌-◌, nat_lt, if◌then◌else◌, List, [], ◌∷◌, map, slice_get, unwrap_or, Some}
 use Rattle.std.specs.Map.{values_of}
+use Rattle.sb_value.specs.Flags.{flag_at}
 use Rattle.sb_catalog.specs.declared.rule.Rule.{Rule}
+use Rattle.sb_catalog.specs.Rules.{is_active}
 
 -- the place that is noted for a number
 abbrev pub place_at : List ℕ → ℕ → ℕ
@@ -20,7 +22,12 @@ AreNotedFrom k places (r ∷ rules) = (slice_get places r.id ≡ Some k) × AreN
 abbrev pub under_name : Rule → List ℕ × Rule
 under_name r = (r.name, r)
 
--- each rule stands under its name, and has its place noted
-pub record AreKept (entries : List (List ℕ × Rule)) (places : List ℕ) : Type 0 where
+-- the set has the numbers of the active rules
+abbrev pub HasActive : List Bool → List Rule → Type 0
+HasActive set rules = (id : ℕ) → flag_at set id ≡ is_active rules id
+
+-- each rule stands under its name, has its place noted, and is in the set where it is active
+pub record AreKept (entries : List (List ℕ × Rule)) (places : List ℕ) (set : List Bool) : Type 0 where
   pub named : entries ≡ map under_name (values_of entries)
   pub noted : AreNotedFrom 0 places (values_of entries)
+  pub active : HasActive set (values_of entries)

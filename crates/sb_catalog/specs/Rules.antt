@@ -1,5 +1,5 @@
 -- Rules in order of creation, and what the commands on rules do to them.
-use Rattle.std.specs.Prelude.{◌≡◌, ℕ, zero, suc, ◌+◌, ◌<◌, IsTrue, IsFalse, Bool, true, not, ◌==◌, nat_lt, if◌then◌else◌, List, [], ◌∷◌, ◌++◌, length, map, filter, find, Option, Some, None, option_map, Result}
+use Rattle.std.specs.Prelude.{◌≡◌, ℕ, zero, suc, ◌+◌, ◌<◌, IsTrue, IsFalse, Bool, true, not, ◌&&◌, ◌==◌, nat_lt, if◌then◌else◌, List, [], ◌∷◌, ◌++◌, length, map, filter, find, Option, Some, None, option_map, Result}
 use Rattle.std.specs.List.{list_any}
 use Rattle.sb_value.specs.Name.{same_name}
 use Rattle.sb_value.specs.declared.refusal.Refusal.{Refusal}
@@ -43,6 +43,10 @@ numbered rules id = find (λ r. r.id == id) rules
 -- whether there is a rule of that name
 abbrev pub has_name : List Rule → List ℕ → Bool
 has_name rules name = list_any (λ r. same_name r.name name) rules
+
+-- whether the rule of that number is active
+abbrev pub is_active : List Rule → ℕ → Bool
+is_active rules id = list_any (λ r. (r.id == id) && r.active) rules
 
 -- whether one more rule may be made
 abbrev pub has_room : List Rule → Bool

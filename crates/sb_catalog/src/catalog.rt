@@ -1,9 +1,10 @@
 //! All rules of a tenant.
-ghost use Rattle.std.specs.Prelude.{◌≡◌, [], ◌∷◌, ◌++◌, IsTrue, IsFalse, unwrap_or, true, false, OnOk, IfOk, IfErr, OnErr};
+ghost use Rattle.std.specs.Prelude.{◌≡◌, ℕ, ◌==◌, if◌then◌else◌, [], ◌∷◌, ◌++◌, IsTrue, IsFalse, unwrap_or, true, false, OnOk, IfOk, IfErr, OnErr};
 ghost use Rattle.std.specs.Option.{option_copied};
+ghost use Rattle.sb_value.specs.Flags.{flag_at};
 ghost use Rattle.sb_check.specs.RulePartsView.{rule_parts};
 ghost use Rattle.sb_catalog.specs.Rules as spec;
-ghost use Rattle.sb_catalog.specs.Rules.{AreNumbered, named, numbered, rule_named, create_refusal, created, without_rule, with_active};
+ghost use Rattle.sb_catalog.specs.Rules.{AreNumbered, named, numbered, rule_named, create_refusal, created, without_rule, with_active, is_active};
 ghost use Rattle.sb_catalog.specs.Uses.{is_used};
 
 use crate::mentions::rule_names;
@@ -11,7 +12,7 @@ use crate::places::Places;
 use crate::rule::{Rule, rule_of_parts};
 use indexmap::IndexMap;
 use sb_check::RuleParts;
-use sb_value::{Name, RULE_LIMIT, Refusal, RuleId, TableId};
+use sb_value::{Name, RULE_LIMIT, Refusal, RuleId, RuleSet, TableId};
 use std::alloc::Global;
 use std::marker::Model;
 
@@ -20,6 +21,7 @@ use std::marker::Model;
 pub struct Catalog {
     rules: IndexMap<Name, Rule>,
     places: Places,
+    active: RuleSet,
 }
 
 impl Model for Catalog {
@@ -36,7 +38,7 @@ impl Model for Catalog {
 
     ghost view = { λ c. values_of c.rules.entries };
 
-    ghost invariant = { λ c. AreKept c.rules.entries c.places };
+    ghost invariant = { λ c. AreKept c.rules.entries c.places c.active };
 }
 
 impl Catalog {
@@ -47,6 +49,7 @@ impl Catalog {
         Catalog {
             rules: IndexMap::new(alloc),
             places: Places::new(),
+            active: RuleSet::empty(),
         }
     }
 
@@ -94,11 +97,13 @@ impl Catalog {
         ensures unchanged { OnErr result (self.new ≡ self.old) }
     {
         let id = rule.id;
+        let active = rule.active;
         let place = self.rules.len();
         match self.rules.insert(rule.name, rule) {
             Ok(replaced) => {
                 drop(replaced);
                 self.places.note(id, place);
+                self.active = with_flag(self.active, id, active);
                 Ok(id)
             }
             Err(failed) => {
@@ -120,6 +125,7 @@ impl Catalog {
         let (_, rule) = self.rules.shift_remove_index(place).unwrap();
         self.places.close(place);
         let id = rule.id;
+        self.active = self.active.without(id);
         drop(rule);
         Ok(id)
     }
@@ -150,7 +156,9 @@ impl Catalog {
         match self.rules.get_mut(name) {
             Some(rule) => {
                 rule.active = active;
-                Ok(rule.id)
+                let id = rule.id;
+                self.active = with_flag(self.active, id, active);
+                Ok(id)
             }
             None => Err(Refusal::NoRule),
         }
@@ -179,6 +187,13 @@ impl Catalog {
         self.rules.values().as_slice()
     }
 
+    /// The active rules.
+    pub fn active(&self) -> RuleSet
+        ensures { (id : ℕ) → flag_at result id ≡ is_active self.now id }
+    {
+        self.active
+    }
+
     /// Whether one more rule may be made.
     pub fn has_room(&self) -> bool
         ensures { result ≡ spec.has_room self.now }
@@ -204,5 +219,16 @@ impl Catalog {
         ensures { result ≡ is_used self.now table }
     {
         self.rules().iter().any(|rule| rule_names(table, rule))
+    }
+}
+
+/// The set with the rule where it is to be in it, and without it where it isn't.
+fn with_flag(set: RuleSet, rule: RuleId, is_in: bool) -> RuleSet
+    ensures { (id : ℕ) → flag_at result id ≡ (if id == rule then is_in else flag_at set id) }
+{
+    if is_in {
+        set.with(rule)
+    } else {
+        set.without(rule)
     }
 }

@@ -7,8 +7,8 @@ ghost use Rattle.sb_rulesets.specs.Sets.{has_name as has_ruleset};
 ghost use Rattle.sb_priority.specs.Ranks.{pairs_of};
 ghost use Rattle.sb_rulesets.specs.Members.{with_rules, without_rules};
 ghost use Rattle.sb_catalog.specs.Definitions as spec;
-ghost use Rattle.sb_catalog.specs.Definitions.{AreIndexed, AreOrdered, ChangesMembers, Creates, Drops, OtherTenantsStay, Pushes, SetsActive, is_active};
-ghost use Rattle.sb_catalog.specs.Rules.{free_rule, has_name, has_room, numbered, rule_named};
+ghost use Rattle.sb_catalog.specs.Definitions.{AreIndexed, AreOrdered, ChangesMembers, Creates, Drops, OtherTenantsStay, Pushes, SetsActive};
+ghost use Rattle.sb_catalog.specs.Rules.{free_rule, has_name, has_room, numbered, rule_named, is_active};
 
 use crate::catalog::Catalog;
 use sb_check::RuleParts;
@@ -227,13 +227,7 @@ impl Definitions {
     pub fn active(&self) -> RuleSet
         ensures { (id : ℕ) → flag_at result id ≡ is_active self.now.rules id }
     {
-        let mut active = RuleSet::empty();
-        for rule in self.rules.rules() {
-            if rule.active {
-                active = active.with(rule.id);
-            }
-        }
-        active
+        self.rules.active()
     }
 
     /// The active rules of a ruleset.

@@ -1,7 +1,7 @@
 -- Rules of a set, as flags and as a list in order of creation.
 use Rattle.std.proofs.Common.{◌≡◌, ℕ, zero, suc, Bool, true, false, not, cond, ◌&&◌, ◌||◌, ◌==◌, List, [], ◌∷◌, refl, sym, ap, ◌∙◌, subst, eqb-true, eq-eqb, Option, Some, find, inl, inr}
 use Rattle.std.specs.List.{list_any, filter}
-use Rattle.sb_value.specs.Flags.{flag_at, share_place}
+use Rattle.sb_value.specs.Flags.{flag_at, has_none, share_place}
 use Rattle.sb_priority.specs.Ranks.{ranked}
 use Rattle.sb_priority.proofs.Tests.{no_way, and_left, and_right, and_both, or_cases, or_first, or_second, same_test}
 
@@ -78,3 +78,20 @@ find_cond f false x xs = refl
 pub find_filter : (f g : ℕ → Bool) (xs : List ℕ) → find f (filter g xs) ≡ find (λ r. g r && f r) xs
 find_filter f g [] = refl
 find_filter f g (x ∷ xs) = find_cond f (g x) x (filter g xs) ∙ ap (λ (o : Option ℕ). cond (g x && f x) (Some x) o) (find_filter f g xs)
+
+-- ---- no rule
+
+no_flag : (set : List Bool) (k : ℕ) → list_any (λ b. b) set ≡ false → flag_at set k ≡ false
+no_flag [] k h = refl
+no_flag (true ∷ set) k h = no_way (sym h)
+no_flag (false ∷ set) zero h = refl
+no_flag (false ∷ set) (suc k) h = no_flag set k h
+
+none_by : (set : List Bool) (b : Bool) → list_any (λ x. x) set ≡ b → true ≡ not b → list_any (λ x. x) set ≡ false
+none_by set true e h = no_way (sym h)
+none_by set false e h = e
+
+pub none_ranked : (set : List Bool) → true ≡ has_none set → (rules : List ℕ) → ranked set rules ≡ []
+none_ranked set h [] = refl
+none_ranked set h (r ∷ rules) =
+    ap (λ (b : Bool). cond b (r ∷ ranked set rules) (ranked set rules)) (no_flag set r (none_by set (list_any (λ x. x) set) refl h)) ∙ none_ranked set h rules

@@ -1,4 +1,4 @@
-//! RuleSet in order of creation.
+//! Rules in order of creation.
 ghost use Rattle.std.specs.Prelude.{◌≡◌, ℕ, ◌<◌, ◌≤◌, not, ◌==◌, if◌then◌else◌, [], ◌∷◌, ◌++◌, length, filter};
 ghost use Rattle.std.specs.List.{list_any};
 ghost use Rattle.sb_value.specs.Flags.{flag_at};

@@ -13,7 +13,7 @@ use std::marker::Model;
 #[derive(Clone, Copy, Debug, PartialEq, Eq)]
 pub struct Cycle;
 
-/// RuleSet in order of creation, and which of them precede which.
+/// Rules in order of creation, and which of them precede which.
 #[derive(Drop)]
 pub struct Priorities {
     rules: RuleList,
@@ -89,6 +89,9 @@ impl Priorities {
     pub fn choose(&self, set: RuleSet) -> Option<RuleId>
         ensures { (pairs : List (ℕ × ℕ)) → HasOrder self.now pairs → result ≡ chosen pairs (ranked set self.now.rules) }
     {
+        if set.is_empty() {
+            return None;
+        }
         for rule in self.rules.as_slice() {
             if self.is_next(*rule, set) {
                 return Some(*rule);

@@ -1,7 +1,7 @@
 -- Candidates that are looked at one after another.
-use Rattle.std.proofs.Common.{◌≡◌, ◌∙◌, ◌≢◌, ℕ, zero, suc, ◌+◌, ◌<◌, Bool, true, false, not, ◌&&◌, nat_eq, List, [], ◌∷◌, length, Option, Some, None, refl, sym, ap, arith, eq-eqb, eqb-true}
+use Rattle.std.proofs.Common.{◌≡◌, ◌∙◌, ◌≢◌, ℕ, ◌+◌, ◌<◌, ◌≤◌, nat_lt, Bool, true, false, not, ◌&&◌, nat_eq, List, Option, Some, None, refl, sym, ap, arith, eq-eqb, eqb-true}
+use Rattle.std.proofs.lemmas.Bool.{ltb-true, ltb-false}
 use Rattle.sb_value.specs.declared.id.Who.{Who}
-use Rattle.sb_value.specs.Flags.{flag_at}
 use Rattle.sb_value.specs.NetEffect.{is_triggered}
 use Rattle.sb_rawlog.specs.Records.{Record}
 use Rattle.sb_rawlog.specs.Sessions.{changes_since}
@@ -36,10 +36,14 @@ left-other true false q e = refl
 left-other false false q e = refl
 left-other c true q e = absurd (cc)
 
-pub flag-within : (flags : List Bool) (r : ℕ) → flag_at flags r ≡ true → r < length flags
-flag-within [] r e = absurd (cc)
-flag-within (x ∷ xs) zero e = omega arith
-flag-within (x ∷ xs) (suc r) e = let h = flag-within xs r e in omega arith
+-- what is below the next number that is looked at has been looked at
+pub seen-below : (next first : ℕ) (flag hit : ℕ → Bool) → ((r : ℕ) → r < next → flag r ≡ true → hit r ≡ true) → ((r : ℕ) → next ≤ r → r < first → flag r ≡ false) →
+    (r : ℕ) → r < first → flag r ≡ true → hit r ≡ true
+seen-below next first flag hit old least r below f = by (nat_lt r next) refl
+  where
+    by : (b : Bool) → nat_lt r next ≡ b → hit r ≡ true
+    by true e = old r (ltb-true r next e) f
+    by false e = absurd (let none = least r (ltb-false r next e) below in cc)
 
 module _ (hit : ℕ → Bool) (rule : ℕ) (flag kept : ℕ → Bool) (eligible : ℕ → Bool) where
   -- a rule that isn't hit is taken from the set and from the candidates
@@ -70,10 +74,3 @@ module _ (hit : ℕ → Bool) (rule : ℕ) (flag kept : ℕ → Bool) (eligible 
       by true true false p u = refl
       by false true false p u = refl
       by c false false p u = absurd (cc)
-
-  -- a rule that is hit or not in the set stays
-  pub here-hit : (n : ℕ) → rule ≡ n → hit rule ≡ true → ((r : ℕ) → r < n → flag r ≡ true → hit r ≡ true) → (r : ℕ) → r < n + 1 → flag r ≡ true → hit r ≡ true
-  here-hit n same it h r l e = last-below (λ (k : ℕ). flag k ≡ true → hit k ≡ true) n r l (h r) (λ f. ap hit (sym same) ∙ it) e
-
-  pub here-out : (n : ℕ) → rule ≡ n → flag rule ≡ false → ((r : ℕ) → r < n → flag r ≡ true → hit r ≡ true) → (r : ℕ) → r < n + 1 → flag r ≡ true → hit r ≡ true
-  here-out n same out h r l e = last-below (λ (k : ℕ). flag k ≡ true → hit k ≡ true) n r l (h r) (λ f. absurd (let at = ap flag same in cc)) e

@@ -74,9 +74,10 @@ impl Database {
         ensures only_candidates { self.new ≡ record self.old { transactions = self.new.transactions } }
     {
         let mut set = self.transactions.candidates(session).intersection(eligible);
-        for number in 0..set.capacity() {
-            let rule = RuleId::new(number as u8);
-            if set.contains(rule) && !self.is_hit(log, catalog, session, rule) {
+        let mut next = 0;
+        while let Some(rule) = set.first_from(next) {
+            next = rule.index() + 1;
+            if !self.is_hit(log, catalog, session, rule) {
                 self.transactions.leave(session, rule);
                 set = set.without(rule);
             }

@@ -1,11 +1,12 @@
 -- Operations on words are the operations on their flags.
-use Rattle.std.proofs.Common.{◌≡◌, ◌≢◌, ℕ, zero, suc, ◌+◌, ◌*◌, ◌/◌, ◌%◌, ◌^◌, ◌<◌, ◌≤◌, max, min, Bool, true, false, not, ◌&&◌, ◌||◌, nat_eq, bit_and, bit_or, List, [], ◌∷◌, length, replicate, slice_set, refl, sym, ap, ◌∙◌, arith, ne_eqb, eqb-true}
+use Rattle.std.proofs.Common.{◌≡◌, ◌≢◌, ℕ, zero, suc, ◌+◌, ◌-◌, ◌*◌, nat_lt, Option, unwrap_or, ◌/◌, ◌%◌, ◌^◌, ◌<◌, ◌≤◌, max, min, Bool, true, false, not, ◌&&◌, ◌||◌, nat_eq, bit_and, bit_or, List, [], ◌∷◌, length, replicate, slice_set, refl, sym, ap, ◌∙◌, arith, ne_eqb, eqb-true}
 use Rattle.std.specs.List.{list_any}
-use Rattle.std.specs.Int.{bit_at, bit_not, w64}
-use Rattle.std.proofs.lemmas.Nat.Bits.{bit_at_or, bit_at_and, bit_at-lt, bit_at-zero, bit_at-pow_same, bit_at-pow_other, bit_at_clear_same, bit_at_clear_other, shr_and_one}
-use Rattle.std.proofs.lemmas.Nat.{one_shl}
-use Rattle.std.proofs.lemmas.Bool.{eqb-false}
-use Rattle.sb_value.specs.Flags.{flags_from, flags_of, word_of, no_flags, flag_at, has_none, union, intersection, share_place}
+use Rattle.std.specs.Int.{bit_at, bit_not, w64, trailing_zeros}
+use Rattle.std.proofs.lemmas.Nat.Bits.{bit_at_or, bit_at_and, bit_at-lt, bit_at-zero, bit_at-pow_same, bit_at-pow_other, bit_at_clear_same, bit_at_clear_other, bit_at_above, bit_at-trailing_zeros, shr_and_one}
+use Rattle.std.proofs.lemmas.Nat.{one_shl, shr_le, shr-shr}
+use Rattle.std.proofs.lemmas.Option.{slice_get_past}
+use Rattle.std.proofs.lemmas.Bool.{eqb-false, ltb-true, ltb-false}
+use Rattle.sb_value.specs.Flags.{flags_from, flags_of, word_of, no_flags, flag_at, has_none, union, intersection, share_place, IsFirstFrom}
 use Rattle.sb_value.specs.FlagsInverse.{word_of-flags_of}
 
 -- ---- both sets, either set
@@ -232,3 +233,47 @@ pub flag_at-without : (n word i : ℕ) (flags new : List Bool) → flags_of n wo
 flag_at-without n word i flags new is h e k =
     let long : i < length flags = omega (arith, h, length-flags_of n word, ap length is) in
     ap (λ (s : List Bool). flag_at s k) e ∙ flag_at-taken flags i k long
+
+-- ---- the first number of a set
+
+pub flag_at-bit : (n k word : ℕ) → k < n → flag_at (flags_of n word) k ≡ nat_eq (bit_at word k) 1
+unfolding flags_of
+flag_at-bit n k word h = flags_from-at n 0 k word h ∙ ap (λ j. nat_eq (bit_at word j) 1) (let e : 0 + k ≡ k = omega arith in e)
+
+pub flag_at-beyond : (n k word : ℕ) → n ≤ k → flag_at (flags_of n word) k ≡ false
+flag_at-beyond n k word h = ap (λ (o : Option Bool). unwrap_or o false) (slice_get_past (flags_of n word) k (omega (arith, length-flags_of n word)))
+
+bit_at-shifted : (word i j : ℕ) → bit_at (word / 2 ^ i) j ≡ bit_at word (i + j)
+bit_at-shifted word i j = ap (λ (m : ℕ). m % 2) (shr-shr word i j)
+
+-- where the word has no bit from i on, the set has no number from i on
+pub none-from : (word i : ℕ) → word / 2 ^ i ≡ 0 → (k : ℕ) → i ≤ k → flag_at (flags_of 64 word) k ≡ false
+none-from word i h k from = by (nat_lt k 64) refl
+  where
+    by : (b : Bool) → nat_lt k 64 ≡ b → flag_at (flags_of 64 word) k ≡ false
+    by true low =
+        flag_at-bit 64 k word (ltb-true k 64 low)
+        ∙ ap (λ (b : ℕ). nat_eq b 1)
+        (ap (bit_at word) (let e : k ≡ i + (k - i) = omega (arith, from) in e) ∙ sym (bit_at-shifted word i (k - i)) ∙ ap (λ (w : ℕ). bit_at w (k - i)) h ∙ bit_at-zero (k - i))
+    by false high = flag_at-beyond 64 k word (ltb-false k 64 high)
+
+-- the lowest bit from i on is the first number from i on
+pub first-from : (word i : ℕ) → word < 2 ^ 64 → 0 < word / 2 ^ i → (i + trailing_zeros w64 (word / 2 ^ i) < 64) × IsFirstFrom i (flags_of 64 word) (i + trailing_zeros w64 (word / 2 ^ i))
+first-from word i h some =
+    let rest : ℕ = word / 2 ^ i in
+    let low : ℕ = trailing_zeros w64 rest in
+    let at = bit_at-trailing_zeros w64 rest some (let e : rest ≤ word = shr_le word i in omega (arith, e, h)) in
+    let one : bit_at word (i + low) ≡ 1 = sym (bit_at-shifted word i low) ∙ at.1 in
+    let in_range : i + low < 64 = within (nat_lt (i + low) 64) refl one in
+    (in_range, record {
+      from = omega arith;
+      is_in = flag_at-bit 64 (i + low) word in_range ∙ ap (λ (b : ℕ). nat_eq b 1) one;
+      least = λ j from below.
+          flag_at-bit 64 j word (omega (arith, below, in_range))
+          ∙ ap (λ (b : ℕ). nat_eq b 1)
+          (ap (bit_at word) (let e : j ≡ i + (j - i) = omega (arith, from) in e) ∙ sym (bit_at-shifted word i (j - i)) ∙ at.2 (j - i) (omega (arith, from, below)));
+    })
+  where
+    within : (b : Bool) → nat_lt (i + trailing_zeros w64 (word / 2 ^ i)) 64 ≡ b → bit_at word (i + trailing_zeros w64 (word / 2 ^ i)) ≡ 1 → i + trailing_zeros w64 (word / 2 ^ i) < 64
+    within true low one = ltb-true (i + trailing_zeros w64 (word / 2 ^ i)) 64 low
+    within false high one = absurd (let none = bit_at_above word 64 (i + trailing_zeros w64 (word / 2 ^ i)) h (ltb-false (i + trailing_zeros w64 (word / 2 ^ i)) 64 high) in cc)

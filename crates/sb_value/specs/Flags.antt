@@ -1,5 +1,5 @@
 -- Sets of small numbers as lists of flags, and the bits of a word as such a list, the lowest first.
-use Rattle.std.specs.Prelude.{ℕ, zero, suc, ◌+◌, ◌*◌, Bool, false, not, ◌&&◌, ◌||◌, ◌==◌, if◌then◌else◌, List, [], ◌∷◌, slice_get, unwrap_or, replicate}
+use Rattle.std.specs.Prelude.{◌≡◌, ◌≤◌, ◌<◌, true, ℕ, zero, suc, ◌+◌, ◌*◌, Bool, false, not, ◌&&◌, ◌||◌, ◌==◌, if◌then◌else◌, List, [], ◌∷◌, slice_get, unwrap_or, replicate}
 use Rattle.std.specs.List.{list_any}
 use Rattle.std.specs.Int.{bit_at}
 
@@ -30,6 +30,12 @@ abbrev pub share_place : List Bool → List Bool → Bool
 share_place [] ys = false
 share_place (x ∷ xs) [] = false
 share_place (x ∷ xs) (y ∷ ys) = (x && y) || share_place xs ys
+
+-- the least number of the set that isn't below n
+pub record IsFirstFrom (n : ℕ) (flags : List Bool) (k : ℕ) : Type 0 where
+  pub from : n ≤ k
+  pub is_in : flag_at flags k ≡ true
+  pub least : (j : ℕ) → n ≤ j → j < k → flag_at flags j ≡ false
 
 -- the n bits of a word from bit i on
 unfoldable pub flags_from : ℕ → ℕ → ℕ → List Bool

@@ -1,6 +1,6 @@
 //! Sets of rules.
-ghost use Rattle.std.specs.Prelude.{◌≡◌, ◌<◌, ◌==◌, ◌&&◌, ◌||◌, ℕ, not, slice_set, length, true, false};
-ghost use Rattle.sb_value.specs.Flags.{no_flags, flag_at, union, intersection, has_none, share_place};
+ghost use Rattle.std.specs.Prelude.{◌≡◌, ◌<◌, ◌≤◌, ◌==◌, ◌&&◌, ◌||◌, ℕ, not, slice_set, length, true, false, MatchOption};
+ghost use Rattle.sb_value.specs.Flags.{no_flags, flag_at, union, intersection, has_none, share_place, IsFirstFrom};
 
 use crate::id::{RULE_LIMIT, RuleId};
 use std::marker::Model;
@@ -104,5 +104,20 @@ impl RuleSet {
         ensures { result ≡ has_none self }
     {
         self.bits == 0
+    }
+
+    /// The first rule whose number is the given one or more.
+    pub fn first_from(self, number: usize) -> Option<RuleId>
+        ensures { MatchOption result ((k : ℕ) → number ≤ k → flag_at self k ≡ false) (λ rule. IsFirstFrom number self rule) }
+    {
+        let bits = self.bits;
+        if number >= RULE_LIMIT {
+            return None;
+        }
+        let rest = bits >> number;
+        if rest == 0 {
+            return None;
+        }
+        Some(RuleId::new(number as u8 + rest.trailing_zeros() as u8))
     }
 }

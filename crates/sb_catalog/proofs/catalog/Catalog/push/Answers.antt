@@ -8,11 +8,12 @@ use Rattle.sb_catalog.specs.declared.rule.Rule.{Rule}
 use Rattle.sb_catalog.specs.Rules.{has_name, numbered}
 use Rattle.sb_catalog.specs.Places.{under_name}
 use Rattle.sb_catalog.proofs.Named.{lookup_named, kept_with, values_with, entries_with}
+use Rattle.sb_catalog.proofs.Active.{active-with}
 use Rattle.sb_catalog.proofs.Noted.{some_found, no_rule, noted_with}
 use Rattle.sb_catalog.proofs.catalog.Catalog.push.Goals as goal
 
 -- the rule is the last entry
-last : (c : goal.After-note) → c.insert.new.self.entries ≡ c.self.inside.rules.entries ++ under_name c.args.rule ∷ []
+last : (c : goal.After-self-1) → c.insert.new.self.entries ≡ c.self.inside.rules.entries ++ under_name c.args.rule ∷ []
 last c =
     let rules : List Rule = values_of c.self.inside.rules.entries in
     let name : List ℕ = c.args.rule.name in
@@ -28,9 +29,10 @@ invariant_of-self c =
     let count : c.len-place.result ≡ 0 + length rules = rw length-map (c.len-place.ensures.len ∙ omega arith) in
     let new : list_any (λ (s : Rule). nat_eq s.id c.args.rule.id) rules ≡ false =
     sym (some_found (λ s. nat_eq s.id c.args.rule.id) rules) ∙ ap is_some (ap (λ (l : List Rule). numbered l c.args.rule.id) c.self.view_is ∙ c.requires.new_number) in
-    rw c.note.ensures.noted (kept_with (set c.self.inside.places c.args.rule.id c.len-place.result) _ (rules ++ c.args.rule ∷ [])
+    rw c.note.ensures.noted (kept_with (set c.self.inside.places c.args.rule.id c.len-place.result) _ _ (rules ++ c.args.rule ∷ [])
     (last c ∙ entries_with c.self.inside.rules.entries c.args.rule c.self.invariant.named)
-    (noted_with c.self.inside.places 0 c.len-place.result rules c.args.rule count c.self.invariant.noted c.note.ensures.in_range new))
+    (noted_with c.self.inside.places 0 c.len-place.result rules c.args.rule count c.self.invariant.noted c.note.ensures.in_range new)
+    (active-with c.self.inside.active c.with_flag-self-inside.result rules c.args.rule c.self.invariant.active new c.with_flag-self-inside.ensures))
 
 pub returns-in-Ok-clause-last : goal.returns-in-Ok-clause-last
 returns-in-Ok-clause-last c =

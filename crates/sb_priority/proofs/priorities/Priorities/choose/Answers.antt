@@ -1,7 +1,8 @@
 use Rattle.std.proofs.Common.{◌≡◌, ◌∙◌, ap, sym, ℕ, List, Bool, ◌&&◌, arith, length, get_or}
 use Rattle.sb_value.specs.Flags.{flag_at}
 use Rattle.sb_priority.specs.Ranks.{Ranks, ranked, is_free}
-use Rattle.sb_priority.proofs.Choice.{find_filter}
+use Rattle.sb_value.specs.Order.{chosen}
+use Rattle.sb_priority.proofs.Choice.{find_filter, none_ranked}
 use Rattle.sb_priority.proofs.Rows.{passed, found_here, ended}
 use Rattle.sb_priority.proofs.priorities.Priorities.choose.Goals as goal
 
@@ -35,3 +36,7 @@ returns c pairs h =
     let free : ℕ → Bool = is_free pairs (ranked c.args.set rules) in
     ended (λ r. flag_at c.args.set r && free r) rules c.loop-rule.rule-index (omega arith)
     ∙ c.loop-rule.invariant pairs h ∙ sym (find_filter free (λ r. flag_at c.args.set r) rules)
+
+-- of no rules none is chosen
+pub returns-then-is_empty : goal.returns-then-is_empty
+returns-then-is_empty c pairs h = ap (chosen pairs) (sym (none_ranked c.args.set (sym c.if-is_empty.true ∙ c.is_empty.ensures) c.args.self.now.rules))

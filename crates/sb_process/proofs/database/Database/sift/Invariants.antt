@@ -1,4 +1,4 @@
-use Rattle.std.proofs.Common.{◌≡◌, ◌<◌, ◌&&◌, ℕ, true, length}
+use Rattle.std.proofs.Common.{◌≡◌, ◌<◌, ◌-◌, ◌&&◌, ℕ, true}
 use Rattle.sb_value.specs.Flags.{flag_at}
 use Rattle.sb_catalog.specs.Rules.{numbered}
 use Rattle.sb_process.specs.Represents.{who_in}
@@ -7,14 +7,16 @@ use Rattle.sb_process.specs.Triggered.{is_hit}
 use Rattle.sb_process.proofs.database.Database.sift.Given as goal
 
 -- the set is what is left of the eligible candidates, and the rules that were looked at are there only if they are hit
-abbrev pub invariant-loop-number : goal.invariant-loop-number
-invariant-loop-number g l = record {
-  size : (length l.set ≡ 64) × (l.number-end ≡ 64);
+abbrev pub invariant-loop-rule : goal.invariant-loop-rule
+invariant-loop-rule g l = record {
   marks : (s r : ℕ) → mark_of l.self.transactions s r ≡ mark_of l.initial.self.transactions s r;
   are_candidates : (r : ℕ) → flag_at l.set r ≡ (is_candidate_of l.self.transactions l.session r && flag_at l.fn.eligible r);
-  are_hit : (r : ℕ) → r < l.number → flag_at l.set r ≡ true → is_hit (who_in l.initial.self l.session) l.initial.self.transactions (g.L.ChangeLog.records l.log) (numbered l.catalog r) ≡ true;
+  are_hit : (r : ℕ) → r < l.next → flag_at l.set r ≡ true → is_hit (who_in l.initial.self l.session) l.initial.self.transactions (g.L.ChangeLog.records l.log) (numbered l.catalog r) ≡ true;
   stay : (r : ℕ) → is_hit (who_in l.initial.self l.session) l.initial.self.transactions (g.L.ChangeLog.records l.log) (numbered l.catalog r) ≡ true →
       is_candidate_of l.self.transactions l.session r ≡ is_candidate_of l.initial.self.transactions l.session r;
   sessions : OtherSessionsStay l.initial.self.transactions l.self.transactions l.session;
   same : l.self ≡ record l.initial.self { transactions = l.self.transactions };
 }
+
+abbrev pub decreases-loop-rule : goal.decreases-loop-rule
+decreases-loop-rule g l = 64 - l.next
