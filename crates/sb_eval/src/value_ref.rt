@@ -58,7 +58,7 @@ impl<'r> ValueRef<'r> {
 
     /// How it compares with another value: texts by their bytes.
     #[inline(always)]
-    fn order(self, other: ValueRef<'_>) -> Ordering
+    pub(crate) fn order(self, other: ValueRef<'_>) -> Ordering
         ensures { result ≡ value_cmp (value_seen self.entry) (value_seen other.entry) }
     {
         match self {

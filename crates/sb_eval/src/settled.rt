@@ -1,0 +1,43 @@
+//! Whether a condition can overflow.
+ghost use Rattle.std.specs.Prelude.{◌≡◌};
+ghost use Rattle.sb_eval.specs.Joined as spec;
+
+use crate::known::Known;
+use sb_check::{Condition, ConditionNode, Expression, ExpressionNode, Operand, OperandNode};
+
+/// Whether an expression is a literal or a column.
+fn is_plain(e: &Expression) -> bool
+    ensures { result ≡ spec.is_plain e.now }
+{
+    match &e.node {
+        ExpressionNode::Literal(_) => true,
+        ExpressionNode::Column(_) => true,
+        ExpressionNode::Binary(_, _, _) => false,
+    }
+}
+
+/// Whether an operand has no arithmetic, and is no query but one whose value is known.
+fn is_operand_settled(o: &Operand, known: &Known<'_>) -> bool
+    ensures { result ≡ spec.operand_settled o.now known.now }
+{
+    match &o.node {
+        OperandNode::Expression(e) => is_plain(e),
+        OperandNode::Query(_) => known.one_value().is_some(),
+    }
+}
+
+/// Whether a condition has no arithmetic, and no query but those whose answer is known. Then it overflows nowhere.
+#[cycle(settled)]
+pub(crate) fn is_settled(c: &Condition, known: &Known<'_>) -> bool
+    ensures { result ≡ spec.is_settled c.now known.now }
+{
+    match &c.node {
+        ConditionNode::Always => true,
+        ConditionNode::Or(a, b) => is_settled(a, known.left()) && is_settled(b, known.right()),
+        ConditionNode::And(a, b) => is_settled(a, known.left()) && is_settled(b, known.right()),
+        ConditionNode::Not(a) => is_settled(a, known),
+        ConditionNode::Compare(a, _, b) => is_plain(a) && is_operand_settled(b, known),
+        ConditionNode::In(a, _) => is_plain(a) && known.values().is_some(),
+        ConditionNode::Exists(_) => known.truth().is_some(),
+    }
+}
