@@ -22,13 +22,13 @@ use Rattle.sb_check.specs.declared.tree.Source.{Source}
 use Rattle.sb_check.specs.declared.tree.Source.TheVariants as source
 use Rattle.sb_check.specs.declared.tree.Statement.{Statement}
 use Rattle.sb_check.specs.declared.tree.Statement.TheVariants.{InsertRows, InsertQuery, Delete, Update}
-use Rattle.sb_check.specs.Condition.{Condition, always, disjunction, conjunction, negation, compare, is_in, exists, Operand, expression, answer, Query, select}
+use Rattle.sb_check.specs.Condition.{Condition, always, disjunction, conjunction, negation, compare, is_in, exists, Operand, expression, answer, Query}
 use Rattle.sb_check.specs.Mentions.{sources_of, operand_sources, query_sources, assignment_sources}
 use Rattle.sb_check.specs.Names.{and_then, in_order, required, some_or, same_table, same_type, Visible, Scope, column_in}
 use Rattle.sb_check.specs.RuleParts.{Parts, in_rule, condition_parts, walk_parts}
 use Rattle.sb_check.specs.There.{IsTable, IsThere, AreThere, IsStatementThere, IsConditionThere, AreActionsThere, ArePartsThere}
 use Rattle.sb_check.specs.Triggers.{walk_triggers}
-use Rattle.sb_check.specs.Walk.{Schema, Walked, type_of, table_named, transition_source, has_updates, walk_table, visible_name, walk_sources, walk_expression, walk_items, has_aggregate, in_type, with_not, fitting, walk_condition, walk_operand, walk_filter, walk_query, visible_table, walk_assignments, walk_change, walk_action}
+use Rattle.sb_check.specs.Walk.{Schema, Walked, type_of, table_named, has_updates, walk_table, visible_name, walk_sources, walk_expression, has_aggregate, in_type, with_not, fitting, walk_condition, walk_operand, walk_filter, walk_query, visible_table, walk_assignments, walk_change, walk_action}
 use Rattle.sb_check.proofs.Fitting.{then_ok, required_ok, some_ok, selected}
 
 -- ---- a table that is found

@@ -5,7 +5,6 @@ use Rattle.std.specs.List.{list_any}
 use Rattle.sb_value.specs.declared.refusal.Refusal.{Refusal}
 use Rattle.sb_value.specs.declared.refusal.Refusal.TheVariants as refusal
 use Rattle.sb_value.specs.declared.net.Triggers.{Triggers}
-use Rattle.sb_value.specs.declared.value.ColumnDefinition.{ColumnDefinition}
 use Rattle.sb_value.specs.declared.value.ColumnType.TheVariants.{Int}
 use Rattle.sb_value.specs.Name.{same_name}
 use Rattle.sb_value.specs.Table.{Entry}
@@ -18,11 +17,11 @@ use Rattle.sb_check.specs.declared.tree.Source.{Source}
 use Rattle.sb_check.specs.declared.tree.Source.TheVariants as source
 use Rattle.sb_check.specs.declared.tree.Statement.TheVariants.{InsertRows, InsertQuery, Delete, Update}
 use Rattle.sb_check.specs.Changes.{entry_of, table_scope}
-use Rattle.sb_check.specs.Condition.{Condition, disjunction, conjunction, negation, compare, is_in, exists, Operand, expression, answer, select}
+use Rattle.sb_check.specs.Condition.{disjunction, conjunction, negation, compare, is_in, exists, answer, select}
 use Rattle.sb_check.specs.Lent.{SeenTable, table_seen}
 use Rattle.sb_check.specs.Names.{and_then, in_order, required, some_or, same_table, same_type, column_in, Scope}
 use Rattle.sb_check.specs.Sees.{SeeTheSame}
-use Rattle.sb_check.specs.Walk.{Schema, Walked, type_of, table_named, transition_source, has_updates, walk_table, visible_name, walk_sources, walk_expression, walk_items, walk_select, has_aggregate, in_type, with_not, fitting, walk_condition, walk_operand, walk_filter, walk_query, visible_table, walk_assignments, walk_change}
+use Rattle.sb_check.specs.Walk.{Schema, type_of, table_named, transition_source, has_updates, walk_table, visible_name, walk_sources, walk_expression, walk_items, has_aggregate, in_type, with_not, fitting, walk_condition, walk_operand, walk_filter, walk_query, walk_assignments, walk_change}
 use Rattle.sb_check.proofs.ChangeWalk.{assignments-seen}
 
 -- ---- a table that is looked for

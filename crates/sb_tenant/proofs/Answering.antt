@@ -1,6 +1,6 @@
 -- A command's class, what its session refuses, and what its answer leaves.
 use Rattle.std.proofs.Common.{◌≡◌, ◌∙◌, ◌⊎◌, ℕ, zero, suc, ◌+◌, ◌<◌, ◌≤◌, Bool, true, false, not, ◌&&◌, ◌||◌, nat_eq, List, [], ◌∷◌, length, refl, sym, ap, subst, arith, inl, inr, eqb-true, ne_eqb}
-use Rattle.std.specs.Prelude.{if◌then◌else◌, Option, None, Some, Result, Ok, Err, IsTrue, IsFalse}
+use Rattle.std.specs.Prelude.{if◌then◌else◌, Option, None, Some, Result, IsTrue}
 use Rattle.std.specs.List.{list_any}
 use Rattle.std.proofs.lemmas.Bool.{ltb-true, lt-ltb}
 use denote.Enum.Bare.{sameb}
@@ -97,37 +97,10 @@ not_false : (b : Bool) → not b ≡ false → b ≡ true
 not_false true h = refl
 not_false false h = absurd (cc h)
 
-closed_by : (p : Phase) → is_not_closed p ≡ false → p ≡ Closed
-closed_by Closed h = refl
-closed_by Idle h = absurd (cc h)
-closed_by Active h = absurd (cc h)
-
 idle_by : (p : Phase) → is_not_closed p ≡ true → is_under_way p ≡ false → p ≡ Idle
 idle_by Closed h k = absurd (cc h)
 idle_by Idle h k = refl
 idle_by Active h k = absurd (cc k)
-
-active_by : (p : Phase) → is_under_way p ≡ true → p ≡ Active
-active_by Closed h = absurd (cc h)
-active_by Idle h = absurd (cc h)
-active_by Active h = refl
-
-pub may_open : (phases : List Phase) (s : ℕ) → phase_refusal opens phases s ≡ None → phase_at phases s ≡ Closed
-may_open phases s h = closed_by (phase_at phases s) (first_none (is_not_closed (phase_at phases s)) refusal.AlreadyOpen None h).0
-
-pub may_begin : (phases : List Phase) (s : ℕ) → phase_refusal begins phases s ≡ None → phase_at phases s ≡ Idle
-may_begin phases s h =
-    let p = phase_at phases s in
-    let a = first_none (not (is_not_closed p)) refusal.NotOpen (first_of (is_under_way p) refusal.InTransaction None) h in
-    let b = first_none (is_under_way p) refusal.InTransaction None a.1 in
-    idle_by p (not_false (is_not_closed p) a.0) b.0
-
-pub may_work : (phases : List Phase) (s : ℕ) → phase_refusal works phases s ≡ None → phase_at phases s ≡ Active
-may_work phases s h =
-    let p = phase_at phases s in
-    let a = first_none (not (is_not_closed p)) refusal.NotOpen (first_of (not (is_under_way p)) refusal.NoTransaction None) h in
-    let b = first_none (not (is_under_way p)) refusal.NoTransaction None a.1 in
-    active_by p (not_false (is_under_way p) b.0)
 
 -- none of the sessions passes a test
 none_in : (test : ℕ → Bool) (s : ℕ) (xs : List ℕ) → list_any (λ o. nat_eq o s) xs ≡ true → list_any test xs ≡ false → test s ≡ false

@@ -1,10 +1,9 @@
 -- A state in which no session has a transaction, with another catalog.
-use Rattle.std.proofs.Common.{◌≡◌, ◌∙◌, ℕ, Bool, true, false, List, [], ◌∷◌, ◌++◌, map, drop, refl, sym, ap, subst}
-use Rattle.std.specs.Prelude.{IsTrue, IsFalse, flat_map}
+use Rattle.std.proofs.Common.{◌≡◌, ◌∙◌, ℕ, false, List, [], ◌∷◌, ◌++◌, map, drop, refl, sym, ap, subst}
+use Rattle.std.specs.Prelude.{IsTrue}
 use Rattle.std.proofs.Math.Seq.{drop-nil}
 use Rattle.sb_value.specs.declared.change.Change.{Change}
 use Rattle.sb_value.specs.NetEffect.{is_triggered}
-use Rattle.sb_value.specs.Locks.{sessions}
 use Rattle.sb_rawlog.specs.Records.{Record}
 use Rattle.sb_tables.specs.Held.{Held, entries, entry_of}
 use Rattle.sb_index.specs.TableSets.{TableSets}
@@ -19,7 +18,6 @@ use Rattle.sb_process.specs.Work.{CanRun}
 use Rattle.sb_tenant.specs.declared.store.Store.{Store}
 use Rattle.sb_tenant.specs.Defining.{IsAtRest, is_under_way}
 use Rattle.sb_tenant.specs.Limits.{is_session}
-use Rattle.sb_tenant.specs.Logged.{Agrees}
 use Rattle.sb_tenant.specs.Represents.{Holds, StandFor, phase_of, all_changes}
 use Rattle.sb_tenant.specs.State.{State, Catalog, Session, closed, idle, active, session_at, changes_of, progress_of}
 

@@ -1,18 +1,18 @@
 -- What a command that defines something leaves.
-use Rattle.std.proofs.Common.{◌≡◌, ◌∙◌, ◌⊎◌, ℕ, ◌+◌, ◌<◌, ◌≤◌, Bool, true, false, not, cond, nat_eq, List, [], ◌∷◌, ◌++◌, refl, sym, ap, subst, arith, inl, inr}
-use Rattle.std.specs.Prelude.{None, Result, Ok, Err, OnErr, IfOk}
+use Rattle.std.proofs.Common.{◌≡◌, ◌∙◌, ◌⊎◌, ℕ, ◌+◌, Bool, true, false, not, cond, nat_eq, List, [], ◌∷◌, ◌++◌, refl, sym, ap, subst, arith, inl, inr}
+use Rattle.std.specs.Prelude.{None, Result, Ok, Err}
 use Rattle.sb_value.specs.declared.refusal.Refusal.{Refusal}
 use Rattle.sb_value.specs.declared.refusal.Refusal.TheVariants.{NoMemory}
 use Rattle.sb_syntax.specs.Tree.{Command}
 use Rattle.sb_rawlog.specs.Records.{Record}
 use Rattle.sb_index.specs.TableSets.{TableSets}
-use Rattle.sb_tables.specs.Held.{Held, entries, without_table}
+use Rattle.sb_tables.specs.Held.{Held, without_table}
 use Rattle.sb_catalog.specs.Definitions.{AreIndexed, OtherTenantsStay}
 use Rattle.sb_process.specs.Made.{NumbersBelow}
 use Rattle.sb_tenant.specs.declared.reply.Reply.{Reply}
 use Rattle.sb_tenant.specs.declared.reply.Reply.TheVariants as reply
 use Rattle.sb_tenant.specs.declared.store.Store.{Store}
-use Rattle.sb_tenant.specs.Defining.{Defines, IsDone, defining, told}
+use Rattle.sb_tenant.specs.Defining.{Defines, IsDone, defining}
 use Rattle.sb_tenant.specs.Perform.{perform}
 use Rattle.sb_tenant.specs.Represents.{StandFor}
 use Rattle.sb_tenant.specs.Resolved.{Resolved}

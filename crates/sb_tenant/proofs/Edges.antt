@@ -2,6 +2,7 @@
 use Rattle.std.specs.Prelude.{◌≡◌, ℕ, zero, suc, ◌+◌, true, false, List, [], ◌∷◌, ◌++◌, map, drop, Some, None, refl, codes, pos, negsuc}
 use Rattle.sb_value.specs.declared.refusal.Refusal.TheVariants as refusal
 use Rattle.sb_value.specs.declared.lock.Mode.TheVariants.{Write}
+use Rattle.sb_value.specs.declared.value.Value.{Value}
 use Rattle.sb_value.specs.declared.value.Value.TheVariants.{Int}
 use Rattle.sb_syntax.specs.declared.ast.Comparison.TheVariants.{Equal, Greater}
 use Rattle.sb_syntax.specs.declared.ast.TableReference.TheVariants.{Named}
@@ -13,7 +14,7 @@ use Rattle.sb_tenant.specs.declared.reply.Reply.TheVariants as reply
 use Rattle.sb_tenant.specs.State.{State, idle, opening, session_at, has_transaction, is_open, with_session}
 use Rattle.sb_tenant.specs.Step.{step}
 use Rattle.sb_tenant.specs.Trail.{entry_of, state_of}
-use Rattle.sb_tenant.proofs.Script.{replies, replies_in_sessions, row, t, h, a, integer_column, named, number, source, a_of, show, insert, plus_one, start, empties_h, no}
+use Rattle.sb_tenant.proofs.Script.{replies, replies_in_sessions, row, t, h, a, integer_column, named, number, source, a_of, show, insert, b, aliased, plus_one, start, empties_h, no}
 
 -- ---- limits of the catalog
 
@@ -54,6 +55,18 @@ pub overflow : drop 3 (replies 1000 (start ++ begin ∷ insert t ((Int (pos 9223
     ∷ query (select (sum_of (named a)) (source (Named t) ∷ []) everything) ∷ rollback ∷ []))
     ≡ reply.Ok ∷ reply.Count 2 ∷ no refusal.Overflow ∷ reply.Rows (row 2 ∷ []) ∷ no refusal.Overflow ∷ reply.Count 1 ∷ reply.Rows (row 0 ∷ []) ∷ reply.Ok ∷ []
 overflow = refl
+
+-- ---- a limit on rows
+
+abbrev rows_to : ℕ → List (List Value)
+rows_to zero = []
+rows_to (suc n) = row n ∷ rows_to n
+
+-- 16 rows three times over are 4,096, which a select command may give; 17 rows are too many
+pub too_many_rows : drop 6 (replies 1000 (start ++ begin ∷ insert t (rows_to 17)
+    ∷ query (select count (source (Named t) ∷ aliased t h ∷ aliased t b ∷ []) everything) ∷ query (select all (source (Named t) ∷ aliased t h ∷ aliased t b ∷ []) everything) ∷ []))
+    ≡ no refusal.TooManyRows ∷ []
+too_many_rows = refl
 
 -- ---- a full trail
 

@@ -7,8 +7,8 @@ use Rattle.sb_value.specs.Table.{Entry}
 use Rattle.sb_rawlog.specs.Records.{Record}
 use Rattle.sb_tables.specs.Held.{Held, entries}
 use Rattle.sb_index.specs.TableSets.{TableSets}
-use Rattle.sb_catalog.specs.Definitions.{AreIndexed, AreOrdered, is_active}
-use Rattle.sb_catalog.specs.Rules.{AreNumbered, numbered}
+use Rattle.sb_catalog.specs.Definitions.{AreIndexed, AreOrdered}
+use Rattle.sb_catalog.specs.Rules.{AreNumbered, numbered, is_active}
 use Rattle.sb_catalog.specs.declared.rule.Rule.{Rule}
 use Rattle.sb_process.specs.Made.{EachBelow, NumbersBelow}
 use Rattle.sb_process.specs.Sharing.{TablesAreShared}

@@ -1,10 +1,11 @@
 -- Table locks of two sessions on whole scripts, by computation.
-use Rattle.std.specs.Prelude.{◌≡◌, ℕ, List, [], ◌∷◌, ◌++◌, map, None, refl, codes}
+use Rattle.std.specs.Prelude.{◌≡◌, ℕ, List, [], ◌∷◌, ◌++◌, map, None, refl, codes, pos}
 use Rattle.sb_value.specs.declared.refusal.Refusal.TheVariants as refusal
+use Rattle.sb_value.specs.declared.value.Value.TheVariants.{Int}
 use Rattle.sb_syntax.specs.declared.ast.TableReference.TheVariants.{Named, Inserted}
-use Rattle.sb_syntax.specs.Tree.{on_insert, insert_query, Command, open_session, begin, commit, change}
+use Rattle.sb_syntax.specs.Tree.{each_of, everything, select, on_insert, insert_query, Command, open_session, begin, commit, rollback, change}
 use Rattle.sb_tenant.specs.declared.reply.Reply.TheVariants as reply
-use Rattle.sb_tenant.proofs.Script.{replies_in_sessions, row, t, h, a_of, show, insert, start, started, rule, copies, no, refused, done}
+use Rattle.sb_tenant.proofs.Script.{replies_in_sessions, row, t, h, a_of, show, source, plus_one, insert, start, started, rule, copies, no, refused, done}
 
 abbrev first : List Command → List (ℕ × Command)
 first commands = map (λ c. (0, c)) commands
@@ -27,3 +28,14 @@ pub locks_of_two_sessions : replies_in_sessions 1000 (first start ++ (1, open_se
     ∷ reply.Ok ∷ reply.Count 1 ∷ reply.Ok ∷ no (refusal.Locked h) ∷ reply.Count 1 ∷ done []
     ∷ reply.Rows (row 2 ∷ []) ∷ reply.Ok ∷ reply.Rows (row 2 ∷ []) ∷ no (refusal.Locked t) ∷ done [] ∷ reply.Count 1 ∷ []
 locks_of_two_sessions = refl
+
+-- a statement that is refused once its locks are taken keeps them
+pub locks_stay : replies_in_sessions 1000 (first start ++ (1, open_session)
+    ∷ (0, begin) ∷ (0, insert t ((Int (pos 9223372036854775807) ∷ []) ∷ [])) ∷ (0, commit)
+    ∷ (0, begin) ∷ (0, change (insert_query h (select (each_of (plus_one ∷ [])) (source (Named t) ∷ []) everything)))
+    ∷ (1, begin) ∷ (1, insert h (row 1 ∷ [])) ∷ (1, insert t (row 1 ∷ [])) ∷ (0, rollback) ∷ (1, insert h (row 1 ∷ [])) ∷ [])
+    ≡ started ++ reply.Ok
+    ∷ reply.Ok ∷ reply.Count 1 ∷ done []
+    ∷ reply.Ok ∷ no refusal.Overflow
+    ∷ reply.Ok ∷ no (refusal.Locked h) ∷ no (refusal.Locked t) ∷ reply.Ok ∷ reply.Count 1 ∷ []
+locks_stay = refl

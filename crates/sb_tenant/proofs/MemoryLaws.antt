@@ -43,12 +43,12 @@ use Rattle.sb_tenant.specs.declared.reply.Answer.{Answer}
 use Rattle.sb_tenant.specs.declared.reply.Reply.{Reply}
 use Rattle.sb_tenant.specs.declared.reply.Reply.TheVariants as reply
 use Rattle.sb_tenant.specs.State.{State, Catalog, session_at, is_open, has_transaction, another_has_transaction, setting_of, progress_of, committed}
-use Rattle.sb_catalog.specs.Definitions.{acyclic, new_pairs, is_active, is_member}
+use Rattle.sb_catalog.specs.Definitions.{acyclic, new_pairs, is_member}
 use Rattle.sb_tenant.specs.Resolved.{Class, opens, ends, begins, defines, works, Resolved, open_session, end_session, begin, commit, rollback, process_rules, process_ruleset, process_rule, create_table, drop_table, create_rule, drop_rule, activate_rule, deactivate_rule, create_ruleset, drop_ruleset, add_rules, del_rules, query, change}
 use Rattle.sb_check.specs.Triggers.{trigger_places, walk_triggers}
 use Rattle.sb_check.specs.RuleParts.{Parts, condition_parts, walk_parts}
 use Rattle.sb_catalog.specs.declared.rule.Rule.{Rule}
-use Rattle.sb_catalog.specs.Rules.{rule_named}
+use Rattle.sb_catalog.specs.Rules.{rule_named, is_active}
 use Rattle.sb_tenant.specs.Walk.{unless, walk_lists, walk_rule, of_members, walk, class_of}
 use Rattle.sb_tenant.specs.Perform.{reply_rows, change_seen, with_request, reply_of, named, process_at, stays, select_seen, perform_change, perform}
 use Rattle.sb_tenant.specs.Step.{first_of, session_refusal, outcome_of, reply_to_command, reply_to, numbered, is_full_for, step}

@@ -1,6 +1,6 @@
 -- The rules with one more or one less, and with one of them active or not.
-use Rattle.std.proofs.Common.{◌≡◌, ◌∙◌, ◌⊎◌, ℕ, ◌≤◌, Bool, true, false, not, List, [], ◌∷◌, ◌++◌, length, refl, sym, ap, subst, inl, inr}
-use Rattle.std.specs.Prelude.{Result, Ok, Err, IsFalse}
+use Rattle.std.proofs.Common.{◌≡◌, ◌∙◌, ◌⊎◌, ℕ, ◌≤◌, Bool, true, false, not, List, ◌++◌, length, refl, sym, ap, subst, inl, inr}
+use Rattle.std.specs.Prelude.{Result, Ok, Err}
 use Rattle.sb_value.specs.declared.refusal.Refusal.{Refusal}
 use Rattle.sb_value.specs.declared.refusal.Refusal.TheVariants as refusal
 use Rattle.sb_syntax.specs.Tree.{RuleText}
@@ -8,11 +8,10 @@ use Rattle.sb_syntax.specs.Tree as text
 use Rattle.sb_check.specs.Names.{and_then, required}
 use Rattle.sb_check.specs.RuleParts.{Parts, walk_parts}
 use Rattle.sb_check.specs.There.{ArePartsThere}
-use Rattle.sb_check.specs.Walk.{Schema}
 use Rattle.sb_rawlog.specs.Records.{Record}
 use Rattle.sb_index.specs.TableSets.{TableSets}
 use Rattle.sb_priority.specs.Ranks.{pairs_without}
-use Rattle.sb_tables.specs.Held.{Held, entries}
+use Rattle.sb_tables.specs.Held.{entries}
 use Rattle.sb_rulesets.specs.Ruleset.{Ruleset}
 use Rattle.sb_rulesets.specs.Sets as rulesets
 use Rattle.sb_catalog.specs.Definitions.{AreIndexed, AreOrdered, Creates, Drops, SetsActive, OtherTenantsStay, new_pairs}
@@ -25,7 +24,7 @@ use Rattle.sb_tenant.specs.declared.store.Store.{Store}
 use Rattle.sb_tenant.specs.Catalog.{with_rule, without_rule, with_active}
 use Rattle.sb_tenant.specs.Defining.{Defines, IsAtRest, Stands}
 use Rattle.sb_tenant.specs.Represents.{StandFor}
-use Rattle.sb_tenant.specs.Resolved.{Resolved, NewRule, create_rule, drop_rule, activate_rule, deactivate_rule}
+use Rattle.sb_tenant.specs.Resolved.{Resolved, NewRule, create_rule, drop_rule}
 use Rattle.sb_tenant.specs.Perform.{perform}
 use Rattle.sb_tenant.specs.State.{State}
 use Rattle.sb_tenant.specs.Walk.{walk}

@@ -1,5 +1,5 @@
 -- Rules that can run: the tables that they name are there, whatever else the catalog has.
-use Rattle.std.proofs.Common.{◌≡◌, ◌∙◌, ℕ, ◌≤◌, Bool, true, false, not, ◌||◌, cond, nat_eq, List, [], ◌∷◌, ◌++◌, map, filter, length, refl, sym, ap, subst, eqb-true}
+use Rattle.std.proofs.Common.{◌≡◌, ◌∙◌, ℕ, ◌≤◌, Bool, true, false, not, ◌||◌, cond, nat_eq, List, [], ◌∷◌, ◌++◌, map, length, refl, sym, ap, subst}
 use Rattle.std.specs.Prelude.{filter_map, Option, None, Some, IsTrue, IsFalse, ◌==◌}
 use Rattle.std.specs.List.{list_any}
 use Rattle.std.proofs.lemmas.List.Folds.{list_any-append}
@@ -19,7 +19,7 @@ use Rattle.sb_check.specs.declared.tree.Statement.TheVariants.{InsertRows, Inser
 use Rattle.sb_syntax.specs.Tree.{RuleText}
 use Rattle.sb_eval.specs.Statement.{read_of, write_of, query_locks, statement_locks}
 use Rattle.sb_tables.specs.Held.{Held, entries, has_number}
-use Rattle.sb_catalog.specs.Rules.{rule_of, without_rule, set_active, with_active}
+use Rattle.sb_catalog.specs.Rules.{rule_of, without_rule, with_active}
 use Rattle.sb_catalog.specs.Uses.{is_table, has_source, statement_names, action_names, condition_names, rule_names, is_used}
 use Rattle.sb_catalog.specs.declared.rule.Rule.{Rule}
 use Rattle.sb_process.specs.Request.{AreThere}

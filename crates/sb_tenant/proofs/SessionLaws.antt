@@ -21,11 +21,12 @@ use Rattle.sb_tenant.specs.declared.reply.Reply.{Reply}
 use Rattle.sb_tenant.specs.declared.reply.Reply.TheVariants as reply
 use Rattle.sb_value.specs.declared.refusal.Refusal.TheVariants.{Locked}
 use Rattle.sb_value.specs.declared.refusal.Refusal.TheVariants as refusal
-use Rattle.sb_tenant.specs.State.{State, Session, idle, closed, active, session_at, is_open, with_session, with_progress, progress_of, setting_of, rolled_back, committed}
+use Rattle.sb_tenant.specs.State.{State, Catalog, Session, idle, closed, active, session_at, is_open, with_session, with_progress, progress_of, setting_of, rolled_back, committed}
 use Rattle.sb_tenant.specs.Resolved.{Resolved, open_session, end_session, begin, commit, rollback, process_rules, process_ruleset, process_rule, create_table, drop_table, create_rule, drop_rule, activate_rule, deactivate_rule, create_ruleset, drop_ruleset, add_rules, del_rules, query, change, begins, defines, works}
 use Rattle.sb_tenant.specs.Walk.{unless, walk, class_of}
 use Rattle.sb_tenant.specs.Perform.{with_request, change_seen, select_seen, perform_change, stands_after, stays, process_at, perform}
-use Rattle.sb_catalog.specs.Definitions.{is_active, is_member}
+use Rattle.sb_catalog.specs.Definitions.{is_member}
+use Rattle.sb_catalog.specs.Rules.{is_active}
 use Rattle.sb_tenant.specs.Step.{first_of, session_refusal, outcome_of, reply_to_command, reply_to, step, numbered, is_full_for}
 use Rattle.sb_tenant.specs.TrailLaws.{open_by}
 use Rattle.sb_tenant.proofs.Tests.{no_way}
@@ -107,14 +108,15 @@ module _ (s o : ℕ) (other : (o == s) ≡ false) where
 
 -- ---- the own session
 
-abbrev is_end : Resolved → Bool
-is_end end_session = true
-is_end other = false
+abbrev pub is_edge : Resolved → Bool
+is_edge open_session = true
+is_edge end_session = true
+is_edge other = false
 
--- a walk that resolves to no `end`
-data IsNoEnd : Result Resolved Refusal → Type 0 where
-  refused : (e : Refusal) → IsNoEnd (Err e)
-  resolved : (r : Resolved) → is_end r ≡ false → IsNoEnd (Ok r)
+-- a walk that resolves to neither `open` nor `end`
+pub data IsInner : Result Resolved Refusal → Type 0 where
+  refused : (e : Refusal) → IsInner (Err e)
+  resolved : (r : Resolved) → is_edge r ≡ false → IsInner (Ok r)
 
 module _ (tenant bound : ℕ) (state : State) (s : ℕ) (was_open : is_open (session_at state s) ≡ true) where
   set_open : (before : State) (session : Session) → is_open session ≡ true → is_open (session_at (with_session before s session) s) ≡ true
@@ -153,8 +155,8 @@ module _ (tenant bound : ℕ) (state : State) (s : ℕ) (was_open : is_open (ses
   process-open eligible =
       let p = process bound (setting_of tenant state s) eligible (progress_of state s) in stands-stays-open p.outcome p.progress
 
-  perform-open : (r : Resolved) → is_end r ≡ false → is_open (session_at (perform tenant bound state s r).0 s) ≡ true
-  perform-open open_session h = set_open state idle refl
+  perform-open : (r : Resolved) → is_edge r ≡ false → is_open (session_at (perform tenant bound state s r).0 s) ≡ true
+  perform-open open_session h = no_way (sym h)
   perform-open end_session h = no_way (sym h)
   perform-open begin h = set_open state (active [] (λ id. 0)) refl
   perform-open commit h = commit-open
@@ -177,19 +179,46 @@ module _ (tenant bound : ℕ) (state : State) (s : ℕ) (was_open : is_open (ses
       request-open (statement_locks statement) (perform_change tenant state s statement)
       (λ p. change-open p (statement_changes (seen_with (setting_of tenant state s) no_transition p) statement))
 
--- ---- the walk of other commands gives no `end`
+-- ---- the walk of other commands gives neither
 
-required-no_end : (b : Bool) (e : Refusal) (next : Result Resolved Refusal) → IsNoEnd next → IsNoEnd (required b e next)
-required-no_end true e next h = h
-required-no_end false e next h = refused e
+required-inner : (b : Bool) (e : Refusal) (next : Result Resolved Refusal) → IsInner next → IsInner (required b e next)
+required-inner true e next h = h
+required-inner false e next h = refused e
 
-unless-no_end : (o : Option Refusal) (w : Result Resolved Refusal) → IsNoEnd w → IsNoEnd (unless o w)
-unless-no_end None w h = h
-unless-no_end (Some e) w h = refused e
+unless-inner : (o : Option Refusal) (w : Result Resolved Refusal) → IsInner w → IsInner (unless o w)
+unless-inner None w h = h
+unless-inner (Some e) w h = refused e
 
-and_then-no_end : {A : Type 0} (r : Result A Refusal) (next : A → Result Resolved Refusal) → ((a : A) → IsNoEnd (next a)) → IsNoEnd (and_then r next)
-and_then-no_end (Err e) next h = refused e
-and_then-no_end (Ok a) next h = h a
+and_then-inner : {A : Type 0} (r : Result A Refusal) (next : A → Result Resolved Refusal) → ((a : A) → IsInner (next a)) → IsInner (and_then r next)
+and_then-inner (Err e) next h = refused e
+and_then-inner (Ok a) next h = h a
+
+abbrev pub is_edge_command : Command → Bool
+is_edge_command text.open_session = true
+is_edge_command text.end_session = true
+is_edge_command other = false
+
+pub inner-walk : (catalog : Catalog) (c : Command) → is_edge_command c ≡ false → IsInner (walk catalog c)
+inner-walk catalog text.open_session h = no_way (sym h)
+inner-walk catalog text.end_session h = no_way (sym h)
+inner-walk catalog text.begin h = resolved begin refl
+inner-walk catalog text.commit h = resolved commit refl
+inner-walk catalog text.rollback h = resolved rollback refl
+inner-walk catalog text.process_rules h = resolved process_rules refl
+inner-walk catalog (text.process_ruleset name) h = search (required-inner, resolved)
+inner-walk catalog (text.process_rule name) h = search (and_then-inner, resolved)
+inner-walk catalog (text.create_table name columns) h = search (and_then-inner, required-inner, resolved)
+inner-walk catalog (text.drop_table name) h = search (required-inner, and_then-inner, resolved)
+inner-walk catalog (text.create_rule r) h = search (required-inner, and_then-inner, resolved) depth 16
+inner-walk catalog (text.drop_rule name) h = search (and_then-inner, resolved)
+inner-walk catalog (text.activate_rule name) h = search (and_then-inner, resolved)
+inner-walk catalog (text.deactivate_rule name) h = search (and_then-inner, resolved)
+inner-walk catalog (text.create_ruleset name) h = search (unless-inner, resolved)
+inner-walk catalog (text.drop_ruleset name) h = search (required-inner, resolved)
+inner-walk catalog (text.add_rules name rules) h = search (required-inner, and_then-inner, resolved)
+inner-walk catalog (text.del_rules name rules) h = search (required-inner, and_then-inner, resolved)
+inner-walk catalog (text.query q) h = search (and_then-inner, resolved)
+inner-walk catalog (text.change c) h = search (and_then-inner, resolved)
 
 -- ---- what a command does to its own session
 
@@ -198,16 +227,16 @@ none_of_first r true others h = refl
 none_of_first r false others h = cc
 
 module _ (tenant bound : ℕ) (state : State) (s : ℕ) where
-  stays-open : (r : Option Refusal) (w : Result Resolved Refusal) → IsNoEnd w → (r ≡ None → is_open (session_at state s) ≡ true) →
+  stays-open : (r : Option Refusal) (w : Result Resolved Refusal) → IsInner w → (r ≡ None → is_open (session_at state s) ≡ true) →
       is_open (session_at (outcome_of tenant bound state s r w).0 s) ≡ is_open (session_at state s)
   stays-open (Some r) w h opened = refl
   stays-open None w (refused e) opened = refl
   stays-open None w (resolved r h) opened = perform-open tenant bound state s (opened refl) r h ∙ sym (opened refl)
 
-  defining : (w : Result Resolved Refusal) → IsNoEnd w → is_open (session_at (outcome_of tenant bound state s (session_refusal defines state s) w).0 s) ≡ is_open (session_at state s)
+  defining : (w : Result Resolved Refusal) → IsInner w → is_open (session_at (outcome_of tenant bound state s (session_refusal defines state s) w).0 s) ≡ is_open (session_at state s)
   defining w h = stays-open (session_refusal defines state s) w h (none_of_first refusal.NotOpen (is_open (session_at state s)) _)
 
-  working : (w : Result Resolved Refusal) → IsNoEnd w → is_open (session_at (outcome_of tenant bound state s (session_refusal works state s) w).0 s) ≡ is_open (session_at state s)
+  working : (w : Result Resolved Refusal) → IsInner w → is_open (session_at (outcome_of tenant bound state s (session_refusal works state s) w).0 s) ≡ is_open (session_at state s)
   working w h = stays-open (session_refusal works state s) w h (none_of_first refusal.NotOpen (is_open (session_at state s)) _)
 
   -- `open` and `end`, by whether the session is open
@@ -222,24 +251,24 @@ module _ (tenant bound : ℕ) (state : State) (s : ℕ) where
   pub own_command : (c : Command) → is_open (session_at (reply_to_command tenant bound state s c).0 s) ≡ open_by (Some c) (is_open (session_at state s))
   own_command text.open_session = opening_of (is_open (session_at state s)) refl
   own_command text.end_session = ending_of (is_open (session_at state s)) refl
-  own_command text.begin = stays-open (session_refusal begins state s) (Ok begin) (resolved begin refl) (none_of_first refusal.NotOpen (is_open (session_at state s)) _)
-  own_command text.commit = working (Ok commit) (resolved commit refl)
-  own_command text.rollback = working (Ok rollback) (resolved rollback refl)
-  own_command text.process_rules = working (Ok process_rules) (resolved process_rules refl)
-  own_command (text.process_ruleset name) = working (walk state.catalog (text.process_ruleset name)) (search (required-no_end, resolved))
-  own_command (text.process_rule name) = working (walk state.catalog (text.process_rule name)) (search (and_then-no_end, resolved))
-  own_command (text.create_table name columns) = defining (walk state.catalog (text.create_table name columns)) (search (and_then-no_end, required-no_end, resolved))
-  own_command (text.drop_table name) = defining (walk state.catalog (text.drop_table name)) (search (required-no_end, and_then-no_end, resolved))
-  own_command (text.create_rule r) = defining (walk state.catalog (text.create_rule r)) (search (required-no_end, and_then-no_end, resolved) depth 16)
-  own_command (text.drop_rule name) = defining (walk state.catalog (text.drop_rule name)) (search (and_then-no_end, resolved))
-  own_command (text.activate_rule name) = defining (walk state.catalog (text.activate_rule name)) (search (and_then-no_end, resolved))
-  own_command (text.deactivate_rule name) = defining (walk state.catalog (text.deactivate_rule name)) (search (and_then-no_end, resolved))
-  own_command (text.create_ruleset name) = defining (walk state.catalog (text.create_ruleset name)) (search (unless-no_end, resolved))
-  own_command (text.drop_ruleset name) = defining (walk state.catalog (text.drop_ruleset name)) (search (required-no_end, resolved))
-  own_command (text.add_rules name rules) = defining (walk state.catalog (text.add_rules name rules)) (search (required-no_end, and_then-no_end, resolved))
-  own_command (text.del_rules name rules) = defining (walk state.catalog (text.del_rules name rules)) (search (required-no_end, and_then-no_end, resolved))
-  own_command (text.query q) = working (walk state.catalog (text.query q)) (search (and_then-no_end, resolved))
-  own_command (text.change c) = working (walk state.catalog (text.change c)) (search (and_then-no_end, resolved))
+  own_command text.begin = stays-open (session_refusal begins state s) (walk state.catalog text.begin) (inner-walk state.catalog text.begin refl) (none_of_first refusal.NotOpen (is_open (session_at state s)) _)
+  own_command text.commit = working (walk state.catalog text.commit) (inner-walk state.catalog text.commit refl)
+  own_command text.rollback = working (walk state.catalog text.rollback) (inner-walk state.catalog text.rollback refl)
+  own_command text.process_rules = working (walk state.catalog text.process_rules) (inner-walk state.catalog text.process_rules refl)
+  own_command (text.process_ruleset name) = working (walk state.catalog (text.process_ruleset name)) (inner-walk state.catalog (text.process_ruleset name) refl)
+  own_command (text.process_rule name) = working (walk state.catalog (text.process_rule name)) (inner-walk state.catalog (text.process_rule name) refl)
+  own_command (text.create_table name columns) = defining (walk state.catalog (text.create_table name columns)) (inner-walk state.catalog (text.create_table name columns) refl)
+  own_command (text.drop_table name) = defining (walk state.catalog (text.drop_table name)) (inner-walk state.catalog (text.drop_table name) refl)
+  own_command (text.create_rule r) = defining (walk state.catalog (text.create_rule r)) (inner-walk state.catalog (text.create_rule r) refl)
+  own_command (text.drop_rule name) = defining (walk state.catalog (text.drop_rule name)) (inner-walk state.catalog (text.drop_rule name) refl)
+  own_command (text.activate_rule name) = defining (walk state.catalog (text.activate_rule name)) (inner-walk state.catalog (text.activate_rule name) refl)
+  own_command (text.deactivate_rule name) = defining (walk state.catalog (text.deactivate_rule name)) (inner-walk state.catalog (text.deactivate_rule name) refl)
+  own_command (text.create_ruleset name) = defining (walk state.catalog (text.create_ruleset name)) (inner-walk state.catalog (text.create_ruleset name) refl)
+  own_command (text.drop_ruleset name) = defining (walk state.catalog (text.drop_ruleset name)) (inner-walk state.catalog (text.drop_ruleset name) refl)
+  own_command (text.add_rules name rules) = defining (walk state.catalog (text.add_rules name rules)) (inner-walk state.catalog (text.add_rules name rules) refl)
+  own_command (text.del_rules name rules) = defining (walk state.catalog (text.del_rules name rules)) (inner-walk state.catalog (text.del_rules name rules) refl)
+  own_command (text.query q) = working (walk state.catalog (text.query q)) (inner-walk state.catalog (text.query q) refl)
+  own_command (text.change c) = working (walk state.catalog (text.change c)) (inner-walk state.catalog (text.change c) refl)
 
 -- ---- a line, and a step
 

@@ -12,7 +12,7 @@ use Rattle.sb_catalog.specs.Definitions.{OtherTenantsStay}
 use Rattle.sb_process.specs.declared.database.Database.{Database}
 use Rattle.sb_process.specs.Made.{NumbersBelow}
 use Rattle.sb_process.specs.Transactions.{Kept, mark_of}
-use Rattle.sb_tenant.specs.declared.phase.Phase.TheVariants.{Closed, Idle, Active}
+use Rattle.sb_tenant.specs.declared.phase.Phase.TheVariants.{Closed}
 use Rattle.sb_tenant.specs.declared.reply.Answer.{Answer}
 use Rattle.sb_tenant.specs.declared.reply.Entry.{Entry}
 use Rattle.sb_tenant.specs.declared.reply.Reply.{Reply}
@@ -24,7 +24,7 @@ use Rattle.sb_tenant.specs.declared.tenant.Tenant.TheInside.{Inside}
 use Rattle.sb_tenant.specs.Remembered.{IsRemembered, number_limit, seen}
 use Rattle.sb_tenant.specs.Represents.{Holds, Leaves, StandFor, Performs, phase_of}
 use Rattle.sb_tenant.specs.Resolved as resolved
-use Rattle.sb_tenant.specs.State.{State, Session, closed, idle, active, opening, session_at, is_open, open_count, with_session, rolled_back}
+use Rattle.sb_tenant.specs.State.{State, Session, closed, idle, active, session_at, is_open, open_count, with_session, rolled_back}
 use Rattle.sb_tenant.specs.Step.{first_of, is_full_for, is_end_of_open, numbered, outcome_of, reply_to, reply_to_command, step}
 use Rattle.sb_tenant.specs.Tenant.{Tenant, HoldNothing, InStep, IsLegal, IsSame, MakesStep, StaysInStep, state}
 use Rattle.sb_tenant.specs.Trail.{after_abort, IsNext, state_of, IsTrail, entry_of}
@@ -134,9 +134,6 @@ module _ (t new : Tenant) (same : IsSame t new) (s : ℕ) (line : List ℕ) (tol
       (subst (λ (b : ℕ). IsTrail new.id b (t.trail ++ entry_of s line told ∷ [])) (sym same.1)
       (subst (λ (i : ℕ). IsTrail i t.bound (t.trail ++ entry_of s line told ∷ [])) (sym same.0) e.legal))
 
-  pub new_holds : (origin : List Held) × Holds origin store (state new)
-  new_holds = subst (λ (st : State). (origin : List Held) × Holds origin store st) (sym new_state) e.stands.0
-
   pub new_agrees : Agrees store.database.id (state new) store.database.transactions records clock index
   new_agrees = subst (λ (st : State). Agrees store.database.id st store.database.transactions records clock index) (sym new_state) e.stands.1
 
@@ -173,21 +170,6 @@ grown old new n by few before rises m h =
     subst (λ (k : ℕ). NumbersBelow k new) is (rises (m - by) (before (m - by) enough))
 
 -- ---- whether a session is open
-
-pub open_phase : (session : Session) → phase_of session ≡ Idle → is_open session ≡ true
-open_phase closed h = cc
-open_phase idle h = refl
-open_phase (active changes marks) h = refl
-
-pub active_phase : (session : Session) → phase_of session ≡ Active → is_open session ≡ true
-active_phase closed h = cc
-active_phase idle h = refl
-active_phase (active changes marks) h = refl
-
-pub closed_phase : (session : Session) → phase_of session ≡ Closed → is_open session ≡ false
-closed_phase closed h = refl
-closed_phase idle h = cc
-closed_phase (active changes marks) h = cc
 
 pub phase_closed : (session : Session) → is_open session ≡ false → phase_of session ≡ Closed
 phase_closed closed h = refl

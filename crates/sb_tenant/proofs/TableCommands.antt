@@ -1,6 +1,6 @@
 -- A new table, and one table less.
-use Rattle.std.proofs.Common.{◌≡◌, ◌∙◌, ◌⊎◌, ℕ, ◌<◌, ◌≤◌, Bool, true, false, not, ◌||◌, cond, nat_eq, List, [], ◌∷◌, ◌++◌, map, filter, length, find, Option, Some, None, option_map, refl, sym, ap, eq-eqb, eqb-true, rules}
-use Rattle.std.specs.Prelude.{Result, Ok, Err, nat_lt, IsTrue, IsFalse}
+use Rattle.std.proofs.Common.{◌≡◌, ◌∙◌, ℕ, ◌<◌, ◌≤◌, Bool, true, false, not, ◌||◌, cond, nat_eq, List, [], ◌∷◌, ◌++◌, map, filter, length, find, Option, Some, None, option_map, refl, sym, ap, eq-eqb, eqb-true, rules}
+use Rattle.std.specs.Prelude.{Result, Ok, nat_lt, IsTrue, IsFalse}
 use Rattle.std.specs.List.{list_any}
 use Rattle.std.proofs.lemmas.List.{map-append}
 use Rattle.sb_value.specs.declared.refusal.Refusal.{Refusal}
@@ -11,7 +11,6 @@ use Rattle.sb_value.specs.Table.{Entry, empty_table}
 use Rattle.sb_syntax.specs.Tree as text
 use Rattle.sb_check.specs.Names.{and_then, required, some_or}
 use Rattle.sb_check.specs.Resolved.{named_twice, new_table, walk_names}
-use Rattle.sb_check.specs.Resolved as names
 use Rattle.sb_check.specs.Walk.{Schema, table_named}
 use Rattle.sb_catalog.specs.Rules.{IsLeastFree, least_free}
 use Rattle.sb_catalog.specs.Uses.{is_used}

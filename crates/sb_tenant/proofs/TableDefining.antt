@@ -1,11 +1,11 @@
 -- The commands on tables, where no session has a transaction.
-use Rattle.std.proofs.Common.{◌≡◌, ◌∙◌, ◌⊎◌, ℕ, ◌<◌, Bool, true, false, not, List, ◌++◌, ◌∷◌, [], map, length, Option, Some, None, option_map, refl, sym, ap, subst, inl, inr}
+use Rattle.std.proofs.Common.{◌≡◌, ◌∙◌, ◌⊎◌, ℕ, ◌<◌, Bool, true, false, not, List, ◌++◌, ◌∷◌, [], length, Option, Some, None, option_map, refl, sym, ap, inl, inr}
 use Rattle.std.specs.Prelude.{Result, Ok, Err, nat_lt, IsTrue, IsFalse}
 use Rattle.std.proofs.lemmas.List.{length-map}
 use Rattle.sb_value.specs.declared.refusal.Refusal.{Refusal}
 use Rattle.sb_value.specs.declared.refusal.Refusal.TheVariants as refusal
 use Rattle.sb_value.specs.declared.value.ColumnDefinition.{ColumnDefinition}
-use Rattle.sb_value.specs.Table.{Entry, empty_table}
+use Rattle.sb_value.specs.Table.{empty_table}
 use Rattle.sb_syntax.specs.Tree as text
 use Rattle.sb_check.specs.Names.{and_then, required}
 use Rattle.sb_check.specs.Resolved.{new_table, walk_names}

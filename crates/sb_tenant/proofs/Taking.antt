@@ -1,31 +1,17 @@
 -- What a session's requests do to the locks: they stay exclusive, and those of the others stay.
-use Rattle.std.proofs.Common.{◌≡◌, ◌∙◌, ℕ, zero, suc, Bool, true, false, not, ◌&&◌, ◌||◌, cond, nat_eq, List, [], ◌∷◌, Option, Some, None, Result, Ok, Err, refl, sym, ap, true≢false, eqb-true, IsTrue}
+use Rattle.std.proofs.Common.{◌≡◌, ◌∙◌, ℕ, Bool, true, false, not, ◌&&◌, ◌||◌, cond, nat_eq, List, [], ◌∷◌, Some, None, refl, sym, ap, true≢false, eqb-true, IsTrue}
 use Rattle.std.specs.Prelude.{find, option_map}
 use Rattle.std.specs.List.{list_any}
 use Rattle.std.proofs.lemmas.Option.{none-some}
 use Rattle.std.proofs.lemmas.Bool.{eq-eqb}
-use Rattle.sb_value.specs.declared.value.Value.{Value}
-use Rattle.sb_value.specs.declared.change.Change.{Change}
-use Rattle.sb_value.specs.declared.net.Transition.{Transition}
 use Rattle.sb_value.specs.declared.lock.Mode.{Mode}
 use Rattle.sb_value.specs.declared.lock.Mode.TheVariants.{Read, Write}
-use Rattle.sb_value.specs.declared.refusal.Refusal.{Refusal}
-use Rattle.sb_value.specs.declared.refusal.Refusal.TheVariants.{Locked}
 use Rattle.sb_value.specs.Locks.{Locks, same_mode, conflicts, first_conflict, with_locks, released}
-use Rattle.sb_value.specs.declared.refusal.Verdict.TheVariants as verdict
-use Rattle.sb_value.specs.Table.{name_at}
-use Rattle.sb_check.specs.Condition.{Query}
-use Rattle.sb_check.specs.declared.tree.Statement.{Statement}
-use Rattle.sb_check.specs.declared.tree.Action.{Action}
-use Rattle.sb_check.specs.declared.tree.Action.TheVariants as action
-use Rattle.sb_catalog.specs.declared.rule.Rule.{Rule}
-use Rattle.sb_eval.specs.Statement.{query_locks, statement_locks, condition_rows, statement_changes}
-use Rattle.sb_process.specs.declared.Outcome.TheVariants.{Done, ByRule, ByError, ByLimit}
-use Rattle.sb_process.specs.Consider.{with_request, with_changes, run_statement, Ending, ran, rolled_back, refused, run_actions, test_rows, test_condition, Considered, was_false, was_true, was_refused, consider}
-use Rattle.sb_process.specs.Process.{Processing, ended, after_verdict, process}
-use Rattle.sb_process.specs.Setting.{Setting, Progress, next_rule, rule_tables, marked, seen_with}
+use Rattle.sb_process.specs.Process.{process}
+use Rattle.sb_process.specs.Setting.{Setting, Progress}
 use Rattle.sb_tenant.specs.Limits.{is_session}
 use Rattle.sb_tenant.specs.Represents.{AreExclusive}
+use Rattle.sb_tenant.proofs.Keeping.{IsKept, process-keeps, Any, any-rules}
 use Rattle.sb_tenant.proofs.Sharing.{each-session, or-left, or-right}
 use Rattle.sb_tenant.proofs.Tests.{no_way, and_left, and_right}
 
@@ -125,111 +111,12 @@ taken-released s old k = record {
 
 -- ---- what processing takes
 
-module _ (setting : Setting) (first : Locks) where
-  abbrev Keeps : Progress → Type 0
-  Keeps p = Taken setting.who.session first p.locks
+taken-kept : (setting : Setting) (first : Locks) → IsKept setting Any (λ p. Taken setting.who.session first p.locks)
+taken-kept setting first = record {
+  mark = λ rule p h. h;
+  request = λ list p e h. taken-request setting.who.session first p.locks list e h;
+  change = λ tables statement p changes good asked h e. h;
+}
 
-  abbrev OkIn : {A : Type 0} → (A → Type 0) → Result A Refusal → Type 0
-  OkIn K (Ok x) = K x
-  OkIn K (Err refusal) = Unit {0}
-
-  request-keeps : {A : Type 0} (K : A → Type 0) (request : List (ℕ × Mode)) (p : Progress) (next : Progress → Result A Refusal) → Keeps p → ((q : Progress) → Keeps q → OkIn K (next q)) → OkIn K (with_request setting p request next)
-  request-keeps {A = A} K request p next h f = by (first_conflict p.locks setting.who.session request) refl
-    where
-      by : (o : Option ℕ) → first_conflict p.locks setting.who.session request ≡ o →
-          OkIn K (elim o as (λ _. Result A Refusal) [ Some table ↦ Err (Locked (name_at setting.base table)) | None ↦ next (record p { locks = with_locks p.locks setting.who.session request }) ])
-      by (Some table) e = tt
-      by None e = f (record p { locks = with_locks p.locks setting.who.session request }) (taken-request setting.who.session first p.locks request e h)
-
-  changes-keep : (p : Progress) (r : Result (List Change) Refusal) → Keeps p → OkIn Keeps (with_changes p r)
-  changes-keep p (Ok changes) h = h
-  changes-keep p (Err refusal) h = tt
-
-  statement-keeps : (tables : Transition) (statement : Statement) (p : Progress) → Keeps p → OkIn Keeps (run_statement setting tables statement p)
-  statement-keeps tables statement p h =
-      request-keeps Keeps (statement_locks statement) p (λ q. with_changes q (statement_changes (seen_with setting tables q) statement)) h
-      (λ q k. changes-keep q (statement_changes (seen_with setting tables q) statement) k)
-
-  abbrev EndIn : Ending → Type 0
-  EndIn (ran p) = Keeps p
-  EndIn rolled_back = Unit {0}
-  EndIn (refused refusal) = Unit {0}
-
-  actions-keep : (tables : Transition) (actions : List Action) (p : Progress) → Keeps p → EndIn (run_actions setting tables actions p)
-  actions-keep tables [] p h = h
-  actions-keep tables (action.Rollback ∷ actions) p h = tt
-  actions-keep tables (action.Change statement ∷ actions) p h = by (run_statement setting tables statement p) (statement-keeps tables statement p h) (actions-keep tables actions)
-    where
-      by : (r : Result Progress Refusal) → OkIn Keeps r → ((q : Progress) → Keeps q → EndIn (run_actions setting tables actions q)) →
-          EndIn (elim r as (λ _. Ending) [ Err refusal ↦ refused refusal | Ok q ↦ run_actions setting tables actions q ])
-      by (Err refusal) k rest = tt
-      by (Ok q) k rest = rest q k
-
-  rows-keep : (p : Progress) (r : Result (List (List Value)) Refusal) → Keeps p → OkIn (λ (t : Bool × Progress). Keeps t.1) (test_rows p r)
-  rows-keep p (Ok rows) h = h
-  rows-keep p (Err refusal) h = tt
-
-  test-keeps : (tables : Transition) (condition : Option Query) (p : Progress) → Keeps p → OkIn (λ (t : Bool × Progress). Keeps t.1) (test_condition setting tables condition p)
-  test-keeps tables None p h = h
-  test-keeps tables (Some q) p h =
-      request-keeps (λ (t : Bool × Progress). Keeps t.1) (query_locks q) p (λ x. test_rows x (condition_rows (seen_with setting tables x) q)) h
-      (λ x k. rows-keep x (condition_rows (seen_with setting tables x) q) k)
-
-  abbrev MeantIn : Considered → Type 0
-  MeantIn (was_false p) = Keeps p
-  MeantIn (was_true ending) = EndIn ending
-  MeantIn (was_refused refusal) = Unit {0}
-
-  consider-keeps : (rule : Rule) (p : Progress) → Keeps p → MeantIn (consider setting rule p)
-  consider-keeps rule p h = by (test_condition setting (rule_tables p rule) rule.condition (marked rule p)) (test-keeps (rule_tables p rule) rule.condition (marked rule p) h)
-    where
-      by : (r : Result (Bool × Progress) Refusal) → OkIn (λ (t : Bool × Progress). Keeps t.1) r →
-          MeantIn (elim r as (λ _. Considered) [
-            | Err refusal ↦ was_refused refusal
-            | Ok tested ↦ elim tested.0 as (λ _. Considered) [ true ↦ was_true (run_actions setting (rule_tables p rule) rule.actions tested.1) | false ↦ was_false tested.1 ]
-          ])
-      by (Err refusal) k = tt
-      by (Ok tested) k =
-          elim tested.0 as (λ b. MeantIn (elim b as (λ _. Considered) [ true ↦ was_true (run_actions setting (rule_tables p rule) rule.actions tested.1) | false ↦ was_false tested.1 ])) [
-            | true ↦ actions-keep (rule_tables p rule) rule.actions tested.1 k
-            | false ↦ k
-          ]
-
-  pub process-keeps : (n : ℕ) (eligible : ℕ → Bool) (p : Progress) → Keeps p → Keeps (process n setting eligible p).progress
-  process-keeps zero eligible p h = by (next_rule setting eligible p)
-    where
-      by : (o : Option Rule) → Keeps (elim o as (λ _. Processing) [ None ↦ ended Done [] p | Some rule ↦ ended ByLimit [] p ]).progress
-      by None = h
-      by (Some rule) = h
-  process-keeps (suc n) eligible p h = by (next_rule setting eligible p) (process-keeps n eligible)
-    where
-      goes : (rule : Rule) (meant : Considered) → MeantIn meant → ((q : Progress) → Keeps q → Keeps (process n setting eligible q).progress) →
-          Keeps (elim meant as (λ _. Processing) [
-            | was_false q ↦ after_verdict (rule.id, verdict.False) (process n setting eligible q)
-            | was_true ending ↦ elim ending as (λ _. Processing) [
-              | ran q ↦ after_verdict (rule.id, verdict.True) (process n setting eligible q)
-              | rolled_back ↦ ended (ByRule rule.id) ((rule.id, verdict.True) ∷ []) p
-              | refused f ↦ ended (ByError rule.id f) ((rule.id, verdict.Error) ∷ []) p
-            ]
-            | was_refused f ↦ ended (ByError rule.id f) ((rule.id, verdict.Error) ∷ []) p
-          ]).progress
-      goes rule (was_false q) k rest = rest q k
-      goes rule (was_true (ran q)) k rest = rest q k
-      goes rule (was_true rolled_back) k rest = h
-      goes rule (was_true (refused f)) k rest = h
-      goes rule (was_refused f) k rest = h
-
-      by : (o : Option Rule) → ((q : Progress) → Keeps q → Keeps (process n setting eligible q).progress) → Keeps (elim o as (λ _. Processing) [
-        | None ↦ ended Done [] p
-        | Some rule ↦ elim (consider setting rule p) as (λ _. Processing) [
-          | was_false q ↦ after_verdict (rule.id, verdict.False) (process n setting eligible q)
-          | was_true ending ↦ elim ending as (λ _. Processing) [
-            | ran q ↦ after_verdict (rule.id, verdict.True) (process n setting eligible q)
-            | rolled_back ↦ ended (ByRule rule.id) ((rule.id, verdict.True) ∷ []) p
-            | refused f ↦ ended (ByError rule.id f) ((rule.id, verdict.Error) ∷ []) p
-          ]
-          | was_refused f ↦ ended (ByError rule.id f) ((rule.id, verdict.Error) ∷ []) p
-        ]
-      ]).progress
-      by None rest = h
-      by (Some rule) rest = goes rule (consider setting rule p) (consider-keeps rule p h) rest
+pub process-takes : (setting : Setting) (first : Locks) (n : ℕ) (eligible : ℕ → Bool) (p : Progress) → Taken setting.who.session first p.locks → Taken setting.who.session first (process n setting eligible p).progress.locks
+process-takes setting first = process-keeps setting Any (λ p. Taken setting.who.session first p.locks) (taken-kept setting first) (any-rules setting.rules)

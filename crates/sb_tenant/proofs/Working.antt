@@ -1,12 +1,12 @@
 -- Commands in a transaction: the walk over the tables as they are seen is the one over the committed tables.
 use Rattle.std.proofs.Common.{◌≡◌, ◌∙◌, ◌⊎◌, ℕ, Bool, true, false, nat_eq, cond, List, [], ◌∷◌, map, refl, sym, ap, subst, inl, inr}
-use Rattle.std.specs.Prelude.{None, Some, Option, Result, Ok, Err}
+use Rattle.std.specs.Prelude.{None, Result, Ok, Err}
 use Rattle.sb_value.specs.declared.change.Change.{Change}
 use Rattle.sb_value.specs.declared.change.Kind.{Kind}
 use Rattle.sb_value.specs.declared.change.Kind.TheVariants.{Inserted, Deleted, Updated}
 use Rattle.sb_value.specs.declared.refusal.Refusal.{Refusal}
 use Rattle.sb_value.specs.declared.refusal.Refusal.TheVariants as refusal
-use Rattle.sb_value.specs.Table.{Table, Entry, after_kind}
+use Rattle.sb_value.specs.Table.{Table, after_kind}
 use Rattle.sb_syntax.specs.Tree as text
 use Rattle.sb_check.specs.Condition.{Query}
 use Rattle.sb_check.specs.declared.tree.Statement.{Statement}
@@ -18,11 +18,11 @@ use Rattle.sb_rawlog.specs.Records.{Record}
 use Rattle.sb_index.specs.TableSets.{TableSets}
 use Rattle.sb_tables.specs.Held.{Held, entries, entry_of}
 use Rattle.sb_tables.specs.Undo.{stored_after}
-use Rattle.sb_process.specs.Made.{held_after, tables_after, tables_after_all, without_room}
+use Rattle.sb_process.specs.Made.{held_after, tables_after, tables_after_all}
 use Rattle.sb_tenant.specs.declared.reply.Reply.{Reply}
 use Rattle.sb_tenant.specs.declared.reply.Reply.TheVariants as reply
 use Rattle.sb_tenant.specs.declared.store.Store.{Store}
-use Rattle.sb_tenant.specs.Represents.{Holds, StandFor, Performs, all_changes}
+use Rattle.sb_tenant.specs.Represents.{StandFor, Performs, all_changes}
 use Rattle.sb_tenant.specs.Resolved.{Resolved, query, change}
 use Rattle.sb_tenant.specs.State.{State}
 use Rattle.sb_tenant.specs.Step.{outcome_of}

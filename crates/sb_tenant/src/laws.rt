@@ -2,6 +2,10 @@
 ghost use Rattle.std.specs.Prelude.{ℕ};
 ghost use Rattle.sb_tenant.specs.TrailLaws.{TrailsFixStates, LegalStatesAreReplayed, StepsHaveMemory, OthersStay, OwnOpens, TrailsAreBounded};
 ghost use Rattle.sb_tenant.specs.Walk.{NamesComeFirst};
+ghost use Rattle.sb_tenant.specs.WellFormed.{StatesAreWellFormed};
+
+use sb_check::resolved_tables_are_there;
+use sb_eval::changes_are_proper;
 
 /// A legal trail fixes the state after it.
 pub fn trails_fix_states()
@@ -28,6 +32,16 @@ pub fn entries_open_and_close()
 pub fn trails_are_bounded()
     ensures { (tenant bound : ℕ) → TrailsAreBounded tenant bound }
 {}
+
+/// In a state that can be reached locks belong to transactions, a session has locked what it has changed, alone,
+/// and its changes can be made of the tables that it sees without them.
+pub fn states_are_well_formed()
+    ensures { (tenant bound : ℕ) → StatesAreWellFormed tenant bound }
+{
+    // for the proof: what a walk names is there, and a statement's changes are proper
+    resolved_tables_are_there();
+    changes_are_proper();
+}
 
 /// The walk of a command begins with its names and types, as they are resolved over the tables alone.
 pub fn names_come_first()

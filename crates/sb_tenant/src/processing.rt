@@ -1,7 +1,7 @@
 //! Assertion points of a session's transaction.
 ghost use Rattle.std.specs.Prelude.{◌≡◌, ◌<◌, ◌≤◌, ◌^◌, ◌*◌, ℕ, Bool, List, IsTrue, IfOk, true};
 ghost use Rattle.sb_value.specs.Flags.{flag_at};
-ghost use Rattle.sb_catalog.specs.Definitions.{is_active};
+ghost use Rattle.sb_catalog.specs.Rules.{is_active};
 ghost use Rattle.sb_index.specs.TableSets.{TableSets};
 ghost use Rattle.sb_process.specs.Made.{NumbersBelow};
 ghost use Rattle.sb_process.specs.Running.{is_done};

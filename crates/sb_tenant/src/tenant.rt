@@ -102,10 +102,7 @@ impl Tenant {
     pub fn table(&self, name: &Name) -> Option<&Table>
         ensures { option_map (λ t. t.table) (option_copied result) ≡ table_seen (state self.now) name.now }
     {
-        match self.store.database.tables.find(name) {
-            Some(id) => self.store.database.tables.get(id),
-            None => None,
-        }
+        self.store.database.tables.by_name(name)
     }
 
     /// Makes a step of the line, or is refused by the full trail. Where memory runs out before the

@@ -1,4 +1,4 @@
-use Rattle.std.proofs.Common.{◌≡◌, ◌∙◌, [], refl, sym}
+use Rattle.std.proofs.Common.{◌∙◌, [], refl, sym}
 use Rattle.sb_tenant.specs.State as state
 use Rattle.sb_tenant.proofs.told.told.Goals as goal
 

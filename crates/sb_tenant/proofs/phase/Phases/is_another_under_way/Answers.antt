@@ -1,4 +1,4 @@
-use Rattle.std.proofs.Common.{◌≡◌, ◌∙◌, List, true, ap, sym}
+use Rattle.std.proofs.Common.{◌∙◌, List, ap, sym}
 use Rattle.sb_tenant.specs.declared.phase.Phase.{Phase}
 use Rattle.sb_tenant.specs.Defining.{is_another_under_way}
 use Rattle.sb_tenant.proofs.Answering.{another_is}

@@ -1,6 +1,4 @@
-use Rattle.std.proofs.Common.{◌≡◌, List, ap, sym, subst, inl, inr, arith}
-use Rattle.std.specs.Prelude.{Option, None, Some}
-use Rattle.sb_syntax.specs.Tree as text
+use Rattle.std.proofs.Common.{ap, inr, arith}
 use Rattle.sb_syntax.specs.Views.{command as tree_of}
 use Rattle.sb_tenant.specs.declared.reply.Reply.{Reply}
 use Rattle.sb_tenant.proofs.Answering.{few_spelt, leaves_all, leaves_more, performs_line}

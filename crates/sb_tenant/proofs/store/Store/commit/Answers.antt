@@ -1,6 +1,6 @@
 use Rattle.std.proofs.Common.{◌∙◌, inl, inr, ◌*◌, ◌≤◌, sym, ap, subst, arith}
 use Rattle.sb_catalog.specs.declared.definitions.Definitions.{Definitions}
-use Rattle.sb_catalog.specs.Definitions.{is_active}
+use Rattle.sb_catalog.specs.Rules.{is_active}
 use Rattle.sb_catalog.specs.declared.rule.Rule.{Rule}
 use Rattle.std.proofs.Common.{List}
 use Rattle.sb_process.specs.Process.{process}

@@ -5,7 +5,7 @@ use Rattle.sb_value.specs.declared.refusal.Refusal.TheVariants as refusal
 use Rattle.sb_value.specs.declared.value.ColumnDefinition.{ColumnDefinition}
 use Rattle.sb_syntax.specs.Tree as text
 use Rattle.sb_check.specs.Resolved.{Resolved, new_table, walk_names}
-use Rattle.sb_tables.specs.Held.{Held, entries, with_table}
+use Rattle.sb_tables.specs.Held.{Held, entries}
 use Rattle.sb_tenant.specs.declared.store.Store.{Store}
 use Rattle.sb_tenant.specs.Defining.{Defines}
 use Rattle.sb_tenant.proofs.TableCommands.{outside, new_name_of, has_room_by, is_full_by}

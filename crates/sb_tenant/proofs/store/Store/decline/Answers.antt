@@ -1,12 +1,6 @@
-use Rattle.std.proofs.Common.{◌≡◌, ◌⊎◌, List, ℕ, ap, sym, subst, inl, inr}
-use Rattle.sb_value.specs.declared.refusal.Refusal.{Refusal}
-use Rattle.sb_value.specs.declared.refusal.Refusal.TheVariants as refusal
-use Rattle.sb_index.specs.TableSets.{TableSets}
+use Rattle.std.proofs.Common.{ap, inr}
 use Rattle.sb_tenant.specs.declared.reply.Reply.{Reply}
-use Rattle.sb_tenant.specs.declared.reply.Reply.TheVariants as reply
-use Rattle.sb_tenant.specs.Represents.{StandFor, Performs}
-use Rattle.sb_tenant.specs.State.{State}
-use Rattle.sb_tenant.proofs.Answering.{leaves_all, refused_performs}
+use Rattle.sb_tenant.proofs.Answering.{refused_performs}
 use Rattle.sb_tenant.proofs.store.Store.decline.Goals as goal
 
 pub returns-in-NoMemory-clause-performed : goal.returns-in-NoMemory-clause-performed

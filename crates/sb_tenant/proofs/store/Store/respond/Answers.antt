@@ -1,6 +1,5 @@
-use Rattle.std.proofs.Common.{◌≡◌, ◌∙◌, ◌⊎◌, ℕ, List, ap, sym, subst, inl, inr, arith, true, false}
-use Rattle.std.specs.Prelude.{Option, None, Some, Result, Ok, Err}
-use Rattle.sb_value.specs.declared.refusal.Refusal.{Refusal}
+use Rattle.std.proofs.Common.{◌≡◌, ◌∙◌, ap, sym, inl, arith}
+use Rattle.std.specs.Prelude.{None, Some, Ok, Err}
 use Rattle.sb_syntax.specs.Tree as text
 use Rattle.sb_syntax.specs.Views.{command as tree_of}
 use Rattle.sb_process.specs.declared.database.Database.{Database}
@@ -8,7 +7,7 @@ use Rattle.sb_tenant.specs.declared.class.Class.{Class}
 use Rattle.sb_tenant.specs.declared.reply.Reply.{Reply}
 use Rattle.sb_tenant.specs.ClassView.{class_seen}
 use Rattle.sb_tenant.specs.Defining.{phase_refusal}
-use Rattle.sb_tenant.specs.Resolved.{opens, ends, begins, defines}
+use Rattle.sb_tenant.specs.Resolved.{opens, ends, begins}
 use Rattle.sb_tenant.specs.Walk.{class_of}
 use Rattle.sb_tenant.proofs.Answering.{only_opens, only_ends, only_begins, refusal_in, refused_command, allowed_command, performs_command, may_define, idle_has_none, eighth, done_performs, leaves_all, leaves_more, leaves_database, leaves_defined}
 use Rattle.sb_tenant.proofs.store.Store.respond.Goals as goal

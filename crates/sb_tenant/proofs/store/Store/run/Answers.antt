@@ -11,7 +11,7 @@ use Rattle.sb_tenant.proofs.Calls.{number-below, set-other, set-own, goes-back, 
 use Rattle.sb_tenant.proofs.Leaving.{work-of, are-active}
 use Rattle.sb_tenant.proofs.Moves.{IsCallOf}
 use Rattle.sb_tenant.proofs.Standing.{base_of}
-use Rattle.sb_tenant.proofs.Taking.{taken-none, process-keeps}
+use Rattle.sb_tenant.proofs.Taking.{taken-none, process-takes}
 use Rattle.sb_tenant.proofs.store.Store.run.Goals as goal
 
 pub process-requires-clause-work : goal.process-requires-clause-work
@@ -38,7 +38,7 @@ returns-then-is_done-clause-found g c = λ state chosen st flags.
     let laws = c.transactions_share_tables.ensures in let eligible = flag_at c.args.eligible in
     let setting = setting_of old.database.id state s in let progress = progress_of state s in
     let work = work-of laws st.0.0 old state st.0.1 s is earlier clock index st.1 in
-    let taken = process-keeps setting state.locks c.args.bound eligible progress (taken-none s state.locks st.0.1.exclusive) in
+    let taken = process-takes setting state.locks c.args.bound eligible progress (taken-none s state.locks st.0.1.exclusive) in
     let meant = process c.args.bound setting eligible progress in
     let new : Store = record old { database = c.process.new.self } in
     let call : IsCallOf s old new earlier after clock later = record {
@@ -63,7 +63,7 @@ returns-then-is_done-clause-aside g c = λ state st.
     let laws = c.transactions_share_tables.ensures in let eligible = flag_at c.args.eligible in
     let setting = setting_of old.database.id state s in let progress = progress_of state s in
     let work = work-of laws st.0.0 old state st.0.1 s is earlier clock index st.1 in
-    let taken = process-keeps setting state.locks c.args.bound eligible progress (taken-none s state.locks st.0.1.exclusive) in
+    let taken = process-takes setting state.locks c.args.bound eligible progress (taken-none s state.locks st.0.1.exclusive) in
     let meant = process c.args.bound setting eligible progress in
     let new : Store = record old { database = c.process.new.self } in
     let call : IsCallOf s old new earlier after clock later = record {
@@ -87,7 +87,7 @@ returns-else-is_done-clause-found g c = λ state chosen st flags.
     let laws = c.transactions_share_tables.ensures in let eligible = flag_at c.args.eligible in
     let setting = setting_of old.database.id state s in let progress = progress_of state s in
     let work = work-of laws st.0.0 old state st.0.1 s is earlier clock index st.1 in
-    let taken = process-keeps setting state.locks c.args.bound eligible progress (taken-none s state.locks st.0.1.exclusive) in
+    let taken = process-takes setting state.locks c.args.bound eligible progress (taken-none s state.locks st.0.1.exclusive) in
     let meant = process c.args.bound setting eligible progress in
     let new : Store = record old { database = c.process.new.self; phases = c.set.new.self } in
     let call : IsCallOf s old new earlier after clock later = record {
@@ -112,7 +112,7 @@ returns-else-is_done-clause-aside g c = λ state st.
     let laws = c.transactions_share_tables.ensures in let eligible = flag_at c.args.eligible in
     let setting = setting_of old.database.id state s in let progress = progress_of state s in
     let work = work-of laws st.0.0 old state st.0.1 s is earlier clock index st.1 in
-    let taken = process-keeps setting state.locks c.args.bound eligible progress (taken-none s state.locks st.0.1.exclusive) in
+    let taken = process-takes setting state.locks c.args.bound eligible progress (taken-none s state.locks st.0.1.exclusive) in
     let meant = process c.args.bound setting eligible progress in
     let new : Store = record old { database = c.process.new.self; phases = c.set.new.self } in
     let call : IsCallOf s old new earlier after clock later = record {

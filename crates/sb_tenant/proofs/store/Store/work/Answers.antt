@@ -1,21 +1,19 @@
-use Rattle.std.proofs.Common.{◌≡◌, ◌∙◌, ℕ, Bool, List, true, false, ◌&&◌, nat_eq, ap, sym, subst, inl, inr, arith, rules}
+use Rattle.std.proofs.Common.{◌≡◌, ◌∙◌, ℕ, List, true, ◌&&◌, nat_eq, ap, sym, subst, inl, arith, rules}
 use Rattle.std.specs.Prelude.{None, Result, Ok, Err}
 use Rattle.sb_value.specs.Flags.{flag_at}
 use Rattle.sb_value.specs.declared.refusal.Refusal.{Refusal}
 use Rattle.sb_value.specs.declared.refusal.Refusal.TheVariants as refusal
 use Rattle.sb_syntax.specs.Tree as text
 use Rattle.sb_syntax.specs.Views as view
-use Rattle.sb_syntax.specs.declared.command.Command.{Command}
 use Rattle.sb_check.specs.Names.{and_then, required}
 use Rattle.sb_rulesets.specs.Ruleset.{Ruleset}
 use Rattle.sb_rulesets.specs.Sets.{has_name}
-use Rattle.sb_catalog.specs.Rules.{rule_named}
-use Rattle.sb_catalog.specs.Definitions.{is_active, is_member}
+use Rattle.sb_catalog.specs.Rules.{rule_named, is_active}
+use Rattle.sb_catalog.specs.Definitions.{is_member}
 use Rattle.sb_catalog.specs.declared.rule.Rule.{Rule}
 use Rattle.sb_tenant.specs.declared.reply.Reply.{Reply}
-use Rattle.sb_tenant.specs.Represents.{Performs, StandFor}
+use Rattle.sb_tenant.specs.Represents.{Performs}
 use Rattle.sb_tenant.specs.Resolved.{process_ruleset, process_rule}
-use Rattle.sb_tenant.specs.State.{State}
 use Rattle.sb_tenant.specs.Step.{outcome_of}
 use Rattle.sb_tenant.specs.Walk.{walk}
 use Rattle.sb_tenant.proofs.Answering.{leaves_all, leaves_more, performs_command}

@@ -1,4 +1,4 @@
-use Rattle.std.proofs.Common.{◌∙◌, ap, sym, ◌&&◌, true, codes}
+use Rattle.std.proofs.Common.{◌∙◌, ap, sym, ◌&&◌, codes}
 use Rattle.sb_value.specs.Name.{same_name}
 use Rattle.sb_tenant.proofs.Tests.{texts-same}
 use Rattle.sb_tenant.proofs.tenant.Tenant.ends.Goals as goal
