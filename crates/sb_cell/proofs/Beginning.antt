@@ -1,8 +1,7 @@
 -- A new cell.
-use Rattle.std.proofs.Common.{◌≡◌, ℕ, ◌+◌, ◌*◌, ◌/◌, ◌%◌, ◌-◌, ◌<◌, ◌≤◌, true, false, ◌&&◌, ◌==◌, nat_lt, zero, suc, List, [], ◌∷◌, ◌++◌, length, inl, inr, ◌⊎◌, Some, refl, sym, ap, ◌∙◌, subst, arith}
+use Rattle.std.proofs.Common.{◌≡◌, ℕ, ◌+◌, ◌*◌, ◌/◌, ◌%◌, ◌<◌, ◌≤◌, true, false, ◌&&◌, ◌==◌, nat_lt, zero, suc, List, [], ◌∷◌, ◌++◌, length, inl, inr, ◌⊎◌, Some, refl, sym, ap, ◌∙◌, subst, arith}
 use Rattle.std.specs.List.{slice_get}
-use Rattle.std.proofs.Math.Nat.{le-div_iff_mul-le}
-use Rattle.std.proofs.lemmas.Bool.{lt-ltb, le-ltb, ltb-true, ltb-false, ltb_from_iff}
+use Rattle.std.proofs.lemmas.Bool.{ltb-true, ltb-false}
 use Rattle.std.proofs.lemmas.Option.{same_Some}
 use Rattle.sb_value.specs.declared.id.Who.{Who}
 use Rattle.sb_rawlog.specs.Sessions.{records_by}
@@ -14,33 +13,6 @@ use Rattle.sb_tenant.specs.Trail.{IsTrail}
 use Rattle.sb_cell.specs.Hosting.{AreFresh, IsAt, IsFresh, IsHosted}
 use Rattle.sb_cell.specs.Tenants.{Cell, IsNew, hosts, tenant_at, trail_of, trails}
 use Rattle.sb_cell.proofs.Hosted.{by_place, found, not_found, number_of}
-
--- ---- how many places there are
-
-pub some_places : (first stride limit place : ℕ) → first < stride → first < limit → nat_lt place ((limit - first - 1) / stride + 1) ≡ nat_lt (first + stride * place) limit
-some_places first stride limit place below some = ltb_from_iff (there, back)
-  where
-    positive : 0 < stride
-    positive = omega arith
-
-    rest : ℕ
-    rest = limit - first - 1
-
-    there : nat_lt place ((limit - first - 1) / stride + 1) ≡ true → first + stride * place < limit
-    there h =
-        let few = ltb-true place ((limit - first - 1) / stride + 1) h in
-        let within : place ≤ (limit - first - 1) / stride = omega arith in
-        let times = (le-div_iff_mul-le {k = stride} {x = place} {y = limit - first - 1} positive).0 within in omega (arith, times)
-
-    back : first + stride * place < limit → nat_lt place ((limit - first - 1) / stride + 1) ≡ true
-    back h =
-        let times : place * stride ≤ limit - first - 1 = omega arith in
-        let within = (le-div_iff_mul-le {k = stride} {x = place} {y = limit - first - 1} positive).1 times in
-        lt-ltb place ((limit - first - 1) / stride + 1) (omega (arith, within))
-
-pub no_places : (first stride limit place : ℕ) → limit ≤ first → nat_lt place 0 ≡ nat_lt (first + stride * place) limit
-no_places first stride limit place none =
-    let past : limit ≤ first + stride * place = omega arith in le-ltb place 0 (omega arith) ∙ sym (le-ltb (first + stride * place) limit past)
 
 -- ---- its tenants
 
@@ -122,6 +94,8 @@ module _ (c : Cell) (limit : ℕ) (below : c.first < c.stride) (few : limit ≤ 
 
   pub new_is : IsNew c.first c.stride limit c.bound c
   new_is = record {
+    first_is = refl;
+    stride_is = refl;
     hosted = hosted_so;
     at_most = refl;
     trails = no_trails;

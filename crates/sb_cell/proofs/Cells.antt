@@ -1,5 +1,5 @@
 -- A cell after a call of one of its tenants: what holds of it at any time still holds, and the line is answered as an event.
-use Rattle.std.proofs.Common.{◌≡◌, ◌≢◌, ℕ, ◌+◌, ◌*◌, ◌/◌, ◌%◌, ◌^◌, suc, ◌<◌, ◌≤◌, Bool, true, false, cond, ◌&&◌, ◌==◌, nat_lt, nat_le, not, codes, get_or, List, [], ◌∷◌, length, slice_set, Option, Some, None, Result, inl, inr, IsFalse, refl, sym, ap, ◌∙◌, subst, arith, length-append, length-set}
+use Rattle.std.proofs.Common.{◌≡◌, ℕ, ◌+◌, ◌*◌, ◌/◌, ◌%◌, ◌^◌, suc, ◌<◌, ◌≤◌, Bool, true, false, cond, ◌&&◌, ◌==◌, nat_lt, nat_le, not, codes, get_or, List, [], ◌∷◌, length, slice_set, Option, Some, None, Result, inl, inr, IsFalse, refl, sym, ap, ◌∙◌, subst, arith, length-append, length-set}
 use Rattle.std.specs.List.{slice_get}
 use Rattle.std.proofs.lemmas.Bool.{true≢false, eqb-true, eqb-false, ne_eqb}
 use Rattle.std.proofs.lemmas.List.Sums.{sum_by-cons, sum_by-set}
@@ -237,7 +237,7 @@ open_left w new s shut room same = (
 
 -- ---- the clock
 
-few_entries : ((tenant bound : ℕ) → TrailsAreBounded tenant bound) → (tenants : List Tenant) → ((place : ℕ) (v : Tenant) → slice_get tenants place ≡ Some v → IsLegal v) → entry_count tenants ≤ 65544 * length tenants
+pub few_entries : ((tenant bound : ℕ) → TrailsAreBounded tenant bound) → (tenants : List Tenant) → ((place : ℕ) (v : Tenant) → slice_get tenants place ≡ Some v → IsLegal v) → entry_count tenants ≤ 65544 * length tenants
 few_entries bounded [] legal = omega arith
 few_entries bounded (v ∷ vs) legal =
     let own = bounded v.id v.bound v.trail (state v) (legal 0 v refl) in

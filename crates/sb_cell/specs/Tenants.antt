@@ -1,5 +1,5 @@
 -- A cell as its users see it: its tenants with their trails, the log and the index that they share.
-use Rattle.std.specs.Prelude.{true, false, ◌≡◌, ℕ, ◌+◌, ◌*◌, ◌/◌, ◌%◌, Bool, ◌&&◌, ◌==◌, nat_lt, if◌then◌else◌, List, [], length, slice_get, Option, Some, None, Result, Err, IsFalse}
+use Rattle.std.specs.Prelude.{true, false, ◌≡◌, ℕ, ◌/◌, ◌%◌, Bool, ◌&&◌, ◌==◌, nat_lt, if◌then◌else◌, List, [], length, slice_get, Option, Some, None, Result, Err, IsFalse}
 use Rattle.sb_rawlog.specs.Records.{Record}
 use Rattle.sb_index.specs.TableSets.{TableSets}
 use Rattle.sb_tenant.specs.State.{State}
@@ -46,6 +46,8 @@ states c t = state_of t c.bound (trails c t)
 
 -- it hosts the numbers below a limit that are first + stride * place; each of their trails is empty
 pub record IsNew (first stride limit bound : ℕ) (c : Cell) : Type 0 where
+  pub first_is : c.first ≡ first
+  pub stride_is : c.stride ≡ stride
   pub hosted : (t : ℕ) → hosts c t ≡ ((t % stride == first) && nat_lt t limit)
   pub at_most : c.bound ≡ bound
   pub trails : (t : ℕ) → trails c t ≡ []

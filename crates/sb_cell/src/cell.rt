@@ -1,11 +1,12 @@
 //! Tenants that are served one step at a time, over one log and one index.
-ghost use Rattle.std.specs.Prelude.{◌≡◌, ◌≤◌, ◌<◌, ◌+◌, ◌*◌, ◌==◌, ◌%◌, ◌&&◌, ℕ, true, false, nat_le, nat_lt, Ok, Some, IfOk, OnErr, MatchOption, codes, length, option_copied, option_map};
+ghost use Rattle.std.specs.Prelude.{◌≡◌, ◌≤◌, ◌<◌, ◌+◌, ◌*◌, ◌==◌, ◌%◌, ◌&&◌, ℕ, true, false, nat_le, nat_lt, Ok, Some, IfOk, OnErr, IsTrue, MatchOption, codes, length, option_copied, option_map};
 ghost use Rattle.sb_tenant.specs.declared.reply.Reply.TheVariants as told;
 ghost use Rattle.sb_tenant.specs.Limits.{trail_limit};
+ghost use Rattle.sb_tenant.specs.Trail.{IsTrail};
 ghost use Rattle.sb_tenant.specs.State.{session_at, is_open as session_is_open, table_seen};
 ghost use Rattle.sb_cell.specs.Events.{AreEvents};
 ghost use Rattle.sb_cell.specs.Headline.{RunsInTurn, RunsAlone};
-ghost use Rattle.sb_cell.specs.Hosting.{AreFresh};
+ghost use Rattle.sb_cell.specs.Hosting.{AreFresh, entry_count};
 ghost use Rattle.sb_cell.specs.Memory.{HoldsTransactions, HoldsRules, AreInStep};
 ghost use Rattle.sb_cell.specs.Tenants.{AnswersEvent, IsNew, IsSame, hosts, trails, states, run_of};
 
@@ -72,6 +73,16 @@ impl Cell {
         })
     }
 
+    /// At any time its trails are legal, and together they have few entries.
+    pub fn keeps_trails(&self)
+        ensures legal { (tenant : ℕ) → IsTrue (hosts self.now tenant) → IsTrail tenant self.now.bound (trails self.now tenant) }
+        ensures few { entry_count self.now.tenants ≤ 16779264 }
+        ensures first { self.now.first < self.now.stride }
+    {
+        trails_are_bounded();
+        let _tenants = &self.tenants;
+    }
+
     /// Whether it has the tenant of that number.
     pub fn hosts(&self, tenant: u32) -> bool
         ensures { result ≡ hosts self.now tenant }
@@ -89,6 +100,7 @@ impl Cell {
     ) -> Result<Answer, StepError>
         ensures step { AnswersEvent self.old tenant session line.now result self.new }
         ensures same { IsSame self.old self.new }
+        ensures err { OnErr result (self.new ≡ self.old) }
     {
         if !self.hosts(tenant) {
             return Err(StepError::NoTenant);
@@ -118,6 +130,7 @@ impl Cell {
         ensures step { AnswersEvent self.old tenant session (codes "open") result self.new }
         ensures same { IsSame self.old self.new }
         ensures ok { IfOk result (λ answer. answer.reply ≡ told.Ok) }
+        ensures err { OnErr result (self.new ≡ self.old) }
     {
         // for the proof: it is one of the tenant's sessions
         let _number = session.number();

@@ -1,5 +1,6 @@
-use Rattle.std.proofs.Common.{rules, ◌≡◌, ◌/◌, ◌<◌, ◌∙◌, sym, ap, subst, true, nat_le, Some, Result, Ok, Err, inl, codes, lt-ltb}
+use Rattle.std.proofs.Common.{rules, ◌≡◌, ◌/◌, ◌<◌, ◌∙◌, sym, ap, subst, set, true, nat_le, Some, Result, Ok, Err, inl, codes, lt-ltb}
 use Rattle.std.specs.List.{slice_get}
+use Rattle.std.proofs.lemmas.List.{set-get_or}
 use Rattle.std.specs.Vec.{with_item}
 use Rattle.sb_tenant.specs.declared.reply.Answer.{Answer}
 use Rattle.sb_tenant.specs.Limits.{is_session, trail_limit}
@@ -82,4 +83,15 @@ returns-clause-step c =
           (told c (Ok a.in-Ok.answer) (event v c.self.invariant c.args.tenant c.args.session 0 w c.open.new.self _ _ _ (called c) (codes "open") (Ok a.in-Ok.answer) (inl a.in-Ok.ensures.ok.0.1)))
       | in-Err a ↦ subst (λ (given : Result Answer StepError). AnswersEvent c.args.self.now c.args.tenant c.args.session (codes "open") given (after c)) (sym a.result-is)
           (told c (Err NotBegun) (event v c.self.invariant c.args.tenant c.args.session 0 w c.open.new.self _ _ _ (called c) (codes "open") (Err NotBegun) (left c a.in-Err.ensures.err).1))
+    ]
+
+-- a step that isn't begun leaves the tenant
+pub returns-clause-err : goal.returns-clause-err
+returns-clause-err c =
+    let place = c.args.tenant / c.self.inside.stride in
+    elim c.match-open.branch [
+      | in-Ok a ↦ rw a.result-is tt
+      | in-Err a ↦
+          let own = ap (set c.self.inside.tenants.items place) (a.in-Err.ensures.err ∙ c.index_mut.ensures.value) ∙ set-get_or c.self.inside.tenants.items place c.index_mut.result.now in
+          rw a.result-is ((λ i. record (the_view c.self.inside) { tenants = own i }) ∙ c.self.view_is)
     ]

@@ -1,6 +1,7 @@
-use Rattle.std.proofs.Common.{rules, ◌≡◌, ◌/◌, ◌<◌, ◌∙◌, sym, ap, subst, true, ℕ, Result, Ok, Err, lt-ltb}
+use Rattle.std.proofs.Common.{rules, ◌≡◌, ◌/◌, ◌<◌, ◌∙◌, sym, ap, subst, set, true, ℕ, Result, Ok, Err, lt-ltb}
 use Rattle.std.specs.List.{slice_get}
 use Rattle.std.proofs.Common.{Some}
+use Rattle.std.proofs.lemmas.List.{set-get_or}
 use Rattle.std.specs.Vec.{with_item}
 use Rattle.sb_tenant.specs.declared.reply.Answer.{Answer}
 use Rattle.sb_tenant.specs.Limits.{is_session}
@@ -67,4 +68,16 @@ returns-clause-step c =
       | in-Err a ↦ subst (λ (given : Result Answer StepError). AnswersEvent c.args.self.now c.args.tenant c.args.session c.args.line.now given (after c)) (sym a.result-is)
           (told c (Err NotBegun) (event v c.self.invariant c.args.tenant s _ w c.step.new.self _ _ _
           (unbegun v c.args.tenant s w c.step.new.self _ _ _ (hosted c) (is_one c) (at c) a.in-Err.ensures.legal c.args.line.now a.in-Err.ensures.err a.in-Err.ensures.in_step) c.args.line.now (Err NotBegun) a.in-Err.ensures.err.1))
+    ]
+
+-- a step that isn't begun leaves the tenant, the log and the index
+pub returns-clause-err : goal.returns-clause-err
+returns-clause-err c =
+    let place = c.args.tenant / c.self.inside.stride in
+    elim c.match-step.branch [
+      | in-Ok a ↦ rw a.result-is tt
+      | in-Err a ↦
+          let own = ap (set c.self.inside.tenants.items place) (a.in-Err.ensures.err.0 ∙ c.index_mut.ensures.value) ∙ set-get_or c.self.inside.tenants.items place c.index_mut.result.now in
+          rw a.result-is
+          ((λ i. record (the_view (record c.self.inside { log = a.in-Err.ensures.unused.0 i; index = a.in-Err.ensures.unused.1 i })) { tenants = own i }) ∙ c.self.view_is)
     ]
