@@ -18,9 +18,20 @@ pub enum Lines {
     Shared,
 }
 
+/// How often a stream is played.
+#[derive(Clone, Copy, PartialEq, Eq)]
+pub enum Each {
+    Once,
+    /// For each smaller number of bytes behind which reads fail.
+    Fails,
+    /// For each smaller room of the writer.
+    Room,
+}
+
 #[derive(Clone, Copy)]
 pub struct Header {
     pub lines: Lines,
+    pub each: Each,
     pub tenants: u32,
     pub bound: u32,
     /// The most bytes that a read gives.
@@ -38,6 +49,7 @@ impl Header {
     pub fn read(line: &[u8]) -> Result<Header, ScriptFault> {
         let mut header = Header {
             lines: Lines::Stream,
+            each: Each::Once,
             tenants: 1,
             bound: 1000,
             pieces: u32::MAX,
@@ -56,6 +68,10 @@ impl Header {
     fn set(&mut self, setting: &[u8], value: &[u8]) -> Result<(), ScriptFault> {
         if setting == b"lines".as_slice() {
             self.lines = read_lines(value)?;
+            return Ok(());
+        }
+        if setting == b"each".as_slice() {
+            self.each = read_each(value)?;
             return Ok(());
         }
         let Some(number) = number(value) else {
@@ -80,6 +96,14 @@ fn read_lines(value: &[u8]) -> Result<Lines, ScriptFault> {
         b"changes" => Ok(Lines::Changes),
         b"tenant" => Ok(Lines::Tenant),
         b"shared" => Ok(Lines::Shared),
+        _ => Err(ScriptFault::BadHeader),
+    }
+}
+
+fn read_each(value: &[u8]) -> Result<Each, ScriptFault> {
+    match value {
+        b"fails" => Ok(Each::Fails),
+        b"room" => Ok(Each::Room),
         _ => Err(ScriptFault::BadHeader),
     }
 }

@@ -5,7 +5,8 @@
 //!
 //! - of a stream on a fresh cell, as a client sends them. `tenants=2` and `bound=3` say of which
 //!   cell, `pieces=7` that a read gives at most 7 bytes, `cut=1` that the last byte isn't sent,
-//!   `fails=30` that reads fail behind 30 bytes, `room=6` that the writer has room for 6 bytes;
+//!   `fails=30` that reads fail behind 30 bytes, `room=6` that the writer has room for 6 bytes, and
+//!   `each=fails` or `each=room` that the block is played for each number below that one;
 //! - with `lines=tenant`, of session 0 of one tenant by itself, as `tenant` shows it;
 //! - with `lines=shared`, of a stream, with what the tenants' log and index hold, as `shared` shows it;
 //! - with `lines=statements`, over fresh tables, as `statements` has them; with `lines=changes` each

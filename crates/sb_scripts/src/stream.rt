@@ -2,9 +2,9 @@
 
 use crate::ends::{Failing, Narrow};
 use crate::fault::ScriptFault;
-use crate::header::Header;
+use crate::header::{Each, Header};
 use sb_cell::Cell;
-use sb_wire::{StreamError, run_stream};
+use sb_wire::{Fallible, StreamError, run_stream};
 use std::alloc::Global;
 
 /// The most tenants of a cell.
@@ -13,8 +13,32 @@ const MOST_TENANTS: u32 = 256;
 /// The most considerations at an assertion point.
 const MOST_BOUND: u32 = 1000;
 
-/// Adds the replies to these lines, and the fault that ends them, if one does.
+/// Plays these lines once, or for each number below the header's.
 pub fn play_stream(
+    alloc: Global,
+    header: &Header,
+    input: &[u8],
+    out: &mut Vec<u8>,
+) -> Result<(), ScriptFault> {
+    match header.each {
+        Each::Once => play_once(alloc, header, input, out),
+        Each::Fails => {
+            for fails in 0..header.fails {
+                play_once(alloc, &Header { fails, ..*header }, input, out)?;
+            }
+            Ok(())
+        }
+        Each::Room => {
+            for room in 0..header.room {
+                play_once(alloc, &Header { room, ..*header }, input, out)?;
+            }
+            Ok(())
+        }
+    }
+}
+
+/// Adds the replies to these lines, and the fault that ends them, if one does.
+fn play_once(
     alloc: Global,
     header: &Header,
     input: &[u8],
@@ -22,8 +46,12 @@ pub fn play_stream(
 ) -> Result<(), ScriptFault> {
     let mut cell = fresh_cell(alloc, header)?;
     let sent = input.len().saturating_sub(header.cut as usize);
-    let mut reader = Failing::new(header, &input[..sent]);
-    let mut writer = Narrow::new(header, out);
+    let mut reader = Fallible {
+        inner: Failing::new(header, &input[..sent]),
+    };
+    let mut writer = Fallible {
+        inner: Narrow::new(header, out),
+    };
     let ended = run_stream(alloc, &mut reader, &mut writer, &mut cell);
     push_end(ended, out)
 }

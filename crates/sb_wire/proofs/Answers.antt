@@ -1,8 +1,7 @@
 -- An event's answer is the answer to its line.
-use Rattle.std.proofs.Common.{◌≡◌, ℕ, Bool, true, false, cond, not, ◌&&◌, ◌==◌, nat_lt, List, [], ◌∷◌, ◌++◌, length, map, Option, Some, None, Result, Ok, Err, inl, inr, refl, sym, ap, ◌∙◌, subst, codes, append_assoc, append-nil, ◌⊎◌, IsTrue, IsFalse, ◌/◌, ◌%◌}
+use Rattle.std.proofs.Common.{◌≡◌, ℕ, Bool, true, false, cond, ◌&&◌, ◌==◌, nat_lt, List, [], ◌∷◌, Option, Some, None, Result, Ok, Err, inl, inr, refl, sym, ap, ◌∙◌, codes, ◌⊎◌, IsTrue, IsFalse, ◌/◌, ◌%◌}
 use Rattle.std.specs.Prelude.{OnOk}
 use Rattle.std.specs.Fmt.{digits}
-use Rattle.std.specs.Io.KnownBytes.{Appends}
 use Rattle.std.proofs.lemmas.Bool.{eqb-true}
 use Rattle.sb_value.specs.declared.refusal.Refusal.TheVariants.{NoMemory, TrailFull}
 use Rattle.sb_tenant.specs.declared.reply.Answer.{Answer}
@@ -17,9 +16,9 @@ use Rattle.sb_cell.specs.declared.StepError.{StepError}
 use Rattle.sb_cell.specs.declared.StepError.TheVariants.{NoTenant, NoSession, NotBegun}
 use Rattle.sb_cell.specs.Events.{IsTurn}
 use Rattle.sb_cell.specs.Tenants.{Cell, hosts as hosts_of, trails, tenant_at, trail_of, AnswersBy, AnswersEvent, IsSame}
-use Rattle.sb_wire.specs.Lines.{Piece, line, too_long, Addressed, addressed_of}
+use Rattle.sb_wire.specs.Lines.{line, Addressed, addressed_of}
 use Rattle.sb_wire.specs.ReplyText.{reply_lines}
-use Rattle.sb_wire.specs.Output.{with_state, prefixed, address, no_address, answer_text, reply_to_line, reply_to_piece, addressed_in, RunsShort, IsAnswer, AreAnswers, IsAborted, IsNotBegun}
+use Rattle.sb_wire.specs.Output.{with_state, prefixed, address, no_address, answer_text, reply_to_line, IsAnswer, IsAborted, IsNotBegun}
 use Rattle.sb_wire.specs.Stream.{states}
 
 -- the reply of an abort
@@ -140,38 +139,8 @@ module _ (a : Addressed) (old new : Cell) where
       by_answer (inl told) = inl (ap reply_found is ∙ told)
       by_answer (inr short) = inr (a, is, short.0, short.1)
 
-module _ (hosts : ℕ → Bool) (bound : ℕ) where
-  -- a line without both numbers
-  pub bad_answer : (bytes : List ℕ) (before : ℕ → State) → addressed_of bytes ≡ None → IsAnswer hosts bound before (line bytes) (prefixed no_address (codes "no 12 BadLine" ∷ [])) before
-  bad_answer bytes before is = inl (ap found is)
-    where
-      found : Option Addressed → List ℕ × (ℕ → State)
-      found numbers = elim numbers [
-        | None ↦ (prefixed no_address (codes "no 12 BadLine" ∷ []), before)
-        | Some b ↦ reply_to_line hosts bound before b
-      ]
-
-  -- one piece more
-  pub one_more : (before mid after : ℕ → State) (ps : List Piece) (p : Piece) (text more : List ℕ) → AreAnswers hosts bound before ps text mid → IsAnswer hosts bound mid p more after
-      → AreAnswers hosts bound before (ps ++ p ∷ []) (text ++ more) after
-  one_more before mid after [] p text more (none, same) answer =
-      (more, [], after, ap (λ t. t ++ more) none ∙ sym (append-nil more), subst (λ s. IsAnswer hosts bound s p more after) same answer, (refl, refl))
-  one_more before mid after (q ∷ ps) p text more (first, rest, then, is, own, others) answer =
-      (first, rest ++ more, then, ap (λ t. t ++ more) is ∙ append_assoc first rest more, own, one_more then mid after ps p rest more others answer)
-
 -- ---- what holds where a call succeeds
 
 pub on_ok : {T E A B : Type 0} (r : Result T E) → (A → B) → OnOk r A → OnOk r B
 on_ok (Ok x) f a = f a
 on_ok (Err e) f a = a
-
--- known bytes grow by the one text and then by the other
-pub appends_then : (one two three : Option (List ℕ)) (xs ys : List ℕ) → Appends one two xs → Appends two three ys → Appends one three (xs ++ ys)
-appends_then None two three xs ys first then = tt
-appends_then (Some a) None three xs ys first then = absurd first
-appends_then (Some a) (Some b) None xs ys first then = absurd then
-appends_then (Some a) (Some b) (Some c) xs ys first then = then ∙ ap (λ t. t ++ ys) first ∙ append_assoc a xs ys
-
-pub appends_none : (one : Option (List ℕ)) → Appends one one []
-appends_none None = tt
-appends_none (Some a) = sym (append-nil a)

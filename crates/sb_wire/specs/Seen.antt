@@ -1,5 +1,5 @@
 -- What a contract sees of a line's piece, of an addressed line and of a refusal of the wire.
-use Rattle.std.specs.Prelude.{ℕ, List, codes}
+use Rattle.std.specs.Prelude.{ℕ, List, [], ◌∷◌, codes, Option, Some, None}
 use Rattle.sb_wire.specs.Lines.{line, too_long, Piece as ItsPiece, Addressed as ItsAddressed}
 use Rattle.sb_wire.specs.declared.input.Piece.{Piece}
 use Rattle.sb_wire.specs.declared.input.Piece.TheVariants.{Line, TooLong}
@@ -11,6 +11,11 @@ use Rattle.sb_wire.specs.declared.refusal.WireRefusal.TheVariants as refusal
 abbrev pub piece_seen : Piece → ItsPiece
 piece_seen (Line bytes) = line bytes.now
 piece_seen TooLong = too_long
+
+-- none, or one
+abbrev pub pieces_seen : Option Piece → List ItsPiece
+pieces_seen None = []
+pieces_seen (Some piece) = piece_seen piece ∷ []
 
 -- a line's numbers, and its command by its bytes
 abbrev pub addressed_seen : Addressed → ItsAddressed

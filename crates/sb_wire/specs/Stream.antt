@@ -1,10 +1,13 @@
--- What a cell answers to lines.
-use Rattle.std.specs.Prelude.{List, ℕ}
-use Rattle.sb_tenant.specs.State.{State}
+-- What a cell answers to lines, and how a stream of them ends.
+use Rattle.std.specs.Prelude.{◌≡◌, ◌⊎◌, ◌≤◌, nat_lt, ℕ, List, [], ◌++◌, length, Option, Result, Ok, Err, ⊤}
+use Rattle.std.specs.Io.KnownBytes.{Appends, Consumes, IsAtEnd, Keeps}
+use Rattle.sb_tenant.specs.State.{State, opening}
 use Rattle.sb_tenant.specs.Trail.{state_of}
-use Rattle.sb_cell.specs.Tenants.{Cell, hosts, trails}
-use Rattle.sb_wire.specs.Lines.{Piece}
-use Rattle.sb_wire.specs.Output.{IsAnswer, IsOutput}
+use Rattle.sb_cell.specs.Tenants.{Cell, hosts, trails, IsSame}
+use Rattle.sb_wire.specs.Lines.{Piece, pieces_of, complete_pieces, Completes}
+use Rattle.sb_wire.specs.Output.{IsAnswer, AreAnswers, IsOutput, TellsNoWant, output}
+use Rattle.sb_wire.specs.declared.fault.StreamError.{StreamError}
+use Rattle.sb_wire.specs.declared.fault.StreamError.TheVariants.{ReadFault, WriteFault, NoMemory}
 
 -- the states that the tenants' trails give
 abbrev pub states : Cell → ℕ → State
@@ -14,6 +17,75 @@ states c t = state_of t c.bound (trails c t)
 abbrev pub AnswersPiece : Cell → Piece → List ℕ → Cell → Type 0
 AnswersPiece old piece text new = IsAnswer (hosts old) old.bound (states old) piece text (states new)
 
--- the text answers the lines of an input in order, and the cell goes on from there
-abbrev pub AnswersInput : Cell → List ℕ → List ℕ → Cell → Type 0
-AnswersInput old input text new = IsOutput (hosts old) old.bound (states old) input text (states new)
+-- the text answers the pieces in order, and the cell goes on from there, with its bound and its tenants
+pub record AnswersPieces (old : Cell) (pieces : List Piece) (text : List ℕ) (new : Cell) : Type 0 where
+  pub answers : AreAnswers (hosts old) old.bound (states old) pieces text (states new)
+  pub same : IsSame old new
+
+-- The text answers the lines of an input in order, and the cell goes on from there. Where it doesn't say that memory ran out, it is what is
+-- written for the input.
+pub record AnswersInput (old : Cell) (input text : List ℕ) (new : Cell) : Type 0 where
+  pub answers : IsOutput (hosts old) old.bound (states old) input text (states new)
+  pub exact : TellsNoWant text → text ≡ output (hosts old) old.bound (states old) input
+  pub same : IsSame old new
+
+-- The same on a fresh cell of the tenants below a number: all begin without tables and rules, and no session is open.
+pub record AnswersFresh (tenants bound : ℕ) (input text : List ℕ) : Type 0 where
+  pub after : ℕ → State
+  pub answers : IsOutput (λ t. nat_lt t tenants) bound (λ t. opening) input text after
+  pub exact : TellsNoWant text → text ≡ output (λ t. nat_lt t tenants) bound (λ t. opening) input
+
+-- the pieces are answered behind a text that waits; the writer took a first part of all this, and the rest is left
+pub record Replies (old : Cell) (held : Option (List ℕ)) (waiting : List ℕ) (pieces : List Piece) (new : Cell) (holds : Option (List ℕ)) (left : List ℕ) : Type 0 where
+  pub text : List ℕ
+  pub answered : AnswersPieces old pieces text new
+  pub written : List ℕ
+  pub whole : waiting ++ text ≡ written ++ left
+  pub appends : Appends held holds written
+
+-- so are the lines that a first part of the bytes completes, behind an open line
+pub record TakesLines (old : Cell) (held : Option (List ℕ)) (waiting : List ℕ) (start : Piece) (bytes : List ℕ) (new : Cell) (holds : Option (List ℕ)) : Type 0 where
+  pub taken : List ℕ
+  pub ahead : List ℕ
+  pub split : bytes ≡ taken ++ ahead
+  pub pieces : List Piece
+  pub opened : Piece
+  pub completes : Completes start taken pieces opened
+  pub left : List ℕ
+  pub replies : Replies old held waiting pieces new holds left
+
+-- what holds where a writer is at fault
+abbrev pub OnWriteFault : {T : Type 0} → Result T StreamError → Type 0 → Type 0
+OnWriteFault (Ok value) P = ⊤
+OnWriteFault (Err ReadFault) P = ⊤
+OnWriteFault (Err WriteFault) P = P
+OnWriteFault (Err NoMemory) P = ⊤
+
+-- in a state with the same known bytes a call may fail
+abbrev pub MayFail : {S : Type 0} → (S → Type 0) → (S → Option (List ℕ)) → S → Type 0
+MayFail {S} fails known now = (s : S) × fails s × Keeps (known s) (known now)
+
+-- the most reads of a stream
+abbrev pub read_limit : ℕ
+read_limit = 4294967296
+
+-- What a stream does until it ends: it reads some bytes and answers some lines, and what isn't written is left.
+pub record Streams (old : Cell) (input held : Option (List ℕ)) (new : Cell) (rest holds : Option (List ℕ)) : Type 0 where
+  pub seen : List ℕ
+  pub reads : Consumes input rest seen
+  pub pieces : List Piece
+  pub left : List ℕ
+  pub replies : Replies old held [] pieces new holds left
+
+-- the lines are the first ones of these bytes
+abbrev pub AreFirst : List Piece → List ℕ → Type 0
+AreFirst pieces bytes = (more : List Piece) × (pieces_of bytes ≡ pieces ++ more)
+
+-- How it ends. Ok: all bytes are read, and all lines are answered and written. ReadFault: the complete lines are, and a read may fail
+-- or there were too many. WriteFault, NoMemory: the first lines are answered, and a part of the text may be left.
+abbrev pub EndsBy : {R : Type 0} → (R → Type 0) → (R → Option (List ℕ)) → R → List ℕ → List Piece → List ℕ → Result (Unit {0}) StreamError → Type 0
+EndsBy fails remaining reader seen pieces left (Ok value) = IsAtEnd (remaining reader) × (pieces ≡ pieces_of seen) × (left ≡ [])
+EndsBy fails remaining reader seen pieces left (Err ReadFault) =
+    (pieces ≡ complete_pieces seen) × (left ≡ []) × (MayFail fails remaining reader ⊎ (read_limit ≤ length seen))
+EndsBy fails remaining reader seen pieces left (Err WriteFault) = AreFirst pieces seen
+EndsBy fails remaining reader seen pieces left (Err NoMemory) = AreFirst pieces seen

@@ -1,5 +1,5 @@
 //! The answer to one piece of an input.
-ghost use Rattle.std.specs.Prelude.{◌≡◌, ◌++◌, List, ℕ, OnOk, OnErr, IfOk, Result};
+ghost use Rattle.std.specs.Prelude.{◌≡◌, ◌++◌, List, ℕ, OnOk, OnErr, Result};
 ghost use Rattle.sb_cell.specs.Tenants.{AnswersEvent, IsSame};
 ghost use Rattle.sb_wire.specs.Output.{answer_text, text_behind};
 ghost use Rattle.sb_wire.specs.Seen.{piece_seen, addressed_seen};
@@ -21,16 +21,17 @@ pub(crate) fn answer_piece(
     piece: Piece<'_>,
     out: &mut Vec<u8>,
 ) -> Result<(), AllocError>
-    ensures ok { OnOk result ((text : List ℕ) × (out.new.items ≡ out.old.items ++ text)
-        × AnswersPiece cell.old (piece_seen piece.entry) text cell.new) }
+    ensures answers { (text : List ℕ) × AnswersPiece cell.old (piece_seen piece.entry) text cell.new
+        × OnOk result (out.new.items ≡ out.old.items ++ text)
+        × OnErr result (out.new.items ≡ out.old.items) }
     ensures same { IsSame cell.old cell.new }
 {
-    let Piece::Line(line) = piece else {
-        return write_refusal(out, &Prefix::none(), WireRefusal::TooLong);
-    };
-    match Addressed::split(line) {
-        Some(addressed) => answer_line(alloc, cell, addressed, out),
-        None => write_refusal(out, &Prefix::none(), WireRefusal::BadLine),
+    match piece {
+        Piece::TooLong => write_refusal(out, &Prefix::none(), WireRefusal::TooLong),
+        Piece::Line(line) => match Addressed::split(line) {
+            Some(addressed) => answer_line(alloc, cell, addressed, out),
+            None => write_refusal(out, &Prefix::none(), WireRefusal::BadLine),
+        },
     }
 }
 
@@ -41,10 +42,10 @@ fn answer_line(
     line: Addressed<'_>,
     out: &mut Vec<u8>,
 ) -> Result<(), AllocError>
-    ensures ok { OnOk result ((given : Result Answer StepError)
-        × (out.new.items ≡ out.old.items ++ answer_text (addressed_seen line.entry) given)
-        × AnswersEvent cell.old line.entry.tenant line.entry.session line.entry.command.now given
-        cell.new) }
+    ensures answers { (given : Result Answer StepError)
+        × AnswersEvent cell.old line.entry.tenant line.entry.session line.entry.command.now given cell.new
+        × OnOk result (out.new.items ≡ out.old.items ++ answer_text (addressed_seen line.entry) given)
+        × OnErr result (out.new.items ≡ out.old.items) }
     ensures same { IsSame cell.old cell.new }
 {
     let given = cell.step(alloc, line.tenant, line.session, line.command);
@@ -58,6 +59,7 @@ fn write_answer(
     given: &Result<Answer, StepError>,
 ) -> Result<(), AllocError>
     ensures ok { OnOk result (out.new.items ≡ out.old.items ++ text_behind prefix.now given.now) }
+    ensures err { OnErr result (out.new.items ≡ out.old.items) }
 {
     match given {
         Ok(answer) => write_reply(out, prefix, &answer.reply),

@@ -1,8 +1,9 @@
-//! An input's lines.
-ghost use Rattle.std.specs.Prelude.{◌≡◌, ◌≢◌, [], ◌∷◌};
-ghost use Rattle.std.specs.Iterator.{YieldsFirstBy, item_count};
-ghost use Rattle.sb_wire.specs.Lines.{lines_of, pieces_of, piece_of};
+//! The lines of a stream that comes in any pieces.
+ghost use Rattle.std.specs.Prelude.{◌≡◌, ◌++◌, ◌<◌, List, ℕ, [], ◌∷◌, MatchOption, length};
+ghost use Rattle.sb_wire.specs.Lines.{Completes, last_piece, line, piece_more};
+ghost use Rattle.sb_wire.specs.Seen.{piece_seen, pieces_seen};
 
+use arrayvec::ArrayVec;
 use memchr::memchr;
 use std::marker::Model;
 
@@ -16,70 +17,88 @@ pub enum Piece<'a> {
     TooLong,
 }
 
-/// The lines of an input that are left.
+/// The open line of a stream: what stands behind its last newline. Of a line that is too long no
+/// more bytes are kept than a line may have.
 #[derive(Drop)]
-pub struct InputLines<'a> {
-    rest: &'a [u8],
+pub struct Lines {
+    kept: ArrayVec<u8, LINE_LIMIT>,
+    is_long: bool,
 }
 
-impl<'a> Model for InputLines<'a> {
-    ghost use Rattle.std.specs.Prelude.{List};
-    ghost use Rattle.sb_wire.specs.Lines.{Piece as ItsPiece, pieces_of};
+impl Model for Lines {
+    ghost use Rattle.std.specs.Prelude.{if◌then◌else◌};
+    ghost use Rattle.sb_wire.specs.Lines.{line, too_long, Piece as ItsPiece};
 
-    ghost Value = { List ItsPiece };
+    ghost Value = { ItsPiece };
 
-    ghost view = { λ l. pieces_of l.rest.now };
+    ghost view = { λ l. if l.is_long then too_long else line l.kept.items };
 }
 
-impl<'a> InputLines<'a> {
-    /// The lines of these bytes.
-    pub fn new(input: &'a [u8]) -> InputLines<'a>
-        ensures { result ≡ pieces_of input.now }
+impl Lines {
+    /// Before the first byte.
+    pub fn new() -> Lines
+        ensures { result ≡ line [] }
     {
-        InputLines { rest: input }
-    }
-}
-
-impl<'a> Iterator for InputLines<'a> {
-    type Item = Piece<'a>;
-
-    ghost use Rattle.sb_wire.specs.Seen.{piece_seen};
-
-    ghost next_gives = { YieldsFirstBy piece_seen (λ pieces. pieces) };
-
-    ghost remaining = { item_count (λ pieces. pieces) };
-
-    fn next(&mut self) -> Option<Piece<'a>> {
-        if self.rest.is_empty() {
-            return None;
+        Lines {
+            kept: ArrayVec::new(),
+            is_long: false,
         }
-        let (line, rest) = cut(self.rest);
-        self.rest = rest;
-        Some(Piece::new(line))
     }
-}
 
-impl<'a> Piece<'a> {
-    ghost use Rattle.sb_wire.specs.Seen.{piece_seen};
-
-    fn new(line: &'a [u8]) -> Piece<'a>
-        ensures { piece_seen result ≡ piece_of line.now }
+    /// Takes bytes up to the first newline, and gives those behind it: then the line is complete,
+    /// and is to be answered and cleared before more bytes come.
+    pub fn feed<'a>(&mut self, bytes: &'a [u8]) -> Option<&'a [u8]>
+        ensures { MatchOption result
+            (Completes self.old bytes.now [] self.new)
+            (λ rest. (taken : List ℕ) × (bytes.now ≡ taken ++ rest.now) × (0 < length taken)
+            × Completes self.old taken (self.new ∷ []) (line [])) }
     {
-        if line.len() > LINE_LIMIT {
+        match memchr(b'\n', bytes) {
+            Some(end) => {
+                self.keep(&bytes[..end]);
+                Some(&bytes[end + 1..])
+            }
+            None => {
+                self.keep(bytes);
+                None
+            }
+        }
+    }
+
+    fn keep(&mut self, part: &[u8])
+        ensures { self.new ≡ piece_more self.old part.now }
+    {
+        if self.kept.try_extend_from_slice(part).is_err() {
+            self.is_long = true;
+        }
+    }
+
+    /// The open line, as it is if nothing more comes.
+    pub fn line(&self) -> Piece<'_>
+        ensures { piece_seen result ≡ self.now }
+    {
+        if self.is_long {
             Piece::TooLong
         } else {
-            Piece::Line(line)
+            Piece::Line(self.kept.as_slice())
         }
     }
-}
 
-/// The first line, and what stands behind its newline.
-fn cut(input: &[u8]) -> (&[u8], &[u8])
-    requires { input.now ≢ [] }
-    ensures { lines_of input.now ≡ result.0.now ∷ lines_of result.1.now }
-{
-    match memchr(b'\n', input) {
-        Some(end) => (&input[..end], &input[end + 1..]),
-        None => (input, &[]),
+    /// Goes on behind the newline.
+    pub fn clear(&mut self)
+        ensures { self.new ≡ line [] }
+    {
+        self.kept.clear();
+        self.is_long = false;
+    }
+
+    /// The line that stands open at the end of the stream, if it has a byte.
+    pub fn finish(&self) -> Option<Piece<'_>>
+        ensures { pieces_seen result ≡ last_piece self.now }
+    {
+        if self.kept.is_empty() && !self.is_long {
+            return None;
+        }
+        Some(self.line())
     }
 }

@@ -1,33 +1,27 @@
-//! A stream: the lines of an input, each answered in order.
-ghost use Rattle.std.specs.Prelude.{◌≡◌, ◌++◌, List, ℕ, [], OnOk, IfSome, map};
-ghost use Rattle.std.specs.Io.KnownBytes.{Appends};
-ghost use Rattle.sb_cell.specs.Tenants.{IsSame};
+//! A stream: the lines of an input, each answered when it is complete.
+ghost use Rattle.std.specs.Prelude.{◌≡◌, ◌++◌, ◌∷◌, ◌≢◌, List, ℕ, [], OnOk, OnErr, IfErr, IfSome};
+ghost use Rattle.std.specs.Io.{ReadsAtMost};
+ghost use Rattle.std.specs.Io.KnownBytes.{Appends, Keeps, ReadConsumes};
+ghost use Rattle.sb_wire.specs.Lines.{last_piece};
 ghost use Rattle.sb_wire.specs.Seen.{piece_seen};
-ghost use Rattle.sb_wire.specs.Stream.{AnswersPiece, AnswersInput};
+ghost use Rattle.sb_wire.specs.Stream.{AnswersInput, EndsBy, MayFail, OnWriteFault, Replies, Streams, TakesLines};
 
 use crate::answer::answer_piece;
-use crate::input::{InputLines, Piece};
+use crate::ends::{Sink, Source};
+use crate::fault::StreamError;
+use crate::input::{Lines, Piece};
+use crate::tries::Tries;
 use sb_cell::Cell;
-use std::alloc::{AllocError, Global};
-use std::io::{Read, Write};
-use thiserror::Error;
+use std::alloc::Global;
 
-/// So many bytes of replies are written at once.
-const WRITE_SIZE: usize = 65_536;
+/// The most bytes that a read gives. So many bytes of replies are written at once.
+const PIECE_SIZE: usize = 65_536;
 
-/// Why a stream ended early.
-#[derive(Clone, Copy, Debug, Drop, PartialEq, Eq, Error)]
-pub enum StreamError {
-    #[error("read failed")]
-    ReadFault,
-    #[error("write failed")]
-    WriteFault,
-    #[error("out of memory")]
-    NoMemory,
-}
+/// The most reads of a stream.
+const MOST_READS: u64 = 1 << 32;
 
-/// Reads all of the input and writes the replies to its lines, and nothing else.
-pub fn run_stream<R: Read, W: Write>(
+/// Answers each line of the input when it is complete, and writes the replies before it reads on.
+pub fn run_stream<R: Source, W: Sink>(
     alloc: Global,
     reader: &mut R,
     writer: &mut W,
@@ -36,63 +30,190 @@ pub fn run_stream<R: Read, W: Write>(
     ensures ok { OnOk result (IfSome (R.remaining reader.old) (λ input. (text : List ℕ)
         × Appends (W.contents writer.old) (W.contents writer.new) text
         × AnswersInput cell.old input text cell.new)) }
+    ensures goes { (s : Streams cell.old (R.remaining reader.old) (W.contents writer.old)
+        cell.new (R.remaining reader.new) (W.contents writer.new))
+        × EndsBy R.fails R.remaining reader.new s.seen s.pieces s.left result }
+    ensures refused { OnWriteFault result (MayFail W.refuses W.contents writer.new) }
 {
-    let mut input = Vec::new(alloc);
-    if reader.read_to_end(&mut input).is_err() {
-        return Err(StreamError::ReadFault);
+    let Ok(mut buffer) = vec![in alloc; 0u8; PIECE_SIZE] else {
+        return Err(StreamError::NoMemory);
+    };
+    let mut lines = Lines::new();
+    let mut out = Vec::new(alloc);
+    for _read in 0..MOST_READS {
+        let count = read_piece(reader, buffer.as_mut_slice())?;
+        if count == 0 {
+            return answer_last(alloc, &lines, writer, cell, &mut out);
+        }
+        let bytes = &buffer.as_slice()[..count];
+        answer_bytes(alloc, bytes, &mut lines, writer, cell, &mut out)?;
     }
-    answer_all(alloc, input.as_slice(), writer, cell)
+    Err(StreamError::ReadFault)
 }
 
-/// Writes the replies to the lines of an input.
-fn answer_all<W: Write>(
+/// Reads as `read_some` does.
+fn read_piece<R: Source>(reader: &mut R, buf: &mut [u8]) -> Result<usize, StreamError>
+    ensures bound { ReadsAtMost result buf.new }
+    ensures bytes { ReadConsumes (R.remaining reader.old) (R.remaining reader.new) result buf.new }
+    ensures fails { OnErr result (MayFail R.fails R.remaining reader.new) }
+    ensures fault { IfErr result (λ e. e ≡ StreamError.ReadFault) }
+{
+    let mut tries = Tries::new();
+    loop {
+        match reader.read_some(buf) {
+            Ok(count) => return Ok(count),
+            Err(error) => {
+                if !tries.again(&error) {
+                    return Err(StreamError::ReadFault);
+                }
+            }
+        }
+    }
+}
+
+/// Answers the line that stands open at the end.
+fn answer_last<W: Sink>(
     alloc: Global,
-    input: &[u8],
+    lines: &Lines,
     writer: &mut W,
     cell: &mut Cell,
+    out: &mut Vec<u8>,
 ) -> Result<(), StreamError>
-    ensures ok { OnOk result ((text : List ℕ)
-        × Appends (W.contents writer.old) (W.contents writer.new) text
-        × AnswersInput cell.old input.now text cell.new) }
+    ensures replies { (left : List ℕ)
+        × Replies cell.old (W.contents writer.old) out.old.items (last_piece lines.now)
+        cell.new (W.contents writer.new) left
+        × OnOk result (left ≡ []) }
+    ensures refused { OnWriteFault result (MayFail W.refuses W.contents writer.new) }
+    ensures reads { IfErr result (λ e. e ≢ StreamError.ReadFault) }
 {
-    let mut out = Vec::new(alloc);
-    for piece in InputLines::new(input) {
-        answer_next(alloc, piece, writer, cell, &mut out)?;
+    let Some(piece) = lines.finish() else {
+        return write_out(writer, out);
+    };
+    answer_next(alloc, piece, writer, cell, out)?;
+    write_out(writer, out)
+}
+
+/// Answers the lines that these bytes complete, and writes the replies.
+fn answer_bytes<W: Sink>(
+    alloc: Global,
+    bytes: &[u8],
+    lines: &mut Lines,
+    writer: &mut W,
+    cell: &mut Cell,
+    out: &mut Vec<u8>,
+) -> Result<(), StreamError>
+    ensures takes { (t : TakesLines cell.old (W.contents writer.old) out.old.items lines.old bytes.now
+        cell.new (W.contents writer.new))
+        × OnOk result ((t.ahead ≡ []) × (t.opened ≡ lines.new) × (t.left ≡ []) × (out.new.items ≡ [])) }
+    ensures refused { OnWriteFault result (MayFail W.refuses W.contents writer.new) }
+    ensures reads { IfErr result (λ e. e ≢ StreamError.ReadFault) }
+{
+    answer_lines(alloc, bytes, lines, writer, cell, out)?;
+    write_out(writer, out)
+}
+
+/// Answers the lines that these bytes complete.
+fn answer_lines<W: Sink>(
+    alloc: Global,
+    bytes: &[u8],
+    lines: &mut Lines,
+    writer: &mut W,
+    cell: &mut Cell,
+    out: &mut Vec<u8>,
+) -> Result<(), StreamError>
+    ensures takes { (t : TakesLines cell.old (W.contents writer.old) out.old.items lines.old bytes.now
+        cell.new (W.contents writer.new))
+        × OnOk result ((t.ahead ≡ []) × (t.opened ≡ lines.new) × (t.left ≡ out.new.items)) }
+    ensures refused { OnWriteFault result (MayFail W.refuses W.contents writer.new) }
+    ensures reads { IfErr result (λ e. e ≢ StreamError.ReadFault) }
+{
+    let mut rest = bytes;
+    while let Some(behind) = lines.feed(rest) {
+        answer_next(alloc, lines.line(), writer, cell, out)?;
+        lines.clear();
+        rest = behind;
     }
-    write_out(writer, &mut out)
+    Ok(())
 }
 
 /// Answers a piece, and writes the replies so far where they are many.
-fn answer_next<W: Write>(
+fn answer_next<W: Sink>(
     alloc: Global,
     piece: Piece<'_>,
     writer: &mut W,
     cell: &mut Cell,
     out: &mut Vec<u8>,
 ) -> Result<(), StreamError>
-    ensures ok { OnOk result ((text written : List ℕ)
-        × (out.old.items ++ text ≡ written ++ out.new.items)
-        × Appends (W.contents writer.old) (W.contents writer.new) written
-        × AnswersPiece cell.old (piece_seen piece.entry) text cell.new) }
-    ensures same { IsSame cell.old cell.new }
+    ensures replies { (left : List ℕ)
+        × Replies cell.old (W.contents writer.old) out.old.items (piece_seen piece.entry ∷ [])
+        cell.new (W.contents writer.new) left
+        × OnOk result (left ≡ out.new.items) }
+    ensures refused { OnWriteFault result (MayFail W.refuses W.contents writer.new) }
+    ensures reads { IfErr result (λ e. e ≢ StreamError.ReadFault) }
 {
-    if answer_piece(alloc, cell, piece, out).is_err() {
-        return Err(StreamError::NoMemory);
+    match answer_piece(alloc, cell, piece, out) {
+        Err(_) => {
+            // the replies before are written all the same
+            write_out(writer, out)?;
+            Err(StreamError::NoMemory)
+        }
+        Ok(()) if out.len() < PIECE_SIZE => Ok(()),
+        Ok(()) => write_out(writer, out),
     }
-    if out.len() < WRITE_SIZE {
-        return Ok(());
-    }
-    write_out(writer, out)
 }
 
 /// Writes the replies so far.
-fn write_out<W: Write>(writer: &mut W, out: &mut Vec<u8>) -> Result<(), StreamError>
-    ensures written { OnOk result (Appends (W.contents writer.old) (W.contents writer.new) out.old.items) }
-    ensures empty { OnOk result (out.new.items ≡ []) }
+fn write_out<W: Sink>(writer: &mut W, out: &mut Vec<u8>) -> Result<(), StreamError>
+    ensures writes { (written left : List ℕ) × (out.old.items ≡ written ++ left)
+        × Appends (W.contents writer.old) (W.contents writer.new) written
+        × OnOk result ((left ≡ []) × (out.new.items ≡ [])) }
+    ensures refused { OnErr result (MayFail W.refuses W.contents writer.new) }
+    ensures fault { IfErr result (λ e. e ≡ StreamError.WriteFault) }
 {
-    if writer.write_all(out.as_slice()).is_err() {
-        return Err(StreamError::WriteFault);
-    }
+    write_bytes(writer, out.as_slice())?;
+    flush(writer)?;
     out.clear();
     Ok(())
+}
+
+/// Writes these bytes.
+fn write_bytes<W: Sink>(writer: &mut W, bytes: &[u8]) -> Result<(), StreamError>
+    ensures writes { (written left : List ℕ) × (bytes.now ≡ written ++ left)
+        × Appends (W.contents writer.old) (W.contents writer.new) written
+        × OnOk result (left ≡ []) }
+    ensures refused { OnErr result (MayFail W.refuses W.contents writer.new) }
+    ensures fault { IfErr result (λ e. e ≡ StreamError.WriteFault) }
+{
+    let mut rest = bytes;
+    let mut tries = Tries::new();
+    while !rest.is_empty() {
+        match writer.write_some(rest) {
+            Ok(0) => return Err(StreamError::WriteFault),
+            Ok(count) => rest = &rest[count..],
+            Err(error) => {
+                if !tries.again(&error) {
+                    return Err(StreamError::WriteFault);
+                }
+            }
+        }
+    }
+    Ok(())
+}
+
+fn flush<W: Sink>(writer: &mut W) -> Result<(), StreamError>
+    ensures bytes { Keeps (W.contents writer.old) (W.contents writer.new) }
+    ensures refused { OnErr result (MayFail W.refuses W.contents writer.new) }
+    ensures fault { IfErr result (λ e. e ≡ StreamError.WriteFault) }
+{
+    let mut tries = Tries::new();
+    loop {
+        match writer.flush_all() {
+            Ok(()) => return Ok(()),
+            Err(error) => {
+                if !tries.again(&error) {
+                    return Err(StreamError::WriteFault);
+                }
+            }
+        }
+    }
 }

@@ -1,0 +1,35 @@
+-- A fresh cell hosts the tenants below its number, in their opening states.
+use Rattle.std.proofs.Common.{◌≡◌, ◌∙◌, ap, subst, ◌==◌, ◌%◌, ◌&&◌, nat_lt, true, Bool, List, ℕ, Option, Some, None, eq-eqb, arith}
+use Rattle.std.specs.Io.KnownBytes.{Appends}
+use Rattle.std.specs.Prelude.{IfSome, OnOk, Result, Ok, Err}
+use Rattle.sb_tenant.specs.State.{State, opening}
+use Rattle.sb_tenant.specs.Trail.{state_of}
+use Rattle.sb_cell.specs.Tenants.{Cell, IsNew, hosts}
+use Rattle.sb_wire.specs.Output.{IsOutput, output}
+use Rattle.sb_wire.specs.Stream.{states, AnswersInput, AnswersFresh}
+
+module _ (tenants bound : ℕ) (c : Cell) (new : IsNew 0 1 tenants bound c) where
+  below : hosts c ≡ (λ t. nat_lt t tenants)
+  below = λ i t. (new.hosted t ∙ ap (λ (b : Bool). b && nat_lt t tenants) (first t)) i
+    where
+      first : (t : ℕ) → (t % 1 == 0) ≡ true
+      first t = let none : t % 1 ≡ 0 = omega arith in eq-eqb (t % 1) 0 none
+
+  at_start : states c ≡ (λ t. opening)
+  at_start = λ i t. state_of t c.bound (new.trails t i)
+
+  pub fresh-answers : (input text : List ℕ) (after : Cell) → AnswersInput c input text after → AnswersFresh tenants bound input text
+  fresh-answers input text after told = record {
+    after = states after;
+    answers = subst (λ (h : ℕ → Bool). IsOutput h bound (λ t. opening) input text (states after)) below
+        (subst (λ (k : ℕ). IsOutput (hosts c) k (λ t. opening) input text (states after)) new.at_most
+        (subst (λ (s : ℕ → State). IsOutput (hosts c) c.bound s input text (states after)) at_start told.answers));
+    exact = λ none. told.exact none ∙ (λ i. output (below i) (new.at_most i) (at_start i) input);
+  }
+
+  pub fresh-ok : {T E : Type 0} (r : Result T E) (input held holds : Option (List ℕ)) (after : Cell)
+      → OnOk r (IfSome input (λ bytes. (text : List ℕ) × Appends held holds text × AnswersInput c bytes text after))
+      → OnOk r (IfSome input (λ bytes. (text : List ℕ) × Appends held holds text × AnswersFresh tenants bound bytes text))
+  fresh-ok (Err e) input held holds after told = tt
+  fresh-ok (Ok x) None held holds after told = tt
+  fresh-ok (Ok x) (Some bytes) held holds after (text, appends, told) = (text, appends, fresh-answers bytes text after told)

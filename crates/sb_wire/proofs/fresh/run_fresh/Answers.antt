@@ -1,0 +1,15 @@
+use Rattle.std.proofs.Common.{inl, inr, refl}
+use Rattle.sb_wire.proofs.Openings.{fresh-ok}
+use Rattle.sb_wire.proofs.Replies.{keeps_all}
+use Rattle.sb_wire.proofs.fresh.run_fresh.Goals as goal
+
+-- no room for a cell
+pub returns-in_default-clause-goes : goal.returns-in_default-clause-goes
+returns-in_default-clause-goes g c = inl (refl, keeps_all (g.R.Read.remaining c.args.reader.now), keeps_all (g.W.Write.contents c.args.writer.now))
+
+pub returns-clause-goes : goal.returns-clause-goes
+returns-clause-goes g c = let told = c.run_stream.ensures.goes in inr (c.in-Ok.cell, c.run_stream.new.cell, c.in-Ok.ensures, told.0, told.1)
+
+pub returns-clause-ok : goal.returns-clause-ok
+returns-clause-ok g c =
+    fresh-ok c.args.tenants c.args.bound c.in-Ok.cell c.in-Ok.ensures c.run_stream.result (g.R.Read.remaining c.args.reader.now) (g.W.Write.contents c.args.writer.now) (g.W.Write.contents c.run_stream.new.writer) c.run_stream.new.cell c.run_stream.ensures.ok

@@ -1,0 +1,29 @@
+//! Calls that are interrupted are made again.
+ghost use Rattle.std.specs.Prelude.{IsTrue, ◌<◌};
+
+use std::io::{Error, ErrorKind};
+
+/// How often a call is made again.
+const MOST_TRIES: u32 = 1_000_000;
+
+#[derive(Drop)]
+pub(crate) struct Tries {
+    left: u32,
+}
+
+impl Tries {
+    pub fn new() -> Tries {
+        Tries { left: MOST_TRIES }
+    }
+
+    /// Whether a call that failed in this way is to be made again.
+    pub fn again(&mut self, error: &Error) -> bool
+        ensures { IsTrue result → self.new.left < self.old.left }
+    {
+        if self.left == 0 || error.kind() != ErrorKind::Interrupted {
+            return false;
+        }
+        self.left -= 1;
+        true
+    }
+}
