@@ -1,32 +1,35 @@
 //! The server: the lines of standard input, answered on standard output.
 #![tactic(auto)]
 
-use sb_cell::Cell;
-use sb_wire::{StreamError, run_stream};
-use std::io;
+use sb_command::command;
+use sb_wire::Fallible;
 use std::process::ExitCode;
+use std::{env, io};
 
-/// How many tenants are hosted.
-const TENANTS: u32 = 16;
-
-/// The most considerations at an assertion point.
-const BOUND: u32 = 1000;
+/// The status where the words can't be read.
+const BAD_WORDS: u8 = 2;
 
 fn main(rt: HostRuntime) -> ExitCode {
-    match serve(&rt) {
-        Ok(()) => ExitCode::SUCCESS,
-        Err(fault) => {
-            // a standard error that takes nothing can't be told of
-            let _told = eprintln!(rt; "fault: {fault}");
-            ExitCode::FAILURE
-        }
-    }
+    ExitCode::from(status(&rt))
 }
 
-/// Answers the lines of standard input on a fresh cell.
-fn serve(rt: &HostRuntime) -> Result<(), StreamError> {
-    let Ok(mut cell) = Cell::new(rt.alloc(), 0, 1, TENANTS, BOUND) else {
-        return Err(StreamError::NoMemory);
+/// Hands the words and the streams to the command.
+fn status(rt: &HostRuntime) -> u8 {
+    let Ok(given) = env::args(rt) else {
+        return BAD_WORDS;
     };
-    run_stream(rt.alloc(), &mut rt.reader(), &mut io::writer(rt), &mut cell)
+    let Ok(words) = given.collect::<Vec<String>>(rt.alloc()) else {
+        return BAD_WORDS;
+    };
+    let mut reader = Fallible { inner: rt.reader() };
+    let mut writer = Fallible {
+        inner: io::writer(rt),
+    };
+    command(
+        rt.alloc(),
+        words.as_slice(),
+        &mut reader,
+        &mut writer,
+        &mut rt.stderr(),
+    )
 }
