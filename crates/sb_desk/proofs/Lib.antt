@@ -1,0 +1,7 @@
+pub mod SeatSteps
+pub mod CellSteps
+pub mod DeskSteps
+pub mod Ending
+pub mod ReceiptSteps
+pub mod DeskCalls
+pub mod DeskNew

@@ -1,0 +1,118 @@
+-- What a session has of its calls.
+use Rattle.std.specs.Prelude.{ℕ, ◌+◌, ◌==◌, ◌&&◌, Bool, true, false, List, [], ◌∷◌, ◌++◌, if◌then◌else◌, codes, Option, Some, None}
+use Rattle.sb_syntax.specs.Text.{command_of}
+use Rattle.sb_syntax.specs.Tree.{Command, end_session}
+use Rattle.sb_tenant.specs.declared.reply.Answer.{Answer}
+use Rattle.sb_tenant.specs.declared.reply.Entry.{Entry}
+use Rattle.sb_tenant.specs.declared.reply.Reply.{Reply}
+use Rattle.sb_tenant.specs.declared.reply.Reply.TheVariants.{Ok}
+use Rattle.sb_desk.specs.declared.receipts.Receipt.{Receipt}
+use Rattle.sb_desk.specs.declared.receipts.Newest.{Newest}
+use Rattle.sb_desk.specs.declared.receipts.Newest.TheVariants as newest
+
+-- its receipts, whether it has ended, the line that is ready, and the answer of the newest call that gave one
+pub record Receipts : Type 0 where
+  pub tenant : ℕ
+  pub session : ℕ
+  pub list : List Receipt
+  pub ended : Bool
+  pub ready : Option (List ℕ)
+  pub last : Option Answer
+
+-- ---- a receipt
+
+abbrev pub numbered : ℕ → Reply → Answer
+numbered n reply = record { number = Some n; reply = reply }
+
+abbrev pub receipt : List ℕ → Answer → Receipt
+receipt line answer = record { line = line; answer = answer }
+
+-- an answer with a number is one more receipt
+abbrev pub list_by : Option ℕ → List Receipt → List ℕ → Answer → List Receipt
+list_by (Some n) list line answer = list ++ receipt line answer ∷ []
+list_by None list line answer = list
+
+abbrev pub list_after : List Receipt → List ℕ → Answer → List Receipt
+list_after list line answer = list_by answer.number list line answer
+
+-- ---- the `end`
+
+abbrev pub is_end : Option Command → Bool
+is_end (Some end_session) = true
+is_end command = false
+
+abbrev pub is_ok : Reply → Bool
+is_ok Ok = true
+is_ok reply = false
+
+-- an `end` that is answered `ok` ends a session that is open
+abbrev pub closes : List ℕ → Reply → Bool
+closes line reply = is_end (command_of line) && is_ok reply
+
+-- ---- after a call
+
+-- of an open session
+abbrev pub after : Receipts → List ℕ → Answer → Receipts
+after r line answer = record {
+  tenant = r.tenant;
+  session = r.session;
+  list = list_after r.list line answer;
+  ended = closes line answer.reply;
+  ready = None;
+  last = Some answer;
+}
+
+-- with the `end` that closes the session
+abbrev pub after_end : Receipts → ℕ → Receipts
+after_end r n = record {
+  tenant = r.tenant;
+  session = r.session;
+  list = r.list ++ receipt (codes "end") (numbered n Ok) ∷ [];
+  ended = true;
+  ready = None;
+  last = Some (numbered n Ok);
+}
+
+-- a session that was just opened has the receipt of its `open`, and no call was made
+abbrev pub newcomer : ℕ → ℕ → ℕ → Receipts
+newcomer tenant session n = record {
+  tenant = tenant;
+  session = session;
+  list = receipt (codes "open") (numbered n Ok) ∷ [];
+  ended = false;
+  ready = None;
+  last = None;
+}
+
+-- a line is ready
+abbrev pub prepared : Receipts → List ℕ → Receipts
+prepared r line = record {
+  tenant = r.tenant;
+  session = r.session;
+  list = r.list;
+  ended = r.ended;
+  ready = Some line;
+  last = r.last;
+}
+
+-- ---- how they are kept
+
+-- the answer of the last receipt
+abbrev pub last_of : List Receipt → Option Answer
+last_of [] = None
+last_of (r ∷ []) = Some r.answer
+last_of (r ∷ s ∷ rs) = last_of (s ∷ rs)
+
+-- the newest answer is none, that of the last receipt, or one that is no receipt
+abbrev pub answer_by : Newest → List Receipt → Option Answer
+answer_by newest.Nothing list = None
+answer_by newest.Listed list = last_of list
+answer_by (newest.Beside answer) list = Some answer
+
+-- ---- the receipts that a trail wants
+
+-- those of the entries of session s, where the first entry has the number n
+abbrev pub receipts_of : ℕ → ℕ → List Entry → List Receipt
+receipts_of s n [] = []
+receipts_of s n (e ∷ es) =
+    if e.session == s then receipt e.line (numbered n e.reply) ∷ receipts_of s (n + 1) es else receipts_of s (n + 1) es

@@ -1,0 +1,11 @@
+//! A cell as a host's lock holds it, and a session's receipts, with what ties the two together.
+#![tactic(auto)]
+
+mod desk;
+mod naming;
+mod receipts;
+pub mod seats;
+
+pub use desk::{AttachError, CallError, Desk};
+pub use naming::Naming;
+pub use receipts::{Receipt, Receipts};

@@ -1,0 +1,268 @@
+//! A session's receipts: a line and its answer for each of its entries.
+ghost use Rattle.std.specs.Prelude.{ℕ, List, ◌≡◌, ◌+◌, ◌*◌, ◌<◌, ◌≤◌, ◌%◌, [], ◌∷◌, ◌++◌, length, true, false, codes, Some, None, IsSome, MatchOption, IfOk, OnErr, OnOk, vec_capacity};
+ghost use Rattle.sb_tenant.specs.declared.reply.Reply.TheVariants as told;
+ghost use Rattle.sb_desk.specs.Receipts.{after_end, last_of, newcomer, numbered, prepared, receipt};
+ghost use Rattle.sb_desk.specs.Seats.{IsSeat, number_of};
+
+use crate::naming::Naming;
+use crate::seats::SessionSeat;
+use sb_tenant::{Answer, Line, Reply};
+use sb_value::SessionId;
+use std::alloc::{AllocError, Global};
+use std::marker::Model;
+use std::sync::ledger::Share;
+
+/// The line that a call had, and its answer.
+#[derive(Drop)]
+pub struct Receipt {
+    pub line: Line,
+    pub answer: Answer,
+}
+
+/// Where the answer of the newest call is.
+#[derive(Drop)]
+pub(crate) enum Newest {
+    Nothing,
+    Listed,
+    Beside(Answer),
+}
+
+/// What an open session holds: its seat, and the line of its end.
+#[derive(Drop)]
+pub(crate) struct Opening {
+    pub(crate) seat: SessionSeat,
+    pub(crate) end: Line,
+}
+
+/// One session's receipts, and while it is open its seat.
+#[derive(Drop)]
+pub struct Receipts<N: Naming> {
+    tenant: u32,
+    session: SessionId,
+    list: Vec<Receipt>,
+    share: Share<N>,
+    opening: Option<Opening>,
+    ready: Option<Line>,
+    newest: Newest,
+}
+
+impl<N: Naming> Model for Receipts<N> {
+    ghost use Rattle.std.specs.Prelude.{◌≡◌, ◌+◌, ◌<◌, ◌≤◌, length, vec_capacity};
+    ghost use Rattle.sb_desk.specs.Receipts.{Receipts, answer_by};
+    ghost use Rattle.sb_desk.specs.Kept.{IsListed, HoldsSeat, not_some, owed};
+    ghost use Rattle.sb_desk.specs.Seats.{number_of};
+
+    ghost Value = { Receipts };
+
+    ghost view = { λ r. record { tenant = r.tenant; session = r.session; list = r.list.items; ended = not_some r.opening; ready = r.ready; last = answer_by r.newest r.list.items } };
+
+    ghost invariant = { λ r. (r.tenant < N.tenants) × (r.session < 8) × (r.share.parts ≡ length r.list.items) × HoldsSeat N.table (number_of N.cells r.tenant r.session) r.opening × (length r.list.items + owed r.opening r.ready ≤ vec_capacity r.list) × IsListed r.newest r.list.items };
+}
+
+impl<N: Naming> Receipts<N> {
+    /// The number of its tenant.
+    pub fn tenant(&self) -> u32
+        ensures is { result ≡ self.now.tenant }
+        ensures below { result < N.tenants }
+    {
+        self.tenant
+    }
+
+    /// The session.
+    pub fn session(&self) -> SessionId
+        ensures is { result ≡ self.now.session }
+        ensures below { result < 8 }
+    {
+        self.session
+    }
+
+    /// Whether the session has ended.
+    pub fn ended(&self) -> bool
+        ensures { result ≡ self.now.ended }
+    {
+        self.opening.is_none()
+    }
+
+    /// The receipts so far.
+    pub fn list(&self) -> &[Receipt]
+        ensures { result.now ≡ self.now.list }
+    {
+        self.list.as_slice()
+    }
+
+    /// The answer of the newest call that gave one.
+    pub fn last(&self) -> Option<&Answer>
+        ensures { MatchOption result (self.now.last ≡ None) (λ answer. self.now.last ≡ Some answer.now) }
+    {
+        match &self.newest {
+            Newest::Nothing => None,
+            Newest::Listed => last_answer(self.list.as_slice()),
+            Newest::Beside(answer) => Some(answer),
+        }
+    }
+
+    /// The receipts alone.
+    pub fn into_list(self) -> Vec<Receipt>
+        ensures { result.items ≡ self.list }
+    {
+        let Receipts { list, .. } = self;
+        list
+    }
+
+    /// Makes a line ready, with the place of its receipt.
+    pub fn prepare(&mut self, alloc: Global, line: &[u8]) -> Result<(), AllocError>
+        ensures ok { OnOk result (self.new ≡ prepared self.old line.now) }
+        ensures err { OnErr result (self.new ≡ self.old) }
+    {
+        let copy = Line::new(alloc, line)?;
+        self.list.reserve(2)?;
+        self.ready = Some(copy);
+        Ok(())
+    }
+
+    /// The line that is ready.
+    pub(crate) fn ready(&self) -> Option<&Line>
+        ensures { MatchOption result (self.now.ready ≡ None) (λ line. self.now.ready ≡ Some line.now) }
+    {
+        self.ready.as_ref()
+    }
+
+    /// Takes the receipt of the line that was ready, with its part.
+    pub(crate) fn note(&mut self, from: &mut Share<N>, answer: Answer)
+        requires parts { 1 < from.old.parts }
+        requires ready { IsSome self.old.ready }
+        ensures part { from.new.parts + 1 ≡ from.old.parts }
+        ensures note { (line : List ℕ) × (self.old.ready ≡ Some line) × (self.new ≡ record { tenant = self.old.tenant; session = self.old.session; list = self.old.list ++ receipt line answer ∷ []; ended = self.old.ended; ready = None; last = Some answer }) }
+    {
+        let Some(line) = self.ready.take() else {
+            unreachable!()
+        };
+        let part = from.split_off(1, 0);
+        self.share.merge(part);
+        self.list.push_reserved(Receipt { line, answer });
+        self.newest = Newest::Listed;
+    }
+
+    /// Takes the receipt of the `end`, with its part, and gives the seat.
+    pub(crate) fn note_end(&mut self, from: &mut Share<N>, number: u32) -> SessionSeat
+        requires parts { 1 < from.old.parts }
+        requires not_ended { self.old.ended ≡ false }
+        ensures part { from.new.parts + 1 ≡ from.old.parts }
+        ensures note { self.new ≡ after_end self.old number }
+        ensures seat { IsSeat N.table (number_of N.cells self.old.tenant self.old.session) result }
+    {
+        let Some(opening) = self.opening.take() else {
+            unreachable!()
+        };
+        let Opening { seat, end } = opening;
+        let part = from.split_off(1, 0);
+        self.share.merge(part);
+        self.ready = None;
+        self.list.push_reserved(Receipt {
+            line: end,
+            answer: ok(number),
+        });
+        self.newest = Newest::Listed;
+        seat
+    }
+
+    /// Takes the answer to the line that was ready, which is no receipt.
+    pub(crate) fn tell(&mut self, answer: Answer)
+        ensures { self.new ≡ record { tenant = self.old.tenant; session = self.old.session; list = self.old.list; ended = self.old.ended; ready = None; last = Some answer } }
+    {
+        self.ready = None;
+        self.newest = Newest::Beside(answer);
+    }
+
+    /// Gives the seat of a session that has ended.
+    pub(crate) fn give_up_seat(&mut self) -> SessionSeat
+        requires { self.old.ended ≡ false }
+        ensures ended { self.new ≡ record { tenant = self.old.tenant; session = self.old.session; list = self.old.list; ended = true; ready = self.old.ready; last = self.old.last } }
+        ensures seat { IsSeat N.table (number_of N.cells self.old.tenant self.old.session) result }
+    {
+        match self.opening.take() {
+            Some(opening) => opening.seat,
+            None => unreachable!(),
+        }
+    }
+}
+
+/// The answer of the last receipt.
+fn last_answer(list: &[Receipt]) -> Option<&Answer>
+    ensures { MatchOption result (last_of list.now ≡ None) (λ answer. last_of list.now ≡ Some answer.now) }
+{
+    if list.len() == 0 {
+        None
+    } else {
+        Some(&list[list.len() - 1].answer)
+    }
+}
+
+/// `ok`, with the number of its step.
+fn ok(number: u32) -> Answer
+    ensures { result ≡ numbered number told.Ok }
+{
+    Answer {
+        number: Some(number),
+        reply: Reply::Ok,
+    }
+}
+
+/// The places, the lines and the part that a session needs to be opened.
+#[derive(Drop)]
+pub(crate) struct Room {
+    pub(crate) list: Vec<Receipt>,
+    pub(crate) first: Line,
+    pub(crate) end: Line,
+}
+
+impl Room {
+    /// The room, before the session is opened.
+    pub(crate) fn new(alloc: Global) -> Result<Room, AllocError>
+        ensures { IfOk result (λ room. (room.list.items ≡ []) × (2 ≤ vec_capacity room.list) × (room.first ≡ codes "open") × (room.end ≡ codes "end")) }
+    {
+        let mut list = Vec::new(alloc);
+        list.reserve(2)?;
+        Ok(Room {
+            list,
+            first: Line::new(alloc, b"open")?,
+            end: Line::new(alloc, b"end")?,
+        })
+    }
+
+    /// The receipts of a session that was just opened.
+    pub(crate) fn opened<N: Naming>(
+        self,
+        tenant: u32,
+        session: SessionId,
+        share: Share<N>,
+        seat: SessionSeat,
+        number: u32,
+    ) -> Receipts<N>
+        requires of { (tenant < N.tenants) × (session < 8) }
+        requires list { (self.list.items ≡ []) × (2 ≤ vec_capacity self.list) }
+        requires lines { (self.first ≡ codes "open") × (self.end ≡ codes "end") }
+        requires part { share.parts ≡ 1 }
+        requires seat { IsSeat N.table (number_of N.cells tenant session) seat }
+        ensures { result ≡ newcomer tenant session number }
+    {
+        let Room {
+            mut list,
+            first,
+            end,
+        } = self;
+        list.push_reserved(Receipt {
+            line: first,
+            answer: ok(number),
+        });
+        Receipts {
+            tenant,
+            session,
+            list,
+            share,
+            opening: Some(Opening { seat, end }),
+            ready: None,
+            newest: Newest::Nothing,
+        }
+    }
+}
