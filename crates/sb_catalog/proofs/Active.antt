@@ -67,6 +67,7 @@ active-with set new rules r h free is id =
     within : (q : Rule) (b : Bool) → nat_eq q.id r.id ≡ b → (b && q.active) ≡ true → nat_eq q.id r.id ≡ true
     within q true e p = e
     within q false e p = absurd (cc)
+
     none : (qs : List Rule) → list_any (λ (q : Rule). nat_eq q.id r.id) qs ≡ false → is_active qs r.id ≡ false
     none [] e = refl
     none (q ∷ qs) e = one (nat_eq q.id r.id) refl e (none qs)
@@ -75,6 +76,7 @@ active-with set new rules r h free is id =
             (list_any (λ (x : Rule). nat_eq x.id r.id) qs ≡ false → is_active qs r.id ≡ false) → ((nat_eq q.id r.id && q.active) || is_active qs r.id) ≡ false
         one true f g rest = absurd (let p = ap (λ (b : Bool). b || list_any (λ (x : Rule). nat_eq x.id r.id) qs) f in cc)
         one false f g rest = ap (λ (b : Bool). (b && q.active) || is_active qs r.id) f ∙ rest (sym (ap (λ (b : Bool). b || list_any (λ (x : Rule). nat_eq x.id r.id) qs) f) ∙ g)
+
     by : (b : Bool) → nat_eq id r.id ≡ b → cond b r.active (is_active rules id) ≡ (is_active rules id || ((nat_eq r.id id && r.active) || false))
     by true e =
         sym ((λ i. is_active rules (eqb-true id r.id e i) || ((nat_eq r.id (eqb-true id r.id e i) && r.active) || false))
@@ -90,15 +92,19 @@ active-without set new rules gone h is id =
     lost : (x : Bool) → (x && false) ≡ false
     lost true = refl
     lost false = refl
+
     kept : (x : Bool) → (x && true) ≡ x
     kept true = refl
     kept false = refl
+
     never : (r : Rule) (b : Bool) → nat_eq id gone ≡ true → nat_eq r.id id ≡ b → (not (nat_eq r.id gone) && (b && r.active)) ≡ false
     never r true e f = ap (λ (x : Bool). not x && r.active) (ap (λ (m : ℕ). nat_eq m gone) (eqb-true r.id id f) ∙ e)
     never r false e f = lost (not (nat_eq r.id gone))
+
     always : (r : Rule) (b : Bool) → nat_eq id gone ≡ false → nat_eq r.id id ≡ b → (not (nat_eq r.id gone) && (b && r.active)) ≡ (b && r.active)
     always r true e f = ap (λ (x : Bool). not x && r.active) (ap (λ (m : ℕ). nat_eq m gone) (eqb-true r.id id f) ∙ e)
     always r false e f = lost (not (nat_eq r.id gone))
+
     by : (b : Bool) → nat_eq id gone ≡ b → (is_active rules id && not b) ≡ list_any (λ (r : Rule). not (nat_eq r.id gone) && (nat_eq r.id id && r.active)) rules
     by true e = lost (is_active rules id) ∙ sym (any-none (λ (r : Rule). not (nat_eq r.id gone) && (nat_eq r.id id && r.active)) rules (λ r. never r (nat_eq r.id id) e refl))
     by false e = kept (is_active rules id) ∙ sym (any-same (λ (r : Rule). not (nat_eq r.id gone) && (nat_eq r.id id && r.active)) (λ (r : Rule). nat_eq r.id id && r.active) rules (λ r. always r (nat_eq r.id id) e refl))
@@ -113,6 +119,7 @@ named_there name (s ∷ rules) r e = by (same_name s.name name) refl (named_ther
     or-second : (b : Bool) → list_any (λ (q : Rule). nat_eq q.id r.id) rules ≡ true → (b || list_any (λ (q : Rule). nat_eq q.id r.id) rules) ≡ true
     or-second true h = refl
     or-second false h = h
+
     by : (b : Bool) → same_name s.name name ≡ b → (named rules name ≡ Some r → list_any (λ (q : Rule). nat_eq q.id r.id) rules ≡ true) →
         (nat_eq s.id r.id || list_any (λ (q : Rule). nat_eq q.id r.id) rules) ≡ true
     by true f rest =
@@ -127,14 +134,17 @@ active-set set new rules n active h there is id =
   where
     after : Rule → ℕ → Bool
     after r k = nat_eq (set_active n active r).id k && (set_active n active r).active
+
     own : (r : Rule) (b : Bool) → nat_eq r.id n ≡ b → after r n ≡ (b && active)
     own r true f = (λ i. nat_eq (cond (f i) (record r { active = active }) r).id n && (cond (f i) (record r { active = active }) r).active) ∙ (λ i. f i && active)
     own r false f = (λ i. nat_eq (cond (f i) (record r { active = active }) r).id n && (cond (f i) (record r { active = active }) r).active) ∙ (λ i. f i && r.active)
+
     other : (r : Rule) (b : Bool) → nat_eq id n ≡ false → nat_eq r.id n ≡ b → after r id ≡ (nat_eq r.id id && r.active)
     other r true e f =
         let apart : nat_eq r.id id ≡ false = ap (λ (m : ℕ). nat_eq m id) (eqb-true r.id n f) ∙ other_number id n e in
         (λ i. nat_eq (cond (f i) (record r { active = active }) r).id id && (cond (f i) (record r { active = active }) r).active) ∙ (λ i. apart i && active) ∙ (λ i. sym apart i && r.active)
     other r false e f = λ i. nat_eq (cond (f i) (record r { active = active }) r).id id && (cond (f i) (record r { active = active }) r).active
+
     by : (b : Bool) → nat_eq id n ≡ b → cond b active (is_active rules id) ≡ list_any (λ r. after r id) rules
     by true e =
         sym (ap (λ (m : ℕ). list_any (λ r. after r m) rules) (eqb-true id n e)

@@ -264,15 +264,17 @@ first-from word i h some =
     let low : ℕ = trailing_zeros w64 rest in
     let at = bit_at-trailing_zeros w64 rest some (let e : rest ≤ word = shr_le word i in omega (arith, e, h)) in
     let one : bit_at word (i + low) ≡ 1 = sym (bit_at-shifted word i low) ∙ at.1 in
-    let in_range : i + low < 64 = within (nat_lt (i + low) 64) refl one in
-    (in_range, record {
-      from = omega arith;
-      is_in = flag_at-bit 64 (i + low) word in_range ∙ ap (λ (b : ℕ). nat_eq b 1) one;
-      least = λ j from below.
-          flag_at-bit 64 j word (omega (arith, below, in_range))
-          ∙ ap (λ (b : ℕ). nat_eq b 1)
-          (ap (bit_at word) (let e : j ≡ i + (j - i) = omega (arith, from) in e) ∙ sym (bit_at-shifted word i (j - i)) ∙ at.2 (j - i) (omega (arith, from, below)));
-    })
+    let in_range : i + low < 64 = within (nat_lt (i + low) 64) refl one in (
+      in_range,
+      record {
+        from = omega arith;
+        is_in = flag_at-bit 64 (i + low) word in_range ∙ ap (λ (b : ℕ). nat_eq b 1) one;
+        least = λ j from below.
+            flag_at-bit 64 j word (omega (arith, below, in_range))
+            ∙ ap (λ (b : ℕ). nat_eq b 1)
+            (ap (bit_at word) (let e : j ≡ i + (j - i) = omega (arith, from) in e) ∙ sym (bit_at-shifted word i (j - i)) ∙ at.2 (j - i) (omega (arith, from, below)));
+      },
+    )
   where
     within : (b : Bool) → nat_lt (i + trailing_zeros w64 (word / 2 ^ i)) 64 ≡ b → bit_at word (i + trailing_zeros w64 (word / 2 ^ i)) ≡ 1 → i + trailing_zeros w64 (word / 2 ^ i) < 64
     within true low one = ltb-true (i + trailing_zeros w64 (word / 2 ^ i)) 64 low
