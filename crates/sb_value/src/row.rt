@@ -6,10 +6,10 @@ use smallvec::SmallVec;
 use std::alloc::{AllocError, Global};
 use std::marker::Model;
 
-/// A row: its values in the order of the table's columns. Up to eight stand inline.
+/// A row: its values in the order of the table's columns. Up to two stand inline.
 #[derive(Drop)]
 pub struct Row {
-    values: SmallVec<Value, 8>,
+    values: SmallVec<Value, 2>,
 }
 
 impl Model for Row {
