@@ -6,9 +6,13 @@ use sb_value::{Name, Value};
 #[derive(Clone, Copy, PartialEq, Eq)]
 pub enum TableReference {
     Named(Name),
+    /// `inserted`: the rows that the transition inserted.
     Inserted,
+    /// `deleted`: those that it deleted.
     Deleted,
+    /// `old updated`: those that it updated, as they were.
     OldUpdated,
+    /// `new updated`: those that it updated, as they are now.
     NewUpdated,
 }
 
@@ -16,6 +20,7 @@ pub enum TableReference {
 #[derive(Clone, Copy, PartialEq, Eq)]
 pub enum ColumnReference {
     Plain(Name),
+    /// `source.column`, where the source is an alias or a table of `from`.
     Qualified(TableReference, Name),
 }
 
@@ -26,6 +31,7 @@ pub struct SourceReference {
     pub alias: Option<Name>,
 }
 
+/// An operation of two integers.
 #[derive(Clone, Copy, Debug, PartialEq, Eq)]
 pub enum Arithmetic {
     Add,
@@ -33,6 +39,7 @@ pub enum Arithmetic {
     Multiply,
 }
 
+/// A comparison of two values.
 #[derive(Clone, Copy, Debug, PartialEq, Eq)]
 pub enum Comparison {
     Equal,
@@ -54,12 +61,17 @@ pub enum Expr {
 /// What a query lists.
 #[derive(Drop)]
 pub enum Items {
+    /// `*`: each column of each source.
     All,
+    /// `count(*)`.
     Count,
+    /// `sum(..)`.
     Sum(Expr),
+    /// One column for each expression.
     Each(Vec<Expr>),
 }
 
+/// A condition, as behind `where`.
 #[cycle(syntax)]
 #[derive(Drop)]
 pub enum Condition {
@@ -80,6 +92,7 @@ pub enum Operand {
     Answer(Box<Query>),
 }
 
+/// `select items from sources where filter`.
 #[cycle(syntax)]
 #[derive(Drop)]
 pub struct Query {

@@ -151,6 +151,7 @@ pub enum Reply {
 /// A reply with the number of its step, if it was one.
 #[derive(Drop)]
 pub struct Answer {
+    /// Which step of the tenant it was, from 1.
     pub number: Option<u32>,
     pub reply: Reply,
 }

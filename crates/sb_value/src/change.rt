@@ -20,7 +20,9 @@ pub struct Change {
     pub table: TableId,
     pub tuple: u64,
     pub kind: Kind,
+    /// The row before it, of a delete or an update.
     pub old: Option<Row>,
+    /// The row after it, of an insert or an update.
     pub new: Option<Row>,
     /// The columns that an update's `set` list names.
     pub columns: Columns,

@@ -14,7 +14,9 @@ pub enum Net {
 /// The triggering operations of a rule.
 #[derive(Clone, Copy)]
 pub struct Triggers {
+    /// Whether an insert triggers.
     pub inserted: bool,
+    /// Whether a delete triggers.
     pub deleted: bool,
     /// Whether an update of any column triggers.
     pub updated: bool,
