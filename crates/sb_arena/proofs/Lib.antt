@@ -1,3 +1,4 @@
+mod Crossing
 pub mod Fulls
 pub mod Names
 pub mod Rows

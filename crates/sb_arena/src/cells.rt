@@ -27,6 +27,11 @@ impl<T> Clone for Start<T> {
 
 impl<T> Copy for Start<T> {}
 
+// An address may go to any thread; what lies there is the cells' to send or lend.
+unsafe impl<T> Send for Start<T> {}
+
+unsafe impl<T> Sync for Start<T> {}
+
 /// The owner of a block's cells. It takes no bytes, and isn't `Drop`: nothing that a cell holds is forgotten.
 pub(crate) struct Cells<T> {
     mark: PhantomData<*const T>,
@@ -39,6 +44,11 @@ impl<T> Model for Cells<T> {
 
     ghost also_shares = { λ c _ κ. row_lent_at T.row c.at c.slots κ };
 }
+
+// They go to another thread with the values in them, and lend these alone.
+unsafe impl<T: Send> Send for Cells<T> {}
+
+unsafe impl<T: Sync> Sync for Cells<T> {}
 
 /// The right to give a block back to its allocator. It takes no bytes, and isn't `Drop`: no block is forgotten.
 pub(crate) struct Deed<T, A: Allocator> {
@@ -53,6 +63,11 @@ impl<T, A: Allocator> Model for Deed<T, A> {
 
     ghost also_shares = { λ _ _ _. ftrue };
 }
+
+// A block is given back by any thread to which its allocator may go, and a `&` to the right gives nothing.
+unsafe impl<T, A: Allocator + Send> Send for Deed<T, A> {}
+
+unsafe impl<T, A: Allocator> Sync for Deed<T, A> {}
 
 /// A block of empty cells.
 pub(crate) fn allocate<T, A: Allocator>(
