@@ -10,6 +10,7 @@ ghost use Rattle.sb_eval.specs.Statement as spec;
 
 use crate::condition::{condition, operand};
 use crate::fault::Fault;
+use crate::join::MANY;
 use crate::kept::append;
 use crate::known::Known;
 use crate::learn::learn_effect;
@@ -212,7 +213,7 @@ fn change<'r, S: Sources>(
 }
 
 /// Adds the change of one row, where the condition is true of it. What can be known of the operands is found at the first
-/// such row.
+/// such row, and again where so many were found that their sources are worth looking up.
 pub(crate) fn change_row<'r, S: Sources>(
     alloc: Global,
     effect: &Effect<'r>,
@@ -237,8 +238,9 @@ pub(crate) fn change_row<'r, S: Sources>(
     if !passes {
         return Ok(());
     }
-    if changes.is_empty() {
-        *operands = learn_effect(alloc, effect, sources)?;
+    let found = changes.len();
+    if found == 0 || found == MANY {
+        *operands = learn_effect(alloc, effect, found as u64, sources)?;
     }
     let change = change(
         alloc, effect, table, number, values, operands, sources, &scope,

@@ -1,6 +1,6 @@
 //! Whether a condition can overflow.
 ghost use Rattle.std.specs.Prelude.{◌≡◌};
-ghost use Rattle.sb_eval.specs.Joined as spec;
+ghost use Rattle.sb_eval.specs.Settled as spec;
 
 use crate::known::Known;
 use sb_check::{Condition, ConditionNode, Expression, ExpressionNode, Operand, OperandNode};
