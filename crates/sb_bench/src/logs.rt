@@ -9,6 +9,9 @@ const CHANGES: usize = 4096;
 
 const BUCKETS: usize = 1024;
 
+/// What a log of many tenants is made with.
+const MOST_BUCKETS: usize = 65_536;
+
 /// Prints what an append, a record of a walk, the transition tables, a rule that isn't triggered and
 /// forgetting take, in nanoseconds.
 fn time_log<L: ChangeLog>(rt: &HostRuntime, name: &str, log: &mut L) -> io::Result<()> {
@@ -43,14 +46,17 @@ fn fill<L: ChangeLog>(rt: &HostRuntime, log: &mut L) -> io::Result<()> {
     Ok(())
 }
 
-/// Both logs, and the hashed one with 255 other tenants in it.
+/// Both logs, the hashed one with the most buckets, and that with 255 other tenants in it.
 pub fn time_logs(rt: &HostRuntime) -> io::Result<()> {
     let mut plain = PlainLog::new(rt.alloc());
     time_log(rt, "plain", &mut plain)?;
     let mut raw = RawLog::new(rt.alloc(), BUCKETS)?;
     time_log(rt, "hashed", &mut raw)?;
     time_log(rt, "hashed again", &mut raw)?;
-    let mut shared = RawLog::new(rt.alloc(), BUCKETS)?;
+    let mut wide = RawLog::new(rt.alloc(), MOST_BUCKETS)?;
+    time_log(rt, "wide", &mut wide)?;
+    time_log(rt, "wide again", &mut wide)?;
+    let mut shared = RawLog::new(rt.alloc(), MOST_BUCKETS)?;
     fill(rt, &mut shared)?;
     time_log(rt, "shared", &mut shared)
 }

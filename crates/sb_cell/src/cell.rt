@@ -21,10 +21,17 @@ use sb_value::{Name, SESSION_LIMIT, SessionId, TenantId};
 use std::alloc::{AllocError, Global};
 use std::marker::Model;
 
-/// The log of a cell, and how many buckets it is made with.
+/// The log of a cell.
 pub type Log = RawLog;
 
-const BUCKETS: usize = 1_024;
+/// The number of buckets of the log of so many tenants: 64 a tenant, which keeps chains short where
+/// all of them are at work, and at least 1,024.
+fn bucket_count(tenants: u32) -> usize
+    requires { tenants ≤ 256 }
+    ensures { (0 < result) × (result ≤ 65536) }
+{
+    (tenants as usize * 64).max(1_024)
+}
 
 /// The tenants whose numbers are `first`, `first + stride`, .. with what their transactions share.
 #[derive(Drop)]
@@ -68,7 +75,7 @@ impl Cell {
             stride,
             bound,
             tenants: opened(alloc, first, stride, tenants, bound)?,
-            log: Log::new(alloc, BUCKETS)?,
+            log: Log::new(alloc, bucket_count(tenants))?,
             index: RuleIndex::new(alloc),
         })
     }
