@@ -1,0 +1,72 @@
+-- What a session knows of its calls. The cell's part of the step is the contract of a desk's calls.
+use Rattle.std.specs.Prelude.{ℕ, ◌≡◌, ◌<◌, ◌≤◌, Bool, true, false, List, Option, Some, Result, Ok, Err}
+use Rattle.sb_tenant.specs.declared.reply.Answer.{Answer}
+use Rattle.sb_tenant.specs.Limits.{session_count}
+use Rattle.sb_desk.specs.declared.desk.AttachError.{AttachError}
+use Rattle.sb_desk.specs.declared.desk.AttachError.TheVariants.{NoTenant, NoSession}
+use Rattle.sb_desk.specs.declared.desk.CallError.{CallError}
+use Rattle.sb_desk.specs.declared.desk.CallError.TheVariants as call
+use Rattle.sb_desk.specs.declared.receipts.Receipt.{Receipt}
+use Rattle.sb_desk.specs.Receipts.{Receipts, after, after_end, closes, list_after, newcomer}
+
+-- ---- behind a lock
+
+-- one answer to the line that was ready
+abbrev pub Called : Receipts → Receipts → Type 0
+Called r r' = (line : List ℕ) × (answer : Answer) × (r.ended ≡ false) × (r.ready ≡ Some line) × (r' ≡ after r line answer)
+
+abbrev pub is_ended : CallError → Bool
+is_ended call.Ended = true
+is_ended call.NotBegun = false
+
+-- a refusal changes nothing, and says whether the session has ended
+abbrev pub Refused : Receipts → CallError → Receipts → Type 0
+Refused r e r' = (r' ≡ r) × (r.ended ≡ is_ended e)
+
+-- with the `end`, unless it had ended
+abbrev pub Left : Receipts → Receipts → Type 0
+Left r r' = (r.ended ≡ true → r' ≡ r) × (r.ended ≡ false → (n : ℕ) × (r' ≡ after_end r n))
+
+abbrev pub IsNewcomer : ℕ → ℕ → Receipts → Type 0
+IsNewcomer t s r = (n : ℕ) × (r ≡ newcomer t s n)
+
+-- the refusals that come where both numbers are in range
+abbrev pub IsLate : AttachError → Type 0
+IsLate NoTenant = ⊥
+IsLate NoSession = ⊥
+IsLate e = Unit {0}
+
+-- ---- a session
+
+-- what a clause sees of it
+pub record Session : Type 0 where
+  pub tenant : ℕ
+  pub session : ℕ
+  pub list : List Receipt
+  pub ended : Bool
+  pub last : Option Answer
+
+abbrev pub shown : Receipts → Session
+shown r = record { tenant = r.tenant; session = r.session; list = r.list; ended = r.ended; last = r.last }
+
+-- the receipts before, followed by one with this line where the answer has a number
+abbrev pub after_call : Session → List ℕ → Answer → Session
+after_call s line answer = record {
+  tenant = s.tenant;
+  session = s.session;
+  list = list_after s.list line answer;
+  ended = closes line answer.reply;
+  last = Some answer;
+}
+
+-- of a session that hasn't ended, one answer; or a refusal, which says whether it has
+abbrev pub Calls : Session → List ℕ → Result Answer CallError → Session → Type 0
+Calls old line (Ok answer) new = (old.ended ≡ false) × (new ≡ after_call old line answer)
+Calls old line (Err e) new = (old.ended ≡ is_ended e) × (new ≡ old)
+
+-- a new session; or a refusal: the numbers are looked at first
+abbrev pub Attached : ℕ → ℕ → ℕ → Result Session AttachError → Type 0
+Attached tenants t s (Ok new) = (t < tenants) × (s < session_count) × ((n : ℕ) × (new ≡ shown (newcomer t s n)))
+Attached tenants t s (Err NoTenant) = tenants ≤ t
+Attached tenants t s (Err NoSession) = (t < tenants) × (session_count ≤ s)
+Attached tenants t s (Err e) = (t < tenants) × (s < session_count)

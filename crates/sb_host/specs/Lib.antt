@@ -1,0 +1,4 @@
+pub mod Calls
+pub mod Stubs
+pub mod Opening
+pub mod Lent

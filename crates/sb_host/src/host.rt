@@ -1,0 +1,184 @@
+//! The cells of a host, each behind a lock of its own.
+ghost use Rattle.std.specs.Prelude.{◌≡◌, ◌<◌, ◌≤◌, false, IsSome, IfOk, IfErr, OnOk};
+ghost use Rattle.sb_host.specs.Calls.{Attached, Called, IsLate, IsNewcomer, Left, Refused};
+
+use crate::gate::Gate;
+use crate::locks::{Lock, Reach, admit_in, enter_in, leave_in};
+use crate::session::Session;
+use sb_desk::seats::Seats;
+use sb_desk::{AttachError, CallError, Naming, Receipts};
+use sb_value::{SESSION_LIMIT, SessionId};
+use std::alloc::Global;
+use std::marker::Model;
+use std::sync::Wait;
+
+/// The cells of a host, each behind its own lock, whose type names the cell.
+#[derive(Drop)]
+pub struct Host<N: Naming> {
+    pub(crate) tenants: u32,
+    pub(crate) cells: u32,
+    pub(crate) seats: Seats,
+    pub(crate) d0: Lock<N, 0>,
+    pub(crate) d1: Lock<N, 1>,
+    pub(crate) d2: Lock<N, 2>,
+    pub(crate) d3: Lock<N, 3>,
+    pub(crate) d4: Lock<N, 4>,
+    pub(crate) d5: Lock<N, 5>,
+    pub(crate) d6: Lock<N, 6>,
+    pub(crate) d7: Lock<N, 7>,
+    pub(crate) d8: Lock<N, 8>,
+    pub(crate) d9: Lock<N, 9>,
+    pub(crate) d10: Lock<N, 10>,
+    pub(crate) d11: Lock<N, 11>,
+    pub(crate) d12: Lock<N, 12>,
+    pub(crate) d13: Lock<N, 13>,
+    pub(crate) d14: Lock<N, 14>,
+    pub(crate) d15: Lock<N, 15>,
+}
+
+impl<N: Naming> Model for Host<N> {
+    ghost use Rattle.std.specs.Prelude.{ℕ, ◌≡◌, ◌<◌, ◌≤◌, IsSome};
+
+    ghost Value = { ℕ };
+
+    ghost view = { λ h. h.tenants };
+
+    ghost invariant = { λ h. (h.tenants ≡ N.tenants) × (h.tenants ≤ 256) × (h.cells ≡ N.cells) × (0 < h.cells) × (h.cells ≤ 16) × (h.seats.shared.table_id ≡ N.table) × (N.table.words ≡ 1) × ((0 < h.cells → IsSome h.d0) × (1 < h.cells → IsSome h.d1) × (2 < h.cells → IsSome h.d2) × (3 < h.cells → IsSome h.d3) × (4 < h.cells → IsSome h.d4) × (5 < h.cells → IsSome h.d5) × (6 < h.cells → IsSome h.d6) × (7 < h.cells → IsSome h.d7) × (8 < h.cells → IsSome h.d8) × (9 < h.cells → IsSome h.d9) × (10 < h.cells → IsSome h.d10) × (11 < h.cells → IsSome h.d11) × (12 < h.cells → IsSome h.d12) × (13 < h.cells → IsSome h.d13) × (14 < h.cells → IsSome h.d14) × (15 < h.cells → IsSome h.d15)) };
+}
+
+impl<N: Naming> Host<N> {
+    /// How many tenants it has.
+    pub fn tenants(&self) -> u32
+        ensures { result ≡ self.now }
+    {
+        self.tenants
+    }
+
+    /// Opens a session of a tenant.
+    pub fn attach<R: Wait>(
+        &self,
+        rt: &R,
+        alloc: Global,
+        tenant: u32,
+        session: u32,
+    ) -> Result<Session<'_, N>, AttachError>
+        ensures { Attached self.now tenant session result }
+    {
+        if tenant >= self.tenants {
+            return Err(AttachError::NoTenant);
+        }
+        if session >= SESSION_LIMIT as u32 {
+            return Err(AttachError::NoSession);
+        }
+        match self.admit(rt, alloc, tenant, SessionId::new(session as u8)) {
+            Ok(receipts) => Ok(Session {
+                host: self,
+                receipts,
+            }),
+            Err(e) => Err(e),
+        }
+    }
+
+    /// What every cell is reached by.
+    fn reach(&self) -> Reach<'_>
+        ensures { (result.cells ≡ N.cells) × (result.table.now.table_id ≡ N.table) × (N.table.words ≡ 1) }
+    {
+        Reach {
+            cells: self.cells,
+            table: &self.seats.shared,
+        }
+    }
+
+    /// Makes the step `open`, on the tenant's own cell.
+    fn admit<R: Wait>(
+        &self,
+        rt: &R,
+        alloc: Global,
+        tenant: u32,
+        session: SessionId,
+    ) -> Result<Receipts<N>, AttachError>
+        requires { tenant < self.now }
+        ensures ok { IfOk result (λ r. IsNewcomer tenant session r) }
+        ensures late { IfErr result (λ e. IsLate e) }
+    {
+        match tenant % self.cells {
+            0 => admit_in(rt, alloc, &self.d0, tenant, session, self.cells),
+            1 => admit_in(rt, alloc, &self.d1, tenant, session, self.cells),
+            2 => admit_in(rt, alloc, &self.d2, tenant, session, self.cells),
+            3 => admit_in(rt, alloc, &self.d3, tenant, session, self.cells),
+            4 => admit_in(rt, alloc, &self.d4, tenant, session, self.cells),
+            5 => admit_in(rt, alloc, &self.d5, tenant, session, self.cells),
+            6 => admit_in(rt, alloc, &self.d6, tenant, session, self.cells),
+            7 => admit_in(rt, alloc, &self.d7, tenant, session, self.cells),
+            8 => admit_in(rt, alloc, &self.d8, tenant, session, self.cells),
+            9 => admit_in(rt, alloc, &self.d9, tenant, session, self.cells),
+            10 => admit_in(rt, alloc, &self.d10, tenant, session, self.cells),
+            11 => admit_in(rt, alloc, &self.d11, tenant, session, self.cells),
+            12 => admit_in(rt, alloc, &self.d12, tenant, session, self.cells),
+            13 => admit_in(rt, alloc, &self.d13, tenant, session, self.cells),
+            14 => admit_in(rt, alloc, &self.d14, tenant, session, self.cells),
+            15 => admit_in(rt, alloc, &self.d15, tenant, session, self.cells),
+            _ => unreachable!(),
+        }
+    }
+
+    /// Makes the step of the line that is ready, on the session's own cell.
+    pub(crate) fn enter<R: Wait, G: Gate>(
+        &self,
+        rt: &R,
+        alloc: Global,
+        r: &mut Receipts<N>,
+        gate: &G,
+    ) -> Result<(), CallError>
+        requires ready { r.old.ended ≡ false → IsSome r.old.ready }
+        ensures ok { OnOk result (Called r.old r.new) }
+        ensures err { IfErr result (λ e. Refused r.old e r.new) }
+    {
+        let reach = self.reach();
+        match r.tenant() % self.cells {
+            0 => enter_in(rt, alloc, &self.d0, r, reach, gate),
+            1 => enter_in(rt, alloc, &self.d1, r, reach, gate),
+            2 => enter_in(rt, alloc, &self.d2, r, reach, gate),
+            3 => enter_in(rt, alloc, &self.d3, r, reach, gate),
+            4 => enter_in(rt, alloc, &self.d4, r, reach, gate),
+            5 => enter_in(rt, alloc, &self.d5, r, reach, gate),
+            6 => enter_in(rt, alloc, &self.d6, r, reach, gate),
+            7 => enter_in(rt, alloc, &self.d7, r, reach, gate),
+            8 => enter_in(rt, alloc, &self.d8, r, reach, gate),
+            9 => enter_in(rt, alloc, &self.d9, r, reach, gate),
+            10 => enter_in(rt, alloc, &self.d10, r, reach, gate),
+            11 => enter_in(rt, alloc, &self.d11, r, reach, gate),
+            12 => enter_in(rt, alloc, &self.d12, r, reach, gate),
+            13 => enter_in(rt, alloc, &self.d13, r, reach, gate),
+            14 => enter_in(rt, alloc, &self.d14, r, reach, gate),
+            15 => enter_in(rt, alloc, &self.d15, r, reach, gate),
+            _ => unreachable!(),
+        }
+    }
+
+    /// Makes the step `end`, on the session's own cell.
+    pub(crate) fn leave<R: Wait>(&self, rt: &R, r: &mut Receipts<N>)
+        ensures { Left r.old r.new }
+    {
+        let reach = self.reach();
+        match r.tenant() % self.cells {
+            0 => leave_in(rt, &self.d0, r, reach),
+            1 => leave_in(rt, &self.d1, r, reach),
+            2 => leave_in(rt, &self.d2, r, reach),
+            3 => leave_in(rt, &self.d3, r, reach),
+            4 => leave_in(rt, &self.d4, r, reach),
+            5 => leave_in(rt, &self.d5, r, reach),
+            6 => leave_in(rt, &self.d6, r, reach),
+            7 => leave_in(rt, &self.d7, r, reach),
+            8 => leave_in(rt, &self.d8, r, reach),
+            9 => leave_in(rt, &self.d9, r, reach),
+            10 => leave_in(rt, &self.d10, r, reach),
+            11 => leave_in(rt, &self.d11, r, reach),
+            12 => leave_in(rt, &self.d12, r, reach),
+            13 => leave_in(rt, &self.d13, r, reach),
+            14 => leave_in(rt, &self.d14, r, reach),
+            15 => leave_in(rt, &self.d15, r, reach),
+            _ => unreachable!(),
+        }
+    }
+}

@@ -1,0 +1,81 @@
+//! The three calls of a desk, behind its lock.
+ghost use Rattle.std.specs.Prelude.{◌≡◌, ◌<◌, ◌≤◌, ◌%◌, true, false, IsSome, IfOk, IfErr, OnOk};
+ghost use Rattle.sb_host.specs.Calls.{Called, IsNewcomer, IsLate, Left, Refused};
+
+use crate::gate::Gate;
+use sb_desk::seats::SeatTable;
+use sb_desk::{AttachError, CallError, Desk, Naming, Receipts};
+use sb_value::SessionId;
+use std::alloc::Global;
+use std::sync::{Mutex, Wait};
+
+/// The lock of the cell `F`, which a host with fewer cells hasn't.
+pub(crate) type Lock<N, const F: u32> = Option<Mutex<Desk<N, F>>>;
+
+/// What every cell of a host is reached by: how many there are, and what the seats share.
+#[derive(Clone, Copy)]
+pub(crate) struct Reach<'h> {
+    pub(crate) cells: u32,
+    pub(crate) table: &'h SeatTable,
+}
+
+/// Makes the step of the line that is ready.
+pub(crate) fn enter_in<N: Naming, const F: u32, R: Wait, G: Gate>(
+    rt: &R,
+    alloc: Global,
+    lock: &Lock<N, F>,
+    r: &mut Receipts<N>,
+    reach: Reach<'_>,
+    gate: &G,
+) -> Result<(), CallError>
+    requires there { IsSome lock.now }
+    requires cells { reach.cells ≡ N.cells }
+    requires own { r.old.tenant % N.cells ≡ F }
+    requires table { (reach.table.now.table_id ≡ N.table) × (N.table.words ≡ 1) }
+    requires ready { r.old.ended ≡ false → IsSome r.old.ready }
+    ensures ok { OnOk result (Called r.old r.new) }
+    ensures err { IfErr result (λ e. Refused r.old e r.new) }
+{
+    let Some(lock) = lock else { unreachable!() };
+    let mut desk = lock.lock(rt);
+    gate.inside(r.tenant(), r.session());
+    desk.enter(alloc, r, reach.table, reach.cells)
+}
+
+/// Makes the step `end`, unless the session has ended.
+pub(crate) fn leave_in<N: Naming, const F: u32, R: Wait>(
+    rt: &R,
+    lock: &Lock<N, F>,
+    r: &mut Receipts<N>,
+    reach: Reach<'_>,
+)
+    requires there { IsSome lock.now }
+    requires cells { reach.cells ≡ N.cells }
+    requires own { r.old.tenant % N.cells ≡ F }
+    requires table { (reach.table.now.table_id ≡ N.table) × (N.table.words ≡ 1) }
+    ensures { Left r.old r.new }
+{
+    let Some(lock) = lock else { unreachable!() };
+    let mut desk = lock.lock(rt);
+    desk.leave(r, reach.table, reach.cells);
+}
+
+/// Makes the step `open`.
+pub(crate) fn admit_in<N: Naming, const F: u32, R: Wait>(
+    rt: &R,
+    alloc: Global,
+    lock: &Lock<N, F>,
+    tenant: u32,
+    session: SessionId,
+    cells: u32,
+) -> Result<Receipts<N>, AttachError>
+    requires there { IsSome lock.now }
+    requires cells { cells ≡ N.cells }
+    requires hosts { (tenant < N.tenants) × (tenant % N.cells ≡ F) }
+    ensures ok { IfOk result (λ r. IsNewcomer tenant session r) }
+    ensures late { IfErr result (λ e. IsLate e) }
+{
+    let Some(lock) = lock else { unreachable!() };
+    let mut desk = lock.lock(rt);
+    desk.admit(alloc, tenant, session, cells)
+}

@@ -1,0 +1,196 @@
+//! A host is opened in two steps: its parts, whose names nobody knows yet, and then the host, whose
+//! type has the names.
+ghost use Rattle.std.specs.Prelude.{◌≡◌, ◌+◌, ◌-◌, ◌*◌, ◌/◌, ◌<◌, ◌≤◌, ◌^◌, [], IsSome, IfOk, OnOk};
+ghost use Rattle.sb_desk.specs.Kept.{AreDealt};
+ghost use Rattle.sb_host.specs.Opening.{left_at, left_in};
+
+use crate::host::Host;
+use crate::locks::Lock;
+use sb_cell::Cell;
+use sb_desk::seats::{SeatTable, Seats, SessionSeat, open_seats, split, split_block};
+use sb_desk::{Desk, Naming};
+use std::alloc::{AllocError, Global};
+use std::marker::Model;
+use std::sync::Mutex;
+use std::sync::ledger::{Blank, Share};
+
+/// A cell's share of the ledger is this, and one part for each of its entries goes to a session.
+const CELL_PARTS: u64 = 1 << 32;
+
+/// The numbers of a host.
+#[derive(Clone, Copy)]
+pub(crate) struct Numbers {
+    pub(crate) tenants: u32,
+    pub(crate) cells: u32,
+    pub(crate) bound: u32,
+}
+
+/// The parts of a host.
+#[derive(Drop)]
+pub struct Opened {
+    numbers: Numbers,
+    seats: Seats,
+    all: SessionSeat,
+    blank: Blank,
+}
+
+impl Model for Opened {
+    ghost use Rattle.std.specs.Prelude.{◌≡◌, ◌*◌, ◌<◌, ◌≤◌, ◌^◌, []};
+    ghost use Rattle.sb_desk.specs.Seats.{below};
+    ghost use Rattle.sb_host.specs.Opening.{Opened};
+
+    ghost Value = { Opened };
+
+    ghost view = { λ o. record { tenants = o.numbers.tenants; cells = o.numbers.cells; bound = o.numbers.bound; table = o.seats.shared.table_id; name = o.blank.name; parts = o.blank.parts } };
+
+    ghost invariant = { λ o. (0 < o.numbers.tenants) × (o.numbers.tenants ≤ 256) × (0 < o.numbers.cells) × (o.numbers.cells ≤ 16) × (o.numbers.bound ≤ 1000) × (o.blank.parts ≡ 17 * 2 ^ 32) × (o.all.table_id ≡ o.seats.shared.table_id) × (o.seats.shared.table_id.words ≡ 1) × (o.all.me ≡ (below 32768, [])) };
+}
+
+impl Opened {
+    /// The parts of a host with so many tenants and cells, and at most so many considerations at an
+    /// assertion point.
+    pub fn new(alloc: Global, tenants: u32, cells: u32, bound: u32) -> Result<Opened, AllocError>
+        requires tenants { (0 < tenants) × (tenants ≤ 256) }
+        requires cells { (0 < cells) × (cells ≤ 16) }
+        requires bound { bound ≤ 1000 }
+        ensures { IfOk result (λ o. (o.tenants ≡ tenants) × (o.cells ≡ cells) × (o.bound ≡ bound)) }
+    {
+        let (seats, all) = open_seats(alloc, 32_768)?;
+        Ok(Opened {
+            numbers: Numbers {
+                tenants,
+                cells,
+                bound,
+            },
+            seats,
+            all,
+            blank: Blank::new(17 * CELL_PARTS),
+        })
+    }
+}
+
+/// Deals the first seats of a cell.
+fn deal(
+    alloc: Global,
+    table: &SeatTable,
+    block: &mut SessionSeat,
+    cell: u32,
+    count: usize,
+) -> Result<Vec<Option<SessionSeat>>, AllocError>
+    requires table { (block.old.table_id ≡ table.now.table_id) × (table.now.table_id.words ≡ 1) }
+    requires few { (count ≤ 2048) × (cell < 16) }
+    requires block { block.old.me ≡ (left_in cell 0, []) }
+    ensures { IfOk result (λ seats. AreDealt table.now.table_id cell count seats.items) }
+{
+    let mut seats = Vec::new(alloc);
+    for _at in 0..count {
+        seats.push(Some(split(table, block)))?;
+    }
+    Ok(seats)
+}
+
+/// The cell's part of the numbers and of the ledger.
+fn cut_part<N: Naming, const F: u32>(
+    table: &SeatTable,
+    all: &mut SessionSeat,
+    rest: &mut Share<N>,
+) -> (SessionSeat, Share<N>)
+    requires table { (all.old.table_id ≡ table.now.table_id) × (table.now.table_id.words ≡ 1) }
+    requires cell { F < 16 }
+    requires all { all.old.me ≡ (left_at F, []) }
+    requires rest { (rest.old.parts ≡ (17 - F) * 2 ^ 32) × (rest.old.amount ≡ 0) }
+    ensures table { (all.new.table_id ≡ all.old.table_id) × (result.0.table_id ≡ table.now.table_id) }
+    ensures all { all.new.me ≡ (left_at (F + 1), []) }
+    ensures rest { (rest.new.parts ≡ (17 - (F + 1)) * 2 ^ 32) × (rest.new.amount ≡ 0) }
+    ensures block { result.0.me ≡ (left_in F 0, []) }
+    ensures share { result.1.parts ≡ 2 ^ 32 }
+{
+    let block = split_block(table, all);
+    let share = rest.split_off(CELL_PARTS, 0);
+    (block, share)
+}
+
+/// The desk of the cell `F`, if the host has it. Its part of the numbers and of the ledger goes in
+/// every case.
+fn open_desk<N: Naming, const F: u32>(
+    alloc: Global,
+    table: &SeatTable,
+    all: &mut SessionSeat,
+    rest: &mut Share<N>,
+    numbers: Numbers,
+) -> Result<Lock<N, F>, AllocError>
+    requires table { (all.old.table_id ≡ table.now.table_id) × (table.now.table_id.words ≡ 1) × (table.now.table_id ≡ N.table) }
+    requires cell { F < 16 }
+    requires numbers { (0 < numbers.tenants) × (numbers.tenants ≤ 256) × (0 < numbers.cells) × (numbers.cells ≤ 16) × (numbers.bound ≤ 1000) }
+    requires named { (N.tenants ≡ numbers.tenants) × (N.cells ≡ numbers.cells) × (N.bound ≡ numbers.bound) }
+    requires all { all.old.me ≡ (left_at F, []) }
+    requires rest { (rest.old.parts ≡ (17 - F) * 2 ^ 32) × (rest.old.amount ≡ 0) }
+    ensures table { all.new.table_id ≡ all.old.table_id }
+    ensures all { all.new.me ≡ (left_at (F + 1), []) }
+    ensures rest { (rest.new.parts ≡ (17 - (F + 1)) * 2 ^ 32) × (rest.new.amount ≡ 0) }
+    ensures there { F < numbers.cells → IfOk result (λ lock. IsSome lock) }
+{
+    let (mut block, share) = cut_part::<N, F>(table, all, rest);
+    if F >= numbers.cells {
+        return Ok(None);
+    }
+    let cell = Cell::new(alloc, F, numbers.cells, numbers.tenants, numbers.bound)?;
+    let places = (numbers.tenants - 1) / numbers.cells + 1;
+    let seats = deal(alloc, table, &mut block, F, 8 * places as usize)?;
+    Ok(Some(Mutex::new(Desk::new(cell, share, seats))))
+}
+
+impl<N: Naming> Host<N> {
+    /// The host of these parts, which the type names.
+    pub fn new(alloc: Global, opened: Opened) -> Result<Host<N>, AllocError>
+        requires table { N.table ≡ opened.table }
+        requires numbers { (N.tenants ≡ opened.tenants) × (N.cells ≡ opened.cells) × (N.bound ≡ opened.bound) }
+        requires ledger { (N.name ≡ opened.name) × (N.parts ≡ opened.parts) }
+        ensures { IfOk result (λ host. host ≡ opened.tenants) }
+    {
+        let Opened {
+            numbers,
+            seats,
+            mut all,
+            blank,
+        } = opened;
+        let (_book, mut rest) = blank.open::<N>();
+        let d0 = open_desk::<N, 0>(alloc, &seats.shared, &mut all, &mut rest, numbers)?;
+        let d1 = open_desk::<N, 1>(alloc, &seats.shared, &mut all, &mut rest, numbers)?;
+        let d2 = open_desk::<N, 2>(alloc, &seats.shared, &mut all, &mut rest, numbers)?;
+        let d3 = open_desk::<N, 3>(alloc, &seats.shared, &mut all, &mut rest, numbers)?;
+        let d4 = open_desk::<N, 4>(alloc, &seats.shared, &mut all, &mut rest, numbers)?;
+        let d5 = open_desk::<N, 5>(alloc, &seats.shared, &mut all, &mut rest, numbers)?;
+        let d6 = open_desk::<N, 6>(alloc, &seats.shared, &mut all, &mut rest, numbers)?;
+        let d7 = open_desk::<N, 7>(alloc, &seats.shared, &mut all, &mut rest, numbers)?;
+        let d8 = open_desk::<N, 8>(alloc, &seats.shared, &mut all, &mut rest, numbers)?;
+        let d9 = open_desk::<N, 9>(alloc, &seats.shared, &mut all, &mut rest, numbers)?;
+        let d10 = open_desk::<N, 10>(alloc, &seats.shared, &mut all, &mut rest, numbers)?;
+        let d11 = open_desk::<N, 11>(alloc, &seats.shared, &mut all, &mut rest, numbers)?;
+        let d12 = open_desk::<N, 12>(alloc, &seats.shared, &mut all, &mut rest, numbers)?;
+        let d13 = open_desk::<N, 13>(alloc, &seats.shared, &mut all, &mut rest, numbers)?;
+        let d14 = open_desk::<N, 14>(alloc, &seats.shared, &mut all, &mut rest, numbers)?;
+        let d15 = open_desk::<N, 15>(alloc, &seats.shared, &mut all, &mut rest, numbers)?;
+        Ok(Host {
+            tenants: numbers.tenants,
+            cells: numbers.cells,
+            seats,
+            d0,
+            d1,
+            d2,
+            d3,
+            d4,
+            d5,
+            d6,
+            d7,
+            d8,
+            d9,
+            d10,
+            d11,
+            d12,
+            d13,
+            d14,
+            d15,
+        })
+    }
+}

@@ -1,0 +1,130 @@
+//! A session: it borrows its host, and each of its calls is one step.
+ghost use Rattle.std.specs.Prelude.{◌≡◌, ◌++◌, ◌∷◌, ℕ, [], true, false, None, Some, IfErr, IfOk, MatchOption, OnOk};
+ghost use Rattle.sb_tenant.specs.declared.reply.Answer.{Answer};
+ghost use Rattle.sb_desk.specs.Receipts.{after_end};
+ghost use Rattle.sb_host.specs.Calls.{after_call, is_ended};
+ghost use Rattle.sb_host.specs.Stubs.{LeavesStub};
+
+use crate::gate::{Gate, NoGate};
+use crate::host::Host;
+use crate::stub::Stub;
+use sb_desk::{CallError, Naming, Receipt, Receipts};
+use sb_tenant::Answer;
+use std::alloc::Global;
+use std::marker::Model;
+use std::sync::Wait;
+
+/// One session, which borrows its host.
+#[derive(Drop)]
+pub struct Session<'h, N: Naming> {
+    pub(crate) host: &'h Host<N>,
+    pub(crate) receipts: Receipts<N>,
+}
+
+impl<'h, N: Naming> Model for Session<'h, N> {
+    ghost use Rattle.sb_host.specs.Calls.{Session, shown};
+
+    ghost Value = { Session };
+
+    ghost view = { λ s. shown s.receipts };
+}
+
+impl<'h, N: Naming> Session<'h, N> {
+    ghost use Rattle.std.specs.Prelude.{⊤};
+    ghost use Rattle.std.specs.Borrow.{sem, follows_so};
+    ghost use mathlib.Core.Option.{none};
+    ghost use mir.Syntax.{named};
+    ghost use Rattle.sb_host.specs.contracts.session.Session.{the_row};
+    ghost use Rattle.sb_host.specs.Lent.{CallsTo};
+
+    /// The answer of the newest call that gave one.
+    pub fn last(&self) -> Option<&Answer>
+        ensures { MatchOption result (self.now.last ≡ None) (λ answer. self.now.last ≡ Some answer.now) }
+    {
+        self.receipts.last()
+    }
+
+    /// Whether an `end` was answered `ok`.
+    pub fn ended(&self) -> bool
+        ensures { result ≡ self.now.ended }
+    {
+        self.receipts.ended()
+    }
+
+    /// The receipts so far.
+    pub fn list(&self) -> &[Receipt]
+        ensures { result.now ≡ self.now.list }
+    {
+        self.receipts.list()
+    }
+
+    /// Makes the one step of a line. The place of its receipt is had before the lock is taken.
+    pub(crate) fn step_with<R: Wait, G: Gate>(
+        &mut self,
+        rt: &R,
+        alloc: Global,
+        line: &[u8],
+        gate: &G,
+    ) -> Result<(), CallError>
+        ensures ok { OnOk result ((answer : Answer) × (self.old.ended ≡ false) × (self.new ≡ after_call self.old line.now answer)) }
+        ensures err { IfErr result (λ e. (self.new ≡ self.old) × (self.old.ended ≡ is_ended e)) }
+    {
+        if self.receipts.ended() {
+            return Err(CallError::Ended);
+        }
+        if self.receipts.prepare(alloc, line).is_err() {
+            return Err(CallError::NotBegun);
+        }
+        self.host.enter(rt, alloc, &mut self.receipts, gate)
+    }
+
+    /// Makes the step of a line and lends its answer, with a gate inside the lock.
+    pub fn call_with<R: Wait, G: Gate>(
+        &mut self,
+        rt: &R,
+        alloc: Global,
+        line: &[u8],
+        gate: &G,
+    ) -> Result<&Answer, CallError>
+        ensures err { IfErr result (λ e. self.old.ended ≡ is_ended e) }
+        ensures* after { sem 𝓛 (follows_so (the_row (record { mir = named 1; lft = [] }) N.row (record { table = N.table; tenants = N.tenants; cells = N.cells; bound = N.bound }) (record { name = N.name; parts = N.parts })) (the_row (record { mir = named 1; lft = [] }) N.row (record { table = N.table; tenants = N.tenants; cells = N.cells; bound = N.bound }) (record { name = N.name; parts = N.parts })) self.entry.ghost_name none (λ _ _. ⊤) (λ n. CallsTo self.old line.now result n)) }
+    {
+        self.step_with(rt, alloc, line, gate)?;
+        match self.receipts.last() {
+            Some(answer) => Ok(answer),
+            None => unreachable!(),
+        }
+    }
+
+    /// Makes the step of a line and lends its answer.
+    pub fn call<R: Wait>(
+        &mut self,
+        rt: &R,
+        alloc: Global,
+        line: &[u8],
+    ) -> Result<&Answer, CallError>
+        ensures err { IfErr result (λ e. self.old.ended ≡ is_ended e) }
+        ensures* after { sem 𝓛 (follows_so (the_row (record { mir = named 1; lft = [] }) N.row (record { table = N.table; tenants = N.tenants; cells = N.cells; bound = N.bound }) (record { name = N.name; parts = N.parts })) (the_row (record { mir = named 1; lft = [] }) N.row (record { table = N.table; tenants = N.tenants; cells = N.cells; bound = N.bound }) (record { name = N.name; parts = N.parts })) self.entry.ghost_name none (λ _ _. ⊤) (λ n. CallsTo self.old line.now result n)) }
+    {
+        self.step_with(rt, alloc, line, &NoGate)?;
+        match self.receipts.last() {
+            Some(answer) => Ok(answer),
+            None => unreachable!(),
+        }
+    }
+
+    /// Makes the step `end`, unless the session has ended, and leaves its receipts.
+    pub fn close<R: Wait>(self, rt: &R) -> Stub
+        ensures { LeavesStub self.entry result }
+    {
+        let Session { host, mut receipts } = self;
+        host.leave(rt, &mut receipts);
+        let tenant = receipts.tenant();
+        let session = receipts.session();
+        Stub {
+            tenant,
+            session,
+            receipts: receipts.into_list(),
+        }
+    }
+}
