@@ -1,1 +1,3 @@
-pub mod Request
+pub mod Asked
+pub mod Does
+pub mod Words

@@ -2,6 +2,9 @@
 
 pub(crate) const VERSION: &str = "starhost 0.1\n";
 
+/// A refusal of what clap takes.
+pub(crate) const NOT_ALLOWED: &str = "error: a word or a number isn't allowed";
+
 /// What stands behind the first words of a refusal.
 pub(crate) const ALLOWED: &str =
     "; allowed are: run, --tenants 1 to 256, --bound 1 to 1000, --help, --version\n";

@@ -1,9 +1,11 @@
 //! What the words of a command line ask for.
-ghost use Rattle.std.specs.Prelude.{◌≡◌, ◌≤◌, length, Ok, IfOk};
-ghost use Rattle.sb_command.specs.Request.{IsAskedWithin, IsWithin, usual};
+ghost use Rattle.std.specs.Prelude.{◌≡◌, ℕ, IfOk, IsTrue, MatchOption, map, ◌↔◌};
+ghost use Rattle.clap.specs.Words.{FailsBy, app_of, fault_of, matches_of};
+ghost use Rattle.sb_command.specs.Words.{HasNumber, IsGiven, IsRun, starhost, text_of};
+ghost use Rattle.sb_command.specs.Asked.{IsAsked, IsAskedBy};
 
 use clap::error::ErrorKind;
-use clap::{Arg, Command, Error, value_parser};
+use clap::{Arg, Command, Error};
 use std::alloc::{AllocError, Global};
 use std::convert::AsStr;
 
@@ -11,9 +13,9 @@ const TENANTS: u32 = 16;
 
 const MOST_TENANTS: u32 = 256;
 
-const MOST_BOUND: u32 = 1000;
+const BOUND: u32 = 1000;
 
-static COMMANDS: [&str; 1] = ["run"];
+const MOST_BOUND: u32 = 1000;
 
 /// A run: how many tenants are hosted, and the most considerations at an assertion point.
 #[derive(Clone, Copy)]
@@ -22,15 +24,12 @@ pub(crate) struct Request {
     pub bound: u32,
 }
 
-impl Request {
-    fn usual() -> Request
-        ensures { result ≡ usual }
-    {
-        Request {
-            tenants: TENANTS,
-            bound: MOST_BOUND,
-        }
-    }
+/// What stands for the command and behind the options.
+#[derive(Clone, Copy)]
+pub(crate) struct Given<'a> {
+    pub run: Option<&'a str>,
+    pub tenants: Option<&'a str>,
+    pub bound: Option<&'a str>,
 }
 
 #[derive(Drop)]
@@ -39,18 +38,15 @@ pub(crate) enum Asked {
     Help,
     Version,
     Refused(Error),
+    NotAllowed,
 }
 
 /// Reads the program's name and the words behind it.
 pub(crate) fn read_words<S: AsStr>(alloc: Global, words: &[S]) -> Result<Asked, AllocError>
-    ensures usual { length words.now ≤ 1 → result ≡ Ok (Asked.Run usual) }
-    ensures within { IfOk result IsAskedWithin }
+    ensures { IfOk result (IsAsked (map S.text words.now)) }
 {
-    if words.len() <= 1 {
-        return Ok(Asked::Run(Request::usual()));
-    }
-    match parsed(alloc, words) {
-        Ok(request) => Ok(Asked::Run(request)),
+    match texts_given(alloc, words) {
+        Ok(given) => Ok(requested(given)),
         Err(error) => match error.kind() {
             ErrorKind::DisplayHelp => Ok(Asked::Help),
             ErrorKind::DisplayVersion => Ok(Asked::Version),
@@ -60,32 +56,65 @@ pub(crate) fn read_words<S: AsStr>(alloc: Global, words: &[S]) -> Result<Asked, 
     }
 }
 
-fn parsed<'a, S: AsStr>(alloc: Global, words: &'a [S]) -> Result<Request, Error>
-    ensures { IfOk result IsWithin }
+/// Gives what stands for the command and behind the options.
+fn texts_given<'a, S: AsStr>(alloc: Global, words: &'a [S]) -> Result<Given<'a>, Error>
+    ensures kinds { FailsBy (fault_of starhost (map S.text words.now)) result }
+    ensures texts { IfOk result (IsGiven (matches_of starhost (map S.text words.now))) }
 {
-    let run = Arg::new(alloc, "run").value_parser(COMMANDS.as_slice());
-    let tenants = Arg::new(alloc, "tenants")
-        .long("tenants")
-        .value_parser(value_parser!(u32).range(1..=256));
-    let bound = Arg::new(alloc, "bound")
-        .long("bound")
-        .value_parser(value_parser!(u32).range(1..=1000));
-    let command = Command::new(alloc, "starhost")
-        .version("0.1")
-        .arg(run)?
-        .arg(tenants)?
-        .arg(bound)?;
-    let matches = command.try_get_matches_from(words)?;
-    let usual = Request::usual();
-    // a larger number was refused
-    Ok(Request {
-        tenants: matches
-            .get_one::<u32>("tenants")
-            .unwrap_or(usual.tenants)
-            .min(MOST_TENANTS),
-        bound: matches
-            .get_one::<u32>("bound")
-            .unwrap_or(usual.bound)
-            .min(MOST_BOUND),
+    let matches = program(alloc)?.try_get_matches_from(words)?;
+    Ok(Given {
+        run: matches.get_str("run"),
+        tenants: matches.get_str("tenants"),
+        bound: matches.get_str("bound"),
     })
+}
+
+/// The words that the program has.
+fn program<'a>(alloc: Global) -> Result<Command<'a>, AllocError>
+    ensures { IfOk result (λ c. app_of c ≡ starhost) }
+{
+    let run = Arg::new(alloc, "run");
+    let tenants = Arg::new(alloc, "tenants").long("tenants");
+    let bound = Arg::new(alloc, "bound").long("bound");
+    let command = Command::new(alloc, "starhost").version("0.1");
+    command.arg(run)?.arg(tenants)?.arg(bound)
+}
+
+/// The run that these texts ask for.
+fn requested(given: Given<'_>) -> Asked
+    ensures { IsAskedBy given.entry result }
+{
+    if !is_run(given.run) {
+        return Asked::NotAllowed;
+    }
+    let Some(tenants) = number(given.tenants, TENANTS, MOST_TENANTS) else {
+        return Asked::NotAllowed;
+    };
+    let Some(bound) = number(given.bound, BOUND, MOST_BOUND) else {
+        return Asked::NotAllowed;
+    };
+    Asked::Run(Request { tenants, bound })
+}
+
+fn is_run(word: Option<&str>) -> bool
+    ensures { IsTrue result ↔ IsRun (text_of word.entry) }
+{
+    match word {
+        Some(word) => word == "run",
+        None => true,
+    }
+}
+
+/// Reads the number of an option.
+fn number(text: Option<&str>, usual: u32, most: u32) -> Option<u32>
+    ensures { MatchOption result ((n : ℕ) → HasNumber usual most (text_of text.entry) n → ⊥)
+        (HasNumber usual most (text_of text.entry)) }
+{
+    let Some(text) = text else {
+        return Some(usual);
+    };
+    match text.parse::<u32>() {
+        Ok(n) if n >= 1 && n <= most => Some(n),
+        _ => None,
+    }
 }

@@ -177,7 +177,7 @@ fn write_out<W: Sink>(writer: &mut W, out: &mut Vec<u8>) -> Result<(), StreamErr
 }
 
 /// Writes these bytes.
-fn write_bytes<W: Sink>(writer: &mut W, bytes: &[u8]) -> Result<(), StreamError>
+pub fn write_bytes<W: Sink>(writer: &mut W, bytes: &[u8]) -> Result<(), StreamError>
     ensures writes { (written left : List ℕ) × (bytes.now ≡ written ++ left)
         × Appends (W.contents writer.old) (W.contents writer.new) written
         × OnOk result (left ≡ []) }

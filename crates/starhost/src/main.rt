@@ -25,11 +25,12 @@ fn status(rt: &HostRuntime) -> u8 {
     let mut writer = Fallible {
         inner: io::writer(rt),
     };
+    let mut errors = Fallible { inner: rt.stderr() };
     command(
         rt.alloc(),
         words.as_slice(),
         &mut reader,
         &mut writer,
-        &mut rt.stderr(),
+        &mut errors,
     )
 }

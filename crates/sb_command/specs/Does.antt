@@ -1,0 +1,39 @@
+-- What the program does, and what it tells on standard error.
+use Rattle.std.specs.Prelude.{◌≡◌, ◌⊎◌, ◌++◌, ℕ, List, [], Option, Result, Ok, Err, codes}
+use Rattle.std.specs.Io.KnownBytes.{Appends, Keeps}
+use Rattle.sb_cell.specs.Tenants.{IsNew, Cell as ItsCell}
+use Rattle.sb_wire.specs.Stream.{EndsBy, MayFail, OnWriteFault, Streams}
+use Rattle.sb_wire.specs.declared.fault.StreamError.{StreamError}
+use Rattle.sb_wire.specs.declared.fault.StreamError.TheVariants.{ReadFault, WriteFault, NoMemory}
+
+-- success, and a fault
+abbrev pub status_of : Result (Unit {0}) StreamError → ℕ
+status_of (Ok value) = 0
+status_of (Err error) = 1
+
+-- the line of a fault
+abbrev pub fault_line : StreamError → List ℕ
+fault_line ReadFault = codes "fault: read failed\n"
+fault_line WriteFault = codes "fault: write failed\n"
+fault_line NoMemory = codes "fault: out of memory\n"
+
+-- nothing is told of a success
+abbrev pub line_of : Result (Unit {0}) StreamError → List ℕ
+line_of (Ok value) = []
+line_of (Err error) = fault_line error
+
+-- a text is written behind what stands there, or a first part of it where the writer may fail
+abbrev pub Tells : {W : Type 0} → (W → Type 0) → (W → Option (List ℕ)) → W → W → List ℕ → Type 0
+Tells refuses contents old new text =
+    (written left : List ℕ) × (text ≡ written ++ left) × Appends (contents old) (contents new) written
+    × ((left ≡ []) ⊎ MayFail refuses contents new)
+
+-- A stream on a fresh cell of so many tenants, with this bound: there is no room for a cell, or the stream goes on one.
+abbrev pub GoesFresh : {R W : Type 0} → (R → Type 0) → (R → Option (List ℕ)) → (W → Type 0) → (W → Option (List ℕ)) → ℕ → ℕ → R → R → W → W
+    → Result (Unit {0}) StreamError → Type 0
+GoesFresh fails remaining refuses contents tenants bound reader rest writer after ended =
+    (((ended ≡ Err NoMemory) × Keeps (remaining reader) (remaining rest) × Keeps (contents writer) (contents after))
+    ⊎ ((old new : ItsCell) × IsNew 0 1 tenants bound old
+    × (s : Streams old (remaining reader) (contents writer) new (remaining rest) (contents after))
+    × EndsBy fails remaining rest s.seen s.pieces s.left ended))
+    × OnWriteFault ended (MayFail refuses contents after)
