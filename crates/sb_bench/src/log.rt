@@ -59,18 +59,18 @@ fn append<L: ChangeLog>(log: &mut L, change: Change) {
     }
 }
 
-/// How many changes the walks along all tuples give.
-pub fn walk_tuples<L: ChangeLog>(log: &L) -> u64 {
+/// How many changes that are no older than `since` the walks along all tuples give.
+pub fn walk_tuples<L: ChangeLog>(log: &L, since: u64) -> u64 {
     let mut count = 0_u64;
     for tuple in 0..TUPLES {
-        count = count.saturating_add(walk_tuple(log, tuple));
+        count = count.saturating_add(walk_tuple(log, tuple, since));
     }
     count
 }
 
-fn walk_tuple<L: ChangeLog>(log: &L, tuple: u64) -> u64 {
+fn walk_tuple<L: ChangeLog>(log: &L, tuple: u64, since: u64) -> u64 {
     let mut count = 0_u64;
-    for _ in log.by_tuple(who(0), TableId::new(TABLE), tuple, 0) {
+    for _ in log.by_tuple(who(0), TableId::new(TABLE), tuple, since) {
         count = count.saturating_add(1);
     }
     count
@@ -85,18 +85,18 @@ fn triggers(columns: Columns) -> Triggers {
     }
 }
 
-/// How many rows are net updated.
-pub fn net_updated<L: ChangeLog>(alloc: Global, log: &L) -> Result<usize, AllocError> {
+/// How many rows are net updated by changes that are no older than `since`.
+pub fn net_updated<L: ChangeLog>(alloc: Global, log: &L, since: u64) -> Result<usize, AllocError> {
     let columns = Columns::empty().with(0);
     let table = TableId::new(TABLE);
-    let found = transition_tables(alloc, log, who(0), table, triggers(columns), 0)?;
+    let found = transition_tables(alloc, log, who(0), table, triggers(columns), since)?;
     Ok(found.new_updated.len())
 }
 
-/// Whether a rule on another column is triggered.
-pub fn is_missed<L: ChangeLog>(log: &L) -> bool {
+/// Whether changes that are no older than `since` leave a rule on another column as it is.
+pub fn is_missed<L: ChangeLog>(log: &L, since: u64) -> bool {
     let columns = Columns::empty().with(1);
-    !is_triggered(log, who(0), TableId::new(TABLE), triggers(columns), 0)
+    !is_triggered(log, who(0), TableId::new(TABLE), triggers(columns), since)
 }
 
 /// Lets the session forget its changes.

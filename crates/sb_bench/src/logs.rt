@@ -17,20 +17,22 @@ const MOST_BUCKETS: usize = 65_536;
 fn time_log<L: ChangeLog>(rt: &HostRuntime, name: &str, log: &mut L) -> io::Result<()> {
     log.reserve(CHANGES)?;
     let changes = updates(rt.alloc(), 0, CHANGES as u64)?;
+    // as a transaction that begins now would walk
+    let since = log.now();
     let start = Instant::now(rt)?;
     append_all(log, changes);
     println!(rt; "{name} append all {} ns", start.elapsed(rt)?.as_nanos())?;
     let start = Instant::now(rt)?;
-    let walked = walk_tuples(&*log);
+    let walked = walk_tuples(&*log, since);
     println!(rt; "{name} walk {walked} {} ns", start.elapsed(rt)?.as_nanos())?;
     let start = Instant::now(rt)?;
-    let rows = net_updated(rt.alloc(), &*log)?;
+    let rows = net_updated(rt.alloc(), &*log, since)?;
     println!(rt;
         "{name} transition tables {rows} {} ns",
         start.elapsed(rt)?.as_nanos()
     )?;
     let start = Instant::now(rt)?;
-    let missed = is_missed(&*log);
+    let missed = is_missed(&*log, since);
     println!(rt; "{name} miss {missed} {} ns", start.elapsed(rt)?.as_nanos())?;
     let start = Instant::now(rt)?;
     forget(log);
