@@ -1,4 +1,5 @@
 -- Rows of places that are all full, or all empty.
+use Rattle.std.proofs.lemmas.Bool.{cases_lt}
 use Rattle.std.proofs.Common.{◌≡◌, ℕ, zero, suc, ◌+◌, ◌-◌, ◌<◌, ◌≤◌, List, [], ◌∷◌, ◌++◌, map, length, take, drop, replicate, get_or, set, Option, Some, None, slice_get, refl, sym, ap, ◌∙◌, arith, ◌⊎◌, inl, inr, ext_get_or, length-append, get_or-drop}
 use Rattle.std.proofs.lemmas.List.{length-map, length-replicate, map-append, get_or_append_left, get_or-append_right}
 use Rattle.std.proofs.lemmas.Option.{slice_get-get_or}
@@ -38,12 +39,6 @@ module _ {X : Type 0} where
   pub replaced : (cs ds es : List (Option X)) (i : ℕ) (v : X) → AreFull cs → ds ≡ set cs i None → es ≡ set ds i (Some v) → es ≡ map Some (set (somes cs) i v)
   replaced cs ds es i v f e g = g ∙ ap (λ l. set l i (Some v)) e ∙ set-twice cs i None (Some v) ∙ ap (λ l. set l i (Some v)) f ∙ set-map (somes cs) i v
 
-below_or_not : (a b : ℕ) → (a < b) ⊎ (b ≤ a)
-below_or_not zero zero = inr (omega arith)
-below_or_not zero (suc b) = inl (omega arith)
-below_or_not (suc a) zero = inr (omega arith)
-below_or_not (suc a) (suc b) = elim (below_or_not a b) [ inl h ↦ inl (omega arith) | inr h ↦ inr (omega arith) ]
-
 pub get-replicate : {Y : Type 0} (n i : ℕ) (v d : Y) → i < n → get_or (replicate n v) i d ≡ v
 get-replicate zero i v d h = absurd (omega arith)
 get-replicate (suc n) zero v d h = refl
@@ -70,7 +65,7 @@ module _ {X : Type 0} where
   pub front_and : (cs ds : List (Option X)) (n : ℕ) (v : Option X) → length cs ≡ length ds + n → ((k : ℕ) → k < length ds → get_or cs k None ≡ get_or ds k None)
       → ((k : ℕ) → length ds ≤ k → k < length cs → get_or cs k None ≡ v) → cs ≡ ds ++ replicate n v
   front_and cs ds n v len front back =
-      ext_get_or None cs (ds ++ replicate n v) (len ∙ sym (length-append ds (replicate n v) ∙ ap (λ m. length ds + m) (length-replicate n v))) (λ i lt. elim (below_or_not i (length ds)) [
+      ext_get_or None cs (ds ++ replicate n v) (len ∙ sym (length-append ds (replicate n v) ∙ ap (λ m. length ds + m) (length-replicate n v))) (λ i lt. elim (cases_lt i (length ds)) [
         | inl h ↦ front i h ∙ sym (get_or_append_left ds (replicate n v) None i h)
         | inr h ↦ back i h lt ∙ sym (get_or-append_right ds (replicate n v) (length ds) i None refl h ∙ get-replicate n (i - length ds) v None (omega arith))
       ])

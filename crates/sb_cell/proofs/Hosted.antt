@@ -2,24 +2,13 @@
 use Rattle.std.proofs.Common.{◌≡◌, ℕ, zero, suc, ◌+◌, ◌*◌, ◌/◌, ◌%◌, ◌<◌, Bool, true, false, cond, ◌&&◌, ◌==◌, nat_lt, List, [], ◌∷◌, length, get_or, slice_set, Some, None, refl, sym, ap, arith}
 use Rattle.std.specs.List.{slice_get}
 use Rattle.std.proofs.Math.Nat.{add-mul-div_left}
-use Rattle.std.proofs.lemmas.Bool.{true≢false, eqb-true, ltb-true, ltb-false}
+use Rattle.std.proofs.lemmas.Bool.{true≢false, eqb-true, ltb-true, ltb-false, and_parts}
 use Rattle.std.proofs.lemmas.Option.{slice_get_past, slice_get_read}
 use Rattle.sb_tenant.specs.State.{opening}
 use Rattle.sb_tenant.specs.Tenant.{Tenant}
 use Rattle.sb_tenant.specs.Trail.{state_of}
 use Rattle.sb_cell.specs.Hosting.{IsHosted}
 use Rattle.sb_cell.specs.Tenants.{Cell, hosts, states, tenant_at, trail_of}
-
-pub no_way : {A : Type 0} → false ≡ true → A
-no_way e = absurd (true≢false (sym e))
-
-pub and_left : (a b : Bool) → (a && b) ≡ true → a ≡ true
-and_left true b h = refl
-and_left false b h = no_way h
-
-pub and_right : (a b : Bool) → (a && b) ≡ true → b ≡ true
-and_right true b h = h
-and_right false b h = no_way h
 
 -- ---- places in a list
 
@@ -57,10 +46,10 @@ number_of first stride t below same = let rest = eqb-true (t % stride) first sam
 
 module _ (c : Cell) (t : ℕ) where
   own_class : hosts c t ≡ true → (t % c.stride == c.first) ≡ true
-  own_class hosted = and_left (t % c.stride == c.first) (nat_lt (t / c.stride) (length c.tenants)) hosted
+  own_class hosted = (and_parts (t % c.stride == c.first) (nat_lt (t / c.stride) (length c.tenants)) hosted).0
 
   pub within : hosts c t ≡ true → t / c.stride < length c.tenants
-  within hosted = ltb-true (t / c.stride) (length c.tenants) (and_right (t % c.stride == c.first) (nat_lt (t / c.stride) (length c.tenants)) hosted)
+  within hosted = ltb-true (t / c.stride) (length c.tenants) (and_parts (t % c.stride == c.first) (nat_lt (t / c.stride) (length c.tenants)) hosted).1
 
   -- where a tenant is hosted it stands at its place
   pub by_place : hosts c t ≡ true → tenant_at c t ≡ slice_get c.tenants (t / c.stride)

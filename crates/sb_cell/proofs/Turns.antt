@@ -1,7 +1,7 @@
 -- A cell that answers event by event runs each tenant in turn, and without want of memory as if it were alone.
 use Rattle.std.proofs.Common.{◌≡◌, ℕ, ◌+◌, Bool, true, false, cond, ◌&&◌, ◌==◌, List, [], ◌∷◌, ◌++◌, map, length, Some, None, Result, Ok, Err, inl, inr, ◌⊎◌, refl, sym, ◌∙◌, ap, subst, arith, length-append}
 use Rattle.std.specs.List.{cons_option}
-use Rattle.std.proofs.lemmas.Bool.{true≢false, eqb-true, eq-eqb}
+use Rattle.std.proofs.lemmas.Bool.{true≢false, eqb-true, eq-eqb, false≢true, and_parts}
 use Rattle.sb_value.specs.declared.refusal.Refusal.TheVariants.{NoMemory, TrailFull}
 use Rattle.sb_tenant.specs.declared.reply.Answer.{Answer}
 use Rattle.sb_tenant.specs.declared.reply.Entry.{Entry}
@@ -16,20 +16,9 @@ use Rattle.sb_cell.specs.declared.StepError.{StepError}
 use Rattle.sb_cell.specs.Events.{is_own, own_events, own_answers, IsTurn, AreTurns, IsEvent, AreEvents}
 use Rattle.sb_cell.specs.Headline.{Run, BeginsLegal, RunsInTurn, AreServed, RunsAlone, AnswerAlike}
 
-no_way : {A : Type 0} → false ≡ true → A
-no_way e = absurd (true≢false (sym e))
-
-and_left : (a b : Bool) → (a && b) ≡ true → a ≡ true
-and_left true b h = refl
-and_left false b h = no_way h
-
-and_right : (a b : Bool) → (a && b) ≡ true → b ≡ true
-and_right true b h = h
-and_right false b h = no_way h
-
 different : (a b : ℕ) → (a == b) ≡ false → (b == a) ≡ false
 different a b h =
-    elim (b == a) as (λ x. (b == a) ≡ x → x ≡ false) [ false ↦ λ _. refl | true ↦ λ same. no_way (sym h ∙ eq-eqb a b (sym (eqb-true b a same))) ] refl
+    elim (b == a) as (λ x. (b == a) ≡ x → x ≡ false) [ false ↦ λ _. refl | true ↦ λ same. absurd (false≢true (sym h ∙ eq-eqb a b (sym (eqb-true b a same)))) ] refl
 
 -- ---- event by event
 
@@ -37,8 +26,8 @@ module _ (bound : ℕ) where
   own_turn : (h b : Bool) → h ≡ true → b ≡ true → (before : ℕ → List Entry) (e : Event) (given : Result Answer StepError) (after : ℕ → List Entry) → IsEvent bound h b before e given after →
       IsTurn bound e.tenant (before e.tenant) (e.session, e.line) given (after e.tenant)
   own_turn true true p q before e given after turn = turn.0
-  own_turn true false p q before e given after turn = no_way q
-  own_turn false b p q before e given after turn = no_way p
+  own_turn true false p q before e given after turn = absurd (false≢true q)
+  own_turn false b p q before e given after turn = absurd (false≢true p)
 
   left_alone : (t : ℕ) (h b : Bool) (before : ℕ → List Entry) (e : Event) (given : Result Answer StepError) (after : ℕ → List Entry) → ((e.tenant == t) && b) ≡ false → IsEvent bound h b before e given after →
       after t ≡ before t
@@ -47,7 +36,7 @@ module _ (bound : ℕ) where
   left_alone t true true before e given after other p = p.1 t (different e.tenant t (and_true (e.tenant == t) other))
     where
       and_true : (x : Bool) → (x && true) ≡ false → x ≡ false
-      and_true true h = no_way (sym h)
+      and_true true h = absurd (true≢false h)
       and_true false h = refl
 
   module _ (hosts : ℕ → Bool) (t : ℕ) (hosted : hosts t ≡ true) where
@@ -60,8 +49,8 @@ module _ (bound : ℕ) where
         elim (is_own t e) as (λ x. is_own t e ≡ x →
         AreTurns bound t (before t) (cons_option (cond x (Some (e.session, e.line)) None) (own_events t es)) (cons_option (cond x (Some a) None) (own_answers t es rest)) (after t)) [
           | true ↦ λ own.
-              let same = eqb-true e.tenant t (and_left (e.tenant == t) (is_session e.session) own) in
-              let turn = own_turn (hosts e.tenant) (is_session e.session) (ap hosts same ∙ hosted) (and_right (e.tenant == t) (is_session e.session) own) before e a mid one in
+              let same = eqb-true e.tenant t (and_parts (e.tenant == t) (is_session e.session) own).0 in
+              let turn = own_turn (hosts e.tenant) (is_session e.session) (ap hosts same ∙ hosted) (and_parts (e.tenant == t) (is_session e.session) own).1 before e a mid one in
               (mid t, subst (λ u. IsTurn bound u (before u) (e.session, e.line) a (mid u)) same turn, in_turn es rest mid after p)
           | false ↦ λ other.
               subst (λ trail. AreTurns bound t trail (own_events t es) (own_answers t es rest) (after t)) (left_alone t (hosts e.tenant) (is_session e.session) before e a mid other one)

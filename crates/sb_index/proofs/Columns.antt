@@ -1,4 +1,5 @@
 -- One more column of a table.
+use Rattle.std.proofs.Math.Bool.{or_assoc}
 use Rattle.std.proofs.Common.{◌≡◌, ℕ, zero, suc, ◌+◌, ◌<◌, Bool, true, false, ◌&&◌, ◌||◌, nat_eq, nat_lt, List, [], ◌∷◌, ◌++◌, map, drop, get_or, refl, sym, ap, ◌∙◌, arith, add-one, replicate}
 use Rattle.sb_value.specs.Flags.{flag_at, share_place}
 use Rattle.sb_index.specs.Operation.{places}
@@ -27,10 +28,6 @@ at_place f (suc (suc (suc (suc (suc zero))))) h = refl
 at_place f (suc (suc (suc (suc (suc (suc zero)))))) h = refl
 at_place f (suc (suc (suc (suc (suc (suc (suc zero))))))) h = refl
 at_place f (suc (suc (suc (suc (suc (suc (suc (suc i)))))))) h = absurd (omega arith)
-
-or_assoc : (a b c : Bool) → ((a || b) || c) ≡ (a || (b || c))
-or_assoc true b c = refl
-or_assoc false b c = refl
 
 -- the rules so far with those of the columns that are left
 abbrev pub left_from : List (List Bool) → List Bool → List Bool → ℕ → ℕ → Bool

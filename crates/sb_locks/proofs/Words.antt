@@ -1,23 +1,15 @@
 -- What the words' operations do to the sessions that stand in them.
 use Rattle.std.proofs.Common.{◌≡◌, ℕ, zero, suc, ◌+◌, ◌*◌, ◌%◌, ◌^◌, ◌<◌, ◌≤◌, max, Bool, true, false, not, ◌&&◌, ◌||◌, nat_eq, bit_and, bit_or, List, [], ◌∷◌, length, get_or, set, refl, sym, ap, ◌∙◌, arith, eqb-true, ne_eqb, get_or-set_same, get_or-set_other, eq-or-lt_of_le, ne_of_lt, inl, inr, true≢false, leb, leb-true, leb-false}
-use Rattle.std.proofs.Math.Bool.{and-true, and-false}
+use Rattle.std.proofs.Math.Bool.{and-true, and-false, or-true, or-false}
 use Rattle.std.specs.Int.Bits.{and_lt}
 use Rattle.std.proofs.lemmas.Nat.{or_lt}
 use Rattle.std.specs.List.{list_any}
 use Rattle.std.specs.Int.{bit_at, bit_not, w8}
-use Rattle.std.proofs.lemmas.Bool.{eqb-false}
+use Rattle.std.proofs.lemmas.Bool.{eqb-false, or_parts}
 use Rattle.std.proofs.lemmas.Nat.Bits.{bit_at_or, bit_at_and, bit_at-lt, bit_at-zero, bit_at_set_same, bit_at_set_other, bit_at_clear_same, bit_at_clear_other, bit_at_above, same_from_bits_below}
 use Rattle.sb_value.specs.Locks.{sessions}
 
 -- ---- one session
-
-or-true : (b : Bool) → (b || true) ≡ true
-or-true true = refl
-or-true false = refl
-
-or-false : (b : Bool) → (b || false) ≡ b
-or-false true = refl
-or-false false = refl
 
 has_joined_by : (n k i : ℕ) (same : Bool) → k < 8 → nat_eq i k ≡ same → nat_eq (bit_at (bit_or n (1 * 2 ^ k % 2 ^ 8)) i) 1 ≡ (nat_eq (bit_at n i) 1 || same)
 has_joined_by n k i true h e =
@@ -74,14 +66,6 @@ count_from : ℕ → ℕ → List ℕ
 count_from zero i = []
 count_from (suc n) i = i ∷ count_from n (suc i)
 
-or_none_left : (a b : Bool) → (a || b) ≡ false → a ≡ false
-or_none_left true b h = h
-or_none_left false b h = refl
-
-or_none_right : (a b : Bool) → (a || b) ≡ false → b ≡ false
-or_none_right true b h = absurd (cc)
-or_none_right false b h = h
-
 no_bit : (b : ℕ) → b < 2 → nat_eq b 1 ≡ false → b ≡ 0
 no_bit zero h e = refl
 no_bit (suc zero) h e = absurd (cc)
@@ -91,8 +75,8 @@ none_of : (n i x : ℕ) → list_any (λ o. nat_eq (bit_at x o) 1) (count_from n
 unfolding count_from
 none_of zero i x h j low high = absurd (omega arith)
 none_of (suc n) i x h j low high =
-    let first : bit_at x i ≡ 0 = no_bit (bit_at x i) (bit_at-lt x i) (or_none_left _ _ h) in
-    let others : list_any (λ o. nat_eq (bit_at x o) 1) (count_from n (suc i)) ≡ false = or_none_right (nat_eq (bit_at x i) 1) _ h in
+    let first : bit_at x i ≡ 0 = no_bit (bit_at x i) (bit_at-lt x i) (or_parts _ _ h).0 in
+    let others : list_any (λ o. nat_eq (bit_at x o) 1) (count_from n (suc i)) ≡ false = (or_parts (nat_eq (bit_at x i) 1) _ h).1 in
     elim (eq-or-lt_of_le low) [
       | inl e ↦ ap (bit_at x) (sym e) ∙ first
       | inr l ↦ none_of n (suc i) x others j (omega arith) (omega arith)

@@ -1,4 +1,6 @@
 -- A rule is triggered where a walk over the changes of one of its kinds meets a tuple with one of its operations.
+use Rattle.std.proofs.Math.Bool.{or_comm, or-false}
+use Rattle.std.proofs.lemmas.Bool.{and_parts, and_from, or_left, or_right, or_cases}
 use Rattle.std.proofs.Common.{◌≡◌, ℕ, Bool, true, false, ◌||◌, ◌&&◌, ◌==◌, cond, nat_le, nat_lt, List, [], ◌∷◌, map, reverse, refl, sym, ap, ◌∙◌, ◌⊎◌, inl, inr, eqb-true}
 use Rattle.std.specs.List.{list_any, filter}
 use Rattle.std.proofs.lemmas.List.{reverse-append}
@@ -18,28 +20,6 @@ use Rattle.sb_net.proofs.Folds.{history-since}
 
 -- ---- tests
 
-and_left : (a b : Bool) → (a && b) ≡ true → a ≡ true
-and_left true b e = refl
-and_left false b e = absurd (cc)
-
-and_right : (a b : Bool) → (a && b) ≡ true → b ≡ true
-and_right true b e = e
-and_right false b e = absurd (cc)
-
-and_both : (a b : Bool) → a ≡ true → b ≡ true → (a && b) ≡ true
-and_both a b p q = ap (λ x. x && b) p ∙ q
-
-or_left : (a b : Bool) → a ≡ true → (a || b) ≡ true
-or_left a b p = ap (λ x. x || b) p
-
-or_right : (a b : Bool) → b ≡ true → (a || b) ≡ true
-or_right true b p = refl
-or_right false b p = p
-
-or_cases : (a b : Bool) → (a || b) ≡ true → (a ≡ true) ⊎ (b ≡ true)
-or_cases true b h = inl refl
-or_cases false b h = inr h
-
 or_swap : (a b c : Bool) → (a || (b || c)) ≡ (b || (a || c))
 or_swap true true c = refl
 or_swap true false c = refl
@@ -50,23 +30,13 @@ pub or_twice : (a c : Bool) → (a || c) ≡ (a || (a || c))
 or_twice true c = refl
 or_twice false c = refl
 
-or_comm : (a b : Bool) → (a || b) ≡ (b || a)
-or_comm true true = refl
-or_comm true false = refl
-or_comm false true = refl
-or_comm false false = refl
-
-or_false : (b : Bool) → (b || false) ≡ b
-or_false true = refl
-or_false false = refl
-
 -- ---- lists
 
 pub any-reverse : {X : Type 0} (p : X → Bool) (xs : List X) → list_any p (reverse xs) ≡ list_any p xs
 any-reverse p [] = refl
 any-reverse p (x ∷ xs) =
     ap (list_any p) (reverse-append (x ∷ []) xs) ∙ list_any-append p (reverse xs) (x ∷ []) ∙ or_comm (list_any p (reverse xs)) (p x || false)
-    ∙ ap (λ b. b || list_any p (reverse xs)) (or_false (p x)) ∙ ap (λ b. p x || b) (any-reverse p xs)
+    ∙ ap (λ b. b || list_any p (reverse xs)) (or-false (p x)) ∙ ap (λ b. p x || b) (any-reverse p xs)
 
 -- what passes p among those that f selects passes q among those that g selects
 any_from : {X : Type 0} (f p g q : X → Bool) → ((x : X) → f x ≡ true → p x ≡ true → (g x ≡ true) × (q x ≡ true)) → (xs : List X) → list_any p (filter f xs) ≡ true
@@ -124,7 +94,7 @@ share_own : (xs ys : List Bool) → share_place xs ys ≡ true → share_place x
 share_own [] ys h = h
 share_own (x ∷ xs) [] h = absurd (cc)
 share_own (x ∷ xs) (y ∷ ys) h = elim (or_cases (x && y) (share_place xs ys) h) [
-  | inl here ↦ or_left (x && x) (share_place xs xs) (and_both x x (and_left x y here) (and_left x y here))
+  | inl here ↦ or_left (x && x) (share_place xs xs) (and_from x x (and_parts x y here).0 (and_parts x y here).0)
   | inr there ↦ or_right (x && x) (share_place xs xs) (share_own xs ys there)
 ]
 
@@ -155,9 +125,9 @@ share_union xs [] zs h = inr h
 share_union [] (y ∷ ys) zs h = absurd (cc)
 share_union (x ∷ xs) (y ∷ ys) [] h = inl h
 share_union (x ∷ xs) (y ∷ ys) (z ∷ zs) h = elim (or_cases (x && (y || z)) (share_place xs (union ys zs)) h) [
-  | inl here ↦ elim (or_cases y z (and_right x (y || z) here)) [
-    | inl left ↦ inl (or_left (x && y) (share_place xs ys) (and_both x y (and_left x (y || z) here) left))
-    | inr right ↦ inr (or_left (x && z) (share_place xs zs) (and_both x z (and_left x (y || z) here) right))
+  | inl here ↦ elim (or_cases y z (and_parts x (y || z) here).1) [
+    | inl left ↦ inl (or_left (x && y) (share_place xs ys) (and_from x y (and_parts x (y || z) here).0 left))
+    | inr right ↦ inr (or_left (x && z) (share_place xs zs) (and_from x z (and_parts x (y || z) here).0 right))
   ]
   | inr there ↦ elim (share_union xs ys zs there) [
     | inl left ↦ inl (or_right (x && y) (share_place xs ys) left)
@@ -211,7 +181,7 @@ of_kind triggers k c = same_kind c.kind k && counts triggers k c
 kind_of_one : (triggers : Triggers) (cs : List Change) → list_any (counts_here triggers) cs ≡ true → (k : Kind) × ((names_kind triggers k ≡ true) × (list_any (of_kind triggers k) cs ≡ true))
 kind_of_one triggers [] h = absurd (cc)
 kind_of_one triggers (c ∷ cs) h = elim (or_cases (counts_here triggers c) (list_any (counts_here triggers) cs) h) [
-  | inl here ↦ (c.kind, (named triggers c.kind c here, or_left (of_kind triggers c.kind c) (list_any (of_kind triggers c.kind) cs) (and_both (same_kind c.kind c.kind) (counts triggers c.kind c) (same_kind_self c.kind) here)))
+  | inl here ↦ (c.kind, (named triggers c.kind c here, or_left (of_kind triggers c.kind c) (list_any (of_kind triggers c.kind) cs) (and_from (same_kind c.kind c.kind) (counts triggers c.kind c) (same_kind_self c.kind) here)))
   | inr there ↦ let w = kind_of_one triggers cs there in (w.0, (w.1.0, or_right (of_kind triggers w.0 c) (list_any (of_kind triggers w.0) cs) w.1.1))
 ]
 
@@ -242,17 +212,17 @@ module _ (triggers : Triggers) (who : Who) (table since : ℕ) (rs : List Record
       → ((nat_le since r.0 && is_by who r.1) ≡ true) × (((r.1.table == table) && hit r.1.tuple) ≡ true)
   of_op k r sel h =
       let c = r.1 in
-      let op = and_right (nat_le since r.0) (is_op who table k c) sel in
-      let here = and_right (is_by who c) ((c.table == table) && same_kind c.kind k) op in (
-        and_both (nat_le since r.0) (is_by who c) (and_left (nat_le since r.0) (is_op who table k c) sel) (and_left (is_by who c) ((c.table == table) && same_kind c.kind k) op),
-        and_both (c.table == table) (hit c.tuple) (and_left (c.table == table) (same_kind c.kind k) here) (and_right (counts triggers k c) (hit c.tuple) h),
+      let op = (and_parts (nat_le since r.0) (is_op who table k c) sel).1 in
+      let here = (and_parts (is_by who c) ((c.table == table) && same_kind c.kind k) op).1 in (
+        and_from (nat_le since r.0) (is_by who c) (and_parts (nat_le since r.0) (is_op who table k c) sel).0 (and_parts (is_by who c) ((c.table == table) && same_kind c.kind k) op).0,
+        and_from (c.table == table) (hit c.tuple) (and_parts (c.table == table) (same_kind c.kind k) here).0 (and_parts (counts triggers k c) (hit c.tuple) h).1,
       )
 
   pub some_hit : (k : Kind) → (names_kind triggers k && found k) ≡ true → is_triggered triggers table all ≡ true
   unfolding walk selected
   some_hit k e =
       let seen : list_any (hit_by k) (selected (is_op who table k) since rs) ≡ true =
-      sym (any-reverse (hit_by k) (selected (is_op who table k) since rs)) ∙ and_right (names_kind triggers k) (found k) e in
+      sym (any-reverse (hit_by k) (selected (is_op who table k) since rs)) ∙ (and_parts (names_kind triggers k) (found k) e).1 in
       triggered_as ∙ any_from (λ (r : Record). nat_le since r.0 && is_op who table k r.1) (hit_by k) (λ r. nat_le since r.0 && is_by who r.1)
       (λ r. (r.1.table == table) && hit r.1.tuple) (of_op k) rs seen
 
@@ -260,14 +230,14 @@ module _ (triggers : Triggers) (who : Who) (table since : ℕ) (rs : List Record
       → ((nat_le since r.0 && is_op who table k r.1) ≡ true) × (hit_by k r ≡ true)
   of_tuple x k hx r sel both =
       let c = r.1 in
-      let same = and_left (same_kind c.kind k) (counts triggers k c) both in
-      let it = and_right (nat_le since r.0) (is_tuple who table x c) sel in
-      let here = and_right (is_by who c) (is_of table x c) it in (
-        and_both (nat_le since r.0) (is_op who table k c) (and_left (nat_le since r.0) (is_tuple who table x c) sel)
-            (and_both (is_by who c) ((c.table == table) && same_kind c.kind k) (and_left (is_by who c) (is_of table x c) it)
-            (and_both (c.table == table) (same_kind c.kind k) (and_left (c.table == table) (c.tuple == x) here) same)),
-        and_both (counts triggers k c) (hit c.tuple) (and_right (same_kind c.kind k) (counts triggers k c) both)
-            (ap hit (eqb-true c.tuple x (and_right (c.table == table) (c.tuple == x) here)) ∙ hx),
+      let same = (and_parts (same_kind c.kind k) (counts triggers k c) both).0 in
+      let it = (and_parts (nat_le since r.0) (is_tuple who table x c) sel).1 in
+      let here = (and_parts (is_by who c) (is_of table x c) it).1 in (
+        and_from (nat_le since r.0) (is_op who table k c) (and_parts (nat_le since r.0) (is_tuple who table x c) sel).0
+            (and_from (is_by who c) ((c.table == table) && same_kind c.kind k) (and_parts (is_by who c) (is_of table x c) it).0
+            (and_from (c.table == table) (same_kind c.kind k) (and_parts (c.table == table) (c.tuple == x) here).0 same)),
+        and_from (counts triggers k c) (hit c.tuple) (and_parts (same_kind c.kind k) (counts triggers k c) both).1
+            (ap hit (eqb-true c.tuple x (and_parts (c.table == table) (c.tuple == x) here).1) ∙ hx),
       )
 
   kind_found : (x : ℕ) (k : Kind) → hit x ≡ true → list_any (of_kind triggers k) (history all table x) ≡ true → found k ≡ true
@@ -284,7 +254,7 @@ module _ (triggers : Triggers) (who : Who) (table since : ℕ) (rs : List Record
   some_kind h =
       let x = some_of hit (tuples_of all table) h in
       let kind = by_kind triggers (history all table x.0) x.1 in
-      (kind.0, and_both (names_kind triggers kind.0) (found kind.0) kind.1.0 (kind_found x.0 kind.0 x.1 kind.1.1))
+      (kind.0, and_from (names_kind triggers kind.0) (found kind.0) kind.1.0 (kind_found x.0 kind.0 x.1 kind.1.1))
 
   -- with no tuple found by inserts and by deletes, those found by updates decide
   pub last_kind : (names_kind triggers Inserted && found Inserted) ≡ false → (names_kind triggers Deleted && found Deleted) ≡ false

@@ -1,4 +1,5 @@
 -- What a set of pairs leads to. Each fact takes the law that the test of precedence is the transitive closure.
+use Rattle.std.proofs.lemmas.Bool.{false≢true, and_parts, or_cases, or_left}
 use Rattle.std.proofs.Common.{◌≡◌, ℕ, Bool, true, false, not, cond, ◌&&◌, ◌||◌, ◌==◌, List, [], ◌∷◌, ◌++◌, map, ◌⊎◌, refl, sym, inl, inr, ap, ◌∙◌, subst, eqb-true}
 use Rattle.std.proofs.Math.Bool.{and-false}
 use Rattle.std.proofs.lemmas.List.Folds.{list_any-append}
@@ -6,7 +7,7 @@ use Rattle.sb_value.specs.Order.{Precedes, pair, onward, precedes}
 use Rattle.sb_value.specs.Laws.{PrecedesIsClosure}
 use Rattle.sb_priority.specs.Closed.{has_pair}
 use Rattle.sb_priority.specs.Ranks.{IsAcyclic, pairs_of, pairs_without}
-use Rattle.sb_priority.proofs.Tests.{no_way, and_left, and_right, or_cases, or_first, same_test, not_true}
+use Rattle.sb_priority.proofs.Tests.{same_test, not_true}
 
 -- ---- only the set of pairs counts
 
@@ -77,18 +78,18 @@ still_acyclic law r ps qs m h old new a =
 -- ---- the pairs of a new rule
 
 leads : (r : ℕ) (xs : List ℕ) (a b : ℕ) → has_pair (map (λ x. (r, x)) xs) a b ≡ true → a ≡ r
-leads r [] a b h = no_way h
+leads r [] a b h = absurd (false≢true h)
 leads r (x ∷ xs) a b h =
     elim (or_cases ((r == a) && (x == b)) (has_pair (map (λ x. (r, x)) xs) a b) h) [
-      | inl here ↦ sym (eqb-true r a (and_left (r == a) (x == b) here))
+      | inl here ↦ sym (eqb-true r a (and_parts (r == a) (x == b) here).0)
       | inr there ↦ leads r xs a b there
     ]
 
 trails : (r : ℕ) (xs : List ℕ) (a b : ℕ) → has_pair (map (λ x. (x, r)) xs) a b ≡ true → b ≡ r
-trails r [] a b h = no_way h
+trails r [] a b h = absurd (false≢true h)
 trails r (x ∷ xs) a b h =
     elim (or_cases ((x == a) && (r == b)) (has_pair (map (λ x. (x, r)) xs) a b) h) [
-      | inl here ↦ sym (eqb-true r b (and_right (x == a) (r == b) here))
+      | inl here ↦ sym (eqb-true r b (and_parts (x == a) (r == b) here).1)
       | inr there ↦ trails r xs a b there
     ]
 
@@ -111,7 +112,7 @@ names_new r ps xs ys a b h =
 pub added_acyclic : PrecedesIsClosure → (r : ℕ) (ps : List (ℕ × ℕ)) (xs ys : List ℕ) → IsAcyclic ps → precedes (ps ++ pairs_of r xs ys) r r ≡ false → IsAcyclic (ps ++ pairs_of r xs ys)
 added_acyclic law r ps xs ys old new =
     still_acyclic law r ps (ps ++ pairs_of r xs ys)
-    (λ a b h. has_pair-append ps (pairs_of r xs ys) a b ∙ or_first (has_pair ps a b) (has_pair (pairs_of r xs ys) a b) h)
+    (λ a b h. has_pair-append ps (pairs_of r xs ys) a b ∙ or_left (has_pair ps a b) (has_pair (pairs_of r xs ys) a b) h)
     (names_new r ps xs ys) old new
 
 -- ---- the pairs without a rule
@@ -131,9 +132,9 @@ has_pair-without r [] a b = refl
 has_pair-without r (p ∷ ps) a b =
     has_pair-cond (not (p.0 == r) && not (p.1 == r)) p (pairs_without r ps) a b
     ∙ kept_more ((p.0 == a) && (p.1 == b)) (not (p.0 == r) && not (p.1 == r)) (has_pair (pairs_without r ps) a b) (has_pair ps a b) (not (a == r) && not (b == r))
-    (λ e i. not (sym (eqb-true p.0 a (and_left (p.0 == a) (p.1 == b) e)) i == r) && not (sym (eqb-true p.1 b (and_right (p.0 == a) (p.1 == b) e)) i == r))
+    (λ e i. not (sym (eqb-true p.0 a (and_parts (p.0 == a) (p.1 == b) e).0) i == r) && not (sym (eqb-true p.1 b (and_parts (p.0 == a) (p.1 == b) e).1) i == r))
     (has_pair-without r ps a b)
 
 pub dropped_acyclic : PrecedesIsClosure → (r : ℕ) (ps : List (ℕ × ℕ)) → IsAcyclic ps → IsAcyclic (pairs_without r ps)
 dropped_acyclic law r ps old a =
-    not_true (precedes (pairs_without r ps) a a) (λ p. sym (old a) ∙ precedes_more law (pairs_without r ps) ps (λ x y h. and_left (has_pair ps x y) (not (x == r) && not (y == r)) (sym (has_pair-without r ps x y) ∙ h)) a a p)
+    not_true (precedes (pairs_without r ps) a a) (λ p. sym (old a) ∙ precedes_more law (pairs_without r ps) ps (λ x y h. (and_parts (has_pair ps x y) (not (x == r) && not (y == r)) (sym (has_pair-without r ps x y) ∙ h)).0) a a p)

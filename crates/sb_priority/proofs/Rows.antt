@@ -1,27 +1,17 @@
 -- Steps of the loops over lists of rules and over rows.
 use Rattle.std.proofs.Common.{◌≡◌, ℕ, zero, suc, ◌+◌, ◌<◌, ◌≤◌, Bool, true, false, not, cond, ◌&&◌, ◌||◌, ◌==◌, nat_lt, List, [], ◌∷◌, ◌++◌, map, take, drop, length, get_or, find, Some, None, refl, sym, ap, ◌∙◌, arith, add-one, eqb-true, drop-cons}
-use Rattle.std.proofs.lemmas.Bool.{ltb-true, ltb-false, lt-ltb, eqb-false}
+use Rattle.std.proofs.lemmas.Bool.{ltb-true, ltb-false, lt-ltb, eqb-false, false≢true}
 use Rattle.std.proofs.Math.ListN.{get_or-eq_default}
 use Rattle.std.proofs.lemmas.List.{get_or_read}
 use Rattle.std.proofs.lemmas.List.Folds.{list_any_more}
-use Rattle.std.proofs.Math.Bool.{and-true, and-false}
+use Rattle.std.proofs.Math.Bool.{and-true, and-false, or_assoc}
 use Rattle.std.specs.List.{list_any}
 use Rattle.sb_value.specs.Flags.{flag_at}
 use Rattle.sb_priority.specs.Closed.{relates, has_pair, HasPairs}
 use Rattle.sb_priority.proofs.Paths.{has_pair-append}
-use Rattle.sb_priority.proofs.Tests.{no_way, same_test}
+use Rattle.sb_priority.proofs.Tests.{same_test}
 
 -- ---- pairs for each rule of a list
-
-or_assoc : (a b c : Bool) → ((a || b) || c) ≡ (a || (b || c))
-or_assoc true b c = refl
-or_assoc false b c = refl
-
-pub or_swap : (a b : Bool) → (a || b) ≡ (b || a)
-or_swap true true = refl
-or_swap true false = refl
-or_swap false true = refl
-or_swap false false = refl
 
 any_mapped : (p : ℕ × ℕ → Bool) (f : ℕ → ℕ × ℕ) (xs : List ℕ) → list_any p (map f xs) ≡ list_any (λ x. p (f x)) xs
 any_mapped p f [] = refl
@@ -48,7 +38,7 @@ linked_more f old new pairs xs i x h is before step a b =
 lt_or_eq : (b i : ℕ) (below same : Bool) → nat_lt b i ≡ below → (i == b) ≡ same → (below || same) ≡ true → b < i + 1
 lt_or_eq b i true same e f h = omega (arith, ltb-true b i e)
 lt_or_eq b i false true e f h = omega (arith, eqb-true i b f)
-lt_or_eq b i false false e f h = no_way h
+lt_or_eq b i false false e f h = absurd (false≢true h)
 
 or_beyond : (b i : ℕ) (below same : Bool) → nat_lt b i ≡ below → (i == b) ≡ same → b < i + 1 → (below || same) ≡ true
 or_beyond b i true same e f h = refl

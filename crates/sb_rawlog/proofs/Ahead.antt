@@ -97,11 +97,3 @@ module _ (w : Which) (p : Change → Bool) (since : ℕ) (cs : List (Option (Nod
       let t : nat_le since n.time ≡ false = lt-leb since n.time lt in
       a.same high ps h ∙ ap (filter sel) b.1 ∙ ap (λ s. cond (s && p n.item) ((n.time, n.item) ∷ filter sel (entries cs b.0)) (filter sel (entries cs b.0))) t
       ∙ old_none n.time (link w cs q) b.0 (omega arith) b.2
-
-pub not_both : (a b : Bool) → b ≡ false → (a && b) ≡ false
-not_both true b e = e
-not_both false b e = refl
-
-pub both : (a b : Bool) → a ≡ true → b ≡ true → (a && b) ≡ true
-both true b e f = f
-both false b e f = absurd (cc)

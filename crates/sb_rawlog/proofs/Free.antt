@@ -1,4 +1,5 @@
 -- The free places of a log, as changes enter and leave.
+use Rattle.std.proofs.lemmas.Bool.{cases_lt, cases_eq}
 use Rattle.std.proofs.Common.{◌≡◌, ◌≢◌, ℕ, zero, suc, ◌+◌, ◌<◌, ◌≤◌, ◌⊎◌, inl, inr, List, [], ◌∷◌, ◌++◌, length, get_or, set, replicate, Option, Some, None, refl, sym, ap, ◌∙◌, subst, arith, length-append, length-set, get_or-set_other}
 use Rattle.sb_value.specs.declared.change.Change.{Change}
 use Rattle.sb_rawlog.specs.declared.node.Node.{Node}
@@ -75,22 +76,10 @@ none_same None d e f = refl
 none_same (Some n) None e f = absurd (cc)
 none_same (Some n) (Some m) e f = absurd (cc)
 
-same_place : (a b : ℕ) → (a ≡ b) ⊎ (a ≢ b)
-same_place zero zero = inl refl
-same_place zero (suc b) = inr (λ e. omega arith)
-same_place (suc a) zero = inr (λ e. omega arith)
-same_place (suc a) (suc b) = elim (same_place a b) [ inl e ↦ inl (ap suc e) | inr ne ↦ inr (λ e. ne (omega arith)) ]
-
 -- a place in use is below those that were never used
 pub in_use : (free : List ℕ) (used p : ℕ) (cs : List (Option (Node Change))) → AreFree free used cs → IsNode cs p → p < used
-in_use free used p cs f is = go (below_or_not p used)
+in_use free used p cs f is = go (cases_lt p used)
   where
-    below_or_not : (a b : ℕ) → (a < b) ⊎ (b ≤ a)
-    below_or_not zero zero = inr (omega arith)
-    below_or_not zero (suc b) = inl (omega arith)
-    below_or_not (suc a) zero = inr (omega arith)
-    below_or_not (suc a) (suc b) = elim (below_or_not a b) [ inl h ↦ inl (omega arith) | inr h ↦ inr (omega arith) ]
-
     go : (p < used) ⊎ (used ≤ p) → p < used
     go (inl lt) = lt
     go (inr le) = let a = f.unused p le in let b = is.1 in absurd (cc)
@@ -100,7 +89,7 @@ pub released : (free : List ℕ) (used p : ℕ) (cs ds : List (Option (Node Chan
     → ((q : ℕ) → q ≢ p → entry_in (get_or ds q None) ≡ entry_in (get_or cs q None)) → AreFree (free ++ p ∷ []) used ds
 released free used p cs ds f is long gone others =
     let lt = in_use free used p cs f is in
-    let stays : (q : ℕ) → get_or cs q None ≡ None → get_or ds q None ≡ None = λ q e. elim (same_place q p) [
+    let stays : (q : ℕ) → get_or cs q None ≡ None → get_or ds q None ≡ None = λ q e. elim (cases_eq q p) [
       | inl s ↦ ap (λ k. get_or ds k None) s ∙ gone
       | inr ne ↦ none_same (get_or ds q None) (get_or cs q None) (others q ne) e
     ] in

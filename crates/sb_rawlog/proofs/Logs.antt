@@ -1,4 +1,5 @@
 -- A change that is added or taken out leaves a log.
+use Rattle.std.proofs.lemmas.Bool.{not-true}
 use Rattle.std.proofs.Common.{◌≡◌, ◌≢◌, ℕ, ◌+◌, ◌<◌, ◌≤◌, Bool, true, false, not, ◌==◌, cond, ◌⊎◌, inl, inr, List, [], ◌∷◌, length, get_or, set, Option, Some, None, refl, sym, ap, ◌∙◌, subst, arith, length-set, get_or-set_same, get_or-set_other, eq-eqb, ne_eqb, eqb-true}
 use Rattle.std.specs.List.{filter}
 use Rattle.sb_rawlog.specs.declared.node.Which.{Which}
@@ -180,13 +181,9 @@ member_taken q p (r ∷ rs) m ne = elim m [
   | inr n ↦ elim (r == p) as (λ b. Member q (cond (not b) (r ∷ taken_out p rs) (taken_out p rs))) [ true ↦ member_taken q p rs n ne | false ↦ inr (member_taken q p rs n ne) ]
 ]
 
-not_true : (b : Bool) → not b ≡ true → b ≡ false
-not_true true e = cc
-not_true false e = refl
-
 member_left : (q p : ℕ) (ps : List ℕ) → Member q (taken_out p ps) → Member q ps × (q ≢ p)
 member_left q p ps m = let d = member_filter (λ r. not (r == p)) q ps m in
-    (d.0, λ e. let t = eq-eqb q p e in let f = not_true (q == p) d.1 in cc)
+    (d.0, λ e. let t = eq-eqb q p e in let f = not-true (q == p) d.1 in cc)
 
 module _ {X : Type 0} where
   falls_raised : (cs : List (Option (Node X))) (top higher : ℕ) (ps : List ℕ) → top ≤ higher → Falls cs top ps → Falls cs higher ps

@@ -3,7 +3,7 @@ use Rattle.std.proofs.Common.{◌≡◌, ℕ, zero, suc, ◌+◌, ◌<◌, ◌�
 use Rattle.std.specs.List.{filter}
 use Rattle.std.proofs.lemmas.List.{reverse-append}
 use Rattle.std.proofs.lemmas.List.Elements.{filter-append}
-use Rattle.std.proofs.lemmas.Bool.{lt-ltb, le-ltb, lt-leb}
+use Rattle.std.proofs.lemmas.Bool.{lt-ltb, le-ltb, lt-leb, and_parts}
 use Rattle.std.proofs.lemmas.Option.{slice_get_within, slice_get-get_or}
 use Rattle.std.proofs.Math.ListN.{drop_of_length-le, get_or}
 use native.Mathlib.Numerals.{unary_clauses}
@@ -40,14 +40,6 @@ without-above t low (r ∷ rs) clock lt h =
     let a : low ≤ r.0 = h.0 in
     let e : (r.0 == t) ≡ false = ne_eqb r.0 t (omega arith) in
     rw e (ap (λ l. r ∷ l) (without-above t (r.0 + 1) rs clock (omega arith) h.1))
-
-pub and_left : (a b : Bool) → (a && b) ≡ true → a ≡ true
-and_left true b e = refl
-and_left false b e = cc
-
-pub and_right : (a b : Bool) → (a && b) ≡ true → b ≡ true
-and_right true b e = e
-and_right false b e = absurd (cc)
 
 module _ (r : Record) (ys : List Record) where
   pub first_below : (low : ℕ) (xs : List Record) (clock : ℕ) → Rising low (xs ++ r ∷ ys) clock → low ≤ r.0
@@ -156,7 +148,7 @@ module _ (p : Change → Bool) (since : ℕ) where
         within = slice_get_within rs i r e;
         record_at = r;
         is = e;
-        fits = and_right (nat_le since r.0) (p r.1) chosen;
+        fits = (and_parts (nat_le since r.0) (p r.1) chosen).1;
         here = change_at-index rs i r clock up e;
         first = so ∙ ap (λ m. walk p since (take m rs)) next ∙ ap (walk p since) cut.1 ∙ walk-push front r ∙ ap (λ b. cond b (r ∷ walk p since front) (walk p since front)) chosen
             ∙ ap (λ l. r ∷ walk p since l) (sym (before-index rs i r clock up e));

@@ -4,7 +4,7 @@ use Rattle.std.specs.List.{filter, list_all}
 use Rattle.std.proofs.lemmas.List.{reverse-append, reverse-reverse, length-reverse}
 use Rattle.std.proofs.lemmas.List.Elements.{filter-append}
 use Rattle.std.proofs.lemmas.List.Folds.{list_all-append}
-use Rattle.std.proofs.lemmas.Bool.{lt-ltb, ltb-true}
+use Rattle.std.proofs.lemmas.Bool.{lt-ltb, ltb-true, and_parts}
 use Rattle.sb_value.specs.declared.change.Change.{Change}
 use Rattle.sb_rawlog.specs.declared.node.Node.{Node}
 use Rattle.sb_rawlog.specs.Links.{time_in, time_at, Member}
@@ -12,7 +12,7 @@ use Rattle.sb_rawlog.specs.Logs.{with_entry, entries, Falls, entry_in, shown}
 use Rattle.sb_rawlog.proofs.Orders.{older, entries_older}
 use Rattle.sb_rawlog.specs.Records.{Record, Rising, selected, walk, before, without, change_at}
 use Rattle.sb_rawlog.specs.Search.{selects}
-use Rattle.sb_rawlog.proofs.Rises.{rising-push, before-split, change_at-split, rising-filter, and_left, and_right}
+use Rattle.sb_rawlog.proofs.Rises.{rising-push, before-split, change_at-split, rising-filter}
 use Rattle.sb_rawlog.proofs.Sessions.{filter-swap, filter-implied, filter_passed}
 
 -- ---- one place
@@ -56,7 +56,7 @@ module _ {X : Type 0} where
   passes : (f : X → Bool) (xs us vs : List X) (x : X) → filter f xs ≡ us ++ x ∷ vs → f x ≡ true
   passes f xs us vs x e =
       let all : list_all f (us ++ x ∷ vs) ≡ true = ap (list_all f) (sym e) ∙ filter_passed f xs in
-      and_left (f x) (list_all f vs) (and_right (list_all f us) (f x && list_all f vs) (sym (list_all-append f us (x ∷ vs)) ∙ all))
+      (and_parts (f x) (list_all f vs) (and_parts (list_all f us) (f x && list_all f vs) (sym (list_all-append f us (x ∷ vs)) ∙ all)).1).0
 
 -- ---- records in rising time
 

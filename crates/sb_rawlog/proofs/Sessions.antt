@@ -4,14 +4,14 @@ use Rattle.std.specs.List.{filter, list_all}
 use Rattle.std.proofs.lemmas.List.{reverse-append, reverse-reverse, map-append}
 use Rattle.std.proofs.lemmas.List.Elements.{filter-append}
 use Rattle.std.proofs.lemmas.List.Folds.{list_all-append}
-use Rattle.std.proofs.lemmas.Bool.{le-leb, ltb-true}
+use Rattle.std.proofs.lemmas.Bool.{le-leb, ltb-true, false_from_ne_true, not_from_true, and_parts}
 use Rattle.sb_value.specs.declared.id.Who.{Who}
 use Rattle.sb_value.specs.declared.change.Change.{Change}
 use Rattle.sb_rawlog.specs.Changes.{author, is_by}
 use Rattle.sb_rawlog.specs.Records.{Record, Rising, selected, walk, before, without, others, change_at}
 use Rattle.sb_rawlog.specs.Sessions.{records_by, changes, changes_by, OthersStay, TakesLast}
 use Rattle.sb_rawlog.specs.Steps.{Newest, TakesNewest}
-use Rattle.sb_rawlog.proofs.Rises.{and_left, and_right, without-above}
+use Rattle.sb_rawlog.proofs.Rises.{without-above}
 
 -- ---- whose change it is
 
@@ -20,17 +20,13 @@ is_by-author c = ap (λ b. b && (c.session == c.session)) (eq-eqb c.tenant c.ten
 
 pub author_is : (who : Who) (c : Change) → is_by who c ≡ true → author c ≡ who
 author_is who c h =
-    let tenant : c.tenant ≡ who.tenant = eqb-true c.tenant who.tenant (and_left (c.tenant == who.tenant) (c.session == who.session) h) in
-    let session : c.session ≡ who.session = eqb-true c.session who.session (and_right (c.tenant == who.tenant) (c.session == who.session) h) in
+    let tenant : c.tenant ≡ who.tenant = eqb-true c.tenant who.tenant (and_parts (c.tenant == who.tenant) (c.session == who.session) h).0 in
+    let session : c.session ≡ who.session = eqb-true c.session who.session (and_parts (c.tenant == who.tenant) (c.session == who.session) h).1 in
     λ i. record { tenant = tenant i; session = session i }
-
-false_unless : (b : Bool) → (b ≡ true → ⊥) → b ≡ false
-false_unless true h = absurd (h refl)
-false_unless false h = refl
 
 -- no change is by two sessions
 pub by_one : (who other : Who) (c : Change) → other ≢ who → is_by who c ≡ true → is_by other c ≡ false
-by_one who other c apart h = false_unless (is_by other c) (λ g. apart (sym (author_is other c g) ∙ author_is who c h))
+by_one who other c apart h = false_from_ne_true (is_by other c) (λ g. apart (sym (author_is other c g) ∙ author_is who c h))
 
 not_author : (other : Who) (c : Change) → other ≢ author c → is_by other c ≡ false
 not_author other c apart = by_one (author c) other c apart (is_by-author c)
@@ -82,12 +78,8 @@ filter_passed {X} p (x ∷ xs) = elim (p x) as (λ b. (p x ≡ b) → list_all p
 last_passes : {X : Type 0} (p : X → Bool) (xs ys : List X) (x : X) → filter p xs ≡ ys ++ x ∷ [] → p x ≡ true
 last_passes p xs ys x e =
     let all : list_all p (ys ++ x ∷ []) ≡ true = ap (list_all p) (sym e) ∙ filter_passed p xs in
-    let end : (p x && true) ≡ true = and_right (list_all p ys) (p x && true) (sym (list_all-append p ys (x ∷ [])) ∙ all) in
-    and_left (p x) true end
-
-not_true : (b : Bool) → b ≡ true → not b ≡ false
-not_true true e = refl
-not_true false e = absurd (cc)
+    let end : (p x && true) ≡ true = (and_parts (list_all p ys) (p x && true) (sym (list_all-append p ys (x ∷ [])) ∙ all)).1 in
+    (and_parts (p x) true end).0
 
 -- ---- a change is added
 
@@ -110,7 +102,7 @@ module _ (rs : List Record) (time : ℕ) (c : Change) where
 pub own_forgotten : (who : Who) (rs : List Record) → changes_by who (others who rs) ≡ []
 unfolding records_by others
 own_forgotten who rs =
-    ap changes (filter-swap (λ (r : Record). is_by who r.1) (λ r. not (is_by who r.1)) rs ∙ filter-apart (λ (r : Record). not (is_by who r.1)) (λ r. is_by who r.1) (λ r e. not_true (is_by who r.1) e) rs)
+    ap changes (filter-swap (λ (r : Record). is_by who r.1) (λ r. not (is_by who r.1)) rs ∙ filter-apart (λ (r : Record). not (is_by who r.1)) (λ r. is_by who r.1) (λ r e. not_from_true (is_by who r.1) e) rs)
 
 pub others_kept : (who : Who) (rs : List Record) → OthersStay who rs (others who rs)
 unfolding records_by others
@@ -139,7 +131,7 @@ module _ (who : Who) (rs : List Record) (c : Change) (n : Newest who rs c) where
   newest_by = last_passes (λ (r : Record). is_by who r.1) rs (records_by who (before n.time rs)) (n.time, c) newest_last
 
 not_there : (t : ℕ) (r : Record) → nat_lt r.0 t ≡ true → not (r.0 == t) ≡ true
-not_there t r e = let lt : r.0 < t = ltb-true r.0 t e in ap not (false_unless (r.0 == t) (λ same. absurd (omega (arith, eqb-true r.0 t same, lt))))
+not_there t r e = let lt : r.0 < t = ltb-true r.0 t e in ap not (false_from_ne_true (r.0 == t) (λ same. absurd (omega (arith, eqb-true r.0 t same, lt))))
 
 without-before : (t : ℕ) (rs : List Record) → without t (before t rs) ≡ before t rs
 unfolding without before
@@ -191,7 +183,7 @@ untaken other t rs clock c up here not_so = unchosen-without (is_by other) t 0 r
 -- nor does it belong to the others
 pub others-taken : (who : Who) (rs : List Record) (clock : ℕ) (c : Change) → Rising 0 rs clock → (n : Newest who rs c) → others who (without n.time rs) ≡ others who rs
 unfolding others
-others-taken who rs clock c up n = unchosen-without (λ d. not (is_by who d)) n.time 0 rs clock c up n.here (not_true (is_by who c) (newest_by who rs c n))
+others-taken who rs clock c up n = unchosen-without (λ d. not (is_by who d)) n.time 0 rs clock c up n.here (not_from_true (is_by who c) (newest_by who rs c n))
 
 -- where a session has none, all are the others'
 none_of : (who : Who) (rs : List Record) → filter (λ (r : Record). is_by who r.1) rs ≡ [] → filter (λ (r : Record). not (is_by who r.1)) rs ≡ rs

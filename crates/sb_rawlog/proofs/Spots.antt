@@ -1,4 +1,5 @@
 -- What the steps of a plain log answer, from the index that was found.
+use Rattle.std.proofs.lemmas.Bool.{and_parts}
 use Rattle.std.proofs.Common.{◌≡◌, ℕ, ◌+◌, Bool, true, not, ◌&&◌, ◌==◌, List, [], ◌∷◌, ◌++◌, length, take, drop, Some, slice_get, refl, sym, ap, ◌∙◌, subst, eqb-true}
 use Rattle.std.proofs.Math.Seq.{take-length}
 use Rattle.sb_value.specs.declared.id.Who.{Who}
@@ -10,7 +11,7 @@ use Rattle.sb_rawlog.specs.declared.spot.Spot.{Spot}
 use Rattle.sb_rawlog.specs.Records.{Record, Rising, walk, before, without, others, change_at}
 use Rattle.sb_rawlog.specs.Found.{Found}
 use Rattle.sb_rawlog.specs.Steps.{OpSpot, TupleSpot, Newest}
-use Rattle.sb_rawlog.proofs.Rises.{and_right, before-index, split_at, without-split, rising-filter}
+use Rattle.sb_rawlog.proofs.Rises.{before-index, split_at, without-split, rising-filter}
 
 pub same_kind-eq : (a b : Kind) → same_kind a b ≡ true → a ≡ b
 same_kind-eq Inserted Inserted e = refl
@@ -25,11 +26,11 @@ same_kind-eq Updated Updated e = refl
 
 pub is_op-kind : (who : Who) (table : ℕ) (kind : Kind) (c : Change) → is_op who table kind c ≡ true → c.kind ≡ kind
 is_op-kind who table kind c e =
-    same_kind-eq c.kind kind (and_right (c.table == table) (same_kind c.kind kind) (and_right (is_by who c) ((c.table == table) && same_kind c.kind kind) e))
+    same_kind-eq c.kind kind (and_parts (c.table == table) (same_kind c.kind kind) (and_parts (is_by who c) ((c.table == table) && same_kind c.kind kind) e).1).1
 
 pub is_tuple-tuple : (who : Who) (table tuple : ℕ) (c : Change) → is_tuple who table tuple c ≡ true → c.tuple ≡ tuple
 is_tuple-tuple who table tuple c e =
-    eqb-true c.tuple tuple (and_right (c.table == table) (c.tuple == tuple) (and_right (is_by who c) ((c.table == table) && (c.tuple == tuple)) e))
+    eqb-true c.tuple tuple (and_parts (c.table == table) (c.tuple == tuple) (and_parts (is_by who c) ((c.table == table) && (c.tuple == tuple)) e).1).1
 
 module _ (p : Change → Bool) (since : ℕ) (rs todo : List Record) (i : ℕ) (r : Record) (f : Found p since rs todo i) (e : slice_get rs i ≡ Some r) where
   is_it : f.record_at ≡ r

@@ -1,4 +1,5 @@
 -- What the steps of a walk over a log in places answer, from what the search along a list found.
+use Rattle.std.proofs.lemmas.Bool.{and_parts}
 use Rattle.std.proofs.Common.{◌≡◌, ℕ, ◌%◌, Bool, true, ◌&&◌, ◌==◌, nat_le, List, [], ◌∷◌, reverse, length, get_or, Option, Some, None, MatchOption, refl, sym, ap, ◌∙◌, subst, arith, eq-eqb, eqb-true}
 use Rattle.std.specs.List.{filter}
 use Rattle.sb_value.specs.declared.id.Who.{Who}
@@ -22,7 +23,6 @@ use Rattle.sb_rawlog.specs.Raw.{Raw, Stands}
 use Rattle.sb_rawlog.specs.Records.{Record, Rising, walk, before, change_at}
 use Rattle.sb_rawlog.specs.Search.{selects, spot_for, Hit}
 use Rattle.sb_rawlog.specs.Steps.{OpSpot, OpStep, TupleSpot, TupleStep, Newest}
-use Rattle.sb_rawlog.proofs.Rises.{and_left, and_right}
 use Rattle.sb_rawlog.proofs.Seen.{get-shown, shown_node, falls-rise, rising-before, change_there, first_found, none_found, before-places, before-before, first_older, length-seen}
 use Rattle.sb_rawlog.proofs.Sessions.{author_is}
 use Rattle.sb_rawlog.proofs.Spots.{is_op-kind, is_tuple-tuple}
@@ -30,16 +30,16 @@ use Rattle.sb_rawlog.proofs.Spots.{is_op-kind, is_tuple-tuple}
 -- ---- keys
 
 table_is : (who : Who) (table : ℕ) (c : Change) (b : Bool) → (is_by who c && ((c.table == table) && b)) ≡ true → c.table ≡ table
-table_is who table c b e = eqb-true c.table table (and_left (c.table == table) b (and_right (is_by who c) ((c.table == table) && b) e))
+table_is who table c b e = eqb-true c.table table (and_parts (c.table == table) b (and_parts (is_by who c) ((c.table == table) && b) e).1).0
 
 -- what fits a key lies in the key's bucket
 pub fits_bucket : (n : ℕ) (k : Key) (c : Change) → fits k c ≡ true → bucket n (list_of k) c ≡ key_bucket n k
 fits_bucket n (OpKey who table kind) c e =
-    let by : author c ≡ who = author_is who c (and_left (is_by who c) ((c.table == table) && same_kind c.kind kind) e) in
+    let by : author c ≡ who = author_is who c (and_parts (is_by who c) ((c.table == table) && same_kind c.kind kind) e).0 in
     let t = table_is who table c (same_kind c.kind kind) e in let k = is_op-kind who table kind c e in
     λ j. mixed (group (by j).tenant (by j).session (t j)) (kind_number (k j)) % n
 fits_bucket n (TupleKey who table tuple) c e =
-    let by : author c ≡ who = author_is who c (and_left (is_by who c) ((c.table == table) && (c.tuple == tuple)) e) in
+    let by : author c ≡ who = author_is who c (and_parts (is_by who c) ((c.table == table) && (c.tuple == tuple)) e).0 in
     let t = table_is who table c (c.tuple == tuple) e in let k = is_tuple-tuple who table tuple c e in
     λ j. mixed (group (by j).tenant (by j).session (t j)) (k j) % n
 fits_bucket n (SessionKey who) c e = let by : author c ≡ who = author_is who c e in λ j. session_number (by j).tenant (by j).session
@@ -105,7 +105,7 @@ module _ (cs : List (Option (Node Change))) (ops tuples sessions : List (Option 
 
     -- the bucket's chain has all that is selected
     enough : (ps : List ℕ) → filter (selects p since) (entries cs (in_bucket in_list w b cs ps)) ≡ filter (selects p since) (entries cs ps)
-    enough ps = bucket_enough in_list w b cs (selects p since) (λ r e. fits_bucket (length ops) k r.1 (and_right (nat_le since r.0) (p r.1) e)) ps
+    enough ps = bucket_enough in_list w b cs (selects p since) (λ r e. fits_bucket (length ops) k r.1 (and_parts (nat_le since r.0) (p r.1) e).1) ps
 
     pub first_chain : (head : Option ℕ) → head ≡ get_or (by_which ops tuples sessions w) b None → IsChain w cs clock head (in_bucket in_list w b cs order)
     first_chain head e = subst (λ h. IsChain w cs clock h (in_bucket in_list w b cs order)) (sym e) (holds.log.chains w b)
@@ -154,7 +154,7 @@ module _ (cs : List (Option (Node Change))) (ops tuples sessions : List (Option 
       let n = hit.node in let c = n.item in
       subst (OpSpot (Stands value) rs who table kind since todo) (sym hit.is) (record {
         stands = stands_at s.place since n hit.here;
-        who_is = author_is who c (and_left (is_by who c) ((c.table == table) && same_kind c.kind kind) hit.fits);
+        who_is = author_is who c (and_parts (is_by who c) ((c.table == table) && same_kind c.kind kind) hit.fits).0;
         table_is = table_is who table c (same_kind c.kind kind) hit.fits;
         kind_is = is_op-kind who table kind c hit.fits;
         since_is = refl;
@@ -167,7 +167,7 @@ module _ (cs : List (Option (Node Change))) (ops tuples sessions : List (Option 
       let n = hit.node in let c = n.item in
       subst (TupleSpot (Stands value) rs who table tuple since todo) (sym hit.is) (record {
         stands = stands_at s.place since n hit.here;
-        who_is = author_is who c (and_left (is_by who c) ((c.table == table) && (c.tuple == tuple)) hit.fits);
+        who_is = author_is who c (and_parts (is_by who c) ((c.table == table) && (c.tuple == tuple)) hit.fits).0;
         table_is = table_is who table c (c.tuple == tuple) hit.fits;
         tuple_is = is_tuple-tuple who table tuple c hit.fits;
         since_is = refl;

@@ -1,4 +1,5 @@
 -- What a log in places is after a change is taken out, or one is added.
+use Rattle.std.proofs.lemmas.Bool.{cases_eq}
 use Rattle.std.proofs.Common.{◌≡◌, ◌≢◌, ℕ, ◌+◌, ◌<◌, Bool, true, false, ◌==◌, ◌⊎◌, inl, inr, List, [], ◌∷◌, ◌++◌, reverse, length, get_or, set, Option, Some, None, refl, sym, ap, ◌∙◌, subst, arith, eq-eqb, eqb-true, length-set, get_or-set_other}
 use Rattle.sb_value.specs.declared.id.Who.{Who}
 use Rattle.sb_value.specs.declared.change.Change.{Change}
@@ -22,13 +23,6 @@ use Rattle.sb_rawlog.proofs.Seen.{get-shown, without-turned, reverse_first}
 use Rattle.sb_rawlog.proofs.Sessions.{change_at-gone}
 use Rattle.sb_rawlog.proofs.Steps.{seen_is, seen_long, first_places, newest_is, standing}
 
-same_place : (a b : ℕ) → (a ≡ b) ⊎ (a ≢ b)
-same_place a b = go (a == b) refl
-  where
-    go : (t : Bool) → (a == b) ≡ t → (a ≡ b) ⊎ (a ≢ b)
-    go true e = inl (eqb-true a b e)
-    go false e = inr (λ s. let f = eq-eqb a b s in cc)
-
 -- a spot stands where its place holds what it did
 stands_still : (old new : Raw) (s : Spot) → get_or new.places s.place None ≡ get_or old.places s.place None → Stands old s → Stands new s
 stands_still old new s same st = record { change = st.change; here = same ∙ st.here; who = st.who; table = st.table; kind = st.kind; tuple = st.tuple }
@@ -49,7 +43,7 @@ module _ (cs ds : List (Option (Node Change))) (ops tuples sessions ops' tuples'
       ∙ ap (without t.node.time) (sym (seen_is cs ops tuples sessions order clock room holds))
 
   pub taken_spots : SpotsStay (Stands old) (Stands new) (records_of new)
-  taken_spots s c st here = elim (same_place s.place place) [
+  taken_spots s c st here = elim (cases_eq s.place place) [
     | inl e ↦
         let n = standing cs ops tuples sessions order clock room holds s st in
         let same : Some n.0 ≡ Some t.node = sym n.1.0 ∙ ap (λ q. get_or cs q None) e ∙ t.here in

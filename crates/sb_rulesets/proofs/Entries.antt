@@ -1,4 +1,5 @@
 -- Rulesets as the entries of a map.
+use Rattle.std.proofs.lemmas.Bool.{or_parts}
 use Rattle.std.proofs.Common.{◌≡◌, ◌∙◌, ℕ, zero, suc, Bool, true, false, not, ◌||◌, cond, List, [], ◌∷◌, map, find, set, get_or, Option, Some, None, option_map, is_some, slice_get, slice_set, refl, sym, ap}
 use Rattle.std.specs.Cmp.{eq_by_cmp_equiv}
 use Rattle.std.specs.Cmp.Lexicographic.{nat_list_cmp_total}
@@ -42,33 +43,25 @@ found name (e ∷ es) =
 
 -- ---- a name that a ruleset has is no later one's
 
-none_left : (a b : Bool) → (a || b) ≡ false → a ≡ false
-none_left true b h = h
-none_left false b h = refl
-
-none_right : (a b : Bool) → (a || b) ≡ false → b ≡ false
-none_right true b h = absurd (cc)
-none_right false b h = h
-
 later : (name first : List ℕ) (sets : List Ruleset) → same_name name first ≡ true → list_any (λ t. same_name first t.name) sets ≡ false → list_any (λ t. same_name t.name name) sets ≡ false
 later name first [] h e = refl
 later name first (t ∷ sets) h e =
     (λ i. (turned t.name name ∙ alike name first t.name h) i || list_any (λ s. same_name s.name name) sets)
-    ∙ (λ i. none_left (same_name first t.name) (list_any (λ s. same_name first s.name) sets) e i || list_any (λ s. same_name s.name name) sets)
-    ∙ later name first sets h (none_right (same_name first t.name) (list_any (λ s. same_name first s.name) sets) e)
+    ∙ (λ i. (or_parts (same_name first t.name) (list_any (λ s. same_name first s.name) sets) e).0 i || list_any (λ s. same_name s.name name) sets)
+    ∙ later name first sets h (or_parts (same_name first t.name) (list_any (λ s. same_name first s.name) sets) e).1
 
 unnamed_stays : (name : List ℕ) (change : List Bool → List Bool) (sets : List Ruleset) → list_any (λ t. same_name t.name name) sets ≡ false → changed change sets name ≡ sets
 unnamed_stays name change [] e = refl
 unnamed_stays name change (s ∷ sets) e =
-    let other = none_left (same_name s.name name) (list_any (λ t. same_name t.name name) sets) e in
-    let rest = unnamed_stays name change sets (none_right (same_name s.name name) (list_any (λ t. same_name t.name name) sets) e) in
+    let other = (or_parts (same_name s.name name) (list_any (λ t. same_name t.name name) sets) e).0 in
+    let rest = unnamed_stays name change sets (or_parts (same_name s.name name) (list_any (λ t. same_name t.name name) sets) e).1 in
     λ i. cond (other i) (record s { rules = change s.rules }) s ∷ rest i
 
 unnamed_kept : (name : List ℕ) (sets : List Ruleset) → list_any (λ t. same_name t.name name) sets ≡ false → without_set sets name ≡ sets
 unnamed_kept name [] e = refl
 unnamed_kept name (s ∷ sets) e =
-    let other = none_left (same_name s.name name) (list_any (λ t. same_name t.name name) sets) e in
-    let rest = unnamed_kept name sets (none_right (same_name s.name name) (list_any (λ t. same_name t.name name) sets) e) in
+    let other = (or_parts (same_name s.name name) (list_any (λ t. same_name t.name name) sets) e).0 in
+    let rest = unnamed_kept name sets (or_parts (same_name s.name name) (list_any (λ t. same_name t.name name) sets) e).1 in
     λ i. cond (not (other i)) (s ∷ rest i) (rest i)
 
 -- ---- what is written through a name, and what is taken out by it

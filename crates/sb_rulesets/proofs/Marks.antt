@@ -37,14 +37,6 @@ marked-more op mark stays marks flags rules i h =
     marked-from op mark stays marks 0 (get_or rules i 0) (get_or rules i 0) flags (drop (i + 1) rules) (omega arith)
     ∙ ap (marked op 0 flags) (sym next)
 
-pub or-true : (b : Bool) → (b || true) ≡ true
-or-true true = refl
-or-true false = refl
-
-pub or-false : (b : Bool) → (b || false) ≡ b
-or-false true = refl
-or-false false = refl
-
 pub and-not-true : (b : Bool) → (b && not true) ≡ false
 and-not-true true = refl
 and-not-true false = refl

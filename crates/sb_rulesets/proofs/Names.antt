@@ -1,4 +1,5 @@
 -- Names stay distinct.
+use Rattle.std.proofs.lemmas.Bool.{or_parts, or_from}
 use Rattle.std.proofs.Common.{◌≡◌, ◌∙◌, ℕ, Bool, true, false, ◌||◌, cond, List, [], ◌∷◌, ◌++◌, map, filter, ap, refl}
 use Rattle.std.specs.List.{list_any}
 use Rattle.sb_value.specs.Name.{same_name}
@@ -6,41 +7,30 @@ use Rattle.sb_rulesets.specs.Ruleset.{Ruleset}
 use Rattle.sb_rulesets.specs.Sets.{has_name, changed_if, changed, lacking, without_rule}
 use Rattle.sb_rulesets.specs.Distinct.{AreDistinct}
 
-none_left : (a b : Bool) → (a || b) ≡ false → a ≡ false
-none_left true b h = h
-none_left false b h = refl
-
-none_right : (a b : Bool) → (a || b) ≡ false → b ≡ false
-none_right true b h = absurd (cc)
-none_right false b h = h
-
-none_both : (a b : Bool) → a ≡ false → b ≡ false → (a || b) ≡ false
-none_both a b p q = ap (λ x. x || b) p ∙ q
-
 -- ---- one more at the end
 
 none_appended : (p : Ruleset → Bool) (sets : List Ruleset) (n : Ruleset) → list_any p sets ≡ false → p n ≡ false → list_any p (sets ++ n ∷ []) ≡ false
-none_appended p [] n h e = none_both (p n) false e refl
+none_appended p [] n h e = or_from (p n) false e refl
 none_appended p (s ∷ sets) n h e =
-    none_both (p s) (list_any p (sets ++ n ∷ [])) (none_left (p s) (list_any p sets) h) (none_appended p sets n (none_right (p s) (list_any p sets) h) e)
+    or_from (p s) (list_any p (sets ++ n ∷ [])) (or_parts (p s) (list_any p sets) h).0 (none_appended p sets n (or_parts (p s) (list_any p sets) h).1 e)
 
 pub distinct_appended : (sets : List Ruleset) (n : Ruleset) → AreDistinct sets → has_name sets n.name ≡ false → AreDistinct (sets ++ n ∷ [])
 distinct_appended [] n h e = (refl, tt)
 distinct_appended (s ∷ sets) n h e = (
-  none_appended (λ t. same_name s.name t.name) sets n h.0 (none_left (same_name s.name n.name) (has_name sets n.name) e),
-  distinct_appended sets n h.1 (none_right (same_name s.name n.name) (has_name sets n.name) e),
+  none_appended (λ t. same_name s.name t.name) sets n h.0 (or_parts (same_name s.name n.name) (has_name sets n.name) e).0,
+  distinct_appended sets n h.1 (or_parts (same_name s.name n.name) (has_name sets n.name) e).1,
 )
 
 -- ---- some are dropped
 
 none_kept : (p : Ruleset → Bool) (s : Ruleset) (kept : List Ruleset) (b : Bool) → p s ≡ false → list_any p kept ≡ false → list_any p (cond b (s ∷ kept) kept) ≡ false
-none_kept p s kept true h rest = none_both (p s) (list_any p kept) h rest
+none_kept p s kept true h rest = or_from (p s) (list_any p kept) h rest
 none_kept p s kept false h rest = rest
 
 none_filtered : (p keep : Ruleset → Bool) (sets : List Ruleset) → list_any p sets ≡ false → list_any p (filter keep sets) ≡ false
 none_filtered p keep [] h = refl
 none_filtered p keep (s ∷ sets) h =
-    none_kept p s (filter keep sets) (keep s) (none_left (p s) (list_any p sets) h) (none_filtered p keep sets (none_right (p s) (list_any p sets) h))
+    none_kept p s (filter keep sets) (keep s) (or_parts (p s) (list_any p sets) h).0 (none_filtered p keep sets (or_parts (p s) (list_any p sets) h).1)
 
 distinct_filtered_by : (keep : Ruleset → Bool) (s : Ruleset) (sets : List Ruleset) (b : Bool) → AreDistinct (s ∷ sets) → AreDistinct (filter keep sets) → AreDistinct (cond b (s ∷ filter keep sets) (filter keep sets))
 distinct_filtered_by keep s sets true h rest = (none_filtered (λ t. same_name s.name t.name) keep sets h.0, rest)

@@ -1,4 +1,5 @@
 -- Operations on words are the operations on their flags.
+use Rattle.std.proofs.Math.Bool.{not-not, or-false, and-false, or-true, and-true}
 use Rattle.std.proofs.Common.{◌≡◌, ◌≢◌, ℕ, zero, suc, ◌+◌, ◌-◌, ◌*◌, nat_lt, Option, unwrap_or, ◌/◌, ◌%◌, ◌^◌, ◌<◌, ◌≤◌, max, min, Bool, true, false, not, ◌&&◌, ◌||◌, nat_eq, bit_and, bit_or, List, [], ◌∷◌, length, replicate, slice_set, refl, sym, ap, ◌∙◌, arith, ne_eqb, eqb-true}
 use Rattle.std.specs.List.{list_any}
 use Rattle.std.specs.Int.{bit_at, bit_not, w64, trailing_zeros}
@@ -143,24 +144,12 @@ any-intersection [] ys = refl
 any-intersection (x ∷ xs) [] = refl
 any-intersection (x ∷ xs) (y ∷ ys) = ap (λ b. (x && y) || b) (any-intersection xs ys)
 
-not-not : (b : Bool) → not (not b) ≡ b
-not-not true = refl
-not-not false = refl
-
 pub share_place-flags_of : (n a b : ℕ) → bit_and a b < 2 ^ n → not (nat_eq (bit_and a b) 0) ≡ share_place (flags_of n a) (flags_of n b)
 share_place-flags_of n a b h =
     ap not (has_none-flags_of n (bit_and a b) h) ∙ not-not (list_any (λ b. b) (flags_of n (bit_and a b)))
     ∙ ap (list_any (λ b. b)) (flags_of-and n a b) ∙ any-intersection (flags_of n a) (flags_of n b)
 
 -- ---- what is in a set after a change
-
-or-false : (b : Bool) → (b || false) ≡ b
-or-false true = refl
-or-false false = refl
-
-and-false : (b : Bool) → (b && false) ≡ false
-and-false true = refl
-and-false false = refl
 
 pub flag_at-none : (n k : ℕ) → flag_at (replicate n false) k ≡ false
 flag_at-none zero k = refl
@@ -187,14 +176,6 @@ length-flags_from (suc n) i word = ap suc (length-flags_from n (suc i) word)
 pub length-flags_of : (n word : ℕ) → length (flags_of n word) ≡ n
 unfolding flags_of
 length-flags_of n word = length-flags_from n 0 word
-
-or-true : (b : Bool) → (b || true) ≡ true
-or-true true = refl
-or-true false = refl
-
-and-true : (b : Bool) → (b && true) ≡ b
-and-true true = refl
-and-true false = refl
 
 flag_at-here : (flags : List Bool) (i : ℕ) (b : Bool) → i < length flags → flag_at (slice_set flags i b) i ≡ b
 flag_at-here [] i b h = absurd (omega arith)

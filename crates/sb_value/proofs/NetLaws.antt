@@ -1,8 +1,8 @@
 -- The laws of net effects.
+use Rattle.std.proofs.lemmas.Bool.{false≢true, and_parts}
 use Rattle.std.proofs.Common.{◌≡◌, Bool, true, false, ◌&&◌, List, [], ◌∷◌, ◌++◌, Option, Some, None, refl, sym, ◌∙◌, ap, subst}
 use Rattle.std.proofs.lemmas.List.Elements.{filter-append}
 use Rattle.std.proofs.Math.Bool.{or_assoc}
-use Rattle.sb_value.proofs.Booleans.{no_way, and_left, and_right}
 use Rattle.sb_value.specs.Flags.{union}
 use Rattle.sb_value.specs.NetEffect.{is_of, history, last_of, all_columns, net_between, net_of, then_net}
 use Rattle.sb_value.specs.Laws.{may_follow, is_life, NetEffectsCompose}
@@ -49,29 +49,29 @@ span_itself Deleted = refl
 
 span_onward : (k d e : Kind) → may_follow k d ≡ true → span d e ≡ true → span k e ≡ true
 span_onward Inserted d e h s = refl
-span_onward Updated Inserted e h s = no_way h
+span_onward Updated Inserted e h s = absurd (false≢true h)
 span_onward Updated Updated e h s = s
 span_onward Updated Deleted Inserted h s = s
 span_onward Updated Deleted Updated h s = refl
 span_onward Updated Deleted Deleted h s = refl
-span_onward Deleted d e h s = no_way h
+span_onward Deleted d e h s = absurd (false≢true h)
 
 span_of : (c : Change) (cs : List Change) → is_life (c ∷ cs) ≡ true → span c.kind (last_of c cs).kind ≡ true
 span_of c [] h = span_itself c.kind
 span_of c (d ∷ ds) h =
-    span_onward c.kind d.kind (last_of d ds).kind (and_left (may_follow c.kind d.kind) (is_life (d ∷ ds)) h)
-    (span_of d ds (and_right (may_follow c.kind d.kind) (is_life (d ∷ ds)) h))
+    span_onward c.kind d.kind (last_of d ds).kind (and_parts (may_follow c.kind d.kind) (is_life (d ∷ ds)) h).0
+    (span_of d ds (and_parts (may_follow c.kind d.kind) (is_life (d ∷ ds)) h).1)
 
 -- the part of a life after some changes is one, and may follow the last of them
 life_after : (c : Change) (cs : List Change) (d : Change) (ds : List Change) → is_life (c ∷ cs ++ d ∷ ds) ≡ true →
     (may_follow (last_of c cs).kind d.kind ≡ true) × (is_life (d ∷ ds) ≡ true)
-life_after c [] d ds h = (and_left (may_follow c.kind d.kind) (is_life (d ∷ ds)) h, and_right (may_follow c.kind d.kind) (is_life (d ∷ ds)) h)
-life_after c (b ∷ cs) d ds h = life_after b cs d ds (and_right (may_follow c.kind b.kind) (is_life (b ∷ cs ++ d ∷ ds)) h)
+life_after c [] d ds h = ((and_parts (may_follow c.kind d.kind) (is_life (d ∷ ds)) h).0, (and_parts (may_follow c.kind d.kind) (is_life (d ∷ ds)) h).1)
+life_after c (b ∷ cs) d ds h = life_after b cs d ds (and_parts (may_follow c.kind b.kind) (is_life (b ∷ cs ++ d ∷ ds)) h).1
 
 life_before : (c : Change) (cs ds : List Change) → is_life (c ∷ cs ++ ds) ≡ true → is_life (c ∷ cs) ≡ true
 life_before c [] ds h = refl
 life_before c (b ∷ cs) ds h =
-    both (and_left (may_follow c.kind b.kind) (is_life (b ∷ cs ++ ds)) h) (life_before b cs ds (and_right (may_follow c.kind b.kind) (is_life (b ∷ cs ++ ds)) h))
+    both (and_parts (may_follow c.kind b.kind) (is_life (b ∷ cs ++ ds)) h).0 (life_before b cs ds (and_parts (may_follow c.kind b.kind) (is_life (b ∷ cs ++ ds)) h).1)
   where
     both : {a b : Bool} → a ≡ true → b ≡ true → (a && b) ≡ true
     both {a} {b} p q = ap (λ x. x && b) p ∙ q
@@ -82,31 +82,31 @@ joined : (k m d e : Kind) → span k m ≡ true → may_follow m d ≡ true → 
     net_between k e p s (union xs ys) ≡ then_net (net_between k m p q xs) (net_between d e r s ys)
 joined Inserted Inserted Updated Updated u f v p q r s xs ys = refl
 joined Inserted Inserted Updated Deleted u f v p q r s xs ys = refl
-joined Inserted Inserted Updated Inserted u f v p q r s xs ys = no_way v
+joined Inserted Inserted Updated Inserted u f v p q r s xs ys = absurd (false≢true v)
 joined Inserted Inserted Deleted Deleted u f v p q r s xs ys = refl
-joined Inserted Inserted Deleted Updated u f v p q r s xs ys = no_way v
-joined Inserted Inserted Deleted Inserted u f v p q r s xs ys = no_way v
-joined Inserted Inserted Inserted e u f v p q r s xs ys = no_way f
+joined Inserted Inserted Deleted Updated u f v p q r s xs ys = absurd (false≢true v)
+joined Inserted Inserted Deleted Inserted u f v p q r s xs ys = absurd (false≢true v)
+joined Inserted Inserted Inserted e u f v p q r s xs ys = absurd (false≢true f)
 joined Inserted Updated Updated Updated u f v p q r s xs ys = refl
 joined Inserted Updated Updated Deleted u f v p q r s xs ys = refl
-joined Inserted Updated Updated Inserted u f v p q r s xs ys = no_way v
+joined Inserted Updated Updated Inserted u f v p q r s xs ys = absurd (false≢true v)
 joined Inserted Updated Deleted Deleted u f v p q r s xs ys = refl
-joined Inserted Updated Deleted Updated u f v p q r s xs ys = no_way v
-joined Inserted Updated Deleted Inserted u f v p q r s xs ys = no_way v
-joined Inserted Updated Inserted e u f v p q r s xs ys = no_way f
-joined Inserted Deleted d e u f v p q r s xs ys = no_way f
-joined Updated Inserted d e u f v p q r s xs ys = no_way u
+joined Inserted Updated Deleted Updated u f v p q r s xs ys = absurd (false≢true v)
+joined Inserted Updated Deleted Inserted u f v p q r s xs ys = absurd (false≢true v)
+joined Inserted Updated Inserted e u f v p q r s xs ys = absurd (false≢true f)
+joined Inserted Deleted d e u f v p q r s xs ys = absurd (false≢true f)
+joined Updated Inserted d e u f v p q r s xs ys = absurd (false≢true u)
 joined Updated Updated Updated Updated u f v p q r s xs ys = refl
 joined Updated Updated Updated Deleted u f v p q r s xs ys = refl
-joined Updated Updated Updated Inserted u f v p q r s xs ys = no_way v
+joined Updated Updated Updated Inserted u f v p q r s xs ys = absurd (false≢true v)
 joined Updated Updated Deleted Deleted u f v p q r s xs ys = refl
-joined Updated Updated Deleted Updated u f v p q r s xs ys = no_way v
-joined Updated Updated Deleted Inserted u f v p q r s xs ys = no_way v
-joined Updated Updated Inserted e u f v p q r s xs ys = no_way f
-joined Updated Deleted d e u f v p q r s xs ys = no_way f
-joined Deleted Inserted d e u f v p q r s xs ys = no_way u
-joined Deleted Updated d e u f v p q r s xs ys = no_way u
-joined Deleted Deleted d e u f v p q r s xs ys = no_way f
+joined Updated Updated Deleted Updated u f v p q r s xs ys = absurd (false≢true v)
+joined Updated Updated Deleted Inserted u f v p q r s xs ys = absurd (false≢true v)
+joined Updated Updated Inserted e u f v p q r s xs ys = absurd (false≢true f)
+joined Updated Deleted d e u f v p q r s xs ys = absurd (false≢true f)
+joined Deleted Inserted d e u f v p q r s xs ys = absurd (false≢true u)
+joined Deleted Updated d e u f v p q r s xs ys = absurd (false≢true u)
+joined Deleted Deleted d e u f v p q r s xs ys = absurd (false≢true f)
 
 then_net-None : (n : Option Net) → then_net n None ≡ n
 then_net-None None = refl

@@ -1,4 +1,5 @@
 -- A set of places with one more.
+use Rattle.std.proofs.Math.Bool.{or-false, or-true}
 use Rattle.std.proofs.Common.{ℕ, zero, suc, ◌≤◌, ◌≡◌, refl, sym, ap, ◌∙◌, Bool, true, false, List, [], ◌∷◌, ◌++◌, map, arith}
 use Rattle.std.proofs.lemmas.List.Folds.{list_any-append}
 use Rattle.std.proofs.lemmas.Bool.{ne_eqb, le-ltb}
@@ -9,41 +10,33 @@ use Rattle.sb_value.specs.Columns.{set_of, with_place}
 abbrev eights : List ℕ
 eights = 0 ∷ 1 ∷ 2 ∷ 3 ∷ 4 ∷ 5 ∷ 6 ∷ 7 ∷ []
 
-or_false : (b : Bool) → (b || false) ≡ b
-or_false true = refl
-or_false false = refl
-
-or_true : (b : Bool) → (b || true) ≡ true
-or_true true = refl
-or_true false = refl
-
 -- eight flags and one more place
 abbrev Added : (ℕ → Bool) → ℕ → Type 0
 Added f p = with_place (map f eights) p ≡ map (λ k. f k || (p == k)) eights
 
 added_0 : (f : ℕ → Bool) → Added f 0
-added_0 f = sym (simp (or_false, or_true))
+added_0 f = sym (simp (or-false, or-true))
 
 added_1 : (f : ℕ → Bool) → Added f 1
-added_1 f = sym (simp (or_false, or_true))
+added_1 f = sym (simp (or-false, or-true))
 
 added_2 : (f : ℕ → Bool) → Added f 2
-added_2 f = sym (simp (or_false, or_true))
+added_2 f = sym (simp (or-false, or-true))
 
 added_3 : (f : ℕ → Bool) → Added f 3
-added_3 f = sym (simp (or_false, or_true))
+added_3 f = sym (simp (or-false, or-true))
 
 added_4 : (f : ℕ → Bool) → Added f 4
-added_4 f = sym (simp (or_false, or_true))
+added_4 f = sym (simp (or-false, or-true))
 
 added_5 : (f : ℕ → Bool) → Added f 5
-added_5 f = sym (simp (or_false, or_true))
+added_5 f = sym (simp (or-false, or-true))
 
 added_6 : (f : ℕ → Bool) → Added f 6
-added_6 f = sym (simp (or_false, or_true))
+added_6 f = sym (simp (or-false, or-true))
 
 added_7 : (f : ℕ → Bool) → Added f 7
-added_7 f = sym (simp (or_false, or_true))
+added_7 f = sym (simp (or-false, or-true))
 
 added_above : (f : ℕ → Bool) (p : ℕ) → 8 ≤ p → Added f p
 added_above f p h =
@@ -56,7 +49,7 @@ added_above f p h =
     let e5 : (p == 5) ≡ false = ne_eqb p 5 (λ e. absurd (omega arith)) in
     let e6 : (p == 6) ≡ false = ne_eqb p 6 (λ e. absurd (omega arith)) in
     let e7 : (p == 7) ≡ false = ne_eqb p 7 (λ e. absurd (omega arith)) in
-    rw lt (sym (simp (e0, e1, e2, e3, e4, e5, e6, e7, or_false)))
+    rw lt (sym (simp (e0, e1, e2, e3, e4, e5, e6, e7, or-false)))
 
 added : (f : ℕ → Bool) (p : ℕ) → Added f p
 added f zero = added_0 f
@@ -70,7 +63,7 @@ added f (suc (suc (suc (suc (suc (suc (suc zero))))))) = added_7 f
 added f (suc (suc (suc (suc (suc (suc (suc (suc n)))))))) = added_above f (suc (suc (suc (suc (suc (suc (suc (suc n)))))))) (omega arith)
 
 any_last : (k : ℕ) (ps : List ℕ) (p : ℕ) → list_any (λ q. q == k) (ps ++ p ∷ []) ≡ (list_any (λ q. q == k) ps || (p == k))
-any_last k ps p = list_any-append (λ q. q == k) ps (p ∷ []) ∙ ap (λ b. list_any (λ q. q == k) ps || b) (or_false (p == k))
+any_last k ps p = list_any-append (λ q. q == k) ps (p ∷ []) ∙ ap (λ b. list_any (λ q. q == k) ps || b) (or-false (p == k))
 
 pub set_more : (ps : List ℕ) (p : ℕ) → with_place (set_of ps) p ≡ set_of (ps ++ p ∷ [])
 set_more ps p = added (λ k. list_any (λ q. q == k) ps) p ∙ (λ i. map (λ k. sym (any_last k ps p) i) eights)

@@ -1,10 +1,10 @@
 -- In a proper list the changes of one tuple are: its insert first, then updates, its delete last.
+use Rattle.std.proofs.Math.Bool.{or-false}
 use Rattle.std.proofs.Common.{◌≡◌, ℕ, ◌+◌, ◌<◌, ◌≤◌, Bool, true, false, cond, not, ◌&&◌, ◌||◌, ◌==◌, List, [], ◌∷◌, ◌++◌, map, filter, Some, IsSome, refl, sym, ◌∙◌, inl, inr, subst, ap, arith}
 use Rattle.std.specs.Prelude.{find, option_map}
 use Rattle.std.specs.List.{list_any}
-use Rattle.std.proofs.lemmas.Bool.{true≢false, eqb-true, eq-eqb}
+use Rattle.std.proofs.lemmas.Bool.{true≢false, eqb-true, eq-eqb, false≢true, and_from, or_cases, or_right}
 use Rattle.std.proofs.lemmas.List.Folds.{list_any-append}
-use Rattle.sb_value.proofs.Booleans.{no_way, and_both, or_cases, or_second}
 use Rattle.sb_value.specs.declared.value.Value.{Value}
 use Rattle.sb_value.specs.declared.change.Change.{Change}
 use Rattle.sb_value.specs.declared.change.Kind.{Kind}
@@ -20,7 +20,7 @@ abbrev has_row : ℕ → List Numbered → Bool
 has_row k rows = list_any (λ r. r.0 == k) rows
 
 below_has : (n k : ℕ) (rows : List Numbered) → AreBelow n rows → has_row k rows ≡ true → k < n
-below_has n k [] b h = no_way h
+below_has n k [] b h = absurd (false≢true h)
 below_has n k (r ∷ rows) b h =
     elim (or_cases (r.0 == k) (has_row k rows) h) [
       | inl here ↦ subst (λ x. x < n) (eqb-true r.0 k here) b.0
@@ -28,7 +28,7 @@ below_has n k (r ∷ rows) b h =
     ]
 
 has_found : (k : ℕ) (rows : List Numbered) → IsSome (option_map (λ r. r.1) (find (λ r. r.0 == k) rows)) → has_row k rows ≡ true
-has_found k [] s = no_way s
+has_found k [] s = absurd (false≢true s)
 has_found k (r ∷ rows) s =
     elim (r.0 == k) as (λ b. IsSome (option_map (λ q. q.1) (cond b (Some r) (find (λ q. q.0 == k) rows))) → (b || has_row k rows) ≡ true) [
       | true ↦ λ _. refl
@@ -93,15 +93,11 @@ Stands Inserted t k = has_row k t.rows ≡ true
 Stands Updated t k = has_row k t.rows ≡ true
 Stands Deleted t k = (has_row k t.rows ≡ false) × (k < t.next)
 
-or-false : (a : Bool) → (a || false) ≡ a
-or-false true = refl
-or-false false = refl
-
 has_inserted : (k : ℕ) (c : Change) (t : Table) → has_row k (after_kind Inserted c t).rows ≡ (has_row k t.rows || (t.next == k))
 has_inserted k c t = list_any-append (λ r. r.0 == k) t.rows ((t.next, new_row c) ∷ []) ∙ ap (λ b. has_row k t.rows || b) (or-false (t.next == k))
 
 stands_after : (kind : Kind) (c : Change) (t : Table) → AreBelow t.next t.rows → fits_kind kind c t → Stands kind (after_kind kind c t) c.tuple
-stands_after Inserted c t b f = has_inserted c.tuple c t ∙ or_second (has_row c.tuple t.rows) (t.next == c.tuple) (eq-eqb t.next c.tuple (sym f.0))
+stands_after Inserted c t b f = has_inserted c.tuple c t ∙ or_right (has_row c.tuple t.rows) (t.next == c.tuple) (eq-eqb t.next c.tuple (sym f.0))
 stands_after Deleted c t b f =
     (has-without c.tuple t.rows, below_has t.next c.tuple t.rows b (has_found c.tuple t.rows (subst IsSome (sym f.0) f.1)))
 stands_after Updated c t b f = has-map c.tuple c.tuple (new_row c) t.rows ∙ has_found c.tuple t.rows (subst IsSome (sym f.0) f.1)
@@ -139,7 +135,7 @@ follows Deleted Deleted c t b f h = absurd (true≢false (sym (has_found c.tuple
 -- ---- a table among the tables
 
 table_after : (c : Change) (tables : List Entry) → has_table tables c.table ≡ true → table_at (after c tables) c.table ≡ after_change c (table_at tables c.table)
-table_after c [] h = no_way h
+table_after c [] h = absurd (false≢true h)
 table_after c (e ∷ es) h =
     elim (e.id == c.table) as (λ b. (e.id == c.table) ≡ b → (b || has_table es c.table) ≡ true
     → table_at ((let q : Entry = cond b (record e { table = after_change c e.table }) e in q) ∷ after c es) c.table ≡ after_change c (cond b e.table (table_at es c.table))) [
@@ -166,7 +162,7 @@ may_begin s (d ∷ ds) = may_follow s d.kind
 
 life_on : (c : Change) (h : List Change) → may_begin c.kind h ≡ true → is_life h ≡ true → is_life (c ∷ h) ≡ true
 life_on c [] m l = refl
-life_on c (d ∷ ds) m l = and_both (may_follow c.kind d.kind) (is_life (d ∷ ds)) m l
+life_on c (d ∷ ds) m l = and_from (may_follow c.kind d.kind) (is_life (d ∷ ds)) m l
 
 -- the rest of the list, from the table that the first change leaves
 abbrev Goes : Table → ℕ → List Change → Type 0

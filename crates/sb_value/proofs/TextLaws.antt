@@ -1,4 +1,5 @@
 -- The text of a value reads back as the value.
+use Rattle.std.proofs.lemmas.Bool.{and_parts}
 use Rattle.std.proofs.Common.{◌≡◌, ℕ, suc, ◌-◌, ◌^◌, ◌<◌, ◌≤◌, Bool, true, false, ◌&&◌, nat_eq, nat_le, List, [], ◌∷◌, ◌++◌, length, Option, Some, Ok, pos, negsuc, neg_ℤ, refl, sym, ap, ◌∙◌, arith, length-append, ne_eqb, le-ltb, leb-true, eqb-true, rules, lit<, ℤ}
 use Rattle.std.specs.Option.{option_map}
 use Rattle.std.specs.List.{flat_map, list_all, AllPass}
@@ -55,17 +56,13 @@ unsigned_of-decimal : (ds : List ℕ) (n : ℕ) → 0 < length ds → list_all i
 unsigned_of-decimal [] n some all value = absurd (omega arith)
 unsigned_of-decimal (d ∷ ds) n some all value = rw all (ap Some value)
 
-first-true : (a b : Bool) → (a && b) ≡ true → a ≡ true
-first-true true b h = refl
-first-true false b h = h
-
 no_digit : (d c : ℕ) → is_ascii_digit d ≡ true → c < 48 → nat_eq d c ≡ false
-no_digit d c h low = let least : 48 ≤ d = leb-true 48 d (first-true (nat_le 48 d) (nat_le d 57) h) in ne_eqb d c (λ e. absurd (omega arith))
+no_digit d c h low = let least : 48 ≤ d = leb-true 48 d (and_parts (nat_le 48 d) (nat_le d 57) h).0 in ne_eqb d c (λ e. absurd (omega arith))
 
 literal_of-digits : (ds : List ℕ) (n : ℕ) → 0 < length ds → list_all is_ascii_digit ds ≡ true → digits_value 10 ds ≡ n → literal_of ds ≡ Some (Int (pos n))
 literal_of-digits [] n some all value = absurd (omega arith)
 literal_of-digits (d ∷ ds) n some all value =
-    let first : is_ascii_digit d ≡ true = first-true (is_ascii_digit d) (list_all is_ascii_digit ds) all in
+    let first : is_ascii_digit d ≡ true = (and_parts (is_ascii_digit d) (list_all is_ascii_digit ds) all).0 in
     rw (no_digit d 39 first (lit< tt), no_digit d 45 first (lit< tt)) (ap (option_map (λ m. Int (pos m))) (unsigned_of-decimal (d ∷ ds) n some all value))
 
 within : (z : ℤ) → IsInRange (Int z) → within_limits (Int z) ≡ Ok (Int z)
@@ -75,7 +72,7 @@ positive_below : (n : ℕ) → IsInRange (Int (pos n)) → n < 2 ^ 64
 positive_below n h = let most : n ≤ 2 ^ 63 - 1 = leb-true n (2 ^ 63 - 1) h in omega arith
 
 negative_below : (n : ℕ) → IsInRange (Int (negsuc n)) → suc n < 2 ^ 64
-negative_below n h = let most : n ≤ 2 ^ 63 - 1 = leb-true n (2 ^ 63 - 1) (first-true (nat_le n (2 ^ 63 - 1)) true h) in omega arith
+negative_below n h = let most : n ≤ 2 ^ 63 - 1 = leb-true n (2 ^ 63 - 1) (and_parts (nat_le n (2 ^ 63 - 1)) true h).0 in omega arith
 
 decimals_read : (n : ℕ) → n < 2 ^ 64 → unsigned_of (decimal n) ≡ Some n
 decimals_read n h = unsigned_of-decimal (decimal n) n (decimal_nonempty n h) (all_digits n h) (decimal_is_IsNumeral n h).1

@@ -1,9 +1,8 @@
 -- A rule that a list does not trigger and the list with one more change does has an operation of that change.
 use Rattle.std.proofs.Common.{◌≡◌, ℕ, Bool, true, false, cond, ◌&&◌, ◌||◌, ◌==◌, List, [], ◌∷◌, ◌++◌, Option, Some, None, refl, sym, ◌∙◌, inl, inr, subst, ap, nat_lt}
 use Rattle.std.specs.List.{list_any}
-use Rattle.std.proofs.lemmas.Bool.{true≢false, eqb-true}
+use Rattle.std.proofs.lemmas.Bool.{true≢false, eqb-true, false≢true, and_parts, or_cases, or_left, or_right, cases_Bool}
 use Rattle.std.proofs.lemmas.List.Elements.{filter-append}
-use Rattle.sb_value.proofs.Booleans.{no_way, and_left, or_cases, or_first, or_second, true_or_false}
 use Rattle.sb_value.proofs.NetLaws.{union-nil, net_of-append}
 use Rattle.sb_value.specs.Flags.{union, share_place}
 use Rattle.sb_value.specs.NetEffect.{is_of, history, net_between, net_of, net_effect, then_net, with_number, tuples_of, has_update, is_operation, is_triggered}
@@ -47,13 +46,13 @@ operation_of_second triggers None n h g = h
 operation_of_second triggers (Some m) None h g = absurd (true≢false (sym h ∙ g))
 operation_of_second triggers (Some (net.Inserted a)) (Some (net.Inserted b)) h g = h
 operation_of_second triggers (Some (net.Inserted a)) (Some (net.Updated old new columns)) h g = absurd (true≢false (sym h ∙ g))
-operation_of_second triggers (Some (net.Inserted a)) (Some (net.Deleted old)) h g = no_way h
-operation_of_second triggers (Some (net.Updated a b columns)) (Some (net.Inserted new)) h g = no_way h
+operation_of_second triggers (Some (net.Inserted a)) (Some (net.Deleted old)) h g = absurd (false≢true h)
+operation_of_second triggers (Some (net.Updated a b columns)) (Some (net.Inserted new)) h g = absurd (false≢true h)
 operation_of_second triggers (Some (net.Updated a b columns)) (Some (net.Updated old new more)) h g =
     update_of_union triggers.updated (share_place triggers.columns columns) (share_place triggers.columns more)
     (subst (λ s. (triggers.updated || s) ≡ true) (share_place-union triggers.columns columns more) h) g
 operation_of_second triggers (Some (net.Updated a b columns)) (Some (net.Deleted old)) h g = h
-operation_of_second triggers (Some (net.Deleted a)) (Some n) h g = no_way h
+operation_of_second triggers (Some (net.Deleted a)) (Some n) h g = absurd (false≢true h)
 
 operation_of_one : (triggers : Triggers) (k : Kind) (c : Change) → is_operation triggers (net_between k k c c (union c.columns [])) ≡ true → kind_triggers k triggers c ≡ true
 operation_of_one triggers Inserted c h = h
@@ -64,32 +63,32 @@ operation_of_one triggers Updated c h = subst (λ xs. has_update triggers xs ≡
 
 module _ (p : ℕ → Bool) where
   added : (n : ℕ) (ms : List ℕ) → p n ≡ true → list_any p (with_number n ms) ≡ true
-  added n [] h = or_first (p n) false h
+  added n [] h = or_left (p n) false h
   added n (m ∷ ms) h =
       elim (n == m) as (λ b. (n == m) ≡ b → list_any p (cond b (m ∷ ms) (cond (nat_lt n m) (n ∷ m ∷ ms) (m ∷ with_number n ms))) ≡ true) [
-        | true ↦ λ e. or_first (p m) (list_any p ms) (subst (λ x. p x ≡ true) (eqb-true n m e) h)
+        | true ↦ λ e. or_left (p m) (list_any p ms) (subst (λ x. p x ≡ true) (eqb-true n m e) h)
         | false ↦ λ _. elim (nat_lt n m) as (λ b. list_any p (cond b (n ∷ m ∷ ms) (m ∷ with_number n ms)) ≡ true) [
-          | true ↦ or_first (p n) (list_any p (m ∷ ms)) h
-          | false ↦ or_second (p m) (list_any p (with_number n ms)) (added n ms h)
+          | true ↦ or_left (p n) (list_any p (m ∷ ms)) h
+          | false ↦ or_right (p m) (list_any p (with_number n ms)) (added n ms h)
         ]
       ] refl
 
   kept : (n : ℕ) (ms : List ℕ) → list_any p ms ≡ true → list_any p (with_number n ms) ≡ true
-  kept n [] h = no_way h
+  kept n [] h = absurd (false≢true h)
   kept n (m ∷ ms) h =
       elim (n == m) as (λ b. list_any p (cond b (m ∷ ms) (cond (nat_lt n m) (n ∷ m ∷ ms) (m ∷ with_number n ms))) ≡ true) [
         | true ↦ h
         | false ↦ elim (nat_lt n m) as (λ b. list_any p (cond b (n ∷ m ∷ ms) (m ∷ with_number n ms)) ≡ true) [
-          | true ↦ or_second (p n) (list_any p (m ∷ ms)) h
+          | true ↦ or_right (p n) (list_any p (m ∷ ms)) h
           | false ↦ elim (or_cases (p m) (list_any p ms) h) [
-            | inl here ↦ or_first (p m) (list_any p (with_number n ms)) here
-            | inr there ↦ or_second (p m) (list_any p (with_number n ms)) (kept n ms there)
+            | inl here ↦ or_left (p m) (list_any p (with_number n ms)) here
+            | inr there ↦ or_right (p m) (list_any p (with_number n ms)) (kept n ms there)
           ]
         ]
       ]
 
   listed : (triggers : Triggers) (table k : ℕ) → p k ≡ true → (xs : List Change) → is_operation triggers (net_of (history xs table k)) ≡ true → list_any p (tuples_of xs table) ≡ true
-  listed triggers table k h [] g = no_way g
+  listed triggers table k h [] g = absurd (false≢true g)
   listed triggers table k h (c ∷ cs) g =
       elim (c.table == table) as (λ b. is_operation triggers (net_of (cond (b && (c.tuple == k)) (c ∷ history cs table k) (history cs table k))) ≡ true
       → list_any p (cond b (with_number c.tuple (tuples_of cs table)) (tuples_of cs table)) ≡ true) [
@@ -102,7 +101,7 @@ module _ (p : ℕ → Bool) where
       ] g
 
   some_of : (ks : List ℕ) → list_any p ks ≡ true → (k : ℕ) × (p k ≡ true)
-  some_of [] h = no_way h
+  some_of [] h = absurd (false≢true h)
   some_of (k ∷ ks) h = elim (or_cases (p k) (list_any p ks) h) [ inl here ↦ (k, here) | inr there ↦ some_of ks there ]
 
 triggered_by : (triggers : Triggers) (table k : ℕ) (xs : List Change) → is_operation triggers (net_effect xs table k) ≡ true → is_triggered triggers table xs ≡ true
@@ -116,10 +115,10 @@ append-nil (x ∷ xs) = ap (λ ys. x ∷ ys) (append-nil xs)
 
 module _ (triggers : Triggers) (table : ℕ) (xs : List Change) (c : Change) (quiet : is_triggered triggers table xs ≡ false) where
   untriggered : (k : ℕ) → is_operation triggers (net_effect xs table k) ≡ true → {A : Type 0} → A
-  untriggered k h = no_way (sym quiet ∙ triggered_by triggers table k xs h)
+  untriggered k h = absurd (false≢true (sym quiet ∙ triggered_by triggers table k xs h))
 
   quiet_at : (k : ℕ) → is_operation triggers (net_effect xs table k) ≡ false
-  quiet_at k = elim (true_or_false (is_operation triggers (net_effect xs table k))) [ inl h ↦ untriggered k h | inr h ↦ h ]
+  quiet_at k = elim (cases_Bool (is_operation triggers (net_effect xs table k))) [ inl h ↦ untriggered k h | inr h ↦ h ]
 
   at_tuple : (k : ℕ) → is_life (history xs table k ++ history (c ∷ []) table k) ≡ true
       → is_operation triggers (net_of (history xs table k ++ history (c ∷ []) table k)) ≡ true → (c.table ≡ table) × (kind_triggers c.kind triggers c ≡ true)
@@ -127,7 +126,7 @@ module _ (triggers : Triggers) (table : ℕ) (xs : List Change) (c : Change) (qu
       elim (is_of table k c) as (λ b. is_of table k c ≡ b → is_life (history xs table k ++ cond b (c ∷ []) []) ≡ true
       → is_operation triggers (net_of (history xs table k ++ cond b (c ∷ []) [])) ≡ true → (c.table ≡ table) × (kind_triggers c.kind triggers c ≡ true)) [
         | true ↦ λ e life h. (
-          eqb-true c.table table (and_left (c.table == table) (c.tuple == k) e),
+          eqb-true c.table table (and_parts (c.table == table) (c.tuple == k) e).0,
           operation_of_one triggers c.kind c (operation_of_second triggers (net_effect xs table k) (net_of (c ∷ []))
               (subst (λ n. is_operation triggers n ≡ true) (net_of-append (history xs table k) (c ∷ []) life) h) (quiet_at k)),
         )

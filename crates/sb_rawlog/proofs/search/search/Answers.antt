@@ -1,11 +1,11 @@
 use Rattle.std.proofs.Common.{◌<◌, ℕ, Option, nat_le, sym, ap, ◌∙◌, subst}
-use Rattle.std.proofs.lemmas.Bool.{le-leb}
+use Rattle.std.proofs.lemmas.Bool.{le-leb, and_right, and_from}
 use Rattle.sb_rawlog.specs.Links.{link_of, link_in}
 use Rattle.sb_rawlog.proofs.Chains.{node_within}
 use Rattle.sb_rawlog.specs.Buckets.{list_of}
 use Rattle.sb_rawlog.specs.Keys.{fits}
 use Rattle.sb_rawlog.specs.Search.{selects, Hit}
-use Rattle.sb_rawlog.proofs.Ahead.{Ahead, left, starts, ends, is_node, goes_on, finds, too_old, not_both, both}
+use Rattle.sb_rawlog.proofs.Ahead.{Ahead, left, starts, ends, is_node, goes_on, finds, too_old}
 use Rattle.sb_rawlog.proofs.search.search.Goals as goal
 
 pub steps-init : goal.steps-init
@@ -35,13 +35,13 @@ returns-then-fits c = λ top ps h.
     let good = sym c.fits.ensures ∙ c.if-fits.true in
     subst (Hit p c.args.since c.args.arena.now ps) (sym c.spot_for.ensures)
     (finds w p c.args.since c.args.arena.now c.args.head c.in-Some.place n (sym c.in-Some-get.ensures) (subst (Ahead w (selects p c.args.since) c.args.arena.now c.args.head) c.in-Some.is c.steps.invariant)
-    good (both (nat_le c.args.since n.time) (p n.item) (le-leb c.args.since n.time c.if-node-since.false) good) top ps h)
+    good (and_from (nat_le c.args.since n.time) (p n.item) (le-leb c.args.since n.time c.if-node-since.false) good) top ps h)
 
 pub steps-smaller : goal.steps-smaller
 steps-smaller c =
     let w = list_of c.args.key.now in let p = fits c.args.key.now in let n = c.in-Some-get.node.now in
     let on = goes_on w p c.args.since c.args.arena.now c.args.head c.in-Some.place n (sym c.in-Some-get.ensures)
-    (subst (Ahead w (selects p c.args.since) c.args.arena.now c.args.head) c.in-Some.is c.steps.invariant) (not_both (nat_le c.args.since n.time) (p n.item) (sym c.fits.ensures ∙ c.if-fits.false)) in
+    (subst (Ahead w (selects p c.args.since) c.args.arena.now c.args.head) c.in-Some.is c.steps.invariant) (and_right (nat_le c.args.since n.time) (p n.item) (sym c.fits.ensures ∙ c.if-fits.false)) in
     let next = ap (link_in w) (sym c.in-Some-get.ensures) ∙ ap (λ l. link_of l n.links) (sym c.list-list.ensures) ∙ sym c.get-at.ensures in
     subst (λ (k : Option ℕ × Option ℕ). left c.args.arena.now k.0 < left c.args.arena.now k.1) (λ j. (next j, sym c.in-Some.is j)) on.1
 
@@ -49,7 +49,7 @@ pub steps-preserved : goal.steps-preserved
 steps-preserved c =
     let w = list_of c.args.key.now in let p = fits c.args.key.now in let n = c.in-Some-get.node.now in
     let on = goes_on w p c.args.since c.args.arena.now c.args.head c.in-Some.place n (sym c.in-Some-get.ensures)
-    (subst (Ahead w (selects p c.args.since) c.args.arena.now c.args.head) c.in-Some.is c.steps.invariant) (not_both (nat_le c.args.since n.time) (p n.item) (sym c.fits.ensures ∙ c.if-fits.false)) in
+    (subst (Ahead w (selects p c.args.since) c.args.arena.now c.args.head) c.in-Some.is c.steps.invariant) (and_right (nat_le c.args.since n.time) (p n.item) (sym c.fits.ensures ∙ c.if-fits.false)) in
     let next = ap (link_in w) (sym c.in-Some-get.ensures) ∙ ap (λ l. link_of l n.links) (sym c.list-list.ensures) ∙ sym c.get-at.ensures in
     subst (Ahead w (selects p c.args.since) c.args.arena.now c.args.head) next on.0
 

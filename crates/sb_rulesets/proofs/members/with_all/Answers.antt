@@ -1,7 +1,8 @@
+use Rattle.std.proofs.Math.Bool.{or-true, or-false}
 use Rattle.std.proofs.Common.{◌≡◌, ◌∙◌, ◌||◌, true, ap, sym, refl, drop, set, get_or, ◌+◌, ℕ}
 use Rattle.std.proofs.lemmas.List.{get_or_default, at_drop_all}
 use Rattle.sb_rulesets.specs.Members.{with_rules}
-use Rattle.sb_rulesets.proofs.Marks.{marked-none, marked-more, or-true, or-false}
+use Rattle.sb_rulesets.proofs.Marks.{marked-none, marked-more}
 use Rattle.sb_rulesets.proofs.members.with_all.Goals as goal
 
 -- one more rule is marked
