@@ -1,6 +1,6 @@
 -- What the grammar has, the reader reads.
 use Rattle.std.proofs.Common.{◌∙◌, sym, ◌≡◌, ◌≤◌, ◌^◌, ◌&&◌, ℕ, Bool, true, false, cond, List, ◌∷◌, length, Option, Some, None, ap, refl, arith}
-use Rattle.std.proofs.lemmas.Bool.{lt-ltb, le-leb}
+use Rattle.std.proofs.lemmas.Bool.{lt-ltb, le-leb, and_from}
 use Rattle.std.proofs.lemmas.List.Sums.{list_all-from_AllPass}
 use Rattle.sb_value.specs.Printable.{is_printable}
 use Rattle.sb_value.specs.declared.value.Value.{Value}
@@ -26,10 +26,6 @@ use Rattle.sb_syntax.proofs.Turns.{goes_on-end}
 use Rattle.sb_syntax.proofs.TokenLaws.{Reads, is-kind, is-sees, is-other, is-next, is-shorter, is-expect, differs}
 use Rattle.sb_syntax.proofs.Loops.{chained-start, goes_on-token, separated_to-reads}
 
-both_true : (a b : Bool) → a ≡ true → b ≡ true → (a && b) ≡ true
-both_true true b p q = q
-both_true false b p q = cc
-
 given : {A : Type 0} (b : Bool) (x : A) (ts : Input) → b ≡ true → cond {A = Option (A × Input)} b (Some (x, ts)) None ≡ Some (x, ts)
 given b x ts e = ap (λ c. cond c (Some (x, ts)) None) e
 
@@ -39,7 +35,7 @@ mapped f p x ts rest d = (ap (λ o. and_then o (λ x mid. Some (f x, mid))) d.0,
 
 pub name-reads : (n : Name) (ts rest : Input) → IsName n ts rest → Reads r.name n ts rest
 unfolding r.name r.bytes_of same_kind
-name-reads n ts rest (g.name lt le) = (given _ n rest (both_true _ _ (lt-ltb _ _ lt) (le-leb _ _ le)), omega arith)
+name-reads n ts rest (g.name lt le) = (given _ n rest (and_from _ _ (lt-ltb _ _ lt) (le-leb _ _ le)), omega arith)
 
 minus-no_integer : same_kind k.Minus k.Integer ≡ false
 unfolding same_kind
@@ -57,7 +53,7 @@ minus-reads ts rest digits is le =
 pub literal-reads : (v : Value) (ts rest : Input) → IsLiteral v ts rest → Reads r.literal_value v ts rest
 unfolding r.literal_value r.integer r.minus r.text r.bytes_of r.sees same_kind
 literal-reads v ts rest (g.integer lt) = (given _ _ rest (lt-ltb _ _ lt), omega arith)
-literal-reads v ts rest (g.text {quoted = quoted} le all) = (given _ _ rest (both_true _ _ (le-leb _ _ le) (list_all-from_AllPass is_printable (unquoted quoted) all)), omega arith)
+literal-reads v ts rest (g.text {quoted = quoted} le all) = (given _ _ rest (and_from _ _ (le-leb _ _ le) (list_all-from_AllPass is_printable (unquoted quoted) all)), omega arith)
 literal-reads v ts rest (g.minus {digits = digits} is le) = minus-reads ts rest digits is le
 
 -- ---- tables and columns

@@ -18,3 +18,4 @@ pub mod Starts
 pub mod TextLaws
 pub mod Worked
 pub mod Plain
+pub mod Spelling

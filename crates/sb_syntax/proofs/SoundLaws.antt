@@ -2,7 +2,7 @@
 use Rattle.std.proofs.Common.{◌≡◌, ◌≤◌, ◌<◌, ◌^◌, ◌&&◌, ◌⊎◌, inl, inr, ℕ, pos, Bool, true, false, cond, List, [], ◌∷◌, length, nat_lt, nat_le, Option, Some, None, sym, refl, subst}
 use Rattle.std.specs.List.{list_all, AllPass}
 use Rattle.std.proofs.lemmas.Option.{same_Some}
-use Rattle.std.proofs.lemmas.Bool.{ltb-true, leb-true}
+use Rattle.std.proofs.lemmas.Bool.{ltb-true, leb-true, and_parts}
 use Rattle.sb_value.specs.Printable.{is_printable}
 use Rattle.sb_value.specs.declared.value.Value.{Value}
 use Rattle.sb_value.specs.declared.value.Value.TheVariants.{Int, Text}
@@ -30,10 +30,6 @@ use Rattle.sb_syntax.proofs.Loops.{same_read, chained-sound, separated_to-sound}
 abbrev pub Sound : {A : Type 0} → Reader A → (A → Input → Input → Type 0) → Type 0
 Sound {A = A} p P = (x : A) (ts rest : Input) → p ts ≡ Some (x, rest) → P x ts rest
 
-two : (a b : Bool) → (a && b) ≡ true → (a ≡ true) × (b ≡ true)
-two true b e = (refl, e)
-two false b e = absurd (cc)
-
 -- a view of what was read
 pub mapped-sound : {A B : Type 0} (f : A → B) (p : Reader A) (P : A → Input → Input → Type 0) (Q : B → Input → Input → Type 0) → ((x : A) (ts rest : Input) → P x ts rest → Q (f x) ts rest) → Sound p P → Sound (p >>= λ x. pure (f x)) Q
 mapped-sound f p P Q up sound y ts rest e =
@@ -48,7 +44,7 @@ unfolding r.name
 name-sound n ts rest e =
     let s = two_steps (bytes_of k.Name ts) (λ n mid. cond (nat_lt 0 (length n) && nat_le (length n) 32) (Some (n, mid)) None) (n, rest) e in
     let p = guarded_pair _ s.0 n s.1 rest s.3 in
-    let q = two _ _ p.0 in
+    let q = and_parts _ _ p.0 in
     subst (λ (m : List ℕ). IsName m ts rest) p.1 (name-has s.0 ts rest (subst (λ (x : Input). Has k.Name s.0 ts x) p.2 (bytes_of-has k.Name ts s.1 s.0 s.2)) (ltb-true _ _ q.0) (leb-true _ _ q.1))
 
 integer-has : (digits : List ℕ) (ts rest : Input) → Has k.Integer digits ts rest → decimal digits < 2 ^ 63 → IsLiteral (Int (pos (decimal digits))) ts rest
@@ -80,7 +76,7 @@ unfolding r.text
 text-sound v ts rest e =
     let s = two_steps (bytes_of k.Text ts) (λ quoted mid. cond (nat_le (length (unquoted quoted)) 255 && list_all is_printable (unquoted quoted)) (Some (Text (unquoted quoted), mid)) None) (v, rest) e in
     let p = guarded_pair _ _ v s.1 rest s.3 in
-    let q = two _ _ p.0 in
+    let q = and_parts _ _ p.0 in
     subst (λ (w : Value). IsLiteral w ts rest) p.1 (text-has s.0 ts rest (subst (λ (x : Input). Has k.Text s.0 ts x) p.2 (bytes_of-has k.Text ts s.1 s.0 s.2)) (leb-true _ _ q.0) (printable _ q.1))
 
 pub literal-sound : Sound r.literal_value IsLiteral

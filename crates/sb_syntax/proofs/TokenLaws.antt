@@ -1,6 +1,6 @@
 -- Tokens: what a test on them says, and what a token's presence decides.
 use Rattle.std.proofs.Common.{◌≡◌, ◌≤◌, ◌<◌, ℕ, Bool, true, false, cond, List, [], ◌∷◌, length, Option, Some, None, ap, sym, ◌∙◌, refl, subst, inl, inr, ◌⊎◌, rules, arith}
-use Rattle.std.proofs.lemmas.Option.{same_Some}
+use Rattle.std.proofs.lemmas.Option.{same_Some, cond_some}
 use denote.Enum.Bare.{same_true, true_same}
 use Rattle.sb_syntax.specs.declared.kind.Kind.{Kind}
 use Rattle.sb_syntax.specs.contracts.kind.Kind.{the_type}
@@ -20,13 +20,9 @@ pub chosen : {A : Type 0} (b : Bool) (x y : Option A) (z : A) → cond b x y ≡
 chosen true x y z e = inl (refl, e)
 chosen false x y z e = inr (refl, e)
 
-pub guarded : {A : Type 0} (b : Bool) (x z : A) → cond b (Some x) None ≡ Some z → (b ≡ true) × (x ≡ z)
-guarded true x z e = (refl, same_Some x z e)
-guarded false x z e = cc
-
 pub guarded_pair : {A : Type 0} (b : Bool) (x z : A) (ts rest : Input) → cond {A = Option (A × Input)} b (Some (x, ts)) None ≡ Some (z, rest) → (b ≡ true) × (x ≡ z) × (ts ≡ rest)
 guarded_pair {A = A} b x z ts rest e =
-    let p = guarded b (x, ts) (z, rest) e in
+    let p = cond_some b (x, ts) (z, rest) e in
     (p.0, ap (λ (q : A × Input). q.0) p.1, ap (λ (q : A × Input). q.1) p.1)
 
 pub same_kind-true : (a b : Kind) → same_kind a b ≡ true → a ≡ b

@@ -1,6 +1,6 @@
 -- The function finds each token.
 use Rattle.std.proofs.Common.{◌≡◌, ◌≤◌, ◌+◌, ◌==◌, ◌&&◌, ◌||◌, ℕ, suc, Bool, true, false, cond, List, [], ◌∷◌, ◌++◌, length, drop, take, Option, Some, None, option_map, nat_le, is_some, refl, ap, sym, ◌∙◌, subst, inl, inr, append_assoc, arith}
-use Rattle.std.proofs.lemmas.Bool.{ne_eqb, eqb-true, leb-true, le-leb}
+use Rattle.std.proofs.lemmas.Bool.{ne_eqb, eqb-true, leb-true, le-leb, and_from, and_parts}
 use Rattle.sb_value.specs.Printable.{is_printable}
 use Rattle.sb_syntax.specs.declared.kind.Kind.{Kind}
 use Rattle.sb_syntax.specs.declared.kind.Kind.TheVariants as k
@@ -9,14 +9,14 @@ use Rattle.sb_syntax.specs.Lex.{IsToken, AreTokens, is_letter, is_digit, is_word
 use Rattle.sb_syntax.specs.Scan.{token_at, word_at, word_by, integer_at, text_at, text_by, closing, longer, symbol_at, symbol_by}
 use Rattle.sb_syntax.proofs.TokenSound.{begins-transition}
 use Rattle.sb_syntax.proofs.TokenLaws.{chosen}
-use Rattle.sb_syntax.proofs.Bytes.{both_true, two_true, run-all, front, no_letter, letter-word}
+use Rattle.sb_syntax.proofs.Bytes.{run-all, front, no_letter, letter-word}
 
 -- ---- words
 
 word-reads : (b : ℕ) (bs rest : List ℕ) → is_letter b ≡ true → all is_word bs ≡ true → begins is_word rest ≡ false → transition (b ∷ bs ++ rest) ≡ None → word_at (b ∷ bs ++ rest) ≡ Some (word_kind (b ∷ bs), length (b ∷ bs))
 unfolding word_at
 word-reads b bs rest letter words ends none =
-    let e = run-all is_word (b ∷ bs) rest (both_true _ _ (letter-word b letter) words) ends in
+    let e = run-all is_word (b ∷ bs) rest (and_from _ _ (letter-word b letter) words) ends in
     ap (word_by (b ∷ bs ++ rest)) none ∙ ap (λ n. Some (word_kind (take n (b ∷ bs ++ rest)), n)) e ∙ ap (λ xs. Some (word_kind xs, suc (length bs))) (front (b ∷ bs) rest)
 
 pub letter-at : (b : ℕ) (bs : List ℕ) → is_letter b ≡ true → token_at (b ∷ bs) ≡ word_at (b ∷ bs)
@@ -37,7 +37,7 @@ digit-no_letter : (b : ℕ) → is_digit b ≡ true → is_letter b ≡ false
 digit-no_letter b e = go (nat_le 97 b) refl
   where
     small : b ≤ 57
-    small = leb-true b 57 (two_true (nat_le 48 b) (nat_le b 57) e).1
+    small = leb-true b 57 (and_parts (nat_le 48 b) (nat_le b 57) e).1
 
     go : (t : Bool) → nat_le 97 b ≡ t → ((nat_le 97 b && nat_le b 122) || b == 95) ≡ false
     go true f = let s = small in let g = leb-true 97 b f in absurd (omega arith)
@@ -47,7 +47,7 @@ integer-reads : (b : ℕ) (bs rest : List ℕ) → is_digit b ≡ true → all i
 unfolding integer_at
 integer-reads b bs rest digit digits ends =
     let s = no_letter rest ends in
-    let e = run-all is_digit (b ∷ bs) rest (both_true _ _ digit digits) s.1 in
+    let e = run-all is_digit (b ∷ bs) rest (and_from _ _ digit digits) s.1 in
     let d : drop (suc (length bs)) (b ∷ bs ++ rest) ≡ rest = dropped (b ∷ bs) rest in
     ap (λ n. cond (begins is_letter (drop n (b ∷ bs ++ rest))) None (Some (k.Integer, n))) e ∙ ap (λ xs. cond (begins is_letter xs) None (Some (k.Integer, suc (length bs)))) d
     ∙ ap (λ t. cond t None (Some (k.Integer, suc (length bs)))) s.0
@@ -68,14 +68,14 @@ one_more_byte b (c ∷ bs) e p = rw (e, p) refl
 
 closing-reads : (value rest : List ℕ) → all is_printable value ≡ true → begins (λ b. b == 39) rest ≡ false → closing (doubled value ++ 39 ∷ rest) ≡ Some (length value, length (doubled value ++ 39 ∷ []))
 closing-reads [] rest print ends = closes rest ends
-closing-reads (b ∷ value) rest print ends = go (b == 39) refl (closing-reads value rest (two_true _ _ print).1 ends)
+closing-reads (b ∷ value) rest print ends = go (b == 39) refl (closing-reads value rest (and_parts _ _ print).1 ends)
   where
     go : (t : Bool) → (b == 39) ≡ t → closing (doubled value ++ 39 ∷ rest) ≡ Some (length value, length (doubled value ++ 39 ∷ [])) → closing (cond t (39 ∷ 39 ∷ doubled value) (b ∷ doubled value) ++ 39 ∷ rest) ≡ Some (suc (length value), length (cond t (39 ∷ 39 ∷ doubled value) (b ∷ doubled value) ++ 39 ∷ []))
     go true is h = ap (longer 2) h ∙ counted 2 (length value) (length (doubled value ++ 39 ∷ [])) _ _ (omega arith) (omega arith)
       where
         counted : (k l n m j : ℕ) → l + 1 ≡ m → n + k ≡ j → longer k (Some (l, n)) ≡ Some (m, j)
         counted k l n m j e f = rw (e, f) refl
-    go false is h = one_more_byte b (doubled value ++ 39 ∷ rest) is (two_true _ _ print).0 ∙ ap (longer 1) h ∙ counted 1 (length value) (length (doubled value ++ 39 ∷ [])) _ _ (omega arith) (omega arith)
+    go false is h = one_more_byte b (doubled value ++ 39 ∷ rest) is (and_parts _ _ print).0 ∙ ap (longer 1) h ∙ counted 1 (length value) (length (doubled value ++ 39 ∷ [])) _ _ (omega arith) (omega arith)
       where
         counted : (k l n m j : ℕ) → l + 1 ≡ m → n + k ≡ j → longer k (Some (l, n)) ≡ Some (m, j)
         counted k l n m j e f = rw (e, f) refl
@@ -105,7 +105,7 @@ one-symbol b kind e =
     (λ e. peel b 61 IsSymbol _ kind _ e (refl, refl, refl) (λ e. peel b 60 IsSymbol _ kind _ e (refl, refl, refl) (λ e. peel b 62 IsSymbol _ kind _ e (refl, refl, refl) (λ e. absurd (cc))))))))))))
 
 peel_two : (b c x y : ℕ) (P : ℕ → Type 0) (one kind : Kind) (more : Option Kind) → cond (b == x && c == y) (Some one) more ≡ Some kind → P x → (more ≡ Some kind → P b) → P b
-peel_two b c x y P one kind more e here there = elim (chosen (b == x && c == y) (Some one) more kind e) [ inl p ↦ subst P (sym (eqb-true b x (two_true _ _ p.0).0)) here | inr p ↦ there p.1 ]
+peel_two b c x y P one kind more e here there = elim (chosen (b == x && c == y) (Some one) more kind e) [ inl p ↦ subst P (sym (eqb-true b x (and_parts _ _ p.0).0)) here | inr p ↦ there p.1 ]
 
 two-symbol : (b c : ℕ) (kind : Kind) → two_bytes b c ≡ Some kind → IsSymbol b
 two-symbol b c kind e = peel_two b c 60 62 IsSymbol _ kind _ e (refl, refl, refl) (λ e. peel_two b c 60 61 IsSymbol _ kind _ e (refl, refl, refl) (λ e. peel_two b c 62 61 IsSymbol _ kind _ e (refl, refl, refl) (λ e. absurd (cc))))

@@ -1,7 +1,7 @@
 -- A token that the function finds is one.
 use Rattle.std.proofs.Common.{◌≡◌, ◌≤◌, ◌+◌, ◌==◌, ℕ, zero, suc, true, false, cond, List, [], ◌∷◌, ◌++◌, length, drop, take, Option, Some, None, option_map, nat_le, is_some, codes, refl, ap, sym, ◌∙◌, subst, inl, inr, ◌⊎◌, arith}
 use Rattle.std.specs.Str.{bytes_eq}
-use Rattle.std.proofs.lemmas.Bool.{eqb-true, leb-true}
+use Rattle.std.proofs.lemmas.Bool.{eqb-true, leb-true, and_from}
 use Rattle.std.proofs.lemmas.Option.{same_Some}
 use Rattle.sb_value.specs.Printable.{is_printable}
 use Rattle.sb_syntax.specs.declared.kind.Kind.{Kind}
@@ -12,7 +12,7 @@ use Rattle.sb_syntax.specs.Scan.{token_at, word_at, word_by, integer_at, text_at
 use Rattle.std.specs.List.{prefix_len}
 use Rattle.std.proofs.lemmas.List.Sums.{prefix_len-le-length}
 use Rattle.sb_syntax.proofs.TokenLaws.{chosen}
-use Rattle.sb_syntax.proofs.Bytes.{both_true, goes_on, all-run, run-ends, no_word, letter-word, same_bytes, length_front}
+use Rattle.sb_syntax.proofs.Bytes.{goes_on, all-run, run-ends, no_word, letter-word, same_bytes, length_front}
 
 -- the token of n bytes at the front
 abbrev Fits : Kind → ℕ → List ℕ → Type 0
@@ -114,7 +114,7 @@ closed_byte b bs len n m l other print h e f =
     subst (λ (j : ℕ). Closed (b ∷ bs) len j) g (record {
       value = b ∷ h.value;
       spelled = ap (λ xs. b ∷ xs) h.spelled ∙ sym (ap (λ t. cond t (39 ∷ 39 ∷ doubled h.value) (b ∷ doubled h.value) ++ 39 ∷ []) other);
-      printable = both_true _ _ print h.printable;
+      printable = and_from _ _ print h.printable;
       long = omega (arith, h.long);
       ends = h.ends;
       within = omega arith;

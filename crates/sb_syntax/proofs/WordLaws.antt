@@ -1,13 +1,13 @@
 -- Reserved words, looked up among those of their length.
 use Rattle.std.proofs.Common.{◌≡◌, ◌≤◌, ◌<◌, ◌+◌, ◌==◌, ℕ, zero, suc, Bool, true, false, cond, List, [], ◌∷◌, length, map, take, drop, ◌-◌, get_or, refl, ap, sym, ◌∙◌, arith, eq-eqb, nat_le, ◌&&◌}
 use Rattle.std.specs.Str.{bytes_eq}
-use Rattle.std.proofs.lemmas.Bool.{leb-true}
+use Rattle.std.proofs.lemmas.Bool.{leb-true, and_parts}
 use Rattle.std.specs.List.{take-map}
 use Rattle.sb_syntax.specs.declared.kind.Kind.{Kind}
 use Rattle.sb_syntax.specs.declared.kind.Kind.TheVariants as k
 use Rattle.sb_syntax.specs.declared.kind.TheConstants.{WORDS, STARTS}
 use Rattle.sb_syntax.specs.Lex.{lookup, reserved_words, word_kind}
-use Rattle.sb_syntax.proofs.Bytes.{same_bytes, two_true}
+use Rattle.sb_syntax.proofs.Bytes.{same_bytes}
 
 abbrev Words : Type 0
 Words = List (List ℕ × Kind)
@@ -42,7 +42,7 @@ all_short (w ∷ ws) = nat_le (length w.0) 10 && all_short ws
 too_long : (ws : Words) (word : List ℕ) → all_short ws ≡ true → 10 < length word → lookup ws word ≡ k.Name
 too_long [] word e lt = refl
 too_long (w ∷ ws) word e lt =
-    let p = two_true (nat_le (length w.0) 10) (all_short ws) e in
+    let p = and_parts (nat_le (length w.0) 10) (all_short ws) e in
     let l = leb-true (length w.0) 10 p.0 in
     ap (λ b. cond b w.1 (lookup ws word)) (other_bytes w.0 word (λ f. longer f l)) ∙ too_long ws word p.1 lt
   where

@@ -1,12 +1,17 @@
 -- Texts and commands.
-use Rattle.std.specs.Prelude.{◌≡◌, ◌≤◌, ℕ, List, length, Option, Some, None, Result, Ok, Err}
+use Rattle.std.specs.Prelude.{◌≡◌, ◌≤◌, ◌<◌, ◌^◌, ℕ, pos, negsuc, List, [], length, Option, Some, None, Result, Ok, Err}
+use Rattle.std.specs.List.{AllPass}
+use Rattle.sb_value.specs.Literal.{value_text}
+use Rattle.sb_value.specs.Printable.{is_printable}
+use Rattle.sb_value.specs.declared.value.Value.{Value}
+use Rattle.sb_value.specs.declared.value.Value.TheVariants.{Int, Text}
 use Rattle.sb_syntax.specs.declared.cursor.Token.{Token}
 use Rattle.sb_syntax.specs.declared.token.ParseError.{ParseError}
 use Rattle.sb_syntax.specs.declared.token.ParseError.TheVariants.{Syntax, NoMemory}
 use Rattle.sb_syntax.specs.Cursor.{lexemes}
 use Rattle.sb_syntax.specs.Lex.{AreTokens}
 use Rattle.sb_syntax.specs.Tree.{Command}
-use Rattle.sb_syntax.specs.Grammar.{IsCommand}
+use Rattle.sb_syntax.specs.Grammar.{IsCommand, IsLiteral}
 use Rattle.sb_syntax.specs.Input.{Input, same_kind}
 use Rattle.sb_syntax.specs.Lex as l
 use Rattle.sb_syntax.specs.Scan as s
@@ -47,3 +52,15 @@ abbrev pub Reading : {X A : Type 0} → (X → A) → Option A → ℕ → Resul
 Reading view read limit (Ok x) = read ≡ Some (view x)
 Reading view read limit (Err NoMemory) = Unit {0}
 Reading view read limit (Err (Syntax place)) = (read ≡ None) × (place ≤ limit)
+
+-- a value that a column may hold
+abbrev pub CanBeHeld : Value → Type 0
+CanBeHeld (Int (pos n)) = n < 2 ^ 63
+CanBeHeld (Int (negsuc n)) = n < 2 ^ 63
+CanBeHeld (Text bytes) = (length bytes ≤ 255) × AllPass is_printable bytes
+
+-- the text of the value, as replies have it, is made of tokens, and they are a literal of the value
+pub record SpellsItself (v : Value) : Type 0 where
+  pub tokens : List Token
+  pub are : AreTokens 0 (value_text v) tokens
+  pub spell : IsLiteral v (lexemes (value_text v) tokens) []

@@ -161,6 +161,7 @@ fn delete(alloc: Global, tokens: &mut Cursor<'_>) -> Result<Change, Fault>
     Ok(Change::Delete(table, filter))
 }
 
+/// A statement that changes rows, from its first word on.
 #[tactic(auto, unfolding(crate::specs::Reading::change))]
 pub fn change(alloc: Global, tokens: &mut Cursor<'_>) -> Result<Change, Fault>
     ensures { Gives view.change (spec.change tokens.old) result tokens.old tokens.new }

@@ -67,6 +67,7 @@ impl<'a> Model for Cursor<'a> {
 }
 
 impl<'a> Cursor<'a> {
+    /// A cursor before the first token.
     pub fn new(text: &'a [u8], tokens: &'a [Token]) -> Cursor<'a>
         requires { AllWithin text.now tokens.now }
         ensures { result ≡ lexemes text.now tokens.now }
@@ -97,6 +98,7 @@ impl<'a> Cursor<'a> {
         self.tokens.len()
     }
 
+    /// The kind of the next token.
     #[tactic(auto, unfolding(crate::specs::Reading::kind_at))]
     pub fn peek(&self) -> Option<Kind>
         ensures { result ≡ spec.kind_at self.now }
@@ -107,6 +109,7 @@ impl<'a> Cursor<'a> {
         }
     }
 
+    /// Whether the next token is of that kind.
     #[tactic(auto, unfolding(crate::specs::Reading::sees))]
     pub fn sees(&self, kind: Kind) -> bool
         ensures { result ≡ spec.sees kind self.now }
@@ -128,6 +131,7 @@ impl<'a> Cursor<'a> {
         }
     }
 
+    /// Takes the next token if it is of that kind, and says whether it did.
     #[tactic(auto, unfolding(crate::specs::Reading::sees, crate::specs::Reading::next))]
     pub fn eat(&mut self, kind: Kind) -> bool
         ensures found { result ≡ spec.sees kind self.old }
@@ -141,6 +145,7 @@ impl<'a> Cursor<'a> {
         found
     }
 
+    /// Takes the next token, which has to be of that kind.
     #[tactic(auto, unfolding(crate::specs::Reading::expect))]
     pub fn expect(&mut self, kind: Kind) -> Result<(), Fault>
         ensures { Gives (λ _. tt) (spec.expect kind self.old) result self.old self.new }

@@ -25,6 +25,7 @@ fn transition_of(kind: Option<Kind>) -> Option<TableReference>
     }
 }
 
+/// A table by its name, or a transition table.
 #[tactic(auto, unfolding(crate::specs::Reading::table, crate::specs::Reading::table_by))]
 pub fn table(tokens: &mut Cursor<'_>) -> Result<TableReference, Fault>
     ensures { Gives (λ t. t) (spec.table tokens.old) result tokens.old tokens.new }
@@ -129,6 +130,7 @@ fn term(alloc: Global, tokens: &mut Cursor<'_>) -> Result<Expr, Fault>
     Ok(left)
 }
 
+/// An expression: terms with `+` and `-` between them.
 #[tactic(auto, unfolding(crate::specs::Reading::expr))]
 pub fn expr(alloc: Global, tokens: &mut Cursor<'_>) -> Result<Expr, Fault>
     ensures { Gives view.expression (spec.expr tokens.old) result tokens.old tokens.new }

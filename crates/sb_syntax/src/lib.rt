@@ -22,4 +22,6 @@ pub use ast::{
 pub use command::{Action, Assignment, Change, Command, RuleText, Trigger};
 pub use cursor::Token;
 pub use kind::Kind;
-pub use token::{ParseError, command_of_is_the_grammar, one_command, parse, tokens};
+pub use token::{
+    ParseError, command_of_is_the_grammar, one_command, parse, tokens, values_spell_themselves,
+};

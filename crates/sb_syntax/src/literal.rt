@@ -13,6 +13,7 @@ use crate::kind::Kind;
 use sb_value::{NAME_LIMIT, Name, TEXT_LIMIT, Text, Value};
 use std::alloc::{AllocError, Global};
 
+/// A name.
 #[tactic(auto, unfolding(crate::specs::Reading::name))]
 pub fn name(tokens: &mut Cursor<'_>) -> Result<Name, Fault>
     ensures { Gives (λ n. n) (spec.name tokens.old) result tokens.old tokens.new }
@@ -36,6 +37,7 @@ pub fn name_after(tokens: &mut Cursor<'_>, kind: Kind) -> Result<Name, Fault>
     name(tokens)
 }
 
+/// Names with commas between them.
 #[tactic(auto, unfolding(crate::specs::Reading::names, crate::specs::Reading::separated))]
 pub fn names(alloc: Global, tokens: &mut Cursor<'_>) -> Result<Vec<Name>, Fault>
     ensures { Gives (λ v. v.items) (spec.names tokens.old) result tokens.old tokens.new }
@@ -206,6 +208,7 @@ fn text(alloc: Global, tokens: &mut Cursor<'_>) -> Result<Value, Fault>
     Ok(Value::Text(Text::new(bytes)))
 }
 
+/// An integer, with or without a sign, or a text in quotes.
 #[inline(always)]
 #[tactic(auto, unfolding(crate::specs::Reading::literal_value))]
 pub fn literal_value(alloc: Global, tokens: &mut Cursor<'_>) -> Result<Value, Fault>

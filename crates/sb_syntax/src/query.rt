@@ -90,6 +90,7 @@ fn subquery(alloc: Global, tokens: &mut Cursor<'_>, depth: usize) -> Result<Quer
     Ok(inner)
 }
 
+/// The right side of a comparison or an assignment: an expression, or a query in parentheses.
 #[cycle(query)]
 #[tactic(auto, unfolding(crate::specs::Reading::operand))]
 pub fn operand(alloc: Global, tokens: &mut Cursor<'_>, depth: usize) -> Result<Operand, Fault>
@@ -235,6 +236,7 @@ fn cond(
     Ok(left)
 }
 
+/// What stands behind `where`, if it is there.
 #[cycle(query)]
 #[tactic(auto, unfolding(crate::specs::Reading::filter))]
 pub fn filter(

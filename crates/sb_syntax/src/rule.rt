@@ -169,6 +169,7 @@ fn body(alloc: Global, tokens: &mut Cursor<'_>, head: RuleHead) -> Result<RuleTe
     })
 }
 
+/// A rule, behind `create rule`.
 #[tactic(auto, unfolding(crate::specs::Reading::rule))]
 pub fn rule(alloc: Global, tokens: &mut Cursor<'_>) -> Result<RuleText, Fault>
     ensures { Gives view.rule (spec.rule tokens.old) result tokens.old tokens.new }

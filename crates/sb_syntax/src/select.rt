@@ -65,6 +65,7 @@ fn expressions(alloc: Global, tokens: &mut Cursor<'_>) -> Result<Vec<Expr>, Faul
     Ok(all)
 }
 
+/// What a query lists.
 #[tactic(auto, unfolding(crate::specs::Reading::items))]
 pub fn items(alloc: Global, tokens: &mut Cursor<'_>) -> Result<Items, Fault>
     ensures { Gives view.items (spec.items tokens.old) result tokens.old tokens.new }
@@ -97,6 +98,7 @@ fn source(tokens: &mut Cursor<'_>) -> Result<SourceReference, Fault>
     Ok(SourceReference { table, alias })
 }
 
+/// The tables behind `from`, with commas between them.
 #[tactic(auto, unfolding(crate::specs::Reading::sources, crate::specs::Reading::sources_after))]
 pub fn sources(alloc: Global, tokens: &mut Cursor<'_>) -> Result<Vec<SourceReference>, Fault>
     ensures { Gives (λ v. v.items) (spec.sources tokens.old) result tokens.old tokens.new }

@@ -196,6 +196,7 @@ fn statement(alloc: Global, tokens: &mut Cursor<'_>) -> Result<Command, Fault>
     }
 }
 
+/// A command, which all of the tokens have to be.
 #[tactic(auto, unfolding(crate::specs::Reading::command, crate::specs::Reading::kind_at))]
 pub fn command(alloc: Global, tokens: &mut Cursor<'_>) -> Result<Command, Fault>
     ensures { Gives view.command (spec.command tokens.old) result tokens.old tokens.new }

@@ -4,7 +4,8 @@ ghost use Rattle.std.specs.Prelude.{◌≡◌, ◌≤◌, ◌↔◌, length, IfO
 ghost use Rattle.sb_syntax.specs.Cursor.{AllWithin, lexemes};
 ghost use Rattle.sb_syntax.specs.Lex.{AreTokens};
 ghost use Rattle.sb_syntax.specs.Scan.{scan};
-ghost use Rattle.sb_syntax.specs.Text.{Spells, Reading, NoTokens, NoCommand, command_of};
+ghost use Rattle.sb_syntax.specs.Text.{Spells, Reading, NoTokens, NoCommand, command_of, CanBeHeld, SpellsItself};
+ghost use Rattle.sb_value.specs.declared.value.Value.{Value};
 ghost use Rattle.sb_syntax.specs.Tree as tree;
 ghost use Rattle.sb_syntax.specs.Views as view;
 
@@ -110,4 +111,9 @@ pub fn one_command()
 /// `command_of` computes what the grammar says.
 pub fn command_of_is_the_grammar()
     ensures { (text : List ℕ) (c : tree.Command) → Spells text c ↔ (command_of text ≡ Some c) }
+{}
+
+/// A value's text, as replies have it, is read as that value.
+pub fn values_spell_themselves()
+    ensures { (v : Value) → CanBeHeld v → SpellsItself v }
 {}

@@ -7,7 +7,7 @@ use Rattle.std.proofs.lemmas.Option.{none-some, same_Some}
 use Rattle.std.specs.Cmp.{eq_by_cmp_equiv}
 use Rattle.std.specs.Cmp.Lexicographic.{nat_list_cmp_total}
 use Rattle.std.proofs.Math.Bool.{or-true}
-use Rattle.std.proofs.lemmas.Bool.{eqb-false}
+use Rattle.std.proofs.lemmas.Bool.{eqb-false, or_parts}
 use Rattle.std.proofs.lemmas.List.{map-append}
 use Rattle.sb_value.specs.Name.{same_name}
 use Rattle.sb_value.specs.declared.value.ColumnDefinition.{ColumnDefinition}
@@ -26,14 +26,6 @@ has es id = list_any (λ e. nat_eq e.1 id) es
 -- slots that differ at one number at most
 abbrev pub IsFilledAt : ℕ → Option Stored → Slotted → Slotted → Type 0
 IsFilledAt id o old new = (k : ℕ) → slot_at new k ≡ cond (nat_eq k id) o (slot_at old k)
-
-no_left : (a b : Bool) → (a || b) ≡ false → a ≡ false
-no_left true b h = h
-no_left false b h = refl
-
-no_right : (a b : Bool) → (a || b) ≡ false → b ≡ false
-no_right true b h = absurd (cc)
-no_right false b h = h
 
 -- ---- look-ups
 
@@ -111,9 +103,9 @@ filled_at slots id o some k = by (nat_eq k id) refl
 pub others_held : (old new : Slotted) (es : Named) (id : ℕ) (o : Option Stored) → has es id ≡ false → IsFilledAt id o old new → map (held_in new) es ≡ map (held_in old) es
 others_held old new [] id o none h = refl
 others_held old new (e ∷ es) id o none h =
-    let other : nat_eq e.1 id ≡ false = no_left (nat_eq e.1 id) (has es id) none in
+    let other : nat_eq e.1 id ≡ false = (or_parts (nat_eq e.1 id) (has es id) none).0 in
     λ i. record { id = e.1; name = e.0; stored = unwrap_or ((h e.1 ∙ ap (λ b. cond b o (slot_at old e.1)) other) i) (no_rows []) }
-    ∷ others_held old new es id o (no_right (nat_eq e.1 id) (has es id) none) h i
+    ∷ others_held old new es id o (or_parts (nat_eq e.1 id) (has es id) none).1 h i
 
 -- what a name shows is what is stored under its number
 pub stays : (slots : Slotted) (es : Named) (id : ℕ) (s : Stored) → slot_at slots id ≡ Some s → map (held_in slots) es ≡ with_stored id s (map (held_in slots) es)

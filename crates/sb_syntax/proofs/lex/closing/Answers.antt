@@ -1,13 +1,9 @@
 use Rattle.std.proofs.Common.{◌≡◌, ◌≤◌, ◌+◌, ◌-◌, take, ◌&&◌, ◌==◌, ℕ, Bool, true, false, cond, List, [], ◌∷◌, length, drop, get_or, Option, Some, None, option_map, refl, ap, sym, ◌∙◌, arith}
-use Rattle.std.proofs.lemmas.Bool.{le-leb, ne_eqb}
+use Rattle.std.proofs.lemmas.Bool.{le-leb, ne_eqb, and_from}
 use Rattle.std.proofs.lemmas.Grind.{common_steps}
 use Rattle.sb_value.specs.Printable.{is_printable}
 use Rattle.sb_syntax.specs.Scan.{closing, longer}
 use Rattle.sb_syntax.proofs.lex.closing.Goals as goal
-
-both : (a b : Bool) → a ≡ true → b ≡ true → (a && b) ≡ true
-both true b p q = q
-both false b p q = cc
 
 step : (b : ℕ) (bs : List ℕ) → (b == 39) ≡ false → is_printable b ≡ true → closing (b ∷ bs) ≡ longer 1 (closing bs)
 step b [] e p = ap (λ t. cond t (Some (0, 1)) None) e
@@ -27,7 +23,7 @@ printable-step : (zs : List ℕ) (len n : ℕ) (whole : Option (ℕ × ℕ)) →
     → option_map (plus (len + 1) (n + 1)) (closing (drop 1 zs)) ≡ whole
 printable-step [] len n whole le no32 low high e = absurd (omega arith)
 printable-step (b ∷ bs) len n whole le not39 low high e =
-    sym (shift len n (closing bs)) ∙ ap (option_map (plus len n)) (sym (step b bs (ne_eqb b 39 not39) (both _ _ (le-leb _ _ low) (le-leb _ _ high)))) ∙ e
+    sym (shift len n (closing bs)) ∙ ap (option_map (plus len n)) (sym (step b bs (ne_eqb b 39 not39) (and_from _ _ (le-leb _ _ low) (le-leb _ _ high)))) ∙ e
 
 tail-is : (zs : List ℕ) → take (length zs - 1) (drop 1 zs) ≡ drop 1 zs
 tail-is zs = grind (arith, common_steps)
