@@ -86,6 +86,7 @@ impl<'h, N: Naming> Session<'h, N> {
         line: &[u8],
         gate: &G,
     ) -> Result<&Answer, CallError>
+        ensures ok { OnOk result (self.old.ended ≡ false) }
         ensures err { IfErr result (λ e. self.old.ended ≡ is_ended e) }
         ensures* after { sem 𝓛 (follows_so (the_row (record { mir = named 1; lft = [] }) N.row (record { table = N.table; tenants = N.tenants; cells = N.cells; bound = N.bound }) (record { name = N.name; parts = N.parts })) (the_row (record { mir = named 1; lft = [] }) N.row (record { table = N.table; tenants = N.tenants; cells = N.cells; bound = N.bound }) (record { name = N.name; parts = N.parts })) self.entry.ghost_name none (λ _ _. ⊤) (λ n. CallsTo self.old line.now result n)) }
     {
@@ -103,6 +104,7 @@ impl<'h, N: Naming> Session<'h, N> {
         alloc: Global,
         line: &[u8],
     ) -> Result<&Answer, CallError>
+        ensures ok { OnOk result (self.old.ended ≡ false) }
         ensures err { IfErr result (λ e. self.old.ended ≡ is_ended e) }
         ensures* after { sem 𝓛 (follows_so (the_row (record { mir = named 1; lft = [] }) N.row (record { table = N.table; tenants = N.tenants; cells = N.cells; bound = N.bound }) (record { name = N.name; parts = N.parts })) (the_row (record { mir = named 1; lft = [] }) N.row (record { table = N.table; tenants = N.tenants; cells = N.cells; bound = N.bound }) (record { name = N.name; parts = N.parts })) self.entry.ghost_name none (λ _ _. ⊤) (λ n. CallsTo self.old line.now result n)) }
     {
