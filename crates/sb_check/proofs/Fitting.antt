@@ -2,7 +2,7 @@
 use Rattle.std.proofs.Common.{ℕ, ◌+◌, suc, zero, ◌≡◌, refl, sym, ap, ◌∙◌, subst, Bool, true, false, List, [], ◌∷◌, ◌++◌, map, arith}
 use Rattle.std.specs.Prelude.{Option, None, Some, Result, Ok, Err, not, ◌&&◌, ◌==◌, length, flat_map, slice_get, if◌then◌else◌}
 use Rattle.std.specs.List.{list_any}
-use Rattle.std.proofs.lemmas.Bool.{eqb-true}
+use Rattle.std.proofs.lemmas.Bool.{eqb-true, and_parts}
 use Rattle.sb_value.specs.declared.refusal.Refusal.{Refusal}
 use Rattle.sb_value.specs.declared.refusal.Refusal.TheVariants as refusal
 use Rattle.sb_value.specs.declared.value.Value.{Value}
@@ -56,10 +56,6 @@ same_types Int Int h = refl
 same_types Int Text h = absurd (cc h)
 same_types Text Int h = absurd (cc h)
 same_types Text Text h = refl
-
-pub both_true : (a b : Bool) → (a && b) ≡ true → (a ≡ true) × (b ≡ true)
-both_true true b h = (refl, h)
-both_true false b h = absurd (cc h)
 
 -- ---- columns
 
@@ -221,7 +217,7 @@ expression_fits scope (text.binary a op b) x h =
     let p = then_ok (walk_expression scope a) (λ x. and_then (walk_expression scope b) (λ y. required (same_type x.1 Int && same_type y.1 Int) refusal.BadType (Ok (binary x.0 op y.0, Int)))) x h in
     let q = then_ok (walk_expression scope b) (λ y. required (same_type p.0.1 Int && same_type y.1 Int) refusal.BadType (Ok (binary p.0.0 op y.0, Int))) x p.2 in
     let r = required_ok (same_type p.0.1 Int && same_type q.0.1 Int) refusal.BadType (Ok (binary p.0.0 op q.0.0, Int)) x q.2 in
-    let s = both_true (same_type p.0.1 Int) (same_type q.0.1 Int) r.0 in
+    let s = and_parts (same_type p.0.1 Int) (same_type q.0.1 Int) r.0 in
     let e : (binary p.0.0 op q.0.0, Int) ≡ x = cc r.1 in
     let left = subst (IsOf (types_of_scope scope) p.0.0) (same_types p.0.1 Int s.0) (expression_fits scope a p.0 p.1) in
     let right = subst (IsOf (types_of_scope scope) q.0.0) (same_types q.0.1 Int s.1) (expression_fits scope b q.0 q.1) in

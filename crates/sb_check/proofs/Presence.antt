@@ -1,4 +1,5 @@
 -- What the walk resolves is there.
+use Rattle.std.proofs.lemmas.Bool.{or_right}
 use Rattle.std.proofs.Common.{ℕ, suc, ◌≡◌, refl, ap, subst, Bool, true, false, List, [], ◌∷◌, ◌++◌, map, length, eq-eqb}
 use Rattle.std.specs.Prelude.{find, if◌then◌else◌, not, ◌==◌, ◌||◌, None, Some, Option, Result, Ok, Err}
 use Rattle.std.specs.List.{list_any}
@@ -32,10 +33,6 @@ use Rattle.sb_check.specs.Walk.{Schema, Walked, type_of, table_named, has_update
 use Rattle.sb_check.proofs.Fitting.{then_ok, required_ok, some_ok, selected}
 
 -- ---- a table that is found
-
-or_right : (a b : Bool) → b ≡ true → (a || b) ≡ true
-or_right true b h = refl
-or_right false b h = h
 
 found_first : (b : Bool) (d : Entry) (x : Option Entry) (e : Entry) (rest : Bool) → (x ≡ Some e → rest ≡ true) → (if b then Some d else x) ≡ Some e → ((d.id == e.id) || rest) ≡ true
 found_first true d x e rest ih h = let same : d ≡ e = cc h in ap (λ c. c || rest) (eq-eqb d.id e.id (ap (λ (f : Entry). f.id) same))

@@ -1,4 +1,5 @@
 -- The triggers taken one at a time are those of the walk.
+use Rattle.std.proofs.Math.Bool.{or-false, or-true}
 use Rattle.std.proofs.Common.{ℕ, ◌≡◌, refl, sym, ap, ◌∙◌, Bool, true, false, List, [], ◌∷◌, ◌++◌, append_assoc, append-nil}
 use Rattle.std.specs.Prelude.{◌||◌, Result, Ok, Err}
 use Rattle.std.specs.List.{list_any}
@@ -11,14 +12,6 @@ use Rattle.sb_syntax.specs.Tree.{Name, Trigger, on_insert, on_delete, on_update,
 use Rattle.sb_check.specs.Names.{and_then, in_order}
 use Rattle.sb_check.specs.Triggers.{place_named, trigger_places, is_insert, is_delete, is_update, joined, walk_triggers}
 use Rattle.sb_check.specs.TriggerSteps.{with_names, with_triggers, no_trigger}
-
-or_false : (b : Bool) → (b || false) ≡ b
-or_false true = refl
-or_false false = refl
-
-or_true : (b : Bool) → (b || true) ≡ true
-or_true true = refl
-or_true false = refl
 
 -- ---- the columns of one trigger
 
@@ -46,15 +39,15 @@ abbrev Rest : List ColumnDefinition → List Trigger → Result (List (List ℕ)
 Rest columns ts places = (a b c : Bool) (ps : List ℕ) → with_triggers columns (With a b c ps) ts ≡ all_of a b c ps ts places
 
 after_insert : (a b c : Bool) (ps : List ℕ) (ts : List Trigger) (places : Result (List (List ℕ)) Refusal) → all_of true b c ps ts places ≡ all_of a b c ps (on_insert ∷ ts) (and_then places (λ ys. Ok ([] ∷ ys)))
-after_insert a b c ps ts (Ok pl) = ap (λ x. Ok (With x (b || list_any is_delete ts) (c || list_any is_update ts) (ps ++ joined pl))) (sym (or_true a))
+after_insert a b c ps ts (Ok pl) = ap (λ x. Ok (With x (b || list_any is_delete ts) (c || list_any is_update ts) (ps ++ joined pl))) (sym (or-true a))
 after_insert a b c ps ts (Err e) = refl
 
 after_delete : (a b c : Bool) (ps : List ℕ) (ts : List Trigger) (places : Result (List (List ℕ)) Refusal) → all_of a true c ps ts places ≡ all_of a b c ps (on_delete ∷ ts) (and_then places (λ ys. Ok ([] ∷ ys)))
-after_delete a b c ps ts (Ok pl) = ap (λ x. Ok (With (a || list_any is_insert ts) x (c || list_any is_update ts) (ps ++ joined pl))) (sym (or_true b))
+after_delete a b c ps ts (Ok pl) = ap (λ x. Ok (With (a || list_any is_insert ts) x (c || list_any is_update ts) (ps ++ joined pl))) (sym (or-true b))
 after_delete a b c ps ts (Err e) = refl
 
 after_update : (a b c : Bool) (ps : List ℕ) (ts : List Trigger) (places : Result (List (List ℕ)) Refusal) → all_of a b true ps ts places ≡ all_of a b c ps (on_update ∷ ts) (and_then places (λ ys. Ok ([] ∷ ys)))
-after_update a b c ps ts (Ok pl) = ap (λ x. Ok (With (a || list_any is_insert ts) (b || list_any is_delete ts) x (ps ++ joined pl))) (sym (or_true c))
+after_update a b c ps ts (Ok pl) = ap (λ x. Ok (With (a || list_any is_insert ts) (b || list_any is_delete ts) x (ps ++ joined pl))) (sym (or-true c))
 after_update a b c ps ts (Err e) = refl
 
 after_columns : (columns : List ColumnDefinition) (a b c : Bool) (ps : List ℕ) (names : List Name) (ts : List Trigger) (one : Result (List ℕ) Refusal) (places : Result (List (List ℕ)) Refusal) → Rest columns ts places
@@ -66,7 +59,7 @@ after_columns columns a b c ps names ts (Ok qs) (Ok pl) ih =
     ih a b c (ps ++ qs) ∙ ap (λ l. Ok (With (a || list_any is_insert ts) (b || list_any is_delete ts) (c || list_any is_update ts) l)) (append_assoc ps qs (joined pl))
 
 walk_rest : SetsTakePlaces → (columns : List ColumnDefinition) (ts : List Trigger) → Rest columns ts (in_order (trigger_places columns) ts)
-walk_rest law columns [] a b c ps = λ i. Ok (With (sym (or_false a) i) (sym (or_false b) i) (sym (or_false c) i) (sym (append-nil ps) i))
+walk_rest law columns [] a b c ps = λ i. Ok (With (sym (or-false a) i) (sym (or-false b) i) (sym (or-false c) i) (sym (append-nil ps) i))
 walk_rest law columns (on_insert ∷ ts) a b c ps = walk_rest law columns ts true b c ps ∙ after_insert a b c ps ts (in_order (trigger_places columns) ts)
 walk_rest law columns (on_delete ∷ ts) a b c ps = walk_rest law columns ts a true c ps ∙ after_delete a b c ps ts (in_order (trigger_places columns) ts)
 walk_rest law columns (on_update ∷ ts) a b c ps = walk_rest law columns ts a b true ps ∙ after_update a b c ps ts (in_order (trigger_places columns) ts)

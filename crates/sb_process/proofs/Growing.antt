@@ -1,6 +1,6 @@
 -- A session's transaction with one change more.
 use Rattle.std.proofs.Common.{◌≡◌, ◌∙◌, ℕ, zero, suc, ◌+◌, ◌<◌, ◌≤◌, Bool, true, false, ◌&&◌, ◌||◌, cond, nat_eq, nat_lt, List, [], ◌∷◌, ◌++◌, map, filter, take, drop, length, refl, sym, ap, subst, arith, eq-eqb}
-use Rattle.std.proofs.lemmas.Bool.{le-ltb, lt-ltb}
+use Rattle.std.proofs.lemmas.Bool.{le-ltb, lt-ltb, and_parts, or_right}
 use Rattle.std.proofs.lemmas.List.{append-nil, append_assoc, length-map, take-append-drop, drop-append-le}
 use Rattle.std.specs.List.{list_any}
 use Rattle.sb_value.specs.declared.change.Change.{Change}
@@ -30,18 +30,6 @@ use Rattle.sb_catalog.specs.Definitions.{AreIndexed}
 use Rattle.sb_process.specs.Represents.{Represents, AreCandidates, AreLocked, who_in}
 use Rattle.sb_process.specs.Setting.{Setting, Progress, rule_is_triggered}
 use Rattle.sb_process.specs.Transactions.{Kept, mark_of, is_candidate_of}
-
-and_left : (a b : Bool) → (a && b) ≡ true → a ≡ true
-and_left true b h = refl
-and_left false b h = h
-
-and_right : (a b : Bool) → (a && b) ≡ true → b ≡ true
-and_right true b h = h
-and_right false b h = absurd (cc)
-
-or_second : (a b : Bool) → b ≡ true → (a || b) ≡ true
-or_second true b h = refl
-or_second false b h = h
 
 -- ---- filters
 
@@ -84,7 +72,7 @@ mark_within who time rs = omega (arith, few (λ (r : Record). nat_lt r.0 time) (
 
 life_tail : (c : Change) (cs : List Change) → is_life (c ∷ cs) ≡ true → is_life cs ≡ true
 life_tail c [] h = refl
-life_tail c (d ∷ ds) h = and_right (may_follow c.kind d.kind) (is_life (d ∷ ds)) h
+life_tail c (d ∷ ds) h = (and_parts (may_follow c.kind d.kind) (is_life (d ∷ ds)) h).1
 
 life_end : (cs ds : List Change) → is_life (cs ++ ds) ≡ true → is_life ds ≡ true
 life_end [] ds h = h
@@ -126,9 +114,9 @@ shared (x ∷ xs) (n ∷ named) (y ∷ ys) le h e = by n y (λ q. h zero (omega 
   where
     by : (n y : Bool) → (n ≡ true → x ≡ true) → (share_place named ys ≡ true → share_place xs ys ≡ true) → ((n && y) || share_place named ys) ≡ true → ((x && y) || share_place xs ys) ≡ true
     by true true first rest q = ap (λ (b : Bool). (b && true) || share_place xs ys) (first refl)
-    by true false first rest q = or_second (x && false) (share_place xs ys) (rest q)
-    by false true first rest q = or_second (x && true) (share_place xs ys) (rest q)
-    by false false first rest q = or_second (x && false) (share_place xs ys) (rest q)
+    by true false first rest q = or_right (x && false) (share_place xs ys) (rest q)
+    by false true first rest q = or_right (x && true) (share_place xs ys) (rest q)
+    by false false first rest q = or_right (x && false) (share_place xs ys) (rest q)
 
 by_columns : (named columns : List Bool) (f : ℕ → Bool) → length columns ≤ 8 → ((k : ℕ) → k < 8 → flag_at named k ≡ true → f k ≡ true) → share_place named columns ≡ true → share_place (map f places) columns ≡ true
 by_columns named columns f le h e = shared (map f places) named columns (omega arith) (λ k less q. at_place f k (omega (arith, less)) ∙ h k (omega (arith, less)) q) e
@@ -146,7 +134,7 @@ in_index index tenant c id triggers Updated le h e = by triggers.updated refl e
     by : (b : Bool) → triggers.updated ≡ b → (b || share_place triggers.columns c.columns) ≡ true → (stands index tenant c.table update id || share_place (map f places) c.columns) ≡ true
     by true p q = ap (λ (b : Bool). b || share_place (map f places) c.columns) (h update p)
     by false p q =
-        or_second (stands index tenant c.table update id) (share_place (map f places) c.columns)
+        or_right (stands index tenant c.table update id) (share_place (map f places) c.columns)
         (by_columns triggers.columns c.columns f le (λ k less named. h (update_of k) ((λ i. lt k less i && named i))) q)
       where
         lt : (k : ℕ) → k < 8 → nat_lt k 8 ≡ true
@@ -169,7 +157,7 @@ module _ (trig : LastChangeTriggers) (lives : ProperListsHaveLives) (index : Lis
       (λ i. active i && (eq-eqb rule.table c.table (sym same) i && (eq-eqb rule.id rule.id refl i && named i)))
 
   joined : Joins → (rule : Rule) → kind_triggers c.kind (triggers_of index tenant c.table rule.id) c ≡ true → is_candidate_of new session rule.id ≡ true
-  joined j rule e = j.0 rule.id ∙ or_second (is_candidate_of old session rule.id) (nat_eq session session && flag_at set rule.id) (λ i. eq-eqb session session refl i && (j.1 rule.id ∙ e) i)
+  joined j rule e = j.0 rule.id ∙ or_right (is_candidate_of old session rule.id) (nat_eq session session && flag_at set rule.id) (λ i. eq-eqb session session refl i && (j.1 rule.id ∙ e) i)
 
   one_candidate : Joins → AreIndexed index tenant all → (origin : List Held) (p : Progress) (rule : Rule) → AreStored origin → IsProper (entries origin) (p.changes ++ c ∷ []) → p.marks rule.id ≤ length p.changes →
       ((q : Rule → Bool) → q rule ≡ true → list_any q all ≡ true) → (rule.active ≡ true → rule_is_triggered p rule ≡ true → is_candidate_of old session rule.id ≡ true) → rule.active ≡ true →
@@ -200,7 +188,7 @@ module _ (trig : LastChangeTriggers) (lives : ProperListsHaveLives) (index : Lis
   candidates_grow j indexed origin p s proper within [] member was = tt
   candidates_grow j indexed origin p s proper within (rule ∷ rules) member was = (
     one_candidate j indexed origin p rule s proper (within rule.id) (λ q e. member q (ap (λ (b : Bool). b || list_any q rules) e)) was.0,
-    candidates_grow j indexed origin p s proper within rules (λ q e. member q (or_second (q rule) (list_any q rules) e)) was.1,
+    candidates_grow j indexed origin p s proper within rules (λ q e. member q (or_right (q rule) (list_any q rules) e)) was.1,
   )
 
 -- ---- locks

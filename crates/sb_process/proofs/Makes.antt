@@ -1,4 +1,5 @@
 -- One change more is made.
+use Rattle.std.proofs.lemmas.Bool.{or_parts}
 use Rattle.std.proofs.Common.{◌≡◌, ◌∙◌, Bool, true, false, cond, nat_eq, List, [], ◌∷◌, ◌++◌, map, Some, option_map, unwrap_or, refl, sym, ap, subst, eqb-true}
 use Rattle.sb_value.specs.declared.change.Change.{Change}
 use Rattle.sb_value.specs.Table.{Entry, IsProper, fits_kind, after, after_all, table_at, has_table}
@@ -8,7 +9,7 @@ use Rattle.sb_tables.specs.Laws.{ChangesKeepPlaces}
 use Rattle.sb_tables.specs.Undo.{stored_after}
 use Rattle.sb_process.specs.Made.{AreNumbered, AreMade, tables_after, tables_after_all, without_room}
 use Rattle.sb_process.specs.Make.{Makes}
-use Rattle.sb_process.proofs.Making.{no_left, no_right, number-room, number-entries, entries-made, stored-room, table-stored, room-with_stored, after_all-push, sound-after_all}
+use Rattle.sb_process.proofs.Making.{number-room, number-entries, entries-made, stored-room, table-stored, room-with_stored, after_all-push, sound-after_all}
 use Rattle.sb_process.proofs.Settling.{none-with}
 
 proper_with : (cs : List Change) (c : Change) (ts : List Entry) → IsProper ts cs → has_table (after_all cs ts) c.table ≡ true → fits_kind c.kind c (table_at (after_all cs ts) c.table) → IsProper ts (cs ++ c ∷ [])
@@ -18,8 +19,8 @@ proper_with (d ∷ cs) c ts h there fits = (h.0, h.1, proper_with cs c (after d 
 none_after : (c : Change) (tables : List Held) → has_number tables c.table ≡ false → tables_after c tables ≡ tables
 none_after c [] none = refl
 none_after c (h ∷ tables) none =
-    λ i. cond (no_left (nat_eq h.id c.table) (has_number tables c.table) none i) (record h { stored = stored_after c h.stored }) h
-    ∷ none_after c tables (no_right (nat_eq h.id c.table) (has_number tables c.table) none) i
+    λ i. cond ((or_parts (nat_eq h.id c.table) (has_number tables c.table) none).0 i) (record h { stored = stored_after c h.stored }) h
+    ∷ none_after c tables (or_parts (nat_eq h.id c.table) (has_number tables c.table) none).1 i
 
 written_by : (c : Change) (h : Held) (tables : List Held) (b : Bool) → nat_eq h.id c.table ≡ b → (b ≡ true → has_number tables c.table ≡ false) →
     with_stored c.table (record (stored_after c (stored_at tables c.table)) { room = 0 }) (map without_room tables) ≡ map without_room (tables_after c tables) →

@@ -1,4 +1,5 @@
 -- Tables with changes made.
+use Rattle.std.proofs.lemmas.Bool.{or_parts}
 use Rattle.std.proofs.Common.{◌≡◌, ◌∙◌, ℕ, Bool, true, false, ◌||◌, cond, nat_eq, List, [], ◌∷◌, ◌++◌, map, Some, option_map, unwrap_or, refl, sym, ap, subst, eqb-true}
 use Rattle.sb_value.specs.declared.change.Change.{Change}
 use Rattle.sb_value.specs.Table.{Entry, IsProper, fits_kind, after, after_all, after_change, table_at, has_table}
@@ -7,14 +8,6 @@ use Rattle.sb_tables.specs.Held.{Held, entries, entry_of, stored_as, numbered, h
 use Rattle.sb_tables.specs.Undo.{stored_after}
 use Rattle.sb_tables.specs.Laws.{ChangesKeepPlaces}
 use Rattle.sb_process.specs.Made.{AreNumbered, AreStored, AreMade, held_after, tables_after, tables_after_all, without_room}
-
-pub no_left : (a b : Bool) → (a || b) ≡ false → a ≡ false
-no_left true b h = h
-no_left false b h = refl
-
-pub no_right : (a b : Bool) → (a || b) ≡ false → b ≡ false
-no_right true b h = absurd (cc)
-no_right false b h = h
 
 -- ---- numbers
 
@@ -112,10 +105,10 @@ stored-after c (h ∷ tables) there = by (nat_eq h.id c.table) refl there (store
 -- a number that no table has is written nowhere
 none-written : (id : ℕ) (s : Stored) (c : Change) (tables : List Held) → c.table ≡ id → has_number tables id ≡ false → with_stored id s (map without_room (tables_after c tables)) ≡ map without_room tables
 none-written id s c [] e none = refl
-none-written id s c (h ∷ tables) e none = λ i. head i ∷ none-written id s c tables e (no_right (nat_eq h.id id) (has_number tables id) none) i
+none-written id s c (h ∷ tables) e none = λ i. head i ∷ none-written id s c tables e (or_parts (nat_eq h.id id) (has_number tables id) none).1 i
   where
     other : nat_eq h.id id ≡ false
-    other = no_left (nat_eq h.id id) (has_number tables id) none
+    other = (or_parts (nat_eq h.id id) (has_number tables id) none).0
 
     same : held_after c h ≡ h
     same = ap (λ (b : Bool). cond b (record h { stored = stored_after c h.stored }) h) (ap (nat_eq h.id) e ∙ other)
@@ -166,8 +159,8 @@ all-stored law c (h ∷ tables) n s f = by (nat_eq h.id c.table) refl f (all-sto
     none : (ts : List Held) → has_number ts c.table ≡ false → AreStored ts → AreStored (tables_after c ts)
     none [] e q = tt
     none (t ∷ ts) e q = (
-      subst (λ (b : Bool). IsStored (cond b (record t { stored = stored_after c t.stored }) t).stored) (sym (no_left (nat_eq t.id c.table) (has_number ts c.table) e)) q.0,
-      none ts (no_right (nat_eq t.id c.table) (has_number ts c.table) e) q.1,
+      subst (λ (b : Bool). IsStored (cond b (record t { stored = stored_after c t.stored }) t).stored) (sym (or_parts (nat_eq t.id c.table) (has_number ts c.table) e).0) q.0,
+      none ts (or_parts (nat_eq t.id c.table) (has_number ts c.table) e).1 q.1,
     )
 
     by : (b : Bool) → nat_eq h.id c.table ≡ b → fits_kind c.kind c (unwrap_or (option_map (λ (x : Held). x.stored) (cond b (Some h) (numbered tables c.table))) (stored_at [] c.table)).table →

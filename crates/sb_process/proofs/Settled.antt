@@ -1,10 +1,10 @@
 -- Tables that are settled one after another.
+use Rattle.std.proofs.lemmas.Bool.{and_right, or_parts}
 use Rattle.std.proofs.Common.{◌≡◌, ◌∙◌, ℕ, ◌+◌, Bool, true, false, ◌||◌, ◌&&◌, cond, nat_eq, nat_lt, List, [], ◌∷◌, Some, option_map, unwrap_or, refl, sym, ap, eqb-true, arith}
 use Rattle.std.proofs.lemmas.Bool.Decides.{nat_tests}
 use Rattle.sb_tables.specs.Held.{Held, numbered, has_number, stored_at, with_stored, settled}
 use Rattle.sb_process.specs.Made.{AreNumbered}
 use Rattle.sb_process.specs.Sharing.{settled_if, settled_where}
-use Rattle.sb_process.proofs.Making.{no_left, no_right}
 use Rattle.sb_process.proofs.Settling.{none-with}
 
 -- one table
@@ -14,7 +14,7 @@ is_it id table = nat_eq table id
 pub none-settled : (id : ℕ) (tables : List Held) → has_number tables id ≡ false → settled_where (is_it id) tables ≡ tables
 none-settled id [] none = refl
 none-settled id (h ∷ tables) none =
-    λ i. cond (no_left (nat_eq h.id id) (has_number tables id) none i) (record h { stored = settled h.stored }) h ∷ none-settled id tables (no_right (nat_eq h.id id) (has_number tables id) none) i
+    λ i. cond ((or_parts (nat_eq h.id id) (has_number tables id) none).0 i) (record h { stored = settled h.stored }) h ∷ none-settled id tables (or_parts (nat_eq h.id id) (has_number tables id) none).1 i
 
 -- what is written back under its number is the settled table
 pub one-settled : (id : ℕ) (tables : List Held) → AreNumbered tables → with_stored id (settled (stored_at tables id)) tables ≡ settled_where (is_it id) tables
@@ -67,10 +67,6 @@ lt_next n = grind (arith, nat_tests)
 lt_none : (n : ℕ) → nat_lt n 0 ≡ false
 lt_none n = grind (arith, nat_tests)
 
-and-none : (a b : Bool) → b ≡ false → (a && b) ≡ false
-and-none true b e = e
-and-none false b e = refl
-
 pub none-yet : (test : ℕ → Bool) (tables : List Held) → tables ≡ settled_where (up_to test 0) tables
 none-yet test tables = sym (none-passes (up_to test 0) (λ t. ap (λ (b : Bool). b && test t) (lt_none t)) tables)
 
@@ -79,7 +75,7 @@ pub skip-next : (test : ℕ → Bool) (n : ℕ) → test n ≡ false → (tables
 skip-next test n e = same-settled (up_to test n) (up_to test (n + 1)) (λ t. by t (nat_eq t n) refl)
   where
     by : (t : ℕ) (b : Bool) → nat_eq t n ≡ b → up_to test n t ≡ up_to test (n + 1) t
-    by t true p = let no : test t ≡ false = ap test (eqb-true t n p) ∙ e in and-none (nat_lt t n) (test t) no ∙ sym (and-none (nat_lt t (n + 1)) (test t) no)
+    by t true p = let no : test t ≡ false = ap test (eqb-true t n p) ∙ e in and_right (nat_lt t n) (test t) no ∙ sym (and_right (nat_lt t (n + 1)) (test t) no)
     by t false p = ap (λ (b : Bool). b && test t) (lt_more t n p)
 
 -- or it does

@@ -1,4 +1,5 @@
 -- Something else stored under one number.
+use Rattle.std.proofs.lemmas.Bool.{or_parts}
 use Rattle.std.proofs.Common.{◌≡◌, ◌∙◌, ℕ, Bool, true, false, ◌||◌, ◌&&◌, not, cond, nat_eq, List, [], ◌∷◌, map, Option, Some, None, Bor, option_map, is_some, refl, sym, ap, subst, eq-eqb}
 use Rattle.std.specs.List.{list_any}
 use Rattle.std.specs.Option.{option_copied}
@@ -9,7 +10,7 @@ use Rattle.sb_value.specs.declared.lock.Mode.{Mode}
 use Rattle.sb_tables.specs.Stored.{Stored, IsStored, HavePlaces, numbers_of}
 use Rattle.sb_tables.specs.Held.{Held, numbered, has_number, stored_as, with_stored, settled}
 use Rattle.sb_process.specs.Made.{AreNumbered, AreStored, AreMade, tables_after_all, without_room}
-use Rattle.sb_process.proofs.Making.{no_left, no_right, number-room, sound-after_all}
+use Rattle.sb_process.proofs.Making.{number-room, sound-after_all}
 
 pub number-with : (id : ℕ) (s : Stored) (tables : List Held) (k : ℕ) → has_number (with_stored id s tables) k ≡ has_number tables k
 number-with id s [] k = refl
@@ -31,7 +32,7 @@ numbered-with id s (h ∷ tables) n = (number-with id s tables (stored_as id s h
 pub none-with : (id : ℕ) (s : Stored) (tables : List Held) → has_number tables id ≡ false → with_stored id s tables ≡ tables
 none-with id s [] none = refl
 none-with id s (h ∷ tables) none =
-    λ i. cond (no_left (nat_eq h.id id) (has_number tables id) none i) (record h { stored = s }) h ∷ none-with id s tables (no_right (nat_eq h.id id) (has_number tables id) none) i
+    λ i. cond ((or_parts (nat_eq h.id id) (has_number tables id) none).0 i) (record h { stored = s }) h ∷ none-with id s tables (or_parts (nat_eq h.id id) (has_number tables id) none).1 i
 
 -- ---- the places of the rows alone
 

@@ -1,6 +1,6 @@
 -- Candidates that are looked at one after another.
 use Rattle.std.proofs.Common.{◌≡◌, ◌∙◌, ◌≢◌, ℕ, ◌+◌, ◌<◌, ◌≤◌, nat_lt, Bool, true, false, not, ◌&&◌, nat_eq, List, Option, Some, None, refl, sym, ap, arith, eq-eqb, eqb-true}
-use Rattle.std.proofs.lemmas.Bool.{ltb-true, ltb-false}
+use Rattle.std.proofs.lemmas.Bool.{ltb-true, ltb-false, and_parts}
 use Rattle.sb_value.specs.declared.id.Who.{Who}
 use Rattle.sb_value.specs.NetEffect.{is_triggered}
 use Rattle.sb_rawlog.specs.Records.{Record}
@@ -8,14 +8,6 @@ use Rattle.sb_rawlog.specs.Sessions.{changes_since}
 use Rattle.sb_catalog.specs.declared.rule.Rule.{Rule}
 use Rattle.sb_process.specs.Transactions.{Kept, mark_of}
 use Rattle.sb_process.specs.Triggered.{is_hit}
-
-both-left : (a b : Bool) → (a && b) ≡ true → a ≡ true
-both-left true b h = refl
-both-left false b h = h
-
-both-right : (a b : Bool) → (a && b) ≡ true → b ≡ true
-both-right true b h = h
-both-right false b h = absurd (cc)
 
 -- a rule is hit where the marks are the same
 pub hit-same : (who : Who) (old new : Kept) (records : List Record) (rule : Option Rule) → ((s r : ℕ) → mark_of new s r ≡ mark_of old s r) → is_hit who new records rule ≡ is_hit who old records rule
@@ -61,10 +53,10 @@ module _ (hit : ℕ → Bool) (rule : ℕ) (flag kept : ℕ → Bool) (eligible 
       by f c l q false p u = absurd (cc)
 
   pub left-hit : (n : ℕ) → rule ≡ n → ((r : ℕ) → r < n → flag r ≡ true → hit r ≡ true) → (r : ℕ) → r < n + 1 → (flag r && not (nat_eq r rule)) ≡ true → hit r ≡ true
-  left-hit n same h r l e = last-below (λ (k : ℕ). (flag k && not (nat_eq k rule)) ≡ true → hit k ≡ true) n r l (λ below f. h r below (both-left (flag r) (not (nat_eq r rule)) f)) never e
+  left-hit n same h r l e = last-below (λ (k : ℕ). (flag k && not (nat_eq k rule)) ≡ true → hit k ≡ true) n r l (λ below f. h r below (and_parts (flag r) (not (nat_eq r rule)) f).0) never e
     where
       never : (flag n && not (nat_eq n rule)) ≡ true → hit n ≡ true
-      never f = let gone = both-right (flag n) (not (nat_eq n rule)) f in let at = eq-eqb n rule (sym same) in absurd (cc (ap not at))
+      never f = let gone = (and_parts (flag n) (not (nat_eq n rule)) f).1 in let at = eq-eqb n rule (sym same) in absurd (cc (ap not at))
 
   pub left-stay : (same : Bool) → same ≡ true → hit rule ≡ false → (first : ℕ → Bool) → ((r : ℕ) → hit r ≡ true → kept r ≡ first r) → (r : ℕ) → hit r ≡ true → (kept r && not (same && nat_eq r rule)) ≡ first r
   left-stay same e missed first h r it = by (kept r) same (nat_eq r rule) refl e ∙ h r it
