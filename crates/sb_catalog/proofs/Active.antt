@@ -1,4 +1,5 @@
 -- Which rules are active after a change of the rules.
+use Rattle.std.proofs.Math.Bool.{or-false}
 use Rattle.std.proofs.Common.{◌≡◌, ◌∙◌, ℕ, Bool, true, false, not, cond, ◌&&◌, ◌||◌, nat_eq, List, [], ◌∷◌, ◌++◌, map, filter, Some, refl, sym, ap, eqb-true, eq-eqb}
 use Rattle.std.proofs.lemmas.List.Folds.{list_any-append}
 use Rattle.std.proofs.lemmas.Option.{none-some, same_Some}
@@ -54,10 +55,6 @@ any-both f false rules = any-none (λ r. f r && false) rules (λ r. by (f r)) �
     by false = refl
 
 -- ---- a new rule
-
-or-false : (b : Bool) → (b || false) ≡ b
-or-false true = refl
-or-false false = refl
 
 pub active-with : (set new : List Bool) (rules : List Rule) (r : Rule) → HasActive set rules → list_any (λ (q : Rule). nat_eq q.id r.id) rules ≡ false →
     ((id : ℕ) → flag_at new id ≡ cond (nat_eq id r.id) r.active (flag_at set id)) → HasActive new (rules ++ r ∷ [])

@@ -1,4 +1,5 @@
 -- An index and an order of rules that follow the rules.
+use Rattle.std.proofs.Math.Bool.{or_assoc}
 use Rattle.std.proofs.Common.{◌≡◌, ◌∙◌, ℕ, Bool, true, false, true≢false, not, ◌&&◌, ◌||◌, cond, nat_eq, List, [], ◌∷◌, ◌++◌, map, filter, Some, None, refl, sym, ap, eqb-true, eq-eqb, ne_eqb}
 use Rattle.std.specs.List.{list_any}
 use Rattle.std.specs.Cmp.{eq_by_cmp_equiv}
@@ -130,10 +131,6 @@ module _ (table : ℕ) (operation : Operation) (id : ℕ) where
       first false false true = refl
       first false false false = refl
 
-      behind : (a b c : Bool) → (a || (b || c)) ≡ ((a || b) || c)
-      behind true b c = refl
-      behind false b c = refl
-
       by : (b : Bool) → nat_eq s.id n ≡ b → cond b (Some s) (numbered rules n) ≡ Some r →
           (numbered rules n ≡ Some r → list_any has (with_active rules n true) ≡ (list_any has rules || would_have r)) →
           (has (cond b (record s { active = true }) s) || list_any has (with_active rules n true)) ≡ ((has s || list_any has rules) || would_have r)
@@ -142,7 +139,7 @@ module _ (table : ℕ) (operation : Operation) (id : ℕ) where
           (λ i. would_have s || list_any has (none_active n rules none i))
           ∙ first s.active (would_have s) (list_any has rules)
           ∙ (λ i. (has s || list_any has rules) || would_have (same_Some s r g i))
-      by false f g rest = (λ i. has s || rest g i) ∙ behind (has s) (list_any has rules) (would_have r)
+      by false f g rest = (λ i. has s || rest g i) ∙ sym (or_assoc (has s) (list_any has rules) (would_have r))
 
 -- ---- the list of numbers
 

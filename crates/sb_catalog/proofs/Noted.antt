@@ -1,4 +1,5 @@
 -- The places that are noted for rules.
+use Rattle.std.proofs.lemmas.Bool.{or_parts}
 use Rattle.std.proofs.Common.{◌≡◌, ◌∙◌, ℕ, zero, suc, ◌+◌, ◌<◌, ◌≤◌, Bool, true, false, not, ◌||◌, cond, nat_eq, List, [], ◌∷◌, ◌++◌, map, find, set, length, Option, Some, None, option_map, unwrap_or, is_some, slice_get, refl, sym, ap, arith, eq-eqb, ne_eqb, eqb-true}
 use Rattle.std.specs.List.{list_any, remove}
 use Rattle.std.proofs.lemmas.Bool.Decides.{nat_tests}
@@ -182,21 +183,13 @@ set_elsewhere (x ∷ xs) zero (suc n) v h = refl
 set_elsewhere (x ∷ xs) (suc m) zero v h = refl
 set_elsewhere (x ∷ xs) (suc m) (suc n) v h = set_elsewhere xs m n v (λ e. h (ap suc e))
 
-no_left : (a b : Bool) → (a || b) ≡ false → a ≡ false
-no_left true b h = h
-no_left false b h = refl
-
-no_right : (a b : Bool) → (a || b) ≡ false → b ≡ false
-no_right true b h = absurd (cc)
-no_right false b h = h
-
 pub noted_with : (places : List ℕ) (k v : ℕ) (rules : List Rule) (r : Rule) → v ≡ k + length rules → AreNotedFrom k places rules → r.id < length places →
     list_any (λ (s : Rule). nat_eq s.id r.id) rules ≡ false → AreNotedFrom k (set places r.id v) (rules ++ r ∷ [])
 noted_with places k v [] r g h l e = (set_here places r.id v l ∙ ap Some (omega arith), tt)
 noted_with places k v (s ∷ rules) r g h l e = (
   set_elsewhere places s.id r.id v (λ same. absurd (differ same)) ∙ h.0,
-  noted_with places (k + 1) v rules r (omega arith) h.1 l (no_right (nat_eq s.id r.id) (list_any (λ (t : Rule). nat_eq t.id r.id) rules) e),
+  noted_with places (k + 1) v rules r (omega arith) h.1 l (or_parts (nat_eq s.id r.id) (list_any (λ (t : Rule). nat_eq t.id r.id) rules) e).1,
 )
   where
     differ : s.id ≡ r.id → ⊥
-    differ same = let yes = eq-eqb s.id r.id same in let no = no_left (nat_eq s.id r.id) (list_any (λ (t : Rule). nat_eq t.id r.id) rules) e in cc
+    differ same = let yes = eq-eqb s.id r.id same in let no = (or_parts (nat_eq s.id r.id) (list_any (λ (t : Rule). nat_eq t.id r.id) rules) e).0 in cc
