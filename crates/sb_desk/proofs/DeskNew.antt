@@ -3,7 +3,7 @@ use Rattle.std.proofs.Common.{◌≡◌, ℕ, suc, ◌+◌, ◌-◌, ◌*◌, �
 use Rattle.std.specs.List.{slice_get}
 use Rattle.std.proofs.Math.Nat.{div-mul-le_self}
 use Rattle.std.proofs.lemmas.Nat.{le-div}
-use Rattle.std.proofs.lemmas.Bool.{true≢false, eqb-true, ltb-true}
+use Rattle.std.proofs.lemmas.Bool.{true≢false, eqb-true, ltb-true, and_parts}
 use Rattle.std.proofs.lemmas.List.Sums.{sum_by-cons}
 use Rattle.sb_tenant.specs.Tenant.{Tenant}
 use Rattle.sb_tenant.specs.State.{session_at, is_open}
@@ -13,11 +13,6 @@ use Rattle.sb_cell.specs.Tenants.{Cell, IsNew, hosts, trail_of}
 use Rattle.sb_desk.specs.Kept.{AreDealt, IsDesk, Place, SeatAt, open_in}
 use Rattle.sb_desk.specs.Seats.{SessionSeat, number_of}
 use Rattle.sb_desk.proofs.CellSteps.{at_place}
-
-both : (a b : Bool) → (a && b) ≡ true → (a ≡ true) × (b ≡ true)
-both true true h = (refl, refl)
-both true false h = absurd (true≢false (sym h))
-both false b h = absurd (true≢false (sym h))
 
 none_counted : (xs : List Tenant) → ((i : ℕ) → length (trail_of (slice_get xs i)) ≡ 0) → entry_count xs ≡ 0
 none_counted [] h = refl
@@ -32,7 +27,7 @@ module _ (p : Place) (c : Cell) (parts : ℕ) (seats : List (Option SessionSeat)
   none = none_counted c.tenants (λ i. ap (λ w. length (trail_of w)) (sym (at_place c smaller i)) ∙ ap length (new.trails (c.first + c.stride * i)))
 
   own : (t : ℕ) → IsTrue (hosts c t) → (t % p.cells ≡ p.first) × (t < p.tenants)
-  own t there = let h = both (t % p.cells == p.first) (nat_lt t p.tenants) (sym (new.hosted t) ∙ there) in (eqb-true (t % p.cells) p.first h.0, ltb-true t p.tenants h.1)
+  own t there = let h = and_parts (t % p.cells == p.first) (nat_lt t p.tenants) (sym (new.hosted t) ∙ there) in (eqb-true (t % p.cells) p.first h.0, ltb-true t p.tenants h.1)
 
   placed : (t : ℕ) → IsTrue (hosts c t) → t / p.cells ≤ (p.tenants - 1) / p.cells
   placed t there =

@@ -1,5 +1,5 @@
 use Rattle.std.proofs.Common.{◌≡◌, ℕ, ◌+◌, ◌*◌, ◌/◌, ◌%◌, Bool, true, false, not, List, [], ◌∷◌, ◌++◌, Option, Ok, Some, None, is_some, refl, sym, ap, ◌∙◌, subst}
-use Rattle.std.proofs.lemmas.Bool.{true≢false}
+use Rattle.std.proofs.lemmas.Bool.{true≢false, not-false}
 use Rattle.std.proofs.lemmas.Option.{same_Some}
 use Rattle.sb_cell.specs.Tenants.{AnswersEvent, Cell}
 use Rattle.sb_desk.specs.Kept.{open_in}
@@ -21,10 +21,6 @@ unnumbered (Some n) b h e = absurd (true≢false (h ∙ ap not e))
 numbered : (o : Option ℕ) (b : Bool) → is_some o ≡ not b → b ≡ false → (n : ℕ) × (o ≡ Some n)
 numbered None b h e = absurd (true≢false (sym (h ∙ ap not e)))
 numbered (Some n) b h e = (n, refl)
-
-negated : (b : Bool) → not b ≡ false → b ≡ true
-negated true h = refl
-negated false h = absurd (true≢false h)
 
 -- the step wasn't begun
 pub invariant_of-self : goal.invariant_of-self
@@ -91,7 +87,7 @@ returns-then-not-is_open-clause-ok g c =
     let did : AnswersEvent c.self.inside.cell t s line (Ok c.in-Ok.answer) c.step.new.self = subst (λ (x : ℕ × List ℕ). AnswersEvent c.self.inside.cell t x.0 x.1 (Ok c.in-Ok.answer) c.step.new.self) (λ i. (c.number.ensures.value i, line_is i)) c.in-Ok.ensures.step in
     let has = numbered _ _ c.is_none.ensures c.if-is_none.false in
     let shut = sym c.is_open.ensures ∙ c.if-not-is_open.true in
-    let closing : closes line c.in-Ok.answer.reply ≡ true = negated _ (sym (closed_by _ _ _ _ _ t s _ c.self.invariant.2 c.self.invariant.0 mine c.tenant-tenant.ensures.below c.session-session.ensures.below c.in-Ok.answer has.0 did has.1 c.entries_open_and_close.ensures.own up) ∙ shut) in
+    let closing : closes line c.in-Ok.answer.reply ≡ true = not-false _ (sym (closed_by _ _ _ _ _ t s _ c.self.invariant.2 c.self.invariant.0 mine c.tenant-tenant.ensures.below c.session-session.ensures.below c.in-Ok.answer has.0 did has.1 c.entries_open_and_close.ensures.own up) ∙ shut) in
     let after_is : c.match-index_mut.self ≡ c.step.new.self = elim c.match-index_mut.branch [ in-Some-1 w ↦ w.self-is | in-None-1 w ↦ w.self-is ] in (
       line,
       c.in-Ok.answer,
