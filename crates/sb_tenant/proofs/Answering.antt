@@ -2,7 +2,7 @@
 use Rattle.std.proofs.Common.{◌≡◌, ◌∙◌, ◌⊎◌, ℕ, zero, suc, ◌+◌, ◌<◌, ◌≤◌, Bool, true, false, not, ◌&&◌, ◌||◌, nat_eq, List, [], ◌∷◌, length, refl, sym, ap, subst, arith, inl, inr, eqb-true, ne_eqb}
 use Rattle.std.specs.Prelude.{if◌then◌else◌, Option, None, Some, Result, IsTrue}
 use Rattle.std.specs.List.{list_any}
-use Rattle.std.proofs.lemmas.Bool.{ltb-true, lt-ltb}
+use Rattle.std.proofs.lemmas.Bool.{ltb-true, lt-ltb, not-false}
 use denote.Enum.Bare.{sameb}
 use Rattle.sb_tenant.specs.contracts.phase.Phase.{the_type}
 use Rattle.sb_value.specs.declared.refusal.Refusal.{Refusal}
@@ -93,10 +93,6 @@ first_none : (b : Bool) (r : Refusal) (others : Option Refusal) → first_of b r
 first_none true r others h = absurd (cc h)
 first_none false r others h = (refl, h)
 
-not_false : (b : Bool) → not b ≡ false → b ≡ true
-not_false true h = refl
-not_false false h = absurd (cc h)
-
 idle_by : (p : Phase) → is_not_closed p ≡ true → is_under_way p ≡ false → p ≡ Idle
 idle_by Closed h k = absurd (cc h)
 idle_by Idle h k = refl
@@ -156,7 +152,7 @@ may_define phases s i h =
     let a = first_none (not (is_not_closed p)) refusal.NotOpen (first_of (is_under_way p) refusal.InTransaction (first_of (is_another_under_way phases s) refusal.Busy None)) h in
     let b = first_none (is_under_way p) refusal.InTransaction (first_of (is_another_under_way phases s) refusal.Busy None) a.1 in
     let c = first_none (is_another_under_way phases s) refusal.Busy None b.1 in
-    ((λ o j. by o (nat_eq o s) refl b.0 (none_in (λ o. not (nat_eq o s) && is_under_way (phase_at phases o)) o sessions (in_sessions o j) c.0)), idle_by p (not_false (is_not_closed p) a.0) b.0)
+    ((λ o j. by o (nat_eq o s) refl b.0 (none_in (λ o. not (nat_eq o s) && is_under_way (phase_at phases o)) o sessions (in_sessions o j) c.0)), idle_by p (not-false (is_not_closed p) a.0) b.0)
   where
     by : (o : ℕ) (same : Bool) → nat_eq o s ≡ same → is_under_way (phase_at phases s) ≡ false → (not (nat_eq o s) && is_under_way (phase_at phases o)) ≡ false → is_under_way (phase_at phases o) ≡ false
     by o true e own others = ap (λ n. is_under_way (phase_at phases n)) (eqb-true o s e) ∙ own

@@ -1,7 +1,7 @@
 -- Tables that come and go, and rules that come and go: what they leave of proper lists, and what commands ask of them.
 use Rattle.std.proofs.Common.{◌≡◌, ◌∙◌, ℕ, Bool, true, false, not, ◌||◌, cond, nat_eq, List, [], ◌∷◌, ◌++◌, filter, refl, sym, ap, subst, eqb-true, true≢false, IsTrue}
 use Rattle.std.specs.List.{list_any}
-use Rattle.std.proofs.lemmas.Bool.{eq-eqb}
+use Rattle.std.proofs.lemmas.Bool.{eq-eqb, or_parts}
 use Rattle.sb_value.specs.declared.change.Change.{Change}
 use Rattle.sb_value.specs.Table.{Entry, empty_table, has_table, table_at, IsProper, IsTable}
 use Rattle.sb_check.specs.There as check
@@ -96,29 +96,25 @@ module _ (id : ℕ) where
       out false p true q k rest = ap (λ (b : Bool). b || has_table (less es) t) q
       out false p false q k rest = ap (λ (b : Bool). b || has_table (less es) t) q ∙ rest k
 
-  or_false : (a b : Bool) → (a || b) ≡ false → (a ≡ false) × (b ≡ false)
-  or_false true b h = absurd (true≢false h)
-  or_false false b h = (refl, h)
-
   target-other : (s : Statement) → statement_names id s ≡ false → nat_eq (target s) id ≡ false
   target-other (InsertRows t rows) h = h
-  target-other (InsertQuery t q) h = (or_false (nat_eq t id) (has_source id (query_sources q)) h).0
-  target-other (Delete t c) h = (or_false (nat_eq t id) (has_source id (sources_of c)) h).0
-  target-other (Update t assignments c) h = (or_false (nat_eq t id) (has_source id (assignment_sources assignments) || has_source id (sources_of c)) h).0
+  target-other (InsertQuery t q) h = (or_parts (nat_eq t id) (has_source id (query_sources q)) h).0
+  target-other (Delete t c) h = (or_parts (nat_eq t id) (has_source id (sources_of c)) h).0
+  target-other (Update t assignments c) h = (or_parts (nat_eq t id) (has_source id (assignment_sources assignments) || has_source id (sources_of c)) h).0
 
   actions-less : (es : List Entry) (actions : List Action) → list_any (action_names id) actions ≡ false → AreGoodActions (IsIn es) actions → AreGoodActions (IsIn (less es)) actions
   actions-less es [] l h = tt
   actions-less es (action.Rollback ∷ actions) l h = actions-less es actions l h
   actions-less es (action.Change s ∷ actions) l h =
-      let p = or_false (statement_names id s) (list_any (action_names id) actions) l in
+      let p = or_parts (statement_names id s) (list_any (action_names id) actions) l in
       (has-less es (target s) (target-other s p.0) h.0, actions-less es actions p.1 h.1)
 
   pub rules-less : (es : List Entry) (rules : List Rule) → is_used rules id ≡ false → AreGoodRules (IsIn es) rules → AreGoodRules (IsIn (less es)) rules
   rules-less es [] l h = tt
   rules-less es (r ∷ rules) l h =
-      let p = or_false (rule_names id r) (is_used rules id) l in
-      let q = or_false (nat_eq r.table id) (condition_names id r.condition || list_any (action_names id) r.actions) p.0 in
-      let o = or_false (condition_names id r.condition) (list_any (action_names id) r.actions) q.1 in
+      let p = or_parts (rule_names id r) (is_used rules id) l in
+      let q = or_parts (nat_eq r.table id) (condition_names id r.condition || list_any (action_names id) r.actions) p.0 in
+      let o = or_parts (condition_names id r.condition) (list_any (action_names id) r.actions) q.1 in
       (actions-less es r.actions o.1 h.0, rules-less es rules p.1 h.1)
 
 -- ---- rules

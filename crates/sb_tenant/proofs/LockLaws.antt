@@ -37,7 +37,6 @@ use Rattle.sb_tenant.proofs.SessionLaws.{own_session, IsInner, refused, resolved
 use Rattle.sb_tenant.proofs.Standing.{still-locked}
 use Rattle.sb_tenant.proofs.Taking.{Taken, taken-none, taken-request, taken-released}
 use Rattle.sb_tenant.proofs.Targets.{of-target, target-asked, locked-more, locked-and}
-use Rattle.sb_tenant.proofs.Tests.{no_way}
 
 -- ---- while a transaction goes on
 
@@ -161,8 +160,8 @@ module _ (tenant bound : ℕ) (state : State) (h : HasSoundLocks state) (s : ℕ
           ((fit-kept setting state.locks).change no_transition statement p changes tt (target-asked state.locks s statement) fit given)
 
   pub sound-perform : (r : Resolved) → is_edge r ≡ false → HasSoundLocks (perform tenant bound state s r).0
-  sound-perform open_session e = no_way (sym e)
-  sound-perform end_session e = no_way (sym e)
+  sound-perform open_session e = absurd (true≢false e)
+  sound-perform end_session e = absurd (true≢false e)
   sound-perform begin e = sound-begin state h s
   sound-perform commit e =
       sound-process (is_active state.catalog.rules) (λ after. committed after s)

@@ -1,6 +1,6 @@
 -- Legal trails and the states that they give.
 use Rattle.std.proofs.Common.{◌≡◌, ℕ, zero, suc, ◌+◌, ◌≤◌, Bool, true, false, not, cond, ◌&&◌, ◌==◌, nat_le, List, [], ◌∷◌, ◌++◌, length, count_by, Some, None, inl, inr, refl, sym, ◌∙◌, ap, subst, arith, lit≤, codes}
-use Rattle.std.proofs.lemmas.Bool.{ltb-true, leb-false, true≢false}
+use Rattle.std.proofs.lemmas.Bool.{ltb-true, leb-false, true≢false, false≢true, not-false, and_parts}
 use Rattle.sb_value.specs.Name.{same_name}
 use Rattle.std.proofs.lemmas.List.Sums.{count_by-le-length}
 use Rattle.sb_value.specs.Locks.{sessions}
@@ -16,12 +16,12 @@ use Rattle.sb_tenant.specs.State.{State, Session, closed, idle, active, opening,
 use Rattle.sb_tenant.specs.Step.{is_full_for, is_end_of_open, reply_to, numbered, step}
 use Rattle.sb_tenant.specs.Trail.{after_abort, is_no_memory, IsStep, IsAbort, IsNext, IsLegal, after_entry, replayed, state_of, IsTrail}
 use Rattle.sb_tenant.specs.TrailLaws.{open_by, TrailsFixStates, LegalStatesAreReplayed, OthersStay, OwnOpens, TrailsAreBounded}
-use Rattle.sb_tenant.proofs.Tests.{no_way, not_false, and_left, and_right, same_text}
+use Rattle.sb_tenant.proofs.Tests.{same_text}
 use Rattle.sb_tenant.proofs.SessionLaws.{own_session, other_session, own_step, other_step}
 
 no_memory : (r : Reply) → is_no_memory r ≡ true → r ≡ reply.No refusal.NoMemory
 no_memory (reply.No refusal.NoMemory) h = refl
-no_memory r h = no_way h
+no_memory r h = absurd (false≢true h)
 
 module _ (tenant bound : ℕ) where
   -- ---- the state after an entry
@@ -117,7 +117,7 @@ module _ (tenant bound : ℕ) where
       ]
 
   with_transaction_open : (session : Session) → has_transaction session ≡ true → is_open session ≡ true
-  with_transaction_open closed h = no_way h
+  with_transaction_open closed h = absurd (false≢true h)
   with_transaction_open idle h = refl
   with_transaction_open (active changes marks) h = refl
 
@@ -153,7 +153,7 @@ module _ (tenant bound : ℕ) where
       elim (is_no_memory entry.reply) as (λ b. b ≡ true → is_open (session_at after entry.session)
       ≡ elim b [ true ↦ is_open (session_at before entry.session) | false ↦ open_by (command_of entry.line) (is_open (session_at before entry.session)) ]) [
         | true ↦ λ h. ap (λ state. is_open (session_at state entry.session)) is ∙ own_abort before entry.session
-        | false ↦ λ h. no_way h
+        | false ↦ λ h. absurd (false≢true h)
       ] (ap is_no_memory told)
 
 -- ---- how many sessions are open
@@ -195,9 +195,9 @@ module _ (tenant bound : ℕ) where
       after.steps + open_count after ≤ 65544
   by_end before entry after (is_one, inl s) h long =
       let room = has_room tenant bound before entry after s in
-      let is_end = not_false (is_end_of_open before entry.session entry.line) (sym (ap (λ b. b && not (is_end_of_open before entry.session entry.line)) long) ∙ room) in
-      let was_open = and_left (is_open (session_at before entry.session)) (same_name entry.line (codes "end")) is_end in
-      let is_word = same_text entry.line (codes "end") (and_right (is_open (session_at before entry.session)) (same_name entry.line (codes "end")) is_end) in
+      let is_end = not-false (is_end_of_open before entry.session entry.line) (sym (ap (λ b. b && not (is_end_of_open before entry.session entry.line)) long) ∙ room) in
+      let was_open = (and_parts (is_open (session_at before entry.session)) (same_name entry.line (codes "end")) is_end).0 in
+      let is_word = same_text entry.line (codes "end") (and_parts (is_open (session_at before entry.session)) (same_name entry.line (codes "end")) is_end).1 in
       let closed_after = ap (λ p. is_open (session_at p.0 entry.session)) (sym s.1) ∙ own_step tenant bound before entry.session entry.line room
       ∙ ap (λ c. open_by c (is_open (session_at before entry.session))) (ap command_of is_word ∙ ends) in
       let fewer = count-one_less (λ o. is_open (session_at before o)) (λ o. is_open (session_at after o)) entry.session is_one

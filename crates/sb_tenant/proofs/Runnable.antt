@@ -1,4 +1,5 @@
 -- Rules that can run: the tables that they name are there, whatever else the catalog has.
+use Rattle.std.proofs.lemmas.Bool.{or_parts}
 use Rattle.std.proofs.Common.{◌≡◌, ◌∙◌, ℕ, ◌≤◌, Bool, true, false, not, ◌||◌, cond, nat_eq, List, [], ◌∷◌, ◌++◌, map, length, refl, sym, ap, subst}
 use Rattle.std.specs.Prelude.{filter_map, Option, None, Some, IsTrue, IsFalse, ◌==◌}
 use Rattle.std.specs.List.{list_any}
@@ -117,10 +118,6 @@ module _ (old new : List Held) (stays : (id : ℕ) → IsTrue (has_number old id
   run_more [] h = tt
   run_more (r ∷ rules) h = ((condition_more r.condition h.0.0, actions_more r.actions h.0.1, h.0.2), run_more rules h.1)
 
-or_false : (a b : Bool) → (a || b) ≡ false → (a ≡ false) × (b ≡ false)
-or_false true b h = absurd (cc h)
-or_false false b h = (refl, h)
-
 -- the tables of a request but for one that it doesn't name
 module _ (old new : List Held) (id : ℕ) (stays : (k : ℕ) → IsFalse (k == id) → IsTrue (has_number old k) → IsTrue (has_number new k)) where
   abbrev Lacks : List (ℕ × Mode) → Type 0
@@ -129,13 +126,13 @@ module _ (old new : List Held) (id : ℕ) (stays : (k : ℕ) → IsFalse (k == i
   there_less : (request : List (ℕ × Mode)) → Lacks request → AreThere old request → AreThere new request
   there_less [] l h = tt
   there_less (r ∷ request) l h =
-      let p = or_false (r.0 == id) (list_any (λ (r : ℕ × Mode). r.0 == id) request) l in
+      let p = or_parts (r.0 == id) (list_any (λ (r : ℕ × Mode). r.0 == id) request) l in
       (stays r.0 p.0 h.0, there_less request p.1 h.1)
 
   reads_lack : (sources : List Source) → has_source id sources ≡ false → Lacks (filter_map read_of sources)
   reads_lack [] h = refl
   reads_lack (Table t ∷ sources) h =
-      let p = or_false (t == id) (has_source id sources) h in
+      let p = or_parts (t == id) (has_source id sources) h in
       ap (λ (b : Bool). b || list_any (λ (r : ℕ × Mode). r.0 == id) (filter_map read_of sources)) p.0 ∙ reads_lack sources p.1
   reads_lack (Inserted ∷ sources) h = reads_lack sources h
   reads_lack (Deleted ∷ sources) h = reads_lack sources h
@@ -149,7 +146,7 @@ module _ (old new : List Held) (id : ℕ) (stays : (k : ℕ) → IsFalse (k == i
   writes_lack : (target : ℕ) (request : List (ℕ × Mode)) → (target == id) ≡ false → Lacks request → Lacks (map (write_of target) request)
   writes_lack target [] t h = refl
   writes_lack target (r ∷ request) t h =
-      let p = or_false (r.0 == id) (list_any (λ (r : ℕ × Mode). r.0 == id) request) h in
+      let p = or_parts (r.0 == id) (list_any (λ (r : ℕ × Mode). r.0 == id) request) h in
       ap (λ (b : Bool). b || list_any (λ (r : ℕ × Mode). r.0 == id) (map (write_of target) request)) (written_lacks target r (r.0 == target) t p.0) ∙ writes_lack target request t p.1
 
   target_less : (target : ℕ) (sources : List Source) → (target == id) ≡ false → has_source id sources ≡ false
@@ -162,11 +159,11 @@ module _ (old new : List Held) (id : ℕ) (stays : (k : ℕ) → IsFalse (k == i
 
   statement_less : (s : Statement) → statement_names id s ≡ false → AreThere old (statement_locks s) → AreThere new (statement_locks s)
   statement_less (InsertRows t rows) l h = target_less t [] l refl h
-  statement_less (InsertQuery t q) l h = let p = or_false (t == id) (has_source id (query_sources q)) l in target_less t (query_sources q) p.0 p.1 h
-  statement_less (Delete t c) l h = let p = or_false (t == id) (has_source id (sources_of c)) l in target_less t (sources_of c) p.0 p.1 h
+  statement_less (InsertQuery t q) l h = let p = or_parts (t == id) (has_source id (query_sources q)) l in target_less t (query_sources q) p.0 p.1 h
+  statement_less (Delete t c) l h = let p = or_parts (t == id) (has_source id (sources_of c)) l in target_less t (sources_of c) p.0 p.1 h
   statement_less (Update t assignments c) l h =
-      let p = or_false (t == id) (has_source id (assignment_sources assignments) || has_source id (sources_of c)) l in
-      let q = or_false (has_source id (assignment_sources assignments)) (has_source id (sources_of c)) p.1 in
+      let p = or_parts (t == id) (has_source id (assignment_sources assignments) || has_source id (sources_of c)) l in
+      let q = or_parts (has_source id (assignment_sources assignments)) (has_source id (sources_of c)) p.1 in
       target_less t (assignment_sources assignments ++ sources_of c) p.0 (sources_lack (assignment_sources assignments) (sources_of c) q.0 q.1) h
 
   condition_less : (q : Option Query) → condition_names id q ≡ false → IsConditionThere old q → IsConditionThere new q
@@ -177,13 +174,13 @@ module _ (old new : List Held) (id : ℕ) (stays : (k : ℕ) → IsFalse (k == i
   actions_less [] l h = tt
   actions_less (action.Rollback ∷ actions) l h = actions_less actions l h
   actions_less (action.Change s ∷ actions) l h =
-      let p = or_false (statement_names id s) (list_any (action_names id) actions) l in
+      let p = or_parts (statement_names id s) (list_any (action_names id) actions) l in
       (statement_less s p.0 h.0, actions_less actions p.1 h.1)
 
   pub run_less : (rules : List Rule) → is_used rules id ≡ false → CanRun old rules → CanRun new rules
   run_less [] l h = tt
   run_less (r ∷ rules) l h =
-      let p = or_false (rule_names id r) (is_used rules id) l in
-      let q = or_false (r.table == id) (condition_names id r.condition || list_any (action_names id) r.actions) p.0 in
-      let s = or_false (condition_names id r.condition) (list_any (action_names id) r.actions) q.1 in
+      let p = or_parts (rule_names id r) (is_used rules id) l in
+      let q = or_parts (r.table == id) (condition_names id r.condition || list_any (action_names id) r.actions) p.0 in
+      let s = or_parts (condition_names id r.condition) (list_any (action_names id) r.actions) q.1 in
       ((condition_less r.condition s.0 h.0.0, actions_less r.actions s.1 h.0.1, h.0.2), run_less rules p.1 h.1)

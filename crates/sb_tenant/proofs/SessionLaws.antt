@@ -1,6 +1,6 @@
 -- What a step does to its own session and to the others.
 use Rattle.std.proofs.Common.{◌≡◌, ℕ, Bool, true, false, not, cond, ◌&&◌, ◌==◌, List, [], ◌++◌, Option, Some, None, Result, Ok, Err, refl, sym, ◌∙◌, ap}
-use Rattle.std.proofs.lemmas.Bool.{eq-eqb}
+use Rattle.std.proofs.lemmas.Bool.{eq-eqb, true≢false}
 use Rattle.sb_value.specs.declared.change.Change.{Change}
 use Rattle.sb_value.specs.declared.lock.Mode.{Mode}
 use Rattle.sb_value.specs.declared.refusal.Refusal.{Refusal}
@@ -29,7 +29,6 @@ use Rattle.sb_catalog.specs.Definitions.{is_member}
 use Rattle.sb_catalog.specs.Rules.{is_active}
 use Rattle.sb_tenant.specs.Step.{first_of, session_refusal, outcome_of, reply_to_command, reply_to, step, numbered, is_full_for}
 use Rattle.sb_tenant.specs.TrailLaws.{open_by}
-use Rattle.sb_tenant.proofs.Tests.{no_way}
 
 -- ---- the sessions of a state with one session put anew
 
@@ -156,8 +155,8 @@ module _ (tenant bound : ℕ) (state : State) (s : ℕ) (was_open : is_open (ses
       let p = process bound (setting_of tenant state s) eligible (progress_of state s) in stands-stays-open p.outcome p.progress
 
   perform-open : (r : Resolved) → is_edge r ≡ false → is_open (session_at (perform tenant bound state s r).0 s) ≡ true
-  perform-open open_session h = no_way (sym h)
-  perform-open end_session h = no_way (sym h)
+  perform-open open_session h = absurd (true≢false h)
+  perform-open end_session h = absurd (true≢false h)
   perform-open begin h = set_open state (active [] (λ id. 0)) refl
   perform-open commit h = commit-open
   perform-open rollback h = set_open state idle refl
@@ -199,8 +198,8 @@ is_edge_command text.end_session = true
 is_edge_command other = false
 
 pub inner-walk : (catalog : Catalog) (c : Command) → is_edge_command c ≡ false → IsInner (walk catalog c)
-inner-walk catalog text.open_session h = no_way (sym h)
-inner-walk catalog text.end_session h = no_way (sym h)
+inner-walk catalog text.open_session h = absurd (true≢false h)
+inner-walk catalog text.end_session h = absurd (true≢false h)
 inner-walk catalog text.begin h = resolved begin refl
 inner-walk catalog text.commit h = resolved commit refl
 inner-walk catalog text.rollback h = resolved rollback refl

@@ -1,7 +1,7 @@
 -- The changes of all sessions, of which each table is changed by one at most.
 use Rattle.std.proofs.Common.{◌≡◌, ◌∙◌, ℕ, zero, suc, ◌<◌, Bool, true, false, not, ◌&&◌, ◌||◌, cond, nat_eq, nat_lt, List, [], ◌∷◌, ◌++◌, filter, refl, sym, ap, eqb-true, true≢false, append-nil, arith, IsTrue}
 use Rattle.std.specs.List.{flat_map, list_any}
-use Rattle.std.proofs.lemmas.Bool.{ltb-true, eq-eqb}
+use Rattle.std.proofs.lemmas.Bool.{ltb-true, eq-eqb, or_parts, false≢true}
 use Rattle.std.proofs.lemmas.List.Elements.{filter-append}
 use Rattle.sb_value.specs.declared.change.Change.{Change}
 use Rattle.sb_value.specs.declared.lock.Mode.TheVariants.{Write}
@@ -10,7 +10,6 @@ use Rattle.sb_process.specs.Represents.{AreLocked, is_written}
 use Rattle.sb_process.specs.Sharing.{changes_to, ChangeTheSame, AreElsewhere}
 use Rattle.sb_tenant.specs.Limits.{is_session}
 use Rattle.sb_tenant.specs.Represents.{AreExclusive}
-use Rattle.sb_tenant.proofs.Tests.{no_way}
 
 -- ---- sessions
 
@@ -42,20 +41,12 @@ is-once (suc (suc (suc (suc (suc (suc (suc zero))))))) h = refl
 is-once (suc (suc (suc (suc (suc (suc (suc (suc n)))))))) h =
     let below : suc (suc (suc (suc (suc (suc (suc (suc n))))))) < 8 = ltb-true (suc (suc (suc (suc (suc (suc (suc (suc n)))))))) 8 h in absurd (omega arith)
 
-pub or-left : (a b : Bool) → (a || b) ≡ false → a ≡ false
-or-left true b h = absurd (true≢false h)
-or-left false b h = refl
-
-pub or-right : (a b : Bool) → (a || b) ≡ false → b ≡ false
-or-right true b h = absurd (true≢false h)
-or-right false b h = h
-
 each-once : (p : ℕ → Bool) (s : ℕ) (ss : List ℕ) → once s ss ≡ true → list_any p ss ≡ false → p s ≡ false
-each-once p s [] e h = no_way e
-each-once p s (o ∷ ss) e h = by (nat_eq o s) refl e (λ q. each-once p s ss q (or-right (p o) (list_any p ss) h))
+each-once p s [] e h = absurd (false≢true e)
+each-once p s (o ∷ ss) e h = by (nat_eq o s) refl e (λ q. each-once p s ss q (or_parts (p o) (list_any p ss) h).1)
   where
     by : (b : Bool) → nat_eq o s ≡ b → cond b (not (list_any (λ x. nat_eq x s) ss)) (once s ss) ≡ true → (once s ss ≡ true → p s ≡ false) → p s ≡ false
-    by true q e rest = ap p (sym (eqb-true o s q)) ∙ or-left (p o) (list_any p ss) h
+    by true q e rest = ap p (sym (eqb-true o s q)) ∙ (or_parts (p o) (list_any p ss) h).0
     by false q e rest = rest e
 
 -- a test that no session passes
@@ -93,11 +84,11 @@ module _ {X : Type 0} (g : ℕ → List X) (s : ℕ) where
         by false p q rest = ap (λ (xs : List X). xs ++ flat_map g ss) (none o are.0 p) ∙ rest q
 
     pub only : (ss : List ℕ) → AreSessions ss → once s ss ≡ true → flat_map g ss ≡ g s
-    only [] are e = no_way e
+    only [] are e = absurd (false≢true e)
     only (o ∷ ss) are e = by (nat_eq o s) refl e (only ss are.1)
       where
         more : (b : Bool) → not b ≡ true → b ≡ false
-        more true q = no_way q
+        more true q = absurd (false≢true q)
         more false q = refl
 
         by : (b : Bool) → nat_eq o s ≡ b → cond b (not (list_any (λ x. nat_eq x s) ss)) (once s ss) ≡ true → (once s ss ≡ true → flat_map g ss ≡ g s) → g o ++ flat_map g ss ≡ g s

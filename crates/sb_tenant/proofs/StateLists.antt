@@ -1,4 +1,5 @@
 -- What each command leaves of proper lists, and so each legal trail.
+use Rattle.std.proofs.lemmas.Bool.{not-true}
 use Rattle.std.proofs.Common.{◌≡◌, ◌∙◌, ℕ, ◌+◌, Bool, true, false, not, ◌&&◌, ◌==◌, nat_eq, nat_lt, List, [], ◌∷◌, ◌++◌, length, filter, map, Option, Some, None, Result, Ok, Err, refl, sym, ap, subst, eqb-true, true≢false, IsTrue, IsFalse}
 use Rattle.std.proofs.lemmas.Option.{none-some}
 use Rattle.sb_value.specs.declared.change.Change.{Change}
@@ -52,7 +53,6 @@ use Rattle.sb_tenant.proofs.ReplayLaws.{next_after}
 use Rattle.sb_tenant.proofs.Sharing.{each-session}
 use Rattle.sb_tenant.proofs.SessionLaws.{is_edge, IsInner, refused, resolved, inner-walk}
 use Rattle.sb_tenant.proofs.Targets.{target-asked}
-use Rattle.sb_tenant.proofs.Tests.{no_way, not_true}
 
 -- no session has changed anything
 abbrev pub IsCalm : State → Type 0
@@ -122,8 +122,8 @@ module _ (laws : ChangesAreProper) (tenant bound : ℕ) (state : State) (h : Has
       by (Ok changes) given = proper-goes (record p { changes = p.changes ++ changes }) (kept.change no_transition statement p changes there (target-asked state.locks s statement) k given)
 
   proper-perform : (r : Resolved) → Fits state r → is_edge r ≡ false → HasProperTables (perform tenant bound state s r).0
-  proper-perform open_session fits e = no_way (sym e)
-  proper-perform end_session fits e = no_way (sym e)
+  proper-perform open_session fits e = absurd (true≢false e)
+  proper-perform end_session fits e = absurd (true≢false e)
   proper-perform begin fits e = proper-put state g s state.locks state.steps (active [] (λ id. 0)) tt
   proper-perform commit fits e =
       proper-process (is_active state.catalog.rules) (λ after. committed after s)
@@ -202,7 +202,7 @@ module _ (state : State) where
       (λ x e. gives-required (nat_lt (length state.catalog.tables) table_limit) refusal.TooManyTables (Ok (create_table name columns)) (λ p. tt))
   gives-walk there (text.drop_table name) calm =
       gives-then (table_named (outside_rules state.catalog) name) (λ x. required (not (is_used state.catalog.rules x.id)) refusal.TableInUse (Ok (drop_table x.id)))
-      (λ x e. gives-required (not (is_used state.catalog.rules x.id)) refusal.TableInUse (Ok (drop_table x.id)) (λ p. (not_true (is_used state.catalog.rules x.id) p, calm refl)))
+      (λ x e. gives-required (not (is_used state.catalog.rules x.id)) refusal.TableInUse (Ok (drop_table x.id)) (λ p. (not-true (is_used state.catalog.rules x.id) p, calm refl)))
   gives-walk there (text.create_rule r) calm =
       gives-required (not (has_name state.catalog.rules r.name)) refusal.RuleExists (and_then (walk_parts (outside_rules state.catalog) r) (walk_lists state.catalog r)) (λ p.
       gives-then (walk_parts (outside_rules state.catalog) r) (walk_lists state.catalog r) (λ parts e.

@@ -1,4 +1,5 @@
 -- A new table, and one table less.
+use Rattle.std.proofs.Math.Bool.{or_assoc}
 use Rattle.std.proofs.Common.{◌≡◌, ◌∙◌, ℕ, ◌<◌, ◌≤◌, Bool, true, false, not, ◌||◌, cond, nat_eq, List, [], ◌∷◌, ◌++◌, map, filter, length, find, Option, Some, None, option_map, refl, sym, ap, eq-eqb, eqb-true, rules}
 use Rattle.std.specs.Prelude.{Result, Ok, nat_lt, IsTrue, IsFalse}
 use Rattle.std.specs.List.{list_any}
@@ -91,11 +92,7 @@ walk_old_at rules name tables =
 
 has_last : (tables : List Held) (h : Held) (id : ℕ) → has_number (tables ++ h ∷ []) id ≡ (has_number tables id || (nat_eq h.id id || false))
 has_last [] h id = refl
-has_last (t ∷ tables) h id = ap (λ (b : Bool). nat_eq t.id id || b) (has_last tables h id) ∙ or_assoc (nat_eq t.id id) (has_number tables id) (nat_eq h.id id || false)
-  where
-    or_assoc : (a b c : Bool) → (a || (b || c)) ≡ ((a || b) || c)
-    or_assoc true b c = refl
-    or_assoc false b c = refl
+has_last (t ∷ tables) h id = ap (λ (b : Bool). nat_eq t.id id || b) (has_last tables h id) ∙ sym (or_assoc (nat_eq t.id id) (has_number tables id) (nat_eq h.id id || false))
 
 numbered_last : (tables : List Held) (h : Held) → AreNumbered tables → IsFalse (has_number tables h.id) → AreNumbered (tables ++ h ∷ [])
 numbered_last [] h n new = (refl, tt)

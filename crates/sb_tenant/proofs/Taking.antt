@@ -1,9 +1,10 @@
 -- What a session's requests do to the locks: they stay exclusive, and those of the others stay.
+use Rattle.std.proofs.Math.Bool.{or-false}
 use Rattle.std.proofs.Common.{◌≡◌, ◌∙◌, ℕ, Bool, true, false, not, ◌&&◌, ◌||◌, cond, nat_eq, List, [], ◌∷◌, Some, None, refl, sym, ap, true≢false, eqb-true, IsTrue}
 use Rattle.std.specs.Prelude.{find, option_map}
 use Rattle.std.specs.List.{list_any}
 use Rattle.std.proofs.lemmas.Option.{none-some}
-use Rattle.std.proofs.lemmas.Bool.{eq-eqb}
+use Rattle.std.proofs.lemmas.Bool.{eq-eqb, false≢true, and_parts, or_parts}
 use Rattle.sb_value.specs.declared.lock.Mode.{Mode}
 use Rattle.sb_value.specs.declared.lock.Mode.TheVariants.{Read, Write}
 use Rattle.sb_value.specs.Locks.{Locks, same_mode, conflicts, first_conflict, with_locks, released}
@@ -12,19 +13,14 @@ use Rattle.sb_process.specs.Setting.{Setting, Progress}
 use Rattle.sb_tenant.specs.Limits.{is_session}
 use Rattle.sb_tenant.specs.Represents.{AreExclusive}
 use Rattle.sb_tenant.proofs.Keeping.{IsKept, process-keeps, Any, any-rules}
-use Rattle.sb_tenant.proofs.Sharing.{each-session, or-left, or-right}
-use Rattle.sb_tenant.proofs.Tests.{no_way, and_left, and_right}
+use Rattle.sb_tenant.proofs.Sharing.{each-session}
 
 -- ---- exclusive locks
 
-or-false : (b : Bool) → (b || false) ≡ b
-or-false true = refl
-or-false false = refl
-
 same_as : (one other : Mode) → same_mode one other ≡ true → one ≡ other
 same_as Read Read e = refl
-same_as Read Write e = no_way e
-same_as Write Read e = no_way e
+same_as Read Write e = absurd (false≢true e)
+same_as Write Read e = absurd (false≢true e)
 same_as Write Write e = refl
 
 -- no other session holds what doesn't conflict
@@ -35,8 +31,8 @@ free-write locks s t e o m is other = by m
     none = ap (λ (b : Bool). not b && (locks o t Write || locks o t Read)) (sym other) ∙ each-session (λ x. not (nat_eq x s) && (locks x t Write || locks x t Read)) o is e
 
     by : (m : Mode) → locks o t m ≡ false
-    by Read = or-right (locks o t Write) (locks o t Read) none
-    by Write = or-left (locks o t Write) (locks o t Read) none
+    by Read = (or_parts (locks o t Write) (locks o t Read) none).1
+    by Write = (or_parts (locks o t Write) (locks o t Read) none).0
 
 free-read : (locks : Locks) (s t : ℕ) (m : Mode) → conflicts locks s t m ≡ false → (o : ℕ) → IsTrue (is_session o) → nat_eq o s ≡ false → locks o t Write ≡ false
 free-read locks s t Read e o is other = ap (λ (b : Bool). not b && locks o t Write) (sym other) ∙ each-session (λ x. not (nat_eq x s) && locks x t Write) o is e
@@ -44,12 +40,12 @@ free-read locks s t Write e o is other = free-write locks s t e o Write is other
 
 -- what is granted doesn't conflict
 granted : (locks : Locks) (s : ℕ) (request : List (ℕ × Mode)) → first_conflict locks s request ≡ None → (t : ℕ) (m : Mode) → list_any (λ r. nat_eq r.0 t && same_mode r.1 m) request ≡ true → conflicts locks s t m ≡ false
-granted locks s [] e t m h = no_way h
+granted locks s [] e t m h = absurd (false≢true h)
 granted locks s (r ∷ request) e t m h = by (conflicts locks s r.0 r.1) refl e (granted locks s request)
   where
     is-it : (b : Bool) → (nat_eq r.0 t && same_mode r.1 m) ≡ b → (b || list_any (λ x. nat_eq x.0 t && same_mode x.1 m) request) ≡ true → conflicts locks s r.0 r.1 ≡ false →
         (list_any (λ x. nat_eq x.0 t && same_mode x.1 m) request ≡ true → conflicts locks s t m ≡ false) → conflicts locks s t m ≡ false
-    is-it true p q free rest = (λ i. conflicts locks s (sym (eqb-true r.0 t (and_left (nat_eq r.0 t) (same_mode r.1 m) p)) i) (sym (same_as r.1 m (and_right (nat_eq r.0 t) (same_mode r.1 m) p)) i)) ∙ free
+    is-it true p q free rest = (λ i. conflicts locks s (sym (eqb-true r.0 t (and_parts (nat_eq r.0 t) (same_mode r.1 m) p).0) i) (sym (same_as r.1 m (and_parts (nat_eq r.0 t) (same_mode r.1 m) p).1) i)) ∙ free
     is-it false p q free rest = rest q
 
     by : (b : Bool) → conflicts locks s r.0 r.1 ≡ b → option_map (λ (x : ℕ × Mode). x.0) (cond b (Some r) (find (λ (x : ℕ × Mode). conflicts locks s x.0 x.1) request)) ≡ None →
@@ -88,7 +84,7 @@ taken-request s first old request none k = record { others = λ o t m other. sam
         held-or-granted : (a : Bool) → old p t Write ≡ a → (b : Bool) → is_asked request t Write ≡ b → old o t m ≡ false
         held-or-granted true x b y = k.exclusive p o t m ip io differ x
         held-or-granted false x true y = free-write old s t (granted old s request none t Write y) o m io f
-        held-or-granted false x false y = no_way (sym (own p t Write e false false x y) ∙ h)
+        held-or-granted false x false y = absurd (false≢true (sym (own p t Write e false false x y) ∙ h))
     by false p e true o f t m ip io differ h = own o t m f false false (k.exclusive p o t m ip io differ held) (unasked (is_asked request t m) refl)
       where
         held : old p t Write ≡ true
@@ -102,7 +98,7 @@ taken-request s first old request none k = record { others = λ o t m other. sam
 pub taken-released : (s : ℕ) (old : Locks) → AreExclusive old → Taken s old (released old s)
 taken-released s old k = record {
   others = λ o t m other. ap (λ (b : Bool). not b && old o t m) other;
-  exclusive = λ p o t m ip io differ h. none (not (nat_eq o s)) (old o t m) (k p o t m ip io differ (and_right (not (nat_eq p s)) (old p t Write) h));
+  exclusive = λ p o t m ip io differ h. none (not (nat_eq o s)) (old o t m) (k p o t m ip io differ (and_parts (not (nat_eq p s)) (old p t Write) h).1);
 }
   where
     none : (a b : Bool) → b ≡ false → (a && b) ≡ false
