@@ -14,7 +14,6 @@ use Rattle.clap.specs.declared.parser.matches.Found.{Found}
 use Rattle.clap.specs.declared.parser.matches.MatchedArg.{MatchedArg}
 use Rattle.clap.specs.Words.{App, HasMatchesOf, IsAmong, Kinds, Row, Text, fault_of, first_of, found_of, is_simple, is_simple_and_free, matches_of}
 use Rattle.clap.specs.declared.error.kind.ErrorKind.{ErrorKind}
-use Rattle.std.specs.Io.KnownBytes.{Keeps}
 use Rattle.clap.proofs.OnLiterals.{clap_on_literals}
 use Rattle.sb_command.specs.Words.{AskForRun, HasNumber, starhost, text_of}
 
@@ -63,10 +62,6 @@ same_run words t b u c P asks again h =
 
 pub none_among : (k : ErrorKind) (ks : Kinds) → ks ≡ [] → IsAmong k ks → ⊥
 none_among k ks none h = subst (IsAmong k) none h
-
-pub keeps_all : (xs : Option (List ℕ)) → Keeps xs xs
-keeps_all None = tt
-keeps_all (Some x) = refl
 
 -- a status of 1 or 2
 pub not_success : (n : ℕ) → (n ≡ 1) ⊎ (n ≡ 2) → n ≡ 0 → ⊥

@@ -35,6 +35,7 @@ Examples:
   starhost --tenants 2 --bound 10 < lines.txt > replies.txt
 
 A run ends with status 0; with 1 and a line `fault: ..` on standard error where
-reading or writing failed or memory ran out. Words that aren't allowed are
-refused with status 2. docs/COMMANDS.md has all commands.
+reading or writing failed or memory ran out. Where standard error is a terminal,
+a line before that counts lines, steps and refusals. Words that aren't allowed
+are refused with status 2. docs/COMMANDS.md has all commands.
 ";

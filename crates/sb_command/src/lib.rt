@@ -1,8 +1,13 @@
 //! The program's words: what a command line asks for, and what it is answered.
 #![tactic(auto)]
 
+mod console;
 mod help;
 mod program;
 mod request;
+mod telling;
+#[cfg(test)]
+mod tests;
 
+pub use console::Console;
 pub use program::command;

@@ -2,19 +2,17 @@
 ghost use Rattle.std.specs.Prelude.{◌≡◌, ◌≤◌, ◌⊎◌, List, ℕ, IfSome, length, map};
 ghost use Rattle.std.specs.Io.KnownBytes.{Appends, Keeps};
 ghost use Rattle.sb_wire.specs.Stream.{AnswersFresh};
-ghost use Rattle.sb_command.specs.Does.{GoesFresh, Tells, fault_line, line_of, status_of};
+ghost use Rattle.sb_command.specs.Does.{GoesFresh, Tells, TellsRun, fault_line, status_of};
 ghost use Rattle.sb_command.specs.Words.{AreRefused, AskForHelp, AskForRun, AskForVersion, IsWithin};
 
+use crate::console::Console;
 use crate::help::{ALLOWED, HELP, NOT_ALLOWED, VERSION};
 use crate::request::{Asked, Request, read_words};
+use crate::telling::{SUCCESS, fault, tell_run};
 use clap::Error;
-use sb_wire::{Sink, Source, StreamError, run_fresh, write_bytes};
+use sb_wire::{Sink, Source, StreamError, Summary, run_fresh, write_bytes};
 use std::alloc::Global;
 use std::convert::AsStr;
-
-const SUCCESS: u8 = 0;
-
-const FAULT: u8 = 1;
 
 const BAD_WORDS: u8 = 2;
 
@@ -24,7 +22,7 @@ pub fn command<S: AsStr, R: Source, W: Sink, E: Sink>(
     words: &[S],
     reader: &mut R,
     writer: &mut W,
-    errors: &mut E,
+    errors: &mut Console<E>,
 ) -> u8
     // with status 0, words that ask for a run have the definition's text for the input
     ensures runs { (tenants bound : ℕ) → AskForRun (map S.text words.now) tenants bound
@@ -36,48 +34,56 @@ pub fn command<S: AsStr, R: Source, W: Sink, E: Sink>(
         × AnswersFresh 16 1000 input text) }
     // whatever the status, it tells how the stream of such words went
     ensures asked { ((tenants bound : ℕ) × AskForRun (map S.text words.now) tenants bound
-        × (ended : _) × (result ≡ status_of ended)
+        × (ended : _) × (summary : _) × (result ≡ status_of ended)
         × GoesFresh R.fails R.remaining W.refuses W.contents tenants bound reader.old reader.new
-        writer.old writer.new ended
-        × Tells E.refuses E.contents errors.old errors.new (line_of ended))
+        writer.old writer.new ended summary
+        × TellsRun E.refuses E.contents errors.old.is_terminal errors.old.sink errors.new.sink
+        summary ended)
         ⊎ ((result ≡ 0 → AskForHelp (map S.text words.now) ⊎ AskForVersion (map S.text words.now))
         × (result ≡ 1 → (why : _)
-        × Tells E.refuses E.contents errors.old errors.new (fault_line why))
+        × Tells E.refuses E.contents errors.old.sink errors.new.sink (fault_line why))
         × (result ≡ 2 → AreRefused (map S.text words.now)
         × Keeps (W.contents writer.old) (W.contents writer.new))
         × (result ≤ 2) × (reader.new ≡ reader.old)) }
 {
     match read_words(alloc, words) {
         Ok(Asked::Run(request)) => run(alloc, request, reader, writer, errors),
-        Ok(Asked::Help) => show(HELP, writer, errors),
-        Ok(Asked::Version) => show(VERSION, writer, errors),
-        Ok(Asked::Refused(error)) => refuse(alloc, &error, errors),
-        Ok(Asked::NotAllowed) => refuse_numbers(errors),
-        Err(_) => fault(StreamError::NoMemory, errors),
+        Ok(Asked::Help) => show(HELP, writer, &mut errors.sink),
+        Ok(Asked::Version) => show(VERSION, writer, &mut errors.sink),
+        Ok(Asked::Refused(error)) => refuse(alloc, &error, &mut errors.sink),
+        Ok(Asked::NotAllowed) => refuse_numbers(&mut errors.sink),
+        Err(_) => fault(StreamError::NoMemory, &mut errors.sink),
     }
 }
 
-/// Answers the lines of the input on a fresh cell.
+/// Answers the lines of the input on a fresh cell, and tells how that went.
 fn run<R: Source, W: Sink, E: Sink>(
     alloc: Global,
     request: Request,
     reader: &mut R,
     writer: &mut W,
-    errors: &mut E,
+    errors: &mut Console<E>,
 ) -> u8
     requires { IsWithin request }
     ensures runs { result ≡ 0 → IfSome (R.remaining reader.old)
         (λ input. (text : List ℕ) × Appends (W.contents writer.old) (W.contents writer.new) text
         × AnswersFresh request.tenants request.bound input text) }
-    ensures goes { (ended : _) × (result ≡ status_of ended)
+    ensures goes { (ended : _) × (summary : _) × (result ≡ status_of ended)
         × GoesFresh R.fails R.remaining W.refuses W.contents request.tenants request.bound
-        reader.old reader.new writer.old writer.new ended
-        × Tells E.refuses E.contents errors.old errors.new (line_of ended) }
+        reader.old reader.new writer.old writer.new ended summary
+        × TellsRun E.refuses E.contents errors.old.is_terminal errors.old.sink errors.new.sink
+        summary ended }
 {
-    match run_fresh(alloc, request.tenants, request.bound, reader, writer) {
-        Ok(()) => SUCCESS,
-        Err(error) => fault(error, errors),
-    }
+    let mut summary = Summary::new();
+    let ended = run_fresh(
+        alloc,
+        request.tenants,
+        request.bound,
+        reader,
+        writer,
+        &mut summary,
+    );
+    tell_run(alloc, &summary, ended, errors)
 }
 
 fn show<W: Sink, E: Sink>(text: &str, writer: &mut W, errors: &mut E) -> u8
@@ -90,20 +96,6 @@ fn show<W: Sink, E: Sink>(text: &str, writer: &mut W, errors: &mut E) -> u8
         Ok(()) => SUCCESS,
         Err(error) => fault(error, errors),
     }
-}
-
-/// Writes the line of a fault. Where it can't be written, nobody can be told.
-fn fault<E: Sink>(error: StreamError, errors: &mut E) -> u8
-    ensures status { result ≡ 1 }
-    ensures tells { Tells E.refuses E.contents errors.old errors.new (fault_line error) }
-{
-    let line: &[u8] = match error {
-        StreamError::ReadFault => b"fault: read failed\n",
-        StreamError::WriteFault => b"fault: write failed\n",
-        StreamError::NoMemory => b"fault: out of memory\n",
-    };
-    let _told = write_bytes(errors, line);
-    FAULT
 }
 
 /// Writes the first line of an error, and what is allowed.

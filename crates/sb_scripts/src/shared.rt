@@ -10,7 +10,7 @@ use sb_rawlog::ChangeLog as _;
 use sb_value::{
     Kind, RULE_LIMIT, RuleId, RuleSet, SessionId, TENANT_LIMIT, TableId, TenantId, Who,
 };
-use sb_wire::run_stream;
+use sb_wire::{Summary, run_stream};
 use std::alloc::{AllocError, Global};
 
 /// Adds the replies to these lines, and behind each how many changes open transactions have. At the
@@ -23,10 +23,11 @@ pub fn play_shared(
     out: &mut Vec<u8>,
 ) -> Result<(), ScriptFault> {
     let mut cell = fresh_cell(alloc, header)?;
+    let mut summary = Summary::new();
     for line in lines.split(|byte| *byte == b'\n') {
         if !line.is_empty() {
             let mut reader: &[u8] = line;
-            let ended = run_stream(alloc, &mut reader, out, &mut cell);
+            let ended = run_stream(alloc, &mut reader, out, &mut cell, &mut summary);
             push_end(ended, out)?;
             push_line("log ", cell.log_len() as u64, out)?;
         }

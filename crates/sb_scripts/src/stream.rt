@@ -4,7 +4,7 @@ use crate::ends::{Failing, Narrow};
 use crate::fault::ScriptFault;
 use crate::header::{Each, Header};
 use sb_cell::Cell;
-use sb_wire::{Fallible, StreamError, run_stream};
+use sb_wire::{Fallible, StreamError, Summary, run_stream};
 use std::alloc::Global;
 
 /// The most tenants of a cell.
@@ -52,7 +52,8 @@ fn play_once(
     let mut writer = Fallible {
         inner: Narrow::new(header, out),
     };
-    let ended = run_stream(alloc, &mut reader, &mut writer, &mut cell);
+    let mut summary = Summary::new();
+    let ended = run_stream(alloc, &mut reader, &mut writer, &mut cell, &mut summary);
     push_end(ended, out)
 }
 

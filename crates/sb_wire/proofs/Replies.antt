@@ -1,60 +1,16 @@
 -- Replies one after another, and the text that is written.
-use Rattle.std.proofs.Common.{◌≡◌, ◌∙◌, sym, ap, subst, refl, ◌++◌, ◌∷◌, [], List, ℕ, Bool, append_assoc, append-nil, Option, Some, None}
-use Rattle.std.specs.Io.KnownBytes.{Appends, Consumes, Keeps}
+use Rattle.std.proofs.Common.{◌≡◌, ◌∙◌, sym, ap, subst, refl, ◌++◌, ◌∷◌, [], List, ℕ, Bool, append_assoc, append-nil, Option}
+use Rattle.std.specs.Io.KnownBytes.{Appends}
+use Rattle.std.proofs.KnownBytes.{Appends-nil, Appends-trans}
 use Rattle.sb_tenant.specs.State.{State}
 use Rattle.sb_cell.specs.Tenants.{Cell, hosts, IsSame}
 use Rattle.sb_wire.specs.Lines.{Piece}
+use Rattle.sb_wire.specs.Counts.{Adds, Response, response_text}
 use Rattle.sb_wire.specs.Output.{AreAnswers}
-use Rattle.sb_wire.specs.Stream.{AnswersPiece, AnswersPieces, Replies, states}
+use Rattle.sb_wire.specs.Stream.{AnswersPiece, AnswersPieces, CountedReplies, states}
+use Rattle.sb_wire.specs.declared.summary.Summary.{Summary}
 use Rattle.sb_wire.proofs.Answers.{same_hosts, same_again}
-
--- ---- known bytes
-
--- they grow by the one text and then by the other
-pub appends_then : (one two three : Option (List ℕ)) (xs ys : List ℕ) → Appends one two xs → Appends two three ys → Appends one three (xs ++ ys)
-appends_then None two three xs ys first next = tt
-appends_then (Some a) None three xs ys first next = absurd first
-appends_then (Some a) (Some b) None xs ys first next = absurd next
-appends_then (Some a) (Some b) (Some c) xs ys first next = next ∙ ap (λ t. t ++ ys) first ∙ append_assoc a xs ys
-
-pub appends_none : (one : Option (List ℕ)) → Appends one one []
-appends_none None = tt
-appends_none (Some a) = sym (append-nil a)
-
-pub appends_kept : (one two three : Option (List ℕ)) (xs : List ℕ) → Appends one two xs → Keeps two three → Appends one three xs
-appends_kept None two three xs first next = tt
-appends_kept (Some a) None three xs first next = absurd first
-appends_kept (Some a) (Some b) None xs first next = absurd next
-appends_kept (Some a) (Some b) (Some c) xs first next = next ∙ first
-
--- they lose the one part and then the other
-pub consumes_then : (one two three : Option (List ℕ)) (xs ys : List ℕ) → Consumes one two xs → Consumes two three ys → Consumes one three (xs ++ ys)
-consumes_then None two three xs ys first next = tt
-consumes_then (Some a) None three xs ys first next = absurd first
-consumes_then (Some a) (Some b) None xs ys first next = absurd next
-consumes_then (Some a) (Some b) (Some c) xs ys first next = first ∙ ap (λ t. xs ++ t) next ∙ sym (append_assoc xs ys c)
-
-pub consumes_none : (one : Option (List ℕ)) → Consumes one one []
-consumes_none None = tt
-consumes_none (Some a) = refl
-
-pub consumes_kept : (one two three : Option (List ℕ)) (xs : List ℕ) → Consumes one two xs → Keeps two three → Consumes one three xs
-consumes_kept None two three xs first next = tt
-consumes_kept (Some a) None three xs first next = absurd first
-consumes_kept (Some a) (Some b) None xs first next = absurd next
-consumes_kept (Some a) (Some b) (Some c) xs first next = first ∙ ap (λ t. xs ++ t) (sym next)
-
-pub keeps_then : (one two three : Option (List ℕ)) → Keeps one two → Keeps two three → Keeps one three
-keeps_then None two three first next = tt
-keeps_then (Some a) None three first next = absurd first
-keeps_then (Some a) (Some b) None first next = absurd next
-keeps_then (Some a) (Some b) (Some c) first next = next ∙ first
-
-pub keeps_all : (one : Option (List ℕ)) → Keeps one one
-keeps_all None = tt
-keeps_all (Some a) = refl
-
--- ---- replies
+use Rattle.sb_wire.proofs.Counting.{counts-none, counts-one, counts-then}
 
 -- some pieces and next others
 answers_then : (hosted : ℕ → Bool) (bound : ℕ) (before mid after : ℕ → State) (ps qs : List Piece) (text more : List ℕ) → AreAnswers hosted bound before ps text mid → AreAnswers hosted bound mid qs more after
@@ -74,48 +30,63 @@ pieces_then a b c ps qs text more one two = record {
 }
 
 -- some pieces and then others
-pub replies_then : (a b c : Cell) (h0 h1 h2 : Option (List ℕ)) (waiting mid left : List ℕ) (ps qs : List Piece) → Replies a h0 waiting ps b h1 mid → Replies b h1 mid qs c h2 left → Replies a h0 waiting (ps ++ qs) c h2 left
-replies_then a b c h0 h1 h2 waiting mid left ps qs one two = record {
-  text = one.text ++ two.text;
-  answered = pieces_then a b c ps qs one.text two.text one.answered two.answered;
-  written = one.written ++ two.written;
-  whole =
-      sym (append_assoc waiting one.text two.text) ∙ ap (λ (t : List ℕ). t ++ two.text) one.whole ∙ append_assoc one.written mid two.text
-      ∙ ap (λ (t : List ℕ). one.written ++ t) two.whole ∙ sym (append_assoc one.written two.written left);
-  appends = appends_then h0 h1 h2 one.written two.written one.appends two.appends;
-}
+pub replies_then : (a b c : Cell) (h0 h1 h2 : Option (List ℕ)) (waiting mid left : List ℕ) (ps qs : List Piece) (s0 s1 s2 : Summary) → CountedReplies a h0 waiting ps b h1 mid s0 s1 → CountedReplies b h1 mid qs c h2 left s1 s2
+    → CountedReplies a h0 waiting (ps ++ qs) c h2 left s0 s2
+replies_then a b c h0 h1 h2 waiting mid left ps qs s0 s1 s2 first next =
+    let one = first.replies in
+    let two = next.replies in record {
+      replies = record {
+        text = one.text ++ two.text;
+        answered = pieces_then a b c ps qs one.text two.text one.answered two.answered;
+        written = one.written ++ two.written;
+        whole =
+            sym (append_assoc waiting one.text two.text) ∙ ap (λ (t : List ℕ). t ++ two.text) one.whole ∙ append_assoc one.written mid two.text
+            ∙ ap (λ (t : List ℕ). one.written ++ t) two.whole ∙ sym (append_assoc one.written two.written left);
+        appends = Appends-trans h0 h1 h2 one.written two.written one.appends two.appends;
+      };
+      counts = counts-then ps qs one.text two.text s0 s1 s2 first.counts next.counts;
+    }
 
 -- no piece, but a first part of what waits is written
-pub replies_written : (a : Cell) (h0 h1 : Option (List ℕ)) (waiting written left : List ℕ) → waiting ≡ written ++ left → Appends h0 h1 written → Replies a h0 waiting [] a h1 left
-replies_written a h0 h1 waiting written left is appends = record {
-  text = [];
-  answered = record { answers = (refl, refl); same = (refl, refl, refl, refl) };
-  written = written;
-  whole = append-nil waiting ∙ is;
-  appends = appends;
+pub replies_written : (a : Cell) (h0 h1 : Option (List ℕ)) (waiting written left : List ℕ) (s : Summary) → waiting ≡ written ++ left → Appends h0 h1 written → CountedReplies a h0 waiting [] a h1 left s s
+replies_written a h0 h1 waiting written left s is appends = record {
+  replies = record {
+    text = [];
+    answered = record { answers = (refl, refl); same = (refl, refl, refl, refl) };
+    written = written;
+    whole = append-nil waiting ∙ is;
+    appends = appends;
+  };
+  counts = counts-none s;
 }
 
 -- nothing at all
-pub replies_none : (a : Cell) (h : Option (List ℕ)) (waiting : List ℕ) → Replies a h waiting [] a h waiting
-replies_none a h waiting = replies_written a h h waiting [] waiting refl (appends_none h)
+pub replies_none : (a : Cell) (h : Option (List ℕ)) (waiting : List ℕ) (s : Summary) → CountedReplies a h waiting [] a h waiting s s
+replies_none a h waiting s = replies_written a h h waiting [] waiting s refl (Appends-nil h)
 
--- one piece, and nothing is written
-pub replies_one : (a b : Cell) (h : Option (List ℕ)) (waiting : List ℕ) (p : Piece) (text : List ℕ) → AnswersPiece a p text b → IsSame a b → Replies a h waiting (p ∷ []) b h (waiting ++ text)
-replies_one a b h waiting p text own same = record {
-  text = text;
-  answered = record { answers = (text, [], states b, sym (append-nil text), own, (refl, refl)); same = same };
-  written = [];
-  whole = refl;
-  appends = appends_none h;
-}
+module _ (a b : Cell) (p : Piece) (r : Response) (s0 s1 : Summary) (own : AnswersPiece a p (response_text r) b) (same : IsSame a b) (adds : Adds s0 (r ∷ []) s1) where
+  -- one piece, and nothing is written
+  pub replies_one : (h : Option (List ℕ)) (waiting : List ℕ) → CountedReplies a h waiting (p ∷ []) b h (waiting ++ response_text r) s0 s1
+  replies_one h waiting = record {
+    replies = record {
+      text = response_text r;
+      answered = record { answers = (response_text r, [], states b, sym (append-nil (response_text r)), own, (refl, refl)); same = same };
+      written = [];
+      whole = refl;
+      appends = Appends-nil h;
+    };
+    counts = counts-one p r s0 s1 adds;
+  }
 
--- one piece whose text found no room; what waited is written before it
-pub replies_early : (a b : Cell) (h0 h1 : Option (List ℕ)) (waiting written left : List ℕ) (p : Piece) (text : List ℕ) → AnswersPiece a p text b → IsSame a b → waiting ≡ written ++ left → Appends h0 h1 written
-    → Replies a h0 waiting (p ∷ []) b h1 (left ++ text)
-replies_early a b h0 h1 waiting written left p text own same is appends = record {
-  text = text;
-  answered = record { answers = (text, [], states b, sym (append-nil text), own, (refl, refl)); same = same };
-  written = written;
-  whole = ap (λ (t : List ℕ). t ++ text) is ∙ append_assoc written left text;
-  appends = appends;
-}
+  -- one piece whose text found no room; what waited is written before it
+  pub replies_early : (h0 h1 : Option (List ℕ)) (waiting written left : List ℕ) → waiting ≡ written ++ left → Appends h0 h1 written → CountedReplies a h0 waiting (p ∷ []) b h1 (left ++ response_text r) s0 s1
+  replies_early h0 h1 waiting written left is appends = record {
+    replies = record {
+      text = response_text r;
+      answered = record { answers = (response_text r, [], states b, sym (append-nil (response_text r)), own, (refl, refl)); same = same };
+      written = written;
+      whole = ap (λ (t : List ℕ). t ++ response_text r) is ∙ append_assoc written left (response_text r);
+      appends = appends;
+    };
+    counts = counts-one p r s0 s1 adds;
+  }

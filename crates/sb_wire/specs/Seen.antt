@@ -21,6 +21,23 @@ pieces_seen (Some piece) = piece_seen piece ∷ []
 abbrev pub addressed_seen : Addressed → ItsAddressed
 addressed_seen a = record { tenant = a.tenant; session = a.session; command = a.command.now }
 
+-- the number of a refusal, and its name
+abbrev pub wire_number : WireRefusal → ℕ
+wire_number refusal.TooLong = 11
+wire_number refusal.BadLine = 12
+wire_number refusal.NoTenant = 13
+wire_number refusal.NoSession = 14
+wire_number refusal.NoMemory = 91
+wire_number refusal.NotBegun = 92
+
+abbrev pub wire_name : WireRefusal → List ℕ
+wire_name refusal.TooLong = codes "TooLong"
+wire_name refusal.BadLine = codes "BadLine"
+wire_name refusal.NoTenant = codes "NoTenant"
+wire_name refusal.NoSession = codes "NoSession"
+wire_name refusal.NoMemory = codes "NoMemory"
+wire_name refusal.NotBegun = codes "NotBegun"
+
 -- the line that refuses
 abbrev pub refusal_line : WireRefusal → List ℕ
 refusal_line refusal.TooLong = codes "no 11 TooLong"

@@ -6,8 +6,10 @@ use Rattle.sb_tenant.specs.Trail.{state_of}
 use Rattle.sb_cell.specs.Tenants.{Cell, hosts, trails, IsSame}
 use Rattle.sb_wire.specs.Lines.{Piece, pieces_of, complete_pieces, Completes}
 use Rattle.sb_wire.specs.Output.{IsAnswer, AreAnswers, IsOutput, TellsNoWant, output}
+use Rattle.sb_wire.specs.Counts.{Counts}
 use Rattle.sb_wire.specs.declared.fault.StreamError.{StreamError}
 use Rattle.sb_wire.specs.declared.fault.StreamError.TheVariants.{ReadFault, WriteFault, NoMemory}
+use Rattle.sb_wire.specs.declared.summary.Summary.{Summary}
 
 -- the states that the tenants' trails give
 abbrev pub states : Cell → ℕ → State
@@ -43,8 +45,13 @@ pub record Replies (old : Cell) (held : Option (List ℕ)) (waiting : List ℕ) 
   pub whole : waiting ++ text ≡ written ++ left
   pub appends : Appends held holds written
 
+-- and the summary counts the replies
+pub record CountedReplies (old : Cell) (held : Option (List ℕ)) (waiting : List ℕ) (pieces : List Piece) (new : Cell) (holds : Option (List ℕ)) (left : List ℕ) (before after : Summary) : Type 0 where
+  pub replies : Replies old held waiting pieces new holds left
+  pub counts : Counts pieces replies.text before after
+
 -- so are the lines that a first part of the bytes completes, behind an open line
-pub record TakesLines (old : Cell) (held : Option (List ℕ)) (waiting : List ℕ) (start : Piece) (bytes : List ℕ) (new : Cell) (holds : Option (List ℕ)) : Type 0 where
+pub record TakesLines (old : Cell) (held : Option (List ℕ)) (waiting : List ℕ) (start : Piece) (bytes : List ℕ) (new : Cell) (holds : Option (List ℕ)) (before after : Summary) : Type 0 where
   pub taken : List ℕ
   pub ahead : List ℕ
   pub split : bytes ≡ taken ++ ahead
@@ -52,7 +59,7 @@ pub record TakesLines (old : Cell) (held : Option (List ℕ)) (waiting : List �
   pub opened : Piece
   pub completes : Completes start taken pieces opened
   pub left : List ℕ
-  pub replies : Replies old held waiting pieces new holds left
+  pub replies : CountedReplies old held waiting pieces new holds left before after
 
 -- what holds where a writer is at fault
 abbrev pub OnWriteFault : {T : Type 0} → Result T StreamError → Type 0 → Type 0

@@ -1,6 +1,7 @@
 //! The answer to one piece of an input.
-ghost use Rattle.std.specs.Prelude.{◌≡◌, ◌++◌, List, ℕ, OnOk, OnErr, Result};
+ghost use Rattle.std.specs.Prelude.{◌≡◌, ◌++◌, ◌∷◌, [], OnOk, OnErr, Result};
 ghost use Rattle.sb_cell.specs.Tenants.{AnswersEvent, IsSame};
+ghost use Rattle.sb_wire.specs.Counts.{Adds, Response, line_refusal, response_text, step_reply};
 ghost use Rattle.sb_wire.specs.Output.{answer_text, text_behind};
 ghost use Rattle.sb_wire.specs.Seen.{piece_seen, addressed_seen};
 ghost use Rattle.sb_wire.specs.Stream.{AnswersPiece};
@@ -10,29 +11,48 @@ use crate::input::Piece;
 use crate::prefix::Prefix;
 use crate::refusal::WireRefusal;
 use crate::reply_text::{write_refusal, write_reply};
+use crate::summary::Summary;
 use sb_cell::{Cell, StepError};
 use sb_tenant::Answer;
 use std::alloc::{AllocError, Global};
 
-/// Answers a piece behind the text so far.
+/// Answers a piece behind the text so far, and counts it.
 pub(crate) fn answer_piece(
     alloc: Global,
     cell: &mut Cell,
     piece: Piece<'_>,
     out: &mut Vec<u8>,
+    summary: &mut Summary,
 ) -> Result<(), AllocError>
-    ensures answers { (text : List ℕ) × AnswersPiece cell.old (piece_seen piece.entry) text cell.new
-        × OnOk result (out.new.items ≡ out.old.items ++ text)
-        × OnErr result (out.new.items ≡ out.old.items) }
+    ensures answers { (response : Response)
+        × AnswersPiece cell.old (piece_seen piece.entry) (response_text response) cell.new
+        × OnOk result (out.new.items ≡ out.old.items ++ response_text response)
+        × OnErr result (out.new.items ≡ out.old.items)
+        × Adds summary.old (response ∷ []) summary.new }
     ensures same { IsSame cell.old cell.new }
 {
     match piece {
-        Piece::TooLong => write_refusal(out, &Prefix::none(), WireRefusal::TooLong),
+        Piece::TooLong => refuse_line(out, summary, WireRefusal::TooLong),
         Piece::Line(line) => match Addressed::split(line) {
-            Some(addressed) => answer_line(alloc, cell, addressed, out),
-            None => write_refusal(out, &Prefix::none(), WireRefusal::BadLine),
+            Some(addressed) => answer_line(alloc, cell, addressed, out, summary),
+            None => refuse_line(out, summary, WireRefusal::BadLine),
         },
     }
+}
+
+/// Refuses a line that has no numbers to answer behind.
+fn refuse_line(
+    out: &mut Vec<u8>,
+    summary: &mut Summary,
+    refusal: WireRefusal,
+) -> Result<(), AllocError>
+    ensures ok { OnOk result (out.new.items ≡
+        out.old.items ++ response_text (line_refusal refusal)) }
+    ensures err { OnErr result (out.new.items ≡ out.old.items) }
+    ensures adds { Adds summary.old (line_refusal refusal ∷ []) summary.new }
+{
+    summary.add_refusal(refusal);
+    write_refusal(out, &Prefix::none(), refusal)
 }
 
 /// Makes the step of an addressed line, and writes its answer.
@@ -41,14 +61,17 @@ fn answer_line(
     cell: &mut Cell,
     line: Addressed<'_>,
     out: &mut Vec<u8>,
+    summary: &mut Summary,
 ) -> Result<(), AllocError>
     ensures answers { (given : Result Answer StepError)
         × AnswersEvent cell.old line.entry.tenant line.entry.session line.entry.command.now given cell.new
         × OnOk result (out.new.items ≡ out.old.items ++ answer_text (addressed_seen line.entry) given)
-        × OnErr result (out.new.items ≡ out.old.items) }
+        × OnErr result (out.new.items ≡ out.old.items)
+        × Adds summary.old (step_reply (addressed_seen line.entry) given ∷ []) summary.new }
     ensures same { IsSame cell.old cell.new }
 {
     let given = cell.step(alloc, line.tenant, line.session, line.command);
+    summary.add_answer(&given);
     write_answer(out, &Prefix::new(line.tenant, line.session), &given)
 }
 

@@ -2,11 +2,13 @@
 ghost use Rattle.std.specs.Prelude.{◌≡◌, ◌≤◌, ◌⊎◌, List, ℕ, Err, OnOk, IfSome};
 ghost use Rattle.std.specs.Io.KnownBytes.{Appends, Keeps};
 ghost use Rattle.sb_cell.specs.Tenants.{IsNew, Cell as ItsCell};
+ghost use Rattle.sb_wire.specs.Counts.{Counts};
 ghost use Rattle.sb_wire.specs.Stream.{AnswersFresh, EndsBy, MayFail, OnWriteFault, Streams};
 
 use crate::ends::{Sink, Source};
 use crate::fault::StreamError;
 use crate::stream::run_stream;
+use crate::summary::Summary;
 use sb_cell::Cell;
 use std::alloc::{AllocError, Global};
 
@@ -17,6 +19,7 @@ pub fn run_fresh<R: Source, W: Sink>(
     bound: u32,
     reader: &mut R,
     writer: &mut W,
+    summary: &mut Summary,
 ) -> Result<(), StreamError>
     requires tenants { tenants ≤ 256 }
     requires bound { bound ≤ 1000 }
@@ -32,9 +35,18 @@ pub fn run_fresh<R: Source, W: Sink>(
         new (R.remaining reader.new) (W.contents writer.new))
         × EndsBy R.fails R.remaining reader.new s.seen s.pieces s.left result) }
     ensures refused { OnWriteFault result (MayFail W.refuses W.contents writer.new) }
+    // the summary counts nothing, or the replies to just these lines
+    ensures counts { ((result ≡ Err StreamError.NoMemory)
+        × Keeps (R.remaining reader.old) (R.remaining reader.new)
+        × Keeps (W.contents writer.old) (W.contents writer.new) × (summary.new ≡ summary.old))
+        ⊎ ((old new : ItsCell) × IsNew 0 1 tenants bound old
+        × (s : Streams old (R.remaining reader.old) (W.contents writer.old)
+        new (R.remaining reader.new) (W.contents writer.new))
+        × EndsBy R.fails R.remaining reader.new s.seen s.pieces s.left result
+        × Counts s.pieces s.replies.text summary.old summary.new) }
 {
     let Ok(mut cell) = Cell::new(alloc, 0, 1, tenants, bound) else {
         return Err(StreamError::NoMemory);
     };
-    run_stream(alloc, reader, writer, &mut cell)
+    run_stream(alloc, reader, writer, &mut cell, summary)
 }

@@ -15,7 +15,21 @@ pub enum WireRefusal {
 }
 
 impl WireRefusal {
-    ghost use Rattle.sb_wire.specs.Seen.{refusal_line};
+    ghost use Rattle.sb_wire.specs.Seen.{refusal_line, wire_number};
+
+    /// Its number in a reply.
+    pub(crate) fn number(&self) -> u8
+        ensures { result ≡ wire_number self.now }
+    {
+        match self {
+            WireRefusal::TooLong => 11,
+            WireRefusal::BadLine => 12,
+            WireRefusal::NoTenant => 13,
+            WireRefusal::NoSession => 14,
+            WireRefusal::NoMemory => 91,
+            WireRefusal::NotBegun => 92,
+        }
+    }
 
     /// The line that says it.
     pub(crate) fn text(&self) -> &'static str

@@ -2,14 +2,16 @@
 ghost use Rattle.std.specs.Prelude.{◌≡◌, ◌++◌, ◌∷◌, ◌≢◌, List, ℕ, [], OnOk, OnErr, IfErr, IfSome};
 ghost use Rattle.std.specs.Io.{ReadsAtMost};
 ghost use Rattle.std.specs.Io.KnownBytes.{Appends, Keeps, ReadConsumes};
+ghost use Rattle.sb_wire.specs.Counts.{Counts};
 ghost use Rattle.sb_wire.specs.Lines.{last_piece};
 ghost use Rattle.sb_wire.specs.Seen.{piece_seen};
-ghost use Rattle.sb_wire.specs.Stream.{AnswersInput, EndsBy, MayFail, OnWriteFault, Replies, Streams, TakesLines};
+ghost use Rattle.sb_wire.specs.Stream.{AnswersInput, CountedReplies, EndsBy, MayFail, OnWriteFault, Streams, TakesLines};
 
 use crate::answer::answer_piece;
 use crate::ends::{Sink, Source};
 use crate::fault::StreamError;
 use crate::input::{Lines, Piece};
+use crate::summary::Summary;
 use crate::tries::Tries;
 use sb_cell::Cell;
 use std::alloc::Global;
@@ -20,12 +22,14 @@ const PIECE_SIZE: usize = 65_536;
 /// The most reads of a stream.
 const MOST_READS: u64 = 1 << 32;
 
-/// Answers each line of the input when it is complete, and writes the replies before it reads on.
+/// Answers each line of the input when it is complete, writes the replies before it reads on, and
+/// counts them.
 pub fn run_stream<R: Source, W: Sink>(
     alloc: Global,
     reader: &mut R,
     writer: &mut W,
     cell: &mut Cell,
+    summary: &mut Summary,
 ) -> Result<(), StreamError>
     ensures ok { OnOk result (IfSome (R.remaining reader.old) (λ input. (text : List ℕ)
         × Appends (W.contents writer.old) (W.contents writer.new) text
@@ -34,6 +38,11 @@ pub fn run_stream<R: Source, W: Sink>(
         cell.new (R.remaining reader.new) (W.contents writer.new))
         × EndsBy R.fails R.remaining reader.new s.seen s.pieces s.left result }
     ensures refused { OnWriteFault result (MayFail W.refuses W.contents writer.new) }
+    // however it ends, the summary counts the replies to just these lines
+    ensures counts { (s : Streams cell.old (R.remaining reader.old) (W.contents writer.old)
+        cell.new (R.remaining reader.new) (W.contents writer.new))
+        × EndsBy R.fails R.remaining reader.new s.seen s.pieces s.left result
+        × Counts s.pieces s.replies.text summary.old summary.new }
 {
     let Ok(mut buffer) = vec![in alloc; 0u8; PIECE_SIZE] else {
         return Err(StreamError::NoMemory);
@@ -43,10 +52,10 @@ pub fn run_stream<R: Source, W: Sink>(
     for _read in 0..MOST_READS {
         let count = read_piece(reader, buffer.as_mut_slice())?;
         if count == 0 {
-            return answer_last(alloc, &lines, writer, cell, &mut out);
+            return answer_last(alloc, &lines, writer, cell, &mut out, summary);
         }
         let bytes = &buffer.as_slice()[..count];
-        answer_bytes(alloc, bytes, &mut lines, writer, cell, &mut out)?;
+        answer_bytes(alloc, bytes, &mut lines, writer, cell, &mut out, summary)?;
     }
     Err(StreamError::ReadFault)
 }
@@ -78,10 +87,11 @@ fn answer_last<W: Sink>(
     writer: &mut W,
     cell: &mut Cell,
     out: &mut Vec<u8>,
+    summary: &mut Summary,
 ) -> Result<(), StreamError>
     ensures replies { (left : List ℕ)
-        × Replies cell.old (W.contents writer.old) out.old.items (last_piece lines.now)
-        cell.new (W.contents writer.new) left
+        × CountedReplies cell.old (W.contents writer.old) out.old.items (last_piece lines.now)
+        cell.new (W.contents writer.new) left summary.old summary.new
         × OnOk result (left ≡ []) }
     ensures refused { OnWriteFault result (MayFail W.refuses W.contents writer.new) }
     ensures reads { IfErr result (λ e. e ≢ StreamError.ReadFault) }
@@ -89,7 +99,7 @@ fn answer_last<W: Sink>(
     let Some(piece) = lines.finish() else {
         return write_out(writer, out);
     };
-    answer_next(alloc, piece, writer, cell, out)?;
+    answer_next(alloc, piece, writer, cell, out, summary)?;
     write_out(writer, out)
 }
 
@@ -101,14 +111,15 @@ fn answer_bytes<W: Sink>(
     writer: &mut W,
     cell: &mut Cell,
     out: &mut Vec<u8>,
+    summary: &mut Summary,
 ) -> Result<(), StreamError>
     ensures takes { (t : TakesLines cell.old (W.contents writer.old) out.old.items lines.old bytes.now
-        cell.new (W.contents writer.new))
+        cell.new (W.contents writer.new) summary.old summary.new)
         × OnOk result ((t.ahead ≡ []) × (t.opened ≡ lines.new) × (t.left ≡ []) × (out.new.items ≡ [])) }
     ensures refused { OnWriteFault result (MayFail W.refuses W.contents writer.new) }
     ensures reads { IfErr result (λ e. e ≢ StreamError.ReadFault) }
 {
-    answer_lines(alloc, bytes, lines, writer, cell, out)?;
+    answer_lines(alloc, bytes, lines, writer, cell, out, summary)?;
     write_out(writer, out)
 }
 
@@ -120,16 +131,17 @@ fn answer_lines<W: Sink>(
     writer: &mut W,
     cell: &mut Cell,
     out: &mut Vec<u8>,
+    summary: &mut Summary,
 ) -> Result<(), StreamError>
     ensures takes { (t : TakesLines cell.old (W.contents writer.old) out.old.items lines.old bytes.now
-        cell.new (W.contents writer.new))
+        cell.new (W.contents writer.new) summary.old summary.new)
         × OnOk result ((t.ahead ≡ []) × (t.opened ≡ lines.new) × (t.left ≡ out.new.items)) }
     ensures refused { OnWriteFault result (MayFail W.refuses W.contents writer.new) }
     ensures reads { IfErr result (λ e. e ≢ StreamError.ReadFault) }
 {
     let mut rest = bytes;
     while let Some(behind) = lines.feed(rest) {
-        answer_next(alloc, lines.line(), writer, cell, out)?;
+        answer_next(alloc, lines.line(), writer, cell, out, summary)?;
         lines.clear();
         rest = behind;
     }
@@ -143,15 +155,16 @@ fn answer_next<W: Sink>(
     writer: &mut W,
     cell: &mut Cell,
     out: &mut Vec<u8>,
+    summary: &mut Summary,
 ) -> Result<(), StreamError>
     ensures replies { (left : List ℕ)
-        × Replies cell.old (W.contents writer.old) out.old.items (piece_seen piece.entry ∷ [])
-        cell.new (W.contents writer.new) left
+        × CountedReplies cell.old (W.contents writer.old) out.old.items (piece_seen piece.entry ∷ [])
+        cell.new (W.contents writer.new) left summary.old summary.new
         × OnOk result (left ≡ out.new.items) }
     ensures refused { OnWriteFault result (MayFail W.refuses W.contents writer.new) }
     ensures reads { IfErr result (λ e. e ≢ StreamError.ReadFault) }
 {
-    match answer_piece(alloc, cell, piece, out) {
+    match answer_piece(alloc, cell, piece, out, summary) {
         Err(_) => {
             // the replies before are written all the same
             write_out(writer, out)?;

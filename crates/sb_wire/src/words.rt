@@ -72,6 +72,15 @@ pub(crate) fn push_count(out: &mut Vec<u8>, count: u64) -> Result<(), AllocError
     Ok(())
 }
 
+/// Some text, and a number behind it.
+pub(crate) fn push_labelled(out: &mut Vec<u8>, label: &[u8], number: u64) -> Result<(), AllocError>
+    ensures { OnOk result (out.new.items ≡ out.old.items ++ (label.now ++ decimal number)) }
+{
+    let mut buffer = Buffer::new();
+    out.extend_from_slice(label)?;
+    out.extend_from_slice(buffer.format(number).as_bytes())
+}
+
 /// A refusal's number and name as two more words.
 pub(crate) fn push_refusal(out: &mut Vec<u8>, refusal: &Refusal) -> Result<(), AllocError>
     ensures ok { OnOk result (out.new.items ≡

@@ -1,8 +1,9 @@
 //! The server: the lines of standard input, answered on standard output.
 #![tactic(auto)]
 
-use sb_command::command;
+use sb_command::{Console, command};
 use sb_wire::Fallible;
+use std::io::IsTerminal as _;
 use std::process::ExitCode;
 use std::{env, io};
 
@@ -25,7 +26,11 @@ fn status(rt: &HostRuntime) -> u8 {
     let mut writer = Fallible {
         inner: io::writer(rt),
     };
-    let mut errors = Fallible { inner: rt.stderr() };
+    let stderr = rt.stderr();
+    let mut errors = Console {
+        is_terminal: stderr.is_terminal(),
+        sink: Fallible { inner: stderr },
+    };
     command(
         rt.alloc(),
         words.as_slice(),

@@ -4,7 +4,8 @@ use Rattle.clap.specs.declared.error.kind.ErrorKind.TheVariants.{DisplayHelp, Di
 use Rattle.sb_wire.specs.Stream.{AnswersFresh}
 use Rattle.sb_wire.specs.declared.fault.StreamError.TheVariants.{NoMemory}
 use Rattle.sb_command.specs.Asked.{IsAsked}
-use Rattle.sb_command.proofs.Runs.{at_most_two, keeps_all, no_words, none_among, not_success, same_run}
+use Rattle.std.proofs.KnownBytes.{Keeps-refl}
+use Rattle.sb_command.proofs.Runs.{at_most_two, no_words, none_among, not_success, same_run}
 use Rattle.sb_command.proofs.program.command.Goals as goal
 
 pub returns-in-Ok-Run-clause-usual : goal.returns-in-Ok-Run-clause-usual
@@ -28,7 +29,7 @@ returns-in-Ok-Refused-clause-asked g c =
     inr (
       λ zero. absurd (not_success c.refuse.result c.refuse.ensures.status zero),
       c.refuse.ensures.told,
-      λ two. (subst (IsAsked (map g.S.AsStr.text c.args.words.now)) c.in-Ok-Refused.field-0-is c.in-Ok-Refused.ensures, keeps_all (g.W.Write.contents c.args.writer.now)),
+      λ two. (subst (IsAsked (map g.S.AsStr.text c.args.words.now)) c.in-Ok-Refused.field-0-is c.in-Ok-Refused.ensures, Keeps-refl (g.W.Write.contents c.args.writer.now)),
       at_most_two c.refuse.result c.refuse.ensures.status,
       refl,
     )
@@ -38,7 +39,7 @@ returns-in-Ok-NotAllowed-clause-asked g c =
     inr (
       λ zero. absurd (not_success c.refuse_numbers.result (inr c.refuse_numbers.ensures) zero),
       λ one. let bad : 2 ≡ 1 = sym c.refuse_numbers.ensures ∙ one in absurd (omega arith),
-      λ two. (subst (IsAsked (map g.S.AsStr.text c.args.words.now)) c.in-Ok-NotAllowed.field-0-is c.in-Ok-NotAllowed.ensures, keeps_all (g.W.Write.contents c.args.writer.now)),
+      λ two. (subst (IsAsked (map g.S.AsStr.text c.args.words.now)) c.in-Ok-NotAllowed.field-0-is c.in-Ok-NotAllowed.ensures, Keeps-refl (g.W.Write.contents c.args.writer.now)),
       at_most_two c.refuse_numbers.result (inr c.refuse_numbers.ensures),
       refl,
     )

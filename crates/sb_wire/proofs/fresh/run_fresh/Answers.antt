@@ -1,11 +1,18 @@
 use Rattle.std.proofs.Common.{inl, inr, refl}
 use Rattle.sb_wire.proofs.Openings.{fresh-ok}
-use Rattle.sb_wire.proofs.Replies.{keeps_all}
+use Rattle.std.proofs.KnownBytes.{Keeps-refl}
 use Rattle.sb_wire.proofs.fresh.run_fresh.Goals as goal
 
 -- no room for a cell
 pub returns-in_default-clause-goes : goal.returns-in_default-clause-goes
-returns-in_default-clause-goes g c = inl (refl, keeps_all (g.R.Read.remaining c.args.reader.now), keeps_all (g.W.Write.contents c.args.writer.now))
+returns-in_default-clause-goes g c = inl (refl, Keeps-refl (g.R.Read.remaining c.args.reader.now), Keeps-refl (g.W.Write.contents c.args.writer.now))
+
+pub returns-in_default-clause-counts : goal.returns-in_default-clause-counts
+returns-in_default-clause-counts g c = inl (refl, Keeps-refl (g.R.Read.remaining c.args.reader.now), Keeps-refl (g.W.Write.contents c.args.writer.now), refl)
+
+pub returns-clause-counts : goal.returns-clause-counts
+returns-clause-counts g c =
+    let told = c.run_stream.ensures.counts in inr (c.in-Ok.cell, c.run_stream.new.cell, c.in-Ok.ensures, told.0, told.1, told.2)
 
 pub returns-clause-goes : goal.returns-clause-goes
 returns-clause-goes g c = let told = c.run_stream.ensures.goes in inr (c.in-Ok.cell, c.run_stream.new.cell, c.in-Ok.ensures, told.0, told.1)

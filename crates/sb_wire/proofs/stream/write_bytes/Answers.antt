@@ -1,6 +1,6 @@
 use Rattle.std.proofs.Common.{◌≡◌, ◌∙◌, ◌++◌, ◌<◌, arith, rules, sym, ap, take, drop, List, ℕ, append_assoc}
 use Rattle.std.proofs.lemmas.List.{take_rest, take-append-drop}
-use Rattle.sb_wire.proofs.Replies.{appends_then}
+use Rattle.std.proofs.KnownBytes.{Appends-trans}
 use Rattle.sb_wire.proofs.stream.write_bytes.Goals as goal
 
 -- the writer took some more bytes
@@ -13,7 +13,7 @@ loop-rest-preserved-in-Ok g c =
     so_far.1 ∙ ap (λ (t : List ℕ). so_far.0 ++ t) (sym (take-append-drop count rest)) ∙ sym (append_assoc so_far.0 (take count rest) (drop count rest)) in (
       so_far.0 ++ take count rest,
       rw take_rest split,
-      appends_then (g.W.Write.contents c.args.writer.now) (g.W.Write.contents c.loop-rest.writer) (g.W.Write.contents c.write_some.new.self) so_far.0 (take count rest) so_far.2 c.in-Ok.ensures.bytes,
+      Appends-trans (g.W.Write.contents c.args.writer.now) (g.W.Write.contents c.loop-rest.writer) (g.W.Write.contents c.write_some.new.self) so_far.0 (take count rest) so_far.2 c.in-Ok.ensures.bytes,
     )
 
 -- or a try is made again
