@@ -1,9 +1,10 @@
 -- The tenants of a cell by their numbers.
-use Rattle.std.proofs.Common.{◌≡◌, ℕ, zero, suc, ◌+◌, ◌*◌, ◌/◌, ◌%◌, ◌<◌, Bool, true, false, cond, ◌&&◌, ◌==◌, nat_lt, List, [], ◌∷◌, length, get_or, slice_set, Some, None, refl, sym, ap, arith}
-use Rattle.std.specs.List.{slice_get}
+use Rattle.std.proofs.Common.{◌≡◌, ℕ, zero, suc, ◌+◌, ◌*◌, ◌/◌, ◌%◌, ◌<◌, Bool, true, false, cond, ◌&&◌, ◌==◌, nat_lt, List, [], ◌∷◌, length, get_or, slice_set, Some, None, refl, sym, ap, ◌∙◌, arith}
+use Rattle.std.specs.List.{All, slice_get}
 use Rattle.std.proofs.Math.Nat.{add-mul-div_left}
-use Rattle.std.proofs.lemmas.Bool.{true≢false, eqb-true, ltb-true, ltb-false, and_parts}
-use Rattle.std.proofs.lemmas.Option.{slice_get_past, slice_get_read}
+use Rattle.std.proofs.lemmas.Bool.{true≢false, and_from, and_parts, eq-eqb, eqb-true, lt-ltb, ltb-true, ltb-false}
+use Rattle.std.proofs.lemmas.Nat.{div-mul-add, mod-mul-add}
+use Rattle.std.proofs.lemmas.Option.{slice_get-get_or, slice_get_past, slice_get_read}
 use Rattle.sb_tenant.specs.State.{opening}
 use Rattle.sb_tenant.specs.Tenant.{Tenant}
 use Rattle.sb_tenant.specs.Trail.{state_of}
@@ -39,6 +40,14 @@ place_of first stride i j below same =
     let other = add-mul-div_left first j positive in
     let both = ap (λ n. n / stride) same in
     omega (arith, one, other, both)
+
+-- the number of a place is hosted
+pub own_number : (first stride place n : ℕ) → first < stride → place < n → (((first + stride * place) % stride == first) && nat_lt ((first + stride * place) / stride) n) ≡ true
+own_number first stride place n below within =
+    let turned : first + stride * place ≡ place * stride + first = omega arith in
+    let rest = ap (λ k. k % stride) turned ∙ mod-mul-add place stride first below in
+    let quotient = ap (λ k. k / stride) turned ∙ div-mul-add place stride first below in
+    and_from _ _ (eq-eqb _ _ rest) (lt-ltb _ _ (omega (arith, quotient)))
 
 -- a hosted number is that of its place
 pub number_of : (first stride t : ℕ) → first < stride → (t % stride == first) ≡ true → first + stride * (t / stride) ≡ t
@@ -84,3 +93,9 @@ module _ (c : Cell) (t : ℕ) where
   -- the tenant that is read at its place
   pub read_at : hosts c t ≡ true → (w : Tenant) → w ≡ get_or c.tenants (t / c.stride) w → slice_get c.tenants (t / c.stride) ≡ Some w
   read_at hosted w is = slice_get_read c.tenants (length c.tenants) (t / c.stride) w refl (within hosted) is
+
+-- each tenant is hosted under its own number
+pub all_hosted : (c : Cell) → IsHosted c → All (λ t. (hosts c t.id ≡ true) × (t.bound ≡ c.bound)) c.tenants
+all_hosted c h place d within =
+    let at = h.tenants place (get_or c.tenants place d) (slice_get-get_or c.tenants place d within) in
+    (ap (hosts c) at.id ∙ own_number c.first c.stride place (length c.tenants) h.first within, at.bound)

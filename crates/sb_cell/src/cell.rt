@@ -1,5 +1,5 @@
 //! Tenants that are served one step at a time, over one log and one index.
-ghost use Rattle.std.specs.Prelude.{◌≡◌, ◌≤◌, ◌<◌, ◌+◌, ◌*◌, ◌==◌, ◌%◌, ◌&&◌, ℕ, true, false, nat_le, nat_lt, Ok, Some, IfOk, OnErr, IsTrue, MatchOption, codes, length, option_copied, option_map};
+ghost use Rattle.std.specs.Prelude.{◌≡◌, ◌≤◌, ◌<◌, ◌+◌, ◌*◌, ◌==◌, ◌%◌, ◌&&◌, ℕ, true, false, nat_le, nat_lt, Ok, Some, IfOk, OnErr, IsTrue, MatchOption, All, codes, length, option_copied, option_map};
 ghost use Rattle.sb_tenant.specs.declared.reply.Reply.TheVariants as told;
 ghost use Rattle.sb_tenant.specs.Limits.{trail_limit};
 ghost use Rattle.sb_tenant.specs.Trail.{IsTrail};
@@ -88,6 +88,15 @@ impl Cell {
     {
         trails_are_bounded();
         let _tenants = &self.tenants;
+    }
+
+    /// Its tenants alone, each of which it hosts under its own number.
+    pub fn into_tenants(self) -> Vec<Tenant>
+        ensures tenants { result.items ≡ self.tenants }
+        ensures hosted { All (λ t. (hosts self t.id ≡ true) × (t.bound ≡ self.bound)) result.items }
+    {
+        let Cell { tenants, .. } = self;
+        tenants
     }
 
     /// Whether it has the tenant of that number.

@@ -71,6 +71,22 @@ impl Tenant {
         }
     }
 
+    /// Its number.
+    pub fn id(&self) -> TenantId
+        ensures { result ≡ self.now.id }
+    {
+        self.store.database.id
+    }
+
+    /// Its steps alone.
+    pub fn into_trail(self) -> Vec<Entry>
+        ensures value { result.items ≡ self.trail }
+        ensures legal { IsLegal self }
+    {
+        let Tenant { trail, .. } = self;
+        trail
+    }
+
     /// Its steps so far.
     pub fn trail(&self) -> &[Entry]
         ensures value { result.now ≡ self.now.trail }
