@@ -1,17 +1,12 @@
 //! Times parts of the server by themselves: `sb_bench WORK ROUNDS < LINES`, where the work is
-//! `read`, `resolve`, `join`, `names`, `numbers`, `logs`, `cell` or `tenant`. The lines are the commands of `read` and `resolve`, and what
-//! `cell` and `tenant` play; the others take none. Prints how many rounds went well and the nanoseconds of all. With no work, nothing is
-//! timed.
+//! `read`, `logs`, `cell` or `tenant`. The lines are the commands of `read`, and what `cell` and `tenant` play; `logs` takes none. Prints
+//! how many rounds went well and the nanoseconds of all. With no work, nothing is timed.
 #![tactic(auto)]
 
 mod cell;
-mod join;
 mod lines;
 mod log;
 mod logs;
-mod rows;
-mod rules;
-mod tables;
 
 use std::env;
 use std::io::{self, Read as _};
@@ -23,14 +18,6 @@ use std::time::Instant;
 enum Work {
     /// Each line is read as a command.
     Read,
-    /// Each line that isn't `create table` is resolved against the tables that those lines make.
-    Resolve,
-    /// Two tables of 1,000 rows are joined.
-    Join,
-    /// 64 rules are found by their names.
-    Names,
-    /// 64 rules are found by their numbers.
-    Numbers,
     /// The two logs are filled, walked and emptied once in each round.
     Logs,
     /// Lines of 256 tenants in turn are played on a cell.
@@ -42,10 +29,6 @@ enum Work {
 fn work_of(word: &str) -> Option<Work> {
     match word {
         "read" => Some(Work::Read),
-        "resolve" => Some(Work::Resolve),
-        "join" => Some(Work::Join),
-        "names" => Some(Work::Names),
-        "numbers" => Some(Work::Numbers),
         "logs" => Some(Work::Logs),
         "cell" => Some(Work::Cell),
         "tenant" => Some(Work::LoneTenant),
@@ -71,7 +54,7 @@ fn timed(rt: &HostRuntime) -> io::Result<()> {
         return Ok(());
     };
     let (Some(work), Ok(rounds)) = (work_of(word.as_str()), rounds.as_str().parse::<u32>()) else {
-        println!(rt; "sb_bench read|resolve|join|names|numbers|logs|cell|tenant ROUNDS < LINES")?;
+        println!(rt; "sb_bench read|logs|cell|tenant ROUNDS < LINES")?;
         return Ok(());
     };
     let mut input = Vec::new(rt.alloc());
@@ -79,10 +62,6 @@ fn timed(rt: &HostRuntime) -> io::Result<()> {
     let start = Instant::now(rt)?;
     let done = match work {
         Work::Read => lines::read(rt.alloc(), input.as_slice(), rounds),
-        Work::Resolve => lines::resolve_all(rt.alloc(), input.as_slice(), rounds)?,
-        Work::Join => join::join(rt.alloc(), rounds)?,
-        Work::Names => rules::by_name(rt.alloc(), rounds)?,
-        Work::Numbers => rules::by_number(rt.alloc(), rounds)?,
         Work::Logs => time_often(rt, rounds)?,
         Work::Cell => cell::time_cell(rt, input.as_slice(), 256, rounds)?,
         Work::LoneTenant => cell::time_cell(rt, input.as_slice(), 1, rounds)?,
