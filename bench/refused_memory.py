@@ -3,15 +3,15 @@
 
     refused_memory.py PROGRAM SCRIPTS NAME
 
-PROGRAM is sb_scripts as `rt run` builds it, SCRIPTS its standard input, and
-NAME how the header of one block begins, behind `# `. The block is played once
-for each request that the process makes, from the first on, with that request
-refused, until a run meets no refusal. `malloc` and `realloc` are taken by a
-small library, which `cc` compiles. Statements that are refused memory are made
-once again, so a run passes where it has the same answers; a run may also end
-with the program's status for want of memory, where a script itself can't be
-read or its answers can't be kept. Printed are the number of runs, how many had
-the same answers and how many ended, and the first lines of all others.
+PROGRAM is starhost as `rt run` builds it, SCRIPTS the standard input of
+sb_scripts, and NAME how the header of one block begins, behind `# `. The block's
+lines are played once for each request that the process makes, from the first on,
+with that request refused, until a run meets no refusal. `malloc` and `realloc` are
+taken by a small library, which `cc` compiles. A run passes where it has the same
+replies up to the first that says NoMemory or NotBegun, or where it ends with the
+program's fault for want of memory behind a part of the same replies. Printed are the
+number of runs, how many were the same, were refused and ended, and the first
+lines of all others.
 """
 
 import os
@@ -39,8 +39,8 @@ void *malloc(size_t size) { return refuses() ? 0 : __libc_malloc(size); }
 void *realloc(void *block, size_t size) { return refuses() ? 0 : __libc_realloc(block, size); }
 """
 
-# A script that has no room is not read.
-ENDED = [(2, b"refused\nfault: " + why + b"\n") for why in (b"out of memory", b"read failed")]
+FAULT = b"fault: out of memory\n"
+REFUSALS = (b"no 91 NoMemory", b"no 92 NotBegun")
 
 
 def library(folder):
@@ -53,13 +53,20 @@ def library(folder):
 
 
 def block(scripts, name):
-    """The lines of the block whose header begins so."""
+    """The lines of the block whose header begins so, without it."""
     with open(scripts, "rb") as file:
         blocks = file.read().split(b"\n# ")
     found = [text for text in blocks if text.startswith(name.encode())]
     if len(found) != 1:
         sys.exit(f"{len(found)} blocks begin so: {name}")
-    return b"# " + found[0] + b"\n"
+    return found[0].partition(b"\n")[2] + b"\n"
+
+
+def is_refused(told, answers):
+    """Whether the replies part at one that says that memory ran out."""
+    pairs = zip(told.split(b"\n"), answers.split(b"\n"))
+    first = next((line for line, other in pairs if line != other), b"")
+    return first.endswith(REFUSALS)
 
 
 def run(program, script, made, number):
@@ -77,7 +84,7 @@ def main():
         status, answers, _ = run(program, script, made, 0)
         if status != 0:
             sys.exit(f"status {status} with no request refused")
-        number, same, ended = 0, 0, 0
+        number, same, refused, ended = 0, 0, 0, 0
         while True:
             number += 1
             status, told, fault = run(program, script, made, number)
@@ -85,11 +92,13 @@ def main():
                 break
             if status == 0 and told == answers:
                 same += 1
-            elif (status, fault) in ENDED:
+            elif status == 0 and is_refused(told, answers):
+                refused += 1
+            elif fault.endswith(FAULT) and answers.startswith(told):
                 ended += 1
             else:
                 print(f"request {number}: status {status}: {fault[:200]} {told[:200]}")
-        print(f"{number - 1} requests: {same} runs with the same answers, {ended} ended")
+        print(f"{number - 1} requests: {same} runs the same, {refused} with a refusal, {ended} ended")
 
 
 if __name__ == "__main__":

@@ -18,8 +18,6 @@ pub enum ScriptFault {
     BadHeader,
     #[error("a repeated text can't be read")]
     BadRepeat,
-    #[error("a table can't take a change")]
-    BadTable,
 }
 
 impl From<AllocError> for ScriptFault {

@@ -8,10 +8,10 @@ use crate::repeat::{cut, number};
 pub enum Lines {
     /// Lines of a stream on a cell.
     Stream,
-    /// Commands over tables.
-    Statements,
-    /// The same, with each change shown.
-    Changes,
+    /// Texts that are read as commands.
+    Syntax,
+    /// Numbers of the refusals that come where memory runs out.
+    Memory,
     /// Lines of a session of a tenant by itself.
     Tenant,
     /// Lines of a stream, with what the tenants share.
@@ -92,8 +92,8 @@ impl Header {
 
 fn read_lines(value: &[u8]) -> Result<Lines, ScriptFault> {
     match value {
-        b"statements" => Ok(Lines::Statements),
-        b"changes" => Ok(Lines::Changes),
+        b"syntax" => Ok(Lines::Syntax),
+        b"memory" => Ok(Lines::Memory),
         b"tenant" => Ok(Lines::Tenant),
         b"shared" => Ok(Lines::Shared),
         _ => Err(ScriptFault::BadHeader),

@@ -9,24 +9,23 @@
 //!   `each=fails` or `each=room` that the block is played for each number below that one;
 //! - with `lines=tenant`, of session 0 of one tenant by itself, as `tenant` shows it;
 //! - with `lines=shared`, of a stream, with what the tenants' log and index hold, as `shared` shows it;
-//! - with `lines=statements`, over fresh tables, as `statements` has them; with `lines=changes` each
-//!   change of a statement is shown, too.
+//! - with `lines=syntax`, texts that are read as commands, as `syntax` shows them;
+//! - with `lines=memory`, numbers of the refusals that come where memory runs out.
 //!
 //! A line without a byte stands between blocks and is no command. `*65 LINE` is 65 such lines, and
 //! `{40|TEXT}` within a line is that text 40 times. An answer of more than nine equal lines in a row
 //! has one of them and their number.
 #![tactic(auto)]
 
-mod changes;
 mod ends;
 mod fault;
 mod header;
+mod memory;
 mod player;
 mod repeat;
 mod shared;
-mod statements;
 mod stream;
-mod tables;
+mod syntax;
 mod tenant;
 
 use fault::ScriptFault;

@@ -2,10 +2,11 @@
 
 use crate::fault::ScriptFault;
 use crate::header::{Header, Lines};
+use crate::memory::play_memory;
 use crate::repeat::{push_folded, push_lines};
 use crate::shared::play_shared;
-use crate::statements::play_statements;
 use crate::stream::play_stream;
+use crate::syntax::play_syntax;
 use crate::tenant::play_tenant;
 use std::alloc::Global;
 
@@ -73,8 +74,8 @@ impl Player {
         let commands = self.commands.as_slice();
         match header.lines {
             Lines::Stream => play_stream(self.alloc, &header, commands, &mut text)?,
-            Lines::Statements => play_statements(self.alloc, false, commands, &mut text)?,
-            Lines::Changes => play_statements(self.alloc, true, commands, &mut text)?,
+            Lines::Syntax => play_syntax(self.alloc, commands, &mut text)?,
+            Lines::Memory => play_memory(commands, &mut text)?,
             Lines::Tenant => play_tenant(self.alloc, commands, &mut text)?,
             Lines::Shared => play_shared(self.alloc, &header, commands, &mut text)?,
         }
