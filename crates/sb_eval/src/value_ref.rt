@@ -1,5 +1,6 @@
 //! Values as they are while an expression is evaluated.
 ghost use Rattle.std.specs.Prelude.{◌≡◌, IfOk};
+ghost use Rattle.std.specs.Ordering.{is_lt};
 ghost use Rattle.sb_eval.specs.Meaning.{integer, compared, compares};
 ghost use Rattle.sb_eval.specs.Scopes.{value_seen};
 ghost use Rattle.sb_value.specs.Values.{value_cmp};
@@ -69,6 +70,23 @@ impl<'r> ValueRef<'r> {
             ValueRef::Text(one) => match other {
                 ValueRef::Int(_) => Ordering::Greater,
                 ValueRef::Text(two) => one.as_slice().cmp(two.as_slice()),
+            },
+        }
+    }
+
+    /// Whether it comes before another value.
+    #[inline(always)]
+    pub(crate) fn precedes(self, other: ValueRef<'_>) -> bool
+        ensures { result ≡ is_lt (value_cmp (value_seen self.entry) (value_seen other.entry)) }
+    {
+        match self {
+            ValueRef::Int(one) => match other {
+                ValueRef::Int(two) => one < two,
+                ValueRef::Text(_) => true,
+            },
+            ValueRef::Text(one) => match other {
+                ValueRef::Int(_) => false,
+                ValueRef::Text(two) => one.as_slice().cmp(two.as_slice()).is_lt(),
             },
         }
     }

@@ -73,5 +73,6 @@ fn is_found(wanted: ValueRef<'_>, list: &[ValueRef<'_>]) -> bool
     requires { spec.InOrder list.now }
     ensures { result ≡ spec.is_among (value_seen wanted.entry) (map value_seen list.now) }
 {
-    list.binary_search_by(|value| value.order(wanted)).is_ok()
+    let place = list.partition_point(|value| value.precedes(wanted));
+    place < list.len() && wanted.compares(Comparison::Equal, list[place])
 }
