@@ -11,8 +11,8 @@ use std::marker::Model;
 /// The fewest values that are put in order. Fewer are walked as fast as they are halved.
 const MANY: usize = 16;
 
-/// Values, which are in order where they are many: then a value is found by halving. To order them takes no memory, and
-/// whoever chose them can't make it slow.
+/// Values, which are in order where they are many: then one is found at the first look, where they are numbers without a gap, or by
+/// halving. To order them takes no memory, and whoever chose them can't make it slow.
 #[derive(Drop)]
 pub(crate) struct ValueSet<'r> {
     values: Vec<ValueRef<'r>>,
@@ -68,11 +68,28 @@ fn is_among(wanted: ValueRef<'_>, list: &[ValueRef<'_>]) -> bool
     false
 }
 
+/// Where a value would stand among these if they were numbers without a gap, as keys often are.
+fn place_of_key(wanted: ValueRef<'_>, list: &[ValueRef<'_>]) -> usize {
+    let Some(ValueRef::Int(least)) = list.first() else {
+        return 0;
+    };
+    match wanted {
+        ValueRef::Int(number) => {
+            usize::try_from(number.wrapping_sub(*least)).unwrap_or(usize::MAX)
+        }
+        ValueRef::Text(_) => 0,
+    }
+}
+
 /// Whether a value is among these, which are in order.
 fn is_found(wanted: ValueRef<'_>, list: &[ValueRef<'_>]) -> bool
     requires { spec.InOrder list.now }
     ensures { result ≡ spec.is_among (value_seen wanted.entry) (map value_seen list.now) }
 {
+    let key = place_of_key(wanted, list);
+    if key < list.len() && wanted.compares(Comparison::Equal, list[key]) {
+        return true;
+    }
     let place = list.partition_point(|value| value.precedes(wanted));
     place < list.len() && wanted.compares(Comparison::Equal, list[place])
 }
