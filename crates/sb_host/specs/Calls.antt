@@ -1,6 +1,8 @@
 -- What a session knows of its calls. The cell's part of the step is the contract of a desk's calls.
-use Rattle.std.specs.Prelude.{ℕ, ◌≡◌, ◌<◌, ◌≤◌, Bool, true, false, List, Option, Some, Result, Ok, Err}
+use Rattle.std.specs.Prelude.{ℕ, ◌≡◌, ◌<◌, ◌≤◌, Bool, true, false, List, Option, Some, None, Result, Ok, Err}
+use Rattle.sb_value.specs.declared.refusal.Refusal.TheVariants.{TrailFull}
 use Rattle.sb_tenant.specs.declared.reply.Answer.{Answer}
+use Rattle.sb_tenant.specs.declared.reply.Reply.TheVariants.{No}
 use Rattle.sb_tenant.specs.Limits.{session_count}
 use Rattle.sb_desk.specs.declared.desk.AttachError.{AttachError}
 use Rattle.sb_desk.specs.declared.desk.AttachError.TheVariants.{NoTenant, NoSession}
@@ -11,9 +13,13 @@ use Rattle.sb_desk.specs.Receipts.{Receipts, after, after_end, closes, list_afte
 
 -- ---- behind a lock
 
+-- an answer has no number only where the trail is full
+abbrev pub IsNumbered : Answer → Type 0
+IsNumbered answer = answer.number ≡ None → answer.reply ≡ No TrailFull
+
 -- one answer to the line that was ready
 abbrev pub Called : Receipts → Receipts → Type 0
-Called r r' = (line : List ℕ) × (answer : Answer) × (r.ended ≡ false) × (r.ready ≡ Some line) × (r' ≡ after r line answer)
+Called r r' = (line : List ℕ) × (answer : Answer) × (r.ended ≡ false) × (r.ready ≡ Some line) × IsNumbered answer × (r' ≡ after r line answer)
 
 abbrev pub is_ended : CallError → Bool
 is_ended call.Ended = true
@@ -61,7 +67,7 @@ after_call s line answer = record {
 
 -- of a session that hasn't ended, one answer; or a refusal, which says whether it has
 abbrev pub Calls : Session → List ℕ → Result Answer CallError → Session → Type 0
-Calls old line (Ok answer) new = (old.ended ≡ false) × (new ≡ after_call old line answer)
+Calls old line (Ok answer) new = (old.ended ≡ false) × IsNumbered answer × (new ≡ after_call old line answer)
 Calls old line (Err e) new = (old.ended ≡ is_ended e) × (new ≡ old)
 
 -- a new session; or a refusal: the numbers are looked at first

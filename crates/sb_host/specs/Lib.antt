@@ -2,3 +2,5 @@ pub mod Calls
 pub mod Stubs
 pub mod Opening
 pub mod Lent
+pub mod Finish
+pub mod Comparing

@@ -1,13 +1,20 @@
-//! Cells behind locks, and sessions that call them from any thread.
+//! Cells behind locks, sessions that call them from any thread, and the closing check.
 #![tactic(auto)]
 
+mod comparing;
+mod equal;
+mod finish;
 mod gate;
+mod gathering;
 mod host;
 mod locks;
 mod opening;
 mod session;
 mod stub;
+#[cfg(test)]
+mod tests;
 
+pub use finish::{FinishError, Report};
 pub use gate::{Gate, NoGate};
 pub use host::Host;
 pub use opening::Opened;

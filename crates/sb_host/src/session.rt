@@ -2,7 +2,7 @@
 ghost use Rattle.std.specs.Prelude.{◌≡◌, ◌++◌, ◌∷◌, ℕ, [], true, false, None, Some, IfErr, IfOk, MatchOption, OnOk};
 ghost use Rattle.sb_tenant.specs.declared.reply.Answer.{Answer};
 ghost use Rattle.sb_desk.specs.Receipts.{after_end};
-ghost use Rattle.sb_host.specs.Calls.{after_call, is_ended};
+ghost use Rattle.sb_host.specs.Calls.{IsNumbered, after_call, is_ended};
 ghost use Rattle.sb_host.specs.Stubs.{LeavesStub};
 
 use crate::gate::{Gate, NoGate};
@@ -66,7 +66,7 @@ impl<'h, N: Naming> Session<'h, N> {
         line: &[u8],
         gate: &G,
     ) -> Result<(), CallError>
-        ensures ok { OnOk result ((answer : Answer) × (self.old.ended ≡ false) × (self.new ≡ after_call self.old line.now answer)) }
+        ensures ok { OnOk result ((answer : Answer) × (self.old.ended ≡ false) × IsNumbered answer × (self.new ≡ after_call self.old line.now answer)) }
         ensures err { IfErr result (λ e. (self.new ≡ self.old) × (self.old.ended ≡ is_ended e)) }
     {
         if self.receipts.ended() {
@@ -87,6 +87,7 @@ impl<'h, N: Naming> Session<'h, N> {
         gate: &G,
     ) -> Result<&Answer, CallError>
         ensures ok { OnOk result (self.old.ended ≡ false) }
+        ensures numbered { IfOk result (λ answer. IsNumbered answer.now) }
         ensures err { IfErr result (λ e. self.old.ended ≡ is_ended e) }
         ensures* after { sem 𝓛 (follows_so (the_row (record { mir = named 1; lft = [] }) N.row (record { table = N.table; tenants = N.tenants; cells = N.cells; bound = N.bound }) (record { name = N.name; parts = N.parts })) (the_row (record { mir = named 1; lft = [] }) N.row (record { table = N.table; tenants = N.tenants; cells = N.cells; bound = N.bound }) (record { name = N.name; parts = N.parts })) self.entry.ghost_name none (λ _ _. ⊤) (λ n. CallsTo self.old line.now result n)) }
     {
@@ -105,6 +106,7 @@ impl<'h, N: Naming> Session<'h, N> {
         line: &[u8],
     ) -> Result<&Answer, CallError>
         ensures ok { OnOk result (self.old.ended ≡ false) }
+        ensures numbered { IfOk result (λ answer. IsNumbered answer.now) }
         ensures err { IfErr result (λ e. self.old.ended ≡ is_ended e) }
         ensures* after { sem 𝓛 (follows_so (the_row (record { mir = named 1; lft = [] }) N.row (record { table = N.table; tenants = N.tenants; cells = N.cells; bound = N.bound }) (record { name = N.name; parts = N.parts })) (the_row (record { mir = named 1; lft = [] }) N.row (record { table = N.table; tenants = N.tenants; cells = N.cells; bound = N.bound }) (record { name = N.name; parts = N.parts })) self.entry.ghost_name none (λ _ _. ⊤) (λ n. CallsTo self.old line.now result n)) }
     {

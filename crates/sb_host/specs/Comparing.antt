@@ -1,0 +1,83 @@
+-- The parts of the closing check.
+use Rattle.std.specs.Prelude.{ℕ, ◌/◌, ◌%◌, ◌≡◌, ◌<◌, ◌≤◌, Bool, MatchBool, List, [], length, take, Option, Some, None, Result, Ok, Err, Vec}
+use Rattle.std.specs.Global.{Global}
+use Rattle.std.specs.List.Sorted.{IsPermutation}
+use Rattle.sb_tenant.specs.declared.reply.Entry.{Entry}
+use Rattle.sb_tenant.specs.Limits.{session_count}
+use Rattle.sb_desk.specs.declared.receipts.Receipt.{Receipt}
+use Rattle.sb_host.specs.declared.comparing.Found.{Found}
+use Rattle.sb_host.specs.declared.comparing.Found.TheVariants.{Equal, Fewer, Different}
+use Rattle.sb_host.specs.declared.comparing.Seen.{Seen}
+use Rattle.sb_host.specs.declared.finish.FinishError.{FinishError}
+use Rattle.sb_host.specs.declared.finish.FinishError.TheVariants.{Missing, Mismatch, NoMemory}
+use Rattle.sb_host.specs.declared.finish.Report.{Report}
+use Rattle.sb_host.specs.declared.gathering.Place.{Place}
+use Rattle.sb_host.specs.declared.stub.Stub.{Stub}
+use Rattle.sb_host.specs.Finish.{Agrees, IsMismatch, IsMissing, gathered, rank, row_at, wanted}
+
+-- the test says whether the two are equal
+abbrev pub Tells : {A : Type 0} → Bool → A → A → Type 0
+Tells b x y = MatchBool b (x ≡ y) (x ≡ y → ⊥)
+
+-- ---- one session
+
+abbrev pub number_by : Option ℕ → ℕ
+number_by None = 0
+number_by (Some n) = n
+
+-- the number of the step that a receipt is of
+abbrev pub step_of : Receipt → ℕ
+step_of r = number_by r.answer.number
+
+-- as far as the entries want these, the receipts have been seen to be the same, or not
+abbrev pub IsSeen : List Receipt → List Receipt → Seen → Type 0
+IsSeen held due seen = (seen.count ≡ length due) × Tells seen.same (take (length due) held) due
+
+-- two lists are one
+abbrev pub Lists : List Receipt → List Receipt → Found → Type 0
+Lists held due Equal = held ≡ due
+Lists held due Fewer = length held < length due
+Lists held due Different = (length due ≤ length held) × (held ≡ due → ⊥)
+
+-- or they are, in some order
+abbrev pub Compares : List Receipt → List Receipt → Found → Type 0
+Compares held due Equal = IsPermutation held due
+Compares held due Fewer = length held < length due
+Compares held due Different = (length due ≤ length held) × (IsPermutation held due → ⊥)
+
+-- ---- the sessions of a host's tenants, by rank
+
+abbrev pub due_at : List (Vec Entry Global) → ℕ → List Receipt
+due_at trails k = wanted (k / session_count) (k % session_count) trails
+
+abbrev pub RowAgrees : List (Vec Receipt Global) → List (Vec Entry Global) → ℕ → Type 0
+RowAgrees rows trails k = IsPermutation (row_at rows k) (due_at trails k)
+
+-- the row of rank k is the first that doesn't agree, and this was found of it
+abbrev pub FailsAt : List (Vec Receipt Global) → List (Vec Entry Global) → ℕ → Found → Type 0
+FailsAt rows trails k found =
+    ((j : ℕ) → j < k → RowAgrees rows trails j) × (k < length rows) × Compares (row_at rows k) (due_at trails k) found
+
+-- it is told by its session
+abbrev pub RowFails : List (Vec Receipt Global) → List (Vec Entry Global) → FinishError → Type 0
+RowFails rows trails (Missing t s) = (s < session_count) × FailsAt rows trails (rank t s) Fewer
+RowFails rows trails (Mismatch t s) = (s < session_count) × FailsAt rows trails (rank t s) Different
+RowFails rows trails NoMemory = ⊥
+
+-- ---- the sessions of other tenants
+
+-- the first one that has receipts, if there is one
+abbrev pub IsFirstStray : ℕ → List Stub → Option Place → Type 0
+IsFirstStray tenants stubs None = (t s : ℕ) → tenants ≤ t → gathered t s stubs ≡ []
+IsFirstStray tenants stubs (Some p) =
+    (tenants ≤ p.tenant) × (p.session < session_count) × (gathered p.tenant p.session stubs ≡ [] → ⊥)
+    × ((t s : ℕ) → tenants ≤ t → s < session_count → rank t s < rank p.tenant p.session → gathered t s stubs ≡ [])
+
+-- ---- all sessions
+
+-- these trails are handed back where all agree; or the first that doesn't is told; or memory ran out
+abbrev pub Audits : List (Vec Entry Global) → List Stub → Result Report FinishError → Type 0
+Audits trails stubs (Ok report) = (report.trails.items ≡ trails) × ((t s : ℕ) → s < session_count → Agrees t s stubs trails)
+Audits trails stubs (Err (Missing t s)) = IsMissing t s stubs trails
+Audits trails stubs (Err (Mismatch t s)) = IsMismatch t s stubs trails
+Audits trails stubs (Err NoMemory) = Unit {0}

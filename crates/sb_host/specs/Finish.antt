@@ -1,0 +1,69 @@
+-- What the closing check compares, and what it answers.
+use Rattle.std.specs.Prelude.{ℕ, zero, suc, ◌+◌, ◌*◌, ◌≡◌, ◌<◌, ◌≤◌, ◌==◌, ◌&&◌, if◌then◌else◌, List, [], ◌∷◌, ◌++◌, length, Result, Ok, Err, Vec}
+use Rattle.std.specs.Global.{Global}
+use Rattle.std.specs.List.Sorted.{IsPermutation}
+use Rattle.sb_tenant.specs.declared.reply.Entry.{Entry}
+use Rattle.sb_tenant.specs.Limits.{session_count}
+use Rattle.sb_tenant.specs.Trail.{IsTrail}
+use Rattle.sb_desk.specs.declared.receipts.Receipt.{Receipt}
+use Rattle.sb_desk.specs.Receipts.{receipts_of}
+use Rattle.sb_host.specs.declared.stub.Stub.{Stub}
+use Rattle.sb_host.specs.declared.finish.Report.{Report}
+use Rattle.sb_host.specs.declared.finish.FinishError.{FinishError}
+use Rattle.sb_host.specs.declared.finish.FinishError.TheVariants.{Missing, Mismatch, NoMemory}
+
+-- ---- what is compared
+
+-- the list of that number; past the end there is none
+abbrev pub row_at : {A : Type 0} → List (Vec A Global) → ℕ → List A
+row_at [] n = []
+row_at (v ∷ vs) zero = v.items
+row_at (v ∷ vs) (suc n) = row_at vs n
+
+-- the receipts in a stub, if it is of session s of tenant t
+abbrev pub receipts_in : ℕ → ℕ → Stub → List Receipt
+receipts_in t s x = if (x.tenant == t) && (x.session == s) then x.receipts.items else []
+
+-- those of session s of tenant t, of all its stubs together
+abbrev pub gathered : ℕ → ℕ → List Stub → List Receipt
+gathered t s [] = []
+gathered t s (x ∷ xs) = receipts_in t s x ++ gathered t s xs
+
+-- those that its entries want: their numbers rise, and a tenant that the host lacks has no entries
+abbrev pub wanted : ℕ → ℕ → List (Vec Entry Global) → List Receipt
+wanted t s trails = receipts_of s 1 (row_at trails t)
+
+-- its receipts are exactly its entries, each once
+abbrev pub Agrees : ℕ → ℕ → List Stub → List (Vec Entry Global) → Type 0
+Agrees t s stubs trails = IsPermutation (gathered t s stubs) (wanted t s trails)
+
+-- sessions stand in the order of their tenants, and of their numbers
+abbrev pub rank : ℕ → ℕ → ℕ
+rank t s = session_count * t + s
+
+-- all sessions before this one agree
+abbrev pub AgreeBefore : ℕ → ℕ → List Stub → List (Vec Entry Global) → Type 0
+AgreeBefore t s stubs trails = (u r : ℕ) → r < session_count → rank u r < rank t s → Agrees u r stubs trails
+
+-- ---- the answer
+
+-- one trail for each tenant, and each is legal
+abbrev pub AreTrails : ℕ → ℕ → List (Vec Entry Global) → Type 0
+AreTrails bound tenants trails = (length trails ≡ tenants) × ((t : ℕ) → IsTrail t bound (row_at trails t))
+
+-- the first session that doesn't agree has fewer receipts than entries
+abbrev pub IsMissing : ℕ → ℕ → List Stub → List (Vec Entry Global) → Type 0
+IsMissing t s stubs trails = AgreeBefore t s stubs trails × (length (gathered t s stubs) < length (wanted t s trails))
+
+-- or it has others
+abbrev pub IsMismatch : ℕ → ℕ → List Stub → List (Vec Entry Global) → Type 0
+IsMismatch t s stubs trails =
+    AgreeBefore t s stubs trails × (length (wanted t s trails) ≤ length (gathered t s stubs)) × (Agrees t s stubs trails → ⊥)
+
+-- all sessions agree with the trails that are given; or there are trails with which the first one that is told doesn't; or memory ran out
+abbrev pub Finishes : ℕ → ℕ → List Stub → Result Report FinishError → Type 0
+Finishes bound tenants stubs (Ok report) =
+    AreTrails bound tenants report.trails.items × ((t s : ℕ) → s < session_count → Agrees t s stubs report.trails.items)
+Finishes bound tenants stubs (Err (Missing t s)) = (trails : List (Vec Entry Global)) × AreTrails bound tenants trails × IsMissing t s stubs trails
+Finishes bound tenants stubs (Err (Mismatch t s)) = (trails : List (Vec Entry Global)) × AreTrails bound tenants trails × IsMismatch t s stubs trails
+Finishes bound tenants stubs (Err NoMemory) = Unit {0}

@@ -1,0 +1,137 @@
+//! The receipts of a session against its entries.
+ghost use Rattle.std.specs.Prelude.{ℕ, List, ◌≡◌, ◌+◌, ◌*◌, ◌<◌, ◌≤◌, ◌==◌, ◌++◌, ◌∷◌, [], if◌then◌else◌, length, slice_index_or, MatchBool, IfErr, OnOk};
+ghost use Rattle.sb_desk.specs.Receipts.{numbered, receipt, receipts_of};
+ghost use Rattle.sb_desk.specs.declared.receipts.Receipt.{Receipt};
+ghost use Rattle.sb_host.specs.Comparing.{Compares, IsSeen, Lists, RowAgrees, RowFails, Tells, due_at, step_of};
+ghost use Rattle.sb_host.specs.Finish.{row_at};
+
+use crate::equal::{same_bytes, same_reply};
+use crate::finish::FinishError;
+use sb_desk::Receipt;
+use sb_tenant::Entry;
+use sb_value::{SESSION_LIMIT, SessionId};
+
+/// How receipts compare with entries.
+#[derive(Clone, Copy)]
+pub(crate) enum Found {
+    Equal,
+    Fewer,
+    Different,
+}
+
+/// How many entries of a session were seen, and whether the receipts are the same so far.
+#[derive(Clone, Copy)]
+pub(crate) struct Seen {
+    pub(crate) count: usize,
+    pub(crate) same: bool,
+}
+
+/// Checks the rows of receipts, by rank, against the trails.
+pub(crate) fn check_all(
+    trails: &[Vec<Entry>],
+    rows: &mut Vec<Vec<Receipt>>,
+) -> Result<(), FinishError>
+    requires rows { length rows.old.items ≡ 8 * length trails.now }
+    requires few { length trails.now ≤ 256 }
+    ensures ok { OnOk result ((k : ℕ) → k < length rows.old.items → RowAgrees rows.old.items trails.now k) }
+    ensures err { IfErr result (λ e. RowFails rows.old.items trails.now e) }
+{
+    for at in 0..rows.len() {
+        let tenant = (at / SESSION_LIMIT) as u32;
+        let session = SessionId::new((at % SESSION_LIMIT) as u8);
+        match check_row(trails, rows, at) {
+            Found::Equal => {}
+            Found::Fewer => return Err(FinishError::Missing { tenant, session }),
+            Found::Different => return Err(FinishError::Mismatch { tenant, session }),
+        }
+    }
+    Ok(())
+}
+
+/// How the row of that rank compares with the entries of its session.
+fn check_row(trails: &[Vec<Entry>], rows: &mut Vec<Vec<Receipt>>, at: usize) -> Found
+    requires there { at < length rows.old.items }
+    requires rows { length rows.old.items ≡ 8 * length trails.now }
+    ensures found { Compares (row_at rows.old.items at) (due_at trails.now at) result }
+    ensures count { length rows.new.items ≡ length rows.old.items }
+    ensures others { (k : ℕ) → (k ≡ at → ⊥) → row_at rows.new.items k ≡ row_at rows.old.items k }
+{
+    let trail = trails[at / SESSION_LIMIT].as_slice();
+    let session = SessionId::new((at % SESSION_LIMIT) as u8);
+    let row = &mut rows[at];
+    check(trail, session, row)
+}
+
+/// How the receipts, in whatever order, compare with the entries of their session.
+fn check(trail: &[Entry], session: SessionId, receipts: &mut Vec<Receipt>) -> Found
+    ensures { Compares receipts.old.items (receipts_of session 1 trail.now) result }
+{
+    receipts.sort_unstable_by_key(|receipt| step_number(receipt));
+    compare(trail, session, receipts.as_slice())
+}
+
+/// The number of the step that a receipt is of.
+fn step_number(receipt: &Receipt) -> u32
+    ensures { result ≡ step_of receipt.now }
+{
+    match receipt.answer.number {
+        Some(number) => number,
+        None => 0,
+    }
+}
+
+/// How the receipts, in this order, compare with the entries of their session.
+fn compare(trail: &[Entry], session: SessionId, receipts: &[Receipt]) -> Found
+    ensures { Lists receipts.now (receipts_of session 1 trail.now) result }
+{
+    let mut seen = Seen {
+        count: 0,
+        same: true,
+    };
+    for place in 0..trail.len() {
+        seen = look(seen, receipts, &trail[place], place + 1, session);
+    }
+    if receipts.len() < seen.count {
+        return Found::Fewer;
+    }
+    if seen.same {
+        if seen.count == receipts.len() {
+            return Found::Equal;
+        }
+    }
+    Found::Different
+}
+
+/// One entry more is seen.
+fn look(seen: Seen, receipts: &[Receipt], entry: &Entry, number: usize, session: SessionId) -> Seen
+    requires { seen.count < number }
+    ensures seen { (due : List Receipt) → IsSeen receipts.now due seen → IsSeen receipts.now (due ++ (if entry.now.session == session then receipt entry.now.line (numbered number entry.now.reply) ∷ [] else [])) result }
+    ensures count { result.count ≤ number }
+{
+    if entry.session != session {
+        return seen;
+    }
+    Seen {
+        count: seen.count + 1,
+        same: seen.same & is_next(receipts, seen.count, entry, number),
+    }
+}
+
+/// Whether that receipt is there, and is the one that the entry wants.
+fn is_next(receipts: &[Receipt], at: usize, entry: &Entry, number: usize) -> bool
+    ensures { let due = receipt entry.now.line (numbered number entry.now.reply) in MatchBool result ((at < length receipts.now) × (slice_index_or receipts.now at due ≡ due)) (at < length receipts.now → slice_index_or receipts.now at due ≡ due → ⊥) }
+{
+    at < receipts.len() && is_receipt(&receipts[at], entry, number)
+}
+
+/// Whether it is the receipt that the entry of this number wants.
+fn is_receipt(held: &Receipt, entry: &Entry, number: usize) -> bool
+    ensures { Tells result held.now (receipt entry.now.line (numbered number entry.now.reply)) }
+{
+    let Some(own) = held.answer.number else {
+        return false;
+    };
+    own as usize == number
+        && same_bytes(held.line.as_slice(), entry.line.as_slice())
+        && same_reply(&held.answer.reply, &entry.reply)
+}

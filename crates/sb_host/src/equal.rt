@@ -1,0 +1,146 @@
+//! Replies are compared by value.
+ghost use Rattle.std.specs.Prelude.{◌≡◌};
+ghost use Rattle.sb_host.specs.Comparing.{Tells};
+
+use sb_tenant::{NamedTrace, Reply};
+use sb_value::{Name, Refusal, Row, Value, Verdict};
+
+/// Whether the two have the same bytes.
+pub(crate) fn same_bytes(one: &[u8], other: &[u8]) -> bool
+    ensures { Tells result one.now other.now }
+{
+    one == other
+}
+
+fn same_name(one: &Name, other: &Name) -> bool
+    ensures { Tells result one.now other.now }
+{
+    same_bytes(one.as_slice(), other.as_slice())
+}
+
+fn same_value(one: &Value, other: &Value) -> bool
+    ensures { Tells result one.now other.now }
+{
+    match one {
+        Value::Int(number) => match other {
+            Value::Int(another) => *number == *another,
+            Value::Text(_) => false,
+        },
+        Value::Text(text) => match other {
+            Value::Text(another) => same_bytes(text.as_slice(), another.as_slice()),
+            Value::Int(_) => false,
+        },
+    }
+}
+
+fn same_row(one: &Row, other: &Row) -> bool
+    ensures { Tells result one.now other.now }
+{
+    let values = one.values();
+    let others = other.values();
+    if values.len() != others.len() {
+        return false;
+    }
+    for i in 0..values.len() {
+        if !same_value(&values[i], &others[i]) {
+            return false;
+        }
+    }
+    true
+}
+
+fn same_rows(rows: &[Row], others: &[Row]) -> bool
+    ensures { Tells result rows.now others.now }
+{
+    if rows.len() != others.len() {
+        return false;
+    }
+    for i in 0..rows.len() {
+        if !same_row(&rows[i], &others[i]) {
+            return false;
+        }
+    }
+    true
+}
+
+fn same_verdict(one: Verdict, other: Verdict) -> bool
+    ensures { Tells result one other }
+{
+    one == other
+}
+
+fn same_turn(one: &(Name, Verdict), other: &(Name, Verdict)) -> bool
+    ensures { Tells result one.now other.now }
+{
+    same_name(&one.0, &other.0) && same_verdict(one.1, other.1)
+}
+
+fn same_trace(one: &NamedTrace, other: &NamedTrace) -> bool
+    ensures { Tells result one.now other.now }
+{
+    let turns = one.as_slice();
+    let others = other.as_slice();
+    if turns.len() != others.len() {
+        return false;
+    }
+    for i in 0..turns.len() {
+        if !same_turn(&turns[i], &others[i]) {
+            return false;
+        }
+    }
+    true
+}
+
+fn same_refusal(one: &Refusal, other: &Refusal) -> bool
+    ensures { Tells result one.now other.now }
+{
+    match one {
+        Refusal::Locked(table) => match other {
+            Refusal::Locked(another) => same_name(table, another),
+            _ => false,
+        },
+        _ => one.number() == other.number(),
+    }
+}
+
+/// Whether the two are one reply.
+pub(crate) fn same_reply(one: &Reply, other: &Reply) -> bool
+    ensures { Tells result one.now other.now }
+{
+    match one {
+        Reply::Ok => match other {
+            Reply::Ok => true,
+            _ => false,
+        },
+        Reply::Count(n) => match other {
+            Reply::Count(m) => *n == *m,
+            _ => false,
+        },
+        Reply::Rows(rows) => match other {
+            Reply::Rows(others) => same_rows(rows.as_list().rows(), others.as_list().rows()),
+            _ => false,
+        },
+        Reply::Done(trace) => match other {
+            Reply::Done(another) => same_trace(trace, another),
+            _ => false,
+        },
+        Reply::ByRule(name, trace) => match other {
+            Reply::ByRule(others, another) => same_name(name, others) && same_trace(trace, another),
+            _ => false,
+        },
+        Reply::ByError(name, refusal, trace) => match other {
+            Reply::ByError(others, why, another) => {
+                same_name(name, others) && same_refusal(refusal, why) && same_trace(trace, another)
+            }
+            _ => false,
+        },
+        Reply::ByLimit(trace) => match other {
+            Reply::ByLimit(another) => same_trace(trace, another),
+            _ => false,
+        },
+        Reply::No(refusal) => match other {
+            Reply::No(why) => same_refusal(refusal, why),
+            _ => false,
+        },
+    }
+}

@@ -1,0 +1,133 @@
+//! The closing check: every session's receipts against the entries of its tenant's trail.
+ghost use Rattle.std.specs.Prelude.{ℕ, ◌≡◌, ◌<◌, ◌≤◌, All, length, IfOk};
+ghost use Rattle.sb_host.specs.Comparing.{Audits};
+ghost use Rattle.sb_host.specs.Finish.{AreTrails, Finishes};
+
+use crate::comparing::check_all;
+use crate::gathering::{blank, first_stray, rows_of};
+use crate::host::Host;
+use crate::locks::Lock;
+use crate::stub::Stub;
+use sb_desk::Naming;
+use sb_tenant::{Entry, Tenant};
+use sb_value::SessionId;
+use std::alloc::{AllocError, Global};
+
+/// The trails of all tenants, by number.
+#[derive(Drop)]
+pub struct Report {
+    pub trails: Vec<Vec<Entry>>,
+}
+
+/// Why a host isn't reported. Of the sessions that don't agree with their entries the first is told.
+#[derive(Clone, Copy)]
+pub enum FinishError {
+    /// It has fewer receipts than entries.
+    Missing { tenant: u32, session: SessionId },
+    /// Its receipts are others.
+    Mismatch { tenant: u32, session: SessionId },
+    NoMemory,
+}
+
+impl<N: Naming> Host<N> {
+    /// The trails of all tenants, where the receipts of every session are exactly its entries.
+    pub fn finish(self, alloc: Global, stubs: Vec<Stub>) -> Result<Report, FinishError>
+        ensures { Finishes N.bound self stubs.items result }
+    {
+        match self.into_trails(alloc) {
+            Ok(trails) => audit(alloc, trails, stubs),
+            Err(_) => Err(FinishError::NoMemory),
+        }
+    }
+
+    /// The trails of all cells, at the places of their tenants.
+    fn into_trails(self, alloc: Global) -> Result<Vec<Vec<Entry>>, AllocError>
+        ensures trails { IfOk result (λ trails. AreTrails N.bound self trails.items) }
+        ensures few { self ≤ 256 }
+    {
+        let Host {
+            tenants,
+            cells: _,
+            seats: _,
+            d0,
+            d1,
+            d2,
+            d3,
+            d4,
+            d5,
+            d6,
+            d7,
+            d8,
+            d9,
+            d10,
+            d11,
+            d12,
+            d13,
+            d14,
+            d15,
+        } = self;
+        let mut trails = blank(alloc, tenants as usize)?;
+        put(&mut trails, d0);
+        put(&mut trails, d1);
+        put(&mut trails, d2);
+        put(&mut trails, d3);
+        put(&mut trails, d4);
+        put(&mut trails, d5);
+        put(&mut trails, d6);
+        put(&mut trails, d7);
+        put(&mut trails, d8);
+        put(&mut trails, d9);
+        put(&mut trails, d10);
+        put(&mut trails, d11);
+        put(&mut trails, d12);
+        put(&mut trails, d13);
+        put(&mut trails, d14);
+        put(&mut trails, d15);
+        Ok(trails)
+    }
+}
+
+/// The report of these trails, where the receipts of every session are exactly its entries.
+fn audit(alloc: Global, trails: Vec<Vec<Entry>>, stubs: Vec<Stub>) -> Result<Report, FinishError>
+    requires { length trails.items ≤ 256 }
+    ensures { Audits trails.items stubs.items result }
+{
+    let tenants = trails.len() as u32;
+    let stray = first_stray(stubs.as_slice(), tenants);
+    let Ok(mut rows) = rows_of(alloc, stubs, tenants) else {
+        return Err(FinishError::NoMemory);
+    };
+    if let Err(refusal) = check_all(trails.as_slice(), &mut rows) {
+        return Err(refusal);
+    }
+    match stray {
+        Some(place) => Err(FinishError::Mismatch {
+            tenant: place.tenant,
+            session: place.session,
+        }),
+        None => Ok(Report { trails }),
+    }
+}
+
+/// Puts the trails of a lock's cell at the places of their tenants.
+fn put<N: Naming, const F: u32>(trails: &mut Vec<Vec<Entry>>, lock: Lock<N, F>)
+    requires { AreTrails N.bound N.tenants trails.old.items }
+    ensures { AreTrails N.bound N.tenants trails.new.items }
+{
+    if let Some(lock) = lock {
+        put_all(trails, lock.into_inner().into_cell().into_tenants());
+    }
+}
+
+/// Puts the trails of these tenants at their places.
+fn put_all(trails: &mut Vec<Vec<Entry>>, tenants: Vec<Tenant>)
+    ghost bound: { ℕ }
+    requires trails { AreTrails bound (length trails.old.items) trails.old.items }
+    requires tenants { All (λ t. (t.id < length trails.old.items) × (t.bound ≡ bound)) tenants.items }
+    ensures { AreTrails bound (length trails.old.items) trails.new.items }
+{
+    for tenant in tenants {
+        let at = tenant.id().index();
+        trails[at] = tenant.into_trail();
+    }
+}

@@ -1,0 +1,113 @@
+//! The receipts of all stubs, gathered by session.
+ghost use Rattle.std.specs.Prelude.{ℕ, List, ◌≡◌, ◌+◌, ◌*◌, ◌<◌, ◌≤◌, nat_le, ◌++◌, ◌∷◌, [], false, length, MatchOption, IfOk, OnOk};
+ghost use Rattle.sb_host.specs.Comparing.{IsFirstStray};
+ghost use Rattle.sb_host.specs.Finish.{gathered, rank, receipts_in, row_at};
+ghost use Rattle.sb_host.specs.declared.stub.Stub.{Stub};
+
+use crate::stub::Stub;
+use sb_desk::Receipt;
+use sb_value::{SESSION_LIMIT, SessionId};
+use std::alloc::{AllocError, Global};
+
+/// A session of a tenant, which the host need not have.
+#[derive(Clone, Copy)]
+pub(crate) struct Place {
+    pub(crate) tenant: u32,
+    pub(crate) session: SessionId,
+}
+
+impl Place {
+    /// Where it stands among all sessions.
+    fn order(&self) -> u64
+        ensures { result ≡ rank self.now.tenant self.now.session }
+    {
+        8 * self.tenant as u64 + self.session.number() as u64
+    }
+}
+
+/// The first session of a tenant beyond these of which there are receipts.
+pub(crate) fn first_stray(stubs: &[Stub], tenants: u32) -> Option<Place>
+    ensures { IsFirstStray tenants stubs.now result }
+{
+    let mut first = None;
+    for stub in stubs {
+        look_at(&mut first, stub, tenants);
+    }
+    first
+}
+
+/// One stub more is looked at.
+fn look_at(first: &mut Option<Place>, stub: &Stub, tenants: u32)
+    ensures { (xs : List Stub) → IsFirstStray tenants xs first.old → IsFirstStray tenants (xs ++ stub.now ∷ []) first.new }
+{
+    // for the proof: a session's number is below 8
+    let _number = stub.session.number();
+    if stub.tenant < tenants {
+        return;
+    }
+    if stub.list().is_empty() {
+        return;
+    }
+    let here = Place {
+        tenant: stub.tenant,
+        session: stub.session,
+    };
+    if !is_before(first, &here) {
+        *first = Some(here);
+    }
+}
+
+/// Whether there is a first one, and it doesn't stand behind the other.
+fn is_before(first: &Option<Place>, other: &Place) -> bool
+    ensures { MatchOption first.now (result ≡ false) (λ p. result ≡ nat_le (rank p.tenant p.session) (rank other.now.tenant other.now.session)) }
+{
+    match first {
+        Some(place) => place.order() <= other.order(),
+        None => false,
+    }
+}
+
+/// Empty lists.
+pub(crate) fn blank<T: Drop>(alloc: Global, count: usize) -> Result<Vec<Vec<T>>, AllocError>
+    ensures { IfOk result (λ rows. (length rows.items ≡ count) × ((n : ℕ) → row_at rows.items n ≡ [])) }
+{
+    let mut rows = Vec::with_capacity(alloc, count)?;
+    for _row in 0..count {
+        rows.push(Vec::new(alloc))?;
+    }
+    Ok(rows)
+}
+
+/// The receipts of each session of so many tenants, by rank.
+pub(crate) fn rows_of(
+    alloc: Global,
+    stubs: Vec<Stub>,
+    tenants: u32,
+) -> Result<Vec<Vec<Receipt>>, AllocError>
+    ensures { IfOk result (λ rows. (length rows.items ≡ 8 * tenants) × ((t s : ℕ) → t < tenants → s < 8 → row_at rows.items (rank t s) ≡ gathered t s stubs.items)) }
+{
+    let mut rows = blank(alloc, SESSION_LIMIT * tenants as usize)?;
+    for stub in stubs {
+        deal(&mut rows, stub, tenants)?;
+    }
+    Ok(rows)
+}
+
+/// Adds the receipts of a stub to those of its session, if the session is of one of these tenants.
+fn deal(rows: &mut Vec<Vec<Receipt>>, stub: Stub, tenants: u32) -> Result<(), AllocError>
+    requires { length rows.old.items ≡ 8 * tenants }
+    ensures length { OnOk result (length rows.new.items ≡ length rows.old.items) }
+    ensures rows { OnOk result ((t s : ℕ) → t < tenants → s < 8 → row_at rows.new.items (rank t s) ≡ row_at rows.old.items (rank t s) ++ receipts_in t s stub) }
+{
+    let Stub {
+        tenant,
+        session,
+        mut receipts,
+    } = stub;
+    if tenant >= tenants {
+        return Ok(());
+    }
+    let row = &mut rows[SESSION_LIMIT * tenant as usize + session.index()];
+    row.append(&mut receipts)?;
+    Ok(())
+}
