@@ -118,3 +118,7 @@ count_parts counts rows = flat_map (λ row. count_part (slice_index counts row.0
 abbrev pub summary_line : Summary → List ℕ
 summary_line s =
     codes "lines " ++ decimal s.lines ++ codes ", steps " ++ decimal s.steps ++ count_parts s.refused refusals ++ newline ∷ []
+
+-- the line of a host that is finished
+abbrev pub totals_line : ℕ → ℕ → List ℕ
+totals_line trails steps = codes "trails " ++ decimal trails ++ codes " steps " ++ decimal steps ++ newline ∷ []

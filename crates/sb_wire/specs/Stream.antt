@@ -1,12 +1,12 @@
 -- What a cell answers to lines, and how a stream of them ends.
-use Rattle.std.specs.Prelude.{◌≡◌, ◌⊎◌, ◌≤◌, nat_lt, ℕ, List, [], ◌++◌, length, Option, Result, Ok, Err, ⊤}
+use Rattle.std.specs.Prelude.{◌≡◌, ◌⊎◌, ◌≤◌, nat_lt, ℕ, List, [], ◌∷◌, ◌++◌, length, Option, Result, Ok, Err, ⊤}
 use Rattle.std.specs.Io.KnownBytes.{Appends, Consumes, IsAtEnd, Keeps}
 use Rattle.sb_tenant.specs.State.{State, opening}
 use Rattle.sb_tenant.specs.Trail.{state_of}
 use Rattle.sb_cell.specs.Tenants.{Cell, hosts, trails, IsSame}
-use Rattle.sb_wire.specs.Lines.{Piece, pieces_of, complete_pieces, Completes}
+use Rattle.sb_wire.specs.Lines.{Piece, pieces_of, complete_pieces}
 use Rattle.sb_wire.specs.Output.{IsAnswer, AreAnswers, IsOutput, TellsNoWant, output}
-use Rattle.sb_wire.specs.Counts.{Counts}
+use Rattle.sb_wire.specs.Counts.{Adds, Response, response_text}
 use Rattle.sb_wire.specs.declared.fault.StreamError.{StreamError}
 use Rattle.sb_wire.specs.declared.fault.StreamError.TheVariants.{ReadFault, WriteFault, NoMemory}
 use Rattle.sb_wire.specs.declared.summary.Summary.{Summary}
@@ -18,6 +18,11 @@ states c t = state_of t c.bound (trails c t)
 -- the text answers a piece of an input, and the cell goes on from there
 abbrev pub AnswersPiece : Cell → Piece → List ℕ → Cell → Type 0
 AnswersPiece old piece text new = IsAnswer (hosts old) old.bound (states old) piece text (states new)
+
+-- the text answers a piece, the cell goes on with its bound and its tenants, and the summary counts the response
+abbrev pub AnswersCounted : Cell × Summary → Piece → List ℕ → Cell × Summary → Type 0
+AnswersCounted old piece text new =
+    (response : Response) × (text ≡ response_text response) × AnswersPiece old.0 piece text new.0 × IsSame old.0 new.0 × Adds old.1 (response ∷ []) new.1
 
 -- the text answers the pieces in order, and the cell goes on from there, with its bound and its tenants
 pub record AnswersPieces (old : Cell) (pieces : List Piece) (text : List ℕ) (new : Cell) : Type 0 where
@@ -44,22 +49,6 @@ pub record Replies (old : Cell) (held : Option (List ℕ)) (waiting : List ℕ) 
   pub written : List ℕ
   pub whole : waiting ++ text ≡ written ++ left
   pub appends : Appends held holds written
-
--- and the summary counts the replies
-pub record CountedReplies (old : Cell) (held : Option (List ℕ)) (waiting : List ℕ) (pieces : List Piece) (new : Cell) (holds : Option (List ℕ)) (left : List ℕ) (before after : Summary) : Type 0 where
-  pub replies : Replies old held waiting pieces new holds left
-  pub counts : Counts pieces replies.text before after
-
--- so are the lines that a first part of the bytes completes, behind an open line
-pub record TakesLines (old : Cell) (held : Option (List ℕ)) (waiting : List ℕ) (start : Piece) (bytes : List ℕ) (new : Cell) (holds : Option (List ℕ)) (before after : Summary) : Type 0 where
-  pub taken : List ℕ
-  pub ahead : List ℕ
-  pub split : bytes ≡ taken ++ ahead
-  pub pieces : List Piece
-  pub opened : Piece
-  pub completes : Completes start taken pieces opened
-  pub left : List ℕ
-  pub replies : CountedReplies old held waiting pieces new holds left before after
 
 -- what holds where a writer is at fault
 abbrev pub OnWriteFault : {T : Type 0} → Result T StreamError → Type 0 → Type 0

@@ -36,7 +36,7 @@ impl<'a> Addressed<'a> {
 }
 
 /// The number in front of the first space, and what stands behind that.
-fn number_before_space(bytes: &[u8]) -> Option<(u32, &[u8])>
+pub fn number_before_space(bytes: &[u8]) -> Option<(u32, &[u8])>
     ensures { option_map (λ p. (p.0, p.1.now)) result ≡ number_before bytes.now }
 {
     let (digits, rest) = at_space(bytes)?;
@@ -52,7 +52,7 @@ fn at_space(bytes: &[u8]) -> Option<(&[u8], &[u8])>
 }
 
 /// The number that these bytes are.
-fn number(digits: &[u8]) -> Option<u32>
+pub fn number(digits: &[u8]) -> Option<u32>
     ensures { result ≡ number_of digits.now }
 {
     match digits {

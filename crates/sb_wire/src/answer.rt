@@ -1,10 +1,10 @@
 //! The answer to one piece of an input.
-ghost use Rattle.std.specs.Prelude.{◌≡◌, ◌++◌, ◌∷◌, [], OnOk, OnErr, Result};
+ghost use Rattle.std.specs.Prelude.{◌≡◌, ◌++◌, ◌∷◌, ℕ, List, [], OnOk, OnErr, Result};
 ghost use Rattle.sb_cell.specs.Tenants.{AnswersEvent, IsSame};
-ghost use Rattle.sb_wire.specs.Counts.{Adds, Response, line_refusal, response_text, step_reply};
+ghost use Rattle.sb_wire.specs.Counts.{Adds, line_refusal, response_text, step_reply};
 ghost use Rattle.sb_wire.specs.Output.{answer_text, text_behind};
 ghost use Rattle.sb_wire.specs.Seen.{piece_seen, addressed_seen};
-ghost use Rattle.sb_wire.specs.Stream.{AnswersPiece};
+ghost use Rattle.sb_wire.specs.Stream.{AnswersCounted};
 
 use crate::address::Addressed;
 use crate::input::Piece;
@@ -24,12 +24,10 @@ pub(crate) fn answer_piece(
     out: &mut Vec<u8>,
     summary: &mut Summary,
 ) -> Result<(), AllocError>
-    ensures answers { (response : Response)
-        × AnswersPiece cell.old (piece_seen piece.entry) (response_text response) cell.new
-        × OnOk result (out.new.items ≡ out.old.items ++ response_text response)
-        × OnErr result (out.new.items ≡ out.old.items)
-        × Adds summary.old (response ∷ []) summary.new }
-    ensures same { IsSame cell.old cell.new }
+    ensures { (text : List ℕ)
+        × AnswersCounted (cell.old, summary.old) (piece_seen piece.entry) text (cell.new, summary.new)
+        × OnOk result (out.new.items ≡ out.old.items ++ text)
+        × OnErr result (out.new.items ≡ out.old.items) }
 {
     match piece {
         Piece::TooLong => refuse_line(out, summary, WireRefusal::TooLong),

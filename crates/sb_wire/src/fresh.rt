@@ -7,7 +7,7 @@ ghost use Rattle.sb_wire.specs.Stream.{AnswersFresh, EndsBy, MayFail, OnWriteFau
 
 use crate::ends::{Sink, Source};
 use crate::fault::StreamError;
-use crate::stream::run_stream;
+use crate::run::run_stream;
 use crate::summary::Summary;
 use sb_cell::Cell;
 use std::alloc::{AllocError, Global};

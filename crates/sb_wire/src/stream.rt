@@ -1,19 +1,17 @@
 //! A stream: the lines of an input, each answered when it is complete.
-ghost use Rattle.std.specs.Prelude.{◌≡◌, ◌++◌, ◌∷◌, ◌≢◌, List, ℕ, [], OnOk, OnErr, IfErr, IfSome};
+ghost use Rattle.std.specs.Prelude.{◌≡◌, ◌++◌, ◌∷◌, ◌≢◌, List, ℕ, [], false, OnOk, OnErr, IfErr};
 ghost use Rattle.std.specs.Io.{ReadsAtMost};
 ghost use Rattle.std.specs.Io.KnownBytes.{Appends, Keeps, ReadConsumes};
-ghost use Rattle.sb_wire.specs.Counts.{Counts};
 ghost use Rattle.sb_wire.specs.Lines.{last_piece};
+ghost use Rattle.sb_wire.specs.Responses.{AnswersBytes, AnswersLines, AnswersStream, StopsBy};
 ghost use Rattle.sb_wire.specs.Seen.{piece_seen};
-ghost use Rattle.sb_wire.specs.Stream.{AnswersInput, CountedReplies, EndsBy, MayFail, OnWriteFault, Streams, TakesLines};
+ghost use Rattle.sb_wire.specs.Stream.{MayFail, OnWriteFault};
 
-use crate::answer::answer_piece;
 use crate::ends::{Sink, Source};
 use crate::fault::StreamError;
 use crate::input::{Lines, Piece};
-use crate::summary::Summary;
+use crate::responder::Responder;
 use crate::tries::Tries;
-use sb_cell::Cell;
 use std::alloc::Global;
 
 /// The most bytes that a read gives. So many bytes of replies are written at once.
@@ -22,27 +20,22 @@ const PIECE_SIZE: usize = 65_536;
 /// The most reads of a stream.
 const MOST_READS: u64 = 1 << 32;
 
-/// Answers each line of the input when it is complete, writes the replies before it reads on, and
-/// counts them.
-pub fn run_stream<R: Source, W: Sink>(
+/// Answers each line of the input when it is complete, until the stream is over, and writes the
+/// replies before it reads on.
+pub fn answer_stream<S, T, A: Responder<S, T>, R: Source, W: Sink>(
     alloc: Global,
     reader: &mut R,
     writer: &mut W,
-    cell: &mut Cell,
-    summary: &mut Summary,
+    responder: &A,
+    first: &mut S,
+    second: &mut T,
 ) -> Result<(), StreamError>
-    ensures ok { OnOk result (IfSome (R.remaining reader.old) (λ input. (text : List ℕ)
-        × Appends (W.contents writer.old) (W.contents writer.new) text
-        × AnswersInput cell.old input text cell.new)) }
-    ensures goes { (s : Streams cell.old (R.remaining reader.old) (W.contents writer.old)
-        cell.new (R.remaining reader.new) (W.contents writer.new))
-        × EndsBy R.fails R.remaining reader.new s.seen s.pieces s.left result }
+    requires { A.over (first.old, second.old) ≡ false }
+    ensures goes { (s : AnswersStream (A.responds responder.now) A.over (first.old, second.old)
+        (R.remaining reader.old) (W.contents writer.old)
+        (first.new, second.new) (R.remaining reader.new) (W.contents writer.new))
+        × StopsBy R.fails R.remaining reader.new (A.over (first.new, second.new)) s.seen s.pieces s.left result }
     ensures refused { OnWriteFault result (MayFail W.refuses W.contents writer.new) }
-    // however it ends, the summary counts the replies to just these lines
-    ensures counts { (s : Streams cell.old (R.remaining reader.old) (W.contents writer.old)
-        cell.new (R.remaining reader.new) (W.contents writer.new))
-        × EndsBy R.fails R.remaining reader.new s.seen s.pieces s.left result
-        × Counts s.pieces s.replies.text summary.old summary.new }
 {
     let Ok(mut buffer) = vec![in alloc; 0u8; PIECE_SIZE] else {
         return Err(StreamError::NoMemory);
@@ -52,10 +45,15 @@ pub fn run_stream<R: Source, W: Sink>(
     for _read in 0..MOST_READS {
         let count = read_piece(reader, buffer.as_mut_slice())?;
         if count == 0 {
-            return answer_last(alloc, &lines, writer, cell, &mut out, summary);
+            return answer_last(alloc, &lines, writer, responder, first, second, &mut out);
         }
         let bytes = &buffer.as_slice()[..count];
-        answer_bytes(alloc, bytes, &mut lines, writer, cell, &mut out, summary)?;
+        answer_bytes(
+            alloc, bytes, &mut lines, writer, responder, first, second, &mut out,
+        )?;
+        if responder.is_over(first, second) {
+            return Ok(());
+        }
     }
     Err(StreamError::ReadFault)
 }
@@ -81,17 +79,19 @@ fn read_piece<R: Source>(reader: &mut R, buf: &mut [u8]) -> Result<usize, Stream
 }
 
 /// Answers the line that stands open at the end.
-fn answer_last<W: Sink>(
+fn answer_last<S, T, A: Responder<S, T>, W: Sink>(
     alloc: Global,
     lines: &Lines,
     writer: &mut W,
-    cell: &mut Cell,
+    responder: &A,
+    first: &mut S,
+    second: &mut T,
     out: &mut Vec<u8>,
-    summary: &mut Summary,
 ) -> Result<(), StreamError>
+    requires { A.over (first.old, second.old) ≡ false }
     ensures replies { (left : List ℕ)
-        × CountedReplies cell.old (W.contents writer.old) out.old.items (last_piece lines.now)
-        cell.new (W.contents writer.new) left summary.old summary.new
+        × AnswersLines (A.responds responder.now) A.over (first.old, second.old) (W.contents writer.old) out.old.items
+        (last_piece lines.now) (first.new, second.new) (W.contents writer.new) left
         × OnOk result (left ≡ []) }
     ensures refused { OnWriteFault result (MayFail W.refuses W.contents writer.new) }
     ensures reads { IfErr result (λ e. e ≢ StreamError.ReadFault) }
@@ -99,72 +99,85 @@ fn answer_last<W: Sink>(
     let Some(piece) = lines.finish() else {
         return write_out(writer, out);
     };
-    answer_next(alloc, piece, writer, cell, out, summary)?;
+    answer_next(alloc, piece, writer, responder, first, second, out)?;
     write_out(writer, out)
 }
 
 /// Answers the lines that these bytes complete, and writes the replies.
-fn answer_bytes<W: Sink>(
+fn answer_bytes<S, T, A: Responder<S, T>, W: Sink>(
     alloc: Global,
     bytes: &[u8],
     lines: &mut Lines,
     writer: &mut W,
-    cell: &mut Cell,
+    responder: &A,
+    first: &mut S,
+    second: &mut T,
     out: &mut Vec<u8>,
-    summary: &mut Summary,
 ) -> Result<(), StreamError>
-    ensures takes { (t : TakesLines cell.old (W.contents writer.old) out.old.items lines.old bytes.now
-        cell.new (W.contents writer.new) summary.old summary.new)
-        × OnOk result ((t.ahead ≡ []) × (t.opened ≡ lines.new) × (t.left ≡ []) × (out.new.items ≡ [])) }
+    requires { A.over (first.old, second.old) ≡ false }
+    ensures takes { (left : List ℕ)
+        × (t : AnswersBytes (A.responds responder.now) A.over (first.old, second.old) (W.contents writer.old) out.old.items
+        lines.old bytes.now (first.new, second.new) (W.contents writer.new) left)
+        × OnOk result ((left ≡ []) × (out.new.items ≡ [])
+        × (A.over (first.new, second.new) ≡ false → (t.ahead ≡ []) × (t.opened ≡ lines.new))) }
     ensures refused { OnWriteFault result (MayFail W.refuses W.contents writer.new) }
     ensures reads { IfErr result (λ e. e ≢ StreamError.ReadFault) }
 {
-    answer_lines(alloc, bytes, lines, writer, cell, out, summary)?;
+    answer_lines(alloc, bytes, lines, writer, responder, first, second, out)?;
     write_out(writer, out)
 }
 
-/// Answers the lines that these bytes complete.
-fn answer_lines<W: Sink>(
+/// Answers the lines that these bytes complete, until the stream is over.
+fn answer_lines<S, T, A: Responder<S, T>, W: Sink>(
     alloc: Global,
     bytes: &[u8],
     lines: &mut Lines,
     writer: &mut W,
-    cell: &mut Cell,
+    responder: &A,
+    first: &mut S,
+    second: &mut T,
     out: &mut Vec<u8>,
-    summary: &mut Summary,
 ) -> Result<(), StreamError>
-    ensures takes { (t : TakesLines cell.old (W.contents writer.old) out.old.items lines.old bytes.now
-        cell.new (W.contents writer.new) summary.old summary.new)
-        × OnOk result ((t.ahead ≡ []) × (t.opened ≡ lines.new) × (t.left ≡ out.new.items)) }
+    requires { A.over (first.old, second.old) ≡ false }
+    ensures takes { (left : List ℕ)
+        × (t : AnswersBytes (A.responds responder.now) A.over (first.old, second.old) (W.contents writer.old) out.old.items
+        lines.old bytes.now (first.new, second.new) (W.contents writer.new) left)
+        × OnOk result ((left ≡ out.new.items)
+        × (A.over (first.new, second.new) ≡ false → (t.ahead ≡ []) × (t.opened ≡ lines.new))) }
     ensures refused { OnWriteFault result (MayFail W.refuses W.contents writer.new) }
     ensures reads { IfErr result (λ e. e ≢ StreamError.ReadFault) }
 {
     let mut rest = bytes;
     while let Some(behind) = lines.feed(rest) {
-        answer_next(alloc, lines.line(), writer, cell, out, summary)?;
+        answer_next(alloc, lines.line(), writer, responder, first, second, out)?;
+        if responder.is_over(first, second) {
+            return Ok(());
+        }
         lines.clear();
         rest = behind;
     }
     Ok(())
 }
 
-/// Answers a piece, and writes the replies so far where they are many.
-fn answer_next<W: Sink>(
+/// Answers a line, and writes the replies so far where they are many.
+fn answer_next<S, T, A: Responder<S, T>, W: Sink>(
     alloc: Global,
     piece: Piece<'_>,
     writer: &mut W,
-    cell: &mut Cell,
+    responder: &A,
+    first: &mut S,
+    second: &mut T,
     out: &mut Vec<u8>,
-    summary: &mut Summary,
 ) -> Result<(), StreamError>
+    requires { A.over (first.old, second.old) ≡ false }
     ensures replies { (left : List ℕ)
-        × CountedReplies cell.old (W.contents writer.old) out.old.items (piece_seen piece.entry ∷ [])
-        cell.new (W.contents writer.new) left summary.old summary.new
+        × AnswersLines (A.responds responder.now) A.over (first.old, second.old) (W.contents writer.old) out.old.items
+        (piece_seen piece.entry ∷ []) (first.new, second.new) (W.contents writer.new) left
         × OnOk result (left ≡ out.new.items) }
     ensures refused { OnWriteFault result (MayFail W.refuses W.contents writer.new) }
     ensures reads { IfErr result (λ e. e ≢ StreamError.ReadFault) }
 {
-    match answer_piece(alloc, cell, piece, out, summary) {
+    match responder.respond(alloc, piece, out, first, second) {
         Err(_) => {
             // the replies before are written all the same
             write_out(writer, out)?;

@@ -1,6 +1,6 @@
 //! The line that tells a summary.
 ghost use Rattle.std.specs.Prelude.{◌≡◌, ◌++◌, length, map, OnOk};
-ghost use Rattle.sb_wire.specs.Counts.{count_part, count_parts, summary_line};
+ghost use Rattle.sb_wire.specs.Counts.{count_part, count_parts, summary_line, totals_line};
 
 use crate::summary::Summary;
 use crate::words::{push_labelled, push_word};
@@ -50,6 +50,16 @@ pub fn write_summary(out: &mut Vec<u8>, summary: &Summary) -> Result<(), AllocEr
     push_labelled(out, b"lines ", summary.lines)?;
     push_labelled(out, b", steps ", summary.steps)?;
     push_counts(out, &summary.refused, &REFUSALS)?;
+    out.push(b'\n')?;
+    Ok(())
+}
+
+/// Adds the line that tells how many trails there are, and how many steps they have together.
+pub fn write_totals(out: &mut Vec<u8>, trails: u64, steps: u64) -> Result<(), AllocError>
+    ensures { OnOk result (out.new.items ≡ out.old.items ++ totals_line trails steps) }
+{
+    push_labelled(out, b"trails ", trails)?;
+    push_labelled(out, b" steps ", steps)?;
     out.push(b'\n')?;
     Ok(())
 }

@@ -73,7 +73,7 @@ pub(crate) fn push_count(out: &mut Vec<u8>, count: u64) -> Result<(), AllocError
 }
 
 /// Some text, and a number behind it.
-pub(crate) fn push_labelled(out: &mut Vec<u8>, label: &[u8], number: u64) -> Result<(), AllocError>
+pub fn push_labelled(out: &mut Vec<u8>, label: &[u8], number: u64) -> Result<(), AllocError>
     ensures { OnOk result (out.new.items ≡ out.old.items ++ (label.now ++ decimal number)) }
 {
     let mut buffer = Buffer::new();
