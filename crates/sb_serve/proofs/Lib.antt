@@ -1,0 +1,3 @@
+pub mod Talks
+pub mod Closing
+pub mod Connection

@@ -1,0 +1,84 @@
+-- The lines that a session is called with, what answers each, and the receipts that these give.
+use Rattle.std.specs.Prelude.{◌≡◌, ⊤, ℕ, Bool, true, false, List, [], ◌∷◌, ◌++◌, flat_map, codes}
+use Rattle.std.specs.List.{list_any}
+use Rattle.sb_tenant.specs.declared.reply.Answer.{Answer}
+use Rattle.sb_tenant.specs.declared.reply.Reply.TheVariants as told
+use Rattle.sb_wire.specs.Lines.{Piece}
+use Rattle.sb_wire.specs.Lines as lines
+use Rattle.sb_wire.specs.Output.{ended_lines}
+use Rattle.sb_wire.specs.ReplyText.{reply_lines}
+use Rattle.sb_wire.specs.Seen.{refusal_line}
+use Rattle.sb_wire.specs.declared.refusal.WireRefusal.TheVariants as wire
+use Rattle.sb_desk.specs.declared.receipts.Receipt.{Receipt}
+use Rattle.sb_desk.specs.Receipts.{closes, list_after, numbered, receipt}
+use Rattle.sb_host.specs.Calls.{IsNumbered}
+
+-- a line that is too long, one whose step isn't begun, or one that has an answer
+pub data Exchange : Type 0 where
+  overlong : Exchange
+  unbegun : List ℕ → Exchange
+  answered : List ℕ → Answer → Exchange
+
+abbrev pub line_in : Exchange → Piece
+line_in overlong = lines.too_long
+line_in (unbegun line) = lines.line line
+line_in (answered line answer) = lines.line line
+
+-- ---- what is written
+
+abbrev pub said_lines : Exchange → List (List ℕ)
+said_lines overlong = refusal_line wire.TooLong ∷ []
+said_lines (unbegun line) = refusal_line wire.NotBegun ∷ []
+said_lines (answered line answer) = reply_lines answer.reply
+
+-- each line of a reply stands alone
+abbrev pub said_text : Exchange → List ℕ
+said_text e = ended_lines (said_lines e)
+
+-- ---- the end
+
+-- an `end` that is answered `ok`
+abbrev pub ends : Exchange → Bool
+ends (answered line answer) = closes line answer.reply
+ends e = false
+
+abbrev pub has_ended : List Exchange → Bool
+has_ended es = list_any ends es
+
+-- an answer has no number only where the trail is full
+abbrev pub IsCall : Exchange → Type 0
+IsCall (answered line answer) = IsNumbered answer
+IsCall e = ⊤
+
+-- the calls of one session: none comes behind its end
+abbrev pub AreCalls : List Exchange → Type 0
+AreCalls [] = ⊤
+AreCalls (e ∷ es) = IsCall e × (ends e ≡ true → es ≡ []) × AreCalls es
+
+-- ---- what is left
+
+-- an answer with a number has a receipt
+abbrev pub receipt_of : Exchange → List Receipt
+receipt_of (answered line answer) = list_after [] line answer
+receipt_of e = []
+
+abbrev pub receipts_of : List Exchange → List Receipt
+receipts_of es = flat_map receipt_of es
+
+-- that of the `end` which closes the session, unless it has ended
+abbrev pub closing_receipts : Bool → ℕ → List Receipt
+closing_receipts true n = []
+closing_receipts false n = receipt (codes "end") (numbered n told.Ok) ∷ []
+
+-- a session was opened, called with these lines, and closed
+pub record AreReceipts (exchanges : List Exchange) (receipts : List Receipt) : Type 0 where
+  pub opening : ℕ
+  pub closing : ℕ
+  pub are : receipts ≡ receipt (codes "open") (numbered opening told.Ok) ∷ (receipts_of exchanges ++ closing_receipts (has_ended exchanges) closing)
+
+-- the last receipt is an `end` that was answered `ok`
+pub record IsClosed (receipts : List Receipt) : Type 0 where
+  pub others : List Receipt
+  pub last : Receipt
+  pub are : receipts ≡ others ++ last ∷ []
+  pub ends : closes last.line last.answer.reply ≡ true

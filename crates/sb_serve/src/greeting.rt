@@ -1,0 +1,104 @@
+//! The first line of a connection.
+ghost use Rattle.std.specs.Prelude.{◌≡◌, ◌++◌, List, ℕ, None, OnOk, OnErr};
+ghost use Rattle.sb_wire.specs.Output.{ended_lines};
+ghost use Rattle.sb_wire.specs.Seen.{piece_seen};
+ghost use Rattle.sb_serve.specs.Conversation.{attach_lines, named_of};
+ghost use Rattle.sb_serve.specs.Responding.{Greets, GreetsNamed};
+
+use sb_host::{AttachError, Host, Naming, Session};
+use sb_tenant::Reply;
+use sb_value::Refusal;
+use sb_wire::{
+    Piece, WireRefusal, number, number_before_space, write_bare_refusal, write_bare_reply,
+};
+use std::alloc::{AllocError, Global};
+use std::sync::Wait;
+
+/// A tenant and one of its sessions, as a first line names them.
+#[derive(Clone, Copy)]
+pub struct Named {
+    pub tenant: u32,
+    pub session: u32,
+}
+
+impl Named {
+    /// The two numbers of a line, if it is that.
+    fn split(line: &[u8]) -> Option<Named>
+        ensures { result ≡ named_of line.now }
+    {
+        let (tenant, rest) = number_before_space(line)?;
+        let session = number(rest)?;
+        Some(Named { tenant, session })
+    }
+}
+
+/// Opens the session that a first line names, or turns the connection away.
+pub(crate) fn greet<'h, T: Wait, N: Naming>(
+    rt: &T,
+    alloc: Global,
+    host: &'h Host<N>,
+    piece: Piece<'_>,
+    out: &mut Vec<u8>,
+    session: &mut Option<Session<'h, N>>,
+    away: &mut bool,
+) -> Result<(), AllocError>
+    requires { session.old ≡ None }
+    ensures { (text : List ℕ) × Greets host.now (piece_seen piece.entry) text session.new away.new
+        × OnOk result (out.new.items ≡ out.old.items ++ text)
+        × OnErr result (out.new.items ≡ out.old.items) }
+{
+    match piece {
+        Piece::TooLong => {
+            *away = true;
+            write_bare_refusal(out, WireRefusal::TooLong)
+        }
+        Piece::Line(line) => match Named::split(line) {
+            Some(named) => open(rt, alloc, host, named, out, session, away),
+            None => {
+                *away = true;
+                write_bare_refusal(out, WireRefusal::BadLine)
+            }
+        },
+    }
+}
+
+/// Opens this session, or turns the connection away.
+fn open<'h, T: Wait, N: Naming>(
+    rt: &T,
+    alloc: Global,
+    host: &'h Host<N>,
+    named: Named,
+    out: &mut Vec<u8>,
+    session: &mut Option<Session<'h, N>>,
+    away: &mut bool,
+) -> Result<(), AllocError>
+    requires { session.old ≡ None }
+    ensures { (text : List ℕ) × GreetsNamed host.now named text session.new away.new
+        × OnOk result (out.new.items ≡ out.old.items ++ text)
+        × OnErr result (out.new.items ≡ out.old.items) }
+{
+    match host.attach(rt, alloc, named.tenant, named.session) {
+        Ok(opened) => {
+            *session = Some(opened);
+            write_bare_reply(out, &Reply::Ok)
+        }
+        Err(error) => {
+            *away = true;
+            refuse(out, error)
+        }
+    }
+}
+
+/// Says why no session was opened.
+fn refuse(out: &mut Vec<u8>, error: AttachError) -> Result<(), AllocError>
+    ensures ok { OnOk result (out.new.items ≡ out.old.items ++ ended_lines (attach_lines error)) }
+    ensures err { OnErr result (out.new.items ≡ out.old.items) }
+{
+    match error {
+        AttachError::NoTenant => write_bare_refusal(out, WireRefusal::NoTenant),
+        AttachError::NoSession => write_bare_refusal(out, WireRefusal::NoSession),
+        AttachError::AlreadyOpen => write_bare_reply(out, &Reply::No(Refusal::AlreadyOpen)),
+        AttachError::TrailFull => write_bare_reply(out, &Reply::No(Refusal::TrailFull)),
+        AttachError::NotBegun => write_bare_refusal(out, WireRefusal::NotBegun),
+    }
+}

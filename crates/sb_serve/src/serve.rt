@@ -1,0 +1,55 @@
+//! A connection from its first line to the end of its session.
+ghost use Rattle.std.specs.Prelude.{◌≡◌, IfSome};
+ghost use Rattle.sb_serve.specs.Conversation.{Conversation};
+ghost use Rattle.sb_serve.specs.Exchanges.{IsClosed};
+ghost use Rattle.sb_serve.specs.Responding.{LeavesSome};
+ghost use Rattle.sb_wire.specs.Responses.{StopsBy};
+ghost use Rattle.sb_wire.specs.Stream.{MayFail, OnWriteFault};
+
+use crate::talking::Talk;
+use sb_host::{Host, Naming, Session, Stub};
+use sb_wire::{Sink, Source, StreamError, answer_stream};
+use std::alloc::Global;
+use std::sync::Wait;
+
+/// What is left of a connection: its session's receipts, if it had one, and how it ended.
+#[derive(Drop)]
+pub struct Served {
+    pub stub: Option<Stub>,
+    pub ended: Result<(), StreamError>,
+}
+
+/// Opens the session that the first line names, calls it with each further line and writes the
+/// answer, and closes it however the connection ends.
+pub fn serve_one<T: Wait, N: Naming, R: Source, W: Sink>(
+    rt: &T,
+    alloc: Global,
+    reader: &mut R,
+    writer: &mut W,
+    host: &Host<N>,
+) -> Served
+    ensures goes { (c : Conversation host.now (R.remaining reader.old) (W.contents writer.old)
+        (R.remaining reader.new) (W.contents writer.new) result.stub)
+        × StopsBy R.fails R.remaining reader.new c.over c.seen c.pieces c.left result.ended }
+    ensures refused { OnWriteFault result.ended (MayFail W.refuses W.contents writer.new) }
+    ensures closed { IfSome result.stub (λ stub. IsClosed stub.receipts.items) }
+{
+    let talk = Talk { rt, host };
+    let mut session = None;
+    let mut away = false;
+    let ended = answer_stream(alloc, reader, writer, &talk, &mut session, &mut away);
+    Served {
+        stub: close(rt, session),
+        ended,
+    }
+}
+
+/// Closes the session, if one was opened.
+fn close<T: Wait, N: Naming>(rt: &T, session: Option<Session<'_, N>>) -> Option<Stub>
+    ensures { LeavesSome session.entry result }
+{
+    match session {
+        Some(session) => Some(session.close(rt)),
+        None => None,
+    }
+}
