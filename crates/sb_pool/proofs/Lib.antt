@@ -4,3 +4,4 @@ pub mod Tasks
 pub mod Steps
 pub mod Crews
 pub mod Laying
+pub mod Sending

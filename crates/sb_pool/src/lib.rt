@@ -4,6 +4,7 @@
 
 mod crew;
 mod helper;
+mod pool;
 mod results;
 mod rule;
 #[cfg(test)]
@@ -12,4 +13,5 @@ mod turns;
 mod work;
 
 pub use crew::run;
+pub use pool::{Done, Job, Pool, PoolError};
 pub use work::Work;
