@@ -1,67 +1,73 @@
--- What words ask for, from the texts that clap finds in them.
-use Rattle.std.proofs.Common.{◌≡◌, ◌≤◌, ◌∙◌, ◌⊎◌, ℕ, List, [], ◌∷◌, Option, Some, None, length, refl, sym, subst, inl, inr, arith, codes, map, ap, true}
-use Rattle.std.proofs.lemmas.Option.{slice_get-map}
-use Rattle.std.specs.Borrow.{Bor}
-use Rattle.std.specs.List.{find, slice_get}
-use Rattle.std.specs.Str.{bytes_eq}
-use Rattle.std.specs.Prelude.{option_map, option_and_then}
-use Rattle.clap.proofs.WalkLemmas.{find_row}
-use Rattle.clap.specs.Facts.{Entry}
-use Rattle.clap.specs.Matches.{first_value}
-use Rattle.clap.specs.Walk.{row_of, rows_of}
-use Rattle.clap.specs.declared.parser.matches.ArgMatches.{ArgMatches}
-use Rattle.clap.specs.declared.parser.matches.Found.{Found}
-use Rattle.clap.specs.declared.parser.matches.MatchedArg.{MatchedArg}
-use Rattle.clap.specs.Words.{App, HasMatchesOf, IsAmong, Kinds, Row, Text, fault_of, first_of, found_of, is_simple, is_simple_and_free, matches_of}
-use Rattle.clap.specs.declared.error.kind.ErrorKind.{ErrorKind}
+-- What words ask for at no words, and statuses.
+use Rattle.std.proofs.Common.{◌≡◌, ◌≤◌, ◌⊎◌, ℕ, List, [], ◌∷◌, length, Result, Ok, Err, refl, sym, subst, ap, inl, inr, arith, map, ◌<◌, ◌∙◌}
+use Rattle.std.specs.Prelude.{OnErr, OnOk}
+use Rattle.clap.specs.Words.{Text}
 use Rattle.clap.proofs.OnLiterals.{clap_on_literals}
-use Rattle.sb_command.specs.Words.{AskForRun, HasNumber, starhost, text_of}
+use Rattle.sb_words.specs.Words.{AskFor, AskOnce, IsAsked}
+use Rattle.sb_words.specs.declared.request.Request.{Request}
+use Rattle.sb_words.specs.declared.request.Request.TheVariants.{Run as run_request, Serve}
+use Rattle.sb_words.specs.declared.request.Run.{Run}
+use Rattle.sb_words.specs.declared.request.Serving.{Serving}
+use Rattle.sb_words.specs.declared.words.Asked.{Asked}
+use Rattle.sb_words.specs.declared.words.Asked.TheVariants.{For}
+use Rattle.sb_service.specs.declared.fault.Fault.{Fault}
 
-pub same_number : (usual most : ℕ) (text : Option Text) (m n : ℕ) → HasNumber usual most text m → HasNumber usual most text n → m ≡ n
-same_number usual most None m n a b = a ∙ sym b
-same_number usual most (Some t) m n a b = a.1 ∙ sym b.1
-
-pub no_words : {A : Type 0} (f : A → Text) (words : List A) → length words ≤ 1 → AskForRun (map f words) 16 1000
+pub no_words : {A : Type 0} (f : A → Text) (words : List A) → length words ≤ 1 → AskFor (map f words) (run_request (record { tenants = 16; bound = 1000 }))
 unfolding clap_on_literals
-no_words f [] h = (refl, (tt, refl, refl))
-no_words f (w ∷ []) h = (refl, (tt, refl, refl))
+no_words f [] h = (refl, (inl refl, (refl, refl, refl, refl), (refl, refl)))
+no_words f (w ∷ []) h = (refl, (inl refl, (refl, refl, refl, refl), (refl, refl)))
 no_words f (w ∷ v ∷ rest) h = absurd (omega arith)
 
-first_in_rows : (f : Found) (id : Text) → first_value f id ≡ first_of id (rows_of f)
-first_in_rows f id = go (find (λ e. bytes_eq e.0.now id) f.entries.items)
-    ∙ ap (λ o. option_and_then (λ (r : Row). slice_get r.values 0) o) (sym (find_row f.entries.items id))
+-- what is read is what the words ask for
+pub asked_for : (words : List Text) (a : Asked) (r s : Request) → IsAsked words a → a ≡ For r → r ≡ s → AskFor words s
+asked_for words a r s h is same = subst (AskFor words) same (subst (IsAsked words) is h)
+
+abbrev run_in : Run → Request → Run
+run_in d (run_request r) = r
+run_in d other = d
+
+abbrev serving_in : Serving → Request → Serving
+serving_in d (Serve s) = s
+serving_in d other = d
+
+abbrev kind_of : Request → ℕ
+kind_of (run_request r) = 0
+kind_of (Serve s) = 1
+
+-- words that ask for two requests ask for one
+module _ (once : AskOnce) (words : List Text) where
+  pub same_run : (r q : Run) (P : Run → Type 0) → AskFor words (run_request r) → AskFor words (run_request q) → P r → P q
+  same_run r q P a b h = subst P (ap (run_in r) (once words (run_request r) (run_request q) a b)) h
+
+  pub same_serving : (r q : Serving) (P : Serving → Type 0) → AskFor words (Serve r) → AskFor words (Serve q) → P r → P q
+  same_serving r q P a b h = subst P (ap (serving_in r) (once words (Serve r) (Serve q) a b)) h
+
+  pub no_other : (r q : Request) → kind_of r < kind_of q → AskFor words r → AskFor words q → ⊥
+  no_other r q less a b = apart (kind_of r) (kind_of q) less (ap kind_of (once words r q a b))
+    where
+      apart : (m n : ℕ) → m < n → m ≡ n → ⊥
+      apart m n l e = absurd (omega arith)
+
+-- a command that is told as a success went well
+pub went_well : {P : Type 0} (ended : Result (Unit {0}) Fault) (n : ℕ) → OnErr ended (n ≡ 1) → n ≡ 0 → OnOk ended P → P
+went_well (Ok value) n err zero h = h
+went_well (Err why) n err zero h = absurd (apart n err zero)
   where
-    go : (o : Option Entry) → option_and_then (λ (a : MatchedArg). option_map (λ s. s.now) (slice_get a.vals.items 0)) (option_map (λ e. e.1) o)
-        ≡ option_and_then (λ (r : Row). slice_get r.values 0) (option_map row_of o)
-    go None = refl
-    go (Some e) = sym (slice_get-map (λ s. s.now) e.1.vals.items 0)
+    apart : (n : ℕ) → n ≡ 1 → n ≡ 0 → ⊥
+    apart n one none = absurd (omega arith)
 
-is_simple_here : is_simple starhost ≡ true
-unfolding clap_on_literals
-is_simple_here = refl
+-- a success, or a fault
+pub at_most_one : (ended : Result (Unit {0}) Fault) (n : ℕ) → OnOk ended (n ≡ 0) → OnErr ended (n ≡ 1) → n ≤ 1
+at_most_one (Ok value) n ok err = omega (arith, ok)
+at_most_one (Err why) n ok err = omega (arith, err)
 
-is_free_here : is_simple_and_free starhost ≡ true
-unfolding clap_on_literals
-is_free_here = refl
+pub not_two : (n : ℕ) → (n ≡ 0) ⊎ (n ≡ 1) → n ≡ 2 → ⊥
+not_two n (inl none) two = absurd (omega arith)
+not_two n (inr one) two = absurd (omega arith)
 
--- clap's command is ours, and it finds no fault
-pub no_fault : (a : App) (words : List Text) → a ≡ starhost → (is_simple_and_free a ≡ true → fault_of a words ≡ []) → fault_of starhost words ≡ []
-no_fault a words e h = subst (λ b. fault_of b words ≡ []) e (h (subst (λ b. is_simple_and_free b ≡ true) (sym e) is_free_here))
-
--- what stands behind an id is in the rows of the matches
-pub text_in : (a : App) (words : List Text) (m : ArgMatches) (id : Text) (o : Option (Bor Text)) → a ≡ starhost → HasMatchesOf a words m
-    → text_of o ≡ first_value (found_of m) id → text_of o ≡ first_of id (matches_of starhost words)
-text_in a words m id o e has h =
-    let rows = subst (λ b. rows_of (found_of m) ≡ matches_of b words) e (has (subst (λ b. is_simple b ≡ true) (sym e) is_simple_here)).0 in
-    h ∙ first_in_rows (found_of m) id ∙ ap (first_of id) rows
-
-pub same_run : (words : List Text) (t b u c : ℕ) (P : ℕ → ℕ → Type 0) → AskForRun words t b → AskForRun words u c → P t b → P u c
-same_run words t b u c P asks again h =
-    subst (λ x. P x c) (same_number 16 256 (first_of (codes "tenants") (matches_of starhost words)) t u asks.1.1 again.1.1)
-    (subst (λ y. P t y) (same_number 1000 1000 (first_of (codes "bound") (matches_of starhost words)) b c asks.1.2 again.1.2) h)
-
-pub none_among : (k : ErrorKind) (ks : Kinds) → ks ≡ [] → IsAmong k ks → ⊥
-none_among k ks none h = subst (IsAmong k) none h
+pub at_most_two-shown : (n : ℕ) → (n ≡ 0) ⊎ (n ≡ 1) → n ≤ 2
+at_most_two-shown n (inl none) = omega arith
+at_most_two-shown n (inr one) = omega arith
 
 -- a status of 1 or 2
 pub not_success : (n : ℕ) → (n ≡ 1) ⊎ (n ≡ 2) → n ≡ 0 → ⊥

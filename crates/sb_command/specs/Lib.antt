@@ -1,3 +1,2 @@
-pub mod Asked
 pub mod Does
-pub mod Words
+pub mod Faults

@@ -2,9 +2,9 @@
 #![tactic(auto)]
 
 mod console;
+mod fault;
 mod help;
 mod program;
-mod request;
 mod telling;
 #[cfg(test)]
 mod tests;

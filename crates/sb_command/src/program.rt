@@ -1,44 +1,62 @@
 //! What a command line is answered.
-ghost use Rattle.std.specs.Prelude.{◌≡◌, ◌≤◌, ◌⊎◌, List, ℕ, IfSome, length, map};
+ghost use Rattle.std.specs.Prelude.{◌≡◌, ◌≤◌, ◌⊎◌, List, ℕ, IfSome, OnErr, OnOk, length, map};
 ghost use Rattle.std.specs.Io.KnownBytes.{Appends, Keeps};
 ghost use Rattle.sb_wire.specs.Stream.{AnswersFresh};
 ghost use Rattle.sb_command.specs.Does.{GoesFresh, Tells, TellsRun, fault_line, status_of};
-ghost use Rattle.sb_command.specs.Words.{AreRefused, AskForHelp, AskForRun, AskForVersion, IsWithin};
+ghost use Rattle.sb_command.specs.Faults.{fault_text};
+ghost use Rattle.sb_service.specs.Totals.{TellsServer};
+ghost use Rattle.sb_words.specs.declared.request.Request.TheVariants as request;
+ghost use Rattle.sb_words.specs.declared.request.Run.{Run as ItsRun};
+ghost use Rattle.sb_words.specs.declared.request.Serving.{Serving as ItsServing};
+ghost use Rattle.sb_words.specs.Within.{AreRun, IsWithin};
+ghost use Rattle.sb_words.specs.Words.{AreRefused, AskFor, AskForHelp, AskForVersion};
 
 use crate::console::Console;
+use crate::fault::tell_fault;
 use crate::help::{ALLOWED, HELP, NOT_ALLOWED, VERSION};
-use crate::request::{Asked, Request, read_words};
 use crate::telling::{SUCCESS, fault, tell_run};
 use clap::Error;
+use sb_service::{Fault, serve};
 use sb_wire::{Sink, Source, StreamError, Summary, run_fresh, write_bytes};
+use sb_words::{Asked, Request, Run, read_words, words_ask_once};
 use std::alloc::Global;
 use std::convert::AsStr;
+use std::net::{Net, TcpListener, TcpStream};
+use std::sync::Wait;
+use std::thread::Threads;
 
 const BAD_WORDS: u8 = 2;
 
 /// Does what the program's words ask for, and gives its status.
-pub fn command<S: AsStr, R: Source, W: Sink, E: Sink>(
-    alloc: Global,
-    words: &[S],
-    reader: &mut R,
-    writer: &mut W,
-    errors: &mut Console<E>,
-) -> u8
+pub fn command<
+    T: Threads + Wait + Net<Listener = TcpListener, Stream = TcpStream> + Sync,
+    S: AsStr,
+    R: Source,
+    W: Sink,
+    E: Sink,
+>(rt: &T, alloc: Global, words: &[S], reader: &mut R, writer: &mut W, errors: &mut Console<E>) -> u8
     // with status 0, words that ask for a run have the definition's text for the input
-    ensures runs { (tenants bound : ℕ) → AskForRun (map S.text words.now) tenants bound
+    ensures runs { (r : ItsRun) → AskFor (map S.text words.now) (request.Run r)
         → result ≡ 0 → IfSome (R.remaining reader.old) (λ input. (text : List ℕ)
         × Appends (W.contents writer.old) (W.contents writer.new) text
-        × AnswersFresh tenants bound input text) }
+        × AnswersFresh r.tenants r.bound input text) }
     ensures usual { length words.now ≤ 1 → result ≡ 0 → IfSome (R.remaining reader.old)
         (λ input. (text : List ℕ) × Appends (W.contents writer.old) (W.contents writer.new) text
         × AnswersFresh 16 1000 input text) }
-    // whatever the status, it tells how the stream of such words went
-    ensures asked { ((tenants bound : ℕ) × AskForRun (map S.text words.now) tenants bound
+    // and words that ask for a server its port and its trails
+    ensures serves { (s : ItsServing) → AskFor (map S.text words.now) (request.Serve s)
+        → result ≡ 0 → (text : List ℕ)
+        × Appends (W.contents writer.old) (W.contents writer.new) text × TellsServer s.hosting.run.bound s.hosting.run.tenants text }
+    // whatever the status, it tells how a run's stream went, or a fault
+    ensures asked { ((r : ItsRun) × AskFor (map S.text words.now) (request.Run r)
         × (ended : _) × (summary : _) × (result ≡ status_of ended)
-        × GoesFresh R.fails R.remaining W.refuses W.contents tenants bound reader.old reader.new
+        × GoesFresh R.fails R.remaining W.refuses W.contents r.tenants r.bound reader.old reader.new
         writer.old writer.new ended summary
         × TellsRun E.refuses E.contents errors.old.is_terminal errors.old.sink errors.new.sink
         summary ended)
+        ⊎ ((s : ItsServing) × AskFor (map S.text words.now) (request.Serve s) × (result ≤ 1)
+        × (reader.new ≡ reader.old) × (result ≡ 1 → (why : _)
+        × Tells E.refuses E.contents errors.old.sink errors.new.sink (fault_text why)))
         ⊎ ((result ≡ 0 → AskForHelp (map S.text words.now) ⊎ AskForVersion (map S.text words.now))
         × (result ≡ 1 → (why : _)
         × Tells E.refuses E.contents errors.old.sink errors.new.sink (fault_line why))
@@ -46,8 +64,14 @@ pub fn command<S: AsStr, R: Source, W: Sink, E: Sink>(
         × Keeps (W.contents writer.old) (W.contents writer.new))
         × (result ≤ 2) × (reader.new ≡ reader.old)) }
 {
+    // for the proof: words ask for one thing
+    words_ask_once();
     match read_words(alloc, words) {
-        Ok(Asked::Run(request)) => run(alloc, request, reader, writer, errors),
+        Ok(Asked::For(Request::Run(asked))) => run(alloc, asked, reader, writer, errors),
+        Ok(Asked::For(Request::Serve(asked))) => {
+            let ended = serve(rt, alloc, asked, writer);
+            tell_end(alloc, ended, &mut errors.sink)
+        }
         Ok(Asked::Help) => show(HELP, writer, &mut errors.sink),
         Ok(Asked::Version) => show(VERSION, writer, &mut errors.sink),
         Ok(Asked::Refused(error)) => refuse(alloc, &error, &mut errors.sink),
@@ -59,17 +83,17 @@ pub fn command<S: AsStr, R: Source, W: Sink, E: Sink>(
 /// Answers the lines of the input on a fresh cell, and tells how that went.
 fn run<R: Source, W: Sink, E: Sink>(
     alloc: Global,
-    request: Request,
+    asked: Run,
     reader: &mut R,
     writer: &mut W,
     errors: &mut Console<E>,
 ) -> u8
-    requires { IsWithin request }
+    requires { AreRun asked }
     ensures runs { result ≡ 0 → IfSome (R.remaining reader.old)
         (λ input. (text : List ℕ) × Appends (W.contents writer.old) (W.contents writer.new) text
-        × AnswersFresh request.tenants request.bound input text) }
+        × AnswersFresh asked.tenants asked.bound input text) }
     ensures goes { (ended : _) × (summary : _) × (result ≡ status_of ended)
-        × GoesFresh R.fails R.remaining W.refuses W.contents request.tenants request.bound
+        × GoesFresh R.fails R.remaining W.refuses W.contents asked.tenants asked.bound
         reader.old reader.new writer.old writer.new ended summary
         × TellsRun E.refuses E.contents errors.old.is_terminal errors.old.sink errors.new.sink
         summary ended }
@@ -77,13 +101,26 @@ fn run<R: Source, W: Sink, E: Sink>(
     let mut summary = Summary::new();
     let ended = run_fresh(
         alloc,
-        request.tenants,
-        request.bound,
+        asked.tenants,
+        asked.bound,
         reader,
         writer,
         &mut summary,
     );
     tell_run(alloc, &summary, ended, errors)
+}
+
+/// Tells of the fault that ended a server, if one did.
+fn tell_end<E: Sink>(alloc: Global, ended: Result<(), Fault>, errors: &mut E) -> u8
+    ensures ok { OnOk ended (result ≡ 0) }
+    ensures err { OnErr ended (result ≡ 1) }
+    ensures told { result ≡ 1 → (why : _)
+        × Tells E.refuses E.contents errors.old errors.new (fault_text why) }
+{
+    match ended {
+        Ok(()) => SUCCESS,
+        Err(why) => tell_fault(alloc, why, errors),
+    }
 }
 
 fn show<W: Sink, E: Sink>(text: &str, writer: &mut W, errors: &mut E) -> u8

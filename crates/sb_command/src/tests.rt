@@ -44,7 +44,9 @@ const REPLIES: &[u8] =
 const SUMMARY: &[u8] = b"lines 5, steps 3, no 10 Syntax: 1, no 12 BadLine: 1, no 14 NoSession: 1\n";
 
 const REFUSED: &[u8] = b"error: a word or a number isn't allowed; \
-allowed are: run, --tenants 1 to 256, --bound 1 to 1000, --help, --version\n";
+allowed are: run, serve, --tenants 1 to 256, \
+--bound 1 to 1000; of serve --cells 1 to 16, --workers 1 to 16, --port 0 to 65535, \
+--connections 0 to 1000000; --help, --version\n";
 
 fn console(alloc: Global, is_terminal: bool) -> Console<Vec<u8>> {
     Console {
@@ -61,7 +63,7 @@ fn a_terminal_has_a_summary(rt: HostRuntime) -> Result<(), Fail> {
         let mut writer = Vec::new(alloc);
         let mut errors = console(alloc, is_terminal);
         let words = ["starhost", "run"];
-        let status = command(alloc, &words, &mut reader, &mut writer, &mut errors);
+        let status = command(&rt, alloc, &words, &mut reader, &mut writer, &mut errors);
         assert_eq!(rt; status, 0);
         assert_eq!(rt; writer.as_slice(), REPLIES);
         let told = if is_terminal { SUMMARY } else { b"".as_slice() };
@@ -79,13 +81,13 @@ fn faults_are_told(rt: HostRuntime) -> Result<(), Fail> {
     };
     let mut writer = Vec::new(alloc);
     let mut errors = console(alloc, false);
-    let status = command(alloc, &words, &mut broken, &mut writer, &mut errors);
+    let status = command(&rt, alloc, &words, &mut broken, &mut writer, &mut errors);
     assert_eq!(rt; status, 1);
     assert_eq!(rt; errors.sink.as_slice(), b"fault: read failed\n".as_slice());
     let mut reader = b"0 0 open\n".as_slice();
     let mut full = Fallible { inner: Full {} };
     let mut errors = console(alloc, true);
-    let status = command(alloc, &words, &mut reader, &mut full, &mut errors);
+    let status = command(&rt, alloc, &words, &mut reader, &mut full, &mut errors);
     assert_eq!(rt; status, 1);
     let told = b"lines 1, steps 1\nfault: write failed\n".as_slice();
     assert_eq!(rt; errors.sink.as_slice(), told);
@@ -99,12 +101,12 @@ fn words_are_answered(rt: HostRuntime) -> Result<(), Fail> {
     let mut writer = Vec::new(alloc);
     let mut errors = console(alloc, true);
     let wrong = ["starhost", "--tenants", "257"];
-    let status = command(alloc, &wrong, &mut reader, &mut writer, &mut errors);
+    let status = command(&rt, alloc, &wrong, &mut reader, &mut writer, &mut errors);
     assert_eq!(rt; status, 2);
     assert_eq!(rt; errors.sink.as_slice(), REFUSED);
     assert!(rt; writer.is_empty());
     let asked = ["starhost", "--version"];
-    let status = command(alloc, &asked, &mut reader, &mut writer, &mut errors);
+    let status = command(&rt, alloc, &asked, &mut reader, &mut writer, &mut errors);
     assert_eq!(rt; status, 0);
     assert_eq!(rt; writer.as_slice(), b"starhost 0.1\n".as_slice());
     Ok(())

@@ -1,4 +1,4 @@
-//! The server: the lines of standard input, answered on standard output.
+//! The program: lines of standard input answered on standard output, or a server on a port.
 #![tactic(auto)]
 
 use sb_command::{Console, command};
@@ -11,31 +11,27 @@ use std::{env, io};
 const BAD_WORDS: u8 = 2;
 
 fn main(rt: HostRuntime) -> ExitCode {
-    ExitCode::from(status(&rt))
-}
-
-/// Hands the words and the streams to the command.
-fn status(rt: &HostRuntime) -> u8 {
-    let Ok(given) = env::args(rt) else {
-        return BAD_WORDS;
+    let Ok(given) = env::args(&rt) else {
+        return ExitCode::from(BAD_WORDS);
     };
     let Ok(words) = given.collect::<Vec<String>>(rt.alloc()) else {
-        return BAD_WORDS;
+        return ExitCode::from(BAD_WORDS);
     };
     let mut reader = Fallible { inner: rt.reader() };
     let mut writer = Fallible {
-        inner: io::writer(rt),
+        inner: io::writer(&rt),
     };
     let stderr = rt.stderr();
     let mut errors = Console {
         is_terminal: stderr.is_terminal(),
         sink: Fallible { inner: stderr },
     };
-    command(
+    ExitCode::from(command(
+        &rt,
         rt.alloc(),
         words.as_slice(),
         &mut reader,
         &mut writer,
         &mut errors,
-    )
+    ))
 }

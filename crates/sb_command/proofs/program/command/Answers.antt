@@ -1,55 +1,87 @@
 use Rattle.std.proofs.Common.{◌≡◌, ◌∙◌, List, ℕ, IfSome, map, inl, inr, refl, sym, subst, arith}
 use Rattle.std.specs.Io.KnownBytes.{Appends}
+use Rattle.std.proofs.KnownBytes.{Keeps-refl}
 use Rattle.clap.specs.declared.error.kind.ErrorKind.TheVariants.{DisplayHelp, DisplayVersion}
 use Rattle.sb_wire.specs.Stream.{AnswersFresh}
 use Rattle.sb_wire.specs.declared.fault.StreamError.TheVariants.{NoMemory}
-use Rattle.sb_command.specs.Asked.{IsAsked}
-use Rattle.std.proofs.KnownBytes.{Keeps-refl}
-use Rattle.sb_command.proofs.Runs.{at_most_two, no_words, none_among, not_success, same_run}
+use Rattle.sb_service.specs.Totals.{TellsServer}
+use Rattle.sb_words.specs.Words.{IsAsked}
+use Rattle.sb_words.specs.declared.request.Request.TheVariants.{Run, Serve}
+use Rattle.sb_command.proofs.Runs.{asked_for, at_most_two, at_most_two-shown, no_other, no_words, not_success, not_two, same_run, same_serving, went_well}
 use Rattle.sb_command.proofs.program.command.Goals as goal
 
-pub returns-in-Ok-Run-clause-usual : goal.returns-in-Ok-Run-clause-usual
-returns-in-Ok-Run-clause-usual g c = λ few ok. let words = map g.S.AsStr.text c.args.words.now in
-    same_run words c.in-Ok-Run.request.tenants c.in-Ok-Run.request.bound 16 1000
-    (λ t b. IfSome (g.R.Read.remaining c.args.reader.now)
-    (λ input. (text : List ℕ) × Appends (g.W.Write.contents c.args.writer.now) (g.W.Write.contents c.run.new.writer) text × AnswersFresh t b input text))
-    (subst (IsAsked words) c.in-Ok-Run.field-0-is c.in-Ok-Run.ensures) (no_words g.S.AsStr.text c.args.words.now few) (c.run.ensures.runs ok)
+pub returns-in-Ok-For-Run-clause-runs : goal.returns-in-Ok-For-Run-clause-runs
+returns-in-Ok-For-Run-clause-runs g c = λ r asks ok. let words = map g.S.AsStr.text c.args.words.now in let b = c.in-Ok-For-Run in
+    same_run c.words_ask_once.ensures.once words b.asked r
+    (λ q. IfSome (g.R.Read.remaining c.args.reader.now)
+    (λ input. (text : List ℕ) × Appends (g.W.Write.contents c.args.writer.now) (g.W.Write.contents c.run.new.writer) text × AnswersFresh q.tenants q.bound input text))
+    (asked_for words b.field-0 b.field-0-0 (Run b.asked) b.ensures.asked b.field-0-is b.field-0-0-is) asks (c.run.ensures.runs ok)
+
+pub returns-in-Ok-For-Run-clause-usual : goal.returns-in-Ok-For-Run-clause-usual
+returns-in-Ok-For-Run-clause-usual g c = λ few ok. let words = map g.S.AsStr.text c.args.words.now in let b = c.in-Ok-For-Run in
+    same_run c.words_ask_once.ensures.once words b.asked (record { tenants = 16; bound = 1000 })
+    (λ q. IfSome (g.R.Read.remaining c.args.reader.now)
+    (λ input. (text : List ℕ) × Appends (g.W.Write.contents c.args.writer.now) (g.W.Write.contents c.run.new.writer) text × AnswersFresh q.tenants q.bound input text))
+    (asked_for words b.field-0 b.field-0-0 (Run b.asked) b.ensures.asked b.field-0-is b.field-0-0-is) (no_words g.S.AsStr.text c.args.words.now few) (c.run.ensures.runs ok)
+
+pub returns-in-Ok-For-Serve-clause-usual : goal.returns-in-Ok-For-Serve-clause-usual
+returns-in-Ok-For-Serve-clause-usual g c = λ few ok. let words = map g.S.AsStr.text c.args.words.now in let b = c.in-Ok-For-Serve in
+    absurd (no_other c.words_ask_once.ensures.once words (Run (record { tenants = 16; bound = 1000 })) (Serve b.asked) (omega arith)
+    (no_words g.S.AsStr.text c.args.words.now few) (asked_for words b.field-0 b.field-0-0 (Serve b.asked) b.ensures.asked b.field-0-is b.field-0-0-is))
+
+pub returns-in-Ok-For-Serve-clause-serves : goal.returns-in-Ok-For-Serve-clause-serves
+returns-in-Ok-For-Serve-clause-serves g c = λ s asks ok. let words = map g.S.AsStr.text c.args.words.now in let b = c.in-Ok-For-Serve in
+    same_serving c.words_ask_once.ensures.once words b.asked s
+    (λ q. (text : List ℕ) × Appends (g.W.Write.contents c.args.writer.now) (g.W.Write.contents c.serve-ended.new.writer) text × TellsServer q.hosting.run.bound q.hosting.run.tenants text)
+    (asked_for words b.field-0 b.field-0-0 (Serve b.asked) b.ensures.asked b.field-0-is b.field-0-0-is) asks
+    (went_well c.serve-ended.result c.tell_end.result c.tell_end.ensures.err ok c.serve-ended.ensures)
 
 pub returns-in-Ok-Help-clause-usual : goal.returns-in-Ok-Help-clause-usual
-returns-in-Ok-Help-clause-usual g c = λ few ok. absurd (none_among DisplayHelp _ (no_words g.S.AsStr.text c.args.words.now few).0
-    (subst (IsAsked (map g.S.AsStr.text c.args.words.now)) c.in-Ok-Help.field-0-is c.in-Ok-Help.ensures))
+returns-in-Ok-Help-clause-usual g c = λ few ok. let words = map g.S.AsStr.text c.args.words.now in
+    absurd (c.words_ask_once.ensures.one_thing words (Run (record { tenants = 16; bound = 1000 })) (no_words g.S.AsStr.text c.args.words.now few) DisplayHelp
+    (subst (IsAsked words) c.in-Ok-Help.field-0-is c.in-Ok-Help.ensures.asked))
+
+pub returns-in-Ok-Help-clause-asked : goal.returns-in-Ok-Help-clause-asked
+returns-in-Ok-Help-clause-asked g c =
+    inr (inr (
+      λ zero. inl (subst (IsAsked (map g.S.AsStr.text c.args.words.now)) c.in-Ok-Help.field-0-is c.in-Ok-Help.ensures.asked),
+      c.show.ensures.told,
+      λ two. absurd (not_two c.show.result c.show.ensures.status two),
+      at_most_two-shown c.show.result c.show.ensures.status,
+      refl,
+    ))
 
 pub returns-in-Ok-Version-clause-usual : goal.returns-in-Ok-Version-clause-usual
-returns-in-Ok-Version-clause-usual g c =
-    λ few ok. absurd (none_among DisplayVersion _ (no_words g.S.AsStr.text c.args.words.now few).0
-    (subst (IsAsked (map g.S.AsStr.text c.args.words.now)) c.in-Ok-Version.field-0-is c.in-Ok-Version.ensures))
+returns-in-Ok-Version-clause-usual g c = λ few ok. let words = map g.S.AsStr.text c.args.words.now in
+    absurd (c.words_ask_once.ensures.one_thing words (Run (record { tenants = 16; bound = 1000 })) (no_words g.S.AsStr.text c.args.words.now few) DisplayVersion
+    (subst (IsAsked words) c.in-Ok-Version.field-0-is c.in-Ok-Version.ensures.asked))
 
 pub returns-in-Ok-Refused-clause-asked : goal.returns-in-Ok-Refused-clause-asked
 returns-in-Ok-Refused-clause-asked g c =
-    inr (
+    inr (inr (
       λ zero. absurd (not_success c.refuse.result c.refuse.ensures.status zero),
       c.refuse.ensures.told,
-      λ two. (subst (IsAsked (map g.S.AsStr.text c.args.words.now)) c.in-Ok-Refused.field-0-is c.in-Ok-Refused.ensures, Keeps-refl (g.W.Write.contents c.args.writer.now)),
+      λ two. (subst (IsAsked (map g.S.AsStr.text c.args.words.now)) c.in-Ok-Refused.field-0-is c.in-Ok-Refused.ensures.asked, Keeps-refl (g.W.Write.contents c.args.writer.now)),
       at_most_two c.refuse.result c.refuse.ensures.status,
       refl,
-    )
+    ))
 
 pub returns-in-Ok-NotAllowed-clause-asked : goal.returns-in-Ok-NotAllowed-clause-asked
 returns-in-Ok-NotAllowed-clause-asked g c =
-    inr (
+    inr (inr (
       λ zero. absurd (not_success c.refuse_numbers.result (inr c.refuse_numbers.ensures) zero),
       λ one. let bad : 2 ≡ 1 = sym c.refuse_numbers.ensures ∙ one in absurd (omega arith),
-      λ two. (subst (IsAsked (map g.S.AsStr.text c.args.words.now)) c.in-Ok-NotAllowed.field-0-is c.in-Ok-NotAllowed.ensures, Keeps-refl (g.W.Write.contents c.args.writer.now)),
+      λ two. (subst (IsAsked (map g.S.AsStr.text c.args.words.now)) c.in-Ok-NotAllowed.field-0-is c.in-Ok-NotAllowed.ensures.asked, Keeps-refl (g.W.Write.contents c.args.writer.now)),
       at_most_two c.refuse_numbers.result (inr c.refuse_numbers.ensures),
       refl,
-    )
+    ))
 
 pub returns-in-Err-clause-asked : goal.returns-in-Err-clause-asked
 returns-in-Err-clause-asked g c =
-    inr (
+    inr (inr (
       λ zero. absurd (not_success c.fault.result (inl c.fault.ensures.status) zero),
       λ one. (NoMemory, c.fault.ensures.tells),
       λ two. let bad : 1 ≡ 2 = sym c.fault.ensures.status ∙ two in absurd (omega arith),
       at_most_two c.fault.result (inl c.fault.ensures.status),
       refl,
-    )
+    ))

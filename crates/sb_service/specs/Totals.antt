@@ -1,0 +1,24 @@
+-- What a server tells in its last line.
+use Rattle.std.specs.Prelude.{ℕ, ◌≡◌, ◌+◌, ◌++◌, List, [], ◌∷◌, length, codes, decimal, Vec}
+use Rattle.std.specs.Global.{Global}
+use Rattle.sb_tenant.specs.declared.reply.Entry.{Entry}
+use Rattle.sb_wire.specs.Counts.{totals_line}
+use Rattle.sb_host.specs.Finish.{AreTrails}
+
+-- how many steps there are in all trails
+abbrev pub steps_in : List (Vec Entry Global) → ℕ
+steps_in [] = 0
+steps_in (trail ∷ trails) = length trail.items + steps_in trails
+
+-- there is a legal trail for each tenant, and the line tells how many they are and how many steps they have
+abbrev pub TellsTrails : ℕ → ℕ → List ℕ → Type 0
+TellsTrails bound tenants line =
+    (trails : List (Vec Entry Global)) × AreTrails bound tenants trails × (line ≡ totals_line (length trails) (steps_in trails))
+
+-- the first line of a server
+abbrev pub listening_line : ℕ → List ℕ
+listening_line port = codes "listening " ++ decimal port ++ codes "\n"
+
+-- a server tells its port, and at its end its trails
+abbrev pub TellsServer : ℕ → ℕ → List ℕ → Type 0
+TellsServer bound tenants text = (port : ℕ) × (line : List ℕ) × TellsTrails bound tenants line × (text ≡ listening_line port ++ line)

@@ -1,0 +1,74 @@
+//! The end of a server: its host is finished, and the trails are counted.
+ghost use Rattle.std.specs.Prelude.{◌≡◌, List, ℕ, IfOk, IfSome, OnOk, length};
+ghost use Rattle.std.specs.Io.KnownBytes.{Appends};
+ghost use Rattle.sb_wire.specs.Counts.{totals_line};
+ghost use Rattle.sb_service.specs.Totals.{TellsTrails, steps_in};
+
+use crate::fault::Fault;
+use crate::lines::write_line;
+use sb_host::{FinishError, Host, Naming, Stub};
+use sb_tenant::Entry;
+use sb_wire::{Sink, StreamError, write_totals};
+use std::alloc::{AllocError, Global};
+
+/// How many steps these trails have, if that is a number.
+fn steps_of(trails: &[Vec<Entry>]) -> Option<u64>
+    ensures { IfSome result (λ steps. steps ≡ steps_in trails.now) }
+{
+    let Some((first, others)) = trails.split_first() else {
+        return Some(0);
+    };
+    let steps = steps_of(others)?;
+    steps.checked_add(first.len() as u64)
+}
+
+/// The line that tells of these trails.
+fn totals(alloc: Global, trails: &[Vec<Entry>]) -> Result<Vec<u8>, AllocError>
+    ensures { IfOk result (λ line. line.items ≡ totals_line (length trails.now) (steps_in trails.now)) }
+{
+    let Some(steps) = steps_of(trails) else {
+        return Err(AllocError);
+    };
+    let mut line = Vec::new(alloc);
+    write_totals(&mut line, trails.len() as u64, steps)?;
+    Ok(line)
+}
+
+/// What a finish that didn't go well is told as.
+fn fault_of(error: FinishError) -> Fault {
+    match error {
+        FinishError::Missing { tenant, session } => Fault::TrailMissing {
+            tenant,
+            session: u32::from(session.number()),
+        },
+        FinishError::Mismatch { tenant, session } => Fault::TrailMismatch {
+            tenant,
+            session: u32::from(session.number()),
+        },
+        FinishError::NoMemory => Fault::Stream(StreamError::NoMemory),
+    }
+}
+
+/// Finishes a host with what its sessions left, and writes how many trails and steps there are.
+pub(crate) fn finish<N: Naming, W: Sink>(
+    alloc: Global,
+    host: Host<N>,
+    stubs: Vec<Stub>,
+    writer: &mut W,
+) -> Result<(), Fault>
+    ensures { OnOk result ((line : List ℕ)
+        × Appends (W.contents writer.old) (W.contents writer.new) line
+        × TellsTrails N.bound host line) }
+{
+    let report = match host.finish(alloc, stubs) {
+        Ok(report) => report,
+        Err(error) => return Err(fault_of(error)),
+    };
+    let Ok(line) = totals(alloc, report.trails.as_slice()) else {
+        return Err(Fault::Stream(StreamError::NoMemory));
+    };
+    match write_line(writer, line.as_slice()) {
+        Ok(()) => Ok(()),
+        Err(error) => Err(Fault::Stream(error)),
+    }
+}

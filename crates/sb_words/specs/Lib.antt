@@ -1,0 +1,4 @@
+pub mod Texts
+pub mod Asking
+pub mod Words
+pub mod Within
