@@ -50,6 +50,7 @@ fn append_kind<L: ChangeLog>(
     Ok(())
 }
 
+/// The net effect of each pair of changes of one tuple.
 pub fn all_pairs<L: ChangeLog>(rt: &impl Abort, alloc: Global, log: &mut L) -> Result<(), Fail> {
     let inserted = Some((Kind::Inserted, None, Some(6)));
     let deleted = Some((Kind::Deleted, Some(4), None));
@@ -76,6 +77,7 @@ pub fn all_pairs<L: ChangeLog>(rt: &impl Abort, alloc: Global, log: &mut L) -> R
     Ok(())
 }
 
+/// What a tuple that is inserted, updated and deleted is from each time on.
 pub fn one_life<L: ChangeLog>(rt: &impl Abort, alloc: Global, log: &mut L) -> Result<(), Fail> {
     log.reserve(3)?;
     append_kind(rt, alloc, log, Kind::Inserted, 0, 5)?;
@@ -123,6 +125,7 @@ fn integers(alloc: Global, rows: &RowList) -> Result<Vec<Option<i64>>, AllocErro
     Ok(integers)
 }
 
+/// The transition tables of four changes.
 pub fn tables<L: ChangeLog>(rt: &impl Abort, alloc: Global, log: &mut L) -> Result<(), Fail> {
     four_changes(rt, alloc, log)?;
     let none = Columns::empty();
@@ -159,6 +162,7 @@ pub fn tables<L: ChangeLog>(rt: &impl Abort, alloc: Global, log: &mut L) -> Resu
     Ok(())
 }
 
+/// Which rules four changes trigger.
 pub fn triggers<L: ChangeLog>(rt: &impl Abort, alloc: Global, log: &mut L) -> Result<(), Fail> {
     four_changes(rt, alloc, log)?;
     let none = Columns::empty();

@@ -49,6 +49,7 @@ fn three_changes<L: ChangeLog>(
     Ok(())
 }
 
+/// Each walk gives its own changes, newest first.
 pub fn walks<L: ChangeLog>(rt: &impl Abort, alloc: Global, log: &mut L) -> Result<(), Fail> {
     assert_eq!(rt; log.now(), 0);
     three_changes(rt, alloc, log)?;
@@ -62,6 +63,7 @@ pub fn walks<L: ChangeLog>(rt: &impl Abort, alloc: Global, log: &mut L) -> Resul
     Ok(())
 }
 
+/// A walk goes on from where it stands.
 pub fn steps<L: ChangeLog>(rt: &impl Abort, alloc: Global, log: &mut L) -> Result<(), Fail> {
     three_changes(rt, alloc, log)?;
     let Some(update) = log.tuple_first(session_of(0), table(), 1, 0) else {
@@ -84,6 +86,7 @@ pub fn steps<L: ChangeLog>(rt: &impl Abort, alloc: Global, log: &mut L) -> Resul
     Ok(())
 }
 
+/// The newest change is taken out, and the others are forgotten.
 pub fn takes_out<L: ChangeLog>(rt: &impl Abort, alloc: Global, log: &mut L) -> Result<(), Fail> {
     three_changes(rt, alloc, log)?;
     let Some(shown) = log.newest(session_of(0)) else {
