@@ -5,3 +5,4 @@ pub mod Receipts
 pub mod Rows
 pub mod Refusals
 pub mod Closing
+pub mod Sending

@@ -11,8 +11,6 @@ mod locks;
 mod opening;
 mod session;
 mod stub;
-#[cfg(test)]
-mod tests;
 
 pub use finish::{FinishError, Report};
 pub use gate::{Gate, NoGate};

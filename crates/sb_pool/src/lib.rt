@@ -7,8 +7,6 @@ mod helper;
 mod pool;
 mod results;
 mod rule;
-#[cfg(test)]
-mod tests;
 mod turns;
 mod work;
 
