@@ -1,10 +1,11 @@
 //! The first line of a connection.
-ghost use Rattle.std.specs.Prelude.{◌≡◌, ◌++◌, List, ℕ, None, OnOk, OnErr};
+ghost use Rattle.std.specs.Prelude.{◌≡◌, ◌++◌, ◌∷◌, [], List, ℕ, None, OnOk, OnErr, true};
 ghost use Rattle.sb_wire.specs.Output.{ended_lines};
-ghost use Rattle.sb_wire.specs.Seen.{piece_seen};
+ghost use Rattle.sb_wire.specs.Seen.{piece_seen, refusal_line};
 ghost use Rattle.sb_serve.specs.Conversation.{attach_lines, named_of};
 ghost use Rattle.sb_serve.specs.Responding.{Greets, GreetsNamed};
 
+use crate::watch::{Event, Watch};
 use sb_host::{AttachError, Host, Naming, Session};
 use sb_tenant::Reply;
 use sb_value::Refusal;
@@ -33,10 +34,11 @@ impl Named {
 }
 
 /// Opens the session that a first line names, or turns the connection away.
-pub(crate) fn greet<'h, T: Wait, N: Naming>(
+pub(crate) fn greet<'h, T: Wait, N: Naming, V: Watch>(
     rt: &T,
     alloc: Global,
     host: &'h Host<N>,
+    watch: &V,
     piece: Piece<'_>,
     out: &mut Vec<u8>,
     session: &mut Option<Session<'h, N>>,
@@ -48,25 +50,36 @@ pub(crate) fn greet<'h, T: Wait, N: Naming>(
         × OnErr result (out.new.items ≡ out.old.items) }
 {
     match piece {
-        Piece::TooLong => {
-            *away = true;
-            write_bare_refusal(out, WireRefusal::TooLong)
-        }
+        Piece::TooLong => turn_away(watch, out, away, WireRefusal::TooLong),
         Piece::Line(line) => match Named::split(line) {
-            Some(named) => open(rt, alloc, host, named, out, session, away),
-            None => {
-                *away = true;
-                write_bare_refusal(out, WireRefusal::BadLine)
-            }
+            Some(named) => open(rt, alloc, host, watch, named, out, session, away),
+            None => turn_away(watch, out, away, WireRefusal::BadLine),
         },
     }
 }
 
+/// Turns a connection away whose first line names no session.
+fn turn_away<V: Watch>(
+    watch: &V,
+    out: &mut Vec<u8>,
+    away: &mut bool,
+    why: WireRefusal,
+) -> Result<(), AllocError>
+    ensures away { away.new ≡ true }
+    ensures ok { OnOk result (out.new.items ≡ out.old.items ++ ended_lines (refusal_line why ∷ [])) }
+    ensures err { OnErr result (out.new.items ≡ out.old.items) }
+{
+    *away = true;
+    watch.see(Event::Unnamed(why));
+    write_bare_refusal(out, why)
+}
+
 /// Opens this session, or turns the connection away.
-fn open<'h, T: Wait, N: Naming>(
+fn open<'h, T: Wait, N: Naming, V: Watch>(
     rt: &T,
     alloc: Global,
     host: &'h Host<N>,
+    watch: &V,
     named: Named,
     out: &mut Vec<u8>,
     session: &mut Option<Session<'h, N>>,
@@ -79,10 +92,12 @@ fn open<'h, T: Wait, N: Naming>(
 {
     match host.attach(rt, alloc, named.tenant, named.session) {
         Ok(opened) => {
+            watch.see(Event::Attached(named));
             *session = Some(opened);
             write_bare_reply(out, &Reply::Ok)
         }
         Err(error) => {
+            watch.see(Event::TurnedAway { named, why: error });
             *away = true;
             refuse(out, error)
         }

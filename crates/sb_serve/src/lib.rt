@@ -4,7 +4,8 @@
 mod greeting;
 mod serve;
 mod talking;
-#[cfg(test)]
-mod tests;
+mod watch;
 
-pub use serve::{Served, serve_one};
+pub use greeting::Named;
+pub use serve::{Served, serve_one, serve_one_with};
+pub use watch::{Event, NoWatch, Watch};

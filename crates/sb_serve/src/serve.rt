@@ -6,7 +6,9 @@ ghost use Rattle.sb_serve.specs.Responding.{LeavesSome};
 ghost use Rattle.sb_wire.specs.Responses.{StopsBy};
 ghost use Rattle.sb_wire.specs.Stream.{MayFail, OnWriteFault};
 
+use crate::greeting::Named;
 use crate::talking::Talk;
+use crate::watch::{Event, NoWatch, Watch};
 use sb_host::{Host, Naming, Session, Stub};
 use sb_wire::{Sink, Source, StreamError, answer_stream};
 use std::alloc::Global;
@@ -34,14 +36,31 @@ pub fn serve_one<T: Wait, N: Naming, R: Source, W: Sink>(
     ensures refused { OnWriteFault result.ended (MayFail W.refuses W.contents writer.new) }
     ensures closed { IfSome result.stub (λ stub. IsClosed stub.receipts.items) }
 {
-    let talk = Talk { rt, host };
+    serve_one_with(rt, alloc, reader, writer, host, &NoWatch)
+}
+
+/// As `serve_one` does; the watch is told of the session and of a fault.
+pub fn serve_one_with<T: Wait, N: Naming, R: Source, W: Sink, V: Watch>(
+    rt: &T,
+    alloc: Global,
+    reader: &mut R,
+    writer: &mut W,
+    host: &Host<N>,
+    watch: &V,
+) -> Served
+    ensures goes { (c : Conversation host.now (R.remaining reader.old) (W.contents writer.old)
+        (R.remaining reader.new) (W.contents writer.new) result.stub)
+        × StopsBy R.fails R.remaining reader.new c.over c.seen c.pieces c.left result.ended }
+    ensures refused { OnWriteFault result.ended (MayFail W.refuses W.contents writer.new) }
+    ensures closed { IfSome result.stub (λ stub. IsClosed stub.receipts.items) }
+{
+    let talk = Talk { rt, host, watch };
     let mut session = None;
     let mut away = false;
     let ended = answer_stream(alloc, reader, writer, &talk, &mut session, &mut away);
-    Served {
-        stub: close(rt, session),
-        ended,
-    }
+    let stub = close(rt, session);
+    tell_end(watch, &stub, &ended);
+    Served { stub, ended }
 }
 
 /// Closes the session, if one was opened.
@@ -51,5 +70,30 @@ fn close<T: Wait, N: Naming>(rt: &T, session: Option<Session<'_, N>>) -> Option<
     match session {
         Some(session) => Some(session.close(rt)),
         None => None,
+    }
+}
+
+/// Tells how a connection ended.
+fn tell_end<V: Watch>(watch: &V, stub: &Option<Stub>, ended: &Result<(), StreamError>) {
+    let closed = match stub {
+        Some(stub) => Some((session_of(stub), stub.list().len())),
+        None => None,
+    };
+    if let Err(why) = ended {
+        watch.see(Event::Failed {
+            named: closed.map(|closed| closed.0),
+            why: *why,
+        });
+    }
+    if let Some((named, receipts)) = closed {
+        watch.see(Event::Closed { named, receipts });
+    }
+}
+
+/// Whose receipts these are.
+fn session_of(stub: &Stub) -> Named {
+    Named {
+        tenant: stub.tenant,
+        session: u32::from(stub.session.number()),
     }
 }

@@ -5,6 +5,7 @@ ghost use Rattle.sb_serve.specs.Exchanges.{Exchange, line_in, said_text};
 ghost use Rattle.sb_serve.specs.Responding.{Exchanges};
 
 use crate::greeting::greet;
+use crate::watch::Watch;
 use sb_host::{CallError, Host, Naming, Session};
 use sb_wire::{Piece, Responder, WireRefusal, write_bare_refusal, write_bare_reply};
 use std::alloc::{AllocError, Global};
@@ -12,12 +13,14 @@ use std::sync::Wait;
 
 /// Answers the lines of a connection: the first one on the host, the others by the session that it opened.
 #[derive(Drop)]
-pub(crate) struct Talk<'r, 'h, T, N: Naming> {
+pub(crate) struct Talk<'r, 'h, T, N: Naming, V> {
     pub(crate) rt: &'r T,
     pub(crate) host: &'h Host<N>,
+    pub(crate) watch: &'r V,
 }
 
-impl<'r, 'h, T: Wait, N: Naming> Responder<Option<Session<'h, N>>, bool> for Talk<'r, 'h, T, N> {
+impl<'r, 'h, T: Wait, N: Naming, V: Watch> Responder<Option<Session<'h, N>>, bool>
+    for Talk<'r, 'h, T, N, V> {
     ghost use Rattle.sb_serve.specs.Responding.{Responds, over};
 
     ghost responds = { λ talk. Responds talk.host.now };
@@ -34,7 +37,9 @@ impl<'r, 'h, T: Wait, N: Naming> Responder<Option<Session<'h, N>>, bool> for Tal
     ) -> Result<(), AllocError> {
         match first {
             Some(session) => exchange(self.rt, alloc, piece, out, session),
-            None => greet(self.rt, alloc, self.host, piece, out, first, second),
+            None => greet(
+                self.rt, alloc, self.host, self.watch, piece, out, first, second,
+            ),
         }
     }
 

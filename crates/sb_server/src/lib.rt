@@ -5,4 +5,4 @@ mod server;
 mod worker;
 
 pub use server::serve_all;
-pub use worker::serve_connections;
+pub use worker::serve_kept;

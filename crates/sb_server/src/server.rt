@@ -1,50 +1,25 @@
 //! All connections of a listener, served by workers.
-ghost use Rattle.std.specs.Prelude.{◌<◌, ◌≤◌, IfOk};
-ghost use Rattle.std.specs.List.{All};
-ghost use Rattle.sb_server.specs.Closed.{LeaveClosed, LeavesClosed};
+ghost use Rattle.std.specs.Prelude.{◌≡◌, ◌<◌, ◌≤◌, IfOk};
+ghost use Rattle.std.specs.List.{All, flat_map};
+ghost use Rattle.sb_server.specs.Closed.{LeavesClosed};
 
-use crate::worker::serve_connections;
+use crate::worker::Serving;
 use sb_host::{Host, Naming, Stub};
-use sb_pool::{Work, run};
+use sb_pool::run;
+use sb_serve::Watch;
 use std::alloc::{AllocError, Global};
 use std::net::TcpListener;
 use std::sync::Wait;
 use std::sync::atomic::AtomicU64;
 use std::thread::Threads;
 
-/// What every worker serves.
-#[derive(Drop)]
-struct Serving<'s, N: Naming> {
-    alloc: Global,
-    listener: &'s TcpListener,
-    host: &'s Host<N>,
-    tickets: AtomicU64,
-    connections: u64,
-}
-
-impl<'s, N: Naming> Work<u64, Vec<Stub>> for Serving<'s, N> {
-    ghost use Rattle.sb_server.specs.Closed.{LeaveClosed};
-
-    ghost does = { λ _ stubs. LeaveClosed stubs };
-
-    fn work<R: Wait>(&self, rt: &R, _job: u64) -> Vec<Stub> {
-        serve_connections(
-            rt,
-            self.alloc,
-            self.listener,
-            self.host,
-            &self.tickets,
-            self.connections,
-        )
-    }
-}
-
 /// Serves so many connections, or without end where that is 0, on so many threads, and leaves the receipts of all sessions.
-pub fn serve_all<N: Naming + Send + Sync, R: Threads + Wait + Sync>(
+pub fn serve_all<N: Naming + Send + Sync, V: Watch + Sync, R: Threads + Wait + Sync>(
     rt: &R,
     alloc: Global,
     listener: &TcpListener,
     host: &Host<N>,
+    watch: &V,
     workers: usize,
     connections: u64,
 ) -> Result<Vec<Stub>, AllocError>
@@ -55,8 +30,11 @@ pub fn serve_all<N: Naming + Send + Sync, R: Threads + Wait + Sync>(
         alloc,
         listener,
         host,
-        tickets: AtomicU64::new(0),
+        watch,
+        workers: workers as u64,
         connections,
+        tickets: AtomicU64::new(0),
+        busy: AtomicU64::new(0),
     };
     let mut jobs = Vec::new(alloc);
     for worker in 0..workers {
@@ -68,13 +46,12 @@ pub fn serve_all<N: Naming + Send + Sync, R: Threads + Wait + Sync>(
     }
 }
 
-/// All receipts in one list.
-fn gather(alloc: Global, mut parts: Vec<Vec<Stub>>) -> Result<Vec<Stub>, AllocError>
-    requires { All LeaveClosed parts.items }
-    ensures { IfOk result (λ stubs. All LeavesClosed stubs.items) }
+/// All receipts in one list, worker by worker.
+fn gather(alloc: Global, parts: Vec<Vec<Stub>>) -> Result<Vec<Stub>, AllocError>
+    ensures { IfOk result (λ stubs. stubs.items ≡ flat_map (λ part. part.items) parts.items) }
 {
     let mut stubs = Vec::new(alloc);
-    while let Some(mut part) = parts.pop() {
+    for mut part in parts {
         stubs.append(&mut part)?;
     }
     Ok(stubs)

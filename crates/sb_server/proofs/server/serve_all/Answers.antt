@@ -1,21 +1,28 @@
 use denote.Param.Send.{arg_sync, param_sync}
-use Rattle.std.proofs.Common.{List, [], ◌∷◌, arith}
-use Rattle.std.specs.List.{All, AllZip}
-use Rattle.std.proofs.lemmas.List.Elements.{All-cons}
-use Rattle.sb_server.specs.Closed.{LeaveClosed}
+use Rattle.std.proofs.Common.{◌≡◌, List, [], ◌∷◌, subst, sym}
+use Rattle.std.specs.Prelude.{Vec}
+use Rattle.std.specs.Global.{Global}
+use Rattle.std.specs.List.{All, AllZip, flat_map}
+use Rattle.std.proofs.lemmas.List.Elements.{All-append, All-nil}
+use Rattle.sb_host.specs.declared.stub.Stub.{Stub}
+use Rattle.sb_server.specs.Closed.{LeaveClosed, LeavesClosed}
 use Rattle.sb_server.proofs.Sending.{serving_sync}
+use Rattle.std.proofs.lemmas.Result.{IfOk-weaker}
 use Rattle.sb_server.proofs.server.serve_all.Goals as goal
 
 -- the workers share the host, the listener and the tickets
 pub run-requires-sync-W : goal.run-requires-sync-W
 run-requires-sync-W g c = λ κs bounds. search (param_sync, arg_sync, serving_sync)
 
-of_results : {A B : Type 0} (P : B → Type 0) (xs : List A) (ys : List B) → AllZip (λ x y. P y) xs ys → All P ys
-of_results P [] [] all = λ k d within. absurd (omega arith)
-of_results P [] (y ∷ ys) all = absurd all
-of_results P (x ∷ xs) [] all = λ k d within. absurd (omega arith)
-of_results P (x ∷ xs) (y ∷ ys) (own, others) = All-cons P y ys own (of_results P xs ys others)
-
 -- each worker closed its sessions
-pub gather-requires : goal.gather-requires
-gather-requires g c = of_results LeaveClosed c.loop-worker.jobs.items c.in-Ok.parts.items c.in-Ok.ensures.done
+all_closed : {A : Type 0} (jobs : List A) (parts : List (Vec Stub Global)) → AllZip (λ job part. LeaveClosed part) jobs parts → All LeavesClosed (flat_map (λ part. part.items) parts)
+all_closed [] [] all = All-nil LeavesClosed
+all_closed [] (part ∷ parts) all = absurd all
+all_closed (job ∷ jobs) [] all = absurd all
+all_closed (job ∷ jobs) (part ∷ parts) (own, others) = All-append LeavesClosed part.items (flat_map (λ part. part.items) parts) own (all_closed jobs parts others)
+
+pub returns-in-Ok : goal.returns-in-Ok
+returns-in-Ok g c =
+    let closed = all_closed c.loop-worker.jobs.items c.in-Ok.parts.items c.in-Ok.ensures.done in
+    let are : (stubs : Vec Stub Global) → stubs.items ≡ flat_map (λ part. part.items) c.in-Ok.parts.items → All LeavesClosed stubs.items = λ stubs same. subst (λ (l : List Stub). All LeavesClosed l) (sym same) closed in
+    IfOk-weaker c.gather.result _ _ are c.gather.ensures

@@ -1,11 +1,11 @@
 use Rattle.sb_serve.specs.Responding.{is_over}
 use Rattle.sb_serve.proofs.Connection.{whole}
-use Rattle.sb_serve.proofs.serve.serve_one.Goals as goal
+use Rattle.sb_serve.proofs.serve.serve_one_with.Goals as goal
 
 pub returns-clause-goes : goal.returns-clause-goes
 returns-clause-goes g c =
     let s = c.answer_stream-ended.ensures.goes.0 in
-    let all = whole c.args.host.now s.pieces s.lines.text (c.answer_stream-ended.new.first, c.answer_stream-ended.new.second) c.close.result s.lines.answered c.close.ensures in (
+    let all = whole c.args.host.now s.pieces s.lines.text (c.answer_stream-ended.new.first, c.answer_stream-ended.new.second) c.close-stub.result s.lines.answered c.close-stub.ensures in (
       record {
         seen = s.seen;
         reads = s.reads;
@@ -24,4 +24,4 @@ returns-clause-goes g c =
 pub returns-clause-closed : goal.returns-clause-closed
 returns-clause-closed g c =
     let s = c.answer_stream-ended.ensures.goes.0 in
-    (whole c.args.host.now s.pieces s.lines.text (c.answer_stream-ended.new.first, c.answer_stream-ended.new.second) c.close.result s.lines.answered c.close.ensures).1
+    (whole c.args.host.now s.pieces s.lines.text (c.answer_stream-ended.new.first, c.answer_stream-ended.new.second) c.close-stub.result s.lines.answered c.close-stub.ensures).1
