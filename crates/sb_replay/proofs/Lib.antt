@@ -1,0 +1,6 @@
+mod Rows
+mod Lists
+mod Playing
+mod Ending
+mod Whole
+mod Faults

@@ -1,0 +1,5 @@
+pub mod Lists
+pub mod Sessions
+pub mod Sheets
+pub mod Parts
+pub mod Replay

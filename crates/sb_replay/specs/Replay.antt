@@ -1,0 +1,107 @@
+-- What a replay writes, and why it fails.
+use Rattle.std.specs.Prelude.{◌≡◌, ◌⊎◌, ⊤, ◌+◌, ◌*◌, ◌<◌, ◌≤◌, ℕ, true, List, [], ◌∷◌, ◌++◌, get_or, length, flat_map, Option, IfSome, Err, Vec}
+use Rattle.std.specs.Global.{Global}
+use Rattle.std.specs.List.{All}
+use Rattle.std.specs.Io.KnownBytes.{Appends, Consumes, Keeps}
+use Rattle.sb_tenant.specs.declared.reply.Entry.{Entry}
+use Rattle.sb_tenant.specs.Limits.{session_count, trail_limit}
+use Rattle.sb_wire.specs.Counts.{totals_line}
+use Rattle.sb_wire.specs.Lines.{Addressed}
+use Rattle.sb_wire.specs.Stream.{MayFail, read_limit}
+use Rattle.sb_script.specs.Input.{IsAsked, IsBadLine, commands_for}
+use Rattle.sb_host.specs.Finish.{Agrees, AreTrails, Finishes, rank, row_at, wanted}
+use Rattle.sb_host.specs.declared.finish.FinishError.{FinishError}
+use Rattle.sb_host.specs.declared.finish.FinishError.TheVariants.{Mismatch}
+use Rattle.sb_host.specs.declared.stub.Stub.{Stub}
+use Rattle.sb_replay.specs.declared.error.ReplayError.{ReplayError}
+use Rattle.sb_replay.specs.declared.error.ReplayError.TheVariants.{ReadFault, WriteFault, BadLine, Attach, Finish, NoMemory}
+use Rattle.sb_script.specs.declared.error.ScriptError.{ScriptError}
+use Rattle.sb_script.specs.declared.error.ScriptError.TheVariants as script
+use Rattle.sb_replay.specs.Sessions.{Attends}
+use Rattle.sb_replay.specs.Sheets.{Sheet, texts_of}
+
+-- the number of entries of all trails
+abbrev pub steps_in : List (Vec Entry Global) → ℕ
+steps_in [] = 0
+steps_in (trail ∷ trails) = length trail.items + steps_in trails
+
+-- all texts, one behind another, and the line that tells of the trails
+abbrev pub replay_text : List (List ℕ) → List (Vec Entry Global) → List ℕ
+replay_text texts trails = flat_map (λ text. text) texts ++ totals_line (length trails) (steps_in trails)
+
+-- the text of session s of tenant t
+abbrev pub text_at : List (List ℕ) → ℕ → ℕ → List ℕ
+text_at texts t s = get_or texts (rank t s) []
+
+-- On a fresh host of so many tenants: legal trails, in which each session has just the entries of its commands, and the text of the
+-- sessions in the order of their tenants and numbers.
+pub record Replays (tenants bound : ℕ) (input text : List ℕ) : Type 0 where
+  pub asks : List Addressed
+  pub asked : IsAsked tenants input asks
+  pub trails : List (Vec Entry Global)
+  pub legal : AreTrails bound tenants trails
+  pub texts : List (List ℕ)
+  pub count : length texts ≡ session_count * tenants
+  pub attends : (t s : ℕ) → t < tenants → s < session_count
+      → Attends t s (commands_for t s asks) (wanted t s trails) (length (row_at trails t)) (text_at texts t s)
+  pub text_is : text ≡ replay_text texts trails
+
+-- ---- the host is finished
+
+-- a session that was told of a full trail has one
+abbrev pub IsFullBy : List (Vec Entry Global) → Sheet → Type 0
+IsFullBy trails sheet = sheet.is_full ≡ true → trail_limit ≤ length (row_at trails sheet.tenant)
+
+-- trails with which all stubs agree, and this is the text
+pub record Reports (tenants bound : ℕ) (stubs : List Stub) (sheets : List Sheet) (text : List ℕ) : Type 0 where
+  pub trails : List (Vec Entry Global)
+  pub legal : AreTrails bound tenants trails
+  pub agree : (t s : ℕ) → s < session_count → Agrees t s stubs trails
+  pub full : All (IsFullBy trails) sheets
+  pub text_is : text ≡ replay_text (texts_of sheets) trails
+
+-- ---- faults
+
+-- a session whose numbers are in range wasn't opened, or there was no memory
+abbrev pub IsUnopened : ℕ → ReplayError → Type 0
+IsUnopened tenants (Attach t s) = (t < tenants) × (s < session_count)
+IsUnopened tenants NoMemory = ⊤
+IsUnopened tenants other = ⊥
+
+-- a session was told of a full trail, which the trail denies
+abbrev pub DeniesFull : List (Vec Entry Global) → FinishError → Type 0
+DeniesFull trails (Mismatch t s) = length (row_at trails t) < trail_limit
+DeniesFull trails other = ⊥
+
+-- or `finish` answered so
+abbrev pub FailsToFinish : ℕ → ℕ → FinishError → Type 0
+FailsToFinish tenants bound e =
+    ((stubs : List Stub) × Finishes bound tenants stubs (Err e))
+    ⊎ ((trails : List (Vec Entry Global)) × AreTrails bound tenants trails × DeniesFull trails e)
+
+abbrev pub IsUnfinished : ℕ → ℕ → ReplayError → Type 0
+IsUnfinished tenants bound (Finish e) = FailsToFinish tenants bound e
+IsUnfinished tenants bound NoMemory = ⊤
+IsUnfinished tenants bound other = ⊥
+
+-- what a fault in reading is told as
+abbrev pub unread_by : ScriptError → ReplayError
+unread_by script.ReadFault = ReadFault
+unread_by (script.BadLine n) = BadLine n
+unread_by script.NoMemory = NoMemory
+
+-- Nothing is written but where the writer fails. Where the input isn't understood it tells what was read, and where the writer fails
+-- what it took of the text.
+module _ {R W : Type 0} (fails : R → Type 0) (remaining : R → Option (List ℕ)) (refuses : W → Type 0) (contents : W → Option (List ℕ)) (tenants bound : ℕ) where
+  abbrev pub Fails : R → R → W → W → ReplayError → Type 0
+  Fails reader reader' writer writer' ReadFault =
+      (seen : List ℕ) × Consumes (remaining reader) (remaining reader') seen
+      × (MayFail fails remaining reader' ⊎ (read_limit ≤ length seen)) × Keeps (contents writer) (contents writer')
+  Fails reader reader' writer writer' (BadLine n) =
+      (seen : List ℕ) × Consumes (remaining reader) (remaining reader') seen × IsBadLine tenants seen n × Keeps (contents writer) (contents writer')
+  Fails reader reader' writer writer' (Attach t s) = (t < tenants) × (s < session_count) × Keeps (contents writer) (contents writer')
+  Fails reader reader' writer writer' (Finish e) = FailsToFinish tenants bound e × Keeps (contents writer) (contents writer')
+  Fails reader reader' writer writer' NoMemory = Keeps (contents writer) (contents writer')
+  Fails reader reader' writer writer' WriteFault =
+      (text written left : List ℕ) × IfSome (remaining reader) (λ input. Replays tenants bound input text)
+      × (text ≡ written ++ left) × Appends (contents writer) (contents writer') written × MayFail refuses contents writer'

@@ -1,0 +1,34 @@
+//! Why an input isn't replayed.
+ghost use Rattle.std.specs.Prelude.{◌≡◌};
+ghost use Rattle.sb_replay.specs.Replay.{unread_by};
+
+use sb_host::FinishError;
+use sb_script::ScriptError;
+use sb_value::SessionId;
+
+/// Why a replay ended without its output.
+#[derive(Clone, Copy)]
+pub enum ReplayError {
+    /// The input's reader failed.
+    ReadFault,
+    /// The output's writer failed.
+    WriteFault,
+    /// This line, counted from 1, is too long, isn't a command with two numbers, or names no session of the host.
+    BadLine { line: u64 },
+    /// The session is open already, or its tenant's trail is full.
+    Attach { tenant: u32, session: SessionId },
+    /// The receipts of the sessions don't agree with the trails.
+    Finish(FinishError),
+    NoMemory,
+}
+
+/// Why no commands were read.
+pub(crate) fn unread(error: ScriptError) -> ReplayError
+    ensures { result ≡ unread_by error }
+{
+    match error {
+        ScriptError::ReadFault => ReplayError::ReadFault,
+        ScriptError::BadLine { line } => ReplayError::BadLine { line },
+        ScriptError::NoMemory => ReplayError::NoMemory,
+    }
+}
