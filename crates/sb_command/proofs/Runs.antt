@@ -4,8 +4,9 @@ use Rattle.std.specs.Prelude.{OnErr, OnOk}
 use Rattle.clap.specs.Words.{Text}
 use Rattle.clap.proofs.OnLiterals.{clap_on_literals}
 use Rattle.sb_words.specs.Words.{AskFor, AskOnce, IsAsked}
+use Rattle.sb_words.specs.declared.request.Hosting.{Hosting}
 use Rattle.sb_words.specs.declared.request.Request.{Request}
-use Rattle.sb_words.specs.declared.request.Request.TheVariants.{Run as run_request, Serve}
+use Rattle.sb_words.specs.declared.request.Request.TheVariants.{Run as run_request, Serve, Replay}
 use Rattle.sb_words.specs.declared.request.Run.{Run}
 use Rattle.sb_words.specs.declared.request.Serving.{Serving}
 use Rattle.sb_words.specs.declared.words.Asked.{Asked}
@@ -14,8 +15,8 @@ use Rattle.sb_service.specs.declared.fault.Fault.{Fault}
 
 pub no_words : {A : Type 0} (f : A → Text) (words : List A) → length words ≤ 1 → AskFor (map f words) (run_request (record { tenants = 16; bound = 1000 }))
 unfolding clap_on_literals
-no_words f [] h = (refl, (inl refl, (refl, refl, refl, refl), (refl, refl)))
-no_words f (w ∷ []) h = (refl, (inl refl, (refl, refl, refl, refl), (refl, refl)))
+no_words f [] h = (refl, (inl refl, (refl, refl, (refl, refl)), (refl, refl)))
+no_words f (w ∷ []) h = (refl, (inl refl, (refl, refl, (refl, refl)), (refl, refl)))
 no_words f (w ∷ v ∷ rest) h = absurd (omega arith)
 
 -- what is read is what the words ask for
@@ -30,9 +31,14 @@ abbrev serving_in : Serving → Request → Serving
 serving_in d (Serve s) = s
 serving_in d other = d
 
+abbrev hosting_in : Hosting → Request → Hosting
+hosting_in d (Replay h) = h
+hosting_in d other = d
+
 abbrev kind_of : Request → ℕ
 kind_of (run_request r) = 0
 kind_of (Serve s) = 1
+kind_of (Replay h) = 2
 
 -- words that ask for two requests ask for one
 module _ (once : AskOnce) (words : List Text) where
@@ -41,6 +47,9 @@ module _ (once : AskOnce) (words : List Text) where
 
   pub same_serving : (r q : Serving) (P : Serving → Type 0) → AskFor words (Serve r) → AskFor words (Serve q) → P r → P q
   same_serving r q P a b h = subst P (ap (serving_in r) (once words (Serve r) (Serve q) a b)) h
+
+  pub same_hosting : (r q : Hosting) (P : Hosting → Type 0) → AskFor words (Replay r) → AskFor words (Replay q) → P r → P q
+  same_hosting r q P a b h = subst P (ap (hosting_in r) (once words (Replay r) (Replay q) a b)) h
 
   pub no_other : (r q : Request) → kind_of r < kind_of q → AskFor words r → AskFor words q → ⊥
   no_other r q less a b = apart (kind_of r) (kind_of q) less (ap kind_of (once words r q a b))

@@ -1,4 +1,4 @@
-//! The line that tells why a server ended early.
+//! The line that tells why a server or a replay ended early.
 ghost use Rattle.std.specs.Prelude.{◌≡◌, ◌++◌, decimal, IfOk, OnOk};
 ghost use Rattle.sb_command.specs.Does.{Tells, fault_line};
 ghost use Rattle.sb_command.specs.Faults.{fault_text, numbered_text};
@@ -35,6 +35,13 @@ fn line_of(alloc: Global, why: Fault) -> Result<Vec<u8>, AllocError>
         Fault::Stream(StreamError::WriteFault) => line.extend_from_slice(b"fault: write failed\n")?,
         Fault::Stream(StreamError::NoMemory) => line.extend_from_slice(b"fault: out of memory\n")?,
         Fault::CannotListen => line.extend_from_slice(b"fault: cannot listen\n")?,
+        Fault::BadLine { line: number } => {
+            push_labelled(&mut line, b"fault: bad line ", number)?;
+            line.push(b'\n')?;
+        }
+        Fault::CannotAttach { tenant, session } => {
+            push_session(&mut line, b"fault: cannot attach ", tenant, session)?
+        }
         Fault::TrailMissing { tenant, session } => {
             push_session(&mut line, b"fault: trail missing ", tenant, session)?
         }

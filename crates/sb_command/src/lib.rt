@@ -6,8 +6,6 @@ mod fault;
 mod help;
 mod program;
 mod telling;
-#[cfg(test)]
-mod tests;
 
 pub use console::Console;
 pub use program::command;

@@ -4,7 +4,9 @@ ghost use Rattle.std.specs.Io.KnownBytes.{Appends, Keeps};
 ghost use Rattle.sb_wire.specs.Stream.{AnswersFresh};
 ghost use Rattle.sb_command.specs.Does.{GoesFresh, Tells, TellsRun, fault_line, status_of};
 ghost use Rattle.sb_command.specs.Faults.{fault_text};
+ghost use Rattle.sb_replay.specs.Replay.{Replays};
 ghost use Rattle.sb_service.specs.Totals.{TellsServer};
+ghost use Rattle.sb_words.specs.declared.request.Hosting.{Hosting as ItsHosting};
 ghost use Rattle.sb_words.specs.declared.request.Request.TheVariants as request;
 ghost use Rattle.sb_words.specs.declared.request.Run.{Run as ItsRun};
 ghost use Rattle.sb_words.specs.declared.request.Serving.{Serving as ItsServing};
@@ -16,12 +18,13 @@ use crate::fault::tell_fault;
 use crate::help::{ALLOWED, HELP, NOT_ALLOWED, VERSION};
 use crate::telling::{SUCCESS, fault, tell_run};
 use clap::Error;
-use sb_service::{Fault, serve};
+use sb_service::{Fault, replay, serve};
 use sb_wire::{Sink, Source, StreamError, Summary, run_fresh, write_bytes};
 use sb_words::{Asked, Request, Run, read_words, words_ask_once};
 use std::alloc::Global;
 use std::convert::AsStr;
 use std::net::{Net, TcpListener, TcpStream};
+use std::rt::Clock;
 use std::sync::Wait;
 use std::thread::Threads;
 
@@ -29,7 +32,7 @@ const BAD_WORDS: u8 = 2;
 
 /// Does what the program's words ask for, and gives its status.
 pub fn command<
-    T: Threads + Wait + Net<Listener = TcpListener, Stream = TcpStream> + Sync,
+    T: Threads + Wait + Net<Listener = TcpListener, Stream = TcpStream> + Eprint + Clock + Sync,
     S: AsStr,
     R: Source,
     W: Sink,
@@ -47,6 +50,11 @@ pub fn command<
     ensures serves { (s : ItsServing) → AskFor (map S.text words.now) (request.Serve s)
         → result ≡ 0 → (text : List ℕ)
         × Appends (W.contents writer.old) (W.contents writer.new) text × TellsServer s.hosting.run.bound s.hosting.run.tenants text }
+    // and words that ask for a replay what the sessions of the input were answered
+    ensures replays { (h : ItsHosting) → AskFor (map S.text words.now) (request.Replay h)
+        → result ≡ 0 → IfSome (R.remaining reader.old) (λ input. (text : List ℕ)
+        × Appends (W.contents writer.old) (W.contents writer.new) text
+        × Replays h.run.tenants h.run.bound input text) }
     // whatever the status, it tells how a run's stream went, or a fault
     ensures asked { ((r : ItsRun) × AskFor (map S.text words.now) (request.Run r)
         × (ended : _) × (summary : _) × (result ≡ status_of ended)
@@ -56,6 +64,9 @@ pub fn command<
         summary ended)
         ⊎ ((s : ItsServing) × AskFor (map S.text words.now) (request.Serve s) × (result ≤ 1)
         × (reader.new ≡ reader.old) × (result ≡ 1 → (why : _)
+        × Tells E.refuses E.contents errors.old.sink errors.new.sink (fault_text why)))
+        ⊎ ((h : ItsHosting) × AskFor (map S.text words.now) (request.Replay h) × (result ≤ 1)
+        × (result ≡ 1 → (why : _)
         × Tells E.refuses E.contents errors.old.sink errors.new.sink (fault_text why)))
         ⊎ ((result ≡ 0 → AskForHelp (map S.text words.now) ⊎ AskForVersion (map S.text words.now))
         × (result ≡ 1 → (why : _)
@@ -70,6 +81,10 @@ pub fn command<
         Ok(Asked::For(Request::Run(asked))) => run(alloc, asked, reader, writer, errors),
         Ok(Asked::For(Request::Serve(asked))) => {
             let ended = serve(rt, alloc, asked, writer);
+            tell_end(alloc, ended, &mut errors.sink)
+        }
+        Ok(Asked::For(Request::Replay(asked))) => {
+            let ended = replay(rt, alloc, asked, reader, writer);
             tell_end(alloc, ended, &mut errors.sink)
         }
         Ok(Asked::Help) => show(HELP, writer, &mut errors.sink),
@@ -110,7 +125,7 @@ fn run<R: Source, W: Sink, E: Sink>(
     tell_run(alloc, &summary, ended, errors)
 }
 
-/// Tells of the fault that ended a server, if one did.
+/// Tells of the fault that ended a server or a replay, if one did.
 fn tell_end<E: Sink>(alloc: Global, ended: Result<(), Fault>, errors: &mut E) -> u8
     ensures ok { OnOk ended (result ≡ 0) }
     ensures err { OnErr ended (result ≡ 1) }

@@ -2,6 +2,7 @@
 ghost use Rattle.std.specs.Prelude.{◌≡◌, List, ℕ, IfOk, IfSome, OnOk, length};
 ghost use Rattle.std.specs.Io.KnownBytes.{Appends};
 ghost use Rattle.sb_wire.specs.Counts.{totals_line};
+ghost use Rattle.sb_service.specs.Faults.{unfinished_as};
 ghost use Rattle.sb_service.specs.Totals.{TellsTrails, steps_in};
 
 use crate::fault::Fault;
@@ -35,7 +36,9 @@ fn totals(alloc: Global, trails: &[Vec<Entry>]) -> Result<Vec<u8>, AllocError>
 }
 
 /// What a finish that didn't go well is told as.
-fn fault_of(error: FinishError) -> Fault {
+pub(crate) fn fault_of(error: FinishError) -> Fault
+    ensures { result ≡ unfinished_as error }
+{
     match error {
         FinishError::Missing { tenant, session } => Fault::TrailMissing {
             tenant,

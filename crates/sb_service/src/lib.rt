@@ -1,12 +1,15 @@
-//! The program's server: a host behind a port of this machine, whose connections are served by
-//! workers on threads.
+//! The program's hosts: a server behind a port of this machine, and the replay of an input. Workers
+//! on threads serve the connections of the one and call the sessions of the other.
 #![tactic(auto)]
 
 mod closing;
 mod fault;
+mod journal;
 mod lines;
 mod listening;
+mod replaying;
 mod server;
 
 pub use fault::Fault;
-pub use server::serve;
+pub use replaying::replay;
+pub use server::{serve, serve_on};

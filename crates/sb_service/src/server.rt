@@ -2,30 +2,31 @@
 ghost use Rattle.std.specs.Prelude.{◌≡◌, ◌<◌, ◌≤◌, List, ℕ, OnOk};
 ghost use Rattle.std.specs.Io.KnownBytes.{Appends};
 ghost use Rattle.sb_words.specs.Within.{AreServer};
-ghost use Rattle.sb_service.specs.Totals.{TellsServer};
+ghost use Rattle.sb_service.specs.Totals.{TellsServer, TellsTrails};
 
 use crate::closing::finish;
 use crate::fault::Fault;
+use crate::journal::Journal;
 use crate::listening::listen;
 use sb_host::{Host, Naming, Opened};
+use sb_serve::Watch;
 use sb_server::serve_all;
 use sb_wire::{Sink, StreamError};
 use sb_words::Serving;
 use std::alloc::Global;
 use std::marker::Brand;
 use std::net::{Net, TcpListener, TcpStream};
+use std::rt::Clock;
 use std::sync::Wait;
 use std::thread::Threads;
 
 const OUT_OF_MEMORY: Fault = Fault::Stream(StreamError::NoMemory);
 
 /// Serves connections over TCP on this machine, until the last one has ended.
-pub fn serve<T: Threads + Wait + Net<Listener = TcpListener, Stream = TcpStream> + Sync, W: Sink>(
-    rt: &T,
-    alloc: Global,
-    serving: Serving,
-    writer: &mut W,
-) -> Result<(), Fault>
+pub fn serve<
+    T: Threads + Wait + Net<Listener = TcpListener, Stream = TcpStream> + Eprint + Clock + Sync,
+    W: Sink,
+>(rt: &T, alloc: Global, serving: Serving, writer: &mut W) -> Result<(), Fault>
     requires { AreServer serving }
     ensures { OnOk result ((text : List ℕ)
         × Appends (W.contents writer.old) (W.contents writer.new) text
@@ -41,7 +42,7 @@ pub fn serve<T: Threads + Wait + Net<Listener = TcpListener, Stream = TcpStream>
 /// Serves a host of these parts.
 fn serve_host<
     N: Naming + Send + Sync,
-    T: Threads + Wait + Net<Listener = TcpListener, Stream = TcpStream> + Sync,
+    T: Threads + Wait + Net<Listener = TcpListener, Stream = TcpStream> + Eprint + Clock + Sync,
     W: Sink,
 >(rt: &T, alloc: Global, opened: Opened, serving: Serving, writer: &mut W) -> Result<(), Fault>
     requires table { N.table ≡ opened.table }
@@ -58,7 +59,36 @@ fn serve_host<
     let listener = listen(rt, alloc, serving.port as u16, writer)?;
     let workers = serving.hosting.workers as usize;
     let connections = u64::from(serving.connections);
-    match serve_all(rt, alloc, &listener, &host, workers, connections) {
+    let journal = Journal { rt };
+    serve_on(
+        rt,
+        alloc,
+        &listener,
+        host,
+        &journal,
+        workers,
+        connections,
+        writer,
+    )
+}
+
+/// Serves so many connections of the listener, or without end where that is 0, and tells the host's trails behind the last one.
+pub fn serve_on<N: Naming + Send + Sync, V: Watch + Sync, T: Threads + Wait + Sync, W: Sink>(
+    rt: &T,
+    alloc: Global,
+    listener: &TcpListener,
+    host: Host<N>,
+    watch: &V,
+    workers: usize,
+    connections: u64,
+    writer: &mut W,
+) -> Result<(), Fault>
+    requires { (0 < workers) × (workers ≤ 16) }
+    ensures { OnOk result ((line : List ℕ)
+        × Appends (W.contents writer.old) (W.contents writer.new) line
+        × TellsTrails N.bound host line) }
+{
+    match serve_all(rt, alloc, listener, &host, watch, workers, connections) {
         Ok(stubs) => finish(alloc, host, stubs, writer),
         Err(_) => Err(OUT_OF_MEMORY),
     }

@@ -6,7 +6,7 @@ use Rattle.sb_words.specs.Asking.{AsksBy, HasNumber, HostsBy, RunsBy, ServesBy}
 use Rattle.sb_words.specs.Texts.{Texts}
 use Rattle.sb_words.specs.declared.request.Hosting.{Hosting}
 use Rattle.sb_words.specs.declared.request.Request.{Request}
-use Rattle.sb_words.specs.declared.request.Request.TheVariants.{Run as run_request, Serve}
+use Rattle.sb_words.specs.declared.request.Request.TheVariants.{Run as run_request, Serve, Replay}
 use Rattle.sb_words.specs.declared.request.Run.{Run}
 use Rattle.sb_words.specs.declared.request.Serving.{Serving}
 
@@ -55,15 +55,25 @@ word_length (Some t) = length t
 apart : (m n : ℕ) → m < n → m ≡ n → ⊥
 apart m n less e = absurd (omega arith)
 
-no_word : (o : Option Text) → (o ≡ None) ⊎ (o ≡ Some (codes "run")) → o ≡ Some (codes "serve") → ⊥
-no_word o (inl a) b = apart 0 5 (omega arith) (ap word_length (sym a ∙ b))
-no_word o (inr a) b = apart 3 5 (omega arith) (ap word_length (sym a ∙ b))
+no_word : (o : Option Text) → (o ≡ None) ⊎ (o ≡ Some (codes "run")) → (o ≡ Some (codes "serve")) ⊎ (o ≡ Some (codes "replay")) → ⊥
+no_word o (inl a) (inl b) = apart 0 5 (omega arith) (ap word_length (sym a ∙ b))
+no_word o (inl a) (inr b) = apart 0 6 (omega arith) (ap word_length (sym a ∙ b))
+no_word o (inr a) (inl b) = apart 3 5 (omega arith) (ap word_length (sym a ∙ b))
+no_word o (inr a) (inr b) = apart 3 6 (omega arith) (ap word_length (sym a ∙ b))
+
+two_words : (o : Option Text) → o ≡ Some (codes "serve") → o ≡ Some (codes "replay") → ⊥
+two_words o a b = apart 5 6 (omega arith) (ap word_length (sym a ∙ b))
 
 pub asks_once : (t : Texts) (a b : Request) → AsksBy t a → AsksBy t b → a ≡ b
 asks_once t (run_request a) (run_request b) x y = let e = same_run t a b x.2 y.2 in rw e refl
-asks_once t (run_request a) (Serve b) x y = absurd (no_word t.command x.0 y.0)
-asks_once t (Serve a) (run_request b) x y = absurd (no_word t.command y.0 x.0)
+asks_once t (run_request a) (Serve b) x y = absurd (no_word t.command x.0 (inl y.0))
+asks_once t (run_request a) (Replay b) x y = absurd (no_word t.command x.0 (inr y.0))
+asks_once t (Serve a) (run_request b) x y = absurd (no_word t.command y.0 (inl x.0))
 asks_once t (Serve a) (Serve b) x y = let e = same_server t a b x.1 y.1 in rw e refl
+asks_once t (Serve a) (Replay b) x y = absurd (two_words t.command x.0 y.0)
+asks_once t (Replay a) (run_request b) x y = absurd (no_word t.command y.0 (inr x.0))
+asks_once t (Replay a) (Serve b) x y = absurd (two_words t.command y.0 x.0)
+asks_once t (Replay a) (Replay b) x y = let e = same_host t a b x.2 y.2 in rw e refl
 
 pub none_among : (k : ErrorKind) (ks : Kinds) → ks ≡ [] → IsAmong k ks → ⊥
 none_among k ks none h = subst (IsAmong k) none h

@@ -6,7 +6,7 @@ use Rattle.sb_words.specs.Texts.{Texts, text_of}
 use Rattle.sb_words.specs.declared.request.Given.{Given}
 use Rattle.sb_words.specs.declared.request.Hosting.{Hosting}
 use Rattle.sb_words.specs.declared.request.Request.{Request}
-use Rattle.sb_words.specs.declared.request.Request.TheVariants.{Run as run_request, Serve}
+use Rattle.sb_words.specs.declared.request.Request.TheVariants.{Run as run_request, Serve, Replay}
 use Rattle.sb_words.specs.declared.request.Run.{Run}
 use Rattle.sb_words.specs.declared.request.Serving.{Serving}
 
@@ -44,10 +44,15 @@ abbrev pub ServesBy : Texts → Serving → Type 0
 ServesBy t s = HostsBy t s.hosting × HasNumber 0 65535 0 t.port s.port × HasNumber 0 1000000 0 t.connections s.connections
 
 -- the options of a server aren't given
+abbrev pub LacksServer : Texts → Type 0
+LacksServer t = (t.port ≡ None) × (t.connections ≡ None)
+
+-- nor are those of a host
 abbrev pub LacksHost : Texts → Type 0
-LacksHost t = (t.cells ≡ None) × (t.workers ≡ None) × (t.port ≡ None) × (t.connections ≡ None)
+LacksHost t = (t.cells ≡ None) × (t.workers ≡ None) × LacksServer t
 
 -- these texts ask for a command with the options that it has; no command is `run`
 abbrev pub AsksBy : Texts → Request → Type 0
 AsksBy t (run_request r) = ((t.command ≡ None) ⊎ (t.command ≡ Some (codes "run"))) × LacksHost t × RunsBy t r
 AsksBy t (Serve s) = (t.command ≡ Some (codes "serve")) × ServesBy t s
+AsksBy t (Replay h) = (t.command ≡ Some (codes "replay")) × LacksServer t × HostsBy t h

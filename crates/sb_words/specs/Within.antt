@@ -2,7 +2,7 @@
 use Rattle.std.specs.Prelude.{◌≤◌, ⊤}
 use Rattle.sb_words.specs.declared.request.Hosting.{Hosting}
 use Rattle.sb_words.specs.declared.request.Request.{Request}
-use Rattle.sb_words.specs.declared.request.Request.TheVariants.{Run as run_request, Serve}
+use Rattle.sb_words.specs.declared.request.Request.TheVariants.{Run as run_request, Serve, Replay}
 use Rattle.sb_words.specs.declared.request.Run.{Run}
 use Rattle.sb_words.specs.declared.request.Serving.{Serving}
 use Rattle.sb_words.specs.declared.words.Asked.{Asked}
@@ -20,6 +20,7 @@ AreServer s = AreHost s.hosting × (s.port ≤ 65535) × (s.connections ≤ 1000
 abbrev pub IsWithin : Request → Type 0
 IsWithin (run_request r) = AreRun r
 IsWithin (Serve s) = AreServer s
+IsWithin (Replay h) = AreHost h
 
 abbrev pub AreWithin : Asked → Type 0
 AreWithin (For r) = IsWithin r

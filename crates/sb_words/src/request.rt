@@ -5,7 +5,7 @@ ghost use Rattle.sb_words.specs.declared.request.Request.{Request as ItsRequest}
 ghost use Rattle.sb_words.specs.declared.request.Request.TheVariants as request;
 ghost use Rattle.sb_words.specs.declared.request.Run.{Run as ItsRun};
 ghost use Rattle.sb_words.specs.declared.request.Serving.{Serving as ItsServing};
-ghost use Rattle.sb_words.specs.Asking.{AsksBy, HostsBy, LacksHost, RunsBy, ServesBy, texts_of};
+ghost use Rattle.sb_words.specs.Asking.{AsksBy, HostsBy, LacksHost, LacksServer, RunsBy, ServesBy, texts_of};
 ghost use Rattle.sb_words.specs.Texts.{text_of};
 ghost use Rattle.sb_words.specs.Within.{AreHost, AreRun, AreServer, IsWithin};
 
@@ -67,6 +67,7 @@ pub struct Serving {
 pub enum Request {
     Run(Run),
     Serve(Serving),
+    Replay(Hosting),
 }
 
 /// What stands for the command and behind the options.
@@ -90,8 +91,11 @@ pub(crate) fn requested(given: Given<'_>) -> Option<Request>
     if let Some(run) = find_run(given) {
         return Some(Request::Run(run));
     }
-    match find_server(given) {
-        Some(serving) => Some(Request::Serve(serving)),
+    if let Some(serving) = find_server(given) {
+        return Some(Request::Serve(serving));
+    }
+    match find_replay(given) {
+        Some(hosting) => Some(Request::Replay(hosting)),
         None => None,
     }
 }
@@ -120,6 +124,18 @@ fn find_server(given: Given<'_>) -> Option<Serving>
     server_numbers(given)
 }
 
+fn find_replay(given: Given<'_>) -> Option<Hosting>
+    ensures asked { MatchOption result
+        ((h : ItsHosting) → AsksBy (texts_of given.entry) (request.Replay h) → ⊥)
+        (λ h. AsksBy (texts_of given.entry) (request.Replay h)) }
+    ensures within { IfSome result AreHost }
+{
+    if !is_word(given.command, "replay") || !lacks_server(given) {
+        return None;
+    }
+    host_numbers(given)
+}
+
 fn is_run(word: Option<&str>) -> bool
     ensures { IsTrue result ↔ ((text_of word.entry ≡ None) ⊎ (text_of word.entry ≡ Some (codes "run"))) }
 {
@@ -138,13 +154,16 @@ fn is_word(text: Option<&str>, word: &str) -> bool
     }
 }
 
+fn lacks_server(given: Given<'_>) -> bool
+    ensures { IsTrue result ↔ LacksServer (texts_of given.entry) }
+{
+    given.port.is_none() && given.connections.is_none()
+}
+
 fn lacks_host(given: Given<'_>) -> bool
     ensures { IsTrue result ↔ LacksHost (texts_of given.entry) }
 {
-    given.cells.is_none()
-        && given.workers.is_none()
-        && given.port.is_none()
-        && given.connections.is_none()
+    given.cells.is_none() && given.workers.is_none() && lacks_server(given)
 }
 
 fn run_numbers(given: Given<'_>) -> Option<Run>
