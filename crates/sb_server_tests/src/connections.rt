@@ -1,0 +1,111 @@
+//! Connections over memory, and what is told of connections.
+ghost use Rattle.std.specs.Prelude.{◌≡◌};
+
+use sb_host::{AttachError, Host, Naming, Opened};
+use sb_serve::{Event, Named, Served, serve_one};
+use sb_wire::{StreamError, WireRefusal};
+use std::alloc::Global;
+use std::marker::Brand;
+use std::sync::Wait;
+use std::test::*;
+
+/// How many receipts a connection with these lines leaves, and what it writes.
+fn served<N: Naming, R: Wait>(
+    rt: &R,
+    alloc: Global,
+    opened: Opened,
+    lines: &[u8],
+) -> Option<(usize, Vec<u8>)>
+    requires table { N.table ≡ opened.table }
+    requires numbers { (N.tenants ≡ opened.tenants) × (N.cells ≡ opened.cells) × (N.bound ≡ opened.bound) }
+    requires ledger { (N.name ≡ opened.name) × (N.parts ≡ opened.parts) }
+{
+    let host = Host::<N>::new(alloc, opened).ok()?;
+    let mut reader = lines;
+    let mut text = Vec::new(alloc);
+    let Served { stub, ended } = serve_one(rt, alloc, &mut reader, &mut text, &host);
+    ended.ok()?;
+    let receipts = match stub {
+        Some(stub) => stub.list().len(),
+        None => 0,
+    };
+    Some((receipts, text))
+}
+
+#[test]
+fn a_session_is_closed(rt: HostRuntime) -> Result<(), Fail> {
+    for (lines, receipts, text) in [
+        (
+            b"0 0\nbegin\nins".as_slice(),
+            4,
+            b"ok\nok\nno 10 Syntax\n".as_slice(),
+        ),
+        (b"1 7\nend\nbegin\n", 2, b"ok\nok\n"),
+        (b"2 0\nbegin\n", 0, b"no 13 NoTenant\n"),
+        (b"0 0 begin", 0, b"no 12 BadLine\n"),
+        (b"", 0, b""),
+    ] {
+        let opened = Opened::new(rt.alloc(), 2, 2, 1000)?;
+        match served::<Brand, _>(&rt, rt.alloc(), opened, lines) {
+            Some((count, written)) => {
+                assert_eq!(rt; count, receipts);
+                assert_eq!(rt; written.as_slice(), text);
+            }
+            None => assert!(rt; false),
+        }
+    }
+    Ok(())
+}
+
+#[test]
+fn events_have_lines(rt: HostRuntime) -> Result<(), Fail> {
+    let named = Named {
+        tenant: 3,
+        session: 7,
+    };
+    for (event, warning, text) in [
+        (
+            Event::Attached(named),
+            false,
+            "attached: tenant 3, session 7",
+        ),
+        (
+            Event::TurnedAway {
+                named,
+                why: AttachError::AlreadyOpen,
+            },
+            true,
+            "turned away: tenant 3, session 7: AlreadyOpen",
+        ),
+        (
+            Event::Unnamed(WireRefusal::BadLine),
+            true,
+            "turned away: BadLine",
+        ),
+        (
+            Event::Failed {
+                named: Some(named),
+                why: StreamError::ReadFault,
+            },
+            true,
+            "failed: tenant 3, session 7: read failed",
+        ),
+        (
+            Event::Closed { named, receipts: 3 },
+            false,
+            "closed: tenant 3, session 7: 3 receipts",
+        ),
+        (Event::NotAccepted, true, "a connection can't be accepted"),
+        (Event::NoPlace, true, "no memory for a connection"),
+        (
+            Event::AllBusy { workers: 4 },
+            false,
+            "all 4 workers are busy: further connections wait",
+        ),
+    ] {
+        assert_eq!(rt; event.is_warning(), warning);
+        let line = format!(in rt.alloc(); "{event}")?;
+        assert_eq!(rt; line.as_str(), text);
+    }
+    Ok(())
+}
