@@ -1,9 +1,10 @@
 //! Times parts of the server by themselves: `sb_bench WORK ROUNDS < LINES`, where the work is
-//! `read`, `logs`, `cell` or `tenant`. The lines are the commands of `read`, and what `cell` and `tenant` play; `logs` takes none. Prints
-//! how many rounds went well and the nanoseconds of all. With no work, nothing is timed.
+//! `read`, `logs`, `cell`, `tenant` or `host`. The lines are the commands of `read`, and what `cell` and `tenant` play; `logs` and `host`
+//! take none. Prints how many rounds went well and the nanoseconds of all. With no work, nothing is timed.
 #![tactic(auto)]
 
 mod cell;
+mod host;
 mod lines;
 mod log;
 mod logs;
@@ -11,7 +12,9 @@ mod logs;
 use std::env;
 use std::io::{self, Read as _};
 use std::process::ExitCode;
-use std::time::Instant;
+use std::sync::Wait;
+use std::thread::Threads;
+use std::time::{Clock, Instant};
 
 /// A part of the server.
 #[derive(Clone, Copy)]
@@ -24,6 +27,8 @@ enum Work {
     Cell,
     /// The same with one tenant.
     LoneTenant,
+    /// Sessions of a host are called, and the host is finished.
+    Host,
 }
 
 fn work_of(word: &str) -> Option<Work> {
@@ -32,12 +37,34 @@ fn work_of(word: &str) -> Option<Work> {
         "logs" => Some(Work::Logs),
         "cell" => Some(Work::Cell),
         "tenant" => Some(Work::LoneTenant),
+        "host" => Some(Work::Host),
         _ => None,
     }
 }
 
+/// What the arguments name.
+#[derive(Clone, Copy)]
+struct Asked {
+    work: Work,
+    rounds: u32,
+}
+
 fn main(rt: HostRuntime) -> ExitCode {
-    match timed(&rt) {
+    let done = match read_words(&rt) {
+        // a host's threads are to be had here alone
+        Ok(
+            Some(
+                Asked {
+                    work: Work::Host,
+                    rounds,
+                },
+            ),
+        ) => time_hosts(&rt, &rt, rounds),
+        Ok(Some(asked)) => timed(&rt, asked),
+        Ok(None) => Ok(()),
+        Err(fault) => Err(fault),
+    };
+    match done {
         Ok(()) => ExitCode::SUCCESS,
         Err(fault) => {
             // a standard error that takes nothing can't be told of
@@ -47,24 +74,31 @@ fn main(rt: HostRuntime) -> ExitCode {
     }
 }
 
-/// Times the work that the arguments name.
-fn timed(rt: &HostRuntime) -> io::Result<()> {
+/// Reads the arguments. Tells the words that there are where they name no work.
+fn read_words(rt: &HostRuntime) -> io::Result<Option<Asked>> {
     let mut words = env::args(rt)?.skip(1);
     let (Some(word), Some(rounds)) = (words.next(), words.next()) else {
-        return Ok(());
+        return Ok(None);
     };
     let (Some(work), Ok(rounds)) = (work_of(word.as_str()), rounds.as_str().parse::<u32>()) else {
-        println!(rt; "sb_bench read|logs|cell|tenant ROUNDS < LINES")?;
-        return Ok(());
+        println!(rt; "sb_bench read|logs|cell|tenant|host ROUNDS < LINES")?;
+        return Ok(None);
     };
+    Ok(Some(Asked { work, rounds }))
+}
+
+/// Times the work that the arguments name.
+fn timed(rt: &HostRuntime, asked: Asked) -> io::Result<()> {
+    let rounds = asked.rounds;
     let mut input = Vec::new(rt.alloc());
     let _length = rt.reader().read_to_end(&mut input)?;
     let start = Instant::now(rt)?;
-    let done = match work {
+    let done = match asked.work {
         Work::Read => lines::read(rt.alloc(), input.as_slice(), rounds),
         Work::Logs => time_often(rt, rounds)?,
         Work::Cell => cell::time_cell(rt, input.as_slice(), 256, rounds)?,
         Work::LoneTenant => cell::time_cell(rt, input.as_slice(), 1, rounds)?,
+        Work::Host => 0,
     };
     let time = start.elapsed(rt)?;
     println!(rt; "{done} of {rounds} rounds, {} ns", time.as_nanos())
@@ -76,4 +110,23 @@ fn time_often(rt: &HostRuntime, rounds: u32) -> io::Result<u32> {
         logs::time_logs(rt)?;
     }
     Ok(rounds)
+}
+
+/// Times hosts so often, and tells each time.
+fn time_hosts<R: Threads + Wait + Clock + Sync>(
+    rt: &HostRuntime,
+    threads: &R,
+    rounds: u32,
+) -> io::Result<()> {
+    for _ in 0..rounds {
+        let times = host::time_host(threads, rt.alloc())?;
+        let (step, call) = times.each();
+        println!(rt;
+            "step {step} ns, call {call} ns, one thread {} us, twice the calls on two {} us, check of them {} us",
+            times.call.as_micros(),
+            times.two.as_micros(),
+            times.check.as_micros()
+        )?;
+    }
+    Ok(())
 }
