@@ -1,0 +1,203 @@
+//! Hosts from their opening to their closing check, on one thread.
+ghost use Rattle.std.specs.Prelude.{◌≡◌};
+
+use sb_host::{AttachError, CallError, FinishError, Host, Naming, Opened, Report, Session};
+use sb_tenant::{Answer, Reply};
+use sb_value::{Refusal, Value};
+use std::alloc::Global;
+use std::marker::Brand;
+use std::sync::Wait;
+use std::test::*;
+
+/// Whether the newest answer has this number, and is `ok`.
+fn is_ok_at<N: Naming>(session: &Session<'_, N>, number: u32) -> bool {
+    match session.last() {
+        Some(answer) => match &answer.reply {
+            Reply::Ok => answer.number == Some(number),
+            _ => false,
+        },
+        None => false,
+    }
+}
+
+/// Whether the newest answer is that the trail is full, and has no number.
+fn is_full<N: Naming>(session: &Session<'_, N>) -> bool {
+    match session.last() {
+        Some(answer) => match &answer.reply {
+            Reply::No(Refusal::TrailFull) => answer.number.is_none(),
+            _ => false,
+        },
+        None => false,
+    }
+}
+
+/// Sends a line, and says how many changes, rows or considered rules its reply has. `ok` has 0.
+fn said<N: Naming, R: Wait>(
+    rt: &R,
+    alloc: Global,
+    session: &mut Session<'_, N>,
+    line: &[u8],
+) -> Option<usize> {
+    let _ = session.call(rt, alloc, line);
+    match &session.last()?.reply {
+        Reply::Ok => Some(0),
+        Reply::Count(count) => usize::try_from(*count).ok(),
+        Reply::Rows(rows) => Some(rows.as_list().rows().len()),
+        Reply::Done(trace) => Some(trace.as_slice().len()),
+        _ => None,
+    }
+}
+
+/// Whether the newest answer has rows, of which the first is `1, 'x''y'`.
+fn reads_back<N: Naming>(session: &Session<'_, N>) -> bool {
+    let Some(
+        Answer {
+            reply: Reply::Rows(rows),
+            ..
+        },
+    ) = session.last()
+    else {
+        return false;
+    };
+    let Some(row) = rows.as_list().rows().first() else {
+        return false;
+    };
+    match (row.values().get(0), row.values().get(1)) {
+        (Some(Value::Int(number)), Some(Value::Text(text))) => {
+            *number == 1 && text.as_slice() == b"x'y".as_slice()
+        }
+        _ => false,
+    }
+}
+
+/// A transaction whose rows the next one reads: whether all replies were as they are to be, and the
+/// length of the trail.
+fn served<N: Naming, R: Wait>(rt: &R, alloc: Global, opened: Opened) -> Option<(bool, usize)>
+    requires table { N.table ≡ opened.table }
+    requires numbers { (N.tenants ≡ opened.tenants) × (N.cells ≡ opened.cells) × (N.bound ≡ opened.bound) }
+    requires ledger { (N.name ≡ opened.name) × (N.parts ≡ opened.parts) }
+{
+    let host = Host::<N>::new(alloc, opened).ok()?;
+    let mut session = host.attach(rt, alloc, 0, 0).ok()?;
+    let create = said(rt, alloc, &mut session, b"create table t (a int, b text)")?;
+    let begin = said(rt, alloc, &mut session, b"begin")?;
+    let insert = said(
+        rt,
+        alloc,
+        &mut session,
+        b"insert into t values (1, 'x''y'), (-2, '')",
+    )?;
+    let select = said(rt, alloc, &mut session, b"select * from t")?;
+    let first = [create, begin, insert, select] == [0, 0, 2, 2] && reads_back(&session);
+    let commit = said(rt, alloc, &mut session, b"commit")?;
+    let begin = said(rt, alloc, &mut session, b"begin")?;
+    let select = said(rt, alloc, &mut session, b"select * from t")?;
+    let second = [commit, begin, select] == [0, 0, 2] && reads_back(&session);
+    let _ = said(rt, alloc, &mut session, b"end")?;
+    let good = first && second && is_ok_at(&session, 9) && session.ended();
+    let mut stubs = Vec::new(alloc);
+    stubs.push(session.close(rt)).ok()?;
+    let report = host.finish(alloc, stubs).ok()?;
+    Some((good, report.trails.get(0)?.len()))
+}
+
+/// Whether the first session of the first tenant has fewer receipts than entries.
+fn is_missing(error: &FinishError) -> bool {
+    match error {
+        FinishError::Missing { tenant, session } => *tenant == 0 && session.number() == 0,
+        _ => false,
+    }
+}
+
+/// Whether a host isn't reported for that reason.
+fn is_refused(report: &Result<Report, FinishError>) -> bool {
+    match report {
+        Ok(_) => false,
+        Err(error) => is_missing(error),
+    }
+}
+
+/// What is refused, and why a host isn't reported: the steps of a session, the answers that were not
+/// as they are to be, and the session that is told.
+fn refused<N: Naming, R: Wait>(rt: &R, alloc: Global, opened: Opened) -> Option<(usize, u32, bool)>
+    requires table { N.table ≡ opened.table }
+    requires numbers { (N.tenants ≡ opened.tenants) × (N.cells ≡ opened.cells) × (N.bound ≡ opened.bound) }
+    requires ledger { (N.name ≡ opened.name) × (N.parts ≡ opened.parts) }
+{
+    let host = Host::<N>::new(alloc, opened).ok()?;
+    let mut wrong = 0u32;
+    if host.attach(rt, alloc, 2, 0).err() != Some(AttachError::NoTenant) {
+        wrong |= 1;
+    }
+    if host.attach(rt, alloc, 0, 8).err() != Some(AttachError::NoSession) {
+        wrong |= 2;
+    }
+    let mut session = host.attach(rt, alloc, 0, 0).ok()?;
+    if host.attach(rt, alloc, 0, 0).err() != Some(AttachError::AlreadyOpen) {
+        wrong |= 4;
+    }
+    let _ = session.call(rt, alloc, b"begin");
+    if !is_ok_at(&session, 2) {
+        wrong |= 8;
+    }
+    let _ = session.call(rt, alloc, b"end");
+    if !is_ok_at(&session, 3) || !session.ended() {
+        wrong |= 16;
+    }
+    if session.call(rt, alloc, b"begin").err() != Some(CallError::Ended) {
+        wrong |= 32;
+    }
+    let stub = session.close(rt);
+    let receipts = stub.list().len();
+    let _dropped = host.attach(rt, alloc, 0, 0).ok()?.close(rt);
+    let mut stubs = Vec::new(alloc);
+    stubs.push(stub).ok()?;
+    let report = host.finish(alloc, stubs);
+    Some((receipts, wrong, is_refused(&report)))
+}
+
+/// A trail that is full: the answers that were not as they are to be, and its length.
+fn filled<N: Naming, R: Wait>(rt: &R, alloc: Global, opened: Opened) -> Option<(u32, usize)>
+    requires table { N.table ≡ opened.table }
+    requires numbers { (N.tenants ≡ opened.tenants) × (N.cells ≡ opened.cells) × (N.bound ≡ opened.bound) }
+    requires ledger { (N.name ≡ opened.name) × (N.parts ≡ opened.parts) }
+{
+    let host = Host::<N>::new(alloc, opened).ok()?;
+    let mut session = host.attach(rt, alloc, 0, 0).ok()?;
+    for _ in 0..65_535u32 {
+        let _ = session.call(rt, alloc, b"begin");
+    }
+    let mut wrong = 0u32;
+    if session.list().len() != 65_536 {
+        wrong |= 1;
+    }
+    let _ = session.call(rt, alloc, b"begin");
+    if !is_full(&session) {
+        wrong |= 2;
+    }
+    let _ = session.call(rt, alloc, b"end");
+    if !is_ok_at(&session, 65_537) {
+        wrong |= 4;
+    }
+    if host.attach(rt, alloc, 0, 0).err() != Some(AttachError::TrailFull) {
+        wrong |= 8;
+    }
+    let mut stubs = Vec::new(alloc);
+    stubs.push(session.close(rt)).ok()?;
+    let report = host.finish(alloc, stubs).ok()?;
+    Some((wrong, report.trails.get(0)?.len()))
+}
+
+#[test]
+fn hosts_are_finished(rt: HostRuntime) -> Result<(), Fail> {
+    let one = Opened::new(rt.alloc(), 1, 1, 1000)?;
+    assert_eq!(rt; served::<Brand, _>(&rt, rt.alloc(), one), Some((true, 9)));
+    let two = Opened::new(rt.alloc(), 2, 2, 1000)?;
+    assert_eq!(rt;
+        refused::<Brand, _>(&rt, rt.alloc(), two),
+        Some((3, 0, true))
+    );
+    let one = Opened::new(rt.alloc(), 1, 1, 1000)?;
+    assert_eq!(rt; filled::<Brand, _>(&rt, rt.alloc(), one), Some((0, 65_537)));
+    Ok(())
+}

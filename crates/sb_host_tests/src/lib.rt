@@ -1,0 +1,8 @@
+//! Tests of hosts and of the workers that call their sessions: what no script of `sb_scripts` shows. They stand in
+//! a crate of their own, since a crate with tests is proved once more with them.
+#![tactic(auto)]
+
+#[cfg(test)]
+mod hosts;
+#[cfg(test)]
+mod workers;
