@@ -16,7 +16,7 @@ use sb_index::RuleIndex;
 use sb_rawlog::{ChangeLog, RawLog};
 use sb_tables::Table;
 use sb_tenant::laws::trails_are_bounded;
-use sb_tenant::{Answer, Entry, Tenant};
+use sb_tenant::{Answer, Entry, Line, Tenant};
 use sb_value::{Name, SESSION_LIMIT, SessionId, TenantId};
 use std::alloc::{AllocError, Global};
 use std::marker::Model;
@@ -104,6 +104,15 @@ impl Cell {
         ensures { result ≡ hosts self.now tenant }
     {
         tenant % self.stride == self.first && ((tenant / self.stride) as usize) < self.tenants.len()
+    }
+
+    /// Has a line of a tenant at hand: the entry of the tenant's next step shares its bytes where it is of the same line.
+    pub fn offer_line(&mut self, tenant: u32, line: Line)
+        requires { hosts self.old tenant ≡ true }
+        ensures { self.new ≡ self.old }
+    {
+        let place = (tenant / self.stride) as usize;
+        self.tenants[place].offer_line(line);
     }
 
     /// Makes a step of a line of a tenant's session.

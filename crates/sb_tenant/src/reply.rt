@@ -2,14 +2,16 @@
 ghost use Rattle.std.specs.Prelude.{◌≡◌, ◌++◌, ◌∷◌, [], IfOk, OnOk, OnErr};
 
 use sb_value::{Name, Refusal, RowList, SessionId, Verdict};
+use smallvec::SmallVec;
 use std::alloc::{AllocError, Global};
 use std::marker::Model;
 use std::sync::Arc;
 
-/// A command line's bytes, without its newline. Its copies share them.
+/// A command line's bytes, without its newline. Its copies share them, and those of a line of at most 40 bytes stand in
+/// one piece of memory.
 #[derive(Drop)]
 pub struct Line {
-    bytes: Arc<Vec<u8>>,
+    bytes: Arc<SmallVec<u8, 40>>,
 }
 
 impl Model for Line {
@@ -27,7 +29,7 @@ impl Line {
         ensures { IfOk result (λ line. line ≡ bytes.now) }
     {
         Ok(Line {
-            bytes: Arc::new(alloc, Vec::from_slice(alloc, bytes)?)?,
+            bytes: Arc::new(alloc, SmallVec::from_slice(alloc, bytes)?)?,
         })
     }
 
@@ -35,7 +37,7 @@ impl Line {
     pub fn as_slice(&self) -> &[u8]
         ensures { result.now ≡ self.now }
     {
-        let bytes: &Vec<u8> = &self.bytes;
+        let bytes: &SmallVec<u8, 40> = &self.bytes;
         bytes.as_slice()
     }
 

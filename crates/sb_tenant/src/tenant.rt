@@ -9,7 +9,7 @@ ghost use Rattle.sb_tenant.specs.Step.{is_full_for, is_end_of_open};
 ghost use Rattle.sb_tenant.specs.Tenant.{state, IsLegal, IsNew, AnswersLine, MakesStep, LeavesLine, InStep, HoldNothing, StaysInStep, rise_of};
 
 use crate::end_lines::EndLines;
-use crate::lines::ShortLines;
+use crate::lines::KnownLines;
 use crate::phase::Phase;
 use crate::reply::{Answer, Entry, Line, Reply};
 use crate::store::Store;
@@ -40,7 +40,7 @@ pub struct Tenant {
     store: Store,
     trail: Vec<Entry>,
     end_lines: EndLines,
-    short_lines: ShortLines,
+    known_lines: KnownLines,
 }
 
 impl Model for Tenant {
@@ -67,7 +67,7 @@ impl Tenant {
             store: Store::new(alloc, id),
             trail: Vec::new(alloc),
             end_lines: EndLines::new(alloc),
-            short_lines: ShortLines::new(alloc),
+            known_lines: KnownLines::new(alloc),
         }
     }
 
@@ -121,6 +121,13 @@ impl Tenant {
         self.store.database.tables.by_name(name)
     }
 
+    /// Has a line at hand: the entry of the next step shares its bytes where it is of the same line.
+    pub fn offer_line(&mut self, line: Line)
+        ensures { self.new ≡ self.old }
+    {
+        self.known_lines.offer(line);
+    }
+
     /// Makes a step of the line, or is refused by the full trail. Where memory runs out before the
     /// step has begun, nothing changes.
     pub fn step<L: ChangeLog>(
@@ -168,7 +175,7 @@ impl Tenant {
             alloc,
             &mut self.trail,
             &mut self.end_lines,
-            &mut self.short_lines,
+            &mut self.known_lines,
             OPEN,
         )?;
         self.store.open(session);
@@ -237,7 +244,7 @@ impl Tenant {
             alloc,
             &mut self.trail,
             &mut self.end_lines,
-            &mut self.short_lines,
+            &mut self.known_lines,
             line,
         )?;
         let (reply, copy) = self
@@ -268,7 +275,7 @@ fn make_ready(
     alloc: Global,
     trail: &mut Vec<Entry>,
     end_lines: &mut EndLines,
-    short_lines: &mut ShortLines,
+    known_lines: &mut KnownLines,
     line: &[u8],
 ) -> Result<Line, NotBegun>
     ensures items { trail.new.items ≡ trail.old.items }
@@ -282,7 +289,7 @@ fn make_ready(
     if trail.reserve(1 + SESSION_LIMIT).is_err() || end_lines.fill(alloc, SESSION_LIMIT).is_err() {
         return Err(NotBegun);
     }
-    match short_lines.line(alloc, line) {
+    match known_lines.line(alloc, line) {
         Ok(kept) => Ok(kept),
         Err(_) => Err(NotBegun),
     }
