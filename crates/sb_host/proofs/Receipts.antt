@@ -11,7 +11,8 @@ use Rattle.sb_desk.specs.Receipts.{numbered, receipt, receipts_of}
 use Rattle.sb_host.specs.declared.comparing.Found.{Found}
 use Rattle.sb_host.specs.declared.comparing.Found.TheVariants.{Equal, Fewer, Different}
 use Rattle.sb_host.specs.declared.comparing.Seen.{Seen}
-use Rattle.sb_host.specs.Comparing.{Compares, IsSeen, Lists, Tells, step_of}
+use Rattle.sb_host.specs.Comparing.{Compares, IsSeen, Lists, Tells}
+use Rattle.sb_host.specs.Finish.{step_of}
 use Rattle.sb_host.proofs.Rising.{RisesFrom, only_rising}
 
 -- ---- what a trail wants

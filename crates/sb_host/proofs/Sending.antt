@@ -46,7 +46,7 @@ use Rattle.sb_process.proofs.database.Database.TheSendSync as database
 use Rattle.sb_tenant.proofs.phase.Phases.TheSendSync as phases
 use Rattle.sb_tenant.proofs.reply.Entry.TheSendSync as entry
 use Rattle.sb_tenant.proofs.end_lines.EndLines.TheSendSync as end_lines
-use Rattle.sb_tenant.proofs.lines.ShortLines.TheSendSync as short_lines
+use Rattle.sb_tenant.proofs.lines.KnownLines.TheSendSync as known_lines
 use Rattle.sb_tenant.specs.contracts.tenant.Tenant as Tenant
 use Rattle.sb_cell.specs.contracts.cell.Cell as Cell
 use Rattle.sb_desk.specs.declared.naming.Naming as naming
@@ -98,7 +98,7 @@ definitions_send : IsSend (Definitions.the_field).row
 definitions_send = search (sendable, crosses, catalog_send, priorities.the_send, rulesets.the_send) depth 40
 
 tenant_send : IsSend Tenant.the_row
-tenant_send = search (sendable, crosses, definitions_send, database.the_field_send, phases.the_send, entry.the_send, end_lines.the_send, short_lines.the_field_send) depth 40
+tenant_send = search (sendable, crosses, definitions_send, database.the_field_send, phases.the_send, entry.the_send, end_lines.the_send, known_lines.the_field_send) depth 40
 
 cell_send : IsSend Cell.the_row
 cell_send = search (sendable, crosses, tenant_send, log.the_send, index.the_send) depth 40

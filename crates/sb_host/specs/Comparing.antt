@@ -21,14 +21,6 @@ Tells b x y = MatchBool b (x ≡ y) (x ≡ y → ⊥)
 
 -- ---- one session
 
-abbrev pub number_by : Option ℕ → ℕ
-number_by None = 0
-number_by (Some n) = n
-
--- the number of the step that a receipt is of
-abbrev pub step_of : Receipt → ℕ
-step_of r = number_by r.answer.number
-
 -- as far as the entries want these, the receipts have been seen to be the same, or not
 abbrev pub IsSeen : List Receipt → List Receipt → Seen → Type 0
 IsSeen held due seen = (seen.count ≡ length due) × Tells seen.same (take (length due) held) due

@@ -1,7 +1,7 @@
 -- What the closing check compares, and what it answers.
-use Rattle.std.specs.Prelude.{ℕ, zero, suc, ◌+◌, ◌*◌, ◌≡◌, ◌<◌, ◌≤◌, ◌==◌, ◌&&◌, if◌then◌else◌, List, [], ◌∷◌, ◌++◌, length, Result, Ok, Err, Vec}
+use Rattle.std.specs.Prelude.{ℕ, zero, suc, ◌+◌, ◌*◌, ◌≡◌, ◌<◌, ◌≤◌, ◌==◌, ◌&&◌, if◌then◌else◌, List, [], ◌∷◌, ◌++◌, length, Option, Some, None, Result, Ok, Err, Vec}
 use Rattle.std.specs.Global.{Global}
-use Rattle.std.specs.List.Sorted.{IsPermutation}
+use Rattle.std.specs.List.Sorted.{IsNonDecreasingBy, IsPermutation}
 use Rattle.sb_tenant.specs.declared.reply.Entry.{Entry}
 use Rattle.sb_tenant.specs.Limits.{session_count}
 use Rattle.sb_tenant.specs.Trail.{IsTrail}
@@ -37,6 +37,23 @@ wanted t s trails = receipts_of s 1 (row_at trails t)
 abbrev pub Agrees : ℕ → ℕ → List Stub → List (Vec Entry Global) → Type 0
 Agrees t s stubs trails = IsPermutation (gathered t s stubs) (wanted t s trails)
 
+-- the number of the step that a receipt is of
+abbrev pub number_by : Option ℕ → ℕ
+number_by None = 0
+number_by (Some n) = n
+
+abbrev pub step_of : Receipt → ℕ
+step_of r = number_by r.answer.number
+
+-- receipts stand in the order of their steps
+abbrev pub IsInOrder : List Receipt → Type 0
+IsInOrder receipts = IsNonDecreasingBy step_of receipts
+
+-- there is one order of a session's entries by their steps
+abbrev pub OrderIsFixed : Type 0
+OrderIsFixed = (s : ℕ) (trail : List Entry) (receipts : List Receipt)
+    → IsPermutation receipts (receipts_of s 1 trail) → IsInOrder receipts → receipts ≡ receipts_of s 1 trail
+
 -- sessions stand in the order of their tenants, and of their numbers
 abbrev pub rank : ℕ → ℕ → ℕ
 rank t s = session_count * t + s
@@ -50,6 +67,11 @@ AgreeBefore t s stubs trails = (u r : ℕ) → r < session_count → rank u r < 
 -- one trail for each tenant, and each is legal
 abbrev pub AreTrails : ℕ → ℕ → List (Vec Entry Global) → Type 0
 AreTrails bound tenants trails = (length trails ≡ tenants) × ((t : ℕ) → IsTrail t bound (row_at trails t))
+
+-- the number of entries of all trails
+abbrev pub steps_in : List (Vec Entry Global) → ℕ
+steps_in [] = 0
+steps_in (trail ∷ trails) = length trail.items + steps_in trails
 
 -- the first session that doesn't agree has fewer receipts than entries
 abbrev pub IsMissing : ℕ → ℕ → List Stub → List (Vec Entry Global) → Type 0

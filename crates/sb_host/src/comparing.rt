@@ -2,8 +2,8 @@
 ghost use Rattle.std.specs.Prelude.{ℕ, List, ◌≡◌, ◌+◌, ◌*◌, ◌<◌, ◌≤◌, ◌==◌, ◌++◌, ◌∷◌, [], if◌then◌else◌, length, slice_index_or, MatchBool, IfErr, OnOk};
 ghost use Rattle.sb_desk.specs.Receipts.{numbered, receipt, receipts_of};
 ghost use Rattle.sb_desk.specs.declared.receipts.Receipt.{Receipt};
-ghost use Rattle.sb_host.specs.Comparing.{Compares, IsSeen, Lists, RowAgrees, RowFails, Tells, due_at, step_of};
-ghost use Rattle.sb_host.specs.Finish.{row_at};
+ghost use Rattle.sb_host.specs.Comparing.{Compares, IsSeen, Lists, RowAgrees, RowFails, Tells, due_at};
+ghost use Rattle.sb_host.specs.Finish.{row_at, step_of};
 
 use crate::equal::{same_bytes, same_reply};
 use crate::finish::FinishError;

@@ -1,7 +1,7 @@
 //! The closing check: every session's receipts against the entries of its tenant's trail.
-ghost use Rattle.std.specs.Prelude.{ℕ, ◌≡◌, ◌<◌, ◌≤◌, All, length, IfOk};
+ghost use Rattle.std.specs.Prelude.{ℕ, ◌≡◌, ◌<◌, ◌≤◌, All, length, IfOk, IfSome};
 ghost use Rattle.sb_host.specs.Comparing.{Audits};
-ghost use Rattle.sb_host.specs.Finish.{AreTrails, Finishes};
+ghost use Rattle.sb_host.specs.Finish.{AreTrails, Finishes, steps_in};
 
 use crate::comparing::check_all;
 use crate::gathering::{blank, first_stray, rows_of};
@@ -17,6 +17,26 @@ use std::alloc::{AllocError, Global};
 #[derive(Drop)]
 pub struct Report {
     pub trails: Vec<Vec<Entry>>,
+}
+
+impl Report {
+    /// How many entries all trails have, if that is a number.
+    pub fn steps(&self) -> Option<u64>
+        ensures { IfSome result (λ steps. steps ≡ steps_in self.now.trails.items) }
+    {
+        steps_of(self.trails.as_slice())
+    }
+}
+
+/// How many entries these trails have.
+fn steps_of(trails: &[Vec<Entry>]) -> Option<u64>
+    ensures { IfSome result (λ steps. steps ≡ steps_in trails.now) }
+{
+    let Some((first, others)) = trails.split_first() else {
+        return Some(0);
+    };
+    let steps = steps_of(others)?;
+    steps.checked_add(first.len() as u64)
 }
 
 /// Why a host isn't reported. Of the sessions that don't agree with their entries the first is told.

@@ -7,6 +7,7 @@ mod finish;
 mod gate;
 mod gathering;
 mod host;
+pub mod laws;
 mod locks;
 mod opening;
 mod session;

@@ -1,6 +1,6 @@
 //! A host is opened in two steps: its parts, whose names nobody knows yet, and then the host, whose
 //! type has the names.
-ghost use Rattle.std.specs.Prelude.{◌≡◌, ◌+◌, ◌-◌, ◌*◌, ◌/◌, ◌<◌, ◌≤◌, ◌^◌, [], IsSome, IfOk, OnOk};
+ghost use Rattle.std.specs.Prelude.{◌≡◌, ◌+◌, ◌-◌, ◌*◌, ◌/◌, ◌<◌, ◌≤◌, ◌^◌, [], true, IsSome, IfOk, OnOk};
 ghost use Rattle.sb_desk.specs.Kept.{AreDealt};
 ghost use Rattle.sb_host.specs.Opening.{left_at, left_in};
 
@@ -110,15 +110,37 @@ fn cut_part<N: Naming, const F: u32>(
     (block, share)
 }
 
-/// The desk of the cell `F`, if the host has it. Its part of the numbers and of the ledger goes in
-/// every case.
+/// The desk of the cell `F`, of its part of the numbers and of the ledger.
+fn desk_of<N: Naming, const F: u32>(
+    alloc: Global,
+    table: &SeatTable,
+    mut block: SessionSeat,
+    share: Share<N>,
+    numbers: Numbers,
+) -> Result<Desk<N, F>, AllocError>
+    requires table { (block.table_id ≡ table.now.table_id) × (table.now.table_id.words ≡ 1) × (table.now.table_id ≡ N.table) }
+    requires cell { F < numbers.cells }
+    requires numbers { (0 < numbers.tenants) × (numbers.tenants ≤ 256) × (0 < numbers.cells) × (numbers.cells ≤ 16) × (numbers.bound ≤ 1000) }
+    requires named { (N.tenants ≡ numbers.tenants) × (N.cells ≡ numbers.cells) × (N.bound ≡ numbers.bound) }
+    requires block { block.me ≡ (left_in F 0, []) }
+    requires share { share.parts ≡ 2 ^ 32 }
+{
+    let cell = Cell::new(alloc, F, numbers.cells, numbers.tenants, numbers.bound)?;
+    let places = (numbers.tenants - 1) / numbers.cells + 1;
+    let seats = deal(alloc, table, &mut block, F, 8 * places as usize)?;
+    Ok(Desk::new(cell, share, seats))
+}
+
+/// The lock of the cell `F`, if the host has it and memory was there for this cell and all before it. Its part of the
+/// numbers and of the ledger goes in every case.
 fn open_desk<N: Naming, const F: u32>(
     alloc: Global,
     table: &SeatTable,
     all: &mut SessionSeat,
     rest: &mut Share<N>,
     numbers: Numbers,
-) -> Result<Lock<N, F>, AllocError>
+    well: &mut bool,
+) -> Lock<N, F>
     requires table { (all.old.table_id ≡ table.now.table_id) × (table.now.table_id.words ≡ 1) × (table.now.table_id ≡ N.table) }
     requires cell { F < 16 }
     requires numbers { (0 < numbers.tenants) × (numbers.tenants ≤ 256) × (0 < numbers.cells) × (numbers.cells ≤ 16) × (numbers.bound ≤ 1000) }
@@ -128,16 +150,20 @@ fn open_desk<N: Naming, const F: u32>(
     ensures table { all.new.table_id ≡ all.old.table_id }
     ensures all { all.new.me ≡ (left_at (F + 1), []) }
     ensures rest { (rest.new.parts ≡ (17 - (F + 1)) * 2 ^ 32) × (rest.new.amount ≡ 0) }
-    ensures there { F < numbers.cells → IfOk result (λ lock. IsSome lock) }
+    ensures well { well.new ≡ true → well.old ≡ true }
+    ensures there { F < numbers.cells → well.new ≡ true → IsSome result }
 {
-    let (mut block, share) = cut_part::<N, F>(table, all, rest);
-    if F >= numbers.cells {
-        return Ok(None);
+    let (block, share) = cut_part::<N, F>(table, all, rest);
+    if F >= numbers.cells || !*well {
+        return None;
     }
-    let cell = Cell::new(alloc, F, numbers.cells, numbers.tenants, numbers.bound)?;
-    let places = (numbers.tenants - 1) / numbers.cells + 1;
-    let seats = deal(alloc, table, &mut block, F, 8 * places as usize)?;
-    Ok(Some(Mutex::new(Desk::new(cell, share, seats))))
+    match desk_of(alloc, table, block, share, numbers) {
+        Ok(desk) => Some(Mutex::new(desk)),
+        Err(_) => {
+            *well = false;
+            None
+        }
+    }
 }
 
 impl<N: Naming> Host<N> {
@@ -155,22 +181,27 @@ impl<N: Naming> Host<N> {
             blank,
         } = opened;
         let (_book, mut rest) = blank.open::<N>();
-        let d0 = open_desk::<N, 0>(alloc, &seats.shared, &mut all, &mut rest, numbers)?;
-        let d1 = open_desk::<N, 1>(alloc, &seats.shared, &mut all, &mut rest, numbers)?;
-        let d2 = open_desk::<N, 2>(alloc, &seats.shared, &mut all, &mut rest, numbers)?;
-        let d3 = open_desk::<N, 3>(alloc, &seats.shared, &mut all, &mut rest, numbers)?;
-        let d4 = open_desk::<N, 4>(alloc, &seats.shared, &mut all, &mut rest, numbers)?;
-        let d5 = open_desk::<N, 5>(alloc, &seats.shared, &mut all, &mut rest, numbers)?;
-        let d6 = open_desk::<N, 6>(alloc, &seats.shared, &mut all, &mut rest, numbers)?;
-        let d7 = open_desk::<N, 7>(alloc, &seats.shared, &mut all, &mut rest, numbers)?;
-        let d8 = open_desk::<N, 8>(alloc, &seats.shared, &mut all, &mut rest, numbers)?;
-        let d9 = open_desk::<N, 9>(alloc, &seats.shared, &mut all, &mut rest, numbers)?;
-        let d10 = open_desk::<N, 10>(alloc, &seats.shared, &mut all, &mut rest, numbers)?;
-        let d11 = open_desk::<N, 11>(alloc, &seats.shared, &mut all, &mut rest, numbers)?;
-        let d12 = open_desk::<N, 12>(alloc, &seats.shared, &mut all, &mut rest, numbers)?;
-        let d13 = open_desk::<N, 13>(alloc, &seats.shared, &mut all, &mut rest, numbers)?;
-        let d14 = open_desk::<N, 14>(alloc, &seats.shared, &mut all, &mut rest, numbers)?;
-        let d15 = open_desk::<N, 15>(alloc, &seats.shared, &mut all, &mut rest, numbers)?;
+        let table = &seats.shared;
+        let mut well = true;
+        let d0 = open_desk::<N, 0>(alloc, table, &mut all, &mut rest, numbers, &mut well);
+        let d1 = open_desk::<N, 1>(alloc, table, &mut all, &mut rest, numbers, &mut well);
+        let d2 = open_desk::<N, 2>(alloc, table, &mut all, &mut rest, numbers, &mut well);
+        let d3 = open_desk::<N, 3>(alloc, table, &mut all, &mut rest, numbers, &mut well);
+        let d4 = open_desk::<N, 4>(alloc, table, &mut all, &mut rest, numbers, &mut well);
+        let d5 = open_desk::<N, 5>(alloc, table, &mut all, &mut rest, numbers, &mut well);
+        let d6 = open_desk::<N, 6>(alloc, table, &mut all, &mut rest, numbers, &mut well);
+        let d7 = open_desk::<N, 7>(alloc, table, &mut all, &mut rest, numbers, &mut well);
+        let d8 = open_desk::<N, 8>(alloc, table, &mut all, &mut rest, numbers, &mut well);
+        let d9 = open_desk::<N, 9>(alloc, table, &mut all, &mut rest, numbers, &mut well);
+        let d10 = open_desk::<N, 10>(alloc, table, &mut all, &mut rest, numbers, &mut well);
+        let d11 = open_desk::<N, 11>(alloc, table, &mut all, &mut rest, numbers, &mut well);
+        let d12 = open_desk::<N, 12>(alloc, table, &mut all, &mut rest, numbers, &mut well);
+        let d13 = open_desk::<N, 13>(alloc, table, &mut all, &mut rest, numbers, &mut well);
+        let d14 = open_desk::<N, 14>(alloc, table, &mut all, &mut rest, numbers, &mut well);
+        let d15 = open_desk::<N, 15>(alloc, table, &mut all, &mut rest, numbers, &mut well);
+        if !well {
+            return Err(AllocError);
+        }
         Ok(Host {
             tenants: numbers.tenants,
             cells: numbers.cells,

@@ -2,7 +2,8 @@ use Rattle.std.proofs.Common.{rules, List, subst}
 use Rattle.std.proofs.lemmas.List.Sorted.{IsNonDecreasingBy-from_sort_by_key}
 use Rattle.sb_desk.specs.declared.receipts.Receipt.{Receipt}
 use Rattle.sb_desk.specs.Receipts.{receipts_of}
-use Rattle.sb_host.specs.Comparing.{Lists, step_of}
+use Rattle.sb_host.specs.Comparing.{Lists}
+use Rattle.sb_host.specs.Finish.{step_of}
 use Rattle.sb_host.proofs.Receipts.{sorted_compares}
 use Rattle.sb_host.proofs.comparing.check.Goals as goal
 
