@@ -1,3 +1,4 @@
 pub mod Exchanges
 pub mod Conversation
 pub mod Responding
+pub mod Watching

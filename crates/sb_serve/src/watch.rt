@@ -1,4 +1,6 @@
 //! What is told of connections while they are served.
+ghost use Rattle.std.specs.Prelude.{◌≡◌};
+ghost use Rattle.sb_serve.specs.Watching.{is_warning};
 
 use crate::greeting::Named;
 use sb_host::AttachError;
@@ -38,7 +40,9 @@ pub enum Event {
 
 impl Event {
     /// Whether something went wrong.
-    pub fn is_warning(&self) -> bool {
+    pub fn is_warning(&self) -> bool
+        ensures { result ≡ is_warning self.now }
+    {
         !matches!(
             self,
             Event::Attached(_) | Event::Closed { .. } | Event::AllBusy { .. }
