@@ -58,7 +58,7 @@ plays_keep old new (e ∷ es) (mid, first, others) =
 elsewhere : (t s : ℕ) (commands : List (List ℕ)) (session : Option Session) (sheet : Sheet) (own : List Stub)
     → Reaches t s commands session sheet → ClosesBy session own → (u r : ℕ) → ((t ≡ u) × (s ≡ r) → ⊥) → gathered u r own ≡ []
 elsewhere t s commands None sheet own reach none u r other = ap (gathered u r) none
-elsewhere t s commands (Some last) sheet own reach (stub, one, leaves) u r other =
+elsewhere t s commands (Some last) sheet own reach (stub, one, leaves, order) u r other =
     let p = reach.1 in
     let kept = plays_keep (shown (newcomer t s p.opening)) last p.exchanges p.plays in
     let away : receipts_in u r stub ≡ [] = no_receipts u r stub (λ at. other (sym (leaves.0 ∙ kept.0) ∙ at.0, sym (leaves.1 ∙ kept.1) ∙ at.1)) in
@@ -75,7 +75,7 @@ attended t s commands None sheet own (empty, is) left none = record {
   unopened = λ _. ap (gathered t s) none;
   opened = λ some. absurd (some empty);
 }
-attended t s commands (Some last) sheet own (some, p) left (stub, one, leaves) =
+attended t s commands (Some last) sheet own (some, p) left (stub, one, leaves, order) =
     let kept = plays_keep (shown (newcomer t s p.opening)) last p.exchanges p.plays in
     let receipts : receipts_in t s stub ≡ stub.receipts.items = own_receipts t s stub (leaves.0 ∙ kept.0) (leaves.1 ∙ kept.1) in
     record {
@@ -88,6 +88,7 @@ attended t s commands (Some last) sheet own (some, p) left (stub, one, leaves) =
       opened = λ _. (
         stub,
         record { opening = p.opening; last = last; plays = p.plays; stub_is = leaves },
+        order,
         sym (ap (gathered t s) one ∙ append-nil (receipts_in t s stub) ∙ receipts),
       );
     }

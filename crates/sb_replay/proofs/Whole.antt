@@ -12,7 +12,7 @@ use Rattle.std.proofs.lemmas.List.Sorted.{length_permutation}
 use Rattle.sb_tenant.specs.declared.reply.Entry.{Entry}
 use Rattle.sb_tenant.specs.Limits.{trail_limit}
 use Rattle.sb_desk.specs.declared.receipts.Receipt.{Receipt}
-use Rattle.sb_host.specs.Finish.{gathered, rank, row_at, wanted}
+use Rattle.sb_host.specs.Finish.{IsInOrder, OrderIsFixed, gathered, rank, row_at, wanted}
 use Rattle.sb_host.specs.declared.stub.Stub.{Stub}
 use Rattle.sb_script.specs.Input.{commands_for}
 use Rattle.sb_script.specs.Scripts.{HoldsScript, commands_at, rows_of}
@@ -50,16 +50,16 @@ full_by trail (e ∷ es) h = (λ lacks. h (first (lacks_number e.given) (any_lac
     second true b e = refl
     second false b e = e
 
-attends : (t s : ℕ) (commands : List (List ℕ)) (receipts entries : List Receipt) (trails : List (Vec Entry Global)) (sheet : Sheet)
-    → Attended t s commands receipts sheet → IsPermutation receipts entries → IsFullBy trails sheet
-    → Attends t s commands entries (length (row_at trails t)) sheet.text
-attends t s commands receipts entries trails sheet a same full = record {
+attends : (t s : ℕ) (commands : List (List ℕ)) (receipts : List Receipt) (trails : List (Vec Entry Global)) (sheet : Sheet)
+    → OrderIsFixed → Attended t s commands receipts sheet → IsPermutation receipts (wanted t s trails) → IsFullBy trails sheet
+    → Attends t s commands (wanted t s trails) (length (row_at trails t)) sheet.text
+attends t s commands receipts trails sheet fixed a same full = record {
   exchanges = a.exchanges;
   commands_are = a.commands_are;
   text_is = a.text_is;
   full = full_by (length (row_at trails t)) a.exchanges (λ some. subst (λ (u : ℕ). trail_limit ≤ length (row_at trails u)) a.tenant_is (full (a.full_is ∙ some)));
-  unopened = λ none. nil_from_length entries (length_permutation receipts entries same ∙ ap length (a.unopened none));
-  opened = λ some. let stub = a.opened some in (stub.0, stub.1, subst (λ (l : List Receipt). IsPermutation l entries) (sym stub.2) same);
+  unopened = λ none. nil_from_length (wanted t s trails) (length_permutation receipts (wanted t s trails) same ∙ ap length (a.unopened none));
+  opened = λ some. let stub = a.opened some in (stub.0, stub.1, stub.3 ∙ fixed s (row_at trails t) receipts same (subst IsInOrder stub.3 stub.2));
 }
 
 -- ---- all sessions
@@ -87,8 +87,8 @@ same_length R k (row ∷ rows) [] all = absurd all
 same_length R k (row ∷ rows) (sheet ∷ sheets) all = let others = same_length R (k + 1) rows sheets all.1 in omega arith
 
 pub replays : (tenants bound : ℕ) (input text : List ℕ) (rows : List (Vec (Vec ℕ Global) Global)) (sheets : List Sheet) (stubs : List Stub)
-    → HoldsScript tenants input rows → AreAttended rows sheets stubs → Reports tenants bound stubs sheets text → Replays tenants bound input text
-replays tenants bound input text rows sheets stubs script attended reports =
+    → OrderIsFixed → HoldsScript tenants input rows → AreAttended rows sheets stubs → Reports tenants bound stubs sheets text → Replays tenants bound input text
+replays tenants bound input text rows sheets stubs fixed script attended reports =
     let R : ℕ → Vec (Vec ℕ Global) Global → Sheet → Type 0 = AttendedAt (λ k. gathered (tenant_at k) (session_at k) stubs) in
     let every = recursion_from_All (IsFullBy reports.trails) sheets reports.full in
     record {
@@ -107,7 +107,7 @@ replays tenants bound input text rows sheets stubs script attended reports =
           subst (λ (r : ℕ). Attended t r (lines_of found.0.items) (gathered t r stubs) found.1) session
           (subst (λ (u : ℕ). Attended u (session_at (0 + rank t s)) (lines_of found.0.items) (gathered u (session_at (0 + rank t s)) stubs) found.1) tenant found.4) in
           let commands : lines_of found.0.items ≡ commands_for t s script.asks = sym found.2 ∙ script.rows_are t s few small in
-          let done = attends t s (lines_of found.0.items) (gathered t s stubs) (wanted t s reports.trails) reports.trails found.1 one (reports.agree t s small) found.5 in
+          let done = attends t s (lines_of found.0.items) (gathered t s stubs) reports.trails found.1 fixed one (reports.agree t s small) found.5 in
           subst (λ (l : List ℕ). Attends t s (commands_for t s script.asks) (wanted t s reports.trails) (length (row_at reports.trails t)) l) (sym found.3)
           (subst (λ (l : List (List ℕ)). Attends t s l (wanted t s reports.trails) (length (row_at reports.trails t)) found.1.text) commands done);
       text_is = reports.text_is;
@@ -115,10 +115,10 @@ replays tenants bound input text rows sheets stubs script attended reports =
 
 -- where the input is known
 pub replays_known : (tenants bound : ℕ) (known : Option (List ℕ)) (text : List ℕ) (rows : List (Vec (Vec ℕ Global) Global)) (sheets : List Sheet) (stubs : List Stub)
-    → IfSome known (λ input. HoldsScript tenants input rows) → AreAttended rows sheets stubs → Reports tenants bound stubs sheets text
+    → OrderIsFixed → IfSome known (λ input. HoldsScript tenants input rows) → AreAttended rows sheets stubs → Reports tenants bound stubs sheets text
     → IfSome known (λ input. Replays tenants bound input text)
-replays_known tenants bound None text rows sheets stubs script attended reports = tt
-replays_known tenants bound (Some input) text rows sheets stubs script attended reports = replays tenants bound input text rows sheets stubs script attended reports
+replays_known tenants bound None text rows sheets stubs fixed script attended reports = tt
+replays_known tenants bound (Some input) text rows sheets stubs fixed script attended reports = replays tenants bound input text rows sheets stubs fixed script attended reports
 
 pub and_appends : (tenants bound : ℕ) (known old new : Option (List ℕ)) (text : List ℕ)
     → IfSome known (λ input. Replays tenants bound input text) → Appends old new text

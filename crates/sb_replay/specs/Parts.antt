@@ -8,7 +8,7 @@ use Rattle.sb_desk.specs.declared.desk.CallError.{CallError}
 use Rattle.sb_desk.specs.declared.receipts.Receipt.{Receipt}
 use Rattle.sb_desk.specs.Receipts.{newcomer}
 use Rattle.sb_host.specs.Calls.{Calls, Session, shown}
-use Rattle.sb_host.specs.Finish.{gathered}
+use Rattle.sb_host.specs.Finish.{IsInOrder, gathered}
 use Rattle.sb_host.specs.Stubs.{LeavesStub}
 use Rattle.sb_host.specs.declared.stub.Stub.{Stub}
 use Rattle.sb_pool.specs.declared.pool.Job.{Job}
@@ -38,10 +38,10 @@ Rests None left = ⊤
 Rests (Some session) [] = ⊤
 Rests (Some session) (c ∷ cs) = ⊥
 
--- a session is closed, if there is one
+-- a session is closed, if there is one, and its receipts stand in the order of their steps
 abbrev pub ClosesBy : Option Session → List Stub → Type 0
 ClosesBy None stubs = stubs ≡ []
-ClosesBy (Some session) stubs = (stub : Stub) × (stubs ≡ stub ∷ []) × LeavesStub session stub
+ClosesBy (Some session) stubs = (stub : Stub) × (stubs ≡ stub ∷ []) × LeavesStub session stub × IsInOrder stub.receipts.items
 
 module _ {N : Type 0} where
   -- the part of the rank k, before its first call
@@ -127,7 +127,7 @@ pub record Attended (t s : ℕ) (commands : List (List ℕ)) (receipts : List Re
   pub text_is : sheet.text ≡ session_text t s exchanges
   pub full_is : sheet.is_full ≡ any_lacks exchanges
   pub unopened : commands ≡ [] → receipts ≡ []
-  pub opened : (commands ≡ [] → ⊥) → (stub : Stub) × Leaves t s exchanges stub × (stub.receipts.items ≡ receipts)
+  pub opened : (commands ≡ [] → ⊥) → (stub : Stub) × Leaves t s exchanges stub × IsInOrder stub.receipts.items × (stub.receipts.items ≡ receipts)
 
 -- the session of the rank k was, where these are the receipts of each rank
 abbrev pub AttendedAt : (ℕ → List Receipt) → ℕ → Vec (Vec ℕ Global) Global → Sheet → Type 0

@@ -9,7 +9,9 @@ use Rattle.sb_wire.specs.Counts.{totals_line}
 use Rattle.sb_wire.specs.Lines.{Addressed}
 use Rattle.sb_wire.specs.Stream.{MayFail, read_limit}
 use Rattle.sb_script.specs.Input.{IsAsked, IsBadLine, commands_for}
-use Rattle.sb_host.specs.Finish.{Agrees, AreTrails, Finishes, rank, row_at, wanted}
+use Rattle.sb_host.specs.Calls.{Session}
+use Rattle.sb_host.specs.Finish.{Agrees, AreTrails, Finishes, IsInOrder, rank, row_at, steps_in, wanted}
+use Rattle.sb_host.specs.Stubs.{LeavesStub}
 use Rattle.sb_host.specs.declared.finish.FinishError.{FinishError}
 use Rattle.sb_host.specs.declared.finish.FinishError.TheVariants.{Mismatch}
 use Rattle.sb_host.specs.declared.stub.Stub.{Stub}
@@ -19,11 +21,6 @@ use Rattle.sb_script.specs.declared.error.ScriptError.{ScriptError}
 use Rattle.sb_script.specs.declared.error.ScriptError.TheVariants as script
 use Rattle.sb_replay.specs.Sessions.{Attends}
 use Rattle.sb_replay.specs.Sheets.{Sheet, texts_of}
-
--- the number of entries of all trails
-abbrev pub steps_in : List (Vec Entry Global) → ℕ
-steps_in [] = 0
-steps_in (trail ∷ trails) = length trail.items + steps_in trails
 
 -- all texts, one behind another, and the line that tells of the trails
 abbrev pub replay_text : List (List ℕ) → List (Vec Entry Global) → List ℕ
@@ -68,16 +65,35 @@ IsUnopened tenants (Attach t s) = (t < tenants) × (s < session_count)
 IsUnopened tenants NoMemory = ⊤
 IsUnopened tenants other = ⊥
 
+-- a session left receipts that don't stand in the order of their steps
+abbrev pub IsDisordered : FinishError → Type 0
+IsDisordered (Mismatch t s) =
+    (session : Session) × (stub : Stub) × LeavesStub session stub × (stub.tenant ≡ t) × (stub.session ≡ s) × (IsInOrder stub.receipts.items → ⊥)
+IsDisordered other = ⊥
+
+-- so it was, or there was no memory
+abbrev pub IsUnclosed : ReplayError → Type 0
+IsUnclosed (Finish e) = IsDisordered e
+IsUnclosed NoMemory = ⊤
+IsUnclosed other = ⊥
+
+-- not all sessions were opened, called and closed
+abbrev pub IsUnplayed : ℕ → ReplayError → Type 0
+IsUnplayed tenants (Attach t s) = (t < tenants) × (s < session_count)
+IsUnplayed tenants (Finish e) = IsDisordered e
+IsUnplayed tenants NoMemory = ⊤
+IsUnplayed tenants other = ⊥
+
 -- a session was told of a full trail, which the trail denies
 abbrev pub DeniesFull : List (Vec Entry Global) → FinishError → Type 0
 DeniesFull trails (Mismatch t s) = length (row_at trails t) < trail_limit
 DeniesFull trails other = ⊥
 
--- or `finish` answered so
+-- or the receipts of a session deny its own order, or `finish` answered so
 abbrev pub FailsToFinish : ℕ → ℕ → FinishError → Type 0
 FailsToFinish tenants bound e =
     ((stubs : List Stub) × Finishes bound tenants stubs (Err e))
-    ⊎ ((trails : List (Vec Entry Global)) × AreTrails bound tenants trails × DeniesFull trails e)
+    ⊎ (((trails : List (Vec Entry Global)) × AreTrails bound tenants trails × DeniesFull trails e) ⊎ IsDisordered e)
 
 abbrev pub IsUnfinished : ℕ → ℕ → ReplayError → Type 0
 IsUnfinished tenants bound (Finish e) = FailsToFinish tenants bound e

@@ -1,7 +1,6 @@
 -- What becomes of one session: it is opened, called with its commands one after another, and closed.
 use Rattle.std.specs.Prelude.{◌≡◌, ◌≤◌, ℕ, Bool, true, false, List, [], ◌∷◌, map, flat_map, decimal, Option, Some, None, Result, Ok, Err}
 use Rattle.std.specs.List.{AllByRecursion, list_any}
-use Rattle.std.specs.List.Sorted.{IsPermutation}
 use Rattle.sb_value.specs.declared.refusal.Refusal.TheVariants as refusal
 use Rattle.sb_tenant.specs.declared.reply.Answer.{Answer}
 use Rattle.sb_tenant.specs.declared.reply.Reply.TheVariants as told
@@ -68,11 +67,11 @@ pub record Leaves (t s : ℕ) (exchanges : List Exchange) (stub : Stub) : Type 0
   pub plays : Plays (shown (newcomer t s opening)) exchanges last
   pub stub_is : LeavesStub last stub
 
--- a session without a command isn't opened; any other leaves receipts that are its entries, in a trail of this length
+-- a session without a command isn't opened; any other leaves receipts that are its entries, in their order, in a trail of this length
 pub record Attends (t s : ℕ) (commands : List (List ℕ)) (entries : List Receipt) (trail : ℕ) (text : List ℕ) : Type 0 where
   pub exchanges : List Exchange
   pub commands_are : commands ≡ commands_in exchanges
   pub text_is : text ≡ session_text t s exchanges
   pub full : AllFullBy trail exchanges
   pub unopened : commands ≡ [] → entries ≡ []
-  pub opened : (commands ≡ [] → ⊥) → (stub : Stub) × Leaves t s exchanges stub × IsPermutation stub.receipts.items entries
+  pub opened : (commands ≡ [] → ⊥) → (stub : Stub) × Leaves t s exchanges stub × (stub.receipts.items ≡ entries)

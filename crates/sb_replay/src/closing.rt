@@ -1,16 +1,17 @@
 //! All sessions played to their end.
-ghost use Rattle.std.specs.Prelude.{◌≡◌, ◌*◌, ◌<◌, ◌≤◌, length, IfErr, IfOk, OnOk};
+ghost use Rattle.std.specs.Prelude.{◌≡◌, ◌*◌, ◌<◌, ◌≤◌, ◌++◌, ◌∷◌, [], length, IfErr, IfOk, MatchBool, OnOk};
 ghost use Rattle.std.specs.List.{All};
+ghost use Rattle.sb_host.specs.Finish.{IsInOrder, step_of};
 ghost use Rattle.sb_replay.specs.Lists.{AllCut};
 ghost use Rattle.sb_replay.specs.Parts.{AreAttended, Closes, ClosesOne, PlaysOut};
-ghost use Rattle.sb_replay.specs.Replay.{IsUnopened};
+ghost use Rattle.sb_replay.specs.Replay.{IsUnclosed, IsUnplayed};
 
 use crate::error::ReplayError;
 use crate::part::{Part, attach_all};
 use crate::round::play;
 use crate::sheet::Sheet;
-use sb_host::{Host, Naming, Stub};
-use std::alloc::{AllocError, Global};
+use sb_host::{FinishError, Host, Naming, Receipt, Stub};
+use std::alloc::Global;
 use std::sync::Wait;
 use std::thread::Threads;
 
@@ -26,8 +27,9 @@ fn close_all<N: Naming, T: Wait>(
     rt: &T,
     alloc: Global,
     parts: Vec<Part<'_, N>>,
-) -> Result<Closed, AllocError>
-    ensures { IfOk result (λ closed. AllCut Closes parts.entry.items closed.sheets.items closed.stubs.items) }
+) -> Result<Closed, ReplayError>
+    ensures ok { IfOk result (λ closed. AllCut Closes parts.entry.items closed.sheets.items closed.stubs.items) }
+    ensures err { IfErr result IsUnclosed }
 {
     let mut stubs = Vec::new(alloc);
     let mut sheets = Vec::new(alloc);
@@ -43,16 +45,52 @@ fn close_one<N: Naming, T: Wait>(
     part: Part<'_, N>,
     stubs: &mut Vec<Stub>,
     sheets: &mut Vec<Sheet>,
-) -> Result<(), AllocError>
-    ensures { OnOk result (ClosesOne part.entry stubs.old.items sheets.old.items stubs.new.items sheets.new.items) }
+) -> Result<(), ReplayError>
+    ensures ok { OnOk result (ClosesOne part.entry stubs.old.items sheets.old.items stubs.new.items sheets.new.items) }
+    ensures err { IfErr result IsUnclosed }
 {
     let Part { session, sheet } = part;
-    sheets.push(sheet)?;
+    add(sheets, sheet)?;
     let Some(session) = session else {
         return Ok(());
     };
-    stubs.push(session.close(rt))?;
+    let stub = session.close(rt);
+    if !are_in_order(stub.list()) {
+        return Err(ReplayError::Finish(FinishError::Mismatch {
+            tenant: stub.tenant,
+            session: stub.session,
+        }));
+    }
+    add(stubs, stub)?;
     Ok(())
+}
+
+/// Adds an item to a list.
+fn add<A: Drop>(list: &mut Vec<A>, item: A) -> Result<(), ReplayError>
+    ensures ok { OnOk result (list.new.items ≡ list.old.items ++ item ∷ []) }
+    ensures err { IfErr result (λ e. e ≡ ReplayError.NoMemory) }
+{
+    match list.push(item) {
+        Ok(()) => Ok(()),
+        Err(_) => Err(ReplayError::NoMemory),
+    }
+}
+
+/// Whether the receipts stand in the order of their steps.
+fn are_in_order(receipts: &[Receipt]) -> bool
+    ensures { MatchBool result (IsInOrder receipts.now) (IsInOrder receipts.now → ⊥) }
+{
+    receipts.is_sorted_by_key(|receipt| step_number(receipt))
+}
+
+/// The number of the step that a receipt is of.
+fn step_number(receipt: &Receipt) -> u32
+    ensures { result ≡ step_of receipt.now }
+{
+    match receipt.answer.number {
+        Some(number) => number,
+        None => 0,
+    }
 }
 
 /// The larger of the two.
@@ -83,13 +121,10 @@ fn play_out<N: Naming + Send + Sync, T: Threads + Wait + Sync>(
 ) -> Result<Closed, ReplayError>
     requires workers { (0 < workers) × (workers ≤ 16) }
     ensures ok { IfOk result (λ closed. PlaysOut rounds parts.entry.items closed.sheets.items closed.stubs.items) }
-    ensures err { IfErr result (λ e. e ≡ ReplayError.NoMemory) }
+    ensures err { IfErr result IsUnclosed }
 {
-    let Ok(parts) = play(rt, alloc, parts, rounds, workers) else {
-        return Err(ReplayError::NoMemory);
-    };
-    match close_all(rt, alloc, parts) {
-        Ok(closed) => Ok(closed),
+    match play(rt, alloc, parts, rounds, workers) {
+        Ok(parts) => close_all(rt, alloc, parts),
         Err(_) => Err(ReplayError::NoMemory),
     }
 }
@@ -105,7 +140,7 @@ pub(crate) fn play_all<N: Naming + Send + Sync, T: Threads + Wait + Sync>(
     requires workers { (0 < workers) × (workers ≤ 16) }
     requires rows { length rows.items ≡ 8 * host.now }
     ensures ok { IfOk result (λ closed. AreAttended rows.items closed.sheets.items closed.stubs.items) }
-    ensures err { IfErr result (λ e. IsUnopened host.now e) }
+    ensures err { IfErr result (λ e. IsUnplayed host.now e) }
 {
     let rounds = longest(rows.as_slice());
     match attach_all(rt, alloc, host, rows) {

@@ -17,7 +17,7 @@ pub enum ReplayError {
     BadLine { line: u64 },
     /// The session is open already, or its tenant's trail is full.
     Attach { tenant: u32, session: SessionId },
-    /// The receipts of the sessions don't agree with the trails.
+    /// The receipts of the sessions don't agree with the trails, or those of a session don't stand in its order.
     Finish(FinishError),
     NoMemory,
 }

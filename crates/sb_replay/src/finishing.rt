@@ -1,32 +1,21 @@
 //! The host is finished, and the text of the replay made.
-ghost use Rattle.std.specs.Prelude.{◌≡◌, ◌++◌, ◌<◌, nat_le, MatchBool, IfErr, IfOk, IfSome, OnOk, length};
+ghost use Rattle.std.specs.Prelude.{◌≡◌, ◌++◌, ◌<◌, nat_le, MatchBool, IfErr, IfOk, OnOk, length};
 ghost use Rattle.std.specs.List.{All};
 ghost use Rattle.sb_tenant.specs.Limits.{trail_limit};
 ghost use Rattle.sb_host.specs.Finish.{row_at};
-ghost use Rattle.sb_replay.specs.Replay.{DeniesFull, IsFullBy, IsUnfinished, Reports, replay_text, steps_in};
+ghost use Rattle.sb_replay.specs.Replay.{DeniesFull, IsFullBy, IsUnfinished, Reports, replay_text};
 ghost use Rattle.sb_replay.specs.Sheets.{texts_of};
 
 use crate::closing::Closed;
 use crate::error::ReplayError;
 use crate::sheet::Sheet;
-use sb_host::{FinishError, Host, Naming};
+use sb_host::{FinishError, Host, Naming, Report};
 use sb_tenant::Entry;
 use sb_wire::write_totals;
 use std::alloc::{AllocError, Global};
 
 /// A trail of so many entries takes no more but the `end` of open sessions.
 const TRAIL_LIMIT: usize = 65_536;
-
-/// How many steps these trails have, if that is a number.
-fn steps_of(trails: &[Vec<Entry>]) -> Option<u64>
-    ensures { IfSome result (λ steps. steps ≡ steps_in trails.now) }
-{
-    let Some((first, others)) = trails.split_first() else {
-        return Some(0);
-    };
-    let steps = steps_of(others)?;
-    steps.checked_add(first.len() as u64)
-}
 
 /// Whether a tenant's trail is full.
 fn has_full_trail(trails: &[Vec<Entry>], tenant: u32) -> bool
@@ -74,17 +63,17 @@ fn add_text(text: &mut Vec<u8>, sheet: Sheet) -> Result<(), AllocError>
 }
 
 /// The text of all sessions, and the line that tells of the trails.
-fn text_of(alloc: Global, sheets: Vec<Sheet>, trails: &[Vec<Entry>]) -> Result<Vec<u8>, AllocError>
-    ensures { IfOk result (λ text. text.items ≡ replay_text (texts_of sheets.items) trails.now) }
+fn text_of(alloc: Global, sheets: Vec<Sheet>, report: &Report) -> Result<Vec<u8>, AllocError>
+    ensures { IfOk result (λ text. text.items ≡ replay_text (texts_of sheets.items) report.now.trails.items) }
 {
-    let Some(steps) = steps_of(trails) else {
+    let Some(steps) = report.steps() else {
         return Err(AllocError);
     };
     let mut text = Vec::new(alloc);
     for sheet in sheets {
         add_text(&mut text, sheet)?;
     }
-    write_totals(&mut text, trails.len() as u64, steps)?;
+    write_totals(&mut text, report.trails.len() as u64, steps)?;
     Ok(text)
 }
 
@@ -105,7 +94,7 @@ pub(crate) fn finish<N: Naming>(
     if let Err(error) = check_full(sheets.as_slice(), report.trails.as_slice()) {
         return Err(ReplayError::Finish(error));
     }
-    match text_of(alloc, sheets, report.trails.as_slice()) {
+    match text_of(alloc, sheets, &report) {
         Ok(text) => Ok(text),
         Err(_) => Err(ReplayError::NoMemory),
     }

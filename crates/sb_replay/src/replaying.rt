@@ -7,6 +7,7 @@ ghost use Rattle.sb_replay.specs.Replay.{Fails, Replays};
 use crate::closing::play_all;
 use crate::error::{ReplayError, unread};
 use crate::finishing::finish;
+use sb_host::laws::steps_fix_the_order;
 use sb_host::{Host, Naming};
 use sb_script::read_script;
 use sb_wire::{Sink, Source, write_bytes};
@@ -41,6 +42,7 @@ pub fn replay<R: Source, W: Sink, N: Naming + Send + Sync, T: Threads + Wait + S
         Ok(text) => text,
         Err(error) => return Err(error),
     };
+    steps_fix_the_order();
     write_out(writer, text.as_slice())
 }
 

@@ -15,7 +15,7 @@ returns-clause-ok g c =
     let closed = c.in-Ok-play_all.closed in
     let text = c.in-Ok-finish.text.items in
     let script = subst (λ (n : ℕ). IfSome input (λ bytes. HoldsScript n bytes rows)) c.tenants.ensures c.in-Ok.ensures.ok in
-    let replays = replays_known c.args.host g.N.Naming.bound input text rows closed.sheets.items closed.stubs.items script c.in-Ok-play_all.ensures.ok c.in-Ok-finish.ensures.ok in
+    let replays = replays_known c.args.host g.N.Naming.bound input text rows closed.sheets.items closed.stubs.items c.steps_fix_the_order.ensures script c.in-Ok-play_all.ensures.ok c.in-Ok-finish.ensures.ok in
     let writes = c.write_out.ensures.writes in
     on_ok_weaker c.write_out.result
     (λ none.
@@ -30,7 +30,7 @@ returns-clause-err g c =
     let closed = c.in-Ok-play_all.closed in
     let text = c.in-Ok-finish.text.items in
     let script = subst (λ (n : ℕ). IfSome input (λ bytes. HoldsScript n bytes rows)) c.tenants.ensures c.in-Ok.ensures.ok in
-    let replays = replays_known c.args.host g.N.Naming.bound input text rows closed.sheets.items closed.stubs.items script c.in-Ok-play_all.ensures.ok c.in-Ok-finish.ensures.ok in
+    let replays = replays_known c.args.host g.N.Naming.bound input text rows closed.sheets.items closed.stubs.items c.steps_fix_the_order.ensures script c.in-Ok-play_all.ensures.ok c.in-Ok-finish.ensures.ok in
     let writes = c.write_out.ensures.writes in
     not_written c.write_out.result _ _ c.write_out.ensures.fault c.write_out.ensures.refused
     (λ refused. (text, writes.0, writes.1, replays, sym c.as_slice.ensures.value ∙ writes.2, writes.3, refused))
