@@ -1,14 +1,9 @@
 -- What a server tells in its last line.
-use Rattle.std.specs.Prelude.{ℕ, ◌≡◌, ◌+◌, ◌++◌, List, [], ◌∷◌, length, codes, decimal, Vec}
+use Rattle.std.specs.Prelude.{ℕ, ◌≡◌, ◌++◌, List, length, codes, decimal, Vec}
 use Rattle.std.specs.Global.{Global}
 use Rattle.sb_tenant.specs.declared.reply.Entry.{Entry}
 use Rattle.sb_wire.specs.Counts.{totals_line}
-use Rattle.sb_host.specs.Finish.{AreTrails}
-
--- how many steps there are in all trails
-abbrev pub steps_in : List (Vec Entry Global) → ℕ
-steps_in [] = 0
-steps_in (trail ∷ trails) = length trail.items + steps_in trails
+use Rattle.sb_host.specs.Finish.{AreTrails, steps_in}
 
 -- there is a legal trail for each tenant, and the line tells how many they are and how many steps they have
 abbrev pub TellsTrails : ℕ → ℕ → List ℕ → Type 0

@@ -1,37 +1,26 @@
 //! The end of a server: its host is finished, and the trails are counted.
-ghost use Rattle.std.specs.Prelude.{◌≡◌, List, ℕ, IfOk, IfSome, OnOk, length};
+ghost use Rattle.std.specs.Prelude.{◌≡◌, List, ℕ, IfOk, OnOk, length};
 ghost use Rattle.std.specs.Io.KnownBytes.{Appends};
 ghost use Rattle.sb_wire.specs.Counts.{totals_line};
+ghost use Rattle.sb_host.specs.Finish.{steps_in};
 ghost use Rattle.sb_service.specs.Faults.{unfinished_as};
-ghost use Rattle.sb_service.specs.Totals.{TellsTrails, steps_in};
+ghost use Rattle.sb_service.specs.Totals.{TellsTrails};
 
 use crate::fault::Fault;
 use crate::lines::write_line;
-use sb_host::{FinishError, Host, Naming, Stub};
-use sb_tenant::Entry;
+use sb_host::{FinishError, Host, Naming, Report, Stub};
 use sb_wire::{Sink, StreamError, write_totals};
 use std::alloc::{AllocError, Global};
 
-/// How many steps these trails have, if that is a number.
-fn steps_of(trails: &[Vec<Entry>]) -> Option<u64>
-    ensures { IfSome result (λ steps. steps ≡ steps_in trails.now) }
+/// The line that tells of the trails.
+fn totals(alloc: Global, report: &Report) -> Result<Vec<u8>, AllocError>
+    ensures { IfOk result (λ line. line.items ≡ totals_line (length report.now.trails.items) (steps_in report.now.trails.items)) }
 {
-    let Some((first, others)) = trails.split_first() else {
-        return Some(0);
-    };
-    let steps = steps_of(others)?;
-    steps.checked_add(first.len() as u64)
-}
-
-/// The line that tells of these trails.
-fn totals(alloc: Global, trails: &[Vec<Entry>]) -> Result<Vec<u8>, AllocError>
-    ensures { IfOk result (λ line. line.items ≡ totals_line (length trails.now) (steps_in trails.now)) }
-{
-    let Some(steps) = steps_of(trails) else {
+    let Some(steps) = report.steps() else {
         return Err(AllocError);
     };
     let mut line = Vec::new(alloc);
-    write_totals(&mut line, trails.len() as u64, steps)?;
+    write_totals(&mut line, report.trails.len() as u64, steps)?;
     Ok(line)
 }
 
@@ -67,7 +56,7 @@ pub(crate) fn finish<N: Naming, W: Sink>(
         Ok(report) => report,
         Err(error) => return Err(fault_of(error)),
     };
-    let Ok(line) = totals(alloc, report.trails.as_slice()) else {
+    let Ok(line) = totals(alloc, &report) else {
         return Err(Fault::Stream(StreamError::NoMemory));
     };
     match write_line(writer, line.as_slice()) {
