@@ -1,5 +1,5 @@
 //! Tenants that are served one step at a time, over one log and one index.
-ghost use Rattle.std.specs.Prelude.{◌≡◌, ◌≤◌, ◌<◌, ◌+◌, ◌*◌, ◌==◌, ◌%◌, ◌&&◌, ℕ, true, false, nat_le, nat_lt, Ok, Some, IfOk, OnErr, IsTrue, MatchOption, All, codes, length, option_copied, option_map};
+ghost use Rattle.std.specs.Prelude.{◌≡◌, ◌≤◌, ◌<◌, ◌+◌, ◌*◌, ◌==◌, ◌%◌, ◌&&◌, ℕ, true, false, nat_le, nat_lt, Ok, Some, IfOk, IfSome, OnErr, IsTrue, MatchOption, All, codes, length, option_copied, option_map};
 ghost use Rattle.sb_tenant.specs.declared.reply.Reply.TheVariants as told;
 ghost use Rattle.sb_tenant.specs.Limits.{trail_limit};
 ghost use Rattle.sb_tenant.specs.Trail.{IsTrail};
@@ -106,15 +106,6 @@ impl Cell {
         tenant % self.stride == self.first && ((tenant / self.stride) as usize) < self.tenants.len()
     }
 
-    /// Has a line of a tenant at hand: the entry of the tenant's next step shares its bytes where it is of the same line.
-    pub fn offer_line(&mut self, tenant: u32, line: Line)
-        requires { hosts self.old tenant ≡ true }
-        ensures { self.new ≡ self.old }
-    {
-        let place = (tenant / self.stride) as usize;
-        self.tenants[place].offer_line(line);
-    }
-
     /// Makes a step of a line of a tenant's session.
     pub fn step(
         &mut self,
@@ -123,6 +114,38 @@ impl Cell {
         session: u32,
         line: &[u8],
     ) -> Result<Answer, StepError>
+        ensures step { AnswersEvent self.old tenant session line.now result self.new }
+        ensures same { IsSame self.old self.new }
+        ensures err { OnErr result (self.new ≡ self.old) }
+    {
+        self.step_with(alloc, tenant, session, line, None)
+    }
+
+    /// The same, where the line is in memory already: its entry shares its bytes.
+    pub fn step_line(
+        &mut self,
+        alloc: Global,
+        tenant: u32,
+        session: u32,
+        line: &Line,
+    ) -> Result<Answer, StepError>
+        ensures step { AnswersEvent self.old tenant session line.now result self.new }
+        ensures same { IsSame self.old self.new }
+        ensures err { OnErr result (self.new ≡ self.old) }
+    {
+        self.step_with(alloc, tenant, session, line.as_slice(), Some(line))
+    }
+
+    /// Makes a step of a line, whose entry shares the bytes of `own`, if there is one.
+    fn step_with(
+        &mut self,
+        alloc: Global,
+        tenant: u32,
+        session: u32,
+        line: &[u8],
+        own: Option<&Line>,
+    ) -> Result<Answer, StepError>
+        requires own { IfSome own (λ l. l.now ≡ line.now) }
         ensures step { AnswersEvent self.old tenant session line.now result self.new }
         ensures same { IsSame self.old self.new }
         ensures err { OnErr result (self.new ≡ self.old) }
@@ -136,7 +159,7 @@ impl Cell {
         trails_are_bounded();
         let place = (tenant / self.stride) as usize;
         let session = SessionId::new(session as u8);
-        match self.tenants[place].step(alloc, &mut self.log, &mut self.index, session, line) {
+        match self.tenants[place].step(alloc, &mut self.log, &mut self.index, session, line, own) {
             Ok(answer) => Ok(answer),
             Err(_) => Err(StepError::NotBegun),
         }

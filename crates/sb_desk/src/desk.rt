@@ -142,7 +142,6 @@ impl<N: Naming, const FIRST: u32> Desk<N, FIRST> {
             return Err(CallError::Ended);
         }
         self.find_open(r, table, cells);
-        self.offer(r);
         let tenant = r.tenant();
         let session = r.session();
         let Some(line) = r.ready() else {
@@ -150,7 +149,7 @@ impl<N: Naming, const FIRST: u32> Desk<N, FIRST> {
         };
         let Ok(answer) = self
             .cell
-            .step(alloc, tenant, session.number() as u32, line.as_slice())
+            .step_line(alloc, tenant, session.number() as u32, line)
         else {
             return Err(CallError::NotBegun);
         };
@@ -190,19 +189,6 @@ impl<N: Naming, const FIRST: u32> Desk<N, FIRST> {
         };
         let at = seat_place(tenant, session, cells);
         self.seats[at] = Some(r.note_end(&mut self.share, number));
-    }
-
-    /// Has the line that is ready at hand for its entry, if there is memory to share it.
-    fn offer(&mut self, r: &Receipts<N>)
-        requires hosted { hosts self.old r.now.tenant ≡ true }
-        ensures { self.new ≡ self.old }
-    {
-        let Some(line) = r.ready() else {
-            return;
-        };
-        if let Ok(shared) = line.share() {
-            self.cell.offer_line(r.tenant(), shared);
-        }
     }
 
     /// For the proof: a session that holds its seat is open, or the desk would have a second one.

@@ -6,7 +6,7 @@ ghost use Rattle.sb_desk.specs.Seats.{IsSeat, number_of};
 
 use crate::naming::Naming;
 use crate::seats::SessionSeat;
-use sb_tenant::{Answer, Line, Reply};
+use sb_tenant::{Answer, KnownLines, Line, Reply};
 use sb_value::SessionId;
 use std::alloc::{AllocError, Global};
 use std::marker::Model;
@@ -42,6 +42,7 @@ pub struct Receipts<N: Naming> {
     list: Vec<Receipt>,
     share: Share<N>,
     opening: Option<Opening>,
+    known: KnownLines,
     ready: Option<Line>,
     newest: Newest,
 }
@@ -114,9 +115,9 @@ impl<N: Naming> Receipts<N> {
         ensures ok { OnOk result (self.new ≡ prepared self.old line.now) }
         ensures err { OnErr result (self.new ≡ self.old) }
     {
-        let copy = Line::new(alloc, line)?;
+        let line = self.known.line(alloc, line)?;
         self.list.reserve(2)?;
-        self.ready = Some(copy);
+        self.ready = Some(line);
         Ok(())
     }
 
@@ -214,6 +215,7 @@ pub(crate) struct Room {
     pub(crate) list: Vec<Receipt>,
     pub(crate) first: Line,
     pub(crate) end: Line,
+    pub(crate) known: KnownLines,
 }
 
 impl Room {
@@ -227,6 +229,7 @@ impl Room {
             list,
             first: Line::new(alloc, b"open")?,
             end: Line::new(alloc, b"end")?,
+            known: KnownLines::new(alloc),
         })
     }
 
@@ -250,6 +253,7 @@ impl Room {
             mut list,
             first,
             end,
+            known,
         } = self;
         list.push_reserved(Receipt {
             line: first,
@@ -261,6 +265,7 @@ impl Room {
             list,
             share,
             opening: Some(Opening { seat, end }),
+            known,
             ready: None,
             newest: Newest::Nothing,
         }

@@ -20,5 +20,6 @@ mod tenant;
 mod told;
 mod work;
 
+pub use lines::KnownLines;
 pub use reply::{Answer, Entry, Line, NamedTrace, Reply, SharedRows};
 pub use tenant::{NotBegun, Tenant};

@@ -1,5 +1,4 @@
-//! The lines of a trail. Short ones come again and again, so their bytes are kept once, and one that its session has in
-//! memory already is shared with it.
+//! Short lines come again and again, so their bytes are kept once.
 ghost use Rattle.std.specs.Prelude.{◌≡◌, IfOk};
 
 use crate::reply::Line;
@@ -11,42 +10,22 @@ const SHORT: usize = 12;
 /// How many lines are kept.
 const KEPT: usize = 4;
 
-/// The short lines that came first, and the line that was offered last.
+/// The first short lines that came: such as `begin` and `commit`, of at most 12 bytes.
 #[derive(Drop)]
-pub(crate) struct KnownLines {
+pub struct KnownLines {
     lines: Vec<Line>,
-    offered: Option<Line>,
 }
 
 impl KnownLines {
     /// No line.
-    pub(crate) fn new(alloc: Global) -> KnownLines {
+    pub fn new(alloc: Global) -> KnownLines {
         KnownLines {
             lines: Vec::new(alloc),
-            offered: None,
         }
-    }
-
-    /// Has this line at hand, in place of the one that was offered before.
-    pub(crate) fn offer(&mut self, line: Line) {
-        self.offered = Some(line);
-    }
-
-    /// A line with these bytes: the one that was offered, or one that shares its bytes with an earlier one where that was
-    /// kept.
-    pub(crate) fn line(&mut self, alloc: Global, bytes: &[u8]) -> Result<Line, AllocError>
-        ensures { IfOk result (λ line. line ≡ bytes.now) }
-    {
-        if let Some(line) = self.offered.take() {
-            if line.as_slice() == bytes {
-                return Ok(line);
-            }
-        }
-        self.kept(alloc, bytes)
     }
 
     /// A line with these bytes, which it shares with an earlier one where that was kept.
-    fn kept(&mut self, alloc: Global, bytes: &[u8]) -> Result<Line, AllocError>
+    pub fn line(&mut self, alloc: Global, bytes: &[u8]) -> Result<Line, AllocError>
         ensures { IfOk result (λ line. line ≡ bytes.now) }
     {
         if bytes.len() > SHORT {

@@ -1,5 +1,5 @@
 //! A tenant: its steps, each with its answer and its entry in the trail.
-ghost use Rattle.std.specs.Prelude.{◌≡◌, ◌≤◌, ◌<◌, ◌^◌, ◌++◌, ◌∷◌, [], ◌+◌, ℕ, List, true, false, IfOk, OnErr, OnOk, Some, nat_le, codes, length, vec_len, vec_capacity, option_copied, option_map};
+ghost use Rattle.std.specs.Prelude.{◌≡◌, ◌≤◌, ◌<◌, ◌^◌, ◌++◌, ◌∷◌, [], ◌+◌, ℕ, List, true, false, IfOk, IfSome, OnErr, OnOk, Some, nat_le, codes, length, vec_len, vec_capacity, option_copied, option_map};
 ghost use Rattle.sb_index.specs.TableSets.{TableSets};
 ghost use Rattle.sb_rawlog.specs.Records.{Record};
 ghost use Rattle.sb_tenant.specs.declared.reply.Reply.TheVariants as told;
@@ -121,15 +121,8 @@ impl Tenant {
         self.store.database.tables.by_name(name)
     }
 
-    /// Has a line at hand: the entry of the next step shares its bytes where it is of the same line.
-    pub fn offer_line(&mut self, line: Line)
-        ensures { self.new ≡ self.old }
-    {
-        self.known_lines.offer(line);
-    }
-
     /// Makes a step of the line, or is refused by the full trail. Where memory runs out before the
-    /// step has begun, nothing changes.
+    /// step has begun, nothing changes. The entry shares the bytes of `own`, where the line is in memory already.
     pub fn step<L: ChangeLog>(
         &mut self,
         alloc: Global,
@@ -137,7 +130,9 @@ impl Tenant {
         index: &mut RuleIndex,
         session: SessionId,
         line: &[u8],
+        own: Option<&Line>,
     ) -> Result<Answer, NotBegun>
+        requires own { IfSome own (λ l. l.now ≡ line.now) }
         requires in_step { InStep self.old (L.records log.old) (L.clock log.old) index.old }
         requires times { L.clock log.old < 2 ^ 63 }
         ensures ok { IfOk result (λ answer. AnswersLine self.old session line.now answer self.new) }
@@ -157,7 +152,7 @@ impl Tenant {
                 reply: Reply::No(Refusal::TrailFull),
             });
         }
-        self.enter(alloc, log, index, session, line)
+        self.enter(alloc, log, index, session, line, own)
     }
 
     /// Makes the step `open`.
@@ -177,6 +172,7 @@ impl Tenant {
             &mut self.end_lines,
             &mut self.known_lines,
             OPEN,
+            None,
         )?;
         self.store.open(session);
         let entry = Entry {
@@ -228,7 +224,9 @@ impl Tenant {
         index: &mut RuleIndex,
         session: SessionId,
         line: &[u8],
+        own: Option<&Line>,
     ) -> Result<Answer, NotBegun>
+        requires own { IfSome own (λ l. l.now ≡ line.now) }
         requires in_step { InStep self.old (L.records log.old) (L.clock log.old) index.old }
         requires times { L.clock log.old < 2 ^ 63 }
         requires room { is_full_for (state self.old) session line.now ≡ false }
@@ -246,6 +244,7 @@ impl Tenant {
             &mut self.end_lines,
             &mut self.known_lines,
             line,
+            own,
         )?;
         let (reply, copy) = self
             .store
@@ -270,14 +269,16 @@ fn in_range(session: SessionId)
 }
 
 /// Has what a step needs before it begins: a place for its entry, a place and a line for the end of
-/// each session, and a copy of the line.
+/// each session, and the line.
 fn make_ready(
     alloc: Global,
     trail: &mut Vec<Entry>,
     end_lines: &mut EndLines,
     known_lines: &mut KnownLines,
     line: &[u8],
+    own: Option<&Line>,
 ) -> Result<Line, NotBegun>
+    requires own { IfSome own (λ l. l.now ≡ line.now) }
     ensures items { trail.new.items ≡ trail.old.items }
     ensures len { vec_len trail.new ≡ vec_len trail.old }
     ensures capacity { vec_capacity trail.old ≤ vec_capacity trail.new }
@@ -289,10 +290,11 @@ fn make_ready(
     if trail.reserve(1 + SESSION_LIMIT).is_err() || end_lines.fill(alloc, SESSION_LIMIT).is_err() {
         return Err(NotBegun);
     }
-    match known_lines.line(alloc, line) {
-        Ok(kept) => Ok(kept),
-        Err(_) => Err(NotBegun),
-    }
+    let kept = match own {
+        Some(line) => line.share(),
+        None => known_lines.line(alloc, line),
+    };
+    kept.map_err(|_| NotBegun)
 }
 
 /// Puts an entry behind the others, where there is a place for it, and gives its number.

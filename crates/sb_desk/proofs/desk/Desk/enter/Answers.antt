@@ -25,7 +25,7 @@ numbered (Some n) b h e = (n, refl)
 -- the step wasn't begun
 pub invariant_of-self : goal.invariant_of-self
 invariant_of-self g c =
-    let desk = unbegun _ _ _ _ _ c.tenant-tenant.result c.number.result _ c.self.invariant.2 c.self.invariant.0 (own _ _ _ _ _ c.tenant-tenant.ensures.is c.find_open.ensures.same.1 c.requires.own) c.tenant-tenant.ensures.below c.number.ensures.in_range c.in_default-step.field-0 c.in_default-step.ensures.step in
+    let desk = unbegun _ _ _ _ _ c.tenant-tenant.result c.number.result _ c.self.invariant.2 c.self.invariant.0 (own _ _ _ _ _ c.tenant-tenant.ensures.is c.find_open.ensures.same.1 c.requires.own) c.tenant-tenant.ensures.below c.number.ensures.in_range c.in_default-step_line.field-0 c.in_default-step_line.ensures.step in
     (c.self.invariant.0, c.self.invariant.1, desk)
 
 -- the trail is full
@@ -45,7 +45,7 @@ invariant_of-self-then-not-is_open-2 g c =
     let t = c.tenant-tenant.result in
     let s = c.session-session.result in
     let mine = own _ _ _ _ _ c.tenant-tenant.ensures.is c.find_open.ensures.same.1 c.requires.own in
-    let did = subst (λ (x : ℕ). AnswersEvent c.self.inside.cell t x c.as_slice.result.now (Ok c.in-Ok.answer) c.step.new.self) c.number.ensures.value c.in-Ok.ensures.step in
+    let did = subst (λ (x : ℕ). AnswersEvent c.self.inside.cell t x c.in-Some.line.now (Ok c.in-Ok.answer) c.step_line.new.self) c.number.ensures.value c.in-Ok.ensures.step in
     let has = numbered _ _ c.is_none.ensures c.if-is_none.false in
     let shut = sym c.is_open.ensures ∙ c.if-not-is_open.true in
     let place = c.seat_place-at.ensures ∙ ap (λ (n : ℕ). 8 * (t / n) + s) c.requires.cells in
@@ -63,10 +63,10 @@ invariant_of-self-else-not-is_open g c =
     let r = c.find_open.ensures.same.1 in
     let tenant = c.tenant-tenant.ensures.is ∙ ap (λ (r : Receipts). r.tenant) r in
     let session = c.session-session.ensures.is ∙ ap (λ (r : Receipts). r.session) r in
-    let cell = c.self.view_is ∙ c.offer.ensures ∙ c.find_open.ensures.same.0 in
+    let cell = c.self.view_is ∙ c.find_open.ensures.same.0 in
     let up : open_in c.self.inside.cell t s ≡ true = (λ i. open_in (cell i) (tenant i) (session i)) ∙ c.find_open.ensures.open in
     let mine = own _ _ _ _ _ c.tenant-tenant.ensures.is r c.requires.own in
-    let did = subst (λ (x : ℕ). AnswersEvent c.self.inside.cell t x c.as_slice.result.now (Ok c.in-Ok.answer) c.step.new.self) c.number.ensures.value c.in-Ok.ensures.step in
+    let did = subst (λ (x : ℕ). AnswersEvent c.self.inside.cell t x c.in-Some.line.now (Ok c.in-Ok.answer) c.step_line.new.self) c.number.ensures.value c.in-Ok.ensures.step in
     let has = numbered _ _ c.is_none.ensures c.if-is_none.false in
     let desk = still_open _ _ _ _ _ t s _ c.self.invariant.2 c.self.invariant.0 mine c.tenant-tenant.ensures.below c.session-session.ensures.below c.in-Ok.answer has.0 did has.1 c.entries_open_and_close.ensures.others _ c.note.ensures.part up (sym c.is_open.ensures ∙ c.if-not-is_open.false) in
     (c.self.invariant.0, c.self.invariant.1, desk)
@@ -79,16 +79,16 @@ returns-then-not-is_open-clause-ok g c =
     let r = c.find_open.ensures.same.1 in
     let tenant = c.tenant-tenant.ensures.is ∙ ap (λ (r : Receipts). r.tenant) r in
     let session = c.session-session.ensures.is ∙ ap (λ (r : Receipts). r.session) r in
-    let cell = c.self.view_is ∙ c.offer.ensures ∙ c.find_open.ensures.same.0 in
+    let cell = c.self.view_is ∙ c.find_open.ensures.same.0 in
     let up : open_in c.self.inside.cell t s ≡ true = (λ i. open_in (cell i) (tenant i) (session i)) ∙ c.find_open.ensures.open in
     let mine = own _ _ _ _ _ c.tenant-tenant.ensures.is r c.requires.own in
     let line = c.note.ensures.note.0 in
-    let line_is : c.as_slice.result.now ≡ line = c.as_slice.ensures ∙ same_Some c.in-Some.line.now line (sym c.in-Some.ensures ∙ c.note.ensures.note.1) in
-    let did : AnswersEvent c.self.inside.cell t s line (Ok c.in-Ok.answer) c.step.new.self = subst (λ (x : ℕ × List ℕ). AnswersEvent c.self.inside.cell t x.0 x.1 (Ok c.in-Ok.answer) c.step.new.self) (λ i. (c.number.ensures.value i, line_is i)) c.in-Ok.ensures.step in
+    let line_is : c.in-Some.line.now ≡ line = same_Some c.in-Some.line.now line (sym c.in-Some.ensures ∙ c.note.ensures.note.1) in
+    let did : AnswersEvent c.self.inside.cell t s line (Ok c.in-Ok.answer) c.step_line.new.self = subst (λ (x : ℕ × List ℕ). AnswersEvent c.self.inside.cell t x.0 x.1 (Ok c.in-Ok.answer) c.step_line.new.self) (λ i. (c.number.ensures.value i, line_is i)) c.in-Ok.ensures.step in
     let has = numbered _ _ c.is_none.ensures c.if-is_none.false in
     let shut = sym c.is_open.ensures ∙ c.if-not-is_open.true in
     let closing : closes line c.in-Ok.answer.reply ≡ true = not-false _ (sym (closed_by _ _ _ _ _ t s _ c.self.invariant.2 c.self.invariant.0 mine c.tenant-tenant.ensures.below c.session-session.ensures.below c.in-Ok.answer has.0 did has.1 c.entries_open_and_close.ensures.own up) ∙ shut) in
-    let after_is : c.match-index_mut.self ≡ c.step.new.self = elim c.match-index_mut.branch [ in-Some-1 w ↦ w.self-is | in-None-1 w ↦ w.self-is ] in (
+    let after_is : c.match-index_mut.self ≡ c.step_line.new.self = elim c.match-index_mut.branch [ in-Some-1 w ↦ w.self-is | in-None-1 w ↦ w.self-is ] in (
       line,
       c.in-Ok.answer,
       sym c.ended.ensures ∙ c.if-ended.false,

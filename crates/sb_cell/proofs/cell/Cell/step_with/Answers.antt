@@ -11,8 +11,8 @@ use Rattle.sb_cell.specs.contracts.cell.Cell.{the_view}
 use Rattle.sb_cell.specs.Tenants.{Cell, AnswersEvent, hosts}
 use Rattle.sb_cell.proofs.Hosted.{read_at}
 use Rattle.sb_cell.proofs.Cells.{after_hosted, answered, clock_low, event, unbegun}
-use Rattle.sb_cell.proofs.cell.Cell.step.Goals.{in-Ok, in-Err}
-use Rattle.sb_cell.proofs.cell.Cell.step.Goals as goal
+use Rattle.sb_cell.proofs.cell.Cell.step_with.Goals.{in-Ok, in-Err}
+use Rattle.sb_cell.proofs.cell.Cell.step_with.Goals as goal
 
 pub step-requires-clause-in_step : goal.step-requires-clause-in_step
 step-requires-clause-in_step c =
