@@ -9,6 +9,8 @@ use Rattle.std.proofs.sync.Mutex.TheSendSync as mutex
 use Rattle.std.specs.contracts.sync.Mutex as Mutex
 use Rattle.std.specs.contracts.option.Option as Option
 use Rattle.std.proofs.sync.ledger.Share.TheSendSync as share
+use Rattle.crossbeam_utils.proofs.cache_padded.CachePadded.TheSendSync as padded
+use Rattle.crossbeam_utils.specs.contracts.cache_padded.CachePadded as CachePadded
 use Rattle.atomic_table.proofs.shared.Seat.TheSendSync as seat
 use Rattle.atomic_table.proofs.owned.Table.TheSendSync as seats
 use Rattle.sb_value.proofs.value.Value.TheSendSync as value
@@ -112,8 +114,11 @@ module _ (N : RattleType) (n : naming.Ghosts N.Denot) (l : ledger.Ghosts N.Denot
   lock_sync : (F : RattleType) → IsSync (Mutex.the_row (Desk.the_row N F n l))
   lock_sync F = search (sendable, crosses, desk_send, mutex.the_sync) depth 40
 
-  held_sync : (F : RattleType) → IsSync (Option.the_field (Mutex.the_row (Desk.the_row N F n l))).row
-  held_sync F = search (sendable, crosses, lock_sync, option.the_field_sync) depth 40
+  padded_sync : (F : RattleType) → IsSync (CachePadded.the_row (Mutex.the_row (Desk.the_row N F n l)))
+  padded_sync F = search (sendable, crosses, lock_sync, padded.the_sync) depth 40
+
+  held_sync : (F : RattleType) → IsSync (Option.the_field (CachePadded.the_row (Mutex.the_row (Desk.the_row N F n l)))).row
+  held_sync F = search (sendable, crosses, padded_sync, option.the_field_sync) depth 40
 
   pub host_sync : IsSync (Host.the_row N n l)
   host_sync = view_sync (host.the_row N n l) _ _ _ _ (search (sendable, crosses, frees, send, sync, held_sync, seats.the_field_sync) depth 40)

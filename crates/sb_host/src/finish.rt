@@ -135,7 +135,8 @@ fn put<N: Naming, const F: u32>(trails: &mut Vec<Vec<Entry>>, lock: Lock<N, F>)
     ensures { AreTrails N.bound N.tenants trails.new.items }
 {
     if let Some(lock) = lock {
-        put_all(trails, lock.into_inner().into_cell().into_tenants());
+        let desk = lock.into_inner().into_inner();
+        put_all(trails, desk.into_cell().into_tenants());
     }
 }
 

@@ -3,14 +3,16 @@ ghost use Rattle.std.specs.Prelude.{◌≡◌, ◌<◌, ◌≤◌, ◌%◌, true
 ghost use Rattle.sb_host.specs.Calls.{Called, IsNewcomer, IsLate, Left, Refused};
 
 use crate::gate::Gate;
+use crossbeam_utils::CachePadded;
 use sb_desk::seats::SeatTable;
 use sb_desk::{AttachError, CallError, Desk, Naming, Receipts};
 use sb_value::SessionId;
 use std::alloc::Global;
 use std::sync::{Mutex, Wait};
 
-/// The lock of the cell `F`, which a host with fewer cells hasn't.
-pub(crate) type Lock<N, const F: u32> = Option<Mutex<Desk<N, F>>>;
+/// The lock of the cell `F`, which a host with fewer cells hasn't. No other lock is on its cache lines, so threads at work in
+/// different cells don't wait for each other's.
+pub(crate) type Lock<N, const F: u32> = Option<CachePadded<Mutex<Desk<N, F>>>>;
 
 /// What every cell of a host is reached by: how many there are, and what the seats share.
 #[derive(Clone, Copy)]

@@ -6,6 +6,7 @@ ghost use Rattle.sb_host.specs.Opening.{left_at, left_in};
 
 use crate::host::Host;
 use crate::locks::Lock;
+use crossbeam_utils::CachePadded;
 use sb_cell::Cell;
 use sb_desk::seats::{SeatTable, Seats, SessionSeat, open_seats, split, split_block};
 use sb_desk::{Desk, Naming};
@@ -158,7 +159,7 @@ fn open_desk<N: Naming, const F: u32>(
         return None;
     }
     match desk_of(alloc, table, block, share, numbers) {
-        Ok(desk) => Some(Mutex::new(desk)),
+        Ok(desk) => Some(CachePadded::new(Mutex::new(desk))),
         Err(_) => {
             *well = false;
             None
