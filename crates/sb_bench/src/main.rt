@@ -9,6 +9,7 @@ mod lines;
 mod log;
 mod logs;
 
+use host::{Load, Times};
 use std::env;
 use std::io::{self, Read as _};
 use std::process::ExitCode;
@@ -112,21 +113,26 @@ fn time_often(rt: &HostRuntime, rounds: u32) -> io::Result<u32> {
     Ok(rounds)
 }
 
-/// Times hosts so often, and tells each time.
+/// Times hosts so often under each load, and tells each time.
 fn time_hosts<R: Threads + Wait + Clock + Sync>(
     rt: &HostRuntime,
     threads: &R,
     rounds: u32,
 ) -> io::Result<()> {
     for _ in 0..rounds {
-        let times = host::time_host(threads, rt.alloc())?;
-        let (step, call) = times.each();
-        println!(rt;
-            "step {step} ns, call {call} ns, one thread {} us, twice the calls on two {} us, check of them {} us",
-            times.call.as_micros(),
-            times.two.as_micros(),
-            times.check.as_micros()
-        )?;
+        let times = host::time_host(threads, rt.alloc(), Load::Transactions)?;
+        tell(rt, "transactions", times)?;
+        let times = host::time_host(threads, rt.alloc(), Load::Queries)?;
+        tell(rt, "queries", times)?;
     }
     Ok(())
+}
+
+/// Tells what calls took under a load.
+fn tell(rt: &HostRuntime, load: &str, times: Times) -> io::Result<()> {
+    let [step, call, two] = times.each();
+    let check = times.check.as_micros();
+    println!(rt;
+        "{load}: step {step} ns, call {call} ns, on two threads {two} ns, check of all {check} us"
+    )
 }
