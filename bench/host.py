@@ -4,12 +4,12 @@
     host.py [--runs N] [PROGRAM]
 
 PROGRAM is crates/sb_bench/out/sb_bench where no word is given; `rt ci` builds
-it. Each of N runs (15) is a process of its own, in which slices of steps, of
-calls on one thread and of the same calls on two take turns: of transactions
-of four lines, and of a query alone, which is one of the cheapest lines.
-Printed are the middle of all runs, with the least and the greatest: a step,
-what a call costs over it, how many times the calls of one thread two make in
-the same time, and the check of 100,000 receipts. The same follows with
+it. Each of N runs (15) is a process of its own: 50,000 steps of a cell, as
+many calls of one session, and as many of each of two sessions on two threads;
+of transactions of four lines, and of a query alone, which is one of the
+cheapest lines. Printed are the middle of all runs, with the least and the
+greatest: a step, what a call costs over it, how many times the calls of one
+thread two make in the same time, and the check of 100,008 receipts. The same follows with
 MALLOC_TOP_PAD_=16777216: the C library then lets its heaps grow in steps of
 16 MiB, and asks the system less often.
 """
