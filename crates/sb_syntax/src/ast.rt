@@ -3,7 +3,7 @@
 use sb_value::{Name, Value};
 
 /// A table by its name, or one of a rule's transition tables.
-#[derive(Clone, Copy, PartialEq, Eq)]
+#[derive(Clone, Copy)]
 pub enum TableReference {
     Named(Name),
     /// `inserted`: the rows that the transition inserted.
@@ -17,7 +17,7 @@ pub enum TableReference {
 }
 
 /// A column by its name, or of a source.
-#[derive(Clone, Copy, PartialEq, Eq)]
+#[derive(Clone, Copy)]
 pub enum ColumnReference {
     Plain(Name),
     /// `source.column`, where the source is an alias or a table of `from`.
@@ -25,14 +25,14 @@ pub enum ColumnReference {
 }
 
 /// A table in a query's `from`, with its alias.
-#[derive(Clone, Copy, PartialEq, Eq)]
+#[derive(Clone, Copy)]
 pub struct SourceReference {
     pub table: TableReference,
     pub alias: Option<Name>,
 }
 
 /// An operation of two integers.
-#[derive(Clone, Copy, Debug, PartialEq, Eq)]
+#[derive(Clone, Copy)]
 pub enum Arithmetic {
     Add,
     Subtract,
@@ -40,7 +40,7 @@ pub enum Arithmetic {
 }
 
 /// A comparison of two values.
-#[derive(Clone, Copy, Debug, PartialEq, Eq)]
+#[derive(Clone, Copy)]
 pub enum Comparison {
     Equal,
     NotEqual,

@@ -10,7 +10,7 @@ use std::alloc::{AllocError, AllocFailed};
 use std::marker::Model;
 
 /// A token: its kind, and where its bytes begin and end.
-#[derive(Clone, Copy, Debug, PartialEq, Eq)]
+#[derive(Clone, Copy)]
 pub struct Token {
     pub kind: Kind,
     pub start: u32,
@@ -18,7 +18,7 @@ pub struct Token {
 }
 
 /// Why nothing was read.
-#[derive(Clone, Copy, Debug, PartialEq, Eq)]
+#[derive(Clone, Copy)]
 pub enum Fault {
     Refused,
     NoMemory,
@@ -132,17 +132,16 @@ impl<'a> Cursor<'a> {
     }
 
     /// Takes the next token if it is of that kind, and says whether it did.
-    #[tactic(auto, unfolding(crate::specs::Reading::sees, crate::specs::Reading::next))]
     pub fn eat(&mut self, kind: Kind) -> bool
         ensures found { result ≡ spec.sees kind self.old }
         ensures after { self.new ≡ spec.after kind self.old }
         ensures shorter { length self.new ≤ length self.old }
     {
-        let found = self.sees(kind);
-        if found {
-            self.skip();
+        if !self.sees(kind) {
+            return false;
         }
-        found
+        self.skip();
+        true
     }
 
     /// Takes the next token, which has to be of that kind.

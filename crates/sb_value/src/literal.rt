@@ -71,10 +71,10 @@ fn unquoted(alloc: Global, quoted: &[u8]) -> Result<Option<Vec<u8>>, AllocError>
         text.push(byte)?;
         rest = tail;
     }
-    Ok(match rest {
-        [b'\''] => Some(text),
-        _ => None,
-    })
+    match rest {
+        [b'\''] => Ok(Some(text)),
+        _ => Ok(None),
+    }
 }
 
 /// The first byte of the text and what stands behind it, where that isn't its end.

@@ -1,9 +1,18 @@
-use Rattle.std.proofs.Common.{refl}
+use Rattle.std.proofs.Common.{refl, length, arith}
 use Rattle.std.proofs.lemmas.Result.{err_from_is_err_and}
 use Rattle.sb_syntax.specs.declared.kind.Kind.TheVariants.{Comma}
-use Rattle.sb_syntax.specs.Reading.{pushes, name}
+use Rattle.sb_syntax.specs.Reading.{pushes, name, names, separated}
 use Rattle.sb_syntax.proofs.Turns.{goes_on-next, goes_on-err, goes_on-end, seen_falls, pushes_yes, pushes_no}
 use Rattle.sb_syntax.proofs.literal.names.Goals as goal
+
+pub more-init : goal.more-init
+unfolding names separated
+more-init c = record {
+  turns = length c.name.new.tokens;
+  enough = omega arith;
+  same = rw (c.in_ok-first.ensures.0, c.in_ok-push.ensures.items, c.new-all.ensures.items) refl;
+  shorter = c.in_ok-first.ensures.1;
+}
 
 pub returns-in_err-item : goal.returns-in_err-item
 returns-in_err-item c =
