@@ -8,12 +8,14 @@ use Rattle.sb_value.specs.declared.value.ColumnType.TheVariants.{Int}
 use Rattle.sb_syntax.specs.Tree as text
 use Rattle.sb_syntax.specs.declared.ast.Comparison.{Comparison}
 use Rattle.sb_syntax.specs.declared.ast.SourceReference.{SourceReference}
+use Rattle.sb_check.specs.declared.tree.Items.{Items}
 use Rattle.sb_check.specs.declared.tree.Source.{Source}
 use Rattle.sb_check.specs.Condition.{Condition, Operand, always, disjunction, conjunction, negation, compare, is_in, exists, expression, answer, select}
 use Rattle.sb_check.specs.Names.{and_then, required, same_type, Scope, Visible}
 use Rattle.sb_check.specs.Parts.{condition_walk, operand_walk, filter_walk, query_walk}
 use Rattle.sb_check.specs.Sources.{seen_sources}
 use Rattle.sb_check.specs.Walk.{Schema, Walked, walk_expression, walk_items, walk_sources, is_aggregate, in_type, with_not}
+use Rattle.sb_check.proofs.Results.{regroup}
 
 module _ (schema : Schema) where
   pub walk_disjunction : (a b : text.Condition) (scope : Scope) → condition_walk schema (text.disjunction a b) scope ≡ and_then (condition_walk schema a scope) (λ x. and_then (condition_walk schema b scope) (λ y. Ok (disjunction x y)))
@@ -71,12 +73,16 @@ module _ (schema : Schema) where
 
   selects : (its : text.Items) (filter : Scope → Result Condition Refusal) (scope : Scope) (walk : Result (List (Source × Visible)) Refusal)
       → and_then walk (λ ss. and_then (walk_items (map (λ s. s.1) ss ∷ scope) (map (λ s. s.1) ss) its) (λ i. and_then {B = Walked} (filter (map (λ s. s.1) ss ∷ scope)) (λ c. Ok (select i.0 (map (λ s. s.0) ss) c, i.1))))
-      ≡ and_then (and_then {B = List Source × List Visible} walk (λ ss. Ok (map (λ s. s.0) ss, map (λ s. s.1) ss))) (λ p. and_then (walk_items (p.1 ∷ scope) p.1 its) (λ i. and_then {B = Walked} (filter (p.1 ∷ scope)) (λ c. Ok (select i.0 p.0 c, i.1))))
-  selects its filter scope (Ok ss) = refl
+      ≡ and_then (and_then {B = List Source × List Visible} walk (λ ss. Ok (map (λ s. s.0) ss, map (λ s. s.1) ss))) (λ p.
+      and_then {B = Walked} (and_then {B = (Items × List ColumnType) × Condition} (walk_items (p.1 ∷ scope) p.1 its) (λ i. and_then (filter (p.1 ∷ scope)) (λ c. Ok (i, c)))) (λ x. Ok (select x.0.0 p.0 x.1, x.0.1)))
+  selects its filter scope (Ok ss) =
+      let seen : List Visible = map (λ s. s.1) ss in
+      regroup (walk_items (seen ∷ scope) seen its) (filter (seen ∷ scope)) (λ i c. (select i.0 (map (λ s. s.0) ss) c, i.1))
   selects its filter scope (Err e) = refl
 
   pub walk_select : (its : text.Items) (sources : List SourceReference) (f : text.Filter) (scope : Scope) → query_walk schema (text.select its sources f) scope
-      ≡ and_then (seen_sources schema [] sources) (λ p. and_then (walk_items (p.1 ∷ scope) p.1 its) (λ i. and_then {B = Walked} (filter_walk schema f (p.1 ∷ scope)) (λ c. Ok (select i.0 p.0 c, i.1))))
+      ≡ and_then (seen_sources schema [] sources) (λ p.
+      and_then {B = Walked} (and_then {B = (Items × List ColumnType) × Condition} (walk_items (p.1 ∷ scope) p.1 its) (λ i. and_then (filter_walk schema f (p.1 ∷ scope)) (λ c. Ok (i, c)))) (λ x. Ok (select x.0.0 p.0 x.1, x.0.1)))
   unfolding query_walk filter_walk
   walk_select its sources f scope = selects its (filter_walk schema f) scope (walk_sources schema [] sources)
 

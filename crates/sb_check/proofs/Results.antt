@@ -32,3 +32,10 @@ pub refused_before : {A B C : Type 0} (walk : Result A Refusal) (f : A → B) (g
 refused_before walk f g e (inr h) = inr h
 refused_before (Ok a) f g e (inl h) = absurd (cc h)
 refused_before (Err r) f g e (inl h) = let same : r ≡ e = cc h in inl (ap (λ x. Err x) same)
+
+-- two parts in order, and then what is made of both
+pub regroup : {A B C : Type 0} (a : Result A Refusal) (b : Result B Refusal) (made : A → B → C)
+    → and_then a (λ x. and_then {B = C} b (λ y. Ok (made x y))) ≡ and_then {B = C} (and_then {B = A × B} a (λ x. and_then b (λ y. Ok (x, y)))) (λ p. Ok (made p.0 p.1))
+regroup (Ok x) (Ok y) made = refl
+regroup (Ok x) (Err e) made = refl
+regroup (Err e) b made = refl

@@ -4,6 +4,7 @@ ghost use Rattle.sb_check.specs.Parts as parts;
 ghost use Rattle.std.specs.List.{list_any};
 ghost use Rattle.sb_check.specs.Answer.{Gives};
 ghost use Rattle.sb_check.specs.Changes as changes;
+ghost use Rattle.sb_check.specs.Scopes.{scope_of};
 ghost use Rattle.sb_check.specs.Walk as spec;
 ghost use Rattle.sb_syntax.specs.Views as view;
 
@@ -125,6 +126,42 @@ fn is_assigned(done: &[Assignment], place: usize) -> bool
     false
 }
 
+/// Each assignment in order, in the scope of the table alone.
+#[inline(always)]
+fn each_assignment<'s, S: Schema>(
+    alloc: Global,
+    table: &TableEntry<'s>,
+    list: &[sb_syntax::Assignment],
+    schema: &'s S,
+    scope: &Scope<'_, 's>,
+) -> Result<Assignments, Fault>
+    requires { scope_of scope.now ≡ changes.table_scope table.now.name table.now.columns.now }
+    ensures { Gives (λ a. a) (changes.assignments_walk (S.names schema.now) table.now.name table.now.columns.now [] (map view.assignment list.now)) result }
+{
+    let mut done = Assignments::new(alloc);
+    for assignment in list {
+        let Some((place, of)) = column_in(table.columns, &assignment.column) else {
+            return Err(Fault::Refused(Reason::NoColumn));
+        };
+        if is_assigned(done.as_slice(), place) {
+            return Err(Fault::Refused(Reason::Ambiguous));
+        }
+        let at = byte(place)?;
+        let value = match operand(alloc, &assignment.operand, schema, scope) {
+            Ok(value) => value,
+            Err(fault) => return Err(fault),
+        };
+        if !same_type(value.of, of) {
+            return Err(Fault::Refused(Reason::BadType));
+        }
+        done.push(Assignment {
+            place: at,
+            operand: value.tree,
+        })?;
+    }
+    Ok(done)
+}
+
 /// Each assignment in order, over the table alone.
 fn assignments<'s, S: Schema>(
     alloc: Global,
@@ -140,28 +177,7 @@ fn assignments<'s, S: Schema>(
     }];
     let outermost = Scope::Outermost;
     let scope = Scope::Within(&visible, &outermost);
-    let mut done = Assignments::new(alloc);
-    for assignment in list {
-        let Some((place, of)) = column_in(table.columns, &assignment.column) else {
-            return Err(Fault::Refused(Reason::NoColumn));
-        };
-        if is_assigned(done.as_slice(), place) {
-            return Err(Fault::Refused(Reason::Ambiguous));
-        }
-        let at = byte(place)?;
-        let value = match operand(alloc, &assignment.operand, schema, &scope) {
-            Ok(value) => value,
-            Err(fault) => return Err(fault),
-        };
-        if !same_type(value.of, of) {
-            return Err(Fault::Refused(Reason::BadType));
-        }
-        done.push(Assignment {
-            place: at,
-            operand: value.tree,
-        })?;
-    }
-    Ok(done)
+    each_assignment(alloc, table, list, schema, &scope)
 }
 
 #[tactic(auto, unfolding(crate::specs::Changes::update_of))]

@@ -1,19 +1,22 @@
 //! Conditions, operands and queries, walked from left to right.
-ghost use Rattle.std.specs.Prelude.{◌≡◌, IfOk, Ok, []};
+ghost use Rattle.std.specs.Prelude.{◌≡◌, ◌∷◌, IfOk, List, Ok, []};
 ghost use Rattle.sb_check.specs.Answer.{Gives};
 ghost use Rattle.sb_check.specs.Condition as tree;
 ghost use Rattle.sb_check.specs.Parts as parts;
-ghost use Rattle.sb_check.specs.Scopes.{scope_of};
+ghost use Rattle.sb_check.specs.Names.{and_then};
+ghost use Rattle.sb_check.specs.Scopes.{listed, scope_of};
 ghost use Rattle.sb_check.specs.Walked.{operand_typed, walked};
 ghost use Rattle.sb_check.specs.Walk as spec;
+ghost use Rattle.sb_check.specs.declared.tree.Items.{Items as Shown};
+ghost use Rattle.sb_value.specs.declared.value.ColumnType.{ColumnType as Kind};
 ghost use Rattle.sb_syntax.specs.Tree as text;
 ghost use Rattle.sb_syntax.specs.Views as view;
 
 use crate::expression::expression;
 use crate::fault::{Fault, Reason};
-use crate::items::items;
+use crate::items::{Listed, items};
 use crate::schema::Schema;
-use crate::scope::Scope;
+use crate::scope::{Scope, Visible};
 use crate::source::{Seen, see};
 use crate::tree::{Condition, ConditionNode, Expression, Operand, OperandNode, Query};
 use crate::types::{Types, same_type};
@@ -129,7 +132,6 @@ fn is_aggregate(items: &sb_syntax::Items) -> bool
 }
 
 /// Two expressions that are compared.
-#[tactic(auto, using(crate::proofs::Equations::walk_compare_plain))]
 fn compared<'s, S: Schema>(
     alloc: Global,
     a: &Expr,
@@ -151,7 +153,6 @@ fn compared<'s, S: Schema>(
 /// An expression that is compared with an operand.
 #[cycle(query)]
 #[inline(never)]
-#[tactic(auto, using(crate::proofs::Equations::walk_compare))]
 fn compared_with<'s, S: Schema>(
     alloc: Global,
     a: &Expr,
@@ -173,7 +174,6 @@ fn compared_with<'s, S: Schema>(
 /// An expression whose value is looked for in a query.
 #[cycle(query)]
 #[inline(never)]
-#[tactic(auto, using(crate::proofs::Equations::walk_is_in))]
 fn is_in<'s, S: Schema>(
     alloc: Global,
     a: &Expr,
@@ -192,7 +192,6 @@ fn is_in<'s, S: Schema>(
 
 #[cycle(query)]
 #[inline(never)]
-#[tactic(auto, using(crate::proofs::Equations::walk_exists))]
 fn exists<'s, S: Schema>(
     alloc: Global,
     q: &sb_syntax::Query,
@@ -207,7 +206,6 @@ fn exists<'s, S: Schema>(
 }
 
 #[cycle(query)]
-#[tactic(auto, using(crate::proofs::Equations::condition_walks))]
 pub(crate) fn condition<'s, S: Schema>(
     alloc: Global,
     c: &sb_syntax::Condition,
@@ -243,7 +241,6 @@ pub(crate) fn condition<'s, S: Schema>(
 }
 
 #[cycle(query)]
-#[tactic(auto, using(crate::proofs::Equations::operand_walks))]
 pub(crate) fn operand<'s, S: Schema>(
     alloc: Global,
     o: &sb_syntax::Operand,
@@ -275,7 +272,6 @@ pub(crate) fn operand<'s, S: Schema>(
 
 /// The condition of a `where`, or that of none.
 #[cycle(query)]
-#[tactic(auto, using(crate::proofs::Equations::filter_walks))]
 pub(crate) fn filter<'s, S: Schema>(
     alloc: Global,
     f: &Option<sb_syntax::Condition>,
@@ -290,8 +286,46 @@ pub(crate) fn filter<'s, S: Schema>(
     }
 }
 
+/// The query of these parts, with the types of its columns.
+#[inline(always)]
+fn selected(
+    alloc: Global,
+    listed: Listed,
+    seen: Seen<'_>,
+    condition: Condition,
+) -> Result<Walked, AllocError>
+    ensures { IfOk result (λ w. walked w ≡ (tree.select listed.items seen.entry.0 condition, listed.types)) }
+{
+    let tree = Query {
+        items: listed.items,
+        sources: seen.sources,
+        condition,
+    };
+    Ok(Walked {
+        tree: Box::new(alloc, tree)?,
+        types: listed.types,
+    })
+}
+
+/// The items and the condition of a query, over its own sources.
 #[cycle(query)]
-#[tactic(auto, using(crate::proofs::Equations::walk_select))]
+#[inline(always)]
+fn over_sources<'s, S: Schema>(
+    alloc: Global,
+    q: &sb_syntax::Query,
+    sources: &[Visible<'s>],
+    schema: &'s S,
+    scope: &Scope<'_, 's>,
+) -> Result<(Listed, Condition), Fault>
+    ensures { Gives {A = (Shown × List Kind) × tree.Condition} (λ p. (listed p.0, p.1)) (and_then (spec.walk_items (sources.now ∷ scope_of scope.now) sources.now (view.items q.now.items)) (λ i. and_then (parts.filter_walk (S.names schema.now) (view.filter q.now.filter) (sources.now ∷ scope_of scope.now)) (λ c. Ok (i, c)))) result }
+{
+    let inner = Scope::Within(sources, &*scope);
+    let listed = items(alloc, &q.items, sources, &inner)?;
+    let condition = filter(alloc, &q.filter, schema, &inner)?;
+    Ok((listed, condition))
+}
+
+#[cycle(query)]
 pub(crate) fn query<'s, S: Schema>(
     alloc: Global,
     q: &sb_syntax::Query,
@@ -302,16 +336,6 @@ pub(crate) fn query<'s, S: Schema>(
 {
     let mut seen = Seen::new(alloc);
     see(&mut seen, schema, q.sources.as_slice())?;
-    let inner = Scope::Within(seen.visible(), &*scope);
-    let listed = items(alloc, &q.items, seen.visible(), &inner)?;
-    let condition = filter(alloc, &q.filter, schema, &inner)?;
-    let tree = Query {
-        items: listed.items,
-        sources: seen.sources,
-        condition,
-    };
-    Ok(Walked {
-        tree: Box::new(alloc, tree)?,
-        types: listed.types,
-    })
+    let (listed, condition) = over_sources(alloc, q, seen.visible(), schema, scope)?;
+    Ok(selected(alloc, listed, seen, condition)?)
 }

@@ -11,7 +11,7 @@ ghost use Rattle.sb_eval.specs.Statement as spec;
 use crate::condition::{condition, operand};
 use crate::fault::Fault;
 use crate::join::MANY;
-use crate::kept::append;
+use crate::kept::own_row;
 use crate::known::Known;
 use crate::learn::learn_effect;
 use crate::lent_row::LentRow;
@@ -184,6 +184,23 @@ fn assign<'r, S: Sources>(
     Ok(())
 }
 
+/// The row that the assignments make of another.
+fn assigned_row<'r, S: Sources>(
+    alloc: Global,
+    assignments: &'r [Assignment],
+    values: &'r [Value],
+    known: &Known<'r>,
+    sources: &'r S,
+    scope: &Scope<'_, 'r>,
+) -> Result<Row, Fault>
+    requires { AssignmentsRight (rows_in (S.seen sources.now)) assignments.now known.now }
+    ensures { Gives (λ row. row) (spec.assigned (S.seen sources.now) (scope_of scope.now) assignments.now values.now) result }
+{
+    let mut row = AssignedRow::new(alloc, values)?;
+    assign(alloc, assignments, known, sources, scope, &mut row)?;
+    Ok(row.to_row(alloc)?)
+}
+
 /// The change of one row.
 fn change<'r, S: Sources>(
     alloc: Global,
@@ -199,14 +216,11 @@ fn change<'r, S: Sources>(
     requires scope { scope_of scope.now ≡ spec.scope_of (number, values.now) }
     ensures { Gives (λ c. c) (change_of (S.seen sources.now) table effect.now (number, values.now)) result }
 {
-    let mut old = Row::new(alloc);
-    append(&mut old, values)?;
+    let old = own_row(alloc, values)?;
     match effect {
         Effect::Delete => Ok(delete_change(sources, table, number, old)),
         Effect::Update(assignments, columns) => {
-            let mut assigned = AssignedRow::new(alloc, values)?;
-            assign(alloc, assignments, known, sources, scope, &mut assigned)?;
-            let new = assigned.to_row(alloc)?;
+            let new = assigned_row(alloc, assignments, values, known, sources, scope)?;
             Ok(update_change(sources, table, *columns, number, old, new))
         }
     }

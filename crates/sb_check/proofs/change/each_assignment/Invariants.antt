@@ -2,7 +2,7 @@ use Rattle.std.proofs.Common.{◌≡◌, [], drop, map}
 use Rattle.sb_syntax.specs.Views.{assignment}
 use Rattle.sb_check.specs.Changes.{assignments_walk}
 use Rattle.sb_check.proofs.ChangeWalk.{after, places_of}
-use Rattle.sb_check.proofs.change.assignments.Given as goal
+use Rattle.sb_check.proofs.change.each_assignment.Given as goal
 
 -- what was assigned stands before the assignments that are left
 abbrev pub invariant-loop-assignment : goal.invariant-loop-assignment

@@ -1,9 +1,12 @@
-use Rattle.std.proofs.Common.{◌≡◌, ◌∙◌, sym, true, false, arith}
-use Rattle.sb_syntax.specs.Views.{assignment}
+use Rattle.std.proofs.Common.{◌≡◌, ◌∙◌, sym, ap, true, false, arith}
+use Rattle.std.specs.Prelude.{Err}
+use Rattle.sb_syntax.specs.Views.{assignment, operand}
 use Rattle.sb_check.specs.Names.{same_type}
+use Rattle.sb_check.specs.Parts.{operand_walk}
 use Rattle.sb_check.specs.Walked.{operand_typed}
 use Rattle.sb_check.proofs.ChangeWalk.{no_column, was_assigned, operand_fails, wrong_type, one_more, assignments_end}
-use Rattle.sb_check.proofs.change.assignments.Goals as goal
+use Rattle.sb_check.proofs.Results.{same_gives}
+use Rattle.sb_check.proofs.change.each_assignment.Goals as goal
 
 pub returns-in_default : goal.returns-in_default
 returns-in_default g c =
@@ -18,13 +21,13 @@ returns-then-is_assigned g c =
 pub returns-in-Err : goal.returns-in-Err
 returns-in-Err g c =
     operand_fails (g.S.Schema.names c.args.schema.now) c.args.table.now.name c.args.table.now.columns.now _ assignment c.args.list.now c.loop-assignment.assignment-index c.assignment-item.result c.loop-assignment.done (omega arith) c.assignment-item.is c.loop-assignment.invariant
-    (c.in-Some.place, c.in-Some.of) (sym c.in-Some.ensures) (sym (rw c.as_slice.ensures at c.if-is_assigned.ensures)) operand_typed _ c.in-Err.ensures
+    (c.in-Some.place, c.in-Some.of) (sym c.in-Some.ensures) (sym (rw c.as_slice.ensures at c.if-is_assigned.ensures)) operand_typed _ (same_gives operand_typed _ _ (Err c.in-Err.fault) (ap (operand_walk (g.S.Schema.names c.args.schema.now) (operand c.assignment-item.result.operand)) (sym c.requires)) c.in-Err.ensures)
 
 pub returns-then-not-same_type : goal.returns-then-not-same_type
 returns-then-not-same_type g c =
     let ty : same_type c.in-Ok.value.of c.in-Some.of ≡ false = grind arith in
     wrong_type (g.S.Schema.names c.args.schema.now) c.args.table.now.name c.args.table.now.columns.now _ assignment c.args.list.now c.loop-assignment.assignment-index c.assignment-item.result c.loop-assignment.done (omega arith) c.assignment-item.is c.loop-assignment.invariant
-    (c.in-Some.place, c.in-Some.of) (sym c.in-Some.ensures) (sym (rw c.as_slice.ensures at c.if-is_assigned.ensures)) (operand_typed c.in-Ok.value) c.in-Ok.ensures ty
+    (c.in-Some.place, c.in-Some.of) (sym c.in-Some.ensures) (sym (rw c.as_slice.ensures at c.if-is_assigned.ensures)) (operand_typed c.in-Ok.value) (ap (operand_walk (g.S.Schema.names c.args.schema.now) (operand c.assignment-item.result.operand)) (sym c.requires) ∙ c.in-Ok.ensures) ty
 
 pub loop-assignment-preserved : goal.loop-assignment-preserved
 loop-assignment-preserved g c =
@@ -33,7 +36,7 @@ loop-assignment-preserved g c =
     let at : c.in_ok-at.at ≡ c.in-Some.place = cc same in
     rw (c.in_ok-push.ensures.ok, at)
     (one_more (g.S.Schema.names c.args.schema.now) c.args.table.now.name c.args.table.now.columns.now _ assignment c.args.list.now c.loop-assignment.assignment-index c.assignment-item.result c.loop-assignment.done (omega arith) c.assignment-item.is c.loop-assignment.invariant
-    (c.in-Some.place, c.in-Some.of) (sym c.in-Some.ensures) (sym (rw c.as_slice.ensures at c.if-is_assigned.ensures)) (operand_typed c.in-Ok.value) c.in-Ok.ensures ty)
+    (c.in-Some.place, c.in-Some.of) (sym c.in-Some.ensures) (sym (rw c.as_slice.ensures at c.if-is_assigned.ensures)) (operand_typed c.in-Ok.value) (ap (operand_walk (g.S.Schema.names c.args.schema.now) (operand c.assignment-item.result.operand)) (sym c.requires) ∙ c.in-Ok.ensures) ty)
 
 pub returns : goal.returns
 returns g c = c.loop-assignment.invariant ∙ assignments_end (g.S.Schema.names c.args.schema.now) c.args.table.now.name c.args.table.now.columns.now assignment c.args.list.now c.loop-assignment.assignment-index c.loop-assignment.done (omega arith)
