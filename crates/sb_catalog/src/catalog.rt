@@ -61,8 +61,13 @@ impl Catalog {
         ensures refused { IfErr result (λ e. e ≡ unwrap_or (create_refusal self.old name) Refusal.NoMemory) }
         ensures unchanged { OnErr result (self.new ≡ self.old) }
     {
-        self.check_new(&name)?;
-        self.push(rule_of_parts(self.free_rule(), name, parts))
+        match self.check_new(&name) {
+            Ok(()) => self.push(rule_of_parts(self.free_rule(), name, parts)),
+            Err(refusal) => {
+                drop(parts);
+                Err(refusal)
+            }
+        }
     }
 
     /// Refuses a name that a rule has, and a rule too many.

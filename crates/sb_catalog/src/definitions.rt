@@ -58,13 +58,27 @@ impl Definitions {
         ensures indexed { AreIndexed index.old tenant self.old.rules → AreIndexed index.new tenant self.new.rules }
         ensures others { OtherTenantsStay tenant index.old index.new }
     {
-        let before = self.numbers(alloc, precedes)?;
-        let after = self.numbers(alloc, follows)?;
+        let before = match self.numbers(alloc, precedes) {
+            Ok(before) => before,
+            Err(refusal) => {
+                drop(parts);
+                return Err(refusal);
+            }
+        };
+        let after = match self.numbers(alloc, follows) {
+            Ok(after) => after,
+            Err(refusal) => {
+                drop(parts);
+                return Err(refusal);
+            }
+        };
         if !self.rules.has_room() {
+            drop(parts);
             return Err(Refusal::TooManyRules);
         }
         let rule = self.rules.free_rule();
         let Ok(()) = index.add_rule(tenant, rule, parts.table, parts.triggers) else {
+            drop(parts);
             return Err(Refusal::NoMemory);
         };
         match self.push_rule(rule, name, parts, before.as_slice(), after.as_slice()) {

@@ -1,7 +1,8 @@
-use Rattle.std.proofs.Common.{◌≡◌, ◌∙◌, ℕ, not, List, [], ◌∷◌, ◌++◌, map, Option, Ok, IfOk, option_map, refl, sym, ap, subst, inl}
-use Rattle.std.proofs.lemmas.List.{map-append}
+use Rattle.std.proofs.Common.{◌≡◌, ◌∙◌, ◌<◌, ℕ, not, cond, List, [], ◌∷◌, ◌++◌, map, length, Option, Some, None, Ok, IfOk, option_map, unwrap_or, refl, sym, ap, subst, inl, inr}
+use Rattle.std.proofs.lemmas.Bool.{ltb-true}
+use Rattle.std.proofs.lemmas.List.{length-map, map-append}
 use Rattle.sb_value.specs.Order.{precedes}
-use Rattle.sb_value.specs.declared.refusal.Refusal.TheVariants.{NoRule, Cycle}
+use Rattle.sb_value.specs.declared.refusal.Refusal.TheVariants.{NoRule, RuleExists, TooManyRules, Cycle, NoMemory}
 use Rattle.sb_check.specs.Names.{some_or, required}
 use Rattle.sb_check.specs.RulePartsView.{rule_parts}
 use Rattle.sb_priority.specs.Ranks.{pairs_of}
@@ -9,6 +10,13 @@ use Rattle.sb_catalog.specs.declared.rule.Rule.{Rule}
 use Rattle.sb_catalog.specs.Rules.{free_rule, numbered, rule_named, rule_of, without_rule}
 use Rattle.sb_catalog.proofs.Indexing.{named_last, without_last}
 use Rattle.sb_catalog.proofs.definitions.Definitions.push_rule.Goals as goal
+
+-- the order lists as many rules as there are
+pub add-requires : goal.add-requires
+add-requires c =
+    let rules = c.args.self.now.rules in
+    let count = ap length c.requires.ordered.1.listed ∙ length-map rules (λ (r : Rule). r.id) in
+    record { room = subst (λ (n : ℕ). n < 64) (sym count) (ltb-true (length rules) 64 c.requires.room) }
 
 pub returns-in-Ok-add : goal.returns-in-Ok-add
 returns-in-Ok-add c = λ pairs o.
@@ -42,3 +50,10 @@ returns-in-Err-add c = λ pairs o.
       inl (λ i. required (not ((ap (λ id. precedes (pairs ++ more) id id) (sym c.requires.number) ∙ c.in-Err-add.ensures.cycle pairs o.order) i)) Cycle (Ok more)),
       λ i. record { rules = dropped c i; order = c.in-Err-add.ensures.unchanged i; rulesets = c.args.self.now.rulesets },
     )
+
+-- its name is new and there is room, so memory lacks
+pub returns-in-Err : goal.returns-in-Err
+returns-in-Err c = λ pairs o. (
+  inr (c.in-Err.ensures.refused ∙ (λ i. unwrap_or (cond (c.requires.new_name i) (Some RuleExists) (cond (c.requires.room i) None (Some TooManyRules))) NoMemory)),
+  λ i. record { rules = c.in-Err.ensures.unchanged i; order = c.args.self.now.order; rulesets = c.args.self.now.rulesets },
+)
