@@ -11,9 +11,10 @@ use crate::work::{Placed, Work};
 use std::alloc::{AllocError, Global};
 use std::sync::Wait;
 
-/// What a helper has: its seat, and places for what it does.
+/// What a helper has: where its memory comes from, its seat, and places for what it does.
 #[derive(Drop)]
 pub struct Helper<J: Drop, D: Drop> {
+    pub(crate) alloc: Global,
     pub(crate) seat: Seat<J>,
     pub(crate) done: Vec<Placed<D>>,
 }
@@ -36,9 +37,21 @@ pub(crate) fn hire<J: Drop, D: Drop, W: Work<J, D>>(
     for _hired in 0..count {
         let done = Vec::with_capacity(alloc, jobs)?;
         let seat = owner.another::<Part>();
-        helpers.push_reserved(Helper { seat, done });
+        helpers.push_reserved(Helper { alloc, seat, done });
     }
     Ok((owner, helpers, back))
+}
+
+/// How many bytes a helper's heap grows by when it begins.
+const HEAP: usize = 1 << 24;
+
+/// Lets the heap of this thread grow in one step. The C library would let it grow by a page at a time, each by
+/// a call of the system that all threads wait for. So large a block is had beside the heap; once one was given
+/// back, the next one is had inside.
+fn widen_heap(alloc: Global) {
+    for _ in 0..2 {
+        let _block = Vec::<u8>::with_capacity(alloc, HEAP);
+    }
 }
 
 /// A helper does what it can.
@@ -51,9 +64,10 @@ pub(crate) fn help<J: Drop, D: Drop, W: Work<J, D>, R: Wait>(
     requires { IsHelper W.does (stealer_deque thief.now) helper }
     ensures { IsHelper W.does (stealer_deque thief.now) result }
 {
-    let Helper { seat, done } = helper;
+    let Helper { alloc, seat, done } = helper;
+    widen_heap(alloc);
     let (seat, done) = steal(rt, work, thief, seat, done);
-    Helper { seat, done }
+    Helper { alloc, seat, done }
 }
 
 /// The owner takes in what one helper has done.
@@ -74,6 +88,7 @@ fn take_one<J: Drop, D: Drop, W: Work<J, D>>(
     let Helper {
         seat,
         done: mut theirs,
+        ..
     } = helper;
     owner.absorb::<Part>(seat);
     owner.len_as::<Looked>();

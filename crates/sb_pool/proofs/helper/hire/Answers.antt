@@ -26,7 +26,7 @@ loop-hired-preserved g c =
     let deque = worker_deque c.args.owner in
     let n = c.loop-hired._hired in
     let done = c.in_ok-done.done in
-    let h : Helper g.row.J.Denot g.row.D.Denot = record { seat = c.another-seat.result; done = done } in
+    let h : Helper g.row.J.Denot g.row.D.Denot = record { alloc = c.args.alloc; seat = c.another-seat.result; done = done } in
     let less : 1024 - n - 1 ≡ 1024 - (n + 1) = omega arith in
     let none : AreDone does (view c.another-seat.result).given done.items = zip_nil (IsDone does) (view c.another-seat.result).given done.items (ap (λ (k : Known _). k.given) a.rule.1) c.in_ok-done.ensures.items in
     let one : IsHelper does deque h = (((s.2.0 ∙ ap (λ x. x.0) i.deque, s.2.1 ∙ ap (λ x. x.1) i.deque, s.2.2, s.2.3), ap (λ (k : Known _). k.parts) a.rule.1, ap (λ (k : Known _). k.owns) a.rule.1), none) in
