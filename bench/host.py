@@ -9,9 +9,8 @@ many calls of one session, and as many of each of two sessions on two threads;
 of transactions of four lines, and of a query alone, which is one of the
 cheapest lines. Printed are the middle of all runs, with the least and the
 greatest: a step, what a call costs over it, how many times the calls of one
-thread two make in the same time, and the check of 100,008 receipts. The same follows with
-MALLOC_TOP_PAD_=16777216: the C library then lets its heaps grow in steps of
-16 MiB, and asks the system less often.
+thread two make in the same time (by the calls a second of each of the two, added
+up), and the check of 100,008 receipts.
 """
 
 import argparse
@@ -21,15 +20,15 @@ import re
 import statistics
 import subprocess
 
-LINE = re.compile(r"(\w+): step (\d+) ns, call (\d+) ns, on two threads (\d+) ns, check of all (\d+) us")
+LINE = re.compile(r"(\w+): step (\d+) ns, call (\d+) ns, call of two threads (\d+) ns, check of all (\d+) us")
 
 
-def times_of(program, extra):
+def times_of(program):
     """For each load of one run: a step, what a call adds, how many times two threads make, and the check."""
-    ran = subprocess.run([program, "host", "1"], stdin=subprocess.DEVNULL, capture_output=True, text=True, check=True, env=os.environ | extra)
+    ran = subprocess.run([program, "host", "1"], stdin=subprocess.DEVNULL, capture_output=True, text=True, check=True)
     for load, *numbers in LINE.findall(ran.stdout):
-        step, call, two, check = map(int, numbers)
-        yield load, (step, call - step, 2 * call / two, check / 1000)
+        step, call, shared, check = map(int, numbers)
+        yield load, (step, call - step, call / shared, check / 1000)
 
 
 def tell(name, places, times):
@@ -42,18 +41,17 @@ def main():
     words.add_argument("--runs", type=int, default=15)
     words.add_argument("program", nargs="?", default=os.path.join(here, "../crates/sb_bench/out/sb_bench"))
     asked = words.parse_args()
-    for extra in ({}, {"MALLOC_TOP_PAD_": "16777216"}):
-        loads = collections.defaultdict(list)
-        for _ in range(asked.runs):
-            for load, times in times_of(asked.program, extra):
-                loads[load].append(times)
-        for load, runs in loads.items():
-            steps, adds, ratios, checks = zip(*runs)
-            print(" ".join([load, *(f"{name}={value}" for name, value in extra.items())]))
-            tell("a step, ns", 0, steps)
-            tell("a call adds, ns", 0, adds)
-            tell("two threads, times one", 2, ratios)
-            tell("check, ms", 1, checks)
+    loads = collections.defaultdict(list)
+    for _ in range(asked.runs):
+        for load, times in times_of(asked.program):
+            loads[load].append(times)
+    for load, runs in loads.items():
+        steps, adds, ratios, checks = zip(*runs)
+        print(load)
+        tell("a step, ns", 0, steps)
+        tell("a call adds, ns", 0, adds)
+        tell("two threads, times one", 2, ratios)
+        tell("check, ms", 1, checks)
 
 
 if __name__ == "__main__":

@@ -3,11 +3,10 @@ ghost use Rattle.std.specs.Prelude.{◌≡◌, ◌<◌, ◌≤◌};
 
 use sb_cell::Cell;
 use sb_host::{Host, Naming, Opened, Session, Stub};
-use sb_pool::{Done, Job, Work, run};
+use sb_pool::{Work, run};
 use std::alloc::{AllocError, Global};
 use std::io;
 use std::marker::Brand;
-use std::mem::replace;
 use std::sync::Wait;
 use std::thread::Threads;
 use std::time::{Clock, Duration, Instant};
@@ -17,6 +16,12 @@ const ROUNDS: u32 = 12_500;
 
 /// How many calls a session makes: a trail has room for them.
 const CALLS: u128 = 50_000;
+
+/// How many threads do the calls, of one session and of two alike.
+const WORKERS: usize = 2;
+
+/// A second's nanoseconds.
+const SECOND: u128 = 1_000_000_000;
 
 const TABLE: &[u8] = b"create table t (a int)";
 
@@ -40,25 +45,14 @@ impl Load {
     }
 }
 
-/// The times of so many calls: as steps of a cell alone, of one session, of two sessions on two
-/// threads, and of the check of both sessions' receipts.
+/// Nanoseconds of a step of a cell alone, of a call of one session, and of a call where two sessions on
+/// two threads share the calls; and the time of the check of both sessions' receipts.
 #[derive(Clone, Copy)]
 pub struct Times {
-    pub step: Duration,
-    pub call: Duration,
-    pub two: Duration,
+    pub step: u128,
+    pub call: u128,
+    pub shared: u128,
     pub check: Duration,
-}
-
-impl Times {
-    /// Nanoseconds of one step, of one call, and of one call of each of two sessions.
-    pub fn each(&self) -> [u128; 3] {
-        [
-            self.step.as_nanos() / CALLS,
-            self.call.as_nanos() / CALLS,
-            self.two.as_nanos() / CALLS,
-        ]
-    }
 }
 
 /// Times all of it once.
@@ -121,15 +115,26 @@ fn time_calls<N: Naming + Send + Sync, M: Naming + Send + Sync, R: Threads + Wai
     one: &Host<N>,
     two: &Host<M>,
 ) -> io::Result<(Times, Vec<Stub>)> {
-    let mut alone = open_all(rt, alloc, one)?;
-    let mut both = open_all(rt, alloc, two)?;
+    let step = time_steps(rt, alloc, load)?.as_nanos() / CALLS;
+    let alone = call_all(rt, alloc, load, open_all(rt, alloc, one)?);
+    let both = call_all(rt, alloc, load, open_all(rt, alloc, two)?);
     let times = Times {
-        step: time_steps(rt, alloc, load)?,
-        call: call_all(rt, alloc, load, &mut alone)?,
-        two: call_all(rt, alloc, load, &mut both)?,
+        step,
+        call: pace(&alone),
+        shared: pace(&both),
         check: Duration::ZERO,
     };
     Ok((times, close_all(rt, alloc, both)?))
+}
+
+/// Nanoseconds of a call, where all of these made calls at the same time.
+fn pace<N: Naming>(all: &[Called<'_, N>]) -> u128 {
+    let mut calls_a_second = 0_u128;
+    for one in all {
+        let calls = CALLS * SECOND / one.time.as_nanos().max(1);
+        calls_a_second = calls_a_second.saturating_add(calls);
+    }
+    SECOND / calls_a_second.max(1)
 }
 
 /// The time of a cell's own steps, by a session that is in a transaction and has a table.
@@ -148,76 +153,60 @@ fn time_steps<R: Clock>(rt: &R, alloc: Global, load: Load) -> io::Result<Duratio
     start.elapsed(rt)
 }
 
-/// The calls of one session.
+/// A session that was called, and how long its calls took.
 #[derive(Drop)]
-struct Calling {
-    alloc: Global,
-    load: Load,
+struct Called<'h, N: Naming> {
+    session: Session<'h, N>,
+    time: Duration,
 }
 
-impl<'h, N: Naming> Work<Job<'h, N>, Done<'h, N>> for Calling {
+/// The calls of one session, by a clock that they are timed with.
+#[derive(Drop)]
+struct Calling<'c, C> {
+    alloc: Global,
+    load: Load,
+    clock: &'c C,
+}
+
+impl<'h, 'c, N: Naming, C: Clock> Work<Session<'h, N>, Called<'h, N>> for Calling<'c, C> {
     ghost use Rattle.std.specs.Prelude.{⊤};
 
     ghost does = { λ _ _. ⊤ };
 
-    fn work<R: Wait>(&self, rt: &R, job: Job<'h, N>) -> Done<'h, N> {
-        let Job { mut session, line } = job;
+    fn work<R: Wait>(&self, rt: &R, mut session: Session<'h, N>) -> Called<'h, N> {
         let lines = self.load.lines();
+        let start = Instant::now(self.clock);
         for _ in 0..ROUNDS {
             for line in lines {
                 let _ = session.call(rt, self.alloc, line);
             }
         }
-        Done {
-            session,
-            line,
-            result: Ok(()),
-        }
+        let time = match start {
+            Ok(start) => start.elapsed(self.clock).unwrap_or(Duration::ZERO),
+            Err(_) => Duration::ZERO,
+        };
+        Called { session, time }
     }
 }
 
-/// The time of the calls of these sessions, each on a thread of its own.
+/// The sessions, called by a pool of threads, with the times of their calls.
 fn call_all<'h, N: Naming + Send + Sync, R: Threads + Wait + Clock + Sync>(
     rt: &R,
     alloc: Global,
     load: Load,
-    sessions: &mut Vec<Session<'h, N>>,
-) -> io::Result<Duration> {
-    let jobs = jobs_of(alloc, replace(sessions, Vec::new(alloc)))?;
-    let workers = jobs.len().clamp(1, 16);
-    let start = Instant::now(rt)?;
-    let done = run(rt, alloc, jobs, workers, &Calling { alloc, load });
-    let time = start.elapsed(rt)?;
-    if let Ok(done) = done {
-        *sessions = sessions_of(alloc, done)?;
-    }
-    Ok(time)
-}
-
-/// A job for each session.
-fn jobs_of<'h, N: Naming>(
-    alloc: Global,
     sessions: Vec<Session<'h, N>>,
-) -> Result<Vec<Job<'h, N>>, AllocError> {
-    let mut jobs = Vec::new(alloc);
-    for session in sessions {
-        let line = Vec::new(alloc);
-        jobs.push(Job { session, line })?;
+) -> Vec<Called<'h, N>> {
+    let clock = rt;
+    match run(
+        rt,
+        alloc,
+        sessions,
+        WORKERS,
+        &Calling { alloc, load, clock },
+    ) {
+        Ok(called) => called,
+        Err(_) => Vec::new(alloc),
     }
-    Ok(jobs)
-}
-
-/// The sessions of jobs that are done.
-fn sessions_of<'h, N: Naming>(
-    alloc: Global,
-    done: Vec<Done<'h, N>>,
-) -> Result<Vec<Session<'h, N>>, AllocError> {
-    let mut sessions = Vec::new(alloc);
-    for job in done {
-        let Done { session, .. } = job;
-        sessions.push(session)?;
-    }
-    Ok(sessions)
 }
 
 /// One session of each tenant that can be opened.
@@ -252,10 +241,10 @@ fn open<'h, N: Naming, R: Wait>(
 fn close_all<N: Naming, R: Wait>(
     rt: &R,
     alloc: Global,
-    sessions: Vec<Session<'_, N>>,
+    all: Vec<Called<'_, N>>,
 ) -> Result<Vec<Stub>, AllocError> {
     let mut stubs = Vec::new(alloc);
-    for session in sessions {
+    for Called { session, .. } in all {
         stubs.push(session.close(rt))?;
     }
     Ok(stubs)

@@ -130,9 +130,14 @@ fn time_hosts<R: Threads + Wait + Clock + Sync>(
 
 /// Tells what calls took under a load.
 fn tell(rt: &HostRuntime, load: &str, times: Times) -> io::Result<()> {
-    let [step, call, two] = times.each();
-    let check = times.check.as_micros();
+    let Times {
+        step,
+        call,
+        shared,
+        check,
+    } = times;
+    let check = check.as_micros();
     println!(rt;
-        "{load}: step {step} ns, call {call} ns, on two threads {two} ns, check of all {check} us"
+        "{load}: step {step} ns, call {call} ns, call of two threads {shared} ns, check of all {check} us"
     )
 }
