@@ -6,7 +6,7 @@ ghost use Rattle.sb_desk.specs.Seats.{IsSeat, number_of};
 
 use crate::naming::Naming;
 use crate::seats::SessionSeat;
-use sb_tenant::{Answer, KnownLines, Line, Reply};
+use sb_tenant::{Answer, KnownLines, Line, Reply, reserve_here};
 use sb_value::SessionId;
 use std::alloc::{AllocError, Global};
 use std::marker::Model;
@@ -116,7 +116,7 @@ impl<N: Naming> Receipts<N> {
         ensures err { OnErr result (self.new ≡ self.old) }
     {
         let line = self.known.line(alloc, line)?;
-        self.list.reserve(2)?;
+        reserve_here(alloc, &mut self.list, 2)?;
         self.ready = Some(line);
         Ok(())
     }

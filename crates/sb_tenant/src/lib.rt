@@ -9,6 +9,7 @@ pub mod laws;
 mod lines;
 mod names;
 mod phase;
+mod places;
 mod processing;
 mod reply;
 mod rule_commands;
@@ -21,5 +22,6 @@ mod told;
 mod work;
 
 pub use lines::KnownLines;
+pub use places::reserve_here;
 pub use reply::{Answer, Entry, Line, NamedTrace, Reply, SharedRows};
 pub use tenant::{NotBegun, Tenant};

@@ -11,6 +11,7 @@ ghost use Rattle.sb_tenant.specs.Tenant.{state, IsLegal, IsNew, AnswersLine, Mak
 use crate::end_lines::EndLines;
 use crate::lines::KnownLines;
 use crate::phase::Phase;
+use crate::places::reserve_here;
 use crate::reply::{Answer, Entry, Line, Reply};
 use crate::store::Store;
 use sb_index::RuleIndex;
@@ -287,7 +288,9 @@ fn make_ready(
     ensures places { OnOk result (vec_len trail.new + 9 ≤ vec_capacity trail.new) }
     ensures filled { OnOk result (8 ≤ end_lines.new) }
 {
-    if trail.reserve(1 + SESSION_LIMIT).is_err() || end_lines.fill(alloc, SESSION_LIMIT).is_err() {
+    if reserve_here(alloc, trail, 1 + SESSION_LIMIT).is_err()
+        || end_lines.fill(alloc, SESSION_LIMIT).is_err()
+    {
         return Err(NotBegun);
     }
     let kept = match own {
