@@ -4,10 +4,10 @@
     host.py [--runs N] [PROGRAM]
 
 PROGRAM is crates/sb_bench/out/sb_bench where no word is given; `rt ci` builds
-it. Each of N runs (15) is a process of its own: 50,000 steps of a cell, as
-many calls of one session, and as many of each of two sessions on two threads;
-of transactions of four lines, and of a query alone, which is one of the
-cheapest lines. Printed are the middle of all runs, with the least and the
+it. Each of N runs (15) is a process of its own for transactions of four lines,
+and another for a query alone, which is one of the cheapest lines: 50,000 steps
+of a cell, as many calls of one session, and as many of each of two sessions on
+two threads. Printed are the middle of all runs, with the least and the
 greatest: a step, what a call costs over it, how many times the calls of one
 thread two make in the same time (by the calls a second of each of the two, added
 up), and the check of 100,008 receipts.
@@ -20,15 +20,15 @@ import re
 import statistics
 import subprocess
 
-LINE = re.compile(r"(\w+): step (\d+) ns, call (\d+) ns, call of two threads (\d+) ns, check of all (\d+) us")
+LINE = re.compile(r"step (\d+) ns, call (\d+) ns, call of two threads (\d+) ns, check of all (\d+) us")
+LOADS = ["transactions", "queries"]
 
 
-def times_of(program):
-    """For each load of one run: a step, what a call adds, how many times two threads make, and the check."""
-    ran = subprocess.run([program, "host", "1"], stdin=subprocess.DEVNULL, capture_output=True, text=True, check=True)
-    for load, *numbers in LINE.findall(ran.stdout):
-        step, call, shared, check = map(int, numbers)
-        yield load, (step, call - step, call / shared, check / 1000)
+def times_of(program, load):
+    """Of one run: a step, what a call adds, how many times two threads make, and the check."""
+    ran = subprocess.run([program, load, "1"], stdin=subprocess.DEVNULL, capture_output=True, text=True, check=True)
+    step, call, shared, check = map(int, LINE.match(ran.stdout).groups())
+    return step, call - step, call / shared, check / 1000
 
 
 def tell(name, places, times):
@@ -43,8 +43,8 @@ def main():
     asked = words.parse_args()
     loads = collections.defaultdict(list)
     for _ in range(asked.runs):
-        for load, times in times_of(asked.program):
-            loads[load].append(times)
+        for load in LOADS:
+            loads[load].append(times_of(asked.program, load))
     for load, runs in loads.items():
         steps, adds, ratios, checks = zip(*runs)
         print(load)

@@ -1,6 +1,7 @@
 //! Times parts of the server by themselves: `sb_bench WORK ROUNDS < LINES`, where the work is
-//! `read`, `logs`, `cell`, `tenant` or `host`. The lines are the commands of `read`, and what `cell` and `tenant` play; `logs` and `host`
-//! take none. Prints how many rounds went well and the nanoseconds of all. With no work, nothing is timed.
+//! `read`, `logs`, `cell`, `tenant`, `transactions` or `queries`. The lines are the commands of `read`, and what `cell` and `tenant` play; the
+//! others take none. Prints how many rounds went well and the nanoseconds of all; of `transactions` and `queries`, what a session of a host calls, each round's
+//! times. With no work, nothing is timed.
 #![tactic(auto)]
 
 mod cell;
@@ -29,7 +30,7 @@ enum Work {
     /// The same with one tenant.
     LoneTenant,
     /// Sessions of a host are called, and the host is finished.
-    Host,
+    Host(Load),
 }
 
 fn work_of(word: &str) -> Option<Work> {
@@ -38,7 +39,8 @@ fn work_of(word: &str) -> Option<Work> {
         "logs" => Some(Work::Logs),
         "cell" => Some(Work::Cell),
         "tenant" => Some(Work::LoneTenant),
-        "host" => Some(Work::Host),
+        "transactions" => Some(Work::Host(Load::Transactions)),
+        "queries" => Some(Work::Host(Load::Queries)),
         _ => None,
     }
 }
@@ -56,11 +58,11 @@ fn main(rt: HostRuntime) -> ExitCode {
         Ok(
             Some(
                 Asked {
-                    work: Work::Host,
+                    work: Work::Host(load),
                     rounds,
                 },
             ),
-        ) => time_hosts(&rt, &rt, rounds),
+        ) => time_hosts(&rt, &rt, load, rounds),
         Ok(Some(asked)) => timed(&rt, asked),
         Ok(None) => Ok(()),
         Err(fault) => Err(fault),
@@ -82,7 +84,7 @@ fn read_words(rt: &HostRuntime) -> io::Result<Option<Asked>> {
         return Ok(None);
     };
     let (Some(work), Ok(rounds)) = (work_of(word.as_str()), rounds.as_str().parse::<u32>()) else {
-        println!(rt; "sb_bench read|logs|cell|tenant|host ROUNDS < LINES")?;
+        println!(rt; "sb_bench read|logs|cell|tenant|transactions|queries ROUNDS < LINES")?;
         return Ok(None);
     };
     Ok(Some(Asked { work, rounds }))
@@ -99,7 +101,7 @@ fn timed(rt: &HostRuntime, asked: Asked) -> io::Result<()> {
         Work::Logs => time_often(rt, rounds)?,
         Work::Cell => cell::time_cell(rt, input.as_slice(), 256, rounds)?,
         Work::LoneTenant => cell::time_cell(rt, input.as_slice(), 1, rounds)?,
-        Work::Host => 0,
+        Work::Host(_) => 0,
     };
     let time = start.elapsed(rt)?;
     println!(rt; "{done} of {rounds} rounds, {} ns", time.as_nanos())
@@ -113,23 +115,22 @@ fn time_often(rt: &HostRuntime, rounds: u32) -> io::Result<u32> {
     Ok(rounds)
 }
 
-/// Times hosts so often under each load, and tells each time.
+/// Times hosts so often under a load, and tells each time.
 fn time_hosts<R: Threads + Wait + Clock + Sync>(
     rt: &HostRuntime,
     threads: &R,
+    load: Load,
     rounds: u32,
 ) -> io::Result<()> {
     for _ in 0..rounds {
-        let times = host::time_host(threads, rt.alloc(), Load::Transactions)?;
-        tell(rt, "transactions", times)?;
-        let times = host::time_host(threads, rt.alloc(), Load::Queries)?;
-        tell(rt, "queries", times)?;
+        let times = host::time_host(threads, rt.alloc(), load)?;
+        tell(rt, times)?;
     }
     Ok(())
 }
 
-/// Tells what calls took under a load.
-fn tell(rt: &HostRuntime, load: &str, times: Times) -> io::Result<()> {
+/// Tells what calls took.
+fn tell(rt: &HostRuntime, times: Times) -> io::Result<()> {
     let Times {
         step,
         call,
@@ -138,6 +139,6 @@ fn tell(rt: &HostRuntime, load: &str, times: Times) -> io::Result<()> {
     } = times;
     let check = check.as_micros();
     println!(rt;
-        "{load}: step {step} ns, call {call} ns, call of two threads {shared} ns, check of all {check} us"
+        "step {step} ns, call {call} ns, call of two threads {shared} ns, check of all {check} us"
     )
 }
