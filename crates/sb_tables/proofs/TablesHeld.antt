@@ -1,5 +1,5 @@
 -- Tables under their numbers, as their slots hold them.
-use Rattle.std.proofs.Common.{◌≡◌, ◌∙◌, ℕ, zero, suc, Bool, true, false, not, ◌||◌, cond, nat_eq, List, [], ◌∷◌, ◌++◌, map, filter, set, drop, Option, Some, None, option_map, unwrap_or, is_some, slice_get, refl, sym, ap, eq-eqb, eqb-true, ne_eqb}
+use Rattle.std.proofs.Common.{◌≡◌, ◌∙◌, ℕ, zero, suc, Bool, true, false, not, ◌||◌, cond, nat_eq, List, [], ◌∷◌, ◌++◌, map, filter, set, drop, Option, Some, None, option_map, unwrap_or, is_some, slice_get, refl, sym, ap, subst, eq-eqb, eqb-true, ne_eqb}
 use Rattle.std.specs.List.{list_any}
 use Rattle.sb_tables.specs.Stored.{Stored}
 use Rattle.std.specs.Map.{lookup}
@@ -11,7 +11,7 @@ use Rattle.std.proofs.lemmas.Bool.{eqb-false, or_parts}
 use Rattle.std.proofs.lemmas.List.{map-append}
 use Rattle.sb_value.specs.Name.{same_name}
 use Rattle.sb_value.specs.declared.value.ColumnDefinition.{ColumnDefinition}
-use Rattle.sb_tables.specs.Held.{Held, no_rows, named, numbered, has_name, has_number, stored_at, with_stored, with_table, without_table}
+use Rattle.sb_tables.specs.Held.{Held, no_rows, named, numbered, has_name, has_number, stored_at, NamesAgreeWithNumbers, with_stored, with_table, without_table}
 use Rattle.sb_tables.specs.Filled.{slot_at, held_in, AreFilled}
 
 abbrev pub Slotted : Type 0
@@ -231,6 +231,13 @@ by_number slots (e ∷ es) name = by (same_name e.0 name) (by_number slots es na
         ≡ option_map (λ (id : ℕ). unwrap_or (slot_at slots id) (no_rows [])) (option_map (λ (h : Held). h.id) (cond b (Some (held_in slots e)) (named (map (held_in slots) es) name)))
     by true rest = refl
     by false rest = rest
+
+-- what a name finds is what its number finds
+pub names_agree : (slots : Slotted) (es : Named) → AreFilled es slots → NamesAgreeWithNumbers (map (held_in slots) es)
+names_agree slots es filled name h is =
+    same_Some h.stored (unwrap_or (slot_at slots h.id) (no_rows []))
+    (subst (λ (o : Option Held). option_map (λ (x : Held). x.stored) o ≡ option_map (λ (id : ℕ). unwrap_or (slot_at slots id) (no_rows [])) (option_map (λ (x : Held). x.id) o)) is (by_number slots es name))
+    ∙ sym (ap (λ (o : Option Stored). unwrap_or o (no_rows [])) (found slots es h.id (filled h.id)))
 
 has_found : (test : List ℕ → Bool) (es : Named) (id : ℕ) → lookup test es ≡ Some id → has es id ≡ true
 has_found test [] id h = absurd (cc)

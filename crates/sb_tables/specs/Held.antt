@@ -1,5 +1,5 @@
 -- A tenant's tables in memory, in order of creation.
-use Rattle.std.specs.Prelude.{ℕ, ◌-◌, Bool, not, ◌==◌, max, if◌then◌else◌, List, [], ◌∷◌, ◌++◌, map, filter, find, Option, option_map, unwrap_or}
+use Rattle.std.specs.Prelude.{◌≡◌, ℕ, ◌-◌, Bool, not, ◌==◌, max, if◌then◌else◌, List, [], ◌∷◌, ◌++◌, map, filter, find, Option, Some, option_map, unwrap_or}
 use Rattle.std.specs.List.{list_any}
 use Rattle.sb_value.specs.declared.value.Value.{Value}
 use Rattle.sb_value.specs.declared.value.ColumnDefinition.{ColumnDefinition}
@@ -45,6 +45,10 @@ no_rows columns = record { table = empty_table columns; places = []; room = 0 }
 -- what is stored under a number
 abbrev pub stored_at : List Held → ℕ → Stored
 stored_at tables id = unwrap_or (option_map (λ h. h.stored) (numbered tables id)) (no_rows [])
+
+-- what a name finds is what its number finds
+abbrev pub NamesAgreeWithNumbers : List Held → Type 0
+NamesAgreeWithNumbers tables = (name : List ℕ) (h : Held) → named tables name ≡ Some h → h.stored ≡ stored_at tables h.id
 
 -- ---- changes
 

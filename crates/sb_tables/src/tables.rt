@@ -7,7 +7,7 @@ ghost use Rattle.sb_tables.specs.contracts.tables.Tables.{the_row};
 ghost use Rattle.sb_tables.specs.Stored.{Stored};
 ghost use Rattle.sb_value.specs.Table.{Table as Definition, row_at};
 ghost use Rattle.sb_tables.specs.Held as spec;
-ghost use Rattle.sb_tables.specs.Held.{named, numbered, has_name, has_number, stored_at, with_table, without_table, with_stored, reserved, inserted, deleted, replaced, settled};
+ghost use Rattle.sb_tables.specs.Held.{named, numbered, has_name, has_number, stored_at, NamesAgreeWithNumbers, with_table, without_table, with_stored, reserved, inserted, deleted, replaced, settled};
 ghost use Rattle.sb_tables.specs.Undo.{IsNewest, Undoes};
 
 use crate::slots::Slots;
@@ -91,6 +91,14 @@ impl Tables {
             Some(id) => self.slots.get(*id),
             None => None,
         }
+    }
+
+    /// A name leads to the same table as its number.
+    pub fn names_agree(&self)
+        ensures { NamesAgreeWithNumbers self.now }
+    {
+        // for the proof: the slots that hold a table are those of the numbers that a name has
+        let _ = &self.slots;
     }
 
     /// Adds a table, which has the least free number, as the last.
