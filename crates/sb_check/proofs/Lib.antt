@@ -8,6 +8,7 @@ mod RuleWalk
 mod Found
 mod Fitting
 mod CommandFits
+mod SourceTypes
 mod Presence
 mod Seeing
 mod SameName

@@ -4,6 +4,7 @@ use Rattle.sb_value.specs.declared.value.Value.{Value}
 use Rattle.sb_value.specs.declared.value.ColumnType.{ColumnType}
 use Rattle.sb_value.specs.declared.value.ColumnType.TheVariants.{Int}
 use Rattle.sb_value.specs.declared.value.ColumnDefinition.{ColumnDefinition}
+use Rattle.sb_value.specs.declared.net.Triggers.{Triggers}
 use Rattle.sb_syntax.specs.declared.ast.TableReference.{TableReference}
 use Rattle.sb_check.specs.Expression.{Expression, literal, column, binary}
 use Rattle.sb_check.specs.Condition.{Condition, always, disjunction, conjunction, negation, compare, is_in, exists, Operand, expression, answer, Query, select}
@@ -110,10 +111,18 @@ module _ (types_of : Source → List ColumnType) where
   ActionsFit (action.Rollback ∷ rest) = ActionsFit rest
   ActionsFit (action.Change s ∷ rest) = StatementFits s × ActionsFit rest
 
--- the columns of each source that may be named have these types; there are such types where no two tables have one id
+-- the columns of each source that may be named have these types; there are such types where numbers tell columns
 abbrev pub AreTypesOf : Schema → (Source → List ColumnType) → Type 0
 AreTypesOf schema types_of =
     (table : TableReference) (s : Source × List ColumnDefinition) → walk_table schema table ≡ Ok s → types_of s.0 ≡ map (λ c. c.of) s.1
+
+-- there are such types
+abbrev pub HasTypes : Schema → Type 0
+HasTypes schema = (types_of : Source → List ColumnType) × AreTypesOf schema types_of
+
+-- there are, whatever rule the command is part of
+abbrev pub HasTypesInRules : Schema → Type 0
+HasTypesInRules schema = (rule : Option (List ColumnDefinition × Triggers)) → HasTypes (record schema { rule = rule })
 
 -- a rule's condition and actions fit the tables and the transition tables that the rule may name, whose columns are its table's
 abbrev pub PartsFit : Schema → Parts → Type 0

@@ -1,8 +1,9 @@
 -- What a schema lends of its tables and of the rule.
-use Rattle.std.specs.Prelude.{◌≡◌, ℕ, List, Result, Ok, Err}
+use Rattle.std.specs.Prelude.{◌≡◌, ℕ, List, find, Some, Result, Ok, Err}
 use Rattle.sb_value.specs.declared.value.ColumnDefinition.{ColumnDefinition}
 use Rattle.sb_value.specs.declared.net.Triggers.{Triggers}
-use Rattle.sb_value.specs.Table.{Entry}
+use Rattle.sb_value.specs.Name.{same_name}
+use Rattle.sb_value.specs.Table.{Entry, table_at}
 use Rattle.sb_value.specs.declared.refusal.Refusal.{Refusal}
 use Rattle.sb_check.specs.declared.tree.Source.{Source}
 use Rattle.sb_check.specs.declared.schema.TableEntry.{TableEntry}
@@ -22,6 +23,10 @@ table_seen e = (e.id, e.name, e.table.columns)
 -- a table as it is lent
 abbrev pub table_lent : TableEntry → SeenTable
 table_lent t = (t.id, t.name, t.columns.now)
+
+-- a table's number tells its columns, whatever name it was found by
+abbrev pub NumbersTellColumns : List Entry → Type 0
+NumbersTellColumns tables = (name : List ℕ) (e : Entry) → find (λ t. same_name t.name name) tables ≡ Some e → (table_at tables e.id).columns ≡ e.table.columns
 
 -- a rule as it is lent
 abbrev pub rule_lent : RuleEntry → List ColumnDefinition × Triggers

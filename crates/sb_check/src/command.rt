@@ -3,7 +3,7 @@ ghost use Rattle.std.specs.Prelude.{◌≡◌, IfOk};
 ghost use Rattle.std.specs.List.{list_any};
 ghost use Rattle.sb_value.specs.Name.{same_name};
 ghost use Rattle.sb_check.specs.Answer.{Answers};
-ghost use Rattle.sb_check.specs.Fits.{Fits};
+ghost use Rattle.sb_check.specs.Fits.{Fits, HasTypesInRules};
 ghost use Rattle.sb_check.specs.Resolved.{named_twice, new_table, resolved, walk_names};
 ghost use Rattle.sb_syntax.specs.Tree as tree;
 ghost use Rattle.sb_syntax.specs.Views as view;
@@ -38,7 +38,12 @@ pub fn resolve<'s, S: Schema>(
 ) -> Result<Resolved, Refusal>
     ensures walk { Answers resolved (walk_names (S.names schema.now) (view.command text.now)) result }
     ensures fits { IfOk result (λ r. Fits (S.names schema.now) (resolved r)) }
+
+    // There are such types, whatever rule the command is part of.
+    ensures types { HasTypesInRules (S.names schema.now) }
 {
+    // for the proof: a table's number tells its columns
+    schema.tells_columns();
     command(alloc, text, schema)
 }
 

@@ -1,7 +1,7 @@
 //! What a command may name: the tables, and in a rule its table's columns and its triggers.
 ghost use Rattle.std.specs.Prelude.{◌≡◌, find, option_map};
 ghost use Rattle.sb_value.specs.Name.{same_name};
-ghost use Rattle.sb_check.specs.Lent.{rule_lent, table_lent, table_seen};
+ghost use Rattle.sb_check.specs.Lent.{NumbersTellColumns, rule_lent, table_lent, table_seen};
 ghost use Rattle.sb_check.specs.Walk.{Schema as Names};
 
 use sb_value::{ColumnDefinition, Name, TableId, Triggers};
@@ -33,6 +33,10 @@ pub trait Schema {
     /// The rule that the command is part of.
     fn rule(&self) -> Option<RuleEntry<'_>>
         ensures { option_map rule_lent result ≡ (names self.now).rule };
+
+    /// A table's number tells its columns, whatever name it was found by.
+    fn tells_columns(&self)
+        ensures { NumbersTellColumns (names self.now).tables };
 }
 
 /// What a rule's condition and actions may name.
@@ -57,5 +61,9 @@ impl<'a, S: Schema> Schema for InRule<'a, S> {
             columns: self.columns,
             triggers: self.triggers,
         })
+    }
+
+    fn tells_columns(&self) {
+        self.outside.tells_columns();
     }
 }

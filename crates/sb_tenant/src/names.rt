@@ -34,4 +34,8 @@ impl<'a> Schema for Names<'a> {
     fn rule(&self) -> Option<RuleEntry<'_>> {
         None
     }
+
+    fn tells_columns(&self) {
+        self.tables.names_agree();
+    }
 }
