@@ -17,7 +17,7 @@ use Rattle.sb_index.specs.TableSets.{TableSets}
 use Rattle.sb_eval.specs.Seen.{no_transition}
 use Rattle.sb_eval.specs.Statement.{query_locks, statement_locks, select_rows, statement_changes}
 use Rattle.sb_process.specs.Made.{AreMade}
-use Rattle.sb_process.specs.Process.{stands_after as standing_after}
+use Rattle.sb_process.specs.Process.{stands_after}
 use Rattle.sb_process.specs.Represents.{Represents, IsTakenBack, IsKept, IsIdle, begun}
 use Rattle.sb_process.specs.Request.{IsAnswer, after_request, Selects}
 use Rattle.sb_process.specs.Setting.{Setting, Progress, seen_with}
@@ -35,7 +35,7 @@ use Rattle.sb_tenant.specs.declared.reply.Reply.TheVariants as reply
 use Rattle.sb_tenant.specs.declared.store.Store.{Store}
 use Rattle.sb_tenant.specs.Limits.{is_session}
 use Rattle.sb_tenant.specs.Logged.{Agrees}
-use Rattle.sb_tenant.specs.Perform.{reply_rows, change_seen, perform, stands_after, stays}
+use Rattle.sb_tenant.specs.Perform.{reply_rows, change_seen, perform, stands_as, stays}
 use Rattle.sb_tenant.specs.Represents.{phase_of, phase_at, AreExclusive, Holds, StandFor, StandAside, Comes}
 use Rattle.sb_tenant.specs.Resolved.{query, change}
 use Rattle.sb_tenant.specs.State.{State, Session, closed, idle, active, session_at, has_transaction, changes_of, marks_of, setting_of, progress_of, with_progress, rolled_back, committed, with_session}
@@ -320,24 +320,24 @@ module _ (laws : TablesAreShared) (s : ℕ) (is : IsTrue (is_session s)) (old ne
 
     module _ (o : Outcome) (p : Progress) (k : Taken s state.locks p.locks) where
       -- where it is done the transaction goes on
-      pub done-stands : is_done o ≡ true → phase_at new.phases s ≡ Active → Stands base old.database new.database s after later setting progress (standing_after o p) →
-          StandFor new after later index (stands_after state s stays o p) × StandAside new after later index state s
+      pub done-stands : is_done o ≡ true → phase_at new.phases s ≡ Active → Stands base old.database new.database s after later setting progress (stands_after o p) →
+          StandFor new after later index (stands_as state s stays (stands_after o p)) × StandAside new after later index state s
       done-stands done phase stands = by o done stands
         where
-          by : (o : Outcome) → is_done o ≡ true → Stands base old.database new.database s after later setting progress (standing_after o p) →
-              StandFor new after later index (stands_after state s stays o p) × StandAside new after later index state s
+          by : (o : Outcome) → is_done o ≡ true → Stands base old.database new.database s after later setting progress (stands_after o p) →
+              StandFor new after later index (stands_as state s stays (stands_after o p)) × StandAside new after later index state s
           by Done e r = (goes-with phase p k r, aside phase p k r)
           by (ByRule rule) e r = absurd (true≢false (sym e))
           by (ByError rule f) e r = absurd (true≢false (sym e))
           by ByLimit e r = absurd (true≢false (sym e))
 
       -- and else it is taken back
-      pub back-stands : is_done o ≡ false → phase_at new.phases s ≡ Idle → ((rule : ℕ) → mark_of new.database.transactions s rule ≤ later) → Stands base old.database new.database s after later setting progress (standing_after o p) →
-          StandFor new after later index (stands_after state s stays o p) × StandAside new after later index state s
+      pub back-stands : is_done o ≡ false → phase_at new.phases s ≡ Idle → ((rule : ℕ) → mark_of new.database.transactions s rule ≤ later) → Stands base old.database new.database s after later setting progress (stands_after o p) →
+          StandFor new after later index (stands_as state s stays (stands_after o p)) × StandAside new after later index state s
       back-stands back phase past stands = by o back stands
         where
-          by : (o : Outcome) → is_done o ≡ false → Stands base old.database new.database s after later setting progress (standing_after o p) →
-              StandFor new after later index (stands_after state s stays o p) × StandAside new after later index state s
+          by : (o : Outcome) → is_done o ≡ false → Stands base old.database new.database s after later setting progress (stands_after o p) →
+              StandFor new after later index (stands_as state s stays (stands_after o p)) × StandAside new after later index state s
           by Done e r = absurd (true≢false e)
           by (ByRule rule) e r = (goes-back phase past r, back-aside (goes-back phase past r))
           by (ByError rule f) e r = (goes-back phase past r, back-aside (goes-back phase past r))
@@ -346,13 +346,13 @@ module _ (laws : TablesAreShared) (s : ℕ) (is : IsTrue (is_session s)) (old ne
 -- ---- a commit
 
 module _ (state : State) (s : ℕ) where
-  pub commits : (o : Outcome) (p : Progress) → is_done o ≡ true → committed (stands_after state s stays o p) s ≡ stands_after state s (λ now. committed now s) o p
+  pub commits : (o : Outcome) (p : Progress) → is_done o ≡ true → committed (stands_as state s stays (stands_after o p)) s ≡ stands_as state s (λ now. committed now s) (stands_after o p)
   commits Done p e = refl
   commits (ByRule rule) p e = absurd (true≢false (sym e))
   commits (ByError rule f) p e = absurd (true≢false (sym e))
   commits ByLimit p e = absurd (true≢false (sym e))
 
-  pub commits-not : (o : Outcome) (p : Progress) → is_done o ≡ false → stands_after state s stays o p ≡ stands_after state s (λ now. committed now s) o p
+  pub commits-not : (o : Outcome) (p : Progress) → is_done o ≡ false → stands_as state s stays (stands_after o p) ≡ stands_as state s (λ now. committed now s) (stands_after o p)
   commits-not Done p e = absurd (true≢false e)
   commits-not (ByRule rule) p e = refl
   commits-not (ByError rule f) p e = refl

@@ -15,7 +15,7 @@ use Rattle.sb_eval.specs.Statement.{query_locks, statement_locks, statement_chan
 use Rattle.sb_eval.specs.Target.{target}
 use Rattle.sb_process.specs.declared.Outcome.{Outcome}
 use Rattle.sb_process.specs.declared.Outcome.TheVariants.{Done, ByRule, ByError, ByLimit}
-use Rattle.sb_process.specs.Process.{process}
+use Rattle.sb_process.specs.Process.{process, stands_after}
 use Rattle.sb_process.specs.Represents.{AreLocked}
 use Rattle.sb_process.specs.Setting.{Setting, Progress, seen_with}
 use Rattle.sb_syntax.specs.Text.{command_of}
@@ -25,7 +25,7 @@ use Rattle.sb_tenant.specs.declared.reply.Answer.{Answer}
 use Rattle.sb_tenant.specs.declared.reply.Entry.{Entry}
 use Rattle.sb_tenant.specs.declared.reply.Reply.{Reply}
 use Rattle.sb_tenant.specs.declared.reply.Reply.TheVariants as reply
-use Rattle.sb_tenant.specs.Perform.{with_request, change_seen, select_seen, perform_change, stands_after, stays, process_at, perform}
+use Rattle.sb_tenant.specs.Perform.{with_request, change_seen, select_seen, perform_change, stands_as, stays, process_at, perform}
 use Rattle.sb_tenant.specs.Resolved.{Resolved, open_session, end_session, begin, commit, rollback, process_rules, process_ruleset, process_rule, query, change}
 use Rattle.sb_tenant.specs.State.{State, Session, closed, idle, active, Catalog, opening, session_at, is_open, has_transaction, changes_of, marks_of, with_session, setting_of, progress_of, with_progress, rolled_back, committed}
 use Rattle.sb_tenant.specs.Step.{first_of, is_full_for, session_refusal, outcome_of, reply_to_command, reply_to, numbered, step}
@@ -119,7 +119,7 @@ sound-closed state h s =
 
 module _ (tenant bound : ℕ) (state : State) (h : HasSoundLocks state) (s : ℕ) where
   sound-stands : (finish : State → State) → ((p : Progress) → HasSoundLocks (with_progress state s p) → HasSoundLocks (finish (with_progress state s p))) →
-      (outcome : Outcome) (p : Progress) → IsFit s state.locks p → HasSoundLocks (stands_after state s finish outcome p)
+      (outcome : Outcome) (p : Progress) → IsFit s state.locks p → HasSoundLocks (stands_as state s finish (stands_after outcome p))
   sound-stands finish finishes Done p fit = finishes p (sound-goes state h s p fit)
   sound-stands finish finishes (ByRule r) p fit = sound-idle state h s state.catalog
   sound-stands finish finishes (ByError r refusal) p fit = sound-idle state h s state.catalog

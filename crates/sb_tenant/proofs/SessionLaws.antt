@@ -13,9 +13,7 @@ use Rattle.sb_check.specs.Names.{and_then, required}
 use Rattle.sb_eval.specs.Seen.{no_transition}
 use Rattle.sb_eval.specs.Statement.{query_locks, statement_locks, statement_changes}
 use Rattle.sb_process.specs.Setting.{Progress, seen_with}
-use Rattle.sb_process.specs.Process.{process}
-use Rattle.sb_process.specs.declared.Outcome.{Outcome}
-use Rattle.sb_process.specs.declared.Outcome.TheVariants.{Done, ByRule, ByError, ByLimit}
+use Rattle.sb_process.specs.Process.{Standing, goes_on, taken_back, process, standing}
 use Rattle.sb_tenant.specs.declared.reply.Answer.{Answer}
 use Rattle.sb_tenant.specs.declared.reply.Reply.{Reply}
 use Rattle.sb_tenant.specs.declared.reply.Reply.TheVariants as reply
@@ -24,7 +22,7 @@ use Rattle.sb_value.specs.declared.refusal.Refusal.TheVariants as refusal
 use Rattle.sb_tenant.specs.State.{State, Catalog, Session, idle, closed, active, session_at, is_open, with_session, with_progress, progress_of, setting_of, rolled_back, committed}
 use Rattle.sb_tenant.specs.Resolved.{Resolved, open_session, end_session, begin, commit, rollback, process_rules, process_ruleset, process_rule, create_table, drop_table, create_rule, drop_rule, activate_rule, deactivate_rule, create_ruleset, drop_ruleset, add_rules, del_rules, query, change, begins, defines, works}
 use Rattle.sb_tenant.specs.Walk.{unless, walk, class_of}
-use Rattle.sb_tenant.specs.Perform.{with_request, change_seen, select_seen, perform_change, stands_after, stays, process_at, perform}
+use Rattle.sb_tenant.specs.Perform.{with_request, change_seen, select_seen, perform_change, stands_as, stays, process_at, perform}
 use Rattle.sb_catalog.specs.Definitions.{is_member}
 use Rattle.sb_catalog.specs.Rules.{is_active}
 use Rattle.sb_tenant.specs.Step.{first_of, session_refusal, outcome_of, reply_to_command, reply_to, step, numbered, is_full_for}
@@ -47,17 +45,13 @@ module _ (s o : ℕ) (other : (o == s) ≡ false) where
   thrice : (state : State) (one two three : Session) → session_at (with_session (with_session (with_session state s one) s two) s three) o ≡ session_at state o
   thrice state one two three = other_session (with_session (with_session state s one) s two) s three o other ∙ twice state one two
 
-  stands-commit : (state : State) (outcome : Outcome) (progress : Progress) → session_at (stands_after state s (λ after. committed after s) outcome progress) o ≡ session_at state o
-  stands-commit state Done progress = twice state (active progress.changes progress.marks) idle
-  stands-commit state (ByRule r) progress = other_session state s idle o other
-  stands-commit state (ByError r refusal) progress = other_session state s idle o other
-  stands-commit state ByLimit progress = other_session state s idle o other
+  stands-commit : (state : State) (standing : Standing) → session_at (stands_as state s (λ after. committed after s) standing) o ≡ session_at state o
+  stands-commit state (goes_on progress) = twice state (active progress.changes progress.marks) idle
+  stands-commit state taken_back = other_session state s idle o other
 
-  stands-stays : (state : State) (outcome : Outcome) (progress : Progress) → session_at (stands_after state s stays outcome progress) o ≡ session_at state o
-  stands-stays state Done progress = other_session state s (active progress.changes progress.marks) o other
-  stands-stays state (ByRule r) progress = other_session state s idle o other
-  stands-stays state (ByError r refusal) progress = other_session state s idle o other
-  stands-stays state ByLimit progress = other_session state s idle o other
+  stands-stays : (state : State) (standing : Standing) → session_at (stands_as state s stays standing) o ≡ session_at state o
+  stands-stays state (goes_on progress) = other_session state s (active progress.changes progress.marks) o other
+  stands-stays state taken_back = other_session state s idle o other
 
   change-other : (state : State) (progress : Progress) (given : Result (List Change) Refusal) → session_at (change_seen state s progress given).0 o ≡ session_at state o
   change-other state progress (Err refusal) = other_session state s (active progress.changes progress.marks) o other
@@ -74,11 +68,11 @@ module _ (s o : ℕ) (other : (o == s) ≡ false) where
 
   commit-other : (tenant bound : ℕ) (state : State) → session_at (perform tenant bound state s commit).0 o ≡ session_at state o
   commit-other tenant bound state =
-      let p = process bound (setting_of tenant state s) (is_active state.catalog.rules) (progress_of state s) in stands-commit state p.outcome p.progress
+      let p = process bound (setting_of tenant state s) (is_active state.catalog.rules) (progress_of state s) in stands-commit state (standing p)
 
   process-other : (tenant bound : ℕ) (state : State) (eligible : ℕ → Bool) → session_at (process_at tenant bound state s eligible stays).0 o ≡ session_at state o
   process-other tenant bound state eligible =
-      let p = process bound (setting_of tenant state s) eligible (progress_of state s) in stands-stays state p.outcome p.progress
+      let p = process bound (setting_of tenant state s) eligible (progress_of state s) in stands-stays state (standing p)
 
   pub perform-other : (tenant bound : ℕ) (state : State) (r : Resolved) → session_at (perform tenant bound state s r).0 o ≡ session_at state o
   perform-other tenant bound state open_session = other_session state s idle o other
@@ -121,17 +115,13 @@ module _ (tenant bound : ℕ) (state : State) (s : ℕ) (was_open : is_open (ses
   set_open : (before : State) (session : Session) → is_open session ≡ true → is_open (session_at (with_session before s session) s) ≡ true
   set_open before session h = ap is_open (own_session before s session) ∙ h
 
-  stands-commit-open : (outcome : Outcome) (progress : Progress) → is_open (session_at (stands_after state s (λ after. committed after s) outcome progress) s) ≡ true
-  stands-commit-open Done progress = set_open (with_progress state s progress) idle refl
-  stands-commit-open (ByRule r) progress = set_open state idle refl
-  stands-commit-open (ByError r refusal) progress = set_open state idle refl
-  stands-commit-open ByLimit progress = set_open state idle refl
+  stands-commit-open : (standing : Standing) → is_open (session_at (stands_as state s (λ after. committed after s) standing) s) ≡ true
+  stands-commit-open (goes_on progress) = set_open (with_progress state s progress) idle refl
+  stands-commit-open taken_back = set_open state idle refl
 
-  stands-stays-open : (outcome : Outcome) (progress : Progress) → is_open (session_at (stands_after state s stays outcome progress) s) ≡ true
-  stands-stays-open Done progress = set_open state (active progress.changes progress.marks) refl
-  stands-stays-open (ByRule r) progress = set_open state idle refl
-  stands-stays-open (ByError r refusal) progress = set_open state idle refl
-  stands-stays-open ByLimit progress = set_open state idle refl
+  stands-stays-open : (standing : Standing) → is_open (session_at (stands_as state s stays standing) s) ≡ true
+  stands-stays-open (goes_on progress) = set_open state (active progress.changes progress.marks) refl
+  stands-stays-open taken_back = set_open state idle refl
 
   change-open : (progress : Progress) (given : Result (List Change) Refusal) → is_open (session_at (change_seen state s progress given).0 s) ≡ true
   change-open progress (Err refusal) = set_open state (active progress.changes progress.marks) refl
@@ -148,11 +138,11 @@ module _ (tenant bound : ℕ) (state : State) (s : ℕ) (was_open : is_open (ses
 
   commit-open : is_open (session_at (perform tenant bound state s commit).0 s) ≡ true
   commit-open =
-      let p = process bound (setting_of tenant state s) (is_active state.catalog.rules) (progress_of state s) in stands-commit-open p.outcome p.progress
+      let p = process bound (setting_of tenant state s) (is_active state.catalog.rules) (progress_of state s) in stands-commit-open (standing p)
 
   process-open : (eligible : ℕ → Bool) → is_open (session_at (process_at tenant bound state s eligible stays).0 s) ≡ true
   process-open eligible =
-      let p = process bound (setting_of tenant state s) eligible (progress_of state s) in stands-stays-open p.outcome p.progress
+      let p = process bound (setting_of tenant state s) eligible (progress_of state s) in stands-stays-open (standing p)
 
   perform-open : (r : Resolved) → is_edge r ≡ false → is_open (session_at (perform tenant bound state s r).0 s) ≡ true
   perform-open open_session h = absurd (true≢false h)

@@ -17,7 +17,7 @@ use Rattle.sb_eval.specs.Seen.{no_transition}
 use Rattle.sb_eval.specs.Statement.{query_locks, statement_locks, statement_changes}
 use Rattle.sb_process.specs.declared.Outcome.{Outcome}
 use Rattle.sb_process.specs.declared.Outcome.TheVariants.{Done, ByRule, ByError, ByLimit}
-use Rattle.sb_process.specs.Process.{process}
+use Rattle.sb_process.specs.Process.{process, stands_after}
 use Rattle.sb_process.specs.Setting.{Setting, Progress, seen_with}
 use Rattle.sb_check.specs.Names.{and_then, required}
 use Rattle.sb_check.specs.RuleParts.{Parts, walk_parts}
@@ -35,7 +35,7 @@ use Rattle.sb_tenant.specs.declared.reply.Entry.{Entry as Line}
 use Rattle.sb_tenant.specs.declared.reply.Reply.{Reply}
 use Rattle.sb_tenant.specs.declared.reply.Reply.TheVariants as reply
 use Rattle.sb_tenant.specs.Limits.{is_session}
-use Rattle.sb_tenant.specs.Perform.{with_request, change_seen, select_seen, perform_change, stands_after, stays, process_at, perform}
+use Rattle.sb_tenant.specs.Perform.{with_request, change_seen, select_seen, perform_change, stands_as, stays, process_at, perform}
 use Rattle.sb_tenant.specs.Resolved.{Resolved, open_session, end_session, begin, commit, rollback, process_rules, process_ruleset, process_rule, create_table, drop_table, create_rule, drop_rule, activate_rule, deactivate_rule, create_ruleset, drop_ruleset, add_rules, del_rules, query, change}
 use Rattle.sb_tenant.specs.State.{State, Session, closed, idle, active, session_at, changes_of, with_session, setting_of, progress_of, with_progress, rolled_back, committed}
 use Rattle.sb_tenant.specs.Limits.{table_limit}
@@ -85,7 +85,7 @@ module _ (laws : ChangesAreProper) (tenant bound : ℕ) (state : State) (h : Has
   proper-back = proper-put state g s (released state.locks s) state.steps idle tt
 
   proper-stands : (finish : State → State) → ((p : Progress) → InOrder p → HasProperTables (finish (with_progress state s p))) →
-      (outcome : Outcome) (p : Progress) → InOrder p → HasProperTables (stands_after state s finish outcome p)
+      (outcome : Outcome) (p : Progress) → InOrder p → HasProperTables (stands_as state s finish (stands_after outcome p))
   proper-stands finish finishes Done p k = finishes p k
   proper-stands finish finishes (ByRule r) p k = proper-back
   proper-stands finish finishes (ByError r refusal) p k = proper-back

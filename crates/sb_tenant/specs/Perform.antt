@@ -13,7 +13,7 @@ use Rattle.sb_check.specs.declared.tree.Statement.{Statement}
 use Rattle.sb_eval.specs.Seen.{no_transition}
 use Rattle.sb_eval.specs.Statement.{query_locks, statement_locks, select_rows, statement_changes}
 use Rattle.sb_process.specs.Setting.{Progress, seen_with}
-use Rattle.sb_process.specs.Process.{Processing, process}
+use Rattle.sb_process.specs.Process.{Processing, Standing, goes_on, taken_back, process, standing}
 use Rattle.sb_process.specs.declared.Outcome.{Outcome}
 use Rattle.sb_process.specs.declared.Outcome.TheVariants.{Done, ByRule, ByError, ByLimit}
 use Rattle.sb_catalog.specs.Definitions.{is_member}
@@ -68,17 +68,15 @@ reply_of catalog (ByRule r) trace = reply.ByRule (rule_name catalog r) trace
 reply_of catalog (ByError r refusal) trace = reply.ByError (rule_name catalog r) refusal trace
 reply_of catalog ByLimit trace = reply.ByLimit trace
 
--- each outcome but Done rolls back
-abbrev pub stands_after : State → ℕ → (State → State) → Outcome → Progress → State
-stands_after state s finish Done progress = finish (with_progress state s progress)
-stands_after state s finish (ByRule r) progress = rolled_back state s
-stands_after state s finish (ByError r refusal) progress = rolled_back state s
-stands_after state s finish ByLimit progress = rolled_back state s
+-- the state by what the transaction has come to: it goes on and is finished so, or all of it is taken back
+abbrev pub stands_as : State → ℕ → (State → State) → Standing → State
+stands_as state s finish (goes_on progress) = finish (with_progress state s progress)
+stands_as state s finish taken_back = rolled_back state s
 
 -- what stands after processing, and the reply
 abbrev pub after_processing : State → ℕ → (State → State) → Processing → State × Reply
 after_processing state s finish p =
-    (stands_after state s finish p.outcome p.progress, reply_of state.catalog p.outcome (named state.catalog p.trace))
+    (stands_as state s finish (standing p), reply_of state.catalog p.outcome (named state.catalog p.trace))
 
 -- the rules that are eligible here are processed
 abbrev pub process_at : ℕ → ℕ → State → ℕ → (ℕ → Bool) → (State → State) → State × Reply

@@ -7,7 +7,8 @@ ghost use Rattle.sb_process.specs.Made.{NumbersBelow};
 ghost use Rattle.sb_process.specs.Running.{is_done};
 ghost use Rattle.sb_process.specs.Setting.{Progress};
 ghost use Rattle.sb_process.specs.declared.Outcome.{Outcome};
-ghost use Rattle.sb_tenant.specs.Perform.{perform, process_at, stands_after, stays};
+ghost use Rattle.sb_process.specs.Process.{stands_after};
+ghost use Rattle.sb_tenant.specs.Perform.{perform, process_at, stands_as, stays};
 ghost use Rattle.sb_tenant.specs.Represents.{Finds, Leaves, Performs, StandAside, StandFor, phase_at};
 ghost use Rattle.sb_tenant.specs.Resolved.{commit as commit_command};
 ghost use Rattle.sb_tenant.specs.State.{State, committed};
@@ -135,7 +136,7 @@ impl Store {
     fn finish<L: ChangeLog>(&mut self, log: &mut L, session: SessionId, done: bool)
         requires stand { (index : List (List TableSets)) × (state : State) × StandFor self.old (L.records log.old) (L.clock log.old) index state }
         requires active { done ≡ true → phase_at self.old.phases session ≡ phase.Active }
-        ensures finished { (index : List (List TableSets)) (state : State) (outcome : Outcome) (progress : Progress) → is_done outcome ≡ done → StandFor self.old (L.records log.old) (L.clock log.old) index (stands_after state session stays outcome progress) → StandFor self.new (L.records log.new) (L.clock log.new) index (stands_after state session (λ now. committed now session) outcome progress) }
+        ensures finished { (index : List (List TableSets)) (state : State) (outcome : Outcome) (progress : Progress) → is_done outcome ≡ done → StandFor self.old (L.records log.old) (L.clock log.old) index (stands_as state session stays (stands_after outcome progress)) → StandFor self.new (L.records log.new) (L.clock log.new) index (stands_as state session (λ now. committed now session) (stands_after outcome progress)) }
         ensures leaves { Leaves 0 self.old self.new session (L.records log.old) (L.records log.new) (L.clock log.old) (L.clock log.new) }
     {
         if done {

@@ -1,5 +1,6 @@
 use Rattle.std.proofs.Common.{◌∙◌, subst, refl}
-use Rattle.sb_tenant.specs.Perform.{stands_after, stays}
+use Rattle.sb_process.specs.Process.{stands_after}
+use Rattle.sb_tenant.specs.Perform.{stands_as, stays}
 use Rattle.sb_tenant.specs.Represents.{StandFor}
 use Rattle.sb_tenant.proofs.Calls.{commits, commits-not}
 use Rattle.sb_tenant.proofs.Leaving.{leaves-none}
@@ -9,7 +10,7 @@ pub returns-then-done-clause-finished : goal.returns-then-done-clause-finished
 returns-then-done-clause-finished g c = λ index state outcome progress e h.
     let s = c.args.session in
     subst (StandFor c.keep.new.self (g.L.ChangeLog.records c.keep.new.log) (g.L.ChangeLog.clock c.keep.new.log) index) (commits state s outcome progress (e ∙ c.if-done.true))
-    (c.keep.ensures.kept index (stands_after state s stays outcome progress) h)
+    (c.keep.ensures.kept index (stands_as state s stays (stands_after outcome progress)) h)
 
 pub returns-else-done-clause-finished : goal.returns-else-done-clause-finished
 returns-else-done-clause-finished g c = λ index state outcome progress e h.
