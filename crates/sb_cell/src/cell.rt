@@ -56,8 +56,7 @@ impl Model for Cell {
 }
 
 impl Cell {
-    /// The tenants below the number `tenants`, without tables and rules, and at most so many
-    /// considerations at an assertion point.
+    /// The tenants below the number `tenants`, without tables and rules, and with `bound` as their consideration limit.
     pub fn new(
         alloc: Global,
         first: u32,
@@ -86,6 +85,7 @@ impl Cell {
         ensures few { entry_count self.now.tenants ≤ 16779264 }
         ensures first { self.now.first < self.now.stride }
     {
+        // for the proof: a legal trail has few entries, and the trails are legal
         trails_are_bounded();
         let _tenants = &self.tenants;
     }
@@ -156,6 +156,7 @@ impl Cell {
         if session >= SESSION_LIMIT as u32 {
             return Err(StepError::NoSession);
         }
+        // for the proof: so few entries make few changes, and the log's clock has room
         trails_are_bounded();
         let place = (tenant / self.stride) as usize;
         let session = SessionId::new(session as u8);
@@ -272,7 +273,7 @@ impl Cell {
         ensures same { IsSame self.old self.new }
         ensures err { OnErr result (self.new ≡ self.old) }
     {
-        // for the proof: the trails are legal
+        // for the proof: the trails are legal; events one after another run every tenant in turn, and so as if it were alone
         let _ = &self.tenants;
         events_run_in_turn();
         turns_run_alone();

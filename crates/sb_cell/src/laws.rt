@@ -14,6 +14,7 @@ pub fn events_run_in_turn()
 pub fn turns_run_alone()
     ensures { (bound : ℕ) (run : Run) → BeginsLegal bound run → RunsInTurn bound run → RunsAlone bound run }
 {
+    // for the proof: a legal trail tells its state
     legal_states_are_replayed();
 }
 

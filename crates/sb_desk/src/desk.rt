@@ -110,6 +110,7 @@ impl<N: Naming, const FIRST: u32> Desk<N, FIRST> {
         let Ok(answer) = self.cell.open(alloc, tenant, session) else {
             return Err(AttachError::NotBegun);
         };
+        // for the proof: the new entry opens or closes its session and no other, and the trails are legal
         entries_open_and_close();
         self.cell.keeps_trails();
         let Some(number) = answer.number else {
@@ -153,6 +154,7 @@ impl<N: Naming, const FIRST: u32> Desk<N, FIRST> {
         else {
             return Err(CallError::NotBegun);
         };
+        // for the proof: the new entry opens or closes its session and no other, and the trails are legal
         entries_open_and_close();
         self.cell.keeps_trails();
         if answer.number.is_none() {
@@ -182,6 +184,7 @@ impl<N: Naming, const FIRST: u32> Desk<N, FIRST> {
         let tenant = r.tenant();
         let session = r.session();
         let answer = self.cell.end(tenant, session);
+        // for the proof: the new entry opens or closes its session and no other, and the trails are legal
         entries_open_and_close();
         self.cell.keeps_trails();
         let Some(number) = answer.number else {

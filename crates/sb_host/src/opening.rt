@@ -48,8 +48,7 @@ impl Model for Opened {
 }
 
 impl Opened {
-    /// The parts of a host with so many tenants and cells, and at most so many considerations at an
-    /// assertion point.
+    /// The parts of a host with so many tenants and cells, and with `bound` as the tenants' consideration limit.
     pub fn new(alloc: Global, tenants: u32, cells: u32, bound: u32) -> Result<Opened, AllocError>
         requires tenants { (0 < tenants) × (tenants ≤ 256) }
         requires cells { (0 < cells) × (cells ≤ 16) }

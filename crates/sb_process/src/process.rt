@@ -44,7 +44,7 @@ impl Outcome {
 }
 
 impl Database {
-    /// Considers eligible rules that are triggered, one after another, at most `bound` times.
+    /// Considers eligible rules that are triggered, one after another, up to the consideration limit `bound`.
     /// After every outcome but `Done`, and where memory runs out, the transaction is taken back.
     pub fn process<L: ChangeLog>(
         &mut self,

@@ -42,6 +42,7 @@ pub fn replay<R: Source, W: Sink, N: Naming + Send + Sync, T: Threads + Wait + S
         Ok(text) => text,
         Err(error) => return Err(error),
     };
+    // for the proof: receipts that are the entries in some order, with rising numbers, are the entries in order
     steps_fix_the_order();
     write_out(writer, text.as_slice())
 }

@@ -28,6 +28,7 @@ impl Store {
         if self.definitions.rules.has(&rule.name) {
             return Err(Refusal::RuleExists);
         }
+        // for the proof: the tables that the rule names are there
         resolved_tables_are_there();
         let names = Names {
             tables: &self.database.tables,

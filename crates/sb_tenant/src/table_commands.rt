@@ -30,6 +30,7 @@ impl Store {
         if self.database.tables.len() >= TABLE_LIMIT {
             return Err(Refusal::TooManyTables);
         }
+        // for the proof: the number that is free is the least one
         least_free_is_least();
         match self.database.tables.create(name, columns) {
             Ok(_) => Ok(()),

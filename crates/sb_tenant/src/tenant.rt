@@ -57,7 +57,8 @@ impl Model for Tenant {
 }
 
 impl Tenant {
-    /// A tenant without tables and rules, its sessions closed.
+    /// A tenant without tables and rules, its sessions closed. `bound` is its consideration limit: the most rules that are
+    /// considered at an assertion point.
     pub fn new(alloc: Global, id: TenantId, bound: u32) -> Tenant
         requires { bound ≤ 1000 }
         ensures is_new { IsNew id bound result }

@@ -85,6 +85,7 @@ impl Store {
         ensures twice { result.1 ≡ result.0 }
         ensures leaves { Leaves 0 self.old self.new session (L.records log.old) (L.records log.new) (L.clock log.old) (L.clock log.new) }
     {
+        // for the proof: what is resolved is there, and is the same over committed tables and over those in memory
         resolved_tables_are_there();
         walks_see_columns();
         let names = Names {
@@ -117,6 +118,7 @@ impl Store {
         ensures twice { result.1 ≡ result.0 }
         ensures leaves { Leaves 4096 self.old self.new session (L.records log.old) (L.records log.new) (L.clock log.old) (L.clock log.new) }
     {
+        // for the proof: what is resolved is there, and is the same over committed tables and over those in memory
         resolved_tables_are_there();
         walks_see_columns();
         let names = Names {

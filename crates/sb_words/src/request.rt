@@ -37,8 +37,7 @@ const CONNECTIONS: u32 = 0;
 
 const MOST_CONNECTIONS: u32 = 1_000_000;
 
-/// A run over standard input: how many tenants are hosted, and the most considerations at an
-/// assertion point.
+/// A run over standard input: how many tenants are hosted, and their consideration limit.
 #[derive(Clone, Copy, Debug)]
 pub struct Run {
     pub tenants: u32,
