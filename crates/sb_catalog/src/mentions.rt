@@ -78,9 +78,9 @@ fn condition_names(table: TableId, condition: &Condition) -> bool
 {
     match &condition.node {
         ConditionNode::Always => false,
-        ConditionNode::Or(a, b) => condition_names(table, a) || condition_names(table, b),
-        ConditionNode::And(a, b) => condition_names(table, a) || condition_names(table, b),
-        ConditionNode::Not(a) => condition_names(table, a),
+        ConditionNode::Disjunction(a, b) => condition_names(table, a) || condition_names(table, b),
+        ConditionNode::Conjunction(a, b) => condition_names(table, a) || condition_names(table, b),
+        ConditionNode::Negation(a) => condition_names(table, a),
         ConditionNode::Compare(_, _, b) => operand_names(table, b),
         ConditionNode::In(_, query) => query_names(table, query),
         ConditionNode::Exists(query) => query_names(table, query),

@@ -13,8 +13,8 @@ use Rattle.sb_check.specs.Names.{and_then, in_order, required}
 use Rattle.sb_check.specs.Resolved.{Resolved, plain, new_table, table, rule, query, change, walk_names, named_twice, resolved}
 use Rattle.sb_check.specs.RuleParts.{Parts, in_rule, condition_parts, walk_parts}
 use Rattle.sb_check.specs.Triggers.{walk_triggers}
-use Rattle.sb_check.specs.Walk.{Schema, table_named, walk_query, walk_change, walk_action}
-use Rattle.sb_check.proofs.Fitting.{then_ok, required_ok, table_fits, query_fits, change_fits, rule_condition_fits, actions_fit}
+use Rattle.sb_check.specs.Walk.{Schema, table_named, walk_query, walk_statement, walk_action}
+use Rattle.sb_check.proofs.Fitting.{then_ok, required_ok, table_fits, query_fits, statement_fits, rule_condition_fits, actions_fit}
 
 parts_fit : (schema : Schema) (r : text.RuleText) (parts : Parts) → walk_parts schema r ≡ Ok parts → PartsFit schema parts
 parts_fit schema r parts h =
@@ -59,9 +59,9 @@ names_fit schema (text.query q) x h =
     let is : query w.0.0 ≡ x = cc w.2 in
     subst (Fits schema) is (λ types_of are. (w.0.1, query_fits schema types_of are q [] w.0 w.1))
 names_fit schema (text.change c) x h =
-    let s = then_ok (walk_change schema c) (λ s. Ok (change s)) x h in
+    let s = then_ok (walk_statement schema c) (λ s. Ok (change s)) x h in
     let is : change s.0 ≡ x = cc s.2 in
-    subst (Fits schema) is (λ types_of are. change_fits schema types_of are c s.0 s.1)
+    subst (Fits schema) is (λ types_of are. statement_fits schema types_of are c s.0 s.1)
 names_fit schema text.open_session x h = plain_fits schema x (cc h)
 names_fit schema text.end_session x h = plain_fits schema x (cc h)
 names_fit schema text.begin x h = plain_fits schema x (cc h)

@@ -13,11 +13,11 @@ use Rattle.sb_value.specs.Name.{same_name}
 use Rattle.sb_value.specs.Table.{Entry}
 use Rattle.sb_syntax.specs.Tree.{Name}
 use Rattle.sb_syntax.specs.Tree as text
-use Rattle.sb_syntax.specs.declared.ast.ColumnReference.{ColumnReference}
-use Rattle.sb_syntax.specs.declared.ast.ColumnReference.TheVariants.{Plain, Qualified}
-use Rattle.sb_syntax.specs.declared.ast.SourceReference.{SourceReference}
-use Rattle.sb_syntax.specs.declared.ast.TableReference.{TableReference}
-use Rattle.sb_syntax.specs.declared.ast.TableReference.TheVariants.{Named}
+use Rattle.sb_syntax.specs.declared.tree.ColumnReference.{ColumnReference}
+use Rattle.sb_syntax.specs.declared.tree.ColumnReference.TheVariants.{Plain, Qualified}
+use Rattle.sb_syntax.specs.declared.tree.SourceReference.{SourceReference}
+use Rattle.sb_syntax.specs.declared.tree.TableReference.{TableReference}
+use Rattle.sb_syntax.specs.declared.tree.TableReference.TheVariants.{Named}
 use Rattle.sb_check.specs.declared.tree.Action.{Action}
 use Rattle.sb_check.specs.declared.tree.Action.TheVariants as action
 use Rattle.sb_check.specs.declared.tree.Assignment.{Assignment}
@@ -33,7 +33,7 @@ use Rattle.sb_check.specs.Expression.{Expression, literal, column, binary}
 use Rattle.sb_check.specs.Fits.{Types, column_type, IsOf, AreOf, Lists, IsOneValue, ConditionFits, OperandFits, QueryFits, row_types, RowsFit, AssignmentsFit, StatementFits, RuleConditionFits, ActionsFit, AreTypesOf}
 use Rattle.sb_check.specs.Names.{and_then, in_order, required, some_or, same_table, same_type, Visible, Scope, column_from, column_in, holders, only_one, plain_column, source_named, column_of_source, qualified_column, column_named}
 use Rattle.sb_check.specs.RuleParts.{condition_parts}
-use Rattle.sb_check.specs.Walk.{Schema, Walked, type_of, table_named, walk_table, walk_expression, walk_sources, visible_name, walk_items, is_aggregate, has_aggregate, in_type, with_not, of_types, fitting, walk_select, walk_condition, walk_operand, walk_filter, walk_query, visible_table, walk_assignments, walk_change, walk_action}
+use Rattle.sb_check.specs.Walk.{Schema, Walked, type_of, table_named, walk_table, walk_expression, walk_sources, visible_name, walk_items, is_aggregate, has_aggregate, in_type, with_not, of_types, fitting, walk_select, walk_condition, walk_operand, walk_filter, walk_query, visible_table, walk_assignments, walk_statement, walk_action}
 
 -- ---- parts of an answer
 
@@ -470,26 +470,26 @@ module _ (schema : Schema) (types_of : Source → List ColumnType) (are : AreTyp
       subst (AssignmentsFit types_of e.id) is
       ((c.0.1, subst P (sym t) place, subst Q (row_scope e t) typed), assignments_fit e t (c.0.0 ∷ taken) xs others.0 others.1)
 
-  pub change_fits : (c : text.Change) (s : Statement) → walk_change schema c ≡ Ok s → StatementFits types_of s
-  change_fits (text.insert_rows name rows) s h =
+  pub statement_fits : (c : text.Statement) (s : Statement) → walk_statement schema c ≡ Ok s → StatementFits types_of s
+  statement_fits (text.insert_rows name rows) s h =
       let e = then_ok (table_named schema name) (λ e. and_then (in_order (λ row. fitting (map type_of row) e.table.columns) rows) (λ _. Ok (InsertRows e.id rows))) s h in
       let r = then_ok (in_order (λ row. fitting (map type_of row) e.0.table.columns) rows) (λ _. Ok (InsertRows e.0.id rows)) s e.2 in
       let is : InsertRows e.0.id rows ≡ s = cc r.2 in
       subst (StatementFits types_of) is (rows_fit e.0 rows r.0 (table_fits name e.0 e.1) r.1)
-  change_fits (text.insert_query name q) s h =
+  statement_fits (text.insert_query name q) s h =
       let e = then_ok (table_named schema name) (λ e. and_then (walk_query schema q []) (λ w. and_then (fitting w.1 e.table.columns) (λ _. Ok (InsertQuery e.id w.0)))) s h in
       let w = then_ok (walk_query schema q []) (λ w. and_then (fitting w.1 e.0.table.columns) (λ _. Ok (InsertQuery e.0.id w.0))) s e.2 in
       let f = then_ok (fitting w.0.1 e.0.table.columns) (λ _. Ok (InsertQuery e.0.id w.0.0)) s w.2 in
       let is : InsertQuery e.0.id w.0.0 ≡ s = cc f.2 in
       subst (StatementFits types_of) is
       (subst (QueryFits types_of [] w.0.0) (fitting_fits w.0.1 e.0.table.columns f.0 f.1 ∙ sym (table_fits name e.0 e.1)) (query_fits q [] w.0 w.1))
-  change_fits (text.delete name filter) s h =
+  statement_fits (text.delete name filter) s h =
       let e = then_ok (table_named schema name) (λ e. and_then (walk_filter schema filter (visible_table schema e)) (λ c. Ok (Delete e.id c))) s h in
       let c = then_ok (walk_filter schema filter (visible_table schema e.0)) (λ c. Ok (Delete e.0.id c)) s e.2 in
       let is : Delete e.0.id c.0 ≡ s = cc c.2 in
       let P : Types → Type 0 = λ types. ConditionFits types_of types c.0 in
       subst (StatementFits types_of) is (subst P (row_scope e.0 (table_fits name e.0 e.1)) (filter_fits filter (visible_table schema e.0) c.0 c.1))
-  change_fits (text.update name assignments filter) s h =
+  statement_fits (text.update name assignments filter) s h =
       let e = then_ok (table_named schema name) (λ e. and_then (walk_assignments schema e [] assignments) (λ places. and_then (walk_filter schema filter (visible_table schema e)) (λ c. Ok (Update e.id places c)))) s h in
       let a = then_ok (walk_assignments schema e.0 [] assignments) (λ places. and_then (walk_filter schema filter (visible_table schema e.0)) (λ c. Ok (Update e.0.id places c))) s e.2 in
       let c = then_ok (walk_filter schema filter (visible_table schema e.0)) (λ c. Ok (Update e.0.id a.0 c)) s a.2 in
@@ -505,13 +505,13 @@ module _ (schema : Schema) (types_of : Source → List ColumnType) (are : AreTyp
       let is : action.Rollback ∷ q.0 ≡ done = cc q.2 in
       subst (ActionsFit types_of) is (actions_fit xs q.0 q.1)
   actions_fit (text.changes c ∷ xs) done h =
-      let p = then_ok (and_then (walk_change schema c) (λ s. Ok (action.Change s))) (λ y. and_then (in_order (walk_action schema) xs) (λ ys. Ok (y ∷ ys))) done h in
-      let s = then_ok (walk_change schema c) (λ s. Ok (action.Change s)) p.0 p.1 in
+      let p = then_ok (and_then (walk_statement schema c) (λ s. Ok (action.Change s))) (λ y. and_then (in_order (walk_action schema) xs) (λ ys. Ok (y ∷ ys))) done h in
+      let s = then_ok (walk_statement schema c) (λ s. Ok (action.Change s)) p.0 p.1 in
       let q = then_ok (in_order (walk_action schema) xs) (λ ys. Ok (p.0 ∷ ys)) done p.2 in
       let one : action.Change s.0 ≡ p.0 = cc s.2 in
       let is : p.0 ∷ q.0 ≡ done = cc q.2 in
       let P : Action → Type 0 = λ a. ActionsFit types_of (a ∷ q.0) in
-      subst (ActionsFit types_of) is (subst P one (change_fits c s.0 s.1, actions_fit xs q.0 q.1))
+      subst (ActionsFit types_of) is (subst P one (statement_fits c s.0 s.1, actions_fit xs q.0 q.1))
 
   pub rule_condition_fits : (q : Option text.Query) (x : Option Query) → condition_parts schema q ≡ Ok x → RuleConditionFits types_of x
   rule_condition_fits None x h = let is : None ≡ x = cc h in subst (RuleConditionFits types_of) is tt

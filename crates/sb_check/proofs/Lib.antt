@@ -2,7 +2,7 @@ mod SourceWalk
 mod Shares
 mod Results
 mod Equations
-mod ChangeWalk
+mod StatementWalk
 mod TriggerWalk
 mod RuleWalk
 mod Found

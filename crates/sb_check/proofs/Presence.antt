@@ -13,9 +13,9 @@ use Rattle.sb_value.specs.Name.{same_name}
 use Rattle.sb_value.specs.Table.{Entry}
 use Rattle.sb_syntax.specs.Tree.{Name, RuleText}
 use Rattle.sb_syntax.specs.Tree as text
-use Rattle.sb_syntax.specs.declared.ast.SourceReference.{SourceReference}
-use Rattle.sb_syntax.specs.declared.ast.TableReference.{TableReference}
-use Rattle.sb_syntax.specs.declared.ast.TableReference.TheVariants.{Named, Inserted, Deleted, OldUpdated, NewUpdated}
+use Rattle.sb_syntax.specs.declared.tree.SourceReference.{SourceReference}
+use Rattle.sb_syntax.specs.declared.tree.TableReference.{TableReference}
+use Rattle.sb_syntax.specs.declared.tree.TableReference.TheVariants.{Named, Inserted, Deleted, OldUpdated, NewUpdated}
 use Rattle.sb_check.specs.declared.tree.Action.{Action}
 use Rattle.sb_check.specs.declared.tree.Action.TheVariants as action
 use Rattle.sb_check.specs.declared.tree.Assignment.{Assignment}
@@ -29,7 +29,7 @@ use Rattle.sb_check.specs.Names.{and_then, in_order, required, some_or, same_tab
 use Rattle.sb_check.specs.RuleParts.{Parts, in_rule, condition_parts, walk_parts}
 use Rattle.sb_check.specs.There.{IsTable, IsThere, AreThere, IsStatementThere, IsConditionThere, AreActionsThere, ArePartsThere}
 use Rattle.sb_check.specs.Triggers.{walk_triggers}
-use Rattle.sb_check.specs.Walk.{Schema, Walked, type_of, table_named, has_updates, walk_table, visible_name, walk_sources, walk_expression, has_aggregate, in_type, with_not, fitting, walk_condition, walk_operand, walk_filter, walk_query, visible_table, walk_assignments, walk_change, walk_action}
+use Rattle.sb_check.specs.Walk.{Schema, Walked, type_of, table_named, has_updates, walk_table, visible_name, walk_sources, walk_expression, has_aggregate, in_type, with_not, fitting, walk_condition, walk_operand, walk_filter, walk_query, visible_table, walk_assignments, walk_statement, walk_action}
 use Rattle.sb_check.proofs.Fitting.{then_ok, required_ok, some_ok, selected}
 
 -- ---- a table that is found
@@ -188,24 +188,24 @@ module _ (schema : Schema) where
       subst AssignmentsThere is
       (both_there schema.tables (operand_sources o.0.0) (assignment_sources others.0) (operand_there x.operand (visible_table schema e) o.0 o.1) (assignments_there e (c.0.0 ∷ taken) xs others.0 others.1))
 
-  pub change_there : (c : text.Change) (s : Statement) → walk_change schema c ≡ Ok s → IsStatementThere schema.tables s
-  change_there (text.insert_rows name rows) s h =
+  pub statement_there : (c : text.Statement) (s : Statement) → walk_statement schema c ≡ Ok s → IsStatementThere schema.tables s
+  statement_there (text.insert_rows name rows) s h =
       let e = then_ok (table_named schema name) (λ e. and_then (in_order (λ row. fitting (map type_of row) e.table.columns) rows) (λ _. Ok (InsertRows e.id rows))) s h in
       let r = then_ok (in_order (λ row. fitting (map type_of row) e.0.table.columns) rows) (λ _. Ok (InsertRows e.0.id rows)) s e.2 in
       let is : InsertRows e.0.id rows ≡ s = cc r.2 in
       subst (IsStatementThere schema.tables) is (table_there name e.0 e.1)
-  change_there (text.insert_query name q) s h =
+  statement_there (text.insert_query name q) s h =
       let e = then_ok (table_named schema name) (λ e. and_then (walk_query schema q []) (λ w. and_then (fitting w.1 e.table.columns) (λ _. Ok (InsertQuery e.id w.0)))) s h in
       let w = then_ok (walk_query schema q []) (λ w. and_then (fitting w.1 e.0.table.columns) (λ _. Ok (InsertQuery e.0.id w.0))) s e.2 in
       let f = then_ok (fitting w.0.1 e.0.table.columns) (λ _. Ok (InsertQuery e.0.id w.0.0)) s w.2 in
       let is : InsertQuery e.0.id w.0.0 ≡ s = cc f.2 in
       subst (IsStatementThere schema.tables) is (table_there name e.0 e.1, query_there q [] w.0 w.1)
-  change_there (text.delete name filter) s h =
+  statement_there (text.delete name filter) s h =
       let e = then_ok (table_named schema name) (λ e. and_then (walk_filter schema filter (visible_table schema e)) (λ c. Ok (Delete e.id c))) s h in
       let c = then_ok (walk_filter schema filter (visible_table schema e.0)) (λ c. Ok (Delete e.0.id c)) s e.2 in
       let is : Delete e.0.id c.0 ≡ s = cc c.2 in
       subst (IsStatementThere schema.tables) is (table_there name e.0 e.1, filter_there filter (visible_table schema e.0) c.0 c.1)
-  change_there (text.update name assignments filter) s h =
+  statement_there (text.update name assignments filter) s h =
       let e = then_ok (table_named schema name) (λ e. and_then (walk_assignments schema e [] assignments) (λ places. and_then (walk_filter schema filter (visible_table schema e)) (λ c. Ok (Update e.id places c)))) s h in
       let a = then_ok (walk_assignments schema e.0 [] assignments) (λ places. and_then (walk_filter schema filter (visible_table schema e.0)) (λ c. Ok (Update e.0.id places c))) s e.2 in
       let c = then_ok (walk_filter schema filter (visible_table schema e.0)) (λ c. Ok (Update e.0.id a.0 c)) s a.2 in
@@ -226,14 +226,14 @@ module _ (schema : Schema) where
       let rest = actions_there xs q.0 q.1 in
       subst (Counted (text.rolls_back ∷ xs)) is (rest.0, ap (λ n. suc n) rest.1)
   actions_there (text.changes c ∷ xs) done h =
-      let p = then_ok (and_then (walk_change schema c) (λ s. Ok (action.Change s))) (λ y. and_then (in_order (walk_action schema) xs) (λ ys. Ok (y ∷ ys))) done h in
-      let s = then_ok (walk_change schema c) (λ s. Ok (action.Change s)) p.0 p.1 in
+      let p = then_ok (and_then (walk_statement schema c) (λ s. Ok (action.Change s))) (λ y. and_then (in_order (walk_action schema) xs) (λ ys. Ok (y ∷ ys))) done h in
+      let s = then_ok (walk_statement schema c) (λ s. Ok (action.Change s)) p.0 p.1 in
       let q = then_ok (in_order (walk_action schema) xs) (λ ys. Ok (p.0 ∷ ys)) done p.2 in
       let one : action.Change s.0 ≡ p.0 = cc s.2 in
       let is : p.0 ∷ q.0 ≡ done = cc q.2 in
       let rest = actions_there xs q.0 q.1 in
       let P : Action → Type 0 = λ a. Counted (text.changes c ∷ xs) (a ∷ q.0) in
-      subst (Counted (text.changes c ∷ xs)) is (subst P one ((change_there c s.0 s.1, rest.0), ap (λ n. suc n) rest.1))
+      subst (Counted (text.changes c ∷ xs)) is (subst P one ((statement_there c s.0 s.1, rest.0), ap (λ n. suc n) rest.1))
 
   pub rule_condition_there : (q : Option text.Query) (x : Option Query) → condition_parts schema q ≡ Ok x → IsConditionThere schema.tables x
   rule_condition_there None x h = let is : None ≡ x = cc h in subst (IsConditionThere schema.tables) is tt

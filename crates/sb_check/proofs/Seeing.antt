@@ -10,19 +10,19 @@ use Rattle.sb_value.specs.Name.{same_name}
 use Rattle.sb_value.specs.Table.{Entry}
 use Rattle.sb_syntax.specs.Tree.{Name}
 use Rattle.sb_syntax.specs.Tree as text
-use Rattle.sb_syntax.specs.declared.ast.SourceReference.{SourceReference}
-use Rattle.sb_syntax.specs.declared.ast.TableReference.{TableReference}
-use Rattle.sb_syntax.specs.declared.ast.TableReference.TheVariants.{Named, Inserted, Deleted, OldUpdated, NewUpdated}
+use Rattle.sb_syntax.specs.declared.tree.SourceReference.{SourceReference}
+use Rattle.sb_syntax.specs.declared.tree.TableReference.{TableReference}
+use Rattle.sb_syntax.specs.declared.tree.TableReference.TheVariants.{Named, Inserted, Deleted, OldUpdated, NewUpdated}
 use Rattle.sb_check.specs.declared.tree.Source.{Source}
 use Rattle.sb_check.specs.declared.tree.Source.TheVariants as source
 use Rattle.sb_check.specs.declared.tree.Statement.TheVariants.{InsertRows, InsertQuery, Delete, Update}
-use Rattle.sb_check.specs.Changes.{entry_of, table_scope}
+use Rattle.sb_check.specs.Statements.{entry_of, table_scope}
 use Rattle.sb_check.specs.Condition.{disjunction, conjunction, negation, compare, is_in, exists, answer, select}
 use Rattle.sb_check.specs.Lent.{SeenTable, table_seen}
 use Rattle.sb_check.specs.Names.{and_then, in_order, required, some_or, same_table, same_type, column_in, Scope}
 use Rattle.sb_check.specs.Sees.{SeeTheSame}
-use Rattle.sb_check.specs.Walk.{Schema, type_of, table_named, transition_source, has_updates, walk_table, visible_name, walk_sources, walk_expression, walk_items, has_aggregate, in_type, with_not, fitting, walk_condition, walk_operand, walk_filter, walk_query, walk_assignments, walk_change}
-use Rattle.sb_check.proofs.ChangeWalk.{assignments-seen}
+use Rattle.sb_check.specs.Walk.{Schema, type_of, table_named, transition_source, has_updates, walk_table, visible_name, walk_sources, walk_expression, walk_items, has_aggregate, in_type, with_not, fitting, walk_condition, walk_operand, walk_filter, walk_query, walk_assignments, walk_statement}
+use Rattle.sb_check.proofs.StatementWalk.{assignments-seen}
 
 -- ---- a table that is looked for
 
@@ -108,16 +108,16 @@ module _ (a b : Schema) (same : SeeTheSame a b) where
       (and_then (assignments_same e (c.0 ∷ taken) xs i) (λ others.
       Ok (record { place = c.0; operand = o.0 } ∷ others))))))
 
-  pub changes_same : (c : text.Change) → walk_change a c ≡ walk_change b c
-  changes_same (text.insert_rows name rows) =
+  pub statements_same : (c : text.Statement) → walk_statement a c ≡ walk_statement b c
+  statements_same (text.insert_rows name rows) =
       look_same (λ s. and_then (in_order (λ row. fitting (map type_of row) s.2) rows) (λ _. Ok (InsertRows s.0 rows))) name
-  changes_same (text.insert_query name q) =
+  statements_same (text.insert_query name q) =
       (λ i. and_then (table_named a name) (λ e. and_then (queries_same q [] i) (λ w. and_then (fitting w.1 e.table.columns) (λ _. Ok (InsertQuery e.id w.0)))))
       ∙ look_same (λ s. and_then (walk_query b q []) (λ w. and_then (fitting w.1 s.2) (λ _. Ok (InsertQuery s.0 w.0)))) name
-  changes_same (text.delete name filter) =
+  statements_same (text.delete name filter) =
       (λ i. and_then (table_named a name) (λ e. and_then (filters_same filter (table_scope e.name e.table.columns) i) (λ c. Ok (Delete e.id c))))
       ∙ look_same (λ s. and_then (walk_filter b filter (table_scope s.1 s.2)) (λ c. Ok (Delete s.0 c))) name
-  changes_same (text.update name assignments filter) =
+  statements_same (text.update name assignments filter) =
       (λ i. and_then (table_named a name) (λ e. and_then (bare e i) (λ places.
       and_then (filters_same filter (table_scope e.name e.table.columns) i) (λ c. Ok (Update e.id places c)))))
       ∙ look_same (λ s. and_then (walk_assignments b (entry_of s.0 s.1 s.2) [] assignments) (λ places.

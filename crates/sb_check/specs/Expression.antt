@@ -5,8 +5,8 @@ use Rattle.std.specs.Coded.{Coded, code_by, coded⊎}
 use Rattle.sb_value.specs.declared.value.Value.{Value}
 use Rattle.sb_value.specs.Tree.{Tree, leaf, node, coded_tree}
 use Rattle.sb_value.specs.contracts.value.Value as value
-use Rattle.sb_syntax.specs.declared.ast.Arithmetic.{Arithmetic}
-use Rattle.sb_syntax.specs.declared.ast.Arithmetic.TheVariants.{Add, Subtract, Multiply}
+use Rattle.sb_syntax.specs.declared.tree.Arithmetic.{Arithmetic}
+use Rattle.sb_syntax.specs.declared.tree.Arithmetic.TheVariants.{Add, Subtract, Multiply}
 use Rattle.sb_check.specs.contracts.tree.Column as column_place
 use Rattle.sb_check.specs.declared.tree.Column.{Column}
 

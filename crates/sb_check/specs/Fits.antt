@@ -5,7 +5,7 @@ use Rattle.sb_value.specs.declared.value.ColumnType.{ColumnType}
 use Rattle.sb_value.specs.declared.value.ColumnType.TheVariants.{Int}
 use Rattle.sb_value.specs.declared.value.ColumnDefinition.{ColumnDefinition}
 use Rattle.sb_value.specs.declared.net.Triggers.{Triggers}
-use Rattle.sb_syntax.specs.declared.ast.TableReference.{TableReference}
+use Rattle.sb_syntax.specs.declared.tree.TableReference.{TableReference}
 use Rattle.sb_check.specs.Expression.{Expression, literal, column, binary}
 use Rattle.sb_check.specs.Condition.{Condition, always, disjunction, conjunction, negation, compare, is_in, exists, Operand, expression, answer, Query, select}
 use Rattle.sb_check.specs.declared.tree.Column.{Column}

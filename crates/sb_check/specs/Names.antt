@@ -8,10 +8,10 @@ use Rattle.sb_value.specs.declared.refusal.Refusal.{Refusal}
 use Rattle.sb_value.specs.declared.refusal.Refusal.TheVariants as refusal
 use Rattle.sb_check.specs.declared.tree.Column.{Column}
 use Rattle.sb_syntax.specs.Tree.{Name}
-use Rattle.sb_syntax.specs.declared.ast.TableReference.{TableReference}
-use Rattle.sb_syntax.specs.declared.ast.TableReference.TheVariants.{Named, Inserted, Deleted, OldUpdated, NewUpdated}
-use Rattle.sb_syntax.specs.declared.ast.ColumnReference.{ColumnReference}
-use Rattle.sb_syntax.specs.declared.ast.ColumnReference.TheVariants.{Plain, Qualified}
+use Rattle.sb_syntax.specs.declared.tree.TableReference.{TableReference}
+use Rattle.sb_syntax.specs.declared.tree.TableReference.TheVariants.{Named, Inserted, Deleted, OldUpdated, NewUpdated}
+use Rattle.sb_syntax.specs.declared.tree.ColumnReference.{ColumnReference}
+use Rattle.sb_syntax.specs.declared.tree.ColumnReference.TheVariants.{Plain, Qualified}
 
 -- the first refusal, or what follows
 abbrev pub and_then : {A B : Type 0} → Result A Refusal → (A → Result B Refusal) → Result B Refusal

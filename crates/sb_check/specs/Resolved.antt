@@ -13,7 +13,7 @@ use Rattle.sb_check.specs.declared.command.Resolved.TheVariants as variant
 use Rattle.sb_check.specs.Names.{and_then, required}
 use Rattle.sb_check.specs.RuleParts.{Parts, walk_parts}
 use Rattle.sb_check.specs.RulePartsView.{rule_parts}
-use Rattle.sb_check.specs.Walk.{Schema, table_named, walk_query, walk_change}
+use Rattle.sb_check.specs.Walk.{Schema, table_named, walk_query, walk_statement}
 
 -- a command by what the tables tell of it: nothing; a new table that may be made; a table's id; the parts of a rule; a query; a statement
 pub data Resolved : Type 0 where
@@ -37,7 +37,7 @@ walk_names schema (text.create_table name columns) =
 walk_names schema (text.drop_table name) = and_then (table_named schema name) (λ e. Ok (table e.id))
 walk_names schema (text.create_rule r) = and_then (walk_parts schema r) (λ parts. Ok (rule parts))
 walk_names schema (text.query q) = and_then (walk_query schema q []) (λ w. Ok (query w.0))
-walk_names schema (text.change c) = and_then (walk_change schema c) (λ s. Ok (change s))
+walk_names schema (text.change c) = and_then (walk_statement schema c) (λ s. Ok (change s))
 walk_names schema other = Ok plain
 
 -- a command of the program as the walk's

@@ -2,8 +2,8 @@
 use Rattle.std.specs.Prelude.{Bool, false, List, map, Result, Ok}
 use Rattle.sb_value.specs.declared.net.Triggers.{Triggers}
 use Rattle.sb_value.specs.declared.refusal.Refusal.{Refusal}
-use Rattle.sb_syntax.specs.declared.ast.SourceReference.{SourceReference}
-use Rattle.sb_syntax.specs.declared.ast.TableReference.{TableReference}
+use Rattle.sb_syntax.specs.declared.tree.SourceReference.{SourceReference}
+use Rattle.sb_syntax.specs.declared.tree.TableReference.{TableReference}
 use Rattle.sb_check.specs.declared.tree.Source.{Source}
 use Rattle.sb_check.specs.declared.tree.Source.TheVariants.{Table, Inserted, Deleted, OldUpdated, NewUpdated}
 use Rattle.sb_check.specs.Names.{and_then, Visible}

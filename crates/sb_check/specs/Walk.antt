@@ -13,10 +13,10 @@ use Rattle.sb_value.specs.Name.{same_name}
 use Rattle.sb_value.specs.Table.{Entry}
 use Rattle.sb_syntax.specs.Tree.{Name}
 use Rattle.sb_syntax.specs.Tree as text
-use Rattle.sb_syntax.specs.declared.ast.Arithmetic.{Arithmetic}
-use Rattle.sb_syntax.specs.declared.ast.SourceReference.{SourceReference}
-use Rattle.sb_syntax.specs.declared.ast.TableReference.{TableReference}
-use Rattle.sb_syntax.specs.declared.ast.TableReference.TheVariants.{Named, Inserted, Deleted, OldUpdated, NewUpdated}
+use Rattle.sb_syntax.specs.declared.tree.Arithmetic.{Arithmetic}
+use Rattle.sb_syntax.specs.declared.tree.SourceReference.{SourceReference}
+use Rattle.sb_syntax.specs.declared.tree.TableReference.{TableReference}
+use Rattle.sb_syntax.specs.declared.tree.TableReference.TheVariants.{Named, Inserted, Deleted, OldUpdated, NewUpdated}
 use Rattle.sb_check.specs.Expression.{Expression, literal, column, binary}
 use Rattle.sb_check.specs.Condition.{Condition, always, disjunction, conjunction, negation, compare, is_in, exists, Operand, expression, answer, Query, select}
 use Rattle.sb_check.specs.declared.tree.Items.{Items}
@@ -189,18 +189,18 @@ module _ (schema : Schema) where
       Ok (record { place = c.0; operand = x.0 } ∷ others))))))
 
   -- a statement: its table, and then its rows, its query, or its assignments and its condition
-  abbrev pub walk_change : text.Change → Result Statement Refusal
-  walk_change (text.insert_rows name rows) =
+  abbrev pub walk_statement : text.Statement → Result Statement Refusal
+  walk_statement (text.insert_rows name rows) =
       and_then (table_named schema name) (λ e. and_then (in_order (λ row. fitting (map type_of row) e.table.columns) rows) (λ _. Ok (InsertRows e.id rows)))
-  walk_change (text.insert_query name q) =
+  walk_statement (text.insert_query name q) =
       and_then (table_named schema name) (λ e. and_then (walk_query q []) (λ w. and_then (fitting w.1 e.table.columns) (λ _. Ok (InsertQuery e.id w.0))))
-  walk_change (text.delete name filter) =
+  walk_statement (text.delete name filter) =
       and_then (table_named schema name) (λ e. and_then (walk_filter filter (visible_table e)) (λ c. Ok (Delete e.id c)))
-  walk_change (text.update name assignments filter) =
+  walk_statement (text.update name assignments filter) =
       and_then (table_named schema name) (λ e. and_then (walk_assignments e [] assignments) (λ places.
       and_then (walk_filter filter (visible_table e)) (λ c. Ok (Update e.id places c))))
 
   -- an action of a rule
   abbrev pub walk_action : text.Action → Result Action Refusal
-  walk_action (text.changes c) = and_then (walk_change c) (λ s. Ok (action.Change s))
+  walk_action (text.changes c) = and_then (walk_statement c) (λ s. Ok (action.Change s))
   walk_action text.rolls_back = Ok action.Rollback

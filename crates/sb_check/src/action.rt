@@ -5,9 +5,9 @@ ghost use Rattle.sb_check.specs.Names.{in_order};
 ghost use Rattle.sb_check.specs.Walk as spec;
 ghost use Rattle.sb_syntax.specs.Views as view;
 
-use crate::change::change;
 use crate::fault::Fault;
 use crate::schema::Schema;
+use crate::statement::statement;
 use crate::tree::{Action, Actions};
 use std::alloc::Global;
 
@@ -19,7 +19,7 @@ pub(crate) fn action<'s, S: Schema>(
     ensures { Gives (λ a. a) (spec.walk_action (S.names schema.now) (view.action action.now)) result }
 {
     match action {
-        sb_syntax::Action::Change(statement) => match change(alloc, statement, schema) {
+        sb_syntax::Action::Change(text) => match statement(alloc, text, schema) {
             Ok(resolved) => Ok(Action::Change(resolved)),
             Err(fault) => Err(fault),
         },

@@ -8,7 +8,7 @@ ghost use Rattle.sb_check.specs.Resolved.{named_twice, new_table, resolved, walk
 ghost use Rattle.sb_syntax.specs.Tree as tree;
 ghost use Rattle.sb_syntax.specs.Views as view;
 
-use crate::parts::{resolve_change, resolve_query, resolve_rule};
+use crate::parts::{resolve_query, resolve_rule, resolve_statement};
 use crate::rule::RuleParts;
 use crate::schema::Schema;
 use crate::scope::is_named;
@@ -66,7 +66,7 @@ fn command<'s, S: Schema>(alloc: Global, text: &Command, schema: &'s S) -> Resul
             Ok(query) => Ok(Resolved::Query(query)),
             Err(refusal) => Err(refusal),
         },
-        Command::Change(change) => match resolve_change(alloc, change, schema) {
+        Command::Change(change) => match resolve_statement(alloc, change, schema) {
             Ok(statement) => Ok(Resolved::Change(statement)),
             Err(refusal) => Err(refusal),
         },

@@ -14,7 +14,7 @@ use crate::fault::{Fault, Reason};
 use crate::scope::{Found, Scope, column_named};
 use crate::tree::{Column, Expression, ExpressionNode};
 use crate::types::same_type;
-use sb_syntax::{Arithmetic, ColumnReference, Expr};
+use sb_syntax::{Arithmetic, ColumnReference};
 use sb_value::{ColumnType, Value};
 use std::alloc::{AllocError, Global};
 
@@ -107,13 +107,13 @@ fn boxed(alloc: Global, e: Typed) -> Result<TypedPart, AllocError>
 }
 
 /// An expression that stands in another.
-fn part(alloc: Global, e: &Expr, scope: &Scope<'_, '_>) -> Result<TypedPart, Fault>
+fn part(alloc: Global, e: &sb_syntax::Expression, scope: &Scope<'_, '_>) -> Result<TypedPart, Fault>
     ensures { Gives typed_part (spec.walk_expression (scope_of scope.now) (view.expression e.now)) result }
 {
     match e {
-        Expr::Literal(value) => Ok(boxed(alloc, literal(value)?)?),
-        Expr::Column(name) => Ok(boxed(alloc, column(name, scope)?)?),
-        Expr::Binary(a, op, b) => {
+        sb_syntax::Expression::Literal(value) => Ok(boxed(alloc, literal(value)?)?),
+        sb_syntax::Expression::Column(name) => Ok(boxed(alloc, column(name, scope)?)?),
+        sb_syntax::Expression::Binary(a, op, b) => {
             let left = part(alloc, a, scope)?;
             let right = part(alloc, b, scope)?;
             Ok(boxed(alloc, joined(left, *op, right)?)?)
@@ -123,13 +123,17 @@ fn part(alloc: Global, e: &Expr, scope: &Scope<'_, '_>) -> Result<TypedPart, Fau
 
 /// An expression and its type.
 #[inline(always)]
-pub(crate) fn expression(alloc: Global, e: &Expr, scope: &Scope<'_, '_>) -> Result<Typed, Fault>
+pub(crate) fn expression(
+    alloc: Global,
+    e: &sb_syntax::Expression,
+    scope: &Scope<'_, '_>,
+) -> Result<Typed, Fault>
     ensures { Gives typed (spec.walk_expression (scope_of scope.now) (view.expression e.now)) result }
 {
     match e {
-        Expr::Literal(value) => literal(value),
-        Expr::Column(name) => column(name, scope),
-        Expr::Binary(a, op, b) => {
+        sb_syntax::Expression::Literal(value) => literal(value),
+        sb_syntax::Expression::Column(name) => column(name, scope),
+        sb_syntax::Expression::Binary(a, op, b) => {
             let left = part(alloc, a, scope)?;
             let right = part(alloc, b, scope)?;
             joined(left, *op, right)

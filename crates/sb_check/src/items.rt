@@ -14,7 +14,6 @@ use crate::fault::{Fault, Reason};
 use crate::scope::{Scope, Visible};
 use crate::tree::{ExpressionList, Items};
 use crate::types::{Types, same_type};
-use sb_syntax::Expr;
 use sb_value::{ColumnDefinition, ColumnType};
 use std::alloc::{AllocError, Global};
 
@@ -61,7 +60,11 @@ fn one_type(alloc: Global, of: ColumnType) -> Result<Types, AllocError>
 }
 
 /// Each expression in order.
-fn each(alloc: Global, expressions: &[Expr], scope: &Scope<'_, '_>) -> Result<TypedList, Fault>
+fn each(
+    alloc: Global,
+    expressions: &[sb_syntax::Expression],
+    scope: &Scope<'_, '_>,
+) -> Result<TypedList, Fault>
     ensures { Gives typed_list (unzipped (in_order (spec.walk_expression (scope_of scope.now)) (map view.expression expressions.now))) result }
 {
     let mut trees = ExpressionList::with_capacity(alloc, expressions.len())?;
@@ -75,7 +78,7 @@ fn each(alloc: Global, expressions: &[Expr], scope: &Scope<'_, '_>) -> Result<Ty
 }
 
 /// The sum of one expression.
-fn sum(alloc: Global, e: &Expr, scope: &Scope<'_, '_>) -> Result<Items, Fault>
+fn sum(alloc: Global, e: &sb_syntax::Expression, scope: &Scope<'_, '_>) -> Result<Items, Fault>
     ensures { Gives (λ i. (i, Int ∷ [])) (spec.walk_items (scope_of scope.now) [] (sum_of (view.expression e.now))) result }
 {
     let one = expression(alloc, e, scope)?;

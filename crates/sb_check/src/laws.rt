@@ -7,7 +7,7 @@ ghost use Rattle.sb_check.specs.Resolved.{Resolved as Outcome, walk_names};
 ghost use Rattle.sb_check.specs.RuleParts.{Parts, walk_parts};
 ghost use Rattle.sb_check.specs.Sees.{SeeTheSame};
 ghost use Rattle.sb_check.specs.There.{AreThere, ArePartsThere, IsStatementThere};
-ghost use Rattle.sb_check.specs.Walk.{Schema as Names, Walked as Rows, walk_change, walk_query};
+ghost use Rattle.sb_check.specs.Walk.{Schema as Names, Walked as Rows, walk_statement, walk_query};
 ghost use Rattle.sb_check.specs.declared.tree.Statement.{Statement as Done};
 ghost use Rattle.sb_syntax.specs.Tree as tree;
 
@@ -19,12 +19,12 @@ pub fn resolved_commands_fit()
 /// The tables that the walk resolves are there, and a rule has as many actions as its text.
 pub fn resolved_tables_are_there()
     ensures queries { (names : Names) (q : tree.Query) (w : Rows) → walk_query names q [] ≡ Ok w → AreThere names.tables (query_sources w.0) }
-    ensures statements { (names : Names) (c : tree.Change) (s : Done) → walk_change names c ≡ Ok s → IsStatementThere names.tables s }
+    ensures statements { (names : Names) (c : tree.Statement) (s : Done) → walk_statement names c ≡ Ok s → IsStatementThere names.tables s }
     ensures rules { (names : Names) (r : tree.RuleText) (parts : Parts) → walk_parts names r ≡ Ok parts → ArePartsThere names.tables r parts }
 {}
 
 /// The walk looks at the tables' numbers, names and columns, and not at their rows.
 pub fn walks_see_columns()
     ensures queries { (a b : Names) → SeeTheSame a b → (q : tree.Query) (scope : Places) → walk_query a q scope ≡ walk_query b q scope }
-    ensures statements { (a b : Names) → SeeTheSame a b → (c : tree.Change) → walk_change a c ≡ walk_change b c }
+    ensures statements { (a b : Names) → SeeTheSame a b → (c : tree.Statement) → walk_statement a c ≡ walk_statement b c }
 {}

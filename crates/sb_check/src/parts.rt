@@ -9,11 +9,11 @@ ghost use Rattle.sb_check.specs.Walk as spec;
 ghost use Rattle.sb_syntax.specs.Views as view;
 
 use crate::action::{action, actions};
-use crate::change::change;
 use crate::query::query;
 use crate::rule::{RuleParts, rule};
 use crate::schema::Schema;
 use crate::scope::Scope;
+use crate::statement::statement;
 use crate::tree::{Action, Actions, Query, Statement};
 use crate::trigger::triggers;
 use sb_syntax::{RuleText, Trigger};
@@ -36,14 +36,14 @@ pub fn resolve_query<'s, S: Schema>(
 }
 
 /// A statement that changes a table.
-pub fn resolve_change<'s, S: Schema>(
+pub fn resolve_statement<'s, S: Schema>(
     alloc: Global,
-    text: &sb_syntax::Change,
+    text: &sb_syntax::Statement,
     schema: &'s S,
 ) -> Result<Statement, Refusal>
-    ensures { Answers (λ s. s) (spec.walk_change (S.names schema.now) (view.change text.now)) result }
+    ensures { Answers (λ s. s) (spec.walk_statement (S.names schema.now) (view.statement text.now)) result }
 {
-    match change(alloc, text, schema) {
+    match statement(alloc, text, schema) {
         Ok(statement) => Ok(statement),
         Err(fault) => Err(fault.refusal()),
     }

@@ -20,7 +20,7 @@ use crate::scope::{Scope, Visible};
 use crate::source::{Seen, see};
 use crate::tree::{Condition, ConditionNode, Expression, Operand, OperandNode, Query};
 use crate::types::{Types, same_type};
-use sb_syntax::{Comparison, Expr};
+use sb_syntax::Comparison;
 use sb_value::ColumnType;
 use std::alloc::{AllocError, Global};
 
@@ -45,7 +45,7 @@ fn disjunction(
 ) -> Result<Box<Condition>, AllocError>
     ensures { IfOk result (λ c. c.value ≡ tree.disjunction a.value b.value) }
 {
-    let node = ConditionNode::Or(a, b);
+    let node = ConditionNode::Disjunction(a, b);
     Ok(Box::new(alloc, Condition { node })?)
 }
 
@@ -56,14 +56,14 @@ fn conjunction(
 ) -> Result<Box<Condition>, AllocError>
     ensures { IfOk result (λ c. c.value ≡ tree.conjunction a.value b.value) }
 {
-    let node = ConditionNode::And(a, b);
+    let node = ConditionNode::Conjunction(a, b);
     Ok(Box::new(alloc, Condition { node })?)
 }
 
 fn negation(alloc: Global, a: Box<Condition>) -> Result<Box<Condition>, AllocError>
     ensures { IfOk result (λ c. c.value ≡ tree.negation a.value) }
 {
-    let node = ConditionNode::Not(a);
+    let node = ConditionNode::Negation(a);
     Ok(Box::new(alloc, Condition { node })?)
 }
 
@@ -134,9 +134,9 @@ fn is_aggregate(items: &sb_syntax::Items) -> bool
 /// Two expressions that are compared.
 fn compared<'s, S: Schema>(
     alloc: Global,
-    a: &Expr,
+    a: &sb_syntax::Expression,
     op: Comparison,
-    b: &Expr,
+    b: &sb_syntax::Expression,
     schema: &'s S,
     scope: &Scope<'_, 's>,
 ) -> Result<Box<Condition>, Fault>
@@ -155,7 +155,7 @@ fn compared<'s, S: Schema>(
 #[inline(never)]
 fn compared_with<'s, S: Schema>(
     alloc: Global,
-    a: &Expr,
+    a: &sb_syntax::Expression,
     op: Comparison,
     b: &sb_syntax::Operand,
     schema: &'s S,
@@ -176,7 +176,7 @@ fn compared_with<'s, S: Schema>(
 #[inline(never)]
 fn is_in<'s, S: Schema>(
     alloc: Global,
-    a: &Expr,
+    a: &sb_syntax::Expression,
     has_not: bool,
     q: &sb_syntax::Query,
     schema: &'s S,

@@ -50,9 +50,9 @@ fn condition_within(queries: u8, c: &Condition) -> bool
 {
     match &c.node {
         ConditionNode::Always => true,
-        ConditionNode::Or(a, b) => condition_within(queries, a) && condition_within(queries, b),
-        ConditionNode::And(a, b) => condition_within(queries, a) && condition_within(queries, b),
-        ConditionNode::Not(a) => condition_within(queries, a),
+        ConditionNode::Disjunction(a, b) => condition_within(queries, a) && condition_within(queries, b),
+        ConditionNode::Conjunction(a, b) => condition_within(queries, a) && condition_within(queries, b),
+        ConditionNode::Negation(a) => condition_within(queries, a),
         ConditionNode::Compare(a, _, b) => {
             expression_within(queries, a) && operand_within(queries, b)
         }

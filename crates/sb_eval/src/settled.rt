@@ -33,9 +33,9 @@ pub(crate) fn is_settled(c: &Condition, known: &Known<'_>) -> bool
 {
     match &c.node {
         ConditionNode::Always => true,
-        ConditionNode::Or(a, b) => is_settled(a, known.left()) && is_settled(b, known.right()),
-        ConditionNode::And(a, b) => is_settled(a, known.left()) && is_settled(b, known.right()),
-        ConditionNode::Not(a) => is_settled(a, known),
+        ConditionNode::Disjunction(a, b) => is_settled(a, known.left()) && is_settled(b, known.right()),
+        ConditionNode::Conjunction(a, b) => is_settled(a, known.left()) && is_settled(b, known.right()),
+        ConditionNode::Negation(a) => is_settled(a, known),
         ConditionNode::Compare(a, _, b) => is_plain(a) && is_operand_settled(b, known),
         ConditionNode::In(a, _) => is_plain(a) && known.values().is_some(),
         ConditionNode::Exists(_) => known.truth().is_some(),

@@ -20,8 +20,8 @@ use Rattle.sb_value.proofs.id.RuleId.TheSendSync as rule
 use Rattle.sb_value.proofs.name.Name.TheSendSync as name
 use Rattle.sb_value.proofs.net.Triggers.TheSendSync as triggers
 use Rattle.sb_value.proofs.rule_set.RuleSet.TheSendSync as rule_set
-use Rattle.sb_syntax.proofs.ast.Arithmetic.TheSendSync as arithmetic
-use Rattle.sb_syntax.proofs.ast.Comparison.TheSendSync as comparison
+use Rattle.sb_syntax.proofs.tree.Arithmetic.TheSendSync as arithmetic
+use Rattle.sb_syntax.proofs.tree.Comparison.TheSendSync as comparison
 use Rattle.sb_check.proofs.tree.Column.TheSendSync as column
 use Rattle.sb_check.proofs.tree.Sources.TheSendSync as sources
 use Rattle.sb_check.proofs.tree.Expression.TheLaws.TheKnot as expression

@@ -153,15 +153,15 @@ fn push_condition(locks: &mut Vec<(TableId, Mode)>, condition: &Condition) -> Re
 {
     match &condition.node {
         ConditionNode::Always => Ok(()),
-        ConditionNode::Or(a, b) => {
+        ConditionNode::Disjunction(a, b) => {
             push_condition(locks, a)?;
             push_condition(locks, b)
         }
-        ConditionNode::And(a, b) => {
+        ConditionNode::Conjunction(a, b) => {
             push_condition(locks, a)?;
             push_condition(locks, b)
         }
-        ConditionNode::Not(a) => push_condition(locks, a),
+        ConditionNode::Negation(a) => push_condition(locks, a),
         ConditionNode::Compare(_, _, b) => push_operand(locks, b),
         ConditionNode::In(_, query) => push_query(locks, query),
         ConditionNode::Exists(query) => push_query(locks, query),

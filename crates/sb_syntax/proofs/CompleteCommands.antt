@@ -8,9 +8,9 @@ use Rattle.sb_syntax.specs.declared.kind.Kind.{Kind}
 use Rattle.sb_syntax.specs.declared.kind.Kind.TheVariants as k
 use Rattle.sb_syntax.specs.Input.{Input, Is, same_kind}
 use Rattle.sb_syntax.specs.Tree as tree
-use Rattle.sb_syntax.specs.Tree.{Name, Operand, Filter, Query, Assignment, Change, Action, Trigger, RuleText, Command}
+use Rattle.sb_syntax.specs.Tree.{Name, Operand, Filter, Query, Assignment, Statement, Action, Trigger, RuleText, Command}
 use Rattle.sb_syntax.specs.Grammar as g
-use Rattle.sb_syntax.specs.Grammar.{IsName, IsLiteral, IsOperand, IsFilter, IsQuery, IsColumnType, IsDefinition, IsTuple, IsAssignment, IsChange, IsNames, IsTrigger, IsAction, IsIf, IsListed, IsPhrase, IsRuleHead, IsRuleBody, IsRule, IsStatement, Separated, IsCommand, max_depth, max_columns, max_actions}
+use Rattle.sb_syntax.specs.Grammar.{IsName, IsLiteral, IsOperand, IsFilter, IsQuery, IsColumnType, IsDefinition, IsTuple, IsAssignment, IsChange, IsNames, IsTrigger, IsAction, IsIf, IsListed, IsPhrase, IsRuleHead, IsRuleBody, IsRule, IsLeadingCommand, Separated, IsCommand, max_depth, max_columns, max_actions}
 use Rattle.sb_syntax.specs.Reading as r
 use Rattle.sb_syntax.specs.Reading.{Reader, Joins, and_then, kind_at, sees, next, expect, bytes_of, ◌>>=◌, ◌>>◌, pure, pushes}
 use Rattle.sb_syntax.proofs.TokenLaws.{Reads, is-kind, is-sees, is-other, is-next, is-shorter, is-expect}
@@ -82,7 +82,7 @@ deletes-reads n f ts x y z rest a b c d stop =
     let m = filter-reads max_depth f z rest d stop in
     (rw (is-expect k.Delete ts x a, is-expect k.From x y b, l.0, m.0) refl, omega (arith, is-shorter k.Delete ts x a, is-shorter k.From x y b, l.1, m.1))
 
-change-reads : (c : Change) (ts rest : Input) → IsChange c ts rest → StopsQuery rest → Reads r.change c ts rest
+change-reads : (c : Statement) (ts rest : Input) → IsChange c ts rest → StopsQuery rest → Reads r.change c ts rest
 unfolding r.change
 change-reads c ts rest (g.inserts_rows {n = n} {tuples = tuples} {x = x} {y = y} {z = z} {u = u} a b d e f) stop =
     let m = inserts_rows-reads n tuples ts x y z u rest a b d e f stop in (rw (is-kind k.Insert ts x a) m.0, m.1)
@@ -130,12 +130,12 @@ if-reads w ts rest (g.if_query {q = q} {x = x} is d) stop none =
     (rw (is-sees k.If ts x is, is-expect k.If ts x is, m.0) refl, omega (arith, is-shorter k.If ts x is, m.1))
 
 -- the first words of changes
-change-kind : (c : Change) (ts rest : Input) → IsChange c ts rest → (r.statement_by (kind_at ts) ≡ (r.change >>= λ c. pure (tree.change c))) × (sees k.Rollback ts ≡ false)
+change-kind : (c : Statement) (ts rest : Input) → IsChange c ts rest → (r.leading_command_by (kind_at ts) ≡ (r.change >>= λ c. pure (tree.change c))) × (sees k.Rollback ts ≡ false)
 unfolding same_kind
-change-kind c ts rest (g.inserts_rows {x = x} a b d e f) = (ap r.statement_by (is-kind k.Insert ts x a), is-other k.Insert k.Rollback ts x a refl)
-change-kind c ts rest (g.inserts_query {x = x} a b d e) = (ap r.statement_by (is-kind k.Insert ts x a), is-other k.Insert k.Rollback ts x a refl)
-change-kind c ts rest (g.deletes {x = x} a b d e) = (ap r.statement_by (is-kind k.Delete ts x a), is-other k.Delete k.Rollback ts x a refl)
-change-kind c ts rest (g.updates {x = x} a b d e f) = (ap r.statement_by (is-kind k.Update ts x a), is-other k.Update k.Rollback ts x a refl)
+change-kind c ts rest (g.inserts_rows {x = x} a b d e f) = (ap r.leading_command_by (is-kind k.Insert ts x a), is-other k.Insert k.Rollback ts x a refl)
+change-kind c ts rest (g.inserts_query {x = x} a b d e) = (ap r.leading_command_by (is-kind k.Insert ts x a), is-other k.Insert k.Rollback ts x a refl)
+change-kind c ts rest (g.deletes {x = x} a b d e) = (ap r.leading_command_by (is-kind k.Delete ts x a), is-other k.Delete k.Rollback ts x a refl)
+change-kind c ts rest (g.updates {x = x} a b d e f) = (ap r.leading_command_by (is-kind k.Update ts x a), is-other k.Update k.Rollback ts x a refl)
 
 action-reads : (y : Action) (ts rest : Input) → IsAction y ts rest → StopsQuery rest → Reads r.action y ts rest
 unfolding r.action r.word
@@ -242,37 +242,37 @@ columns-reads : (cs : List ColumnDefinition) (ts rest : Input) → Separated k.C
 unfolding r.columns ends
 columns-reads cs ts rest d le none = separated_to-reads k.Comma IsDefinition r.definition ends comma-ends (λ v a b d _. definition-reads v a b d) 7 cs ts rest d le tt none
 
-creates_table-reads : (n : Name) (cs : List ColumnDefinition) (ts x y z rest : Input) → IsPhrase k.Create k.Table n ts x → Is k.LeftParen x y → Separated k.Comma IsDefinition cs y z → length cs ≤ max_columns → Is k.RightParen z rest → r.statement ts ≡ Some (tree.create_table n cs, rest)
-unfolding r.statement r.creates r.creates_table
+creates_table-reads : (n : Name) (cs : List ColumnDefinition) (ts x y z rest : Input) → IsPhrase k.Create k.Table n ts x → Is k.LeftParen x y → Separated k.Comma IsDefinition cs y z → length cs ≤ max_columns → Is k.RightParen z rest → r.leading_command ts ≡ Some (tree.create_table n cs, rest)
+unfolding r.leading_command r.creates r.creates_table
 creates_table-reads n cs ts x y z rest (g.phrase {x = u} {y = v} a b c) d e le close =
     rw (is-kind k.Create ts u a, is-expect k.Create ts u a, is-kind k.Table u v b, is-expect k.Table u v b, (name-reads n v x c).0, is-expect k.LeftParen x y d, (columns-reads cs y z e le (paren-list z rest close)).0, is-expect k.RightParen z rest close) refl
 
-queries-reads : (q : Query) (ts rest : Input) → IsQuery max_depth q ts rest → kind_at rest ≡ None → r.statement ts ≡ Some (tree.query q, rest)
-unfolding r.statement
+queries-reads : (q : Query) (ts rest : Input) → IsQuery max_depth q ts rest → kind_at rest ≡ None → r.leading_command ts ≡ Some (tree.query q, rest)
+unfolding r.leading_command
 queries-reads q ts rest d none = rw (is-kind k.Select ts (query-first max_depth q ts rest d).0 (query-first max_depth q ts rest d).1) ((mapped tree.query (r.query_to max_depth) q ts rest (query-reads max_depth q ts rest d (nothing-follows rest none))).0)
 
-changes-reads : (c : Change) (ts rest : Input) → IsChange c ts rest → kind_at rest ≡ None → r.statement ts ≡ Some (tree.change c, rest)
-unfolding r.statement
+changes-reads : (c : Statement) (ts rest : Input) → IsChange c ts rest → kind_at rest ≡ None → r.leading_command ts ≡ Some (tree.change c, rest)
+unfolding r.leading_command
 changes-reads c ts rest d none = ap (λ p. p ts) (change-kind c ts rest d).0 ∙ (mapped tree.change r.change c ts rest (change-reads c ts rest d (nothing-follows rest none))).0
 
-word-reads : (kind : Kind) (command : Command) (ts rest : Input) → Is kind ts rest → r.statement_by (Some kind) ≡ r.word kind command → r.statement ts ≡ Some (command, rest)
-unfolding r.statement r.word
+word-reads : (kind : Kind) (command : Command) (ts rest : Input) → Is kind ts rest → r.leading_command_by (Some kind) ≡ r.word kind command → r.leading_command ts ≡ Some (command, rest)
+unfolding r.leading_command r.word
 word-reads kind command ts rest is by = rw (is-kind kind ts rest is, by, is-expect kind ts rest is) refl
 
 rule_first : (y : RuleText) (ts rest : Input) → IsRule y ts rest → (mid : Input) × Is k.Create ts mid
 rule_first y ts rest (g.rule (g.rule_head (g.phrase {x = u} a b c) d e f h) body) = (u, a)
 
-creates_rule-reads : (y : RuleText) (ts rest : Input) → IsRule y ts rest → kind_at rest ≡ None → r.statement ts ≡ Some (tree.create_rule y, rest)
-unfolding r.statement r.creates
+creates_rule-reads : (y : RuleText) (ts rest : Input) → IsRule y ts rest → kind_at rest ≡ None → r.leading_command ts ≡ Some (tree.create_rule y, rest)
+unfolding r.leading_command r.creates
 creates_rule-reads y ts rest d none =
     let f = rule_first y ts rest d in
     let m = rule-reads y ts f.0 rest f.1 d none in
     rw (is-kind k.Create ts f.0 f.1, is-expect k.Create ts f.0 f.1, m.1, m.0) refl
 
 -- the commands of two words and a name
-phrase-reads : (first second : Kind) (f : Name → Command) (p : Reader Command) (n : Name) (ts rest : Input) → IsPhrase first second n ts rest → r.statement_by (Some first) ≡ p → ((x : Input) → Is first ts x → kind_at x ≡ Some second → p ts ≡ (r.name_after second >>= λ n. pure (f n)) x)
-    → r.statement ts ≡ Some (f n, rest)
-unfolding r.statement
+phrase-reads : (first second : Kind) (f : Name → Command) (p : Reader Command) (n : Name) (ts rest : Input) → IsPhrase first second n ts rest → r.leading_command_by (Some first) ≡ p → ((x : Input) → Is first ts x → kind_at x ≡ Some second → p ts ≡ (r.name_after second >>= λ n. pure (f n)) x)
+    → r.leading_command ts ≡ Some (f n, rest)
+unfolding r.leading_command
 phrase-reads first second f p n ts rest (g.phrase {x = x} {y = y} a b c) by step =
     let m = after-reads second n x y rest b c in
     rw (is-kind first ts x a, by) (step x a (is-kind second x y b) ∙ ap (λ o. and_then o (λ n. pure (f n))) m.0)
@@ -281,61 +281,61 @@ phrase-reads first second f p n ts rest (g.phrase {x = x} {y = y} a b c) by step
 chooses : (first : Kind) (by : Option Kind → Reader Command) (second : Kind) (ts x : Input) → Is first ts x → kind_at x ≡ Some second → (expect first >> (λ ts. by (kind_at ts) ts)) ts ≡ by (Some second) x
 chooses first by second ts x is kind = ap (λ o. and_then o (λ _ mid. by (kind_at mid) mid)) (is-expect first ts x is) ∙ ap (λ o. by o x) kind
 
-drop-reads : (second : Kind) (f : Name → Command) (n : Name) (ts rest : Input) → IsPhrase k.Drop second n ts rest → r.drops_by (Some second) ≡ (r.name_after second >>= λ n. pure (f n)) → r.statement ts ≡ Some (f n, rest)
+drop-reads : (second : Kind) (f : Name → Command) (n : Name) (ts rest : Input) → IsPhrase k.Drop second n ts rest → r.drops_by (Some second) ≡ (r.name_after second >>= λ n. pure (f n)) → r.leading_command ts ≡ Some (f n, rest)
 unfolding r.drops
 drop-reads second f n ts rest d by = phrase-reads k.Drop second f r.drops n ts rest d refl (λ x a kind. chooses k.Drop r.drops_by second ts x a kind ∙ ap (λ p. p x) by)
 
-process-reads : (second : Kind) (f : Name → Command) (n : Name) (ts rest : Input) → IsPhrase k.Process second n ts rest → r.processes_by (Some second) ≡ (r.name_after second >>= λ n. pure (f n)) → r.statement ts ≡ Some (f n, rest)
+process-reads : (second : Kind) (f : Name → Command) (n : Name) (ts rest : Input) → IsPhrase k.Process second n ts rest → r.processes_by (Some second) ≡ (r.name_after second >>= λ n. pure (f n)) → r.leading_command ts ≡ Some (f n, rest)
 unfolding r.processes
 process-reads second f n ts rest d by = phrase-reads k.Process second f r.processes n ts rest d refl (λ x a kind. chooses k.Process r.processes_by second ts x a kind ∙ ap (λ p. p x) by)
 
-creates_ruleset-reads : (n : Name) (ts rest : Input) → IsPhrase k.Create k.Ruleset n ts rest → r.statement ts ≡ Some (tree.create_ruleset n, rest)
+creates_ruleset-reads : (n : Name) (ts rest : Input) → IsPhrase k.Create k.Ruleset n ts rest → r.leading_command ts ≡ Some (tree.create_ruleset n, rest)
 unfolding r.creates
 creates_ruleset-reads n ts rest d = phrase-reads k.Create k.Ruleset tree.create_ruleset r.creates n ts rest d refl (λ x a kind. chooses k.Create r.creates_by k.Ruleset ts x a kind)
 
-activates-reads : (n : Name) (ts rest : Input) → IsPhrase k.Activate k.Rule n ts rest → r.statement ts ≡ Some (tree.activate_rule n, rest)
+activates-reads : (n : Name) (ts rest : Input) → IsPhrase k.Activate k.Rule n ts rest → r.leading_command ts ≡ Some (tree.activate_rule n, rest)
 unfolding r.activates
 activates-reads n ts rest d = phrase-reads k.Activate k.Rule tree.activate_rule r.activates n ts rest d refl (λ x a kind. ap (λ o. and_then o (λ _. r.name_after k.Rule >>= λ n. pure (tree.activate_rule n))) (is-expect k.Activate ts x a))
 
-deactivates-reads : (n : Name) (ts rest : Input) → IsPhrase k.Deactivate k.Rule n ts rest → r.statement ts ≡ Some (tree.deactivate_rule n, rest)
+deactivates-reads : (n : Name) (ts rest : Input) → IsPhrase k.Deactivate k.Rule n ts rest → r.leading_command ts ≡ Some (tree.deactivate_rule n, rest)
 unfolding r.deactivates
 deactivates-reads n ts rest d = phrase-reads k.Deactivate k.Rule tree.deactivate_rule r.deactivates n ts rest d refl (λ x a kind. ap (λ o. and_then o (λ _. r.name_after k.Rule >>= λ n. pure (tree.deactivate_rule n))) (is-expect k.Deactivate ts x a))
 
-processes-reads : (ts x rest : Input) → Is k.Process ts x → Is k.Rules x rest → r.statement ts ≡ Some (tree.process_rules, rest)
-unfolding r.statement r.processes r.word
+processes-reads : (ts x rest : Input) → Is k.Process ts x → Is k.Rules x rest → r.leading_command ts ≡ Some (tree.process_rules, rest)
+unfolding r.leading_command r.processes r.word
 processes-reads ts x rest a b = rw (is-kind k.Process ts x a, is-expect k.Process ts x a, is-kind k.Rules x rest b, is-expect k.Rules x rest b) refl
 
-adds_rules-reads : (n : Name) (ns : List Name) (ts x y rest : Input) → IsPhrase k.Alter k.Ruleset n ts x → Is k.AddRules x y → IsNames ns y rest → kind_at rest ≡ None → r.statement ts ≡ Some (tree.add_rules n ns, rest)
-unfolding r.statement r.alters r.alters_from r.adds_rules
+adds_rules-reads : (n : Name) (ns : List Name) (ts x y rest : Input) → IsPhrase k.Alter k.Ruleset n ts x → Is k.AddRules x y → IsNames ns y rest → kind_at rest ≡ None → r.leading_command ts ≡ Some (tree.add_rules n ns, rest)
+unfolding r.leading_command r.alters r.alters_from r.adds_rules
 adds_rules-reads n ns ts x y rest (g.phrase {x = u} {y = v} a b c) d e none =
     rw (is-kind k.Alter ts u a, is-expect k.Alter ts u a, (after-reads k.Ruleset n u v x b c).0, is-sees k.AddRules x y d, is-expect k.AddRules x y d, (names-reads ns y rest e (nothing-seen k.Comma rest none)).0) refl
 
-removes_rules-reads : (n : Name) (ns : List Name) (ts x y rest : Input) → IsPhrase k.Alter k.Ruleset n ts x → Is k.DelRules x y → IsNames ns y rest → kind_at rest ≡ None → r.statement ts ≡ Some (tree.del_rules n ns, rest)
-unfolding r.statement r.alters r.alters_from r.removes_rules same_kind
+removes_rules-reads : (n : Name) (ns : List Name) (ts x y rest : Input) → IsPhrase k.Alter k.Ruleset n ts x → Is k.DelRules x y → IsNames ns y rest → kind_at rest ≡ None → r.leading_command ts ≡ Some (tree.del_rules n ns, rest)
+unfolding r.leading_command r.alters r.alters_from r.removes_rules same_kind
 removes_rules-reads n ns ts x y rest (g.phrase {x = u} {y = v} a b c) d e none =
     rw (is-kind k.Alter ts u a, is-expect k.Alter ts u a, (after-reads k.Ruleset n u v x b c).0, is-other k.DelRules k.AddRules x y d refl, is-expect k.DelRules x y d, (names-reads ns y rest e (nothing-seen k.Comma rest none)).0) refl
 
-statement-reads : (s : Command) (ts rest : Input) → IsStatement s ts rest → kind_at rest ≡ None → r.statement ts ≡ Some (s, rest)
-statement-reads s ts rest (g.opens is) none = word-reads k.Open tree.open_session ts rest is refl
-statement-reads s ts rest (g.ends is) none = word-reads k.End tree.end_session ts rest is refl
-statement-reads s ts rest (g.begins is) none = word-reads k.Begin tree.begin ts rest is refl
-statement-reads s ts rest (g.commits is) none = word-reads k.Commit tree.commit ts rest is refl
-statement-reads s ts rest (g.rolls_back is) none = word-reads k.Rollback tree.rollback ts rest is refl
-statement-reads s ts rest (g.creates_table {n = n} {columns = cs} {x = x} {y = y} {z = z} a d e le close) none = creates_table-reads n cs ts x y z rest a d e le close
-statement-reads s ts rest (g.drops_table {n = n} d) none = drop-reads k.Table tree.drop_table n ts rest d refl
-statement-reads s ts rest (g.creates_rule {r = y} d) none = creates_rule-reads y ts rest d none
-statement-reads s ts rest (g.drops_rule {n = n} d) none = drop-reads k.Rule tree.drop_rule n ts rest d refl
-statement-reads s ts rest (g.activates {n = n} d) none = activates-reads n ts rest d
-statement-reads s ts rest (g.deactivates {n = n} d) none = deactivates-reads n ts rest d
-statement-reads s ts rest (g.creates_ruleset {n = n} d) none = creates_ruleset-reads n ts rest d
-statement-reads s ts rest (g.drops_ruleset {n = n} d) none = drop-reads k.Ruleset tree.drop_ruleset n ts rest d refl
-statement-reads s ts rest (g.adds_rules {n = n} {rules = ns} {x = x} {y = y} a b c) none = adds_rules-reads n ns ts x y rest a b c none
-statement-reads s ts rest (g.removes_rules {n = n} {rules = ns} {x = x} {y = y} a b c) none = removes_rules-reads n ns ts x y rest a b c none
-statement-reads s ts rest (g.processes {x = x} a b) none = processes-reads ts x rest a b
-statement-reads s ts rest (g.processes_ruleset {n = n} d) none = process-reads k.Ruleset tree.process_ruleset n ts rest d refl
-statement-reads s ts rest (g.processes_rule {n = n} d) none = process-reads k.Rule tree.process_rule n ts rest d refl
-statement-reads s ts rest (g.queries {q = q} d) none = queries-reads q ts rest d none
-statement-reads s ts rest (g.changes {change = c} d) none = changes-reads c ts rest d none
+leading_command-reads : (s : Command) (ts rest : Input) → IsLeadingCommand s ts rest → kind_at rest ≡ None → r.leading_command ts ≡ Some (s, rest)
+leading_command-reads s ts rest (g.opens is) none = word-reads k.Open tree.open_session ts rest is refl
+leading_command-reads s ts rest (g.ends is) none = word-reads k.End tree.end_session ts rest is refl
+leading_command-reads s ts rest (g.begins is) none = word-reads k.Begin tree.begin ts rest is refl
+leading_command-reads s ts rest (g.commits is) none = word-reads k.Commit tree.commit ts rest is refl
+leading_command-reads s ts rest (g.rolls_back is) none = word-reads k.Rollback tree.rollback ts rest is refl
+leading_command-reads s ts rest (g.creates_table {n = n} {columns = cs} {x = x} {y = y} {z = z} a d e le close) none = creates_table-reads n cs ts x y z rest a d e le close
+leading_command-reads s ts rest (g.drops_table {n = n} d) none = drop-reads k.Table tree.drop_table n ts rest d refl
+leading_command-reads s ts rest (g.creates_rule {r = y} d) none = creates_rule-reads y ts rest d none
+leading_command-reads s ts rest (g.drops_rule {n = n} d) none = drop-reads k.Rule tree.drop_rule n ts rest d refl
+leading_command-reads s ts rest (g.activates {n = n} d) none = activates-reads n ts rest d
+leading_command-reads s ts rest (g.deactivates {n = n} d) none = deactivates-reads n ts rest d
+leading_command-reads s ts rest (g.creates_ruleset {n = n} d) none = creates_ruleset-reads n ts rest d
+leading_command-reads s ts rest (g.drops_ruleset {n = n} d) none = drop-reads k.Ruleset tree.drop_ruleset n ts rest d refl
+leading_command-reads s ts rest (g.adds_rules {n = n} {rules = ns} {x = x} {y = y} a b c) none = adds_rules-reads n ns ts x y rest a b c none
+leading_command-reads s ts rest (g.removes_rules {n = n} {rules = ns} {x = x} {y = y} a b c) none = removes_rules-reads n ns ts x y rest a b c none
+leading_command-reads s ts rest (g.processes {x = x} a b) none = processes-reads ts x rest a b
+leading_command-reads s ts rest (g.processes_ruleset {n = n} d) none = process-reads k.Ruleset tree.process_ruleset n ts rest d refl
+leading_command-reads s ts rest (g.processes_rule {n = n} d) none = process-reads k.Rule tree.process_rule n ts rest d refl
+leading_command-reads s ts rest (g.queries {q = q} d) none = queries-reads q ts rest d none
+leading_command-reads s ts rest (g.changes {change = c} d) none = changes-reads c ts rest d none
 
 no_more_kind : kind_at [] ≡ None
 unfolding r.kind_at
@@ -343,7 +343,7 @@ no_more_kind = refl
 
 pub command-reads : (s : Command) (ts : Input) → IsCommand s ts → r.command ts ≡ Some (s, [])
 unfolding r.command
-command-reads s ts d = ap (λ o. and_then o r.ended) (statement-reads s ts [] d no_more_kind)
+command-reads s ts d = ap (λ o. and_then o r.ended) (leading_command-reads s ts [] d no_more_kind)
 
 -- a text has at most one command
 pub one_command : (ts : Input) (s z : Command) → IsCommand s ts → IsCommand z ts → s ≡ z

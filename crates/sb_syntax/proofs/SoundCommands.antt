@@ -8,9 +8,9 @@ use Rattle.sb_syntax.specs.declared.kind.Kind.{Kind}
 use Rattle.sb_syntax.specs.declared.kind.Kind.TheVariants as k
 use Rattle.sb_syntax.specs.Input.{Input, Is}
 use Rattle.sb_syntax.specs.Tree as tree
-use Rattle.sb_syntax.specs.Tree.{Name, Operand, Filter, Query, Assignment, Change, Action, Trigger, RuleText, Command}
+use Rattle.sb_syntax.specs.Tree.{Name, Operand, Filter, Query, Assignment, Statement, Action, Trigger, RuleText, Command}
 use Rattle.sb_syntax.specs.Grammar as g
-use Rattle.sb_syntax.specs.Grammar.{IsName, IsLiteral, IsOperand, IsFilter, IsQuery, IsColumnType, IsDefinition, IsTuple, IsAssignment, IsChange, IsNames, IsTrigger, IsAction, IsIf, IsListed, IsPhrase, IsRuleHead, IsRuleBody, IsRule, IsStatement, Separated, IsCommand, max_depth, max_columns, max_actions}
+use Rattle.sb_syntax.specs.Grammar.{IsName, IsLiteral, IsOperand, IsFilter, IsQuery, IsColumnType, IsDefinition, IsTuple, IsAssignment, IsChange, IsNames, IsTrigger, IsAction, IsIf, IsListed, IsPhrase, IsRuleHead, IsRuleBody, IsRule, IsLeadingCommand, Separated, IsCommand, max_depth, max_columns, max_actions}
 use Rattle.sb_syntax.specs.Reading as r
 use Rattle.sb_syntax.specs.Reading.{Reader, Joins, and_then, kind_at, sees, next, expect, bytes_of, ◌>>=◌, ◌>>◌, pure}
 use Rattle.sb_syntax.proofs.TokenLaws.{two_steps, chosen, expect-is}
@@ -30,7 +30,7 @@ tuple-sound y ts rest e =
     same_read (λ z m. IsTuple z ts m) s.0 y l.1 rest l.3
     (g.tuple (expect-is k.LeftParen ts f.1 f.0 f.2) (separated-sound k.Comma IsLiteral r.literal_value literal-sound s.0 f.1 s.1 s.2) (expect-is k.RightParen s.1 l.1 l.0 l.2))
 
-inserts_rows-sound : (n : Name) (ts x y z : Input) → Is k.Insert ts x → Is k.Into x y → IsName n y z → (c : Change) (rest : Input) → r.inserts_rows n z ≡ Some (c, rest) → IsChange c ts rest
+inserts_rows-sound : (n : Name) (ts x y z : Input) → Is k.Insert ts x → Is k.Into x y → IsName n y z → (c : Statement) (rest : Input) → r.inserts_rows n z ≡ Some (c, rest) → IsChange c ts rest
 unfolding r.inserts_rows
 inserts_rows-sound n ts x y z a b d c rest e =
     let tuples = r.separated k.Comma r.tuple in
@@ -38,7 +38,7 @@ inserts_rows-sound n ts x y z a b d c rest e =
     let s2 = two_steps (tuples s1.1) (λ vs. pure (tree.insert_rows n vs)) (c, rest) s1.3 in
     same_read (λ q m. IsChange q ts m) _ c s2.1 rest s2.3 (g.inserts_rows a b d (expect-is k.Values z s1.1 s1.0 s1.2) (separated-sound k.Comma IsTuple r.tuple tuple-sound s2.0 s1.1 s2.1 s2.2))
 
-inserts_into-sound : (n : Name) (ts x y z : Input) → Is k.Insert ts x → Is k.Into x y → IsName n y z → (c : Change) (rest : Input) → r.inserts_into n z ≡ Some (c, rest) → IsChange c ts rest
+inserts_into-sound : (n : Name) (ts x y z : Input) → Is k.Insert ts x → Is k.Into x y → IsName n y z → (c : Statement) (rest : Input) → r.inserts_into n z ≡ Some (c, rest) → IsChange c ts rest
 unfolding r.inserts_into
 inserts_into-sound n ts x y z a b d c rest e = elim (chosen (sees k.Values z) _ _ (c, rest) e) [
   | inl p ↦ inserts_rows-sound n ts x y z a b d c rest p.1
@@ -235,7 +235,7 @@ unfolding r.columns
 columns-sound = separated_to-sound k.Comma IsDefinition 7 r.definition definition-sound
 
 -- behind `create`
-creates_table-sound : (y : Command) (ts mid rest : Input) → Is k.Create ts mid → r.creates_table mid ≡ Some (y, rest) → IsStatement y ts rest
+creates_table-sound : (y : Command) (ts mid rest : Input) → Is k.Create ts mid → r.creates_table mid ≡ Some (y, rest) → IsLeadingCommand y ts rest
 unfolding r.creates_table
 creates_table-sound y ts mid rest is e =
     let last = λ (n : Name) (cs : List ColumnDefinition). expect k.RightParen >> pure (tree.create_table n cs) in
@@ -245,25 +245,25 @@ creates_table-sound y ts mid rest is e =
     let s4 = two_steps (r.columns s3.1) (λ cs. last s2.0 cs) (y, rest) s3.3 in
     let s5 = two_steps (expect k.RightParen s4.1) (λ _. pure (tree.create_table s2.0 s4.0)) (y, rest) s4.3 in
     let cs = columns-sound s4.0 s3.1 s4.1 s4.2 in
-    same_read (λ z m. IsStatement z ts m) _ y s5.1 rest s5.3
+    same_read (λ z m. IsLeadingCommand z ts m) _ y s5.1 rest s5.3
     (g.creates_table (g.phrase is (expect-is k.Table mid s1.1 s1.0 s1.2) (name-sound s2.0 s1.1 s2.1 s2.2)) (expect-is k.LeftParen s2.1 s3.1 s3.0 s3.2) cs.0 cs.1 (expect-is k.RightParen s4.1 s5.1 s5.0 s5.2))
 
 -- two words and a name, of which the first was read
-phrase-sound : (first second : Kind) (f : Name → Command) → ((n : Name) (ts rest : Input) → IsPhrase first second n ts rest → IsStatement (f n) ts rest)
-    → (y : Command) (ts mid rest : Input) → Is first ts mid → (r.name_after second >>= λ n. pure (f n)) mid ≡ Some (y, rest) → IsStatement y ts rest
+phrase-sound : (first second : Kind) (f : Name → Command) → ((n : Name) (ts rest : Input) → IsPhrase first second n ts rest → IsLeadingCommand (f n) ts rest)
+    → (y : Command) (ts mid rest : Input) → Is first ts mid → (r.name_after second >>= λ n. pure (f n)) mid ≡ Some (y, rest) → IsLeadingCommand y ts rest
 phrase-sound first second f made y ts mid rest is e =
     let s = two_steps (r.name_after second mid) (λ n. pure (f n)) (y, rest) e in
     let d = after-sound second s.0 mid s.1 s.2 in
-    same_read (λ z m. IsStatement z ts m) _ y s.1 rest s.3 (made s.0 ts s.1 (g.phrase is d.1 d.2))
+    same_read (λ z m. IsLeadingCommand z ts m) _ y s.1 rest s.3 (made s.0 ts s.1 (g.phrase is d.1 d.2))
 
 -- what is read behind this first word
 abbrev Behind : Kind → Reader Command → Type 0
-Behind first p = (y : Command) (ts mid rest : Input) → Is first ts mid → p mid ≡ Some (y, rest) → IsStatement y ts rest
+Behind first p = (y : Command) (ts mid rest : Input) → Is first ts mid → p mid ≡ Some (y, rest) → IsLeadingCommand y ts rest
 
 creates_rule-sound : Behind k.Create (r.rule >>= λ r. pure (tree.create_rule r))
 creates_rule-sound y ts mid rest is e =
     let s = two_steps (r.rule mid) (λ r. pure (tree.create_rule r)) (y, rest) e in
-    same_read (λ z m. IsStatement z ts m) _ y s.1 rest s.3 (g.creates_rule (rule-sound s.0 ts mid s.1 is s.2))
+    same_read (λ z m. IsLeadingCommand z ts m) _ y s.1 rest s.3 (g.creates_rule (rule-sound s.0 ts mid s.1 is s.2))
 
 creates_by-sound : (kind : Option Kind) → Behind k.Create (r.creates_by kind)
 creates_by-sound (Some k.Table) = creates_table-sound
@@ -279,7 +279,7 @@ process_rules-sound : Behind k.Process (r.word k.Rules tree.process_rules)
 unfolding r.word
 process_rules-sound y ts mid rest is e =
     let s = two_steps (expect k.Rules mid) (λ _. pure tree.process_rules) (y, rest) e in
-    same_read (λ z m. IsStatement z ts m) _ y s.1 rest s.3 (g.processes is (expect-is k.Rules mid s.1 s.0 s.2))
+    same_read (λ z m. IsLeadingCommand z ts m) _ y s.1 rest s.3 (g.processes is (expect-is k.Rules mid s.1 s.0 s.2))
 
 processes_by-sound : (kind : Option Kind) → Behind k.Process (r.processes_by kind)
 processes_by-sound (Some k.Rules) = process_rules-sound
@@ -287,46 +287,46 @@ processes_by-sound (Some k.Rule) = phrase-sound k.Process k.Rule tree.process_ru
 processes_by-sound _ = phrase-sound k.Process k.Ruleset tree.process_ruleset (λ _ _ _ d. g.processes_ruleset d)
 
 -- a first word, and what the next one chooses
-behind-sound : (first : Kind) (by : Option Kind → Reader Command) → ((kind : Option Kind) → Behind first (by kind)) → Sound (expect first >> (λ ts. by (kind_at ts) ts)) IsStatement
+behind-sound : (first : Kind) (by : Option Kind → Reader Command) → ((kind : Option Kind) → Behind first (by kind)) → Sound (expect first >> (λ ts. by (kind_at ts) ts)) IsLeadingCommand
 behind-sound first by made y ts rest e =
     let s = two_steps (expect first ts) (λ _ mid. by (kind_at mid) mid) (y, rest) e in
     made (kind_at s.1) y ts s.1 rest (expect-is first ts s.1 s.0 s.2) s.3
 
-creates-sound : Sound r.creates IsStatement
+creates-sound : Sound r.creates IsLeadingCommand
 unfolding r.creates
 creates-sound = behind-sound k.Create r.creates_by creates_by-sound
 
-drops-sound : Sound r.drops IsStatement
+drops-sound : Sound r.drops IsLeadingCommand
 unfolding r.drops
 drops-sound = behind-sound k.Drop r.drops_by drops_by-sound
 
-processes-sound : Sound r.processes IsStatement
+processes-sound : Sound r.processes IsLeadingCommand
 unfolding r.processes
 processes-sound = behind-sound k.Process r.processes_by processes_by-sound
 
-activates-sound : Sound r.activates IsStatement
+activates-sound : Sound r.activates IsLeadingCommand
 unfolding r.activates
 activates-sound = behind-sound k.Activate (λ _. r.name_after k.Rule >>= λ n. pure (tree.activate_rule n)) (λ _. phrase-sound k.Activate k.Rule tree.activate_rule (λ _ _ _ d. g.activates d))
 
-deactivates-sound : Sound r.deactivates IsStatement
+deactivates-sound : Sound r.deactivates IsLeadingCommand
 unfolding r.deactivates
 deactivates-sound = behind-sound k.Deactivate (λ _. r.name_after k.Rule >>= λ n. pure (tree.deactivate_rule n)) (λ _. phrase-sound k.Deactivate k.Rule tree.deactivate_rule (λ _ _ _ d. g.deactivates d))
 
-adds_rules-sound : (n : Name) (ts mid : Input) → IsPhrase k.Alter k.Ruleset n ts mid → (y : Command) (rest : Input) → r.adds_rules n mid ≡ Some (y, rest) → IsStatement y ts rest
+adds_rules-sound : (n : Name) (ts mid : Input) → IsPhrase k.Alter k.Ruleset n ts mid → (y : Command) (rest : Input) → r.adds_rules n mid ≡ Some (y, rest) → IsLeadingCommand y ts rest
 unfolding r.adds_rules
 adds_rules-sound n ts mid d y rest e =
     let s = two_steps (expect k.AddRules mid) (λ _. r.names >>= λ ns. pure (tree.add_rules n ns)) (y, rest) e in
     let ns = two_steps (r.names s.1) (λ ns. pure (tree.add_rules n ns)) (y, rest) s.3 in
-    same_read (λ z m. IsStatement z ts m) _ y ns.1 rest ns.3 (g.adds_rules d (expect-is k.AddRules mid s.1 s.0 s.2) (names-sound ns.0 s.1 ns.1 ns.2))
+    same_read (λ z m. IsLeadingCommand z ts m) _ y ns.1 rest ns.3 (g.adds_rules d (expect-is k.AddRules mid s.1 s.0 s.2) (names-sound ns.0 s.1 ns.1 ns.2))
 
-removes_rules-sound : (n : Name) (ts mid : Input) → IsPhrase k.Alter k.Ruleset n ts mid → (y : Command) (rest : Input) → r.removes_rules n mid ≡ Some (y, rest) → IsStatement y ts rest
+removes_rules-sound : (n : Name) (ts mid : Input) → IsPhrase k.Alter k.Ruleset n ts mid → (y : Command) (rest : Input) → r.removes_rules n mid ≡ Some (y, rest) → IsLeadingCommand y ts rest
 unfolding r.removes_rules
 removes_rules-sound n ts mid d y rest e =
     let s = two_steps (expect k.DelRules mid) (λ _. r.names >>= λ ns. pure (tree.del_rules n ns)) (y, rest) e in
     let ns = two_steps (r.names s.1) (λ ns. pure (tree.del_rules n ns)) (y, rest) s.3 in
-    same_read (λ z m. IsStatement z ts m) _ y ns.1 rest ns.3 (g.removes_rules d (expect-is k.DelRules mid s.1 s.0 s.2) (names-sound ns.0 s.1 ns.1 ns.2))
+    same_read (λ z m. IsLeadingCommand z ts m) _ y ns.1 rest ns.3 (g.removes_rules d (expect-is k.DelRules mid s.1 s.0 s.2) (names-sound ns.0 s.1 ns.1 ns.2))
 
-alters-sound : Sound r.alters IsStatement
+alters-sound : Sound r.alters IsLeadingCommand
 unfolding r.alters r.alters_from
 alters-sound y ts rest e =
     let s = two_steps (expect k.Alter ts) (λ _. r.name_after k.Ruleset >>= r.alters_from) (y, rest) e in
@@ -339,27 +339,27 @@ alters-sound y ts rest e =
     ]
 
 -- by the first token
-statement_by-sound : (kind : Option Kind) → Sound (r.statement_by kind) IsStatement
-statement_by-sound (Some k.Open) = word-sound IsStatement k.Open tree.open_session (λ _ _ d. g.opens d)
-statement_by-sound (Some k.End) = word-sound IsStatement k.End tree.end_session (λ _ _ d. g.ends d)
-statement_by-sound (Some k.Begin) = word-sound IsStatement k.Begin tree.begin (λ _ _ d. g.begins d)
-statement_by-sound (Some k.Commit) = word-sound IsStatement k.Commit tree.commit (λ _ _ d. g.commits d)
-statement_by-sound (Some k.Rollback) = word-sound IsStatement k.Rollback tree.rollback (λ _ _ d. g.rolls_back d)
-statement_by-sound (Some k.Create) = creates-sound
-statement_by-sound (Some k.Drop) = drops-sound
-statement_by-sound (Some k.Alter) = alters-sound
-statement_by-sound (Some k.Activate) = activates-sound
-statement_by-sound (Some k.Deactivate) = deactivates-sound
-statement_by-sound (Some k.Process) = processes-sound
-statement_by-sound (Some k.Select) = mapped-sound tree.query (r.query_to max_depth) (IsQuery max_depth) IsStatement (λ _ _ _ d. g.queries d) (query-sound max_depth)
-statement_by-sound _ = mapped-sound tree.change r.change IsChange IsStatement (λ _ _ _ d. g.changes d) change-sound
+leading_command_by-sound : (kind : Option Kind) → Sound (r.leading_command_by kind) IsLeadingCommand
+leading_command_by-sound (Some k.Open) = word-sound IsLeadingCommand k.Open tree.open_session (λ _ _ d. g.opens d)
+leading_command_by-sound (Some k.End) = word-sound IsLeadingCommand k.End tree.end_session (λ _ _ d. g.ends d)
+leading_command_by-sound (Some k.Begin) = word-sound IsLeadingCommand k.Begin tree.begin (λ _ _ d. g.begins d)
+leading_command_by-sound (Some k.Commit) = word-sound IsLeadingCommand k.Commit tree.commit (λ _ _ d. g.commits d)
+leading_command_by-sound (Some k.Rollback) = word-sound IsLeadingCommand k.Rollback tree.rollback (λ _ _ d. g.rolls_back d)
+leading_command_by-sound (Some k.Create) = creates-sound
+leading_command_by-sound (Some k.Drop) = drops-sound
+leading_command_by-sound (Some k.Alter) = alters-sound
+leading_command_by-sound (Some k.Activate) = activates-sound
+leading_command_by-sound (Some k.Deactivate) = deactivates-sound
+leading_command_by-sound (Some k.Process) = processes-sound
+leading_command_by-sound (Some k.Select) = mapped-sound tree.query (r.query_to max_depth) (IsQuery max_depth) IsLeadingCommand (λ _ _ _ d. g.queries d) (query-sound max_depth)
+leading_command_by-sound _ = mapped-sound tree.change r.change IsChange IsLeadingCommand (λ _ _ _ d. g.changes d) change-sound
 
-ended-sound : (s z : Command) (ts rest mid : Input) → IsStatement s ts mid → r.ended s mid ≡ Some (z, rest) → IsCommand z ts
+ended-sound : (s z : Command) (ts rest mid : Input) → IsLeadingCommand s ts mid → r.ended s mid ≡ Some (z, rest) → IsCommand z ts
 ended-sound s z ts rest [] d e = let q = same_Some {A = Command × Input} _ _ e in subst (λ (x : Command). IsCommand x ts) (ap (λ (p : Command × Input). p.0) q) d
 ended-sound s z ts rest (t ∷ more) d e = absurd (cc)
 
 pub command-sound : (ts rest : Input) (s : Command) → r.command ts ≡ Some (s, rest) → IsCommand s ts
-unfolding r.command r.statement
+unfolding r.command r.leading_command
 command-sound ts rest s e =
-    let p = two_steps (r.statement_by (kind_at ts) ts) r.ended (s, rest) e in
-    ended-sound p.0 s ts rest p.1 (statement_by-sound (kind_at ts) p.0 ts p.1 p.2) p.3
+    let p = two_steps (r.leading_command_by (kind_at ts) ts) r.ended (s, rest) e in
+    ended-sound p.0 s ts rest p.1 (leading_command_by-sound (kind_at ts) p.0 ts p.1 p.2) p.3

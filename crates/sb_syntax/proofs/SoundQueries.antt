@@ -3,12 +3,12 @@ use Rattle.std.proofs.Common.{◌≡◌, inl, inr, ℕ, zero, suc, Bool, true, f
 use Rattle.std.proofs.lemmas.Option.{same_Some}
 use Rattle.sb_syntax.specs.declared.kind.Kind.{Kind}
 use Rattle.sb_syntax.specs.declared.kind.Kind.TheVariants as k
-use Rattle.sb_syntax.specs.declared.ast.Comparison.{Comparison}
+use Rattle.sb_syntax.specs.declared.tree.Comparison.{Comparison}
 use Rattle.sb_syntax.specs.Input.{Input, Is}
 use Rattle.sb_syntax.specs.Tree as tree
-use Rattle.sb_syntax.specs.Tree.{Name, Expression, Items, Condition, Operand, Filter, Query, Change, Command}
+use Rattle.sb_syntax.specs.Tree.{Name, Expression, Items, Condition, Operand, Filter, Query, Statement, Command}
 use Rattle.sb_syntax.specs.Grammar as g
-use Rattle.sb_syntax.specs.Grammar.{IsName, IsLiteral, IsExpr, IsItems, IsComparison, IsNot, IsCond, IsConj, IsNeg, IsPredicate, IsOperand, IsSubquery, IsFilter, IsQuery, IsColumnType, IsDefinition, IsTuple, IsChange, IsPhrase, IsStatement, Separated, IsCommand, max_nesting, max_depth, max_columns}
+use Rattle.sb_syntax.specs.Grammar.{IsName, IsLiteral, IsExpr, IsItems, IsComparison, IsNot, IsCond, IsConj, IsNeg, IsPredicate, IsOperand, IsSubquery, IsFilter, IsQuery, IsColumnType, IsDefinition, IsTuple, IsChange, IsPhrase, IsLeadingCommand, Separated, IsCommand, max_nesting, max_depth, max_columns}
 use Rattle.sb_syntax.specs.Reading as r
 use Rattle.sb_syntax.specs.Reading.{Reader, Joins, and_then, kind_at, sees, next, expect, bytes_of, ◌>>=◌, ◌>>◌, pure}
 use Rattle.sb_syntax.proofs.TokenLaws.{two_steps, chosen, seen-is, kind-is, expect-is}

@@ -8,8 +8,8 @@ use Rattle.sb_syntax.specs.Lex as lex
 use Rattle.sb_syntax.specs.Lex.{IsToken, AreTokens, is_letter, is_digit, is_word, all, begins, doubled, two_bytes, one_byte, word_kind, transition}
 use Rattle.sb_syntax.specs.Scan.{scan, token_at, symbol_at, more_by}
 use Rattle.sb_syntax.specs.Cursor.{AllWithin, lexemes}
-use Rattle.sb_syntax.specs.declared.token.ParseError.{ParseError}
-use Rattle.sb_syntax.specs.declared.token.ParseError.TheVariants.{Syntax, NoMemory}
+use Rattle.sb_syntax.specs.declared.error.ParseError.{ParseError}
+use Rattle.sb_syntax.specs.declared.error.ParseError.TheVariants.{Syntax, NoMemory}
 use Rattle.sb_syntax.specs.Input.{Input}
 use Rattle.sb_syntax.specs.Tree.{Command}
 use Rattle.sb_syntax.specs.Grammar.{IsCommand}

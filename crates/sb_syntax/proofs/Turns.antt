@@ -1,8 +1,8 @@
 -- The turns of a loop that reads one item a turn.
 use Rattle.std.proofs.Common.{Bool, true, false, cond, ◌++◌, ◌≡◌, ◌≤◌, ◌<◌, ℕ, zero, suc, List, [], ◌∷◌, length, length-append, Option, Some, None, ap, sym, ◌∙◌, refl, arith}
 use Rattle.sb_syntax.specs.declared.kind.Kind.{Kind}
-use Rattle.sb_syntax.specs.declared.cursor.Fault.{Fault}
-use Rattle.sb_syntax.specs.declared.cursor.Fault.TheVariants.{Refused, NoMemory}
+use Rattle.sb_syntax.specs.declared.error.Fault.{Fault}
+use Rattle.sb_syntax.specs.declared.error.Fault.TheVariants.{Refused, NoMemory}
 use Rattle.sb_syntax.specs.Input.{Input}
 use Rattle.sb_syntax.specs.Reading.{Reader, Joins, chain, turn, kind_at, next, and_then, Fails, sees, pushes}
 use Rattle.sb_syntax.specs.Turns.{GoesOn, GoesUpTo}

@@ -1,9 +1,9 @@
 -- The commands of a few texts, computed.
 use Rattle.std.proofs.Common.{◌≡◌, [], ◌∷◌, codes, pos, Some, None, refl}
 use Rattle.sb_value.specs.declared.value.Value.TheVariants.{Int, Text}
-use Rattle.sb_syntax.specs.declared.ast.Comparison.TheVariants.{Less}
-use Rattle.sb_syntax.specs.declared.ast.ColumnReference.TheVariants.{Plain, Qualified}
-use Rattle.sb_syntax.specs.declared.ast.TableReference.TheVariants.{Named, Deleted, OldUpdated}
+use Rattle.sb_syntax.specs.declared.tree.Comparison.TheVariants.{Less}
+use Rattle.sb_syntax.specs.declared.tree.ColumnReference.TheVariants.{Plain, Qualified}
+use Rattle.sb_syntax.specs.declared.tree.TableReference.TheVariants.{Named, Deleted, OldUpdated}
 use Rattle.sb_syntax.specs.Tree as tree
 use Rattle.sb_syntax.specs.Tree.{Command, RuleText}
 use Rattle.sb_syntax.specs.Text.{command_of}

@@ -9,17 +9,17 @@ use Rattle.sb_value.specs.declared.value.ColumnType.TheVariants as t
 use Rattle.sb_value.specs.declared.value.ColumnDefinition.{ColumnDefinition}
 use Rattle.sb_syntax.specs.declared.kind.Kind.{Kind}
 use Rattle.sb_syntax.specs.declared.kind.Kind.TheVariants as k
-use Rattle.sb_syntax.specs.declared.ast.Arithmetic.TheVariants.{Add, Subtract, Multiply}
-use Rattle.sb_syntax.specs.declared.ast.Comparison.{Comparison}
-use Rattle.sb_syntax.specs.declared.ast.Comparison.TheVariants as c
-use Rattle.sb_syntax.specs.declared.ast.TableReference.{TableReference}
-use Rattle.sb_syntax.specs.declared.ast.TableReference.TheVariants.{Named, Inserted, Deleted, OldUpdated, NewUpdated}
-use Rattle.sb_syntax.specs.declared.ast.ColumnReference.{ColumnReference}
-use Rattle.sb_syntax.specs.declared.ast.ColumnReference.TheVariants.{Plain, Qualified}
-use Rattle.sb_syntax.specs.declared.ast.SourceReference.{SourceReference}
+use Rattle.sb_syntax.specs.declared.tree.Arithmetic.TheVariants.{Add, Subtract, Multiply}
+use Rattle.sb_syntax.specs.declared.tree.Comparison.{Comparison}
+use Rattle.sb_syntax.specs.declared.tree.Comparison.TheVariants as c
+use Rattle.sb_syntax.specs.declared.tree.TableReference.{TableReference}
+use Rattle.sb_syntax.specs.declared.tree.TableReference.TheVariants.{Named, Inserted, Deleted, OldUpdated, NewUpdated}
+use Rattle.sb_syntax.specs.declared.tree.ColumnReference.{ColumnReference}
+use Rattle.sb_syntax.specs.declared.tree.ColumnReference.TheVariants.{Plain, Qualified}
+use Rattle.sb_syntax.specs.declared.tree.SourceReference.{SourceReference}
 use Rattle.sb_syntax.specs.Input.{Input, Is}
 use Rattle.sb_syntax.specs.Tree as tree
-use Rattle.sb_syntax.specs.Tree.{Name, Expression, Items, Condition, Operand, Filter, Query, Assignment, Change, Action, Trigger, RuleText, Command}
+use Rattle.sb_syntax.specs.Tree.{Name, Expression, Items, Condition, Operand, Filter, Query, Assignment, Statement, Action, Trigger, RuleText, Command}
 use Rattle.sb_syntax.specs.Literal.{decimal, negative, unquoted}
 
 -- x {sep x}, as a list of one or more
@@ -164,7 +164,7 @@ max_depth = 4
 pub data IsAssignment : Assignment → Input → Input → Type 0 where
   assigns : {n : Name} {s : Operand} {ts x y rest : Input} → IsName n ts x → Is k.Equal x y → IsOperand max_depth s y rest → IsAssignment (record { column = n; operand = s }) ts rest
 
-pub data IsChange : Change → Input → Input → Type 0 where
+pub data IsChange : Statement → Input → Input → Type 0 where
   inserts_rows : {n : Name} {tuples : List (List Value)} {ts x y z u rest : Input} → Is k.Insert ts x → Is k.Into x y → IsName n y z → Is k.Values z u → Separated k.Comma IsTuple tuples u rest → IsChange (tree.insert_rows n tuples) ts rest
   inserts_query : {n : Name} {q : Query} {ts x y z rest : Input} → Is k.Insert ts x → Is k.Into x y → IsName n y z → IsQuery max_depth q z rest → IsChange (tree.insert_query n q) ts rest
   deletes : {n : Name} {f : Filter} {ts x y z rest : Input} → Is k.Delete ts x → Is k.From x y → IsName n y z → IsFilter max_depth f z rest → IsChange (tree.delete n f) ts rest
@@ -182,7 +182,7 @@ pub data IsTrigger : Trigger → Input → Input → Type 0 where
   at_update_of : {columns : List Name} {ts x y z rest : Input} → Is k.Updated ts x → Is k.LeftParen x y → IsNames columns y z → Is k.RightParen z rest → IsTrigger (tree.on_update_of columns) ts rest
 
 pub data IsAction : Action → Input → Input → Type 0 where
-  changes : {change : Change} {ts rest : Input} → IsChange change ts rest → IsAction (tree.changes change) ts rest
+  changes : {change : Statement} {ts rest : Input} → IsChange change ts rest → IsAction (tree.changes change) ts rest
   rolls_back : {ts rest : Input} → Is k.Rollback ts rest → IsAction tree.rolls_back ts rest
 
 -- how many actions a rule has
@@ -217,29 +217,29 @@ pub data IsRule : RuleText → Input → Input → Type 0 where
 
 -- ---- commands
 
-pub data IsStatement : Command → Input → Input → Type 0 where
-  opens : {ts rest : Input} → Is k.Open ts rest → IsStatement tree.open_session ts rest
-  ends : {ts rest : Input} → Is k.End ts rest → IsStatement tree.end_session ts rest
-  begins : {ts rest : Input} → Is k.Begin ts rest → IsStatement tree.begin ts rest
-  commits : {ts rest : Input} → Is k.Commit ts rest → IsStatement tree.commit ts rest
-  rolls_back : {ts rest : Input} → Is k.Rollback ts rest → IsStatement tree.rollback ts rest
+pub data IsLeadingCommand : Command → Input → Input → Type 0 where
+  opens : {ts rest : Input} → Is k.Open ts rest → IsLeadingCommand tree.open_session ts rest
+  ends : {ts rest : Input} → Is k.End ts rest → IsLeadingCommand tree.end_session ts rest
+  begins : {ts rest : Input} → Is k.Begin ts rest → IsLeadingCommand tree.begin ts rest
+  commits : {ts rest : Input} → Is k.Commit ts rest → IsLeadingCommand tree.commit ts rest
+  rolls_back : {ts rest : Input} → Is k.Rollback ts rest → IsLeadingCommand tree.rollback ts rest
   creates_table : {n : Name} {columns : List ColumnDefinition} {ts x y z rest : Input} → IsPhrase k.Create k.Table n ts x → Is k.LeftParen x y → Separated k.Comma IsDefinition columns y z → length columns ≤ max_columns → Is k.RightParen z rest
-      → IsStatement (tree.create_table n columns) ts rest
-  drops_table : {n : Name} {ts rest : Input} → IsPhrase k.Drop k.Table n ts rest → IsStatement (tree.drop_table n) ts rest
-  creates_rule : {r : RuleText} {ts rest : Input} → IsRule r ts rest → IsStatement (tree.create_rule r) ts rest
-  drops_rule : {n : Name} {ts rest : Input} → IsPhrase k.Drop k.Rule n ts rest → IsStatement (tree.drop_rule n) ts rest
-  activates : {n : Name} {ts rest : Input} → IsPhrase k.Activate k.Rule n ts rest → IsStatement (tree.activate_rule n) ts rest
-  deactivates : {n : Name} {ts rest : Input} → IsPhrase k.Deactivate k.Rule n ts rest → IsStatement (tree.deactivate_rule n) ts rest
-  creates_ruleset : {n : Name} {ts rest : Input} → IsPhrase k.Create k.Ruleset n ts rest → IsStatement (tree.create_ruleset n) ts rest
-  drops_ruleset : {n : Name} {ts rest : Input} → IsPhrase k.Drop k.Ruleset n ts rest → IsStatement (tree.drop_ruleset n) ts rest
-  adds_rules : {n : Name} {rules : List Name} {ts x y rest : Input} → IsPhrase k.Alter k.Ruleset n ts x → Is k.AddRules x y → IsNames rules y rest → IsStatement (tree.add_rules n rules) ts rest
-  removes_rules : {n : Name} {rules : List Name} {ts x y rest : Input} → IsPhrase k.Alter k.Ruleset n ts x → Is k.DelRules x y → IsNames rules y rest → IsStatement (tree.del_rules n rules) ts rest
-  processes : {ts x rest : Input} → Is k.Process ts x → Is k.Rules x rest → IsStatement tree.process_rules ts rest
-  processes_ruleset : {n : Name} {ts rest : Input} → IsPhrase k.Process k.Ruleset n ts rest → IsStatement (tree.process_ruleset n) ts rest
-  processes_rule : {n : Name} {ts rest : Input} → IsPhrase k.Process k.Rule n ts rest → IsStatement (tree.process_rule n) ts rest
-  queries : {q : Query} {ts rest : Input} → IsQuery max_depth q ts rest → IsStatement (tree.query q) ts rest
-  changes : {change : Change} {ts rest : Input} → IsChange change ts rest → IsStatement (tree.change change) ts rest
+      → IsLeadingCommand (tree.create_table n columns) ts rest
+  drops_table : {n : Name} {ts rest : Input} → IsPhrase k.Drop k.Table n ts rest → IsLeadingCommand (tree.drop_table n) ts rest
+  creates_rule : {r : RuleText} {ts rest : Input} → IsRule r ts rest → IsLeadingCommand (tree.create_rule r) ts rest
+  drops_rule : {n : Name} {ts rest : Input} → IsPhrase k.Drop k.Rule n ts rest → IsLeadingCommand (tree.drop_rule n) ts rest
+  activates : {n : Name} {ts rest : Input} → IsPhrase k.Activate k.Rule n ts rest → IsLeadingCommand (tree.activate_rule n) ts rest
+  deactivates : {n : Name} {ts rest : Input} → IsPhrase k.Deactivate k.Rule n ts rest → IsLeadingCommand (tree.deactivate_rule n) ts rest
+  creates_ruleset : {n : Name} {ts rest : Input} → IsPhrase k.Create k.Ruleset n ts rest → IsLeadingCommand (tree.create_ruleset n) ts rest
+  drops_ruleset : {n : Name} {ts rest : Input} → IsPhrase k.Drop k.Ruleset n ts rest → IsLeadingCommand (tree.drop_ruleset n) ts rest
+  adds_rules : {n : Name} {rules : List Name} {ts x y rest : Input} → IsPhrase k.Alter k.Ruleset n ts x → Is k.AddRules x y → IsNames rules y rest → IsLeadingCommand (tree.add_rules n rules) ts rest
+  removes_rules : {n : Name} {rules : List Name} {ts x y rest : Input} → IsPhrase k.Alter k.Ruleset n ts x → Is k.DelRules x y → IsNames rules y rest → IsLeadingCommand (tree.del_rules n rules) ts rest
+  processes : {ts x rest : Input} → Is k.Process ts x → Is k.Rules x rest → IsLeadingCommand tree.process_rules ts rest
+  processes_ruleset : {n : Name} {ts rest : Input} → IsPhrase k.Process k.Ruleset n ts rest → IsLeadingCommand (tree.process_ruleset n) ts rest
+  processes_rule : {n : Name} {ts rest : Input} → IsPhrase k.Process k.Rule n ts rest → IsLeadingCommand (tree.process_rule n) ts rest
+  queries : {q : Query} {ts rest : Input} → IsQuery max_depth q ts rest → IsLeadingCommand (tree.query q) ts rest
+  changes : {change : Statement} {ts rest : Input} → IsChange change ts rest → IsLeadingCommand (tree.change change) ts rest
 
 -- the tokens, all of them, spell the command
 abbrev pub IsCommand : Command → Input → Type 0
-IsCommand s ts = IsStatement s ts []
+IsCommand s ts = IsLeadingCommand s ts []

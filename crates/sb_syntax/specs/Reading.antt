@@ -9,21 +9,21 @@ use Rattle.sb_value.specs.declared.value.ColumnType.TheVariants as t
 use Rattle.sb_value.specs.declared.value.ColumnDefinition.{ColumnDefinition}
 use Rattle.sb_syntax.specs.declared.kind.Kind.{Kind}
 use Rattle.sb_syntax.specs.declared.kind.Kind.TheVariants as k
-use Rattle.sb_syntax.specs.declared.cursor.Fault.{Fault}
-use Rattle.sb_syntax.specs.declared.cursor.Fault.TheVariants.{Refused, NoMemory}
-use Rattle.sb_syntax.specs.declared.ast.Arithmetic.TheVariants.{Add, Subtract, Multiply}
-use Rattle.sb_syntax.specs.declared.ast.Comparison.{Comparison}
-use Rattle.sb_syntax.specs.declared.ast.Comparison.TheVariants as c
-use Rattle.sb_syntax.specs.declared.ast.TableReference.{TableReference}
-use Rattle.sb_syntax.specs.declared.ast.TableReference.TheVariants.{Named, Inserted, Deleted, OldUpdated, NewUpdated}
-use Rattle.sb_syntax.specs.declared.ast.ColumnReference.{ColumnReference}
-use Rattle.sb_syntax.specs.declared.ast.ColumnReference.TheVariants.{Plain, Qualified}
-use Rattle.sb_syntax.specs.declared.ast.SourceReference.{SourceReference}
+use Rattle.sb_syntax.specs.declared.error.Fault.{Fault}
+use Rattle.sb_syntax.specs.declared.error.Fault.TheVariants.{Refused, NoMemory}
+use Rattle.sb_syntax.specs.declared.tree.Arithmetic.TheVariants.{Add, Subtract, Multiply}
+use Rattle.sb_syntax.specs.declared.tree.Comparison.{Comparison}
+use Rattle.sb_syntax.specs.declared.tree.Comparison.TheVariants as c
+use Rattle.sb_syntax.specs.declared.tree.TableReference.{TableReference}
+use Rattle.sb_syntax.specs.declared.tree.TableReference.TheVariants.{Named, Inserted, Deleted, OldUpdated, NewUpdated}
+use Rattle.sb_syntax.specs.declared.tree.ColumnReference.{ColumnReference}
+use Rattle.sb_syntax.specs.declared.tree.ColumnReference.TheVariants.{Plain, Qualified}
+use Rattle.sb_syntax.specs.declared.tree.SourceReference.{SourceReference}
 use Rattle.sb_syntax.specs.Input.{Input, same_kind}
 use Rattle.sb_syntax.specs.Literal.{decimal, negative, unquoted}
 use Rattle.sb_syntax.specs.Grammar.{max_nesting, max_depth}
 use Rattle.sb_syntax.specs.Tree as tree
-use Rattle.sb_syntax.specs.Tree.{Name, Expression, Items, Condition, Operand, Filter, Query, Assignment, Change, Action, Trigger, RuleText, Command}
+use Rattle.sb_syntax.specs.Tree.{Name, Expression, Items, Condition, Operand, Filter, Query, Assignment, Statement, Action, Trigger, RuleText, Command}
 
 abbrev pub Reader : Type 0 → Type 0
 Reader A = Input → Option (A × Input)
@@ -344,17 +344,17 @@ tuple = do
   expect k.RightParen
   pure vs
 
-unfoldable pub inserts_rows : Name → Reader Change
+unfoldable pub inserts_rows : Name → Reader Statement
 inserts_rows n = do
   expect k.Values
   tuples ← separated k.Comma tuple
   pure (tree.insert_rows n tuples)
 
 -- behind the table's name
-unfoldable pub inserts_into : Name → Reader Change
+unfoldable pub inserts_into : Name → Reader Statement
 inserts_into n ts = if sees k.Values ts then inserts_rows n ts else (do q ← query_to max_depth; pure (tree.insert_query n q)) ts
 
-unfoldable pub inserts : Reader Change
+unfoldable pub inserts : Reader Statement
 inserts = do
   expect k.Insert
   expect k.Into
@@ -368,7 +368,7 @@ assignment = do
   s ← operand (inner_query max_depth)
   pure (record { column = n; operand = s })
 
-unfoldable pub updates : Reader Change
+unfoldable pub updates : Reader Statement
 updates = do
   expect k.Update
   n ← name
@@ -377,7 +377,7 @@ updates = do
   f ← filter (inner_query max_depth)
   pure (tree.update n all f)
 
-unfoldable pub deletes : Reader Change
+unfoldable pub deletes : Reader Statement
 deletes = do
   expect k.Delete
   expect k.From
@@ -386,13 +386,13 @@ deletes = do
   pure (tree.delete n f)
 
 -- by the kind of the first token
-abbrev pub change_by : Option Kind → Reader Change
+abbrev pub change_by : Option Kind → Reader Statement
 change_by (Some k.Insert) = inserts
 change_by (Some k.Delete) = deletes
 change_by (Some k.Update) = updates
 change_by _ = refuse
 
-unfoldable pub change : Reader Change
+unfoldable pub change : Reader Statement
 change ts = change_by (kind_at ts) ts
 
 -- ---- rules
@@ -556,23 +556,23 @@ deactivates = do
   n ← name_after k.Rule
   pure (tree.deactivate_rule n)
 
-abbrev pub statement_by : Option Kind → Reader Command
-statement_by (Some k.Open) = word k.Open tree.open_session
-statement_by (Some k.End) = word k.End tree.end_session
-statement_by (Some k.Begin) = word k.Begin tree.begin
-statement_by (Some k.Commit) = word k.Commit tree.commit
-statement_by (Some k.Rollback) = word k.Rollback tree.rollback
-statement_by (Some k.Create) = creates
-statement_by (Some k.Drop) = drops
-statement_by (Some k.Alter) = alters
-statement_by (Some k.Activate) = activates
-statement_by (Some k.Deactivate) = deactivates
-statement_by (Some k.Process) = processes
-statement_by (Some k.Select) = do q ← query_to max_depth; pure (tree.query q)
-statement_by _ = do c ← change; pure (tree.change c)
+abbrev pub leading_command_by : Option Kind → Reader Command
+leading_command_by (Some k.Open) = word k.Open tree.open_session
+leading_command_by (Some k.End) = word k.End tree.end_session
+leading_command_by (Some k.Begin) = word k.Begin tree.begin
+leading_command_by (Some k.Commit) = word k.Commit tree.commit
+leading_command_by (Some k.Rollback) = word k.Rollback tree.rollback
+leading_command_by (Some k.Create) = creates
+leading_command_by (Some k.Drop) = drops
+leading_command_by (Some k.Alter) = alters
+leading_command_by (Some k.Activate) = activates
+leading_command_by (Some k.Deactivate) = deactivates
+leading_command_by (Some k.Process) = processes
+leading_command_by (Some k.Select) = do q ← query_to max_depth; pure (tree.query q)
+leading_command_by _ = do c ← change; pure (tree.change c)
 
-unfoldable pub statement : Reader Command
-statement ts = statement_by (kind_at ts) ts
+unfoldable pub leading_command : Reader Command
+leading_command ts = leading_command_by (kind_at ts) ts
 
 -- nothing follows
 abbrev pub ended : Command → Reader Command
@@ -580,4 +580,4 @@ ended s [] = Some (s, [])
 ended s (t ∷ ts) = None
 
 unfoldable pub command : Reader Command
-command = statement >>= ended
+command = leading_command >>= ended

@@ -2,10 +2,10 @@
 use Rattle.std.specs.Prelude.{ℕ, Bool, List, Option}
 use Rattle.sb_value.specs.declared.value.Value.{Value}
 use Rattle.sb_value.specs.declared.value.ColumnDefinition.{ColumnDefinition}
-use Rattle.sb_syntax.specs.declared.ast.ColumnReference.{ColumnReference}
-use Rattle.sb_syntax.specs.declared.ast.SourceReference.{SourceReference}
-use Rattle.sb_syntax.specs.declared.ast.Arithmetic.{Arithmetic}
-use Rattle.sb_syntax.specs.declared.ast.Comparison.{Comparison}
+use Rattle.sb_syntax.specs.declared.tree.ColumnReference.{ColumnReference}
+use Rattle.sb_syntax.specs.declared.tree.SourceReference.{SourceReference}
+use Rattle.sb_syntax.specs.declared.tree.Arithmetic.{Arithmetic}
+use Rattle.sb_syntax.specs.declared.tree.Comparison.{Comparison}
 
 abbrev pub Name : Type 0
 Name = List ℕ
@@ -47,14 +47,14 @@ pub record Assignment : Type 0 where
   pub column : Name
   pub operand : Operand
 
-pub data Change : Type 0 where
-  insert_rows : Name → List (List Value) → Change
-  insert_query : Name → Query → Change
-  delete : Name → Filter → Change
-  update : Name → List Assignment → Filter → Change
+pub data Statement : Type 0 where
+  insert_rows : Name → List (List Value) → Statement
+  insert_query : Name → Query → Statement
+  delete : Name → Filter → Statement
+  update : Name → List Assignment → Filter → Statement
 
 pub data Action : Type 0 where
-  changes : Change → Action
+  changes : Statement → Action
   rolls_back : Action
 
 pub data Trigger : Type 0 where
@@ -93,4 +93,4 @@ pub data Command : Type 0 where
   add_rules : Name → List Name → Command
   del_rules : Name → List Name → Command
   query : Query → Command
-  change : Change → Command
+  change : Statement → Command

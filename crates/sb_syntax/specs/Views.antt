@@ -1,24 +1,24 @@
 -- The tree that a value of the program stands for.
 use Rattle.std.specs.Prelude.{map, option_map, Option, None, Some}
-use Rattle.sb_syntax.specs.declared.ast.Expr.{Expr, Literal, Column, Binary'}
-use Rattle.sb_syntax.specs.declared.ast.Items.{Items}
-use Rattle.sb_syntax.specs.declared.ast.Items.TheVariants.{All, Count, Sum, Each}
-use Rattle.sb_syntax.specs.declared.ast.Condition.{Condition, Disjunction', Conjunction', Negation', Compare, In', Exists', Held-Query-filter, None', Some'}
-use Rattle.sb_syntax.specs.declared.ast.Operand.{Operand, Expression, Answer'}
-use Rattle.sb_syntax.specs.declared.ast.Query.{Query}
-use Rattle.sb_syntax.specs.declared.command.Assignment.{Assignment}
-use Rattle.sb_syntax.specs.declared.command.Change.{Change}
-use Rattle.sb_syntax.specs.declared.command.Change.TheVariants.{InsertRows, InsertQuery, Delete, Update}
-use Rattle.sb_syntax.specs.declared.command.Action.{Action}
-use Rattle.sb_syntax.specs.declared.command.Action.TheVariants as actions
-use Rattle.sb_syntax.specs.declared.command.Trigger.{Trigger}
-use Rattle.sb_syntax.specs.declared.command.Trigger.TheVariants as triggers
-use Rattle.sb_syntax.specs.declared.command.RuleText.{RuleText}
-use Rattle.sb_syntax.specs.declared.command.Command.{Command}
-use Rattle.sb_syntax.specs.declared.command.Command.TheVariants as commands
+use Rattle.sb_syntax.specs.declared.tree.Expression.{Expression as Stored, Literal, Column, Binary'}
+use Rattle.sb_syntax.specs.declared.tree.Items.{Items}
+use Rattle.sb_syntax.specs.declared.tree.Items.TheVariants.{All, Count, Sum, Each}
+use Rattle.sb_syntax.specs.declared.tree.Condition.{Condition, Disjunction', Conjunction', Negation', Compare, In', Exists', Held-Query-filter, None', Some'}
+use Rattle.sb_syntax.specs.declared.tree.Operand.{Operand, Expression, Answer'}
+use Rattle.sb_syntax.specs.declared.tree.Query.{Query}
+use Rattle.sb_syntax.specs.declared.tree.Assignment.{Assignment}
+use Rattle.sb_syntax.specs.declared.tree.Statement.{Statement}
+use Rattle.sb_syntax.specs.declared.tree.Statement.TheVariants.{InsertRows, InsertQuery, Delete, Update}
+use Rattle.sb_syntax.specs.declared.tree.Action.{Action}
+use Rattle.sb_syntax.specs.declared.tree.Action.TheVariants as actions
+use Rattle.sb_syntax.specs.declared.tree.Trigger.{Trigger}
+use Rattle.sb_syntax.specs.declared.tree.Trigger.TheVariants as triggers
+use Rattle.sb_syntax.specs.declared.tree.RuleText.{RuleText}
+use Rattle.sb_syntax.specs.declared.tree.Command.{Command}
+use Rattle.sb_syntax.specs.declared.tree.Command.TheVariants as commands
 use Rattle.sb_syntax.specs.Tree as tree
 
-abbrev pub expression : Expr → tree.Expression
+abbrev pub expression : Stored → tree.Expression
 expression (Literal v) = tree.literal v
 expression (Column c) = tree.column c
 expression (Binary' p a op q b) = tree.binary (expression a) op (expression b)
@@ -56,14 +56,14 @@ query q = tree.select (items q.items) q.sources.items (filter q.filter)
 abbrev pub assignment : Assignment → tree.Assignment
 assignment a = record { column = a.column; operand = operand a.operand }
 
-abbrev pub change : Change → tree.Change
-change (InsertRows n tuples) = tree.insert_rows n tuples
-change (InsertQuery n q) = tree.insert_query n (query q.value)
-change (Delete n f) = tree.delete n (filter (option_map (λ a. a.value) f))
-change (Update n assignments f) = tree.update n (map assignment assignments.items) (filter (option_map (λ a. a.value) f))
+abbrev pub statement : Statement → tree.Statement
+statement (InsertRows n tuples) = tree.insert_rows n tuples
+statement (InsertQuery n q) = tree.insert_query n (query q.value)
+statement (Delete n f) = tree.delete n (filter (option_map (λ a. a.value) f))
+statement (Update n assignments f) = tree.update n (map assignment assignments.items) (filter (option_map (λ a. a.value) f))
 
 abbrev pub action : Action → tree.Action
-action (actions.Change c) = tree.changes (change c)
+action (actions.Change c) = tree.changes (statement c)
 action actions.Rollback = tree.rolls_back
 
 abbrev pub trigger : Trigger → tree.Trigger
@@ -103,4 +103,4 @@ command (commands.DropRuleset n) = tree.drop_ruleset n
 command (commands.AddRules n rules) = tree.add_rules n rules.items
 command (commands.DelRules n rules) = tree.del_rules n rules.items
 command (commands.Query q) = tree.query (query q.value)
-command (commands.Change c) = tree.change (change c)
+command (commands.Change c) = tree.change (statement c)

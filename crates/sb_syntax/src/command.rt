@@ -1,86 +1,210 @@
-//! Commands, as trees.
+//! Commands.
 
-use crate::ast::{Condition, Operand, Query};
-use sb_value::{ColumnDefinition, Name, Tuples};
+ghost use Rattle.std.specs.Prelude.{◌≡◌, length};
+ghost use Rattle.sb_syntax.specs.Reading as spec;
+ghost use Rattle.sb_syntax.specs.Reading.{Gives};
+ghost use Rattle.sb_syntax.specs.Views as view;
 
-/// A column of an update, and what it becomes.
-#[derive(Drop)]
-pub struct Assignment {
-    pub column: Name,
-    pub operand: Operand,
+use crate::cursor::Cursor;
+use crate::error::Fault;
+use crate::kind::Kind;
+use crate::literal::{name, name_after, names};
+use crate::rule::rule;
+use crate::statement::{change, whole_query};
+use crate::tree::{Command, RuleText};
+use sb_value::{ColumnDefinition, ColumnType, Name};
+use std::alloc::Global;
+
+/// How many columns a table has.
+const MAX_COLUMNS: usize = 8;
+
+#[tactic(auto, unfolding(crate::specs::Reading::column_type))]
+fn column_type(tokens: &mut Cursor<'_>) -> Result<ColumnType, Fault>
+    ensures { Gives (λ t. t) (spec.column_type tokens.old) result tokens.old tokens.new }
+{
+    if tokens.sees(Kind::IntType) {
+        tokens.expect(Kind::IntType)?;
+        Ok(ColumnType::Int)
+    } else {
+        tokens.expect(Kind::TextType)?;
+        Ok(ColumnType::Text)
+    }
 }
 
-/// A statement that changes a table's rows.
-#[derive(Drop)]
-pub enum Change {
-    /// `insert into .. values ..`.
-    InsertRows(Name, Tuples),
-    /// `insert into .. select ..`.
-    InsertQuery(Name, Box<Query>),
-    /// `delete from .. where ..`.
-    Delete(Name, Option<Box<Condition>>),
-    /// `update .. set .. where ..`.
-    Update(Name, Vec<Assignment>, Option<Box<Condition>>),
+#[tactic(auto, unfolding(crate::specs::Reading::definition))]
+fn definition(tokens: &mut Cursor<'_>) -> Result<ColumnDefinition, Fault>
+    ensures { Gives (λ c. c) (spec.definition tokens.old) result tokens.old tokens.new }
+{
+    let name = name(tokens)?;
+    let of = column_type(tokens)?;
+    Ok(ColumnDefinition { name, of })
 }
 
-/// A part of a rule's `then`.
-#[derive(Drop)]
-pub enum Action {
-    Change(Change),
-    Rollback,
+#[tactic(auto, unfolding(crate::specs::Reading::columns, crate::specs::Reading::separated_to))]
+fn columns(alloc: Global, tokens: &mut Cursor<'_>) -> Result<Vec<ColumnDefinition>, Fault>
+    ensures { Gives (λ v. v.items) (spec.columns tokens.old) result tokens.old tokens.new }
+{
+    let mut all = Vec::new(alloc);
+    let first = definition(tokens)?;
+    all.push(first)?;
+    'more: while tokens.sees(Kind::Comma) {
+        if all.len() >= MAX_COLUMNS {
+            return Ok(all);
+        }
+        tokens.skip();
+        let item = definition(tokens)?;
+        all.push(item)?;
+    }
+    Ok(all)
 }
 
-/// What triggers a rule, as it is written behind `when`.
-#[derive(Drop)]
-pub enum Trigger {
-    Insert,
-    Delete,
-    Update,
-    /// An update of one of these columns.
-    UpdateOf(Vec<Name>),
+#[tactic(auto, unfolding(crate::specs::Reading::creates_table))]
+fn create_table(alloc: Global, tokens: &mut Cursor<'_>) -> Result<Command, Fault>
+    ensures { Gives view.command (spec.creates_table tokens.old) result tokens.old tokens.new }
+{
+    tokens.expect(Kind::Table)?;
+    let table = name(tokens)?;
+    tokens.expect(Kind::LeftParen)?;
+    let columns = columns(alloc, tokens)?;
+    tokens.expect(Kind::RightParen)?;
+    Ok(Command::CreateTable(table, columns))
 }
 
-/// A rule as `create rule` writes it.
-#[derive(Drop)]
-pub struct RuleText {
-    pub name: Name,
-    pub table: Name,
-    pub triggers: Vec<Trigger>,
-    /// The query behind `if`.
-    pub condition: Option<Query>,
-    pub actions: Vec<Action>,
-    /// The rules that are considered after it.
-    pub precedes: Vec<Name>,
-    /// The rules that are considered before it.
-    pub follows: Vec<Name>,
+fn boxed_rule(alloc: Global, tokens: &mut Cursor<'_>) -> Result<Box<RuleText>, Fault>
+    ensures { Gives (λ r. view.rule r.value) (spec.rule tokens.old) result tokens.old tokens.new }
+{
+    let rule = rule(alloc, tokens)?;
+    Ok(Box::new(alloc, rule)?)
 }
 
-/// A command line.
-#[derive(Drop)]
-pub enum Command {
-    OpenSession,
-    EndSession,
-    Begin,
-    Commit,
-    Rollback,
-    /// An assertion point: all rules are processed.
-    ProcessRules,
-    /// An assertion point of a ruleset's rules.
-    ProcessRuleset(Name),
-    /// An assertion point of one rule.
-    ProcessRule(Name),
-    CreateTable(Name, Vec<ColumnDefinition>),
-    DropTable(Name),
-    CreateRule(Box<RuleText>),
-    DropRule(Name),
-    ActivateRule(Name),
-    DeactivateRule(Name),
-    CreateRuleset(Name),
-    DropRuleset(Name),
-    /// Rules for a ruleset.
-    AddRules(Name, Vec<Name>),
-    /// Rules out of a ruleset.
-    DelRules(Name, Vec<Name>),
-    Query(Box<Query>),
-    Change(Change),
+#[tactic(auto, unfolding(crate::specs::Reading::creates))]
+fn create(alloc: Global, tokens: &mut Cursor<'_>) -> Result<Command, Fault>
+    ensures { Gives view.command (spec.creates tokens.old) result tokens.old tokens.new }
+{
+    tokens.expect(Kind::Create)?;
+    match tokens.peek() {
+        Some(Kind::Table) => create_table(alloc, tokens),
+        Some(Kind::Ruleset) => Ok(Command::CreateRuleset(name_after(tokens, Kind::Ruleset)?)),
+        _ => Ok(Command::CreateRule(boxed_rule(alloc, tokens)?)),
+    }
+}
+
+#[tactic(auto, unfolding(crate::specs::Reading::drops))]
+fn drop_named(tokens: &mut Cursor<'_>) -> Result<Command, Fault>
+    ensures { Gives view.command (spec.drops tokens.old) result tokens.old tokens.new }
+{
+    tokens.expect(Kind::Drop)?;
+    match tokens.peek() {
+        Some(Kind::Table) => Ok(Command::DropTable(name_after(tokens, Kind::Table)?)),
+        Some(Kind::Rule) => Ok(Command::DropRule(name_after(tokens, Kind::Rule)?)),
+        _ => Ok(Command::DropRuleset(name_after(tokens, Kind::Ruleset)?)),
+    }
+}
+
+#[tactic(auto, unfolding(crate::specs::Reading::processes, crate::specs::Reading::word))]
+fn process(tokens: &mut Cursor<'_>) -> Result<Command, Fault>
+    ensures { Gives view.command (spec.processes tokens.old) result tokens.old tokens.new }
+{
+    tokens.expect(Kind::Process)?;
+    match tokens.peek() {
+        Some(Kind::Rules) => {
+            tokens.expect(Kind::Rules)?;
+            Ok(Command::ProcessRules)
+        }
+        Some(Kind::Rule) => Ok(Command::ProcessRule(name_after(tokens, Kind::Rule)?)),
+        _ => Ok(Command::ProcessRuleset(name_after(tokens, Kind::Ruleset)?)),
+    }
+}
+
+#[tactic(auto, unfolding(crate::specs::Reading::adds_rules))]
+fn add_rules(alloc: Global, tokens: &mut Cursor<'_>, target: Name) -> Result<Command, Fault>
+    ensures { Gives view.command (spec.adds_rules target tokens.old) result tokens.old tokens.new }
+{
+    tokens.expect(Kind::AddRules)?;
+    let rules = names(alloc, tokens)?;
+    Ok(Command::AddRules(target, rules))
+}
+
+#[tactic(auto, unfolding(crate::specs::Reading::removes_rules))]
+fn remove_rules(alloc: Global, tokens: &mut Cursor<'_>, target: Name) -> Result<Command, Fault>
+    ensures { Gives view.command
+        (spec.removes_rules target tokens.old) result tokens.old tokens.new }
+{
+    tokens.expect(Kind::DelRules)?;
+    let rules = names(alloc, tokens)?;
+    Ok(Command::DelRules(target, rules))
+}
+
+#[tactic(auto, unfolding(crate::specs::Reading::alters, crate::specs::Reading::alters_from))]
+fn alter(alloc: Global, tokens: &mut Cursor<'_>) -> Result<Command, Fault>
+    ensures { Gives view.command (spec.alters tokens.old) result tokens.old tokens.new }
+{
+    tokens.expect(Kind::Alter)?;
+    let ruleset = name_after(tokens, Kind::Ruleset)?;
+    if tokens.sees(Kind::AddRules) {
+        add_rules(alloc, tokens, ruleset)
+    } else {
+        remove_rules(alloc, tokens, ruleset)
+    }
+}
+
+#[tactic(auto, unfolding(crate::specs::Reading::activates))]
+fn activate(tokens: &mut Cursor<'_>) -> Result<Command, Fault>
+    ensures { Gives view.command (spec.activates tokens.old) result tokens.old tokens.new }
+{
+    tokens.expect(Kind::Activate)?;
+    let rule = name_after(tokens, Kind::Rule)?;
+    Ok(Command::ActivateRule(rule))
+}
+
+#[tactic(auto, unfolding(crate::specs::Reading::deactivates))]
+fn deactivate(tokens: &mut Cursor<'_>) -> Result<Command, Fault>
+    ensures { Gives view.command (spec.deactivates tokens.old) result tokens.old tokens.new }
+{
+    tokens.expect(Kind::Deactivate)?;
+    let rule = name_after(tokens, Kind::Rule)?;
+    Ok(Command::DeactivateRule(rule))
+}
+
+/// A command of one word.
+#[tactic(auto, unfolding(crate::specs::Reading::word))]
+fn word(tokens: &mut Cursor<'_>, kind: Kind, command: Command) -> Result<Command, Fault>
+    ensures { Gives view.command
+        (spec.word kind (view.command command) tokens.old) result tokens.old tokens.new }
+{
+    tokens.expect(kind)?;
+    Ok(command)
+}
+
+#[tactic(auto, unfolding(crate::specs::Reading::leading_command))]
+fn leading_command(alloc: Global, tokens: &mut Cursor<'_>) -> Result<Command, Fault>
+    ensures { Gives view.command (spec.leading_command tokens.old) result tokens.old tokens.new }
+{
+    match tokens.peek() {
+        Some(Kind::Open) => word(tokens, Kind::Open, Command::OpenSession),
+        Some(Kind::End) => word(tokens, Kind::End, Command::EndSession),
+        Some(Kind::Begin) => word(tokens, Kind::Begin, Command::Begin),
+        Some(Kind::Commit) => word(tokens, Kind::Commit, Command::Commit),
+        Some(Kind::Rollback) => word(tokens, Kind::Rollback, Command::Rollback),
+        Some(Kind::Create) => create(alloc, tokens),
+        Some(Kind::Drop) => drop_named(tokens),
+        Some(Kind::Alter) => alter(alloc, tokens),
+        Some(Kind::Activate) => activate(tokens),
+        Some(Kind::Deactivate) => deactivate(tokens),
+        Some(Kind::Process) => process(tokens),
+        Some(Kind::Select) => Ok(Command::Query(whole_query(alloc, tokens)?)),
+        _ => Ok(Command::Change(change(alloc, tokens)?)),
+    }
+}
+
+/// A command, which all of the tokens have to be.
+#[tactic(auto, unfolding(crate::specs::Reading::command, crate::specs::Reading::kind_at))]
+pub fn command(alloc: Global, tokens: &mut Cursor<'_>) -> Result<Command, Fault>
+    ensures { Gives view.command (spec.command tokens.old) result tokens.old tokens.new }
+{
+    let command = leading_command(alloc, tokens)?;
+    if tokens.peek().is_some() {
+        return Err(Fault::Refused);
+    }
+    Ok(command)
 }

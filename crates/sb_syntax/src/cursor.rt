@@ -5,8 +5,8 @@ ghost use Rattle.sb_syntax.specs.Reading as spec;
 ghost use Rattle.sb_syntax.specs.Reading.{Gives};
 ghost use Rattle.sb_syntax.specs.Cursor.{AllWithin, lexemes};
 
+use crate::error::Fault;
 use crate::kind::{Kind, same_kind};
-use std::alloc::{AllocError, AllocFailed};
 use std::marker::Model;
 
 /// A token: its kind, and where its bytes begin and end.
@@ -15,35 +15,6 @@ pub struct Token {
     pub kind: Kind,
     pub start: u32,
     pub end: u32,
-}
-
-/// Why nothing was read.
-#[derive(Clone, Copy)]
-pub enum Fault {
-    Refused,
-    NoMemory,
-}
-
-impl From<AllocError> for Fault {
-    ghost use Rattle.std.specs.Prelude.{◌≡◌};
-    ghost use Rattle.sb_syntax.specs.declared.cursor.Fault.TheVariants.{NoMemory};
-
-    ghost from_gives = { λ _ e. e ≡ NoMemory };
-
-    fn from(_: AllocError) -> Fault {
-        Fault::NoMemory
-    }
-}
-
-impl<T: Drop> From<AllocFailed<T>> for Fault {
-    ghost use Rattle.std.specs.Prelude.{◌≡◌};
-    ghost use Rattle.sb_syntax.specs.declared.cursor.Fault.TheVariants.{NoMemory};
-
-    ghost from_gives = { λ _ e. e ≡ NoMemory };
-
-    fn from(_: AllocFailed<T>) -> Fault {
-        Fault::NoMemory
-    }
 }
 
 /// The tokens of a text that are still to be read.

@@ -1,27 +1,25 @@
 //! Tokens and commands: a reader specified by a grammar.
 #![tactic(auto)]
 
-mod ast;
-mod change;
 mod command;
 mod cursor;
-mod expr;
+mod error;
+mod expression;
 mod kind;
-mod lex;
+mod lexer;
 mod literal;
 mod query;
 mod rule;
 mod select;
 mod statement;
 mod token;
+mod tree;
 
-pub use ast::{
-    Arithmetic, ColumnReference, Comparison, Condition, Expr, Items, Operand, Query,
-    SourceReference, TableReference,
-};
-pub use command::{Action, Assignment, Change, Command, RuleText, Trigger};
 pub use cursor::Token;
+pub use error::ParseError;
 pub use kind::Kind;
-pub use token::{
-    ParseError, command_of_is_the_grammar, one_command, parse, tokens, values_spell_themselves,
+pub use token::{command_of_is_the_grammar, one_command, parse, tokens, values_spell_themselves};
+pub use tree::{
+    Action, Arithmetic, Assignment, ColumnReference, Command, Comparison, Condition, Expression,
+    Items, Operand, Query, RuleText, SourceReference, Statement, TableReference, Trigger,
 };

@@ -8,7 +8,8 @@ ghost use Rattle.sb_syntax.specs.Plain.{is_bare};
 ghost use Rattle.sb_syntax.specs.Reading as spec;
 ghost use Rattle.sb_syntax.specs.Reading.{Gives};
 
-use crate::cursor::{Cursor, Fault};
+use crate::cursor::Cursor;
+use crate::error::Fault;
 use crate::kind::Kind;
 use sb_value::{NAME_LIMIT, Name, TEXT_LIMIT, Text, Value};
 use std::alloc::{AllocError, Global};

@@ -6,11 +6,12 @@ ghost use Rattle.sb_syntax.specs.Reading.{Gives};
 ghost use Rattle.sb_syntax.specs.Tree as tree;
 ghost use Rattle.sb_syntax.specs.Views as view;
 
-use crate::ast::{Comparison, Condition, Expr, Operand, Query};
-use crate::cursor::{Cursor, Fault};
-use crate::expr::expr;
+use crate::cursor::Cursor;
+use crate::error::Fault;
+use crate::expression::expr;
 use crate::kind::Kind;
 use crate::select::{items, sources};
+use crate::tree::{Comparison, Condition, Expression, Operand, Query};
 use std::alloc::{AllocError, Global};
 
 /// How deep `not` and parentheses nest in one condition.
@@ -60,7 +61,7 @@ fn exists(alloc: Global, query: Query) -> Result<Boxed, AllocError>
     Ok(Box::new(alloc, Condition::Exists(query))?)
 }
 
-fn within(alloc: Global, e: Expr, negated: bool, query: Query) -> Result<Boxed, AllocError>
+fn within(alloc: Global, e: Expression, negated: bool, query: Query) -> Result<Boxed, AllocError>
     ensures { IfOk result (λ c. view.condition c.value
         ≡ tree.is_in (view.expression e) negated (view.query query)) }
 {
@@ -107,7 +108,12 @@ pub fn operand(alloc: Global, tokens: &mut Cursor<'_>, depth: usize) -> Result<O
 
 #[cycle(query)]
 #[tactic(auto, unfolding(crate::specs::Reading::member))]
-fn member(alloc: Global, tokens: &mut Cursor<'_>, depth: usize, left: Expr) -> Result<Boxed, Fault>
+fn member(
+    alloc: Global,
+    tokens: &mut Cursor<'_>,
+    depth: usize,
+    left: Expression,
+) -> Result<Boxed, Fault>
     ensures { Gives (λ c. view.condition c.value)
         (spec.member (spec.inner_query depth) (view.expression left) tokens.old)
         result tokens.old tokens.new }

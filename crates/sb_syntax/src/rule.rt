@@ -5,13 +5,13 @@ ghost use Rattle.sb_syntax.specs.Reading as spec;
 ghost use Rattle.sb_syntax.specs.Reading.{Gives};
 ghost use Rattle.sb_syntax.specs.Views as view;
 
-use crate::ast::Query;
-use crate::change::{MAX_DEPTH, change};
-use crate::command::{Action, RuleText, Trigger};
-use crate::cursor::{Cursor, Fault};
+use crate::cursor::Cursor;
+use crate::error::Fault;
 use crate::kind::Kind;
 use crate::literal::{name_after, names};
 use crate::query::query;
+use crate::statement::{MAX_DEPTH, change};
+use crate::tree::{Action, Query, RuleText, Trigger};
 use sb_value::Name;
 use std::alloc::Global;
 

@@ -5,11 +5,12 @@ ghost use Rattle.sb_syntax.specs.Reading as spec;
 ghost use Rattle.sb_syntax.specs.Reading.{Gives};
 ghost use Rattle.sb_syntax.specs.Views as view;
 
-use crate::ast::{Expr, Items, SourceReference, TableReference};
-use crate::cursor::{Cursor, Fault};
-use crate::expr::{expr, table};
+use crate::cursor::Cursor;
+use crate::error::Fault;
+use crate::expression::{expr, table};
 use crate::kind::Kind;
 use crate::literal::name;
+use crate::tree::{Expression, Items, SourceReference, TableReference};
 use sb_value::Name;
 use std::alloc::Global;
 
@@ -47,7 +48,7 @@ fn sum_rows(alloc: Global, tokens: &mut Cursor<'_>) -> Result<Items, Fault>
 }
 
 #[tactic(auto, unfolding(crate::specs::Reading::expressions, crate::specs::Reading::separated_to))]
-fn expressions(alloc: Global, tokens: &mut Cursor<'_>) -> Result<Vec<Expr>, Fault>
+fn expressions(alloc: Global, tokens: &mut Cursor<'_>) -> Result<Vec<Expression>, Fault>
     ensures { Gives (λ v. map view.expression v.items)
         (spec.expressions tokens.old) result tokens.old tokens.new }
 {

@@ -1,209 +1,175 @@
-//! Commands.
+//! Changes of tables.
 
-ghost use Rattle.std.specs.Prelude.{◌≡◌, length};
+ghost use Rattle.std.specs.Prelude.{◌≡◌, [], map, length, option_map};
 ghost use Rattle.sb_syntax.specs.Reading as spec;
 ghost use Rattle.sb_syntax.specs.Reading.{Gives};
 ghost use Rattle.sb_syntax.specs.Views as view;
 
-use crate::change::{change, whole_query};
-use crate::command::{Command, RuleText};
-use crate::cursor::{Cursor, Fault};
+use crate::cursor::Cursor;
+use crate::error::Fault;
 use crate::kind::Kind;
-use crate::literal::{name, name_after, names};
-use crate::rule::rule;
-use sb_value::{ColumnDefinition, ColumnType, Name};
+use crate::literal::{literal_value, name};
+use crate::query::{filter, operand, query};
+use crate::tree::{Assignment, Condition, Query, Statement};
+use sb_value::{Name, OpenTuples, Tuples};
 use std::alloc::Global;
 
-/// How many columns a table has.
-const MAX_COLUMNS: usize = 8;
+/// How deep subqueries nest.
+pub const MAX_DEPTH: usize = 4;
 
-#[tactic(auto, unfolding(crate::specs::Reading::column_type))]
-fn column_type(tokens: &mut Cursor<'_>) -> Result<ColumnType, Fault>
-    ensures { Gives (λ t. t) (spec.column_type tokens.old) result tokens.old tokens.new }
+/// Literals, as a tuple that is begun.
+#[inline(always)]
+#[tactic(auto, unfolding(crate::specs::Reading::separated))]
+fn literals(alloc: Global, tokens: &mut Cursor<'_>, all: &mut OpenTuples) -> Result<(), Fault>
+    requires { all.old.begun ≡ [] }
+    ensures read { Gives (λ _. all.new.begun)
+        (spec.separated Kind.Comma spec.literal_value tokens.old) result tokens.old tokens.new }
+    ensures closed { all.new.closed ≡ all.old.closed }
 {
-    if tokens.sees(Kind::IntType) {
-        tokens.expect(Kind::IntType)?;
-        Ok(ColumnType::Int)
+    let first = literal_value(alloc, tokens)?;
+    all.push(first)?;
+    'more: while tokens.sees(Kind::Comma) {
+        tokens.skip();
+        let item = literal_value(alloc, tokens)?;
+        all.push(item)?;
+    }
+    Ok(())
+}
+
+#[tactic(auto, unfolding(crate::specs::Reading::tuple))]
+fn tuple(alloc: Global, tokens: &mut Cursor<'_>, all: &mut OpenTuples) -> Result<(), Fault>
+    requires { all.old.begun ≡ [] }
+    ensures read { Gives (λ _. all.new.begun) (spec.tuple tokens.old) result tokens.old tokens.new }
+    ensures closed { all.new.closed ≡ all.old.closed }
+{
+    tokens.expect(Kind::LeftParen)?;
+    // A cursor of its own, which stays in registers.
+    let mut here = tokens.copied();
+    let read = literals(alloc, &mut here, all);
+    *tokens = here;
+    read?;
+    tokens.expect(Kind::RightParen)?;
+    Ok(())
+}
+
+#[tactic(auto, unfolding(crate::specs::Reading::separated))]
+fn tuples(alloc: Global, tokens: &mut Cursor<'_>) -> Result<Tuples, Fault>
+    ensures { Gives (λ v. v)
+        (spec.separated Kind.Comma spec.tuple tokens.old) result tokens.old tokens.new }
+{
+    // A comma or a parenthesis follows each value.
+    let mut all = OpenTuples::with_capacity(alloc, tokens.left() / 2)?;
+    tuple(alloc, tokens, &mut all)?;
+    all.close()?;
+    'more: while tokens.sees(Kind::Comma) {
+        tokens.skip();
+        tuple(alloc, tokens, &mut all)?;
+        all.close()?;
+    }
+    Ok(all.finish())
+}
+
+#[tactic(auto, unfolding(crate::specs::Reading::inserts_rows))]
+fn insert_rows(alloc: Global, tokens: &mut Cursor<'_>, table: Name) -> Result<Statement, Fault>
+    ensures { Gives view.statement (spec.inserts_rows table tokens.old) result tokens.old tokens.new }
+{
+    tokens.expect(Kind::Values)?;
+    let tuples = tuples(alloc, tokens)?;
+    Ok(Statement::InsertRows(table, tuples))
+}
+
+/// A query that stands in no other.
+pub fn whole_query(alloc: Global, tokens: &mut Cursor<'_>) -> Result<Box<Query>, Fault>
+    ensures { Gives (λ q. view.query q.value)
+        (spec.query_to MAX_DEPTH tokens.old) result tokens.old tokens.new }
+{
+    let query = query(alloc, tokens, MAX_DEPTH)?;
+    Ok(Box::new(alloc, query)?)
+}
+
+#[tactic(auto, unfolding(crate::specs::Reading::inserts, crate::specs::Reading::inserts_into))]
+fn insert(alloc: Global, tokens: &mut Cursor<'_>) -> Result<Statement, Fault>
+    ensures { Gives view.statement (spec.inserts tokens.old) result tokens.old tokens.new }
+{
+    tokens.expect(Kind::Insert)?;
+    tokens.expect(Kind::Into)?;
+    let table = name(tokens)?;
+    if tokens.sees(Kind::Values) {
+        insert_rows(alloc, tokens, table)
     } else {
-        tokens.expect(Kind::TextType)?;
-        Ok(ColumnType::Text)
+        Ok(Statement::InsertQuery(table, whole_query(alloc, tokens)?))
     }
 }
 
-#[tactic(auto, unfolding(crate::specs::Reading::definition))]
-fn definition(tokens: &mut Cursor<'_>) -> Result<ColumnDefinition, Fault>
-    ensures { Gives (λ c. c) (spec.definition tokens.old) result tokens.old tokens.new }
+#[tactic(auto, unfolding(crate::specs::Reading::assignment))]
+fn assignment(alloc: Global, tokens: &mut Cursor<'_>) -> Result<Assignment, Fault>
+    ensures { Gives view.assignment (spec.assignment tokens.old) result tokens.old tokens.new }
 {
-    let name = name(tokens)?;
-    let of = column_type(tokens)?;
-    Ok(ColumnDefinition { name, of })
+    let column = name(tokens)?;
+    tokens.expect(Kind::Equal)?;
+    let operand = operand(alloc, tokens, MAX_DEPTH)?;
+    Ok(Assignment { column, operand })
 }
 
-#[tactic(auto, unfolding(crate::specs::Reading::columns, crate::specs::Reading::separated_to))]
-fn columns(alloc: Global, tokens: &mut Cursor<'_>) -> Result<Vec<ColumnDefinition>, Fault>
-    ensures { Gives (λ v. v.items) (spec.columns tokens.old) result tokens.old tokens.new }
+#[tactic(auto, unfolding(crate::specs::Reading::separated))]
+fn assignments(alloc: Global, tokens: &mut Cursor<'_>) -> Result<Vec<Assignment>, Fault>
+    ensures { Gives (λ v. map view.assignment v.items)
+        (spec.separated Kind.Comma spec.assignment tokens.old) result tokens.old tokens.new }
 {
     let mut all = Vec::new(alloc);
-    let first = definition(tokens)?;
+    let first = assignment(alloc, tokens)?;
     all.push(first)?;
     'more: while tokens.sees(Kind::Comma) {
-        if all.len() >= MAX_COLUMNS {
-            return Ok(all);
-        }
         tokens.skip();
-        let item = definition(tokens)?;
+        let item = assignment(alloc, tokens)?;
         all.push(item)?;
     }
     Ok(all)
 }
 
-#[tactic(auto, unfolding(crate::specs::Reading::creates_table))]
-fn create_table(alloc: Global, tokens: &mut Cursor<'_>) -> Result<Command, Fault>
-    ensures { Gives view.command (spec.creates_table tokens.old) result tokens.old tokens.new }
+/// The condition of a statement, if one stands there.
+fn statement_filter(alloc: Global, tokens: &mut Cursor<'_>) -> Result<Option<Box<Condition>>, Fault>
+    ensures { Gives (λ f. view.filter (option_map (λ a. a.value) f))
+        (spec.filter (spec.inner_query MAX_DEPTH) tokens.old) result tokens.old tokens.new }
 {
-    tokens.expect(Kind::Table)?;
+    match filter(alloc, tokens, MAX_DEPTH)? {
+        Some(condition) => Ok(Some(Box::new(alloc, condition)?)),
+        None => Ok(None),
+    }
+}
+
+#[tactic(auto, unfolding(crate::specs::Reading::updates))]
+fn update(alloc: Global, tokens: &mut Cursor<'_>) -> Result<Statement, Fault>
+    ensures { Gives view.statement (spec.updates tokens.old) result tokens.old tokens.new }
+{
+    tokens.expect(Kind::Update)?;
     let table = name(tokens)?;
-    tokens.expect(Kind::LeftParen)?;
-    let columns = columns(alloc, tokens)?;
-    tokens.expect(Kind::RightParen)?;
-    Ok(Command::CreateTable(table, columns))
+    tokens.expect(Kind::Set)?;
+    let assignments = assignments(alloc, tokens)?;
+    let filter = statement_filter(alloc, tokens)?;
+    Ok(Statement::Update(table, assignments, filter))
 }
 
-fn boxed_rule(alloc: Global, tokens: &mut Cursor<'_>) -> Result<Box<RuleText>, Fault>
-    ensures { Gives (λ r. view.rule r.value) (spec.rule tokens.old) result tokens.old tokens.new }
+#[tactic(auto, unfolding(crate::specs::Reading::deletes))]
+fn delete(alloc: Global, tokens: &mut Cursor<'_>) -> Result<Statement, Fault>
+    ensures { Gives view.statement (spec.deletes tokens.old) result tokens.old tokens.new }
 {
-    let rule = rule(alloc, tokens)?;
-    Ok(Box::new(alloc, rule)?)
+    tokens.expect(Kind::Delete)?;
+    tokens.expect(Kind::From)?;
+    let table = name(tokens)?;
+    let filter = statement_filter(alloc, tokens)?;
+    Ok(Statement::Delete(table, filter))
 }
 
-#[tactic(auto, unfolding(crate::specs::Reading::creates))]
-fn create(alloc: Global, tokens: &mut Cursor<'_>) -> Result<Command, Fault>
-    ensures { Gives view.command (spec.creates tokens.old) result tokens.old tokens.new }
-{
-    tokens.expect(Kind::Create)?;
-    match tokens.peek() {
-        Some(Kind::Table) => create_table(alloc, tokens),
-        Some(Kind::Ruleset) => Ok(Command::CreateRuleset(name_after(tokens, Kind::Ruleset)?)),
-        _ => Ok(Command::CreateRule(boxed_rule(alloc, tokens)?)),
-    }
-}
-
-#[tactic(auto, unfolding(crate::specs::Reading::drops))]
-fn drop_named(tokens: &mut Cursor<'_>) -> Result<Command, Fault>
-    ensures { Gives view.command (spec.drops tokens.old) result tokens.old tokens.new }
-{
-    tokens.expect(Kind::Drop)?;
-    match tokens.peek() {
-        Some(Kind::Table) => Ok(Command::DropTable(name_after(tokens, Kind::Table)?)),
-        Some(Kind::Rule) => Ok(Command::DropRule(name_after(tokens, Kind::Rule)?)),
-        _ => Ok(Command::DropRuleset(name_after(tokens, Kind::Ruleset)?)),
-    }
-}
-
-#[tactic(auto, unfolding(crate::specs::Reading::processes, crate::specs::Reading::word))]
-fn process(tokens: &mut Cursor<'_>) -> Result<Command, Fault>
-    ensures { Gives view.command (spec.processes tokens.old) result tokens.old tokens.new }
-{
-    tokens.expect(Kind::Process)?;
-    match tokens.peek() {
-        Some(Kind::Rules) => {
-            tokens.expect(Kind::Rules)?;
-            Ok(Command::ProcessRules)
-        }
-        Some(Kind::Rule) => Ok(Command::ProcessRule(name_after(tokens, Kind::Rule)?)),
-        _ => Ok(Command::ProcessRuleset(name_after(tokens, Kind::Ruleset)?)),
-    }
-}
-
-#[tactic(auto, unfolding(crate::specs::Reading::adds_rules))]
-fn add_rules(alloc: Global, tokens: &mut Cursor<'_>, target: Name) -> Result<Command, Fault>
-    ensures { Gives view.command (spec.adds_rules target tokens.old) result tokens.old tokens.new }
-{
-    tokens.expect(Kind::AddRules)?;
-    let rules = names(alloc, tokens)?;
-    Ok(Command::AddRules(target, rules))
-}
-
-#[tactic(auto, unfolding(crate::specs::Reading::removes_rules))]
-fn remove_rules(alloc: Global, tokens: &mut Cursor<'_>, target: Name) -> Result<Command, Fault>
-    ensures { Gives view.command
-        (spec.removes_rules target tokens.old) result tokens.old tokens.new }
-{
-    tokens.expect(Kind::DelRules)?;
-    let rules = names(alloc, tokens)?;
-    Ok(Command::DelRules(target, rules))
-}
-
-#[tactic(auto, unfolding(crate::specs::Reading::alters, crate::specs::Reading::alters_from))]
-fn alter(alloc: Global, tokens: &mut Cursor<'_>) -> Result<Command, Fault>
-    ensures { Gives view.command (spec.alters tokens.old) result tokens.old tokens.new }
-{
-    tokens.expect(Kind::Alter)?;
-    let ruleset = name_after(tokens, Kind::Ruleset)?;
-    if tokens.sees(Kind::AddRules) {
-        add_rules(alloc, tokens, ruleset)
-    } else {
-        remove_rules(alloc, tokens, ruleset)
-    }
-}
-
-#[tactic(auto, unfolding(crate::specs::Reading::activates))]
-fn activate(tokens: &mut Cursor<'_>) -> Result<Command, Fault>
-    ensures { Gives view.command (spec.activates tokens.old) result tokens.old tokens.new }
-{
-    tokens.expect(Kind::Activate)?;
-    let rule = name_after(tokens, Kind::Rule)?;
-    Ok(Command::ActivateRule(rule))
-}
-
-#[tactic(auto, unfolding(crate::specs::Reading::deactivates))]
-fn deactivate(tokens: &mut Cursor<'_>) -> Result<Command, Fault>
-    ensures { Gives view.command (spec.deactivates tokens.old) result tokens.old tokens.new }
-{
-    tokens.expect(Kind::Deactivate)?;
-    let rule = name_after(tokens, Kind::Rule)?;
-    Ok(Command::DeactivateRule(rule))
-}
-
-/// A command of one word.
-#[tactic(auto, unfolding(crate::specs::Reading::word))]
-fn word(tokens: &mut Cursor<'_>, kind: Kind, command: Command) -> Result<Command, Fault>
-    ensures { Gives view.command
-        (spec.word kind (view.command command) tokens.old) result tokens.old tokens.new }
-{
-    tokens.expect(kind)?;
-    Ok(command)
-}
-
-#[tactic(auto, unfolding(crate::specs::Reading::statement))]
-fn statement(alloc: Global, tokens: &mut Cursor<'_>) -> Result<Command, Fault>
-    ensures { Gives view.command (spec.statement tokens.old) result tokens.old tokens.new }
+/// A statement that changes rows, from its first word on.
+#[tactic(auto, unfolding(crate::specs::Reading::change))]
+pub fn change(alloc: Global, tokens: &mut Cursor<'_>) -> Result<Statement, Fault>
+    ensures { Gives view.statement (spec.change tokens.old) result tokens.old tokens.new }
 {
     match tokens.peek() {
-        Some(Kind::Open) => word(tokens, Kind::Open, Command::OpenSession),
-        Some(Kind::End) => word(tokens, Kind::End, Command::EndSession),
-        Some(Kind::Begin) => word(tokens, Kind::Begin, Command::Begin),
-        Some(Kind::Commit) => word(tokens, Kind::Commit, Command::Commit),
-        Some(Kind::Rollback) => word(tokens, Kind::Rollback, Command::Rollback),
-        Some(Kind::Create) => create(alloc, tokens),
-        Some(Kind::Drop) => drop_named(tokens),
-        Some(Kind::Alter) => alter(alloc, tokens),
-        Some(Kind::Activate) => activate(tokens),
-        Some(Kind::Deactivate) => deactivate(tokens),
-        Some(Kind::Process) => process(tokens),
-        Some(Kind::Select) => Ok(Command::Query(whole_query(alloc, tokens)?)),
-        _ => Ok(Command::Change(change(alloc, tokens)?)),
+        Some(Kind::Insert) => insert(alloc, tokens),
+        Some(Kind::Delete) => delete(alloc, tokens),
+        Some(Kind::Update) => update(alloc, tokens),
+        _ => Err(Fault::Refused),
     }
-}
-
-/// A command, which all of the tokens have to be.
-#[tactic(auto, unfolding(crate::specs::Reading::command, crate::specs::Reading::kind_at))]
-pub fn command(alloc: Global, tokens: &mut Cursor<'_>) -> Result<Command, Fault>
-    ensures { Gives view.command (spec.command tokens.old) result tokens.old tokens.new }
-{
-    let command = statement(alloc, tokens)?;
-    if tokens.peek().is_some() {
-        return Err(Fault::Refused);
-    }
-    Ok(command)
 }

@@ -9,40 +9,12 @@ ghost use Rattle.sb_value.specs.declared.value.Value.{Value};
 ghost use Rattle.sb_syntax.specs.Tree as tree;
 ghost use Rattle.sb_syntax.specs.Views as view;
 
-use crate::command::Command;
-use crate::cursor::{Cursor, Fault, Token};
-use crate::lex::token;
-use crate::statement::command;
-use std::alloc::{AllocError, AllocFailed, Global};
-
-/// Why a line has no command.
-#[derive(Clone, Copy, Debug, PartialEq, Eq)]
-pub enum ParseError {
-    Syntax { place: usize },
-    NoMemory,
-}
-
-impl From<AllocError> for ParseError {
-    ghost use Rattle.std.specs.Prelude.{◌≡◌};
-    ghost use Rattle.sb_syntax.specs.declared.token.ParseError.TheVariants.{NoMemory};
-
-    ghost from_gives = { λ _ e. e ≡ NoMemory };
-
-    fn from(_: AllocError) -> ParseError {
-        ParseError::NoMemory
-    }
-}
-
-impl<T: Drop> From<AllocFailed<T>> for ParseError {
-    ghost use Rattle.std.specs.Prelude.{◌≡◌};
-    ghost use Rattle.sb_syntax.specs.declared.token.ParseError.TheVariants.{NoMemory};
-
-    ghost from_gives = { λ _ e. e ≡ NoMemory };
-
-    fn from(_: AllocFailed<T>) -> ParseError {
-        ParseError::NoMemory
-    }
-}
+use crate::command::command;
+use crate::cursor::{Cursor, Token};
+use crate::error::{Fault, ParseError};
+use crate::lexer::token;
+use crate::tree::Command;
+use std::alloc::Global;
 
 /// Cuts the text into tokens.
 #[inline(never)]

@@ -52,7 +52,7 @@ few_in_body (grammar.rule_body i t s few b a) = few
 few_in_rule : {r : text.RuleText} {ts rest : Input} → grammar.IsRule r ts rest → length r.actions ≤ 8
 few_in_rule (grammar.rule head body) = few_in_body body
 
-few_in : {c : Command} {ts rest : Input} → grammar.IsStatement c ts rest → HasFewActions c
+few_in : {c : Command} {ts rest : Input} → grammar.IsLeadingCommand c ts rest → HasFewActions c
 few_in (grammar.creates_rule r) = few_in_rule r
 few_in other = tt
 

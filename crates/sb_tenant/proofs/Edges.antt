@@ -4,8 +4,8 @@ use Rattle.sb_value.specs.declared.refusal.Refusal.TheVariants as refusal
 use Rattle.sb_value.specs.declared.lock.Mode.TheVariants.{Write}
 use Rattle.sb_value.specs.declared.value.Value.{Value}
 use Rattle.sb_value.specs.declared.value.Value.TheVariants.{Int}
-use Rattle.sb_syntax.specs.declared.ast.Comparison.TheVariants.{Equal, Greater}
-use Rattle.sb_syntax.specs.declared.ast.TableReference.TheVariants.{Named}
+use Rattle.sb_syntax.specs.declared.tree.Comparison.TheVariants.{Equal, Greater}
+use Rattle.sb_syntax.specs.declared.tree.TableReference.TheVariants.{Named}
 use Rattle.sb_syntax.specs.Text.{command_of}
 use Rattle.sb_syntax.specs.Tree.{Name, all, count, sum_of, everything, those, compare, disjunction, expression, answer, select, update, insert_query, delete, is_in, Command, open_session, begin, rollback, create_table, create_ruleset, query, change}
 use Rattle.sb_tenant.specs.declared.reply.Answer.{Answer}

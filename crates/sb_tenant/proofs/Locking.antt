@@ -2,7 +2,7 @@
 use Rattle.std.specs.Prelude.{◌≡◌, ℕ, List, [], ◌∷◌, ◌++◌, map, None, refl, codes, pos}
 use Rattle.sb_value.specs.declared.refusal.Refusal.TheVariants as refusal
 use Rattle.sb_value.specs.declared.value.Value.TheVariants.{Int}
-use Rattle.sb_syntax.specs.declared.ast.TableReference.TheVariants.{Named, Inserted}
+use Rattle.sb_syntax.specs.declared.tree.TableReference.TheVariants.{Named, Inserted}
 use Rattle.sb_syntax.specs.Tree.{each_of, everything, select, on_insert, insert_query, Command, open_session, begin, commit, rollback, change}
 use Rattle.sb_tenant.specs.declared.reply.Reply.TheVariants as reply
 use Rattle.sb_tenant.proofs.Script.{replies_in_sessions, row, t, h, a_of, show, source, plus_one, insert, start, started, rule, copies, no, refused, done}

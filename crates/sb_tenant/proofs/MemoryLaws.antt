@@ -9,17 +9,17 @@ use Rattle.sb_value.specs.Table.{Entry}
 use Rattle.sb_syntax.specs.Text.{command_of}
 use Rattle.sb_syntax.specs.Tree.{Name}
 use Rattle.sb_syntax.specs.Tree as text
-use Rattle.sb_syntax.specs.declared.ast.ColumnReference.{ColumnReference}
-use Rattle.sb_syntax.specs.declared.ast.ColumnReference.TheVariants.{Plain, Qualified}
-use Rattle.sb_syntax.specs.declared.ast.SourceReference.{SourceReference}
-use Rattle.sb_syntax.specs.declared.ast.TableReference.{TableReference}
-use Rattle.sb_syntax.specs.declared.ast.TableReference.TheVariants.{Named, Inserted, Deleted, OldUpdated, NewUpdated}
+use Rattle.sb_syntax.specs.declared.tree.ColumnReference.{ColumnReference}
+use Rattle.sb_syntax.specs.declared.tree.ColumnReference.TheVariants.{Plain, Qualified}
+use Rattle.sb_syntax.specs.declared.tree.SourceReference.{SourceReference}
+use Rattle.sb_syntax.specs.declared.tree.TableReference.{TableReference}
+use Rattle.sb_syntax.specs.declared.tree.TableReference.TheVariants.{Named, Inserted, Deleted, OldUpdated, NewUpdated}
 use Rattle.sb_check.specs.Condition.{Condition}
 use Rattle.sb_check.specs.declared.tree.Column.{Column}
 use Rattle.sb_check.specs.declared.tree.Source.{Source}
 use Rattle.sb_check.specs.declared.tree.Source.TheVariants as source
 use Rattle.sb_check.specs.Names.{and_then, in_order, required, some_or, Visible, Scope, holders, only_one, plain_column, source_named, column_of_source, qualified_column, column_in, column_named}
-use Rattle.sb_check.specs.Walk.{Schema, table_named, walk_expression, transition_source, has_updates, walk_table, walk_sources, walk_items, walk_select, in_type, walk_condition, walk_operand, walk_filter, walk_query, visible_name, of_types, fitting, walk_assignments, walk_change, walk_action}
+use Rattle.sb_check.specs.Walk.{Schema, table_named, walk_expression, transition_source, has_updates, walk_table, walk_sources, walk_items, walk_select, in_type, walk_condition, walk_operand, walk_filter, walk_query, visible_name, of_types, fitting, walk_assignments, walk_statement, walk_action}
 use Rattle.std.specs.Prelude.{nat_lt, if◌then◌else◌}
 use Rattle.sb_value.specs.declared.refusal.Refusal.TheVariants.{TooBig, TooManyRows}
 use Rattle.sb_check.specs.Condition.{Query}
@@ -189,14 +189,14 @@ module _ (schema : Schema) where
       fine-and_then (some_or refusal.NoColumn (column_in e.table.columns a.column)) _ (fine-some_or refusal.NoColumn (column_in e.table.columns a.column) refl)
       (λ c. search (fine-and_then, fine-required, fine-walk_operand, fine-walk_assignments e (c.0 ∷ taken) rest, given))
 
-  fine-walk_change : (c : text.Change) → IsFine (walk_change schema c)
-  fine-walk_change (text.insert_rows name rows) = search (fine-and_then, fine-table_named, fine-in_order, fine-fitting, given)
-  fine-walk_change (text.insert_query name q) = search (fine-and_then, fine-table_named, fine-walk_query, fine-fitting, given)
-  fine-walk_change (text.delete name filter) = search (fine-and_then, fine-table_named, fine-walk_filter, given)
-  fine-walk_change (text.update name assignments filter) = search (fine-and_then, fine-table_named, fine-walk_assignments, fine-walk_filter, given)
+  fine-walk_statement : (c : text.Statement) → IsFine (walk_statement schema c)
+  fine-walk_statement (text.insert_rows name rows) = search (fine-and_then, fine-table_named, fine-in_order, fine-fitting, given)
+  fine-walk_statement (text.insert_query name q) = search (fine-and_then, fine-table_named, fine-walk_query, fine-fitting, given)
+  fine-walk_statement (text.delete name filter) = search (fine-and_then, fine-table_named, fine-walk_filter, given)
+  fine-walk_statement (text.update name assignments filter) = search (fine-and_then, fine-table_named, fine-walk_assignments, fine-walk_filter, given)
 
   fine-walk_action : (x : text.Action) → IsFine (walk_action schema x)
-  fine-walk_action (text.changes c) = search (fine-and_then, fine-walk_change, given)
+  fine-walk_action (text.changes c) = search (fine-and_then, fine-walk_statement, given)
   fine-walk_action text.rolls_back = given _
 
 -- ---- all commands
@@ -263,7 +263,7 @@ fine-walk catalog (text.drop_ruleset name) = search (fine-required, given)
 fine-walk catalog (text.add_rules name rules) = fine-of_members catalog name rules _
 fine-walk catalog (text.del_rules name rules) = fine-of_members catalog name rules _
 fine-walk catalog (text.query q) = search (fine-and_then, fine-walk_query, given)
-fine-walk catalog (text.change c) = search (fine-and_then, fine-walk_change, given)
+fine-walk catalog (text.change c) = search (fine-and_then, fine-walk_statement, given)
 
 -- ---- statements
 

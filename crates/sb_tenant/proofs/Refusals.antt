@@ -3,9 +3,9 @@ use Rattle.std.specs.Prelude.{◌≡◌, true, List, [], ◌∷◌, ◌++◌, ma
 use Rattle.sb_value.specs.declared.refusal.Refusal.TheVariants as refusal
 use Rattle.sb_value.specs.declared.value.Value.{Value}
 use Rattle.sb_value.specs.declared.value.Value.TheVariants.{Text}
-use Rattle.sb_syntax.specs.declared.ast.Arithmetic.TheVariants.{Add, Multiply}
-use Rattle.sb_syntax.specs.declared.ast.Comparison.TheVariants.{Equal, Less, LessEqual}
-use Rattle.sb_syntax.specs.declared.ast.TableReference.TheVariants.{Named, Inserted}
+use Rattle.sb_syntax.specs.declared.tree.Arithmetic.TheVariants.{Add, Multiply}
+use Rattle.sb_syntax.specs.declared.tree.Comparison.TheVariants.{Equal, Less, LessEqual}
+use Rattle.sb_syntax.specs.declared.tree.TableReference.TheVariants.{Named, Inserted}
 use Rattle.sb_syntax.specs.Tree.{Name, literal, binary, all, sum_of, each_of, compare, is_in, exists, expression, answer, everything, those, select, update, open_session, begin, commit, process_ruleset, process_rule, create_table, drop_table, create_ruleset, query, change}
 use Rattle.sb_tenant.specs.declared.reply.Reply.TheVariants as reply
 use Rattle.sb_tenant.proofs.Script.{replies, replies_in_sessions, int, row, t, h, a, b, integer_column, text_column, named, of_table, number, equals, source, aliased, all_of, a_of, columns_of, show, insert, start, started, no}

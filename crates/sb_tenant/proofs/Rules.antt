@@ -2,7 +2,7 @@
 use Rattle.std.specs.Prelude.{◌≡◌, [], ◌∷◌, ◌++◌, Some, None, refl, codes}
 use Rattle.sb_value.specs.declared.refusal.Refusal.TheVariants as refusal
 use Rattle.sb_value.specs.declared.value.Value.TheVariants.{Text}
-use Rattle.sb_syntax.specs.declared.ast.TableReference.TheVariants.{Named, Inserted, Deleted, OldUpdated}
+use Rattle.sb_syntax.specs.declared.tree.TableReference.TheVariants.{Named, Inserted, Deleted, OldUpdated}
 use Rattle.sb_syntax.specs.Tree.{Name, everything, select, each_of, those, is_in, delete, changes, rolls_back, on_insert, on_delete, on_update, on_update_of, Command, open_session, begin, commit, rollback, process_rules, process_ruleset, process_rule, create_table, drop_table, create_rule, drop_rule, activate_rule, deactivate_rule, create_ruleset, drop_ruleset, add_rules, del_rules, query, change, insert_rows}
 use Rattle.std.specs.Prelude.{false}
 use Rattle.sb_tenant.specs.declared.reply.Reply.TheVariants as reply

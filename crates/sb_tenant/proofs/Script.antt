@@ -7,13 +7,13 @@ use Rattle.sb_value.specs.declared.value.ColumnDefinition.{ColumnDefinition}
 use Rattle.sb_value.specs.declared.refusal.Refusal.{Refusal}
 use Rattle.sb_value.specs.declared.refusal.Verdict.{Verdict}
 use Rattle.sb_value.specs.declared.refusal.Verdict.TheVariants as verdict
-use Rattle.sb_syntax.specs.declared.ast.Arithmetic.TheVariants.{Add}
-use Rattle.sb_syntax.specs.declared.ast.Comparison.TheVariants.{Equal, Less}
-use Rattle.sb_syntax.specs.declared.ast.TableReference.{TableReference}
-use Rattle.sb_syntax.specs.declared.ast.TableReference.TheVariants.{Named}
-use Rattle.sb_syntax.specs.declared.ast.ColumnReference.TheVariants.{Plain, Qualified}
-use Rattle.sb_syntax.specs.declared.ast.SourceReference.{SourceReference}
-use Rattle.sb_syntax.specs.Tree.{Name, Expression, literal, column, binary, all, each_of, compare, expression, Filter, everything, those, Query, select, Change, insert_rows, insert_query, delete, update, Action, changes, Trigger, on_insert, Command, open_session, begin, commit, create_table, create_rule, query, change}
+use Rattle.sb_syntax.specs.declared.tree.Arithmetic.TheVariants.{Add}
+use Rattle.sb_syntax.specs.declared.tree.Comparison.TheVariants.{Equal, Less}
+use Rattle.sb_syntax.specs.declared.tree.TableReference.{TableReference}
+use Rattle.sb_syntax.specs.declared.tree.TableReference.TheVariants.{Named}
+use Rattle.sb_syntax.specs.declared.tree.ColumnReference.TheVariants.{Plain, Qualified}
+use Rattle.sb_syntax.specs.declared.tree.SourceReference.{SourceReference}
+use Rattle.sb_syntax.specs.Tree.{Name, Expression, literal, column, binary, all, each_of, compare, expression, Filter, everything, those, Query, select, Statement, insert_rows, insert_query, delete, update, Action, changes, Trigger, on_insert, Command, open_session, begin, commit, create_table, create_rule, query, change}
 use Rattle.sb_tenant.specs.declared.reply.Reply.{Reply}
 use Rattle.sb_tenant.specs.declared.reply.Reply.TheVariants as reply
 use Rattle.sb_tenant.specs.State.{State, opening}
@@ -98,7 +98,7 @@ show table = query (all_of (Named table) everything)
 abbrev pub insert : Name → List (List Value) → Command
 insert table rows = change (insert_rows table rows)
 
-abbrev pub set : Name → Name → Expression → Filter → Change
+abbrev pub set : Name → Name → Expression → Filter → Statement
 set table name e filter = update table (record { column = name; operand = expression e } ∷ []) filter
 
 abbrev pub plus_one : Expression

@@ -23,7 +23,7 @@ use Rattle.sb_check.specs.Names.{and_then, required}
 use Rattle.sb_check.specs.RuleParts.{Parts, walk_parts}
 use Rattle.sb_check.specs.Resolved.{walk_names}
 use Rattle.sb_check.specs.There.{IsStatementThere, ArePartsThere}
-use Rattle.sb_check.specs.Walk.{Schema, table_named, walk_query, walk_change}
+use Rattle.sb_check.specs.Walk.{Schema, table_named, walk_query, walk_statement}
 use Rattle.sb_catalog.specs.Definitions.{rules_named, new_pairs}
 use Rattle.sb_catalog.specs.Rules.{has_name, rule_named}
 use Rattle.sb_rulesets.specs.Sets as rulesets
@@ -168,7 +168,7 @@ proper-steps state g steps = record { tables = g.tables; rules = g.rules; lists 
 
 -- the laws of what a walk finds
 pub record TablesAreThere : Type 0 where
-  pub statements : (names : Schema) (c : text.Change) (s : Statement) → walk_change names c ≡ Ok s → IsStatementThere names.tables s
+  pub statements : (names : Schema) (c : text.Statement) (s : Statement) → walk_statement names c ≡ Ok s → IsStatementThere names.tables s
   pub rules : (names : Schema) (r : RuleText) (parts : Parts) → walk_parts names r ≡ Ok parts → ArePartsThere names.tables r parts
 
 abbrev Gives : State → Result Resolved Refusal → Type 0
@@ -221,7 +221,7 @@ module _ (state : State) where
       (λ e. gives-then (rules_named state.catalog.rules rules) (λ ids. Ok (del_rules name ids)) (λ ids q. tt))
   gives-walk there (text.query q) calm = gives-then (walk_query (outside_rules state.catalog) q []) (λ w. Ok (query w.0)) (λ w e. tt)
   gives-walk there (text.change c) calm =
-      gives-then (walk_change (outside_rules state.catalog) c) (λ x. Ok (change x)) (λ x e. statement-in state.catalog.tables x (there.statements (outside_rules state.catalog) c x e))
+      gives-then (walk_statement (outside_rules state.catalog) c) (λ x. Ok (change x)) (λ x e. statement-in state.catalog.tables x (there.statements (outside_rules state.catalog) c x e))
 
 -- ---- a catalog changes while no transaction is open
 

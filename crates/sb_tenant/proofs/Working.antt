@@ -13,7 +13,7 @@ use Rattle.sb_check.specs.declared.tree.Statement.{Statement}
 use Rattle.sb_check.specs.Lent.{SeenTable, table_seen}
 use Rattle.sb_check.specs.Names.{and_then, Scope}
 use Rattle.sb_check.specs.Sees.{SeeTheSame}
-use Rattle.sb_check.specs.Walk.{Schema, Walked, walk_query, walk_change}
+use Rattle.sb_check.specs.Walk.{Schema, Walked, walk_query, walk_statement}
 use Rattle.sb_rawlog.specs.Records.{Record}
 use Rattle.sb_index.specs.TableSets.{TableSets}
 use Rattle.sb_tables.specs.Held.{Held, entries, entry_of}
@@ -96,7 +96,7 @@ abbrev pub QueriesSee : Type 0
 QueriesSee = (a b : Schema) → SeeTheSame a b → (q : text.Query) (scope : Scope) → walk_query a q scope ≡ walk_query b q scope
 
 abbrev pub ChangesSee : Type 0
-ChangesSee = (a b : Schema) → SeeTheSame a b → (c : text.Change) → walk_change a c ≡ walk_change b c
+ChangesSee = (a b : Schema) → SeeTheSame a b → (c : text.Statement) → walk_statement a c ≡ walk_statement b c
 
 module _ (store : Store) (records : List Record) (clock : ℕ) (index : List (List TableSets)) (state : State) (h : StandFor store records clock index state) where
   query_same : QueriesSee → (q : text.Query) → walk state.catalog (text.query q) ≡ and_then (walk_query (outside (entries store.database.tables)) q []) (λ w. Ok (query w.0))
@@ -108,10 +108,10 @@ module _ (store : Store) (records : List Record) (clock : ℕ) (index : List (Li
   pub query_refused : QueriesSee → (q : text.Query) (e : Refusal) → and_then {B = Query} (walk_query (outside (entries store.database.tables)) q []) (λ w. Ok w.0) ≡ Err e → walk state.catalog (text.query q) ≡ Err e
   query_refused sees q e w = query_same sees q ∙ refused_form (walk_query (outside (entries store.database.tables)) q []) e w
 
-  change_same : ChangesSee → (c : text.Change) → walk state.catalog (text.change c) ≡ and_then (walk_change (outside (entries store.database.tables)) c) (λ s. Ok (change s))
+  change_same : ChangesSee → (c : text.Statement) → walk state.catalog (text.change c) ≡ and_then (walk_statement (outside (entries store.database.tables)) c) (λ s. Ok (change s))
   change_same sees c = ap (λ (r : Result Statement Refusal). and_then r (λ s. Ok (change s))) (sees (outside_rules state.catalog) (outside (entries store.database.tables)) (sees_committed store records clock index state h) c)
 
-  pub change_walked : ChangesSee → (c : text.Change) (r : Result Statement Refusal) → walk_change (outside (entries store.database.tables)) c ≡ r → walk state.catalog (text.change c) ≡ and_then r (λ s. Ok (change s))
+  pub change_walked : ChangesSee → (c : text.Statement) (r : Result Statement Refusal) → walk_statement (outside (entries store.database.tables)) c ≡ r → walk state.catalog (text.change c) ≡ and_then r (λ s. Ok (change s))
   change_walked sees c r e = change_same sees c ∙ ap (λ (r : Result Statement Refusal). and_then r (λ s. Ok (change s))) e
 
 -- ---- what is performed

@@ -6,7 +6,7 @@ use Rattle.sb_value.specs.declared.refusal.Refusal.TheVariants as refusal
 use Rattle.sb_syntax.specs.Tree.{Name, Command, RuleText}
 use Rattle.sb_syntax.specs.Tree as text
 use Rattle.sb_check.specs.Names.{and_then, required}
-use Rattle.sb_check.specs.Walk.{Schema, table_named, walk_query, walk_change}
+use Rattle.sb_check.specs.Walk.{Schema, table_named, walk_query, walk_statement}
 use Rattle.sb_check.specs.RuleParts.{Parts, walk_parts}
 use Rattle.sb_check.specs.Resolved.{walk_names}
 use Rattle.sb_catalog.specs.Definitions.{rules_named, new_pairs}
@@ -78,7 +78,7 @@ walk catalog (text.drop_ruleset name) = of_ruleset catalog name (drop_ruleset na
 walk catalog (text.add_rules name rules) = of_members catalog name rules (add_rules name)
 walk catalog (text.del_rules name rules) = of_members catalog name rules (del_rules name)
 walk catalog (text.query q) = and_then (walk_query (outside_rules catalog) q []) (λ w. Ok (query w.0))
-walk catalog (text.change c) = and_then (walk_change (outside_rules catalog) c) (λ s. Ok (change s))
+walk catalog (text.change c) = and_then (walk_statement (outside_rules catalog) c) (λ s. Ok (change s))
 
 -- a new rule whose name is taken
 abbrev pub is_taken : Catalog → Command → Bool

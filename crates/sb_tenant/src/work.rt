@@ -14,10 +14,10 @@ ghost use Rattle.sb_tenant.specs.Walk.{class_of, walk};
 use crate::answer::{done, refused};
 use crate::names::Names;
 use crate::store::{Replies, Store};
-use sb_check::{resolve_change, resolve_query, resolved_tables_are_there, walks_see_columns};
+use sb_check::{resolve_statement, resolve_query, resolved_tables_are_there, walks_see_columns};
 use sb_index::RuleIndex;
 use sb_rawlog::ChangeLog;
-use sb_syntax::{Change, Command, Query};
+use sb_syntax::{Command, Query, Statement};
 use sb_value::{Refusal, SessionId};
 use std::alloc::Global;
 
@@ -108,13 +108,13 @@ impl Store {
         log: &mut L,
         index: &RuleIndex,
         session: SessionId,
-        change: &Change,
+        change: &Statement,
     ) -> Replies
         requires stand { (state : State) × StandFor self.old (L.records log.old) (L.clock log.old) index.now state }
         requires active { phase_at self.old.phases session ≡ phase.Active }
         requires times { L.clock log.old < 2 ^ 63 }
         requires numbers { NumbersBelow (2 ^ 63) self.old.database.tables }
-        ensures performed { (state : State) (bound : ℕ) → StandFor self.old (L.records log.old) (L.clock log.old) index.now state → Performs self.new (L.records log.new) (L.clock log.new) index.now state session (outcome_of self.old.database.id bound state session None (walk state.catalog (text.change (view.change change.now)))) result.0 }
+        ensures performed { (state : State) (bound : ℕ) → StandFor self.old (L.records log.old) (L.clock log.old) index.now state → Performs self.new (L.records log.new) (L.clock log.new) index.now state session (outcome_of self.old.database.id bound state session None (walk state.catalog (text.change (view.statement change.now)))) result.0 }
         ensures twice { result.1 ≡ result.0 }
         ensures leaves { Leaves 4096 self.old self.new session (L.records log.old) (L.records log.new) (L.clock log.old) (L.clock log.new) }
     {
@@ -124,7 +124,7 @@ impl Store {
         let names = Names {
             tables: &self.database.tables,
         };
-        match resolve_change(alloc, change, &names) {
+        match resolve_statement(alloc, change, &names) {
             Ok(statement) => {
                 let replies = self.change(alloc, log, index, session, &statement);
                 drop(statement);

@@ -1,5 +1,5 @@
-use Rattle.sb_check.proofs.Seeing.{queries_same, changes_same}
+use Rattle.sb_check.proofs.Seeing.{queries_same, statements_same}
 use Rattle.sb_check.proofs.laws.walks_see_columns.Goals as goal
 
 pub returns : goal.returns
-returns c = record { queries = queries_same; statements = changes_same }
+returns c = record { queries = queries_same; statements = statements_same }

@@ -1,7 +1,7 @@
 use Rattle.std.proofs.Common.{◌∙◌, ap, sym, rules}
 use Rattle.std.proofs.lemmas.Bool.{le-ltb}
 use Rattle.std.proofs.lemmas.List.Sorted.{IsPartitionPoint-from_clause}
-use Rattle.sb_syntax.specs.declared.ast.Comparison.TheVariants.{Equal}
+use Rattle.sb_syntax.specs.declared.tree.Comparison.TheVariants.{Equal}
 use Rattle.sb_eval.specs.Meaning.{compared}
 use Rattle.sb_eval.specs.Scopes.{value_seen}
 use Rattle.sb_eval.proofs.Searching.{all-before, at-place, comes_before, first-decides, parted}

@@ -1,7 +1,7 @@
 use Rattle.std.proofs.Common.{List, ℕ, sym, subst}
 use Rattle.sb_syntax.specs.Tree as text
 use Rattle.sb_syntax.specs.Views.{command as tree_of}
-use Rattle.sb_syntax.specs.declared.command.Command.{Command}
+use Rattle.sb_syntax.specs.declared.tree.Command.{Command}
 use Rattle.sb_tenant.specs.Defining.{Defines}
 use Rattle.sb_tenant.proofs.store.Store.define.Goals as goal
 

@@ -50,7 +50,7 @@ returns-in-Query-clause-leaves g c =
 
 pub returns-in-Change-clause-performed : goal.returns-in-Change-clause-performed
 returns-in-Change-clause-performed g c = λ state h.
-    performs_command c.write.new.self (g.L.ChangeLog.records c.write.new.log) (g.L.ChangeLog.clock c.write.new.log) c.args.index.now state c.args.self.now.database.id c.args.bound c.args.session (view.command c.args.command) (text.change (view.change c.in-Change.change)) c.write.result.0 (ap view.command c.in-Change.is)
+    performs_command c.write.new.self (g.L.ChangeLog.records c.write.new.log) (g.L.ChangeLog.clock c.write.new.log) c.args.index.now state c.args.self.now.database.id c.args.bound c.args.session (view.command c.args.command) (text.change (view.statement c.in-Change.change)) c.write.result.0 (ap view.command c.in-Change.is)
     (c.write.ensures.performed state c.args.bound h)
 
 pub returns-in-Change-clause-leaves : goal.returns-in-Change-clause-leaves

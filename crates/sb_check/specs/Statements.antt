@@ -1,0 +1,49 @@
+-- The walk of a statement once its table is found, which asks of the table its id, its name and its columns.
+use Rattle.std.specs.Prelude.{ℕ, Bool, true, List, [], ◌∷◌, map, Result, Ok}
+use Rattle.sb_value.specs.declared.refusal.Refusal.{Refusal}
+use Rattle.sb_value.specs.declared.value.Value.{Value}
+use Rattle.sb_value.specs.declared.value.ColumnDefinition.{ColumnDefinition}
+use Rattle.sb_value.specs.Table.{Entry, empty_table}
+use Rattle.sb_syntax.specs.Tree.{Name}
+use Rattle.sb_syntax.specs.Tree as text
+use Rattle.sb_syntax.specs.declared.tree.TableReference.TheVariants.{Named}
+use Rattle.sb_check.specs.declared.tree.Assignment.{Assignment}
+use Rattle.sb_check.specs.declared.tree.Statement.{Statement}
+use Rattle.sb_check.specs.declared.tree.Statement.TheVariants.{InsertRows, InsertQuery, Delete, Update}
+use Rattle.sb_check.specs.Names.{and_then, in_order, Scope}
+use Rattle.sb_check.specs.Parts.{filter_walk, query_walk}
+use Rattle.sb_check.specs.Walk.{Schema, type_of, fitting, walk_assignments}
+
+-- a table of these columns, with no row
+abbrev pub entry_of : ℕ → Name → List ColumnDefinition → Entry
+entry_of id name columns = record { id = id; name = name; table = empty_table columns }
+
+-- a table of that name and these columns is the only source
+abbrev pub table_scope : Name → List ColumnDefinition → Scope
+table_scope name columns = (record { name = Named name; columns = columns } ∷ []) ∷ []
+
+-- each row has as many values as the columns, of their types
+unfoldable pub rows_fitting : List ColumnDefinition → List (List Value) → Result Bool Refusal
+rows_fitting columns rows = and_then (in_order (λ row. fitting (map type_of row) columns) rows) (λ _. Ok true)
+
+-- the assignments of an update
+unfoldable pub assignments_walk : Schema → Name → List ColumnDefinition → List ℕ → List text.Assignment → Result (List Assignment) Refusal
+assignments_walk schema name columns taken assignments = walk_assignments schema (entry_of 0 name columns) taken assignments
+
+-- rows into a table
+unfoldable pub rows_into : ℕ → List ColumnDefinition → List (List Value) → Result Statement Refusal
+rows_into id columns rows = and_then (rows_fitting columns rows) (λ _. Ok (InsertRows id rows))
+
+-- a query's rows into a table
+unfoldable pub query_into : Schema → ℕ → List ColumnDefinition → text.Query → Result Statement Refusal
+query_into schema id columns q = and_then (query_walk schema q []) (λ w. and_then (fitting w.1 columns) (λ _. Ok (InsertQuery id w.0)))
+
+-- rows out of a table
+unfoldable pub delete_of : Schema → ℕ → Name → List ColumnDefinition → text.Filter → Result Statement Refusal
+delete_of schema id name columns filter = and_then (filter_walk schema filter (table_scope name columns)) (λ c. Ok (Delete id c))
+
+-- rows of a table with other values
+unfoldable pub update_of : Schema → ℕ → Name → List ColumnDefinition → List text.Assignment → text.Filter → Result Statement Refusal
+update_of schema id name columns assignments filter =
+    and_then (assignments_walk schema name columns [] assignments) (λ places.
+    and_then (filter_walk schema filter (table_scope name columns)) (λ c. Ok (Update id places c)))

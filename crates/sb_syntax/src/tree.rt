@@ -1,0 +1,184 @@
+//! Commands as trees, with their names unresolved.
+
+use sb_value::{ColumnDefinition, Name, Tuples, Value};
+
+/// A table by its name, or one of a rule's transition tables.
+#[derive(Clone, Copy)]
+pub enum TableReference {
+    Named(Name),
+    /// `inserted`: the rows that the transition inserted.
+    Inserted,
+    /// `deleted`: those that it deleted.
+    Deleted,
+    /// `old updated`: those that it updated, as they were.
+    OldUpdated,
+    /// `new updated`: those that it updated, as they are now.
+    NewUpdated,
+}
+
+/// A column by its name, or of a source.
+#[derive(Clone, Copy)]
+pub enum ColumnReference {
+    Plain(Name),
+    /// `source.column`, where the source is an alias or a table of `from`.
+    Qualified(TableReference, Name),
+}
+
+/// A table in a query's `from`, with its alias.
+#[derive(Clone, Copy)]
+pub struct SourceReference {
+    pub table: TableReference,
+    pub alias: Option<Name>,
+}
+
+/// An operation of two integers.
+#[derive(Clone, Copy)]
+pub enum Arithmetic {
+    Add,
+    Subtract,
+    Multiply,
+}
+
+/// A comparison of two values.
+#[derive(Clone, Copy)]
+pub enum Comparison {
+    Equal,
+    NotEqual,
+    Less,
+    LessEqual,
+    Greater,
+    GreaterEqual,
+}
+
+/// A term of a condition or an item.
+#[derive(Drop)]
+pub enum Expression {
+    Literal(Value),
+    Column(ColumnReference),
+    Binary(Box<Expression>, Arithmetic, Box<Expression>),
+}
+
+/// What a query lists.
+#[derive(Drop)]
+pub enum Items {
+    /// `*`: each column of each source.
+    All,
+    /// `count(*)`.
+    Count,
+    /// `sum(..)`.
+    Sum(Expression),
+    /// One column for each expression.
+    Each(Vec<Expression>),
+}
+
+/// A condition, as behind `where`.
+#[cycle(syntax)]
+#[derive(Drop)]
+pub enum Condition {
+    Disjunction(Box<Condition>, Box<Condition>),
+    Conjunction(Box<Condition>, Box<Condition>),
+    Negation(Box<Condition>),
+    Compare(Expression, Comparison, Operand),
+    /// Whether `not` is written, too.
+    In(Expression, bool, Box<Query>),
+    Exists(Box<Query>),
+}
+
+/// The right side of a comparison or an assignment.
+#[cycle(syntax)]
+#[derive(Drop)]
+pub enum Operand {
+    Expression(Expression),
+    Answer(Box<Query>),
+}
+
+/// `select items from sources where filter`.
+#[cycle(syntax)]
+#[derive(Drop)]
+pub struct Query {
+    pub items: Items,
+    pub sources: Vec<SourceReference>,
+    pub filter: Option<Condition>,
+}
+
+/// A column of an update, and what it becomes.
+#[derive(Drop)]
+pub struct Assignment {
+    pub column: Name,
+    pub operand: Operand,
+}
+
+/// A statement that changes a table's rows.
+#[derive(Drop)]
+pub enum Statement {
+    /// `insert into .. values ..`.
+    InsertRows(Name, Tuples),
+    /// `insert into .. select ..`.
+    InsertQuery(Name, Box<Query>),
+    /// `delete from .. where ..`.
+    Delete(Name, Option<Box<Condition>>),
+    /// `update .. set .. where ..`.
+    Update(Name, Vec<Assignment>, Option<Box<Condition>>),
+}
+
+/// A part of a rule's `then`.
+#[derive(Drop)]
+pub enum Action {
+    Change(Statement),
+    Rollback,
+}
+
+/// What triggers a rule, as it is written behind `when`.
+#[derive(Drop)]
+pub enum Trigger {
+    Insert,
+    Delete,
+    Update,
+    /// An update of one of these columns.
+    UpdateOf(Vec<Name>),
+}
+
+/// A rule as `create rule` writes it.
+#[derive(Drop)]
+pub struct RuleText {
+    pub name: Name,
+    pub table: Name,
+    pub triggers: Vec<Trigger>,
+    /// The query behind `if`.
+    pub condition: Option<Query>,
+    pub actions: Vec<Action>,
+    /// The rules that are considered after it.
+    pub precedes: Vec<Name>,
+    /// The rules that are considered before it.
+    pub follows: Vec<Name>,
+}
+
+/// A command line.
+#[derive(Drop)]
+pub enum Command {
+    OpenSession,
+    EndSession,
+    Begin,
+    Commit,
+    Rollback,
+    /// An assertion point: all rules are processed.
+    ProcessRules,
+    /// An assertion point of a ruleset's rules.
+    ProcessRuleset(Name),
+    /// An assertion point of one rule.
+    ProcessRule(Name),
+    CreateTable(Name, Vec<ColumnDefinition>),
+    DropTable(Name),
+    CreateRule(Box<RuleText>),
+    DropRule(Name),
+    ActivateRule(Name),
+    DeactivateRule(Name),
+    CreateRuleset(Name),
+    DropRuleset(Name),
+    /// Rules for a ruleset.
+    AddRules(Name, Vec<Name>),
+    /// Rules out of a ruleset.
+    DelRules(Name, Vec<Name>),
+    Query(Box<Query>),
+    Change(Statement),
+}
