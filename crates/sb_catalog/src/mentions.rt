@@ -93,7 +93,7 @@ fn operand_names(table: TableId, operand: &Operand) -> bool
 {
     match &operand.node {
         OperandNode::Expression(_) => false,
-        OperandNode::Query(query) => query_names(table, query),
+        OperandNode::ScalarSubquery(query) => query_names(table, query),
     }
 }
 

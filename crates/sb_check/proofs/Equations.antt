@@ -10,7 +10,7 @@ use Rattle.sb_syntax.specs.declared.tree.Comparison.{Comparison}
 use Rattle.sb_syntax.specs.declared.tree.SourceReference.{SourceReference}
 use Rattle.sb_check.specs.declared.tree.Items.{Items}
 use Rattle.sb_check.specs.declared.tree.Source.{Source}
-use Rattle.sb_check.specs.Condition.{Condition, Operand, always, disjunction, conjunction, negation, compare, is_in, exists, expression, answer, select}
+use Rattle.sb_check.specs.Condition.{Condition, Operand, always, disjunction, conjunction, negation, compare, is_in, exists, expression, scalar_subquery, select}
 use Rattle.sb_check.specs.Names.{and_then, required, same_type, Scope, Visible}
 use Rattle.sb_check.specs.Parts.{condition_walk, operand_walk, filter_walk, query_walk}
 use Rattle.sb_check.specs.Sources.{seen_sources}
@@ -58,8 +58,8 @@ module _ (schema : Schema) where
   unfolding operand_walk
   walk_plain e scope = refl
 
-  pub walk_answer : (its : text.Items) (sources : List SourceReference) (f : text.Filter) (scope : Scope) → operand_walk schema (text.answer (text.select its sources f)) scope
-      ≡ and_then (query_walk schema (text.select its sources f) scope) (λ w. required (is_aggregate its) refusal.WrongCount (Ok (answer w.0, Int)))
+  pub walk_answer : (its : text.Items) (sources : List SourceReference) (f : text.Filter) (scope : Scope) → operand_walk schema (text.scalar_subquery (text.select its sources f)) scope
+      ≡ and_then (query_walk schema (text.select its sources f) scope) (λ w. required (is_aggregate its) refusal.WrongCount (Ok (scalar_subquery w.0, Int)))
   unfolding operand_walk query_walk
   walk_answer its sources f scope = refl
 

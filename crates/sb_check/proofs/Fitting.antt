@@ -28,7 +28,7 @@ use Rattle.sb_check.specs.declared.tree.Source.{Source}
 use Rattle.sb_check.specs.declared.tree.Source.TheVariants.{Table}
 use Rattle.sb_check.specs.declared.tree.Statement.{Statement}
 use Rattle.sb_check.specs.declared.tree.Statement.TheVariants.{InsertRows, InsertQuery, Delete, Update}
-use Rattle.sb_check.specs.Condition.{Condition, always, disjunction, conjunction, negation, compare, is_in, exists, Operand, expression, answer, Query, select}
+use Rattle.sb_check.specs.Condition.{Condition, always, disjunction, conjunction, negation, compare, is_in, exists, Operand, expression, scalar_subquery, Query, select}
 use Rattle.sb_check.specs.Expression.{Expression, literal, column, binary}
 use Rattle.sb_check.specs.Fits.{Types, column_type, IsOf, AreOf, Lists, IsOneValue, ConditionFits, OperandFits, QueryFits, row_types, RowsFit, AssignmentsFit, StatementFits, RuleConditionFits, ActionsFit, AreTypesOf}
 use Rattle.sb_check.specs.Names.{and_then, in_order, required, some_or, same_table, same_type, Visible, Scope, column_from, column_in, holders, only_one, plain_column, source_named, column_of_source, qualified_column, column_named}
@@ -397,10 +397,10 @@ module _ (schema : Schema) (types_of : Source → List ColumnType) (are : AreTyp
         let p = then_ok (walk_expression scope a) (λ x. Ok (expression x.0, x.1)) x h in
         let e : (expression p.0.0, p.0.1) ≡ x = cc p.2 in
         subst (OperandIs scope) e (expression_fits scope a p.0 p.1)
-    operand_fits (text.answer q) scope x h =
-        let w = then_ok (walk_query schema q scope) (λ w. required (has_aggregate q) refusal.WrongCount (Ok (answer w.0, Int))) x h in
-        let r = required_ok (has_aggregate q) refusal.WrongCount (Ok (answer w.0.0, Int)) x w.2 in
-        let e : (answer w.0.0, Int) ≡ x = cc r.1 in
+    operand_fits (text.scalar_subquery q) scope x h =
+        let w = then_ok (walk_query schema q scope) (λ w. required (has_aggregate q) refusal.WrongCount (Ok (scalar_subquery w.0, Int))) x h in
+        let r = required_ok (has_aggregate q) refusal.WrongCount (Ok (scalar_subquery w.0.0, Int)) x w.2 in
+        let e : (scalar_subquery w.0.0, Int) ≡ x = cc r.1 in
         let one = one_value q scope w.0 w.1 r.0 in
         subst (OperandIs scope) e (one.0, subst (QueryFits types_of (types_of_scope scope) w.0.0) one.1 (query_fits q scope w.0 w.1))
 

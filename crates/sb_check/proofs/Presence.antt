@@ -23,7 +23,7 @@ use Rattle.sb_check.specs.declared.tree.Source.{Source}
 use Rattle.sb_check.specs.declared.tree.Source.TheVariants as source
 use Rattle.sb_check.specs.declared.tree.Statement.{Statement}
 use Rattle.sb_check.specs.declared.tree.Statement.TheVariants.{InsertRows, InsertQuery, Delete, Update}
-use Rattle.sb_check.specs.Condition.{Condition, always, disjunction, conjunction, negation, compare, is_in, exists, Operand, expression, answer, Query}
+use Rattle.sb_check.specs.Condition.{Condition, always, disjunction, conjunction, negation, compare, is_in, exists, Operand, expression, scalar_subquery, Query}
 use Rattle.sb_check.specs.Mentions.{sources_of, operand_sources, query_sources, assignment_sources}
 use Rattle.sb_check.specs.Names.{and_then, in_order, required, some_or, same_table, same_type, Visible, Scope, column_in}
 use Rattle.sb_check.specs.RuleParts.{Parts, in_rule, condition_parts, walk_parts}
@@ -145,10 +145,10 @@ module _ (schema : Schema) where
         let p = then_ok (walk_expression scope a) (λ x. Ok (expression x.0, x.1)) x h in
         let e : (expression p.0.0, p.0.1) ≡ x = cc p.2 in
         subst OperandThere e tt
-    operand_there (text.answer q) scope x h =
-        let w = then_ok (walk_query schema q scope) (λ w. required (has_aggregate q) refusal.WrongCount (Ok (answer w.0, Int))) x h in
-        let r = required_ok (has_aggregate q) refusal.WrongCount (Ok (answer w.0.0, Int)) x w.2 in
-        let e : (answer w.0.0, Int) ≡ x = cc r.1 in
+    operand_there (text.scalar_subquery q) scope x h =
+        let w = then_ok (walk_query schema q scope) (λ w. required (has_aggregate q) refusal.WrongCount (Ok (scalar_subquery w.0, Int))) x h in
+        let r = required_ok (has_aggregate q) refusal.WrongCount (Ok (scalar_subquery w.0.0, Int)) x w.2 in
+        let e : (scalar_subquery w.0.0, Int) ≡ x = cc r.1 in
         subst OperandThere e (query_there q scope w.0 w.1)
 
     filter_there : (f : text.Filter) (scope : Scope) (x : Condition) → walk_filter schema f scope ≡ Ok x → ConditionThere x

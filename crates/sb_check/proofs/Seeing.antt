@@ -17,7 +17,7 @@ use Rattle.sb_check.specs.declared.tree.Source.{Source}
 use Rattle.sb_check.specs.declared.tree.Source.TheVariants as source
 use Rattle.sb_check.specs.declared.tree.Statement.TheVariants.{InsertRows, InsertQuery, Delete, Update}
 use Rattle.sb_check.specs.Statements.{entry_of, table_scope}
-use Rattle.sb_check.specs.Condition.{disjunction, conjunction, negation, compare, is_in, exists, answer, select}
+use Rattle.sb_check.specs.Condition.{disjunction, conjunction, negation, compare, is_in, exists, scalar_subquery, select}
 use Rattle.sb_check.specs.Lent.{SeenTable, table_seen}
 use Rattle.sb_check.specs.Names.{and_then, in_order, required, some_or, same_table, same_type, column_in, Scope}
 use Rattle.sb_check.specs.Sees.{SeeTheSame}
@@ -84,7 +84,7 @@ module _ (a b : Schema) (same : SeeTheSame a b) where
 
     operands_same : (o : text.Operand) (scope : Scope) → walk_operand a o scope ≡ walk_operand b o scope
     operands_same (text.expression e) scope = refl
-    operands_same (text.answer q) scope = λ i. and_then (queries_same q scope i) (λ w. required (has_aggregate q) refusal.WrongCount (Ok (answer w.0, Int)))
+    operands_same (text.scalar_subquery q) scope = λ i. and_then (queries_same q scope i) (λ w. required (has_aggregate q) refusal.WrongCount (Ok (scalar_subquery w.0, Int)))
 
     filters_same : (f : text.Filter) (scope : Scope) → walk_filter a f scope ≡ walk_filter b f scope
     filters_same text.everything scope = refl

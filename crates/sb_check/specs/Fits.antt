@@ -7,7 +7,7 @@ use Rattle.sb_value.specs.declared.value.ColumnDefinition.{ColumnDefinition}
 use Rattle.sb_value.specs.declared.net.Triggers.{Triggers}
 use Rattle.sb_syntax.specs.declared.tree.TableReference.{TableReference}
 use Rattle.sb_check.specs.Expression.{Expression, literal, column, binary}
-use Rattle.sb_check.specs.Condition.{Condition, always, disjunction, conjunction, negation, compare, is_in, exists, Operand, expression, answer, Query, select}
+use Rattle.sb_check.specs.Condition.{Condition, always, disjunction, conjunction, negation, compare, is_in, exists, Operand, expression, scalar_subquery, Query, select}
 use Rattle.sb_check.specs.declared.tree.Column.{Column}
 use Rattle.sb_check.specs.declared.tree.Items.{Items}
 use Rattle.sb_check.specs.declared.tree.Items.TheVariants.{All, Count, Sum, Each}
@@ -73,7 +73,7 @@ module _ (types_of : Source → List ColumnType) where
     -- an operand has values of this type
     pub OperandFits : Types → Operand → ColumnType → Type 0
     OperandFits types (expression e) t = IsOf types e t
-    OperandFits types (answer q) t = IsOneValue q × QueryFits types q (t ∷ [])
+    OperandFits types (scalar_subquery q) t = IsOneValue q × QueryFits types q (t ∷ [])
 
     -- a query gives columns of these types
     pub QueryFits : Types → Query → List ColumnType → Type 0

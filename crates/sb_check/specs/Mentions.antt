@@ -1,6 +1,6 @@
 -- The sources that conditions, operands and queries mention, in the order of the text.
 use Rattle.std.specs.Prelude.{List, [], ◌∷◌, ◌++◌}
-use Rattle.sb_check.specs.Condition.{Condition, always, disjunction, conjunction, negation, compare, is_in, exists, Operand, expression, answer, Query, select}
+use Rattle.sb_check.specs.Condition.{Condition, always, disjunction, conjunction, negation, compare, is_in, exists, Operand, expression, scalar_subquery, Query, select}
 use Rattle.sb_check.specs.declared.tree.Source.{Source}
 use Rattle.sb_check.specs.declared.tree.Assignment.{Assignment}
 
@@ -17,7 +17,7 @@ abbrev mutual
 
   pub operand_sources : Operand → List Source
   operand_sources (expression e) = []
-  operand_sources (answer q) = query_sources q
+  operand_sources (scalar_subquery q) = query_sources q
 
   pub query_sources : Query → List Source
   query_sources (select items sources c) = sources ++ sources_of c

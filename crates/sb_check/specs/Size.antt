@@ -1,6 +1,6 @@
 -- How many steps the walk of a condition, an operand or a query takes at most, one call in another.
 use Rattle.std.specs.Prelude.{ℕ, ◌+◌}
-use Rattle.sb_syntax.specs.Tree.{Condition, disjunction, conjunction, negation, compare, is_in, exists, Operand, expression, answer, Filter, everything, those, Query, select}
+use Rattle.sb_syntax.specs.Tree.{Condition, disjunction, conjunction, negation, compare, is_in, exists, Operand, expression, scalar_subquery, Filter, everything, those, Query, select}
 
 abbrev mutual
   pub condition_size : Condition → ℕ
@@ -13,7 +13,7 @@ abbrev mutual
 
   pub operand_size : Operand → ℕ
   operand_size (expression e) = 0
-  operand_size (answer q) = 1 + query_size q
+  operand_size (scalar_subquery q) = 1 + query_size q
 
   pub filter_size : Filter → ℕ
   filter_size everything = 0

@@ -18,7 +18,7 @@ use Rattle.sb_syntax.specs.declared.tree.SourceReference.{SourceReference}
 use Rattle.sb_syntax.specs.declared.tree.TableReference.{TableReference}
 use Rattle.sb_syntax.specs.declared.tree.TableReference.TheVariants.{Named, Inserted, Deleted, OldUpdated, NewUpdated}
 use Rattle.sb_check.specs.Expression.{Expression, literal, column, binary}
-use Rattle.sb_check.specs.Condition.{Condition, always, disjunction, conjunction, negation, compare, is_in, exists, Operand, expression, answer, Query, select}
+use Rattle.sb_check.specs.Condition.{Condition, always, disjunction, conjunction, negation, compare, is_in, exists, Operand, expression, scalar_subquery, Query, select}
 use Rattle.sb_check.specs.declared.tree.Items.{Items}
 use Rattle.sb_check.specs.declared.tree.Items.TheVariants as items
 use Rattle.sb_check.specs.declared.tree.Source.{Source}
@@ -163,7 +163,7 @@ module _ (schema : Schema) where
 
     pub walk_operand : text.Operand → Scope → Result (Operand × ColumnType) Refusal
     walk_operand (text.expression e) scope = and_then (walk_expression scope e) (λ x. Ok (expression x.0, x.1))
-    walk_operand (text.answer q) scope = and_then (walk_query q scope) (λ w. required (has_aggregate q) refusal.WrongCount (Ok (answer w.0, Int)))
+    walk_operand (text.scalar_subquery q) scope = and_then (walk_query q scope) (λ w. required (has_aggregate q) refusal.WrongCount (Ok (scalar_subquery w.0, Int)))
 
     pub walk_filter : text.Filter → Scope → Result Condition Refusal
     walk_filter text.everything scope = Ok always

@@ -116,11 +116,11 @@ fn plain(e: Expression) -> Operand
     }
 }
 
-fn answer(query: Box<Query>) -> Operand
-    ensures { result ≡ tree.answer query.value }
+fn scalar_subquery(query: Box<Query>) -> Operand
+    ensures { result ≡ tree.scalar_subquery query.value }
 {
     Operand {
-        node: OperandNode::Query(query),
+        node: OperandNode::ScalarSubquery(query),
     }
 }
 
@@ -231,7 +231,9 @@ pub(crate) fn condition<'s, S: Schema>(
         }
         sb_syntax::Condition::Compare(a, op, b) => match b {
             sb_syntax::Operand::Expression(e) => Ok(compared(alloc, a, *op, e, schema, scope)?),
-            sb_syntax::Operand::Answer(_) => Ok(compared_with(alloc, a, *op, b, schema, scope)?),
+            sb_syntax::Operand::ScalarSubquery(_) => Ok(compared_with(
+                alloc, a, *op, b, schema, scope,
+            )?),
         },
         sb_syntax::Condition::In(a, has_not, q) => {
             Ok(is_in(alloc, a, *has_not, q, schema, scope)?)
@@ -257,13 +259,13 @@ pub(crate) fn operand<'s, S: Schema>(
                 of: one.of,
             })
         }
-        sb_syntax::Operand::Answer(q) => {
+        sb_syntax::Operand::ScalarSubquery(q) => {
             let inner = query(alloc, q, schema, scope)?;
             if !is_aggregate(&q.items) {
                 return Err(Fault::Refused(Reason::WrongCount));
             }
             Ok(TypedOperand {
-                tree: answer(inner.tree),
+                tree: scalar_subquery(inner.tree),
                 of: ColumnType::Int,
             })
         }

@@ -22,7 +22,7 @@ fn is_operand_settled(o: &Operand, known: &Known<'_>) -> bool
 {
     match &o.node {
         OperandNode::Expression(e) => is_plain(e),
-        OperandNode::Query(_) => known.one_value().is_some(),
+        OperandNode::ScalarSubquery(_) => known.one_value().is_some(),
     }
 }
 
@@ -33,8 +33,10 @@ pub(crate) fn is_settled(c: &Condition, known: &Known<'_>) -> bool
 {
     match &c.node {
         ConditionNode::Always => true,
-        ConditionNode::Disjunction(a, b) => is_settled(a, known.left()) && is_settled(b, known.right()),
-        ConditionNode::Conjunction(a, b) => is_settled(a, known.left()) && is_settled(b, known.right()),
+        ConditionNode::Disjunction(a, b) => is_settled(a, known.left())
+            && is_settled(b, known.right()),
+        ConditionNode::Conjunction(a, b) => is_settled(a, known.left())
+            && is_settled(b, known.right()),
         ConditionNode::Negation(a) => is_settled(a, known),
         ConditionNode::Compare(a, _, b) => is_plain(a) && is_operand_settled(b, known),
         ConditionNode::In(a, _) => is_plain(a) && known.values().is_some(),

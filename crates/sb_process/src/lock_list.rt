@@ -142,7 +142,7 @@ fn push_operand(locks: &mut Vec<(TableId, Mode)>, operand: &Operand) -> Result<(
 {
     match &operand.node {
         OperandNode::Expression(_) => Ok(()),
-        OperandNode::Query(query) => push_query(locks, query),
+        OperandNode::ScalarSubquery(query) => push_query(locks, query),
     }
 }
 

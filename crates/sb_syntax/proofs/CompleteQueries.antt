@@ -123,9 +123,9 @@ module _ (sub : Reader Query) where
   subquery-paren : (depth : ℕ) (q : Query) (ts rest : Input) → IsSubquery depth q ts rest → sees k.LeftParen ts ≡ true
   subquery-paren depth q ts rest (g.nested is d close) = is-sees k.LeftParen ts _ is
 
-  query_side-case : (depth : ℕ) (q : Query) (ts rest : Input) → IsSubquery depth q ts rest → Reads (r.subquery sub) q ts rest → Reads (r.operand sub) (tree.answer q) ts rest
+  query_side-case : (depth : ℕ) (q : Query) (ts rest : Input) → IsSubquery depth q ts rest → Reads (r.subquery sub) q ts rest → Reads (r.operand sub) (tree.scalar_subquery q) ts rest
   unfolding r.operand
-  query_side-case depth q ts rest d h = let m = mapped tree.answer (r.subquery sub) q ts rest h in (rw (subquery-paren depth q ts rest d) m.0, m.1)
+  query_side-case depth q ts rest d h = let m = mapped tree.scalar_subquery (r.subquery sub) q ts rest h in (rw (subquery-paren depth q ts rest d) m.0, m.1)
 
   expr_side-case : (e : Expression) (ts rest : Input) → IsExpr e ts rest → Stops rest → Reads (r.operand sub) (tree.expression e) ts rest
   unfolding r.operand

@@ -62,7 +62,7 @@ module _ (depth : ℕ) (sub : Reader Query) (sub-sound : Sound (r.subquery sub) 
   pub operand-sound : Sound (r.operand sub) (IsOperand depth)
   unfolding r.operand
   operand-sound s ts rest e = elim (chosen (sees k.LeftParen ts) _ _ (s, rest) e) [
-    | inl p ↦ mapped-sound tree.answer (r.subquery sub) (IsSubquery depth) (IsOperand depth) (λ _ _ _ d. g.query_side d) sub-sound s ts rest p.1
+    | inl p ↦ mapped-sound tree.scalar_subquery (r.subquery sub) (IsSubquery depth) (IsOperand depth) (λ _ _ _ d. g.query_side d) sub-sound s ts rest p.1
     | inr p ↦ mapped-sound tree.expression r.expr IsExpr (IsOperand depth) (λ _ _ _ d. g.expr_side d) expr-sound s ts rest p.1
   ]
 

@@ -130,7 +130,7 @@ mutual
 
   pub data IsOperand : ℕ → Operand → Input → Input → Type 0 where
     expr_side : {depth : ℕ} {e : Expression} {ts rest : Input} → IsExpr e ts rest → IsOperand depth (tree.expression e) ts rest
-    query_side : {depth : ℕ} {q : Query} {ts rest : Input} → IsSubquery depth q ts rest → IsOperand depth (tree.answer q) ts rest
+    query_side : {depth : ℕ} {q : Query} {ts rest : Input} → IsSubquery depth q ts rest → IsOperand depth (tree.scalar_subquery q) ts rest
 
   pub data IsSubquery : ℕ → Query → Input → Input → Type 0 where
     nested : {depth : ℕ} {q : Query} {ts x y rest : Input} → Is k.LeftParen ts x → IsQuery depth q x y → Is k.RightParen y rest → IsSubquery (suc depth) q ts rest

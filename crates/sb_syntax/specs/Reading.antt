@@ -283,7 +283,7 @@ module _ (sub : Reader Query) where
     pure q
 
   unfoldable pub operand : Reader Operand
-  operand ts = if sees k.LeftParen ts then (do q ← subquery; pure (tree.answer q)) ts else (do e ← expr; pure (tree.expression e)) ts
+  operand ts = if sees k.LeftParen ts then (do q ← subquery; pure (tree.scalar_subquery q)) ts else (do e ← expr; pure (tree.expression e)) ts
 
   unfoldable pub member : Expression → Reader Condition
   member e = do

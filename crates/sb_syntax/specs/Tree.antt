@@ -33,7 +33,7 @@ mutual
 
   pub data Operand : Type 0 where
     expression : Expression → Operand
-    answer : Query → Operand
+    scalar_subquery : Query → Operand
 
   -- a `where`, or none
   pub data Filter : Type 0 where

@@ -4,7 +4,7 @@ use Rattle.sb_syntax.specs.declared.tree.Expression.{Expression as Stored, Liter
 use Rattle.sb_syntax.specs.declared.tree.Items.{Items}
 use Rattle.sb_syntax.specs.declared.tree.Items.TheVariants.{All, Count, Sum, Each}
 use Rattle.sb_syntax.specs.declared.tree.Condition.{Condition, Disjunction', Conjunction', Negation', Compare, In', Exists', Held-Query-filter, None', Some'}
-use Rattle.sb_syntax.specs.declared.tree.Operand.{Operand, Expression, Answer'}
+use Rattle.sb_syntax.specs.declared.tree.Operand.{Operand, Expression, ScalarSubquery'}
 use Rattle.sb_syntax.specs.declared.tree.Query.{Query}
 use Rattle.sb_syntax.specs.declared.tree.Assignment.{Assignment}
 use Rattle.sb_syntax.specs.declared.tree.Statement.{Statement}
@@ -40,7 +40,7 @@ abbrev mutual
 
   pub operand : Operand → tree.Operand
   operand (Expression e) = tree.expression (expression e)
-  operand (Answer' p i sources f) = tree.answer (tree.select (items i) sources.items (held_filter f))
+  operand (ScalarSubquery' p i sources f) = tree.scalar_subquery (tree.select (items i) sources.items (held_filter f))
 
   pub held_filter : Held-Query-filter → tree.Filter
   held_filter None' = tree.everything

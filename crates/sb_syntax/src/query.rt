@@ -70,9 +70,9 @@ fn within(alloc: Global, e: Expression, negated: bool, query: Query) -> Result<B
 }
 
 fn answer(alloc: Global, query: Query) -> Result<Operand, AllocError>
-    ensures { IfOk result (λ s. view.operand s ≡ tree.answer (view.query query)) }
+    ensures { IfOk result (λ s. view.operand s ≡ tree.scalar_subquery (view.query query)) }
 {
-    Ok(Operand::Answer(Box::new(alloc, query)?))
+    Ok(Operand::ScalarSubquery(Box::new(alloc, query)?))
 }
 
 /// A query in parentheses, where one may still nest.

@@ -89,7 +89,7 @@ pub enum Condition {
 #[derive(Drop)]
 pub enum Operand {
     Expression(Expression),
-    Answer(Box<Query>),
+    ScalarSubquery(Box<Query>),
 }
 
 /// `select items from sources where filter`.

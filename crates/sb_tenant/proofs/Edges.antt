@@ -7,7 +7,7 @@ use Rattle.sb_value.specs.declared.value.Value.TheVariants.{Int}
 use Rattle.sb_syntax.specs.declared.tree.Comparison.TheVariants.{Equal, Greater}
 use Rattle.sb_syntax.specs.declared.tree.TableReference.TheVariants.{Named}
 use Rattle.sb_syntax.specs.Text.{command_of}
-use Rattle.sb_syntax.specs.Tree.{Name, all, count, sum_of, everything, those, compare, disjunction, expression, answer, select, update, insert_query, delete, is_in, Command, open_session, begin, rollback, create_table, create_ruleset, query, change}
+use Rattle.sb_syntax.specs.Tree.{Name, all, count, sum_of, everything, those, compare, disjunction, expression, scalar_subquery, select, update, insert_query, delete, is_in, Command, open_session, begin, rollback, create_table, create_ruleset, query, change}
 use Rattle.sb_tenant.specs.declared.reply.Answer.{Answer}
 use Rattle.sb_tenant.specs.declared.reply.Entry.{Entry}
 use Rattle.sb_tenant.specs.declared.reply.Reply.TheVariants as reply
@@ -39,7 +39,7 @@ pub first_table_mentioned : drop 10 (replies_in_sessions 1000 (map (λ c. (0, c)
     ∷ (0, begin) ∷ (0, insert t (row 1 ∷ [])) ∷ (2, begin) ∷ (2, insert h (row 2 ∷ []))
     ∷ (1, begin) ∷ (1, change (insert_query t (a_of (Named h)))) ∷ (1, change (insert_query h (a_of (Named t))))
     ∷ (1, query (select all (source (Named h) ∷ source (Named t) ∷ []) everything))
-    ∷ (1, change (update (codes "u") (record { column = a; operand = answer (select (sum_of (named a)) (source (Named t) ∷ []) everything) } ∷ []) (those (is_in (named a) false (a_of (Named h))))))
+    ∷ (1, change (update (codes "u") (record { column = a; operand = scalar_subquery (select (sum_of (named a)) (source (Named t) ∷ []) everything) } ∷ []) (those (is_in (named a) false (a_of (Named h))))))
     ∷ (1, change (delete (codes "u") (those (is_in (named a) false (a_of (Named h)))))) ∷ (1, show (codes "u")) ∷ []))
     ≡ reply.Ok ∷ no (refusal.Locked t) ∷ no (refusal.Locked h) ∷ no (refusal.Locked h) ∷ no (refusal.Locked t) ∷ no (refusal.Locked h) ∷ reply.Rows [] ∷ []
 first_table_mentioned = refl

@@ -174,7 +174,7 @@ module _ (schema : Schema) where
 
     fine-walk_operand : (o : text.Operand) (scope : Scope) → IsFine (walk_operand schema o scope)
     fine-walk_operand (text.expression e) scope = search (fine-and_then, fine-walk_expression, given)
-    fine-walk_operand (text.answer q) scope = search (fine-and_then, fine-required, fine-walk_query q scope, given)
+    fine-walk_operand (text.scalar_subquery q) scope = search (fine-and_then, fine-required, fine-walk_query q scope, given)
 
     fine-walk_filter : (f : text.Filter) (scope : Scope) → IsFine (walk_filter schema f scope)
     fine-walk_filter text.everything scope = given _

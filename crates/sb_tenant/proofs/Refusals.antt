@@ -6,7 +6,7 @@ use Rattle.sb_value.specs.declared.value.Value.TheVariants.{Text}
 use Rattle.sb_syntax.specs.declared.tree.Arithmetic.TheVariants.{Add, Multiply}
 use Rattle.sb_syntax.specs.declared.tree.Comparison.TheVariants.{Equal, Less, LessEqual}
 use Rattle.sb_syntax.specs.declared.tree.TableReference.TheVariants.{Named, Inserted}
-use Rattle.sb_syntax.specs.Tree.{Name, literal, binary, all, sum_of, each_of, compare, is_in, exists, expression, answer, everything, those, select, update, open_session, begin, commit, process_ruleset, process_rule, create_table, drop_table, create_ruleset, query, change}
+use Rattle.sb_syntax.specs.Tree.{Name, literal, binary, all, sum_of, each_of, compare, is_in, exists, expression, scalar_subquery, everything, those, select, update, open_session, begin, commit, process_ruleset, process_rule, create_table, drop_table, create_ruleset, query, change}
 use Rattle.sb_tenant.specs.declared.reply.Reply.TheVariants as reply
 use Rattle.sb_tenant.proofs.Script.{replies, replies_in_sessions, int, row, t, h, a, b, integer_column, text_column, named, of_table, number, equals, source, aliased, all_of, a_of, columns_of, show, insert, start, started, no}
 
@@ -28,11 +28,11 @@ refusals_in_order = refl
 
 -- a subquery with a column of the table that is updated, and names and types that are refused
 pub names_and_types : replies 1000 (start ++ begin ∷ insert t (row 1 ∷ row 1 ∷ row 3 ∷ []) ∷ insert h (row 1 ∷ row 2 ∷ row 3 ∷ [])
-    ∷ change (update h (record { column = a; operand = answer (select (sum_of (of_table t a)) (source (Named t) ∷ []) (equals (of_table t a) (of_table h a))) } ∷ []) everything)
+    ∷ change (update h (record { column = a; operand = scalar_subquery (select (sum_of (of_table t a)) (source (Named t) ∷ []) (equals (of_table t a) (of_table h a))) } ∷ []) everything)
     ∷ show h
     ∷ query (columns_of (a ∷ []) (t ∷ h ∷ []))
     ∷ query (select (each_of (of_table t a ∷ [])) (source (Named t) ∷ source (Named t) ∷ []) everything)
-    ∷ query (all_of (Named t) (those (compare (named a) Equal (answer (a_of (Named h))))))
+    ∷ query (all_of (Named t) (those (compare (named a) Equal (scalar_subquery (a_of (Named h))))))
     ∷ query (all_of (Named t) (equals (binary (named a) Add (literal (Text (codes "x")))) (number 1))) ∷ [])
     ≡ started ++ reply.Ok ∷ reply.Count 3 ∷ reply.Count 3 ∷ reply.Count 3 ∷ reply.Rows (row 2 ∷ row 0 ∷ row 3 ∷ [])
     ∷ no refusal.Ambiguous ∷ no refusal.Ambiguous ∷ no refusal.WrongCount ∷ no refusal.BadType ∷ []

@@ -14,7 +14,7 @@ ghost use Rattle.sb_tenant.specs.Walk.{class_of, walk};
 use crate::answer::{done, refused};
 use crate::names::Names;
 use crate::store::{Replies, Store};
-use sb_check::{resolve_statement, resolve_query, resolved_tables_are_there, walks_see_columns};
+use sb_check::{resolve_query, resolve_statement, resolved_tables_are_there, walks_see_columns};
 use sb_index::RuleIndex;
 use sb_rawlog::ChangeLog;
 use sb_syntax::{Command, Query, Statement};

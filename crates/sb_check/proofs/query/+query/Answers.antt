@@ -62,8 +62,8 @@ operand-returns-in_err-one-in-Expression g t c = grind (arith, operand_walks)
 pub operand-returns-in_ok-one-in-Expression : goal.operand-returns-in_ok-one-in-Expression
 operand-returns-in_ok-one-in-Expression g t c = grind (arith, operand_walks)
 
-pub operand-returns-in_err-inner-in-Answer : goal.operand-returns-in_err-inner-in-Answer
-operand-returns-in_err-inner-in-Answer g t c = grind (arith, operand_walks)
+pub operand-returns-in_err-inner-in-ScalarSubquery : goal.operand-returns-in_err-inner-in-ScalarSubquery
+operand-returns-in_err-inner-in-ScalarSubquery g t c = grind (arith, operand_walks)
 
 pub operand-returns-then-not-is_aggregate : goal.operand-returns-then-not-is_aggregate
 operand-returns-then-not-is_aggregate g t c = grind (arith, operand_walks)

@@ -1,6 +1,6 @@
 //! Whether a query names a column of a query around it.
 ghost use Rattle.std.specs.Prelude.{◌≡◌, ℕ, true};
-ghost use Rattle.sb_eval.specs.Closed as spec;
+ghost use Rattle.sb_eval.specs.Correlation as spec;
 
 use sb_check::{
     Condition, ConditionNode, Expression, ExpressionNode, Items, Operand, OperandNode, Query,
@@ -50,8 +50,10 @@ fn condition_within(queries: u8, c: &Condition) -> bool
 {
     match &c.node {
         ConditionNode::Always => true,
-        ConditionNode::Disjunction(a, b) => condition_within(queries, a) && condition_within(queries, b),
-        ConditionNode::Conjunction(a, b) => condition_within(queries, a) && condition_within(queries, b),
+        ConditionNode::Disjunction(a, b) => condition_within(queries, a)
+            && condition_within(queries, b),
+        ConditionNode::Conjunction(a, b) => condition_within(queries, a)
+            && condition_within(queries, b),
         ConditionNode::Negation(a) => condition_within(queries, a),
         ConditionNode::Compare(a, _, b) => {
             expression_within(queries, a) && operand_within(queries, b)
@@ -68,7 +70,7 @@ fn operand_within(queries: u8, o: &Operand) -> bool
 {
     match &o.node {
         OperandNode::Expression(e) => expression_within(queries, e),
-        OperandNode::Query(q) => query_within(queries, q),
+        OperandNode::ScalarSubquery(q) => query_within(queries, q),
     }
 }
 
@@ -84,7 +86,7 @@ fn query_within(queries: u8, q: &Query) -> bool
 }
 
 /// Whether the query names no column of a query around it. Of one in which too many stand in one another it is not said.
-pub(crate) fn is_closed(q: &Query) -> bool
+pub(crate) fn is_uncorrelated(q: &Query) -> bool
     ensures { result ≡ true → spec.query_within 0 q.now ≡ true }
 {
     query_within(0, q)

@@ -1,5 +1,5 @@
 use Rattle.std.proofs.Common.{length}
-use Rattle.sb_eval.proofs.closed.+expressions_within.Given as goal
+use Rattle.sb_eval.proofs.correlation.+expressions_within.Given as goal
 
 -- the expressions that are left
 abbrev pub decreases-expressions_within : goal.decreases-expressions_within
