@@ -1,17 +1,17 @@
--- In a proper list the changes of one tuple are: its insert first, then updates, its delete last.
+-- In a proper list the changes of one tuple are: its insert first, then updates, its delete last, each of the row before it.
 use Rattle.std.proofs.Math.Bool.{or-false}
-use Rattle.std.proofs.Common.{◌≡◌, ℕ, ◌+◌, ◌<◌, ◌≤◌, Bool, true, false, cond, not, ◌&&◌, ◌||◌, ◌==◌, List, [], ◌∷◌, ◌++◌, map, filter, Some, IsSome, refl, sym, ◌∙◌, inl, inr, subst, ap, arith}
-use Rattle.std.specs.Prelude.{find, option_map}
+use Rattle.std.proofs.Common.{◌≡◌, ℕ, ◌+◌, ◌<◌, ◌≤◌, Bool, true, false, cond, not, ◌&&◌, ◌||◌, ◌==◌, List, [], ◌∷◌, ◌++◌, map, filter, Option, Some, None, IsSome, refl, sym, ◌∙◌, inl, inr, subst, ap, arith}
+use Rattle.std.specs.Prelude.{find, option_map, unwrap_or}
 use Rattle.std.specs.List.{list_any}
-use Rattle.std.proofs.lemmas.Bool.{true≢false, eqb-true, eq-eqb, false≢true, and_from, or_cases, or_right}
+use Rattle.std.proofs.lemmas.Bool.{true≢false, eqb-true, eq-eqb, false≢true, or_cases}
 use Rattle.std.proofs.lemmas.List.Folds.{list_any-append}
 use Rattle.sb_value.specs.declared.value.Value.{Value}
 use Rattle.sb_value.specs.declared.change.Change.{Change}
 use Rattle.sb_value.specs.declared.change.Kind.{Kind}
 use Rattle.sb_value.specs.declared.change.Kind.TheVariants.{Inserted, Deleted, Updated}
-use Rattle.sb_value.specs.Table.{Table, Entry, new_row, after_kind, after_change, fits_kind, table_at, has_table, after, IsProper, AreBelow}
+use Rattle.sb_value.specs.Table.{Table, Entry, new_row, old_row, after_kind, after_change, fits_kind, table_at, has_table, after, IsProper, AreBelow}
 use Rattle.sb_value.specs.NetEffect.{history}
-use Rattle.sb_value.specs.Laws.{may_follow, is_life, ProperListsHaveLives}
+use Rattle.sb_value.specs.Laws.{may_follow, Follows, IsLife, ProperListsHaveLives}
 
 abbrev Numbered : Type 0
 Numbered = ℕ × List Value
@@ -34,6 +34,13 @@ has_found k (r ∷ rows) s =
       | true ↦ λ _. refl
       | false ↦ λ s. has_found k rows s
     ] s
+
+-- the row of a number
+abbrev row_of : ℕ → List Numbered → Option (List Value)
+row_of k rows = option_map (λ r. r.1) (find (λ r. r.0 == k) rows)
+
+has_row_of : (k : ℕ) (rows : List Numbered) (row : List Value) → row_of k rows ≡ Some row → has_row k rows ≡ true
+has_row_of k rows row e = has_found k rows (subst IsSome (sym e) refl)
 
 -- ---- a change and the numbers of the rows
 
@@ -81,56 +88,119 @@ has-without_other k x (r ∷ rows) h =
       | false ↦ λ _. ap (λ b. (r.0 == k) || b) (has-without_other k x rows h)
     ] refl
 
+-- the row of a number in a list with one more, with one less, with one replaced
+
+row-last : (k : ℕ) (rows : List Numbered) (row : List Value) → has_row k rows ≡ false → row_of k (rows ++ (k, row) ∷ []) ≡ Some row
+row-last k [] row h = ap (λ b. option_map (λ (r : Numbered). r.1) (cond b (Some (k, row)) None)) (eq-eqb k k refl)
+row-last k (r ∷ rows) row h =
+    elim (r.0 == k) as (λ b. (b || has_row k rows) ≡ false → option_map (λ (q : Numbered). q.1) (cond b (Some r) (find (λ q. q.0 == k) (rows ++ (k, row) ∷ []))) ≡ Some row) [
+      | true ↦ λ h. absurd (true≢false h)
+      | false ↦ λ h. row-last k rows row h
+    ] h
+
+row-more : (k : ℕ) (rows : List Numbered) (r : Numbered) → (r.0 == k) ≡ false → row_of k (rows ++ r ∷ []) ≡ row_of k rows
+row-more k [] r h = ap (λ b. option_map (λ (q : Numbered). q.1) (cond b (Some r) None)) h
+row-more k (q ∷ rows) r h =
+    elim (q.0 == k) as (λ b. option_map (λ (p : Numbered). p.1) (cond b (Some q) (find (λ p. p.0 == k) (rows ++ r ∷ []))) ≡ option_map (λ (p : Numbered). p.1) (cond b (Some q) (find (λ p. p.0 == k) rows))) [
+      | true ↦ refl
+      | false ↦ row-more k rows r h
+    ]
+
+row-without_other : (k x : ℕ) (rows : List Numbered) → (x == k) ≡ false → row_of k (filter (λ r. not (r.0 == x)) rows) ≡ row_of k rows
+row-without_other k x [] h = refl
+row-without_other k x (r ∷ rows) h =
+    elim (r.0 == x) as (λ b. (r.0 == x) ≡ b → row_of k (cond (not b) (r ∷ filter (λ q. not (q.0 == x)) rows) (filter (λ q. not (q.0 == x)) rows)) ≡ row_of k (r ∷ rows)) [
+      | true ↦ λ e. row-without_other k x rows h ∙ ap (λ b. option_map (λ (q : Numbered). q.1) (cond b (Some r) (find (λ q. q.0 == k) rows))) (sym (ap (λ n. n == k) (eqb-true r.0 x e) ∙ h))
+      | false ↦ λ _. elim (r.0 == k) as (λ b. option_map (λ (q : Numbered). q.1) (cond b (Some r) (find (λ q. q.0 == k) (filter (λ q. not (q.0 == x)) rows)))
+          ≡ option_map (λ (q : Numbered). q.1) (cond b (Some r) (find (λ q. q.0 == k) rows))) [ true ↦ refl | false ↦ row-without_other k x rows h ]
+    ] refl
+
+row-map_other : (k x : ℕ) (row : List Value) (rows : List Numbered) → (x == k) ≡ false → row_of k (map (replaced x row) rows) ≡ row_of k rows
+row-map_other k x row [] h = refl
+row-map_other k x row (r ∷ rows) h =
+    elim (r.0 == x) as (λ b. (r.0 == x) ≡ b → option_map (λ (q : Numbered). q.1) (find (λ q. q.0 == k) ((let y : Numbered = cond b (x, row) r in y) ∷ map (replaced x row) rows)) ≡ row_of k (r ∷ rows)) [
+      | true ↦ λ e.
+          ap (λ b. option_map (λ (q : Numbered). q.1) (cond b (Some (x, row)) (find (λ q. q.0 == k) (map (replaced x row) rows)))) h
+          ∙ row-map_other k x row rows h
+          ∙ ap (λ b. option_map (λ (q : Numbered). q.1) (cond b (Some r) (find (λ q. q.0 == k) rows))) (sym (ap (λ n. n == k) (eqb-true r.0 x e) ∙ h))
+      | false ↦ λ _. elim (r.0 == k) as (λ b. option_map (λ (q : Numbered). q.1) (cond b (Some r) (find (λ q. q.0 == k) (map (replaced x row) rows)))
+          ≡ option_map (λ (q : Numbered). q.1) (cond b (Some r) (find (λ q. q.0 == k) rows))) [ true ↦ refl | false ↦ row-map_other k x row rows h ]
+    ] refl
+
+row-map_own : (x : ℕ) (row : List Value) (rows : List Numbered) → has_row x rows ≡ true → row_of x (map (replaced x row) rows) ≡ Some row
+row-map_own x row [] h = absurd (false≢true h)
+row-map_own x row (r ∷ rows) h =
+    elim (r.0 == x) as (λ b. (r.0 == x) ≡ b → (b || has_row x rows) ≡ true → option_map (λ (q : Numbered). q.1) (find (λ q. q.0 == x) ((let y : Numbered = cond b (x, row) r in y) ∷ map (replaced x row) rows)) ≡ Some row) [
+      | true ↦ λ _ _. ap (λ b. option_map (λ (q : Numbered). q.1) (cond b (Some (x, row)) (find (λ q. q.0 == x) (map (replaced x row) rows)))) (eq-eqb x x refl)
+      | false ↦ λ e h. ap (λ b. option_map (λ (q : Numbered). q.1) (cond b (Some r) (find (λ q. q.0 == x) (map (replaced x row) rows)))) e ∙ row-map_own x row rows h
+    ] refl h
+
 below_after : (kind : Kind) (c : Change) (t : Table) → AreBelow t.next t.rows → AreBelow (after_kind kind c t).next (after_kind kind c t).rows
 below_after Inserted c t b = below-append (t.next + 1) t.rows (t.next, new_row c) (below_more t.next (t.next + 1) t.rows (omega arith) b) (omega arith)
 below_after Deleted c t b = below-filter t.next (λ r. not (r.0 == c.tuple)) t.rows b
 below_after Updated c t b = below-map t.next c.tuple (new_row c) t.rows b
 
--- ---- how a tuple stands: after its insert or an update it is there, after its delete it is gone for good
+-- ---- how a tuple stands: after its insert or an update it has the new row, after its delete it is gone for good
 
-abbrev Stands : Kind → Table → ℕ → Type 0
-Stands Inserted t k = has_row k t.rows ≡ true
-Stands Updated t k = has_row k t.rows ≡ true
-Stands Deleted t k = (has_row k t.rows ≡ false) × (k < t.next)
+abbrev Stands : Kind → Change → Table → ℕ → Type 0
+Stands Inserted c t k = row_of k t.rows ≡ Some (new_row c)
+Stands Updated c t k = row_of k t.rows ≡ Some (new_row c)
+Stands Deleted c t k = (has_row k t.rows ≡ false) × (k < t.next)
 
 has_inserted : (k : ℕ) (c : Change) (t : Table) → has_row k (after_kind Inserted c t).rows ≡ (has_row k t.rows || (t.next == k))
 has_inserted k c t = list_any-append (λ r. r.0 == k) t.rows ((t.next, new_row c) ∷ []) ∙ ap (λ b. has_row k t.rows || b) (or-false (t.next == k))
 
-stands_after : (kind : Kind) (c : Change) (t : Table) → AreBelow t.next t.rows → fits_kind kind c t → Stands kind (after_kind kind c t) c.tuple
-stands_after Inserted c t b f = has_inserted c.tuple c t ∙ or_right (has_row c.tuple t.rows) (t.next == c.tuple) (eq-eqb t.next c.tuple (sym f.0))
+not_yet : (t : Table) → AreBelow t.next t.rows → has_row t.next t.rows ≡ false
+not_yet t b = by (has_row t.next t.rows) refl
+  where
+    by : (x : Bool) → has_row t.next t.rows ≡ x → x ≡ false
+    by true e = absurd (let less = below_has t.next t.next t.rows b e in omega (arith, less))
+    by false e = refl
+
+stands_after : (kind : Kind) (c : Change) (t : Table) → AreBelow t.next t.rows → fits_kind kind c t → Stands kind c (after_kind kind c t) c.tuple
+stands_after Inserted c t b f = subst (λ n. row_of n (t.rows ++ (t.next, new_row c) ∷ []) ≡ Some (new_row c)) (sym f.0) (row-last t.next t.rows (new_row c) (not_yet t b))
 stands_after Deleted c t b f =
     (has-without c.tuple t.rows, below_has t.next c.tuple t.rows b (has_found c.tuple t.rows (subst IsSome (sym f.0) f.1)))
-stands_after Updated c t b f = has-map c.tuple c.tuple (new_row c) t.rows ∙ has_found c.tuple t.rows (subst IsSome (sym f.0) f.1)
+stands_after Updated c t b f = row-map_own c.tuple (new_row c) t.rows (has_found c.tuple t.rows (subst IsSome (sym f.0) f.1))
 
 -- a tuple that another change leaves alone
-kept_row : (kind : Kind) (c : Change) (t : Table) (k : ℕ) → (c.tuple == k) ≡ false → fits_kind kind c t → has_row k (after_kind kind c t).rows ≡ has_row k t.rows
-kept_row Inserted c t k h f = has_inserted k c t ∙ ap (λ b. has_row k t.rows || b) (subst (λ n. (n == k) ≡ false) f.0 h) ∙ or-false (has_row k t.rows)
-kept_row Deleted c t k h f = has-without_other k c.tuple t.rows h
-kept_row Updated c t k h f = has-map k c.tuple (new_row c) t.rows
+kept_number : (kind : Kind) (c : Change) (t : Table) (k : ℕ) → (c.tuple == k) ≡ false → fits_kind kind c t → has_row k (after_kind kind c t).rows ≡ has_row k t.rows
+kept_number Inserted c t k h f = has_inserted k c t ∙ ap (λ b. has_row k t.rows || b) (subst (λ n. (n == k) ≡ false) f.0 h) ∙ or-false (has_row k t.rows)
+kept_number Deleted c t k h f = has-without_other k c.tuple t.rows h
+kept_number Updated c t k h f = has-map k c.tuple (new_row c) t.rows
+
+kept_row : (kind : Kind) (c : Change) (t : Table) (k : ℕ) → (c.tuple == k) ≡ false → fits_kind kind c t → row_of k (after_kind kind c t).rows ≡ row_of k t.rows
+kept_row Inserted c t k h f = row-more k t.rows (t.next, new_row c) (subst (λ n. (n == k) ≡ false) f.0 h)
+kept_row Deleted c t k h f = row-without_other k c.tuple t.rows h
+kept_row Updated c t k h f = row-map_other k c.tuple (new_row c) t.rows h
 
 next_more : (kind : Kind) (c : Change) (t : Table) → t.next ≤ (after_kind kind c t).next
 next_more Inserted c t = omega arith
 next_more Deleted c t = omega arith
 next_more Updated c t = omega arith
 
-stays : (k : ℕ) (s : Kind) (t u : Table) → has_row k u.rows ≡ has_row k t.rows → t.next ≤ u.next → Stands s t k → Stands s u k
-stays k Inserted t u e n h = e ∙ h
-stays k Updated t u e n h = e ∙ h
-stays k Deleted t u e n h = (e ∙ h.0, let q : k < t.next = h.1 in omega (arith, q, n))
+stays : (k : ℕ) (s : Kind) (b : Change) (t u : Table) → row_of k u.rows ≡ row_of k t.rows → has_row k u.rows ≡ has_row k t.rows → t.next ≤ u.next → Stands s b t k → Stands s b u k
+stays k Inserted b t u row e n h = row ∙ h
+stays k Updated b t u row e n h = row ∙ h
+stays k Deleted b t u row e n h = (e ∙ h.0, let q : k < t.next = h.1 in omega (arith, q, n))
 
 not_next : {A : Type 0} (k : ℕ) (t : Table) → k ≡ t.next → k < t.next → A
 not_next k t e h = absurd (omega (arith, e, h))
 
-follows : (s kind : Kind) (c : Change) (t : Table) → AreBelow t.next t.rows → fits_kind kind c t → Stands s t c.tuple → may_follow s kind ≡ true
-follows Inserted Inserted c t b f h = not_next c.tuple t f.0 (below_has t.next c.tuple t.rows b h)
-follows Inserted Updated c t b f h = refl
-follows Inserted Deleted c t b f h = refl
-follows Updated Inserted c t b f h = not_next c.tuple t f.0 (below_has t.next c.tuple t.rows b h)
-follows Updated Updated c t b f h = refl
-follows Updated Deleted c t b f h = refl
-follows Deleted Inserted c t b f h = not_next c.tuple t f.0 h.1
-follows Deleted Updated c t b f h = absurd (true≢false (sym (has_found c.tuple t.rows (subst IsSome (sym f.0) f.1)) ∙ h.0))
-follows Deleted Deleted c t b f h = absurd (true≢false (sym (has_found c.tuple t.rows (subst IsSome (sym f.0) f.1)) ∙ h.0))
+-- the change takes the row that stands
+takes : (b c : Change) (t : Table) → row_of c.tuple t.rows ≡ c.old → row_of c.tuple t.rows ≡ Some (new_row b) → old_row c ≡ new_row b
+takes b c t f h = ap (λ o. unwrap_or o []) (sym f ∙ h)
+
+follows : (s kind : Kind) (a c : Change) (t : Table) → AreBelow t.next t.rows → fits_kind kind c t → Stands s a t c.tuple → (may_follow s kind ≡ true) × (old_row c ≡ new_row a)
+follows Inserted Inserted a c t b f h = not_next c.tuple t f.0 (below_has t.next c.tuple t.rows b (has_row_of c.tuple t.rows (new_row a) h))
+follows Inserted Updated a c t b f h = (refl, takes a c t f.0 h)
+follows Inserted Deleted a c t b f h = (refl, takes a c t f.0 h)
+follows Updated Inserted a c t b f h = not_next c.tuple t f.0 (below_has t.next c.tuple t.rows b (has_row_of c.tuple t.rows (new_row a) h))
+follows Updated Updated a c t b f h = (refl, takes a c t f.0 h)
+follows Updated Deleted a c t b f h = (refl, takes a c t f.0 h)
+follows Deleted Inserted a c t b f h = not_next c.tuple t f.0 h.1
+follows Deleted Updated a c t b f h = absurd (true≢false (sym (has_found c.tuple t.rows (subst IsSome (sym f.0) f.1)) ∙ h.0))
+follows Deleted Deleted a c t b f h = absurd (true≢false (sym (has_found c.tuple t.rows (subst IsSome (sym f.0) f.1)) ∙ h.0))
 
 -- ---- a table among the tables
 
@@ -156,30 +226,34 @@ other_table c t h (e ∷ es) =
 
 -- ---- lives
 
-abbrev may_begin : Kind → List Change → Bool
-may_begin s [] = true
-may_begin s (d ∷ ds) = may_follow s d.kind
+-- the list may come next after the change
+abbrev MayBegin : Change → List Change → Type 0
+MayBegin c [] = Unit {0}
+MayBegin c (d ∷ ds) = Follows c d
 
-life_on : (c : Change) (h : List Change) → may_begin c.kind h ≡ true → is_life h ≡ true → is_life (c ∷ h) ≡ true
-life_on c [] m l = refl
-life_on c (d ∷ ds) m l = and_from (may_follow c.kind d.kind) (is_life (d ∷ ds)) m l
+life_on : (c : Change) (h : List Change) → MayBegin c h → IsLife h → IsLife (c ∷ h)
+life_on c [] m l = tt
+life_on c (d ∷ ds) m l = (m, l)
 
 -- the rest of the list, from the table that the first change leaves
 abbrev Goes : Table → ℕ → List Change → Type 0
-Goes u k h = (is_life h ≡ true) × ((s : Kind) → Stands s u k → may_begin s h ≡ true)
+Goes u k h = IsLife h × ((b : Change) → Stands b.kind b u k → MayBegin b h)
 
 of_table : (c : Change) (t u : Table) (k : ℕ) (h : List Change) → AreBelow t.next t.rows → fits_kind c.kind c t → u ≡ after_change c t → Goes u k h → Goes t k (cond (c.tuple == k) (c ∷ h) h)
 of_table c t u k h b f e g =
     elim (c.tuple == k) as (λ x. (c.tuple == k) ≡ x → Goes t k (cond x (c ∷ h) h)) [
       | true ↦ λ same.
           let at : c.tuple ≡ k = eqb-true c.tuple k same in
-          let standing : Stands c.kind u k = subst (λ n. Stands c.kind u n) at (subst (λ v. Stands c.kind v c.tuple) (sym e) (stands_after c.kind c t b f)) in
-          (life_on c h (g.1 c.kind standing) g.0, λ s p. follows s c.kind c t b f (subst (λ n. Stands s t n) (sym at) p))
-      | false ↦ λ other. (g.0, λ s p. g.1 s (subst (λ v. Stands s v k) (sym e) (stays k s t (after_change c t) (kept_row c.kind c t k other f) (next_more c.kind c t) p)))
+          let standing : Stands c.kind c u k = subst (λ n. Stands c.kind c u n) at (subst (λ v. Stands c.kind c v c.tuple) (sym e) (stands_after c.kind c t b f)) in
+          (life_on c h (g.1 c standing) g.0, λ a p. follows a.kind c.kind a c t b f (subst (λ n. Stands a.kind a t n) (sym at) p))
+      | false ↦ λ other. (
+        g.0,
+        λ a p. g.1 a (subst (λ v. Stands a.kind a v k) (sym e) (stays k a.kind a t (after_change c t) (kept_row c.kind c t k other f) (kept_number c.kind c t k other f) (next_more c.kind c t) p)),
+      )
     ] refl
 
 goes : (table k : ℕ) (changes : List Change) (tables : List Entry) → AreBelow (table_at tables table).next (table_at tables table).rows → IsProper tables changes → Goes (table_at tables table) k (history changes table k)
-goes table k [] tables b p = (refl, λ s h. refl)
+goes table k [] tables b p = (tt, λ a h. tt)
 goes table k (c ∷ cs) tables b p =
     elim (c.table == table) as (λ x. (c.table == table) ≡ x → Goes (table_at tables table) k (cond (x && (c.tuple == k)) (c ∷ history cs table k) (history cs table k))) [
       | true ↦ λ same.

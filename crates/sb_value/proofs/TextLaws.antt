@@ -1,6 +1,6 @@
 -- The text of a value reads back as the value.
 use Rattle.std.proofs.lemmas.Bool.{and_parts}
-use Rattle.std.proofs.Common.{◌≡◌, ℕ, suc, ◌-◌, ◌^◌, ◌<◌, ◌≤◌, Bool, true, false, ◌&&◌, nat_eq, nat_le, List, [], ◌∷◌, ◌++◌, length, Option, Some, Ok, pos, negsuc, neg_ℤ, refl, sym, ap, ◌∙◌, arith, length-append, ne_eqb, le-ltb, leb-true, eqb-true, rules, lit<, ℤ}
+use Rattle.std.proofs.Common.{◌≡◌, ℕ, suc, ◌-◌, ◌^◌, ◌<◌, ◌≤◌, Bool, true, false, nat_eq, nat_le, List, [], ◌∷◌, ◌++◌, length, Option, Some, Ok, pos, negsuc, neg_ℤ, refl, sym, ap, ◌∙◌, arith, length-append, ne_eqb, le-ltb, leb-true, eqb-true, rules, lit<, ℤ}
 use Rattle.std.specs.Option.{option_map}
 use Rattle.std.specs.List.{flat_map, list_all, AllPass}
 use Rattle.std.specs.Char.{is_ascii_digit}

@@ -1,7 +1,9 @@
 -- Net effects of a list of changes, and what follows from them: whether a rule is triggered, and its transition tables.
 use Rattle.std.specs.Prelude.{ℕ, Bool, false, ◌&&◌, ◌||◌, ◌==◌, nat_lt, if◌then◌else◌, List, [], ◌∷◌, map, filter, filter_map, Option, Some, None}
 use Rattle.std.specs.List.{list_any}
-use Rattle.sb_value.specs.Flags.{union, share_place}
+use Rattle.sb_value.specs.Flags.{share_place}
+use Rattle.sb_value.specs.Columns.{differing}
+use Rattle.sb_value.specs.Values.{same_row}
 use Rattle.sb_value.specs.Table.{new_row, old_row}
 use Rattle.sb_value.specs.declared.value.Value.{Value}
 use Rattle.sb_value.specs.declared.change.Change.{Change}
@@ -23,39 +25,39 @@ abbrev pub last_of : Change → List Change → Change
 last_of c [] = c
 last_of c (d ∷ ds) = last_of d ds
 
--- the columns that the updates name
-abbrev pub all_columns : List Change → List Bool
-all_columns [] = []
-all_columns (c ∷ cs) = union c.columns (all_columns cs)
+-- an update from one row to another, with the columns in which they differ; nothing where the rows are equal
+abbrev pub update_between : List Value → List Value → Option Net
+update_between old new = if same_row old new then None else Some (net.Updated old new (differing old new))
 
 -- from the kinds of the first and the last change
-abbrev pub net_between : Kind → Kind → Change → Change → List Bool → Option Net
-net_between Inserted Deleted first last columns = None
-net_between Inserted Inserted first last columns = Some (net.Inserted (new_row last))
-net_between Inserted Updated first last columns = Some (net.Inserted (new_row last))
-net_between Deleted Deleted first last columns = Some (net.Deleted (old_row first))
-net_between Updated Deleted first last columns = Some (net.Deleted (old_row first))
-net_between Updated Updated first last columns = Some (net.Updated (old_row first) (new_row last) columns)
+abbrev pub net_between : Kind → Kind → Change → Change → Option Net
+net_between Inserted Deleted first last = None
+net_between Inserted Inserted first last = Some (net.Inserted (new_row last))
+net_between Inserted Updated first last = Some (net.Inserted (new_row last))
+net_between Deleted Deleted first last = Some (net.Deleted (old_row first))
+net_between Updated Deleted first last = Some (net.Deleted (old_row first))
+net_between Updated Updated first last = update_between (old_row first) (new_row last)
 -- no such list of changes can be made
-net_between Deleted Inserted first last columns = None
-net_between Deleted Updated first last columns = None
-net_between Updated Inserted first last columns = None
+net_between Deleted Inserted first last = None
+net_between Deleted Updated first last = None
+net_between Updated Inserted first last = None
 
 abbrev pub net_of : List Change → Option Net
 net_of [] = None
-net_of (c ∷ cs) = net_between c.kind (last_of c cs).kind c (last_of c cs) (all_columns (c ∷ cs))
+net_of (c ∷ cs) = net_between c.kind (last_of c cs).kind c (last_of c cs)
 
 -- the net effect of a list of changes on a tuple
 abbrev pub net_effect : List Change → ℕ → ℕ → Option Net
 net_effect changes table tuple = net_of (history changes table tuple)
 
--- one net effect and then another: several updates are one; an insert and updates are an insert of the last value;
--- updates and a delete are a delete of the first old value; an insert and a delete are nothing
+-- one net effect and then another: several updates are one from the first old row to the last new one, or nothing where these
+-- are equal; an insert and updates are an insert of the last row; updates and a delete are a delete of the first old row; an
+-- insert and a delete are nothing
 abbrev pub then_some : Net → Net → Option Net
 then_some (net.Inserted a) (net.Inserted b) = Some (net.Inserted b)
 then_some (net.Inserted a) (net.Updated old new columns) = Some (net.Inserted new)
 then_some (net.Inserted a) (net.Deleted old) = None
-then_some (net.Updated a b columns) (net.Updated old new more) = Some (net.Updated a new (union columns more))
+then_some (net.Updated a b columns) (net.Updated old new more) = update_between a new
 then_some (net.Updated a b columns) (net.Deleted old) = Some (net.Deleted a)
 then_some (net.Updated a b columns) (net.Inserted new) = None
 then_some (net.Deleted a) n = None

@@ -1,7 +1,8 @@
--- The type of a value, and how values compare.
+-- The type of a value, how values compare, and whether values and rows are equal.
+use Rattle.std.specs.Prelude.{Bool, true, false, ◌&&◌, List, [], ◌∷◌}
 use Rattle.std.specs.declared.cmp.Ordering.{Ordering}
 use Rattle.std.specs.declared.cmp.Ordering.TheVariants as order
-use Rattle.std.specs.Ordering.{nat_cmp, int_cmp}
+use Rattle.std.specs.Ordering.{nat_cmp, int_cmp, is_eq}
 use Rattle.std.specs.Cmp.Lexicographic.{slice_cmp}
 use Rattle.sb_value.specs.declared.value.Value.{Value}
 use Rattle.sb_value.specs.declared.value.Value.TheVariants as value
@@ -18,3 +19,12 @@ value_cmp (value.Int a) (value.Int b) = int_cmp a b
 value_cmp (value.Text a) (value.Text b) = slice_cmp nat_cmp a b
 value_cmp (value.Int a) (value.Text b) = order.Less
 value_cmp (value.Text a) (value.Int b) = order.Greater
+
+abbrev pub same_value : Value → Value → Bool
+same_value a b = is_eq (value_cmp a b)
+
+abbrev pub same_row : List Value → List Value → Bool
+same_row [] [] = true
+same_row [] (b ∷ ys) = false
+same_row (a ∷ xs) [] = false
+same_row (a ∷ xs) (b ∷ ys) = same_value a b && same_row xs ys

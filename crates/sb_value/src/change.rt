@@ -1,8 +1,11 @@
 //! Changes of tuples.
+ghost use Rattle.std.specs.Prelude.{◌≡◌, [], unwrap_or};
+ghost use Rattle.sb_value.specs.Table.{old_row, new_row};
 
 use crate::columns::Columns;
 use crate::id::{SessionId, TableId, TenantId};
 use crate::row::Row;
+use crate::value::Value;
 
 /// What a change does.
 #[derive(Clone, Copy, Debug, PartialEq, Eq)]
@@ -26,4 +29,30 @@ pub struct Change {
     pub new: Option<Row>,
     /// The columns that an update's `set` list names.
     pub columns: Columns,
+}
+
+/// The row's values. A row that isn't there has none.
+fn values_of(row: &Option<Row>) -> &[Value]
+    ensures { result.now ≡ unwrap_or row.now [] }
+{
+    match row {
+        Some(row) => row.values(),
+        None => &[],
+    }
+}
+
+impl Change {
+    /// The values that the change takes away.
+    pub fn old_row(&self) -> &[Value]
+        ensures { result.now ≡ old_row self.now }
+    {
+        values_of(&self.old)
+    }
+
+    /// The values that the change gives.
+    pub fn new_row(&self) -> &[Value]
+        ensures { result.now ≡ new_row self.now }
+    {
+        values_of(&self.new)
+    }
 }

@@ -1,5 +1,5 @@
 //! Laws of the definitions, each the contract of a function that does nothing.
-ghost use Rattle.sb_value.specs.Laws.{LiteralsGiveValuesBack, NetEffectsCompose, ProperListsHaveLives, LastChangeTriggers, PrecedesIsClosure, SetsTakePlaces};
+ghost use Rattle.sb_value.specs.Laws.{LiteralsGiveValuesBack, NetEffectsCompose, UntouchedTuplesStay, ProperListsHaveLives, LastChangeTriggers, NewChangesTrigger, PrecedesIsClosure, SetsTakePlaces};
 
 /// The text of a value is a literal, and gives the value back.
 pub fn literals_give_values_back()
@@ -11,6 +11,11 @@ pub fn net_effects_compose()
     ensures { NetEffectsCompose }
 {}
 
+/// The net effect on a tuple stays where later changes leave the tuple alone.
+pub fn untouched_tuples_stay()
+    ensures { UntouchedTuplesStay }
+{}
+
 /// In a list of changes that can be made, the changes of a tuple are its insert, updates and its delete.
 pub fn proper_lists_have_lives()
     ensures { ProperListsHaveLives }
@@ -19,6 +24,12 @@ pub fn proper_lists_have_lives()
 /// A rule that a list of changes doesn't trigger, and the list with one more change does, names that change.
 pub fn last_change_triggers()
     ensures { LastChangeTriggers }
+{}
+
+/// A rule that some changes don't trigger is triggered with those behind them only by a change that is one of its operations,
+/// of a tuple whose net effect is one.
+pub fn new_changes_trigger()
+    ensures { NewChangesTrigger }
 {}
 
 /// The test for precedence is the transitive closure of the pairs.

@@ -3,6 +3,7 @@
 
 mod change;
 mod columns;
+mod difference;
 mod id;
 mod laws;
 mod literal;
@@ -17,12 +18,13 @@ mod value;
 
 pub use change::{Change, Kind};
 pub use columns::Columns;
+pub use difference::{differing, same_row};
 pub use id::{
     RULE_LIMIT, RuleId, SESSION_LIMIT, SessionId, TABLE_LIMIT, TENANT_LIMIT, TableId, TenantId, Who,
 };
 pub use laws::{
-    last_change_triggers, literals_give_values_back, net_effects_compose, precedes_is_closure,
-    proper_lists_have_lives, sets_take_places,
+    last_change_triggers, literals_give_values_back, net_effects_compose, new_changes_trigger,
+    precedes_is_closure, proper_lists_have_lives, sets_take_places, untouched_tuples_stay,
 };
 pub use literal::{LiteralError, print_value};
 pub use lock::Mode;

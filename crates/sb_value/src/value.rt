@@ -66,7 +66,7 @@ pub enum Value {
 }
 
 impl Value {
-    ghost use Rattle.sb_value.specs.Values.{type_of, value_cmp};
+    ghost use Rattle.sb_value.specs.Values.{type_of, same_value, value_cmp};
 
     /// A value equal to this one.
     pub fn clone(&self) -> Result<Value, AllocError>
@@ -88,6 +88,13 @@ impl Value {
             (Value::Int(_), Value::Text(_)) => Ordering::Less,
             (Value::Text(_), Value::Int(_)) => Ordering::Greater,
         }
+    }
+
+    /// Whether it equals another value.
+    pub fn is_same(&self, other: &Value) -> bool
+        ensures { result ≡ same_value self.now other.now }
+    {
+        self.compare(other).is_eq()
     }
 
     /// The type of the columns that hold it.
