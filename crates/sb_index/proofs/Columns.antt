@@ -1,9 +1,16 @@
 -- One more column of a table.
 use Rattle.std.proofs.Math.Bool.{or_assoc}
-use Rattle.std.proofs.Common.{◌≡◌, ℕ, zero, suc, ◌+◌, ◌<◌, Bool, true, false, ◌&&◌, ◌||◌, nat_eq, nat_lt, List, [], ◌∷◌, ◌++◌, map, drop, get_or, refl, sym, ap, ◌∙◌, arith, add-one, replicate}
+use Rattle.std.proofs.Common.{◌≡◌, ℕ, zero, suc, ◌+◌, ◌<◌, Bool, true, false, ◌&&◌, ◌||◌, cond, Some, None, nat_eq, nat_lt, List, [], ◌∷◌, ◌++◌, map, drop, get_or, refl, sym, ap, ◌∙◌, arith, add-one, replicate}
 use Rattle.sb_value.specs.Flags.{flag_at, share_place}
 use Rattle.sb_index.specs.Operation.{places}
 use Rattle.sb_value.specs.Laws.{kind_triggers}
+use Rattle.sb_value.specs.Columns.{differing}
+use Rattle.sb_value.specs.NetEffect.{update_between, is_operation, has_update}
+use Rattle.sb_value.specs.Table.{old_row, new_row}
+use Rattle.sb_value.specs.Values.{same_row}
+use Rattle.sb_value.specs.declared.net.Net.TheVariants as net
+use Rattle.sb_value.specs.declared.net.Triggers.{Triggers}
+use Rattle.sb_value.specs.declared.value.Value.{Value}
 use Rattle.sb_value.specs.declared.change.Change.{Change}
 use Rattle.sb_value.specs.declared.change.Kind.{Kind}
 use Rattle.sb_value.specs.declared.change.Kind.TheVariants.{Inserted, Deleted, Updated}
@@ -51,11 +58,22 @@ shares_none zero ys = refl
 shares_none (suc n) [] = refl
 shares_none (suc n) (y ∷ ys) = shares_none n ys
 
+-- an update is an operation where the rows differ, and it counts
+pub operation-differ : (triggers : Triggers) (old new : List Value) → same_row old new ≡ false → is_operation triggers (update_between old new) ≡ has_update triggers (differing old new)
+operation-differ triggers old new e = ap (λ (b : Bool). is_operation triggers (cond b None (Some (net.Updated old new (differing old new))))) e
+
+pub operation-same : (triggers : Triggers) (old new : List Value) → same_row old new ≡ true → is_operation triggers (update_between old new) ≡ false
+operation-same triggers old new e = ap (λ (b : Bool). is_operation triggers (cond b None (Some (net.Updated old new (differing old new))))) e
+
 -- a table with no rules has no candidates
 pub none_triggered : (kind : Kind) (c : Change) (r : ℕ) → kind_triggers kind (triggers_in no_table r) c ≡ false
 none_triggered Inserted c r = refl
 none_triggered Deleted c r = refl
-none_triggered Updated c r = shares_none 8 c.columns
+none_triggered Updated c r = by (same_row (old_row c) (new_row c)) refl
+  where
+    by : (b : Bool) → same_row (old_row c) (new_row c) ≡ b → is_operation (triggers_in no_table r) (update_between (old_row c) (new_row c)) ≡ false
+    by true e = operation-same (triggers_in no_table r) (old_row c) (new_row c) e
+    by false e = operation-differ (triggers_in no_table r) (old_row c) (new_row c) e ∙ shares_none 8 (differing (old_row c) (new_row c))
 
 -- ---- places past the end
 

@@ -2,10 +2,11 @@
 ghost use Rattle.std.specs.Prelude.{◌≡◌, ℕ, Bool, List, [], false, not, ◌&&◌, ◌||◌, ◌==◌, nat_lt, length, map, slice_index_or};
 ghost use Rattle.sb_value.specs.Flags.{flag_at, share_place};
 ghost use Rattle.sb_value.specs.Laws.{kind_triggers};
+ghost use Rattle.sb_value.specs.NetEffect.{is_operation, update_between};
 ghost use Rattle.sb_index.specs.Operation.{Operation, names, places};
 ghost use Rattle.sb_index.specs.Stands.{in_table, triggers_in, column_flags};
 
-use sb_value::{Change, Columns, Kind, RuleId, RuleSet, Triggers};
+use sb_value::{Change, Columns, Kind, RuleId, RuleSet, Triggers, Value, differing, same_row};
 use std::marker::Model;
 
 /// How many columns a table has at most.
@@ -70,8 +71,19 @@ impl TableRules {
         match change.kind {
             Kind::Inserted => self.inserted,
             Kind::Deleted => self.deleted,
-            Kind::Updated => self.updated.union(named(&self.columns, change.columns)),
+            Kind::Updated => self.updating(change.old_row(), change.new_row()),
         }
+    }
+
+    /// The rules that an update from one row to another may trigger.
+    fn updating(&self, old: &[Value], new: &[Value]) -> RuleSet
+        ensures { (r : ℕ) → flag_at result r ≡ is_operation (triggers_in self.now r) (update_between old.now new.now) }
+    {
+        if same_row(old, new) {
+            return RuleSet::empty();
+        }
+        self.updated
+            .union(named(&self.columns, differing(old, new)))
     }
 }
 
