@@ -160,10 +160,10 @@ pub record Walking {X : Type 0} (list : Which) (cs : List (Option (Node X))) (he
 
 module _ {X : Type 0} (list : Which) where
   pub relinked_is : (cs ds es : List (Option (Node X))) (p : ℕ) (n : Node X) (to : Option ℕ) (ls : LinksOf) → Some n ≡ get_or cs p None → ds ≡ set cs p None → ls ≡ with_link list to n.links
-      → es ≡ set ds p (Some (record { time = n.time; links = ls; item = n.item })) → (es ≡ relinked list p to cs) × (link list es p ≡ to)
+      → es ≡ set ds p (Some (record { time = n.time; links = ls; back = n.back; item = n.item })) → (es ≡ relinked list p to cs) × (link list es p ≡ to)
   relinked_is cs ds es p n to ls e f k m =
-      let made : Option (Node X) = Some (record { time = n.time; links = with_link list to n.links; item = n.item }) in
-      let is : es ≡ relinked list p to cs = m ∙ (λ j. set (f j) p (Some (record { time = n.time; links = k j; item = n.item }))) ∙ set_again cs p None made ∙ ap (λ c. set cs p (relink list to c)) e in
+      let made : Option (Node X) = Some (record { time = n.time; links = with_link list to n.links; back = n.back; item = n.item }) in
+      let is : es ≡ relinked list p to cs = m ∙ (λ j. set (f j) p (Some (record { time = n.time; links = k j; back = n.back; item = n.item }))) ∙ set_again cs p None made ∙ ap (λ c. set cs p (relink list to c)) e in
       (is, ap (λ l. link list l p) is ∙ ap (link_in list) (at_same list cs p to (node_within cs p (n, sym e)) ∙ ap (relink list to) (sym e)) ∙ link_same list to n.links)
 
   module _ (cs : List (Option (Node X))) (head : Option ℕ) (place : ℕ) where

@@ -12,3 +12,4 @@ pub mod Empty
 pub mod Chains
 pub mod Logs
 pub mod Orders
+mod Backs

@@ -6,6 +6,7 @@ use Rattle.sb_value.specs.declared.change.Change.{Change}
 use Rattle.sb_rawlog.specs.declared.node.Which.{Which}
 use Rattle.sb_rawlog.specs.declared.node.Which.TheVariants.{Op, Tuple, Session}
 use Rattle.sb_rawlog.specs.declared.node.Node.{Node}
+use Rattle.sb_rawlog.specs.declared.node.Back.{Back}
 use Rattle.sb_rawlog.specs.Links.{Member, taken_out, link_of}
 use Rattle.sb_rawlog.specs.Logs.{entries, entry_in, shown, IsLog}
 use Rattle.sb_rawlog.proofs.Logs.{added}
@@ -75,13 +76,13 @@ takes_newest cs ds ops tuples sessions ops' tuples' sessions' order clock room r
 
 -- ---- a change is added
 
-module _ (cs : List (Option (Node Change))) (ops tuples sessions : List (Option ℕ)) (order : List ℕ) (clock room room' place : ℕ) (change : Change) (holds : HoldsLog cs ops tuples sessions order clock)
+module _ (cs : List (Option (Node Change))) (ops tuples sessions : List (Option ℕ)) (order : List ℕ) (clock room room' place : ℕ) (back : Back) (change : Change) (holds : HoldsLog cs ops tuples sessions order clock)
     (free : get_or cs place None ≡ None) (within : place < length cs) where
   abbrev in_list : Which → Change → ℕ
   in_list = bucket (length ops)
 
   abbrev node : Node Change
-  node = node_for ops tuples sessions clock change
+  node = node_for ops tuples sessions clock back change
 
   abbrev after : List (Option (Node Change))
   after = set cs place (Some node)

@@ -54,7 +54,7 @@ module _ {X : Type 0} where
 
   abbrev pub relink : Which → Option ℕ → Option (Node X) → Option (Node X)
   relink list to None = None
-  relink list to (Some n) = Some (record { time = n.time; links = with_link list to n.links; item = n.item })
+  relink list to (Some n) = Some (record { time = n.time; links = with_link list to n.links; back = n.back; item = n.item })
 
   -- the places, where that one's link goes elsewhere
   abbrev pub relinked : Which → ℕ → Option ℕ → List (Option (Node X)) → List (Option (Node X))

@@ -4,15 +4,17 @@ use Rattle.std.specs.List.{filter}
 use Rattle.sb_value.specs.declared.change.Change.{Change}
 use Rattle.sb_rawlog.specs.declared.node.Which.TheVariants.{Op, Tuple, Session}
 use Rattle.sb_rawlog.specs.declared.node.Node.{Node}
+use Rattle.sb_rawlog.specs.declared.node.Back.{Back}
 use Rattle.sb_rawlog.specs.Links.{Member, taken_out}
 use Rattle.sb_rawlog.specs.Logs.{entry_in, entries, IsLog}
 use Rattle.sb_rawlog.specs.Buckets.{bucket, by_which}
 
 -- the node of a change that comes in front of its lists
-abbrev pub node_for : List (Option ℕ) → List (Option ℕ) → List (Option ℕ) → ℕ → Change → Node Change
-node_for ops tuples sessions time c = record {
+abbrev pub node_for : List (Option ℕ) → List (Option ℕ) → List (Option ℕ) → ℕ → Back → Change → Node Change
+node_for ops tuples sessions time back c = record {
   time = time;
   links = record { op = get_or ops (bucket (length ops) Op c) None; tuple = get_or tuples (bucket (length ops) Tuple c) None; session = get_or sessions (bucket (length ops) Session c) None };
+  back = back;
   item = c;
 }
 

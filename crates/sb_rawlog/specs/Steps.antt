@@ -1,5 +1,5 @@
 -- What a step of a walk answers.
-use Rattle.std.specs.Prelude.{◌≡◌, ℕ, Bool, List, [], ◌∷◌, Option, Some, None}
+use Rattle.std.specs.Prelude.{◌≡◌, ℕ, Bool, List, [], ◌∷◌, ◌++◌, Option, Some, None}
 use Rattle.std.specs.Borrow.{Bor}
 use Rattle.sb_value.specs.declared.id.Who.{Who}
 use Rattle.sb_value.specs.declared.change.Kind.{Kind}
@@ -96,3 +96,18 @@ tuple_todo rs (Some s) = todo_from (is_tuple s.who s.table s.tuple) rs s.since s
 abbrev pub Gives : List Record → Option (ℕ × Bor Change) → List Record → Type 0
 Gives todo None rest = (todo ≡ []) × (rest ≡ [])
 Gives todo (Some item) rest = todo ≡ (item.0, item.1.now) ∷ rest
+
+-- the spot of an older change of the walk that the spot is on: what is left at it comes last of what is left at the spot
+pub record TupleOlder (ok : Spot → Type 0) (rs : List Record) (at s : Spot) : Type 0 where
+  pub stands : ok s
+  pub who_is : s.who ≡ at.who
+  pub table_is : s.table ≡ at.table
+  pub tuple_is : s.tuple ≡ at.tuple
+  pub since_is : s.since ≡ at.since
+  pub first : Record
+  pub passed : List Record
+  pub left : tuple_todo rs (Some at) ≡ first ∷ (passed ++ tuple_todo rs (Some s))
+
+abbrev pub TupleBack : (Spot → Type 0) → List Record → Spot → Option Spot → Type 0
+TupleBack ok rs at None = Unit {0}
+TupleBack ok rs at (Some s) = TupleOlder ok rs at s

@@ -2,6 +2,7 @@
 //! a log kept as a plain list, and one hashed over the places of an arena.
 #![tactic(auto)]
 
+mod back;
 mod bucket;
 mod find;
 mod key;

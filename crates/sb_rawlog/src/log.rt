@@ -3,8 +3,8 @@ ghost use Rattle.std.specs.Prelude.{◌≡◌, ℕ, ◌+◌, ◌-◌, ◌<◌, �
 ghost use Rattle.sb_rawlog.specs.Changes.{author, is_op, is_tuple};
 ghost use Rattle.sb_rawlog.specs.declared.spot.Spot.{Spot};
 ghost use Rattle.sb_rawlog.specs.Records.{Record, Rising, walk, others, change_at};
-ghost use Rattle.sb_rawlog.specs.Sessions.{changes_by, MarksCut, OthersStay, TakesLast};
-ghost use Rattle.sb_rawlog.specs.Steps.{OpFirst, OpNext, TupleFirst, TupleNext, SpotsStay, IsNewest, TakesNewest, op_todo, tuple_todo};
+ghost use Rattle.sb_rawlog.specs.Sessions.{changes_by, MarksCut, TimesCut, OthersStay, TakesLast};
+ghost use Rattle.sb_rawlog.specs.Steps.{OpFirst, OpNext, TupleFirst, TupleNext, TupleBack, SpotsStay, IsNewest, TakesNewest, op_todo, tuple_todo};
 
 use crate::spot::Spot;
 use crate::walks::{ByOp, ByTuple};
@@ -54,7 +54,8 @@ pub trait ChangeLog {
     fn now(&self) -> u64
         ensures clock { result ≡ clock self.now }
         ensures rising { Rising 0 (records self.now) result }
-        ensures marks { MarksCut (records self.now) };
+        ensures marks { MarksCut (records self.now) }
+        ensures times { TimesCut (records self.now) };
 
     /// The number of changes.
     fn len(&self) -> usize
@@ -77,6 +78,11 @@ pub trait ChangeLog {
     fn tuple_next(&self, spot: Spot) -> Option<Spot>
         requires { stands self.now spot }
         ensures { TupleNext (stands self.now) (records self.now) spot result };
+
+    /// An older one of the same walk, past several others if the log knows such a one.
+    fn tuple_back(&self, spot: Spot) -> Option<Spot>
+        requires { stands self.now spot }
+        ensures { TupleBack (stands self.now) (records self.now) spot result };
 
     /// The change at the spot, and its time.
     fn get(&self, spot: Spot) -> (u64, &Change)

@@ -7,7 +7,7 @@ ghost use Rattle.sb_rawlog.specs.Places.{node_for, Claims, HoldsLog, IsInLog, Ta
 
 use crate::bucket::{op_bucket, session_bucket, tuple_bucket};
 use crate::lists::unlink;
-use crate::node::{Links, Node, Which};
+use crate::node::{Back, Links, Node, Which};
 use sb_arena::Arena;
 use sb_value::Change;
 use std::alloc::AllocError;
@@ -37,6 +37,7 @@ pub(crate) fn enter(
     sessions: &mut Vec<Option<usize>>,
     place: usize,
     time: u64,
+    back: Back,
     change: Change,
 )
     requires ops { 0 < length ops.old.items }
@@ -44,7 +45,7 @@ pub(crate) fn enter(
     requires sessions { length sessions.old.items ≡ 2048 }
     requires within { place < length arena.old }
     requires free { get_or arena.old place None ≡ None }
-    ensures arena { arena.new ≡ slice_set arena.old place (Some (node_for ops.old.items tuples.old.items sessions.old.items time change)) }
+    ensures arena { arena.new ≡ slice_set arena.old place (Some (node_for ops.old.items tuples.old.items sessions.old.items time back change)) }
     ensures ops { ops.new.items ≡ slice_set ops.old.items (bucket (length ops.old.items) Op change) (Some place) }
     ensures tuples { tuples.new.items ≡ slice_set tuples.old.items (bucket (length ops.old.items) Tuple change) (Some place) }
     ensures sessions { sessions.new.items ≡ slice_set sessions.old.items (bucket (length ops.old.items) Session change) (Some place) }
@@ -61,6 +62,7 @@ pub(crate) fn enter(
     let node = Node {
         time,
         links,
+        back,
         item: change,
     };
     arena.put(place, node);

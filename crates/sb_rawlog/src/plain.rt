@@ -144,6 +144,10 @@ impl ChangeLog for PlainLog {
         })
     }
 
+    fn tuple_back(&self, _spot: Spot) -> Option<Spot> {
+        None
+    }
+
     fn get(&self, spot: Spot) -> (u64, &Change) {
         let (time, change) = &self.items[index_of(&self.items, spot.place, spot.time)];
         (*time, change)

@@ -5,13 +5,14 @@ ghost use Rattle.sb_rawlog.specs.Sessions.{OthersStay, TakesLast};
 ghost use Rattle.sb_rawlog.specs.Steps.{SpotsStay, TakesNewest};
 ghost use Rattle.sb_rawlog.specs.Raw.{records_of, Stands};
 
+use crate::back::{back_for, node_at};
 use crate::bucket::SESSIONS;
 use crate::key::Key;
 use crate::lists::link;
 use crate::log::ChangeLog;
 use crate::node::{Node, Which};
 use crate::places::{claim, enter, make_places, take_out};
-use crate::search::search;
+use crate::search::{search, spot_for};
 use crate::spot::Spot;
 use sb_arena::Arena;
 use sb_value::{Change, Kind, TableId, Who};
@@ -113,6 +114,13 @@ impl ChangeLog for RawLog {
     }
 
     fn append(&mut self, change: Change) {
+        let back = back_for(
+            &self.arena,
+            &self.ops,
+            &self.tuples,
+            &self.sessions,
+            &change,
+        );
         let place = claim(&mut self.free, &mut self.used);
         enter(
             &mut self.arena,
@@ -121,6 +129,7 @@ impl ChangeLog for RawLog {
             &mut self.sessions,
             place,
             self.clock,
+            back,
             change,
         );
         self.clock += 1;
@@ -157,6 +166,23 @@ impl ChangeLog for RawLog {
         let key = Key::Tuple(spot.who, spot.table, spot.tuple);
         let behind = link(&self.arena, Which::Tuple, spot.place);
         search(&self.arena, behind, spot.since, &key)
+    }
+
+    fn tuple_back(&self, spot: Spot) -> Option<Spot> {
+        let Some(node) = node_at(&self.arena, spot.place) else {
+            return None;
+        };
+        let Some(place) = node.back.place else {
+            return None;
+        };
+        let Some(older) = node_at(&self.arena, place) else {
+            return None;
+        };
+        let key = Key::Tuple(spot.who, spot.table, spot.tuple);
+        if older.time < spot.since || older.time >= spot.time || !key.fits(&older.item) {
+            return None;
+        }
+        Some(spot_for(place, spot.since, older))
     }
 
     fn get(&self, spot: Spot) -> (u64, &Change) {

@@ -10,7 +10,7 @@ use sb_arena::Arena;
 use sb_value::{Change, Who};
 
 /// The spot of the change in the place.
-fn spot_for(place: usize, since: u64, node: &Node<Change>) -> Spot
+pub(crate) fn spot_for(place: usize, since: u64, node: &Node<Change>) -> Spot
     ensures { result ≡ spot_for place since node.now }
 {
     let change = &node.item;
