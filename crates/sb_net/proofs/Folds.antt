@@ -1,14 +1,15 @@
--- A walk over the changes of a tuple, from the newest back to the oldest.
-use Rattle.std.proofs.Common.{◌≡◌, ℕ, Bool, true, false, cond, ◌&&◌, nat_le, List, [], ◌∷◌, ◌++◌, reverse, refl, sym, ap, ◌∙◌, append_assoc}
+-- The first and the last of a tuple's changes, from the ends of a walk over them.
+use Rattle.std.proofs.Common.{◌≡◌, ℕ, true, false, cond, ◌&&◌, nat_le, List, [], ◌∷◌, ◌++◌, reverse, length, length-append, ◌<◌, Option, Some, None, MatchOption, refl, sym, ap, ◌∙◌, subst, arith}
 use Rattle.std.proofs.lemmas.List.{reverse-append, reverse-reverse, map-append}
-use Rattle.sb_value.specs.Flags.{union}
-use Rattle.sb_value.specs.NetEffect.{is_of, history, last_of, all_columns}
+use Rattle.sb_value.specs.NetEffect.{is_of, history, last_of}
 use Rattle.sb_value.specs.declared.id.Who.{Who}
 use Rattle.sb_value.specs.declared.change.Change.{Change}
 use Rattle.sb_rawlog.specs.Changes.{is_by, is_tuple}
-use Rattle.sb_rawlog.specs.Records.{Record, selected, walk}
+use Rattle.sb_rawlog.specs.Records.{Record, selected, walk, before, change_at}
+use Rattle.sb_rawlog.specs.Steps.{todo_from, tuple_todo, TupleSpot, TupleNext, TupleOlder}
+use Rattle.sb_rawlog.specs.declared.spot.Spot.{Spot}
 use Rattle.sb_rawlog.specs.Sessions.{changes, changes_since}
-use Rattle.sb_net.specs.Spans.{IsSpan}
+use Rattle.sb_net.specs.Spans.{IsSpan, EndsAt}
 
 -- a tuple's changes are those of the session that are of the tuple
 pub history-since : (who : Who) (table tuple since : ℕ) (rs : List Record) → history (changes_since who since rs) table tuple ≡ changes (selected (is_tuple who table tuple) since rs)
@@ -34,45 +35,51 @@ history-walk : (who : Who) (table tuple since : ℕ) (rs : List Record) → hist
 unfolding walk
 history-walk who table tuple since rs = history-since who table tuple since rs ∙ ap changes (sym (reverse-reverse (selected (is_tuple who table tuple) since rs)))
 
-union-nil : (xs : List Bool) → union xs [] ≡ xs
-union-nil [] = refl
-union-nil (x ∷ xs) = refl
+-- a walk with nothing to give
+pub none_since : (who : Who) (table tuple since : ℕ) (rs : List Record) → walk (is_tuple who table tuple) since rs ≡ [] → history (changes_since who since rs) table tuple ≡ []
+none_since who table tuple since rs e = history-walk who table tuple since rs ∙ ap (λ l. changes (reverse l)) e
 
--- what a walk has seen of the changes, where these are left
-pub record Seen (all : List Change) (todo : List Record) (first last : Change) (columns : List Bool) : Type 0 where
-  pub newer : List Change
-  pub are : all ≡ changes (reverse todo) ++ first ∷ newer
-  pub last_is : last ≡ last_of first newer
-  pub columns_are : columns ≡ all_columns (first ∷ newer)
+last_of-end : (c : Change) (cs : List Change) (d : Change) → last_of c (cs ++ d ∷ []) ≡ d
+last_of-end c [] d = refl
+last_of-end c (b ∷ cs) d = last_of-end b cs d
 
-cut_first : (todo rest : List Record) (t : ℕ) (c : Change) → todo ≡ (t, c) ∷ rest → changes (reverse todo) ≡ changes (reverse rest) ++ c ∷ []
-cut_first todo rest t c e =
-    ap (λ l. changes (reverse l)) e ∙ ap changes (reverse-append ((t, c) ∷ []) rest) ∙ map-append (λ (r : Record). r.1) (reverse rest) ((t, c) ∷ [])
-
-seen_one : (all : List Change) (todo rest : List Record) (t : ℕ) (c : Change) → all ≡ changes (reverse todo) → todo ≡ (t, c) ∷ rest → Seen all rest c c c.columns
-seen_one all todo rest t c is e = record { newer = []; are = is ∙ cut_first todo rest t c e; last_is = refl; columns_are = sym (union-nil c.columns) }
-
--- the walk has given the newest change
-pub begun : (who : Who) (table tuple since : ℕ) (rs todo rest : List Record) (t : ℕ) (c : Change) → todo ≡ walk (is_tuple who table tuple) since rs → todo ≡ (t, c) ∷ rest
-    → Seen (history (changes_since who since rs) table tuple) rest c c c.columns
-begun who table tuple since rs todo rest t c is e =
-    seen_one (history (changes_since who since rs) table tuple) todo rest t c (history-walk who table tuple since rs ∙ ap (λ l. changes (reverse l)) (sym is)) e
-
--- the walk has nothing to give
-pub none_since : (who : Who) (table tuple since : ℕ) (rs todo : List Record) → todo ≡ walk (is_tuple who table tuple) since rs → todo ≡ [] → history (changes_since who since rs) table tuple ≡ []
-none_since who table tuple since rs todo is e = history-walk who table tuple since rs ∙ ap (λ l. changes (reverse l)) (sym is ∙ e)
-
-pub seen_more : (all : List Change) (todo rest : List Record) (t : ℕ) (c first last : Change) (columns : List Bool) → todo ≡ (t, c) ∷ rest → Seen all todo first last columns
-    → Seen all rest c last (union c.columns columns)
-seen_more all todo rest t c first last columns e s =
+-- what was passed ends with the oldest change, and begins with the newest
+ends_of : (passed tail : List Record) (s t : ℕ) (first last : Change) → passed ++ (t, first) ∷ [] ≡ (s, last) ∷ tail → IsSpan first last (changes (reverse (passed ++ (t, first) ∷ [])))
+ends_of [] tail s t first last e = let head : (t, first) ≡ (s, last) = cc in let same : first ≡ last = ap (λ (r : Record). r.1) head in record { newer = []; are = refl; last_is = sym same }
+ends_of (q ∷ qs) tail s t first last e =
+    let head : q ≡ (s, last) = cc in
+    let same : q.1 ≡ last = ap (λ (r : Record). r.1) head in
     record {
-      newer = first ∷ s.newer;
-      are = s.are ∙ ap (λ l. l ++ first ∷ s.newer) (cut_first todo rest t c e) ∙ append_assoc (changes (reverse rest)) (c ∷ []) (first ∷ s.newer);
-      last_is = s.last_is;
-      columns_are = ap (union c.columns) s.columns_are;
+      newer = changes (reverse qs) ++ q.1 ∷ [];
+      are = ap changes (reverse-append (q ∷ qs) ((t, first) ∷ []) ∙ ap (λ l. (t, first) ∷ l) (reverse-append (q ∷ []) qs)) ∙ ap (λ l. first ∷ l) (map-append (λ (r : Record). r.1) (reverse qs) (q ∷ []));
+      last_is = sym same ∙ sym (last_of-end first (changes (reverse qs)) q.1);
     }
 
-pub seen_all : (all : List Change) (todo : List Record) (first last : Change) (columns : List Bool) → todo ≡ [] → Seen all todo first last columns → IsSpan first last columns all
-seen_all all todo first last columns e s =
-    let are : all ≡ first ∷ s.newer = s.are ∙ ap (λ l. changes (reverse l) ++ first ∷ s.newer) e in
-    record { newer = s.newer; are = are; last_is = s.last_is; columns_are = s.columns_are ∙ ap all_columns (sym are) }
+pub span_is : (who : Who) (table tuple since : ℕ) (rs passed tail : List Record) (s t : ℕ) (first last : Change) → walk (is_tuple who table tuple) since rs ≡ passed ++ (t, first) ∷ []
+    → walk (is_tuple who table tuple) since rs ≡ (s, last) ∷ tail → IsSpan first last (history (changes_since who since rs) table tuple)
+span_is who table tuple since rs passed tail s t first last ends begins =
+    subst (IsSpan first last) (ap (λ l. changes (reverse l)) (sym ends) ∙ sym (history-walk who table tuple since rs)) (ends_of passed tail s t first last (sym ends ∙ begins))
+
+-- ---- the steps of a walk
+
+pub fewer : (r : Record) (passed rest all : List Record) → all ≡ r ∷ (passed ++ rest) → length rest < length all
+fewer r passed rest all e = let long = ap length e in let cut = length-append passed rest in omega arith
+
+-- what a walk has left at its first spot is all of it
+pub todo_is : (ok : Spot → Type 0) (rs : List Record) (who : Who) (table tuple since : ℕ) (todo : List Record) (s : Spot) → TupleSpot ok rs who table tuple since todo s → tuple_todo rs (Some s) ≡ todo
+todo_is ok rs who table tuple since todo s h = (λ j. todo_from (is_tuple (h.who_is j) (h.table_is j) (h.tuple_is j)) rs s.since s.time (h.comes.here j)) ∙ sym h.comes.first
+
+-- the next older change of a spot's walk, or its end
+pub next_is : (ok : Spot → Type 0) (rs : List Record) (at : Spot) (c : Change) → change_at at.time rs ≡ Some c → (o : Option Spot) → TupleNext ok rs at o → MatchOption o (EndsAt rs at) (TupleOlder ok rs at)
+next_is ok rs at c e None h = record { change = c; here = e; left = ap (todo_from (is_tuple at.who at.table at.tuple) rs at.since at.time) e ∙ ap (λ l. (at.time, c) ∷ l) h }
+next_is ok rs at c e (Some s) h = record {
+  stands = h.stands;
+  who_is = h.who_is;
+  table_is = h.table_is;
+  tuple_is = h.tuple_is;
+  since_is = h.since_is;
+  first = (at.time, c);
+  passed = [];
+  left = ap (todo_from (is_tuple at.who at.table at.tuple) rs at.since at.time) e
+      ∙ ap (λ l. (at.time, c) ∷ l) (sym (todo_is ok rs at.who at.table at.tuple at.since (walk (is_tuple at.who at.table at.tuple) at.since (before at.time rs)) s h));
+}

@@ -1,5 +1,5 @@
 -- The numbers that the walks of the three kinds meet, sorted and each once, are the tuples of the table.
-use Rattle.std.proofs.Common.{◌≡◌, ℕ, suc, ◌+◌, ◌<◌, ◌≤◌, ◌≢◌, Bool, true, false, ◌||◌, ◌&&◌, ◌==◌, cond, nat_le, nat_lt, List, [], ◌∷◌, ◌++◌, map, refl, sym, ap, ◌∙◌, subst, eqb-true, eq-eqb, ne_eqb, arith, eqb}
+use Rattle.std.proofs.Common.{◌≡◌, ℕ, suc, ◌+◌, ◌<◌, ◌≤◌, ◌≢◌, Bool, true, false, ◌||◌, ◌&&◌, ◌==◌, cond, nat_lt, List, [], ◌∷◌, ◌++◌, map, refl, sym, ap, ◌∙◌, subst, eqb-true, eq-eqb, ne_eqb, arith, eqb}
 use native.Mathlib.Numerals.{unary_clauses}
 use Rattle.std.specs.List.{list_any, dedup, dedup_from}
 use Rattle.std.specs.List.Sorted.{IsPermutation, IsSorted, IsStrictlyIncreasing}
@@ -13,10 +13,10 @@ use Rattle.sb_value.specs.declared.id.Who.{Who}
 use Rattle.sb_value.specs.declared.change.Kind.{Kind}
 use Rattle.sb_value.specs.declared.change.Kind.TheVariants.{Inserted, Deleted, Updated}
 use Rattle.sb_value.specs.declared.change.Change.{Change}
-use Rattle.sb_rawlog.specs.Changes.{is_by, same_kind, is_op}
+use Rattle.sb_rawlog.specs.Changes.{is_by, is_op}
 use Rattle.sb_rawlog.specs.Records.{Record, selected, walk}
 use Rattle.sb_rawlog.specs.Sessions.{changes_since}
-use Rattle.sb_net.proofs.Hits.{any-tuples_of, any-reverse, list_any-map, or_twice}
+use Rattle.sb_net.proofs.Hits.{any-tuples_of, any-reverse, list_any-map, or_twice, by_kinds}
 
 -- ---- lists of rising numbers
 
@@ -113,49 +113,9 @@ module _ (p : ℕ → Bool) where
   any-dedup [] = refl
   any-dedup (x ∷ xs) = any-dedup_from x xs
 
-three : (q a b c : Bool) → ((((q || a) || b) || c) ≡ (q || ((a || b) || c))) × (((a || (q || b)) || c) ≡ (q || ((a || b) || c))) × (((a || b) || (q || c)) ≡ (q || ((a || b) || c)))
-three true true b c = (refl, refl, refl)
-three true false true c = (refl, refl, refl)
-three true false false c = (refl, refl, refl)
-three false a b c = (refl, refl, refl)
-
 module _ (p : ℕ → Bool) (who : Who) (table since : ℕ) where
   abbrev of : Kind → List Record → Bool
   of k rs = list_any (λ r. p r.1.tuple) (selected (is_op who table k) since rs)
-
-  abbrev met : List Record → Bool
-  met rs = list_any (λ r. (r.1.table == table) && p r.1.tuple) (selected (is_by who) since rs)
-
-  by_kinds : (rs : List Record) → ((of Inserted rs || of Deleted rs) || of Updated rs) ≡ met rs
-  unfolding selected
-  by_kinds [] = refl
-  by_kinds (r ∷ rs) =
-      let q : Record → Bool = λ s. p s.1.tuple in
-      let w : Record → Bool = λ s. (s.1.table == table) && p s.1.tuple in
-      let i : List Record = selected (is_op who table Inserted) since rs in
-      let d : List Record = selected (is_op who table Deleted) since rs in
-      let u : List Record = selected (is_op who table Updated) since rs in
-      let all : List Record = selected (is_by who) since rs in
-      let on : ((list_any q i || list_any q d) || list_any q u) ≡ list_any w all = by_kinds rs in
-      let by : Kind → Bool = λ k. (r.1.table == table) && same_kind r.1.kind k in
-      elim (nat_le since r.0) as (λ x. ((list_any q (cond (x && (is_by who r.1 && by Inserted)) (r ∷ i) i) || list_any q (cond (x && (is_by who r.1 && by Deleted)) (r ∷ d) d))
-      || list_any q (cond (x && (is_by who r.1 && by Updated)) (r ∷ u) u)) ≡ list_any w (cond (x && is_by who r.1) (r ∷ all) all)) [
-        | false ↦ on
-        | true ↦ elim (is_by who r.1) as (λ x. ((list_any q (cond (x && by Inserted) (r ∷ i) i) || list_any q (cond (x && by Deleted) (r ∷ d) d))
-            || list_any q (cond (x && by Updated) (r ∷ u) u)) ≡ list_any w (cond x (r ∷ all) all)) [
-              | false ↦ on
-              | true ↦ elim (r.1.table == table) as (λ x. ((list_any q (cond (x && same_kind r.1.kind Inserted) (r ∷ i) i) || list_any q (cond (x && same_kind r.1.kind Deleted) (r ∷ d) d))
-                  || list_any q (cond (x && same_kind r.1.kind Updated) (r ∷ u) u)) ≡ ((x && q r) || list_any w all)) [
-                    | false ↦ on
-                    | true ↦ elim r.1.kind as (λ k. ((list_any q (cond (same_kind k Inserted) (r ∷ i) i) || list_any q (cond (same_kind k Deleted) (r ∷ d) d))
-                        || list_any q (cond (same_kind k Updated) (r ∷ u) u)) ≡ (q r || list_any w all)) [
-                          | Inserted ↦ (three (q r) (list_any q i) (list_any q d) (list_any q u)).0 ∙ ap (λ b. q r || b) on
-                          | Deleted ↦ (three (q r) (list_any q i) (list_any q d) (list_any q u)).1 ∙ ap (λ b. q r || b) on
-                          | Updated ↦ (three (q r) (list_any q i) (list_any q d) (list_any q u)).2 ∙ ap (λ b. q r || b) on
-                        ]
-                  ]
-            ]
-      ]
 
   abbrev pub numbers : Kind → List Record → List ℕ
   numbers k rs = map (λ r. r.1.tuple) (walk (is_op who table k) since rs)
@@ -169,7 +129,7 @@ module _ (p : ℕ → Bool) (who : Who) (table since : ℕ) where
       list_any-append p (numbers Inserted rs ++ numbers Deleted rs) (numbers Updated rs)
       ∙ ap (λ b. b || list_any p (numbers Updated rs)) (list_any-append p (numbers Inserted rs) (numbers Deleted rs))
       ∙ (λ j. (any-numbers Inserted rs j || any-numbers Deleted rs j) || any-numbers Updated rs j)
-      ∙ by_kinds rs
+      ∙ by_kinds (λ _ r. p r.1.tuple) who table since rs
       ∙ sym (any-tuples_of p table (changes_since who since rs) ∙ list_any-map (λ (c : Change). (c.table == table) && p c.tuple) (λ (r : Record). r.1) (selected (is_by who) since rs))
 
 pub sorted_tuples : (who : Who) (table since : ℕ) (rs : List Record) (all sorted : List ℕ)

@@ -1,7 +1,7 @@
 -- Which tuples trigger a rule.
-use Rattle.std.specs.Prelude.{ℕ, Bool, ◌&&◌, ◌||◌, List}
+use Rattle.std.specs.Prelude.{ℕ, Bool, ◌&&◌, List}
 use Rattle.std.specs.List.{list_any}
-use Rattle.sb_value.specs.Flags.{share_place}
+use Rattle.sb_value.specs.Laws.{kind_triggers}
 use Rattle.sb_value.specs.NetEffect.{net_effect, has_update, is_operation}
 use Rattle.sb_value.specs.declared.change.Kind.{Kind}
 use Rattle.sb_value.specs.declared.change.Kind.TheVariants.{Inserted, Deleted, Updated}
@@ -13,18 +13,16 @@ use Rattle.sb_rawlog.specs.Records.{Record}
 abbrev pub is_hit : Triggers → ℕ → List Change → ℕ → Bool
 is_hit triggers table changes tuple = is_operation triggers (net_effect changes table tuple)
 
--- a change of the kind counts by itself: its kind or one of its columns is among the triggers
-abbrev pub counts : Triggers → Kind → Change → Bool
-counts triggers Inserted c = triggers.inserted || share_place triggers.columns c.columns
-counts triggers Deleted c = triggers.deleted || share_place triggers.columns c.columns
-counts triggers Updated c = has_update triggers c.columns
+-- one of the records is of a tuple that is hit
+abbrev pub any_tuple : Triggers → ℕ → List Change → List Record → Bool
+any_tuple triggers table changes records = list_any (λ r. is_hit triggers table changes r.1.tuple) records
 
--- one of the records counts, and its tuple is hit
+-- one of the records is an operation of the kind, and its tuple is hit
 abbrev pub any_hit : Triggers → ℕ → Kind → List Change → List Record → Bool
-any_hit triggers table kind changes records = list_any (λ r. counts triggers kind r.1 && is_hit triggers table changes r.1.tuple) records
+any_hit triggers table kind changes records = list_any (λ r. kind_triggers kind triggers r.1 && is_hit triggers table changes r.1.tuple) records
 
--- whether changes of the kind may count
+-- whether changes of the kind may be operations
 abbrev pub names_kind : Triggers → Kind → Bool
-names_kind triggers Inserted = triggers.inserted || share_place triggers.columns triggers.columns
-names_kind triggers Deleted = triggers.deleted || share_place triggers.columns triggers.columns
+names_kind triggers Inserted = triggers.inserted
+names_kind triggers Deleted = triggers.deleted
 names_kind triggers Updated = has_update triggers triggers.columns

@@ -1,12 +1,12 @@
 //! What several changes of a tuple come to.
-ghost use Rattle.std.specs.Prelude.{◌≡◌, [], option_map, unwrap_or};
-ghost use Rattle.sb_value.specs.NetEffect.{net_between, net_effect};
+ghost use Rattle.std.specs.Prelude.{◌≡◌, option_map};
+ghost use Rattle.sb_value.specs.NetEffect.{net_between, net_effect, update_between};
 ghost use Rattle.sb_rawlog.specs.Sessions.{changes_since};
 ghost use Rattle.sb_net.specs.Seen.{seen};
 
 use crate::span::span_of;
 use sb_rawlog::ChangeLog;
-use sb_value::{Change, Columns, Kind, Row, TableId, Value, Who};
+use sb_value::{Change, Columns, Kind, TableId, Value, Who, differing, same_row};
 
 /// The net effect of several changes of one tuple, with rows borrowed from the log.
 #[derive(Clone, Copy)]
@@ -16,26 +16,24 @@ pub enum NetOf<'a> {
     Updated(&'a [Value], &'a [Value], Columns),
 }
 
-/// The row's values. A row that isn't there has none.
-fn values_of(row: &Option<Row>) -> &[Value]
-    ensures { result.now ≡ unwrap_or row.now [] }
+/// An update from one row to another, or nothing where these are equal.
+fn update<'a>(old: &'a [Value], new: &'a [Value]) -> Option<NetOf<'a>>
+    ensures { option_map seen result ≡ update_between old.now new.now }
 {
-    match row {
-        Some(row) => row.values(),
-        None => &[],
+    if same_row(old, new) {
+        return None;
     }
+    Some(NetOf::Updated(old, new, differing(old, new)))
 }
 
-fn between<'a>(first: &'a Change, last: &'a Change, columns: Columns) -> Option<NetOf<'a>>
-    ensures { option_map seen result ≡ net_between first.now.kind last.now.kind first.now last.now columns }
+fn between<'a>(first: &'a Change, last: &'a Change) -> Option<NetOf<'a>>
+    ensures { option_map seen result ≡ net_between first.now.kind last.now.kind first.now last.now }
 {
-    let old = values_of(&first.old);
-    let new = values_of(&last.new);
     match (first.kind, last.kind) {
         (Kind::Inserted, Kind::Deleted) => None,
-        (Kind::Inserted, _) => Some(NetOf::Inserted(new)),
-        (_, Kind::Deleted) => Some(NetOf::Deleted(old)),
-        (Kind::Updated, Kind::Updated) => Some(NetOf::Updated(old, new, columns)),
+        (Kind::Inserted, _) => Some(NetOf::Inserted(last.new_row())),
+        (_, Kind::Deleted) => Some(NetOf::Deleted(first.old_row())),
+        (Kind::Updated, Kind::Updated) => update(first.old_row(), last.new_row()),
         _ => None,
     }
 }
@@ -53,5 +51,5 @@ pub fn net<L: ChangeLog>(
     let Some(changes) = span_of(log, who, table, tuple, since) else {
         return None;
     };
-    between(changes.first, changes.last, changes.columns)
+    between(changes.first, changes.last)
 }

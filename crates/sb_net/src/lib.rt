@@ -8,4 +8,4 @@ mod triggers;
 
 pub use effect::{NetOf, net};
 pub use transition::transition_tables;
-pub use triggers::is_triggered;
+pub use triggers::{is_triggered, is_triggered_anew};

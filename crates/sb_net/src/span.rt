@@ -2,17 +2,17 @@
 ghost use Rattle.std.specs.Prelude.{◌≡◌, [], MatchOption};
 ghost use Rattle.sb_value.specs.NetEffect.{history};
 ghost use Rattle.sb_rawlog.specs.Sessions.{changes_since};
-ghost use Rattle.sb_net.specs.Spans.{IsSpan};
+ghost use Rattle.sb_rawlog.specs.Steps.{TupleOlder};
+ghost use Rattle.sb_net.specs.Spans.{IsSpan, IsOldest, EndsAt};
 
-use sb_rawlog::ChangeLog;
-use sb_value::{Change, Columns, TableId, Who};
+use sb_rawlog::{ChangeLog, Spot};
+use sb_value::{Change, TableId, Who};
 
-/// The first and the last of the changes of a tuple, and the columns that any of them names.
+/// The first and the last of the changes of a tuple.
 #[derive(Drop)]
 pub(crate) struct Span<'a> {
     pub(crate) first: &'a Change,
     pub(crate) last: &'a Change,
-    pub(crate) columns: Columns,
 }
 
 /// What the session's changes of the tuple that are no older than `since` span.
@@ -24,21 +24,44 @@ pub(crate) fn span_of<L: ChangeLog>(
     since: u64,
 ) -> Option<Span<'_>>
     ensures { let changes = history (changes_since who since (L.records log.now)) table tuple in
-        MatchOption result (changes ≡ []) (λ s. IsSpan s.first.now s.last.now s.columns changes) }
+        MatchOption result (changes ≡ []) (λ s. IsSpan s.first.now s.last.now changes) }
 {
-    let mut older = log.by_tuple(who, table, tuple, since);
-    let Some((_, last)) = older.next() else {
+    let Some(newest) = log.tuple_first(who, table, tuple, since) else {
         return None;
     };
-    let mut first = last;
-    let mut columns = last.columns;
-    for (_, change) in older {
-        first = change;
-        columns = change.columns.union(columns);
+    let from = newest;
+    let oldest = oldest(log, from);
+    let (_, last) = log.get(newest);
+    let (_, first) = log.get(oldest);
+    Some(Span { first, last })
+}
+
+/// The oldest change of the walk that the spot is on.
+fn oldest<L: ChangeLog>(log: &L, spot: Spot) -> Spot
+    requires { L.stands log.now spot }
+    ensures { IsOldest (L.stands log.now) (L.records log.now) spot result }
+{
+    let mut at = spot;
+    'steps: loop {
+        let from = at;
+        let Some(next) = older(log, from) else {
+            return at;
+        };
+        at = next;
     }
-    Some(Span {
-        first,
-        last,
-        columns,
-    })
+}
+
+/// An older change of the walk that the spot is on, as far back as one step leads.
+fn older<L: ChangeLog>(log: &L, spot: Spot) -> Option<Spot>
+    requires { L.stands log.now spot }
+    ensures { MatchOption result (EndsAt (L.records log.now) spot) (TupleOlder (L.stands log.now) (L.records log.now) spot) }
+{
+    // for the proof: the spot's change is there
+    let here = spot;
+    let (_, _change) = log.get(here);
+    let from = spot;
+    match log.tuple_back(from) {
+        Some(older) => Some(older),
+        None => log.tuple_next(spot),
+    }
 }

@@ -1,19 +1,32 @@
 //! Whether a rule is triggered.
-ghost use Rattle.std.specs.Prelude.{◌≡◌, ◌&&◌};
-ghost use Rattle.sb_value.specs.NetEffect.{net_between, is_operation, is_triggered};
+ghost use Rattle.std.specs.Prelude.{◌≡◌, ◌≤◌, ◌&&◌, IsFalse};
+ghost use Rattle.sb_value.specs.Laws.{AreLives, kind_triggers};
+ghost use Rattle.sb_value.specs.NetEffect.{net_between, update_between, is_operation, is_triggered};
 ghost use Rattle.sb_rawlog.specs.Changes.{is_op};
 ghost use Rattle.sb_rawlog.specs.Records.{walk};
-ghost use Rattle.sb_rawlog.specs.Sessions.{changes_since};
-ghost use Rattle.sb_net.specs.Hits.{is_hit, names_kind, counts, any_hit};
+ghost use Rattle.sb_rawlog.specs.Sessions.{changes_since, changes_between};
+ghost use Rattle.sb_net.specs.Hits.{is_hit, names_kind, any_hit, any_tuple};
 
 use crate::span::{Span, span_of};
 use sb_rawlog::ChangeLog;
-use sb_value::{Change, Kind, TableId, Triggers, Who};
+use sb_value::{
+    Change, Kind, TableId, Triggers, Value, Who, differing, new_changes_trigger, same_row,
+};
+
+/// Whether an update from one row to another is one of the operations.
+fn is_update(triggers: &Triggers, old: &[Value], new: &[Value]) -> bool
+    ensures { result ≡ is_operation triggers.now (update_between old.now new.now) }
+{
+    if same_row(old, new) {
+        return false;
+    }
+    triggers.updated || triggers.columns.intersects(differing(old, new))
+}
 
 /// Whether what the changes come to is one of the operations.
 fn is_operation(changes: &Span<'_>, triggers: &Triggers) -> bool
     ensures { let first = changes.now.first.now in let last = changes.now.last.now in
-        result ≡ is_operation triggers.now (net_between first.kind last.kind first last changes.now.columns) }
+        result ≡ is_operation triggers.now (net_between first.kind last.kind first last) }
 {
     match (changes.first.kind, changes.last.kind) {
         (Kind::Inserted, Kind::Deleted) => false,
@@ -21,7 +34,7 @@ fn is_operation(changes: &Span<'_>, triggers: &Triggers) -> bool
         (Kind::Deleted, Kind::Deleted) => triggers.deleted,
         (Kind::Updated, Kind::Deleted) => triggers.deleted,
         (Kind::Updated, Kind::Updated) => {
-            triggers.updated || triggers.columns.intersects(changes.columns)
+            is_update(triggers, changes.first.old_row(), changes.last.new_row())
         }
         _ => false,
     }
@@ -44,32 +57,30 @@ fn is_hit<L: ChangeLog>(
     }
 }
 
-/// Whether changes of the kind may count.
+/// Whether changes of the kind may be operations.
 fn names_kind(triggers: &Triggers, kind: Kind) -> bool
     ensures { result ≡ names_kind triggers.now kind }
 {
-    let lists_a_column = triggers.columns.intersects(triggers.columns);
     match kind {
-        Kind::Inserted => triggers.inserted || lists_a_column,
-        Kind::Deleted => triggers.deleted || lists_a_column,
-        Kind::Updated => triggers.updated || lists_a_column,
+        Kind::Inserted => triggers.inserted,
+        Kind::Deleted => triggers.deleted,
+        Kind::Updated => triggers.updated || triggers.columns.intersects(triggers.columns),
     }
 }
 
-/// Whether a change of the kind counts by itself: its kind or one of its columns is among the triggers.
+/// Whether a change of the kind is one of the operations by itself.
 fn counts(triggers: &Triggers, kind: Kind, change: &Change) -> bool
-    ensures { result ≡ counts triggers.now kind change.now }
+    ensures { result ≡ kind_triggers kind triggers.now change.now }
 {
-    let names_a_column = triggers.columns.intersects(change.columns);
     match kind {
-        Kind::Inserted => triggers.inserted || names_a_column,
-        Kind::Deleted => triggers.deleted || names_a_column,
-        Kind::Updated => triggers.updated || names_a_column,
+        Kind::Inserted => triggers.inserted,
+        Kind::Deleted => triggers.deleted,
+        Kind::Updated => is_update(triggers, change.old_row(), change.new_row()),
     }
 }
 
-/// Whether a change of the kind counts and its tuple has an operation for its net effect. A change that doesn't
-/// count costs one step of the walk.
+/// Whether a change of the kind that is no older than `tested` counts, and the net effect on its tuple since `since`
+/// is an operation. A change that doesn't count costs one step of the walk.
 fn any_hit<L: ChangeLog>(
     log: &L,
     who: &Who,
@@ -77,15 +88,16 @@ fn any_hit<L: ChangeLog>(
     kind: Kind,
     triggers: &Triggers,
     since: u64,
+    tested: u64,
 ) -> bool
     ensures { let changes = changes_since who.now since (L.records log.now) in
         result ≡ (names_kind triggers.now kind
-        && any_hit triggers.now table kind changes (walk (is_op who.now table kind) since (L.records log.now))) }
+        && any_hit triggers.now table kind changes (walk (is_op who.now table kind) tested (L.records log.now))) }
 {
     if !names_kind(triggers, kind) {
         return false;
     }
-    for (_, change) in log.by_op(*who, table, kind, since) {
+    for (_, change) in log.by_op(*who, table, kind, tested) {
         if counts(triggers, kind, change)
             && is_hit(log, who, table, change.tuple, triggers, since)
         {
@@ -95,7 +107,55 @@ fn any_hit<L: ChangeLog>(
     false
 }
 
-/// Whether the session's changes that are no older than `since` trigger a rule on the table.
+/// Whether the session's changes that are no older than `since` trigger a rule on the table, where those of them
+/// that are older than `tested` don't. What it costs are the changes since then: of other tuples the net effects are what they were.
+pub fn is_triggered_anew<L: ChangeLog>(
+    log: &L,
+    who: Who,
+    table: TableId,
+    triggers: Triggers,
+    since: u64,
+    tested: u64,
+) -> bool
+    requires times { since ≤ tested }
+    requires lives { AreLives (changes_since who since (L.records log.now)) }
+    requires untriggered { IsFalse (is_triggered triggers table (changes_between who since tested (L.records log.now))) }
+    ensures { result ≡ is_triggered triggers table (changes_since who since (L.records log.now)) }
+{
+    // for the proof: later times cut the changes, and new ones alone can trigger the rule
+    let _now = log.now();
+    new_changes_trigger();
+    if any_hit(log, &who, table, Kind::Inserted, &triggers, since, tested) {
+        return true;
+    }
+    if any_hit(log, &who, table, Kind::Deleted, &triggers, since, tested) {
+        return true;
+    }
+    any_hit(log, &who, table, Kind::Updated, &triggers, since, tested)
+}
+
+/// Whether a change of the kind that is no older than `since` is of a tuple whose net effect is an operation.
+fn any_tuple<L: ChangeLog>(
+    log: &L,
+    who: &Who,
+    table: TableId,
+    kind: Kind,
+    triggers: &Triggers,
+    since: u64,
+) -> bool
+    ensures { let changes = changes_since who.now since (L.records log.now) in
+        result ≡ any_tuple triggers.now table changes (walk (is_op who.now table kind) since (L.records log.now)) }
+{
+    for (_, change) in log.by_op(*who, table, kind, since) {
+        if is_hit(log, who, table, change.tuple, triggers, since) {
+            return true;
+        }
+    }
+    false
+}
+
+/// Whether the session's changes that are no older than `since` trigger a rule on the table, whatever changes these are. It looks at the
+/// net effect of each change's tuple.
 pub fn is_triggered<L: ChangeLog>(
     log: &L,
     who: Who,
@@ -105,11 +165,11 @@ pub fn is_triggered<L: ChangeLog>(
 ) -> bool
     ensures { result ≡ is_triggered triggers table (changes_since who since (L.records log.now)) }
 {
-    if any_hit(log, &who, table, Kind::Inserted, &triggers, since) {
+    if any_tuple(log, &who, table, Kind::Inserted, &triggers, since) {
         return true;
     }
-    if any_hit(log, &who, table, Kind::Deleted, &triggers, since) {
+    if any_tuple(log, &who, table, Kind::Deleted, &triggers, since) {
         return true;
     }
-    any_hit(log, &who, table, Kind::Updated, &triggers, since)
+    any_tuple(log, &who, table, Kind::Updated, &triggers, since)
 }

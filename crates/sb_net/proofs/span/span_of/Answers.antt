@@ -1,25 +1,22 @@
-use Rattle.std.proofs.Common.{◌∷◌, sym, ap, ◌∙◌}
-use Rattle.sb_rawlog.specs.Steps.{tuple_todo}
-use Rattle.sb_net.proofs.Folds.{begun, none_since}
+use Rattle.std.proofs.Common.{◌≡◌, [], ◌∷◌, ◌++◌, sym, ap, ◌∙◌}
+use Rattle.sb_rawlog.specs.Changes.{is_tuple}
+use Rattle.sb_rawlog.specs.Records.{walk, before}
+use Rattle.sb_net.proofs.Folds.{none_since, todo_is, span_is}
 use Rattle.sb_net.proofs.span.span_of.Goals as goal
 
 pub returns-in_default : goal.returns-in_default
-returns-in_default g c =
-    let records = g.L.ChangeLog.records in
-    let older = c.by_tuple-older.result in
-    none_since c.args.who c.args.table c.args.tuple c.args.since (records c.args.log.now) (tuple_todo (records older.log.now) older.next)
-    (ap (λ l. tuple_todo (records l) older.next) c.by_tuple-older.ensures.log ∙ c.by_tuple-older.ensures.items) c.in_default.ensures.steps.1.0
+returns-in_default g c = none_since c.args.who c.args.table c.args.tuple c.args.since (g.L.ChangeLog.records c.args.log.now) c.in_default.ensures
 
-pub loop-change-init : goal.loop-change-init
-loop-change-init g c =
-    let records = g.L.ChangeLog.records in
-    let older = c.by_tuple-older.result in
-    let rest = c.into_iter-change-iterator.result in
-    let gives = c.into_iter-change-iterator.ensures.into_iter_gives in
-    let same = c.by_tuple-older.ensures.log in
-    record {
-      log = ap (λ z. z.log.now) gives ∙ c.in-Some.ensures.steps.0 ∙ same;
-      seen = begun c.args.who c.args.table c.args.tuple c.args.since (records c.args.log.now) (tuple_todo (records older.log.now) older.next) (tuple_todo (records c.args.log.now) rest.next)
-          c.in-Some.field-0-0 c.in-Some.last.now (ap (λ l. tuple_todo (records l) older.next) same ∙ c.by_tuple-older.ensures.items)
-          (c.in-Some.ensures.steps.1 ∙ (λ j. (c.in-Some.field-0-0, c.in-Some.last.now) ∷ tuple_todo (records (same j)) (sym gives j).next));
-    }
+pub returns : goal.returns
+returns g c =
+    let rs = g.L.ChangeLog.records c.args.log.now in
+    let walked = walk (is_tuple c.args.who c.args.table c.args.tuple) in
+    let newest = c.in-Some.newest in
+    let st = c.in-Some.ensures in
+    let o = c.oldest-oldest.ensures in
+    let last : st.comes.change ≡ c.get.result.1.now = let a = st.comes.here in let b = c.get.ensures.change in cc in
+    let first : o.ends.change ≡ c.get-2.result.1.now = let a = o.ends.here in let b = c.get-2.ensures.change in cc in
+    span_is c.args.who c.args.table c.args.tuple c.args.since rs o.passed (walked newest.since (before newest.time rs)) newest.time c.oldest-oldest.result.time c.get-2.result.1.now c.get.result.1.now
+    (sym (todo_is (g.L.ChangeLog.stands c.args.log.now) rs c.args.who c.args.table c.args.tuple c.args.since (walked c.args.since rs) newest st) ∙ o.left
+    ∙ ap (λ l. o.passed ++ l) (o.ends.left ∙ (λ j. (c.oldest-oldest.result.time, first j) ∷ [])))
+    (st.comes.first ∙ (λ j. (newest.time, last j) ∷ walked newest.since (before newest.time rs)))

@@ -13,5 +13,5 @@ invariant-loop-change g l =
     let changes = changes_since l.who l.since rs in
     record {
       log : l.change-iterator.log.now ≡ l.log;
-      left : any_hit l.triggers l.table l.fn.kind changes (walk (is_op l.who l.table l.fn.kind) l.since rs) ≡ any_hit l.triggers l.table l.fn.kind changes (op_todo rs l.change-iterator.next);
+      left : any_hit l.triggers l.table l.fn.kind changes (walk (is_op l.who l.table l.fn.kind) l.fn.tested rs) ≡ any_hit l.triggers l.table l.fn.kind changes (op_todo rs l.change-iterator.next);
     }

@@ -1,17 +1,17 @@
-use Rattle.std.proofs.Common.{sym, ◌∙◌}
-use Rattle.sb_value.specs.declared.change.Kind.TheVariants.{Inserted, Deleted}
-use Rattle.sb_net.proofs.Hits.{some_hit, last_kind}
+use Rattle.std.proofs.Common.{◌∙◌, sym}
+use Rattle.sb_net.proofs.Hits.{triggered-at_all, first-found, second-found, third-found}
 use Rattle.sb_net.proofs.triggers.is_triggered.Goals as goal
 
-pub returns-then-any_hit : goal.returns-then-any_hit
-returns-then-any_hit g c =
-    sym (some_hit c.args.triggers c.args.who c.args.table c.args.since (g.L.ChangeLog.records c.args.log.now) Inserted (sym c.any_hit.ensures ∙ c.if-any_hit.true))
+pub returns-then-any_tuple : goal.returns-then-any_tuple
+returns-then-any_tuple g c =
+    first-found _ _ _ _ (sym c.any_tuple.ensures ∙ c.if-any_tuple.true) (triggered-at_all c.args.triggers c.args.who c.args.table c.args.since (g.L.ChangeLog.records c.args.log.now))
 
-pub returns-then-any_hit-2 : goal.returns-then-any_hit-2
-returns-then-any_hit-2 g c =
-    sym (some_hit c.args.triggers c.args.who c.args.table c.args.since (g.L.ChangeLog.records c.args.log.now) Deleted (sym c.any_hit-2.ensures ∙ c.if-any_hit-2.true))
+pub returns-then-any_tuple-2 : goal.returns-then-any_tuple-2
+returns-then-any_tuple-2 g c =
+    second-found _ _ _ _ (sym c.any_tuple-2.ensures ∙ c.if-any_tuple-2.true) (triggered-at_all c.args.triggers c.args.who c.args.table c.args.since (g.L.ChangeLog.records c.args.log.now))
 
 pub returns : goal.returns
 returns g c =
-    c.any_hit-3.ensures
-    ∙ last_kind c.args.triggers c.args.who c.args.table c.args.since (g.L.ChangeLog.records c.args.log.now) (sym c.any_hit.ensures ∙ c.if-any_hit.false) (sym c.any_hit-2.ensures ∙ c.if-any_hit-2.false)
+    c.any_tuple-3.ensures
+    ∙ third-found _ _ _ _ (sym c.any_tuple.ensures ∙ c.if-any_tuple.false) (sym c.any_tuple-2.ensures ∙ c.if-any_tuple-2.false)
+    (triggered-at_all c.args.triggers c.args.who c.args.table c.args.since (g.L.ChangeLog.records c.args.log.now))

@@ -1,0 +1,17 @@
+use Rattle.std.proofs.Common.{◌≡◌}
+use Rattle.sb_rawlog.specs.Changes.{is_op}
+use Rattle.sb_rawlog.specs.Records.{walk}
+use Rattle.sb_rawlog.specs.Sessions.{changes_since}
+use Rattle.sb_rawlog.specs.Steps.{op_todo}
+use Rattle.sb_net.specs.Hits.{any_tuple}
+use Rattle.sb_net.proofs.triggers.any_tuple.Given as goal
+
+-- no tuple was hit so far
+abbrev pub invariant-loop-change : goal.invariant-loop-change
+invariant-loop-change g l =
+    let rs = g.L.ChangeLog.records l.log in
+    let changes = changes_since l.who l.since rs in
+    record {
+      log : l.change-iterator.log.now ≡ l.log;
+      left : any_tuple l.triggers l.table changes (walk (is_op l.who l.table l.fn.kind) l.since rs) ≡ any_tuple l.triggers l.table changes (op_todo rs l.change-iterator.next);
+    }
