@@ -1,22 +1,27 @@
 -- The rule that is considered next, as memory has it.
-use Rattle.std.proofs.Common.{◌≡◌, ◌∙◌, ℕ, ◌≤◌, Bool, true, false, ◌&&◌, cond, List, [], ◌∷◌, map, filter, drop, Option, Some, option_and_then, Result, Ok, Err, IfOk, refl, sym, ap, subst, nat_eq, None, eq-eqb, eqb-true}
+use Rattle.std.proofs.Common.{◌≡◌, ◌∙◌, ℕ, ◌≤◌, Bool, true, false, ◌&&◌, cond, List, [], ◌∷◌, map, filter, take, drop, Option, Some, option_and_then, Result, Ok, Err, IfOk, refl, sym, ap, subst, nat_eq, None, eq-eqb, eqb-true}
+use Rattle.std.proofs.lemmas.List.{take-append-drop}
 use Rattle.std.proofs.lemmas.Option.{none-some}
+use Rattle.sb_process.proofs.Growing.{lives_from}
 use Rattle.std.specs.declared.alloc.AllocError.{AllocError}
+use Rattle.sb_value.specs.declared.id.Who.{Who}
 use Rattle.sb_value.specs.declared.net.Transition.{Transition}
 use Rattle.sb_value.specs.Flags.{flag_at}
+use Rattle.sb_value.specs.Laws.{AreLives, ProperListsHaveLives}
 use Rattle.sb_value.specs.NetEffect.{is_triggered, transition_tables}
+use Rattle.sb_value.specs.Table.{IsProper}
 use Rattle.sb_value.specs.Order.{chosen}
 use Rattle.sb_catalog.specs.declared.rule.Rule.{Rule}
 use Rattle.sb_catalog.specs.Rules.{AreNumbered, numbered}
 use Rattle.sb_priority.specs.Ranks.{ranked}
 use Rattle.sb_rawlog.specs.Records.{Record}
 use Rattle.sb_rawlog.specs.Sessions.{MarksCut, changes_since, mark_at}
-use Rattle.sb_tables.specs.Held.{Held}
+use Rattle.sb_tables.specs.Held.{Held, entries}
 use Rattle.sb_process.specs.declared.database.Database.{Database}
-use Rattle.sb_process.specs.Represents.{Represents, AreCandidates, who_in}
+use Rattle.sb_process.specs.Represents.{Represents, AreCandidates, AreUntriggered, who_in}
 use Rattle.sb_process.specs.Setting.{Setting, Progress, transition, rule_is_triggered, rule_tables, is_candidate, next_rule}
 use Rattle.sb_process.specs.Transactions.{Kept, mark_of, is_candidate_of}
-use Rattle.sb_process.specs.Triggered.{is_hit, AreSifted, HasCandidates}
+use Rattle.sb_process.specs.Triggered.{is_hit, AreSifted, CanTest, CanTestAll, HasCandidates}
 use Rattle.sb_process.specs.Work.{AreActive}
 
 -- each of the rules is found under its number
@@ -36,10 +41,21 @@ pub all-found : (rules : List Rule) → AreNumbered rules → AreFound rules rul
 all-found [] h = tt
 all-found (rule ∷ rules) h = (ap (λ (b : Bool). cond b (Some rule) (numbered rules rule.id)) (eq-eqb rule.id rule.id refl), found-wider rule rules rules h.0 (all-found rules h.1))
 
+pub all-untriggered : (who : Who) (kept : Kept) (rs : List Record) (all : List Rule) → CanTestAll who kept rs all → (rules : List Rule) → AreFound all rules → AreUntriggered who kept rs rules
+all-untriggered who kept rs all can [] f = tt
+all-untriggered who kept rs all can (rule ∷ rules) f = ((subst (CanTest who kept rs) f.0 (can rule.id)).1, all-untriggered who kept rs all can rules f.1)
+
 module _ (origin : List Held) (d : Database) (session : ℕ) (records : List Record) (clock : ℕ) (setting : Setting) (progress : Progress) (r : Represents origin d session records clock setting progress) (cut : MarksCut records) where
   -- the changes since a rule's mark, by its time
   pub since-mark : (rule : Rule) → transition progress rule ≡ changes_since (who_in d session) (mark_of d.transactions session rule.id) records
   since-mark rule = (λ i. drop (r.marks rule.id i) (sym r.changes i)) ∙ sym (cut (who_in d session) (mark_of d.transactions session rule.id))
+
+  -- they are those of tuples' lives
+  pub lives-since : (lives : ProperListsHaveLives) (rule : Rule) → AreLives (changes_since (who_in d session) (mark_of d.transactions session rule.id) records)
+  lives-since lives rule =
+      subst AreLives (since-mark rule)
+      (lives_from lives origin (take (progress.marks rule.id) progress.changes) (transition progress rule) r.made.stored
+      (subst (IsProper (entries origin)) (sym (take-append-drop (progress.marks rule.id) progress.changes)) r.made.proper))
 
   pub triggered-hit : (rule : Rule) → rule_is_triggered progress rule ≡ is_hit (who_in d session) d.transactions records (Some rule)
   triggered-hit rule = ap (is_triggered rule.triggers rule.table) (since-mark rule)
@@ -47,7 +63,7 @@ module _ (origin : List Held) (d : Database) (session : ℕ) (records : List Rec
   pub tables-taken : (rule : Rule) → rule_tables progress rule ≡ transition_tables rule.triggers rule.table (changes_since (who_in d session) (mark_of d.transactions session rule.id) records)
   tables-taken rule = ap (transition_tables rule.triggers rule.table) (since-mark rule)
 
-  module _ (eligible set : List Bool) (new : Kept) (all : List Rule) (s : AreSifted (who_in d session) records all eligible d.transactions new set) where
+  module _ (eligible set : List Bool) (new : Kept) (all : List Rule) (s : AreSifted (who_in d session) records clock all eligible d.transactions new set) where
     hit-found : (rule : Rule) → numbered all rule.id ≡ Some rule → is_hit (who_in d session) d.transactions records (numbered all rule.id) ≡ rule_is_triggered progress rule
     hit-found rule e = ap (is_hit (who_in d session) d.transactions records) e ∙ sym (triggered-hit rule)
 
@@ -77,6 +93,8 @@ module _ (origin : List Held) (d : Database) (session : ℕ) (records : List Rec
       who = r.who;
       changes = r.changes;
       past = λ rule. subst (λ t. t ≤ clock) (sym (s.marks session rule)) (r.past rule);
+      tested = s.past;
+      untriggered = all-untriggered (who_in d session) new records all s.can setting.rules f;
       marks = λ rule. r.marks rule ∙ ap (λ t. mark_at (who_in d session) t records) (sym (s.marks session rule));
       base = r.base;
       made = r.made;

@@ -1,6 +1,6 @@
 -- A session's transaction with one change more.
-use Rattle.std.proofs.Common.{◌≡◌, ◌∙◌, ℕ, zero, suc, ◌+◌, ◌<◌, ◌≤◌, Bool, true, false, ◌&&◌, ◌||◌, cond, nat_eq, nat_lt, List, [], ◌∷◌, ◌++◌, map, filter, take, drop, length, refl, sym, ap, subst, arith, eq-eqb}
-use Rattle.std.proofs.lemmas.Bool.{le-ltb, lt-ltb, and_parts, or_right}
+use Rattle.std.proofs.Common.{◌≡◌, ◌∙◌, ℕ, zero, suc, ◌+◌, ◌<◌, ◌≤◌, Bool, true, false, ◌&&◌, ◌||◌, cond, nat_eq, nat_lt, List, [], ◌∷◌, ◌++◌, map, filter, take, drop, length, Some, None, refl, sym, ap, subst, arith, eq-eqb}
+use Rattle.std.proofs.lemmas.Bool.{le-ltb, lt-ltb, or_right}
 use Rattle.std.proofs.lemmas.List.{append-nil, append_assoc, length-map, take-append-drop, drop-append-le}
 use Rattle.std.specs.List.{list_any}
 use Rattle.sb_value.specs.declared.change.Change.{Change}
@@ -10,13 +10,16 @@ use Rattle.sb_value.specs.declared.id.Who.{Who}
 use Rattle.sb_value.specs.declared.lock.Mode.TheVariants.{Write}
 use Rattle.sb_value.specs.declared.net.Triggers.{Triggers}
 use Rattle.sb_value.specs.Flags.{flag_at, share_place}
-use Rattle.sb_value.specs.Laws.{is_life, may_follow, kind_triggers, ProperListsHaveLives, LastChangeTriggers}
-use Rattle.sb_value.specs.NetEffect.{history, is_of, is_triggered}
+use Rattle.sb_value.specs.Laws.{IsLife, AreLives, kind_triggers, ProperListsHaveLives, LastChangeTriggers}
+use Rattle.sb_value.specs.Columns.{differing}
+use Rattle.sb_value.specs.NetEffect.{history, is_of, is_operation, is_triggered}
+use Rattle.sb_value.specs.Values.{same_row}
+use Rattle.sb_value.specs.declared.net.Net.TheVariants as net
 use Rattle.sb_value.specs.Locks.{Locks}
-use Rattle.sb_value.specs.Table.{IsTable, IsProper, table_at}
+use Rattle.sb_value.specs.Table.{IsTable, IsProper, table_at, new_row, old_row}
 use Rattle.sb_rawlog.specs.Changes.{author, is_by}
 use Rattle.sb_rawlog.specs.Records.{Record, before}
-use Rattle.sb_rawlog.specs.Sessions.{records_by, changes_by, mark_at}
+use Rattle.sb_rawlog.specs.Sessions.{records_by, changes_by, changes_between, mark_at}
 use Rattle.sb_tables.specs.Held.{Held, entries}
 use Rattle.sb_index.specs.Operation.{Operation, names, places}
 use Rattle.sb_index.specs.Operation.Operation.{insert, delete, update, update_of}
@@ -29,11 +32,12 @@ use Rattle.sb_process.specs.Made.{AreStored, AreMade}
 use Rattle.sb_catalog.specs.Definitions.{AreIndexed}
 use Rattle.sb_process.specs.Represents.{Represents, AreCandidates, AreLocked, who_in}
 use Rattle.sb_process.specs.Setting.{Setting, Progress, rule_is_triggered}
-use Rattle.sb_process.specs.Transactions.{Kept, mark_of, is_candidate_of}
+use Rattle.sb_process.specs.Transactions.{Kept, mark_of, tested_of, is_candidate_of}
+use Rattle.sb_process.proofs.Testing.{still-untriggered, between-kept}
 
 -- ---- filters
 
-filtered : {A : Type 0} (p : A → Bool) (xs ys : List A) → filter p (xs ++ ys) ≡ filter p xs ++ filter p ys
+pub filtered : {A : Type 0} (p : A → Bool) (xs ys : List A) → filter p (xs ++ ys) ≡ filter p xs ++ filter p ys
 filtered p [] ys = refl
 filtered {A} p (x ∷ xs) ys = by (p x) (filtered p xs ys)
   where
@@ -70,11 +74,11 @@ mark_within who time rs = omega (arith, few (λ (r : Record). nat_lt r.0 time) (
 
 -- ---- lives
 
-life_tail : (c : Change) (cs : List Change) → is_life (c ∷ cs) ≡ true → is_life cs ≡ true
-life_tail c [] h = refl
-life_tail c (d ∷ ds) h = (and_parts (may_follow c.kind d.kind) (is_life (d ∷ ds)) h).1
+life_tail : (c : Change) (cs : List Change) → IsLife (c ∷ cs) → IsLife cs
+life_tail c [] h = tt
+life_tail c (d ∷ ds) h = h.1
 
-life_end : (cs ds : List Change) → is_life (cs ++ ds) ≡ true → is_life ds ≡ true
+life_end : (cs ds : List Change) → IsLife (cs ++ ds) → IsLife ds
 life_end [] ds h = h
 life_end (c ∷ cs) ds h = life_end cs ds (life_tail c (cs ++ ds) h)
 
@@ -87,10 +91,10 @@ tables_are (h ∷ tables) id s = by (nat_eq h.id id) (tables_are tables id s.1)
     by false rest = rest
 
 -- the changes from a place on are lives
-lives_from : (lives : ProperListsHaveLives) (origin : List Held) (cs ds : List Change) → AreStored origin → IsProper (entries origin) (cs ++ ds) → (table tuple : ℕ) → is_life (history ds table tuple) ≡ true
+pub lives_from : (lives : ProperListsHaveLives) (origin : List Held) (cs ds : List Change) → AreStored origin → IsProper (entries origin) (cs ++ ds) → AreLives ds
 lives_from lives origin cs ds s proper table tuple =
     life_end (history cs table tuple) (history ds table tuple)
-    (ap is_life (sym (filtered (is_of table tuple) cs ds)) ∙ lives (entries origin) (cs ++ ds) table tuple (tables_are origin table s) proper)
+    (subst IsLife (filtered (is_of table tuple) cs ds) (lives (entries origin) (cs ++ ds) table tuple (tables_are origin table s) proper))
 
 -- ---- the index
 
@@ -122,27 +126,35 @@ by_columns : (named columns : List Bool) (f : ℕ → Bool) → length columns �
 by_columns named columns f le h e = shared (map f places) named columns (omega arith) (λ k less q. at_place f k (omega (arith, less)) ∙ h k (omega (arith, less)) q) e
 
 -- what triggers a rule triggers it in the index
-in_index : (index : List (List TableSets)) (tenant : ℕ) (c : Change) (id : ℕ) (triggers : Triggers) (k : Kind) → length c.columns ≤ 8 →
+in_index : (index : List (List TableSets)) (tenant : ℕ) (c : Change) (id : ℕ) (triggers : Triggers) (k : Kind) →
     ((o : Operation) → names triggers o ≡ true → stands index tenant c.table o id ≡ true) → kind_triggers k triggers c ≡ true → kind_triggers k (triggers_of index tenant c.table id) c ≡ true
-in_index index tenant c id triggers Inserted le h e = h insert e
-in_index index tenant c id triggers Deleted le h e = h delete e
-in_index index tenant c id triggers Updated le h e = by triggers.updated refl e
+in_index index tenant c id triggers Inserted h e = h insert e
+in_index index tenant c id triggers Deleted h e = h delete e
+in_index index tenant c id triggers Updated h e = differ (same_row (old_row c) (new_row c)) e
   where
+    columns : List Bool
+    columns = differing (old_row c) (new_row c)
+
     f : ℕ → Bool
     f k = stands index tenant c.table (update_of k) id
 
-    by : (b : Bool) → triggers.updated ≡ b → (b || share_place triggers.columns c.columns) ≡ true → (stands index tenant c.table update id || share_place (map f places) c.columns) ≡ true
-    by true p q = ap (λ (b : Bool). b || share_place (map f places) c.columns) (h update p)
+    by : (b : Bool) → triggers.updated ≡ b → (b || share_place triggers.columns columns) ≡ true → (stands index tenant c.table update id || share_place (map f places) columns) ≡ true
+    by true p q = ap (λ (b : Bool). b || share_place (map f places) columns) (h update p)
     by false p q =
-        or_right (stands index tenant c.table update id) (share_place (map f places) c.columns)
-        (by_columns triggers.columns c.columns f le (λ k less named. h (update_of k) ((λ i. lt k less i && named i))) q)
+        or_right (stands index tenant c.table update id) (share_place (map f places) columns)
+        (by_columns triggers.columns columns f (omega arith) (λ k less named. h (update_of k) ((λ i. lt k less i && named i))) q)
       where
         lt : (k : ℕ) → k < 8 → nat_lt k 8 ≡ true
         lt k less = lt-ltb k 8 less
 
+    differ : (b : Bool) → is_operation triggers (cond b None (Some (net.Updated (old_row c) (new_row c) columns))) ≡ true
+        → is_operation (triggers_of index tenant c.table id) (cond b None (Some (net.Updated (old_row c) (new_row c) columns))) ≡ true
+    differ true q = absurd (cc)
+    differ false q = by triggers.updated refl q
+
 -- ---- candidates
 
-module _ (trig : LastChangeTriggers) (lives : ProperListsHaveLives) (index : List (List TableSets)) (tenant session : ℕ) (old new : Kept) (set : List Bool) (c : Change) (all : List Rule) (le : length c.columns ≤ 8) where
+module _ (trig : LastChangeTriggers) (lives : ProperListsHaveLives) (index : List (List TableSets)) (tenant session : ℕ) (old new : Kept) (set : List Bool) (c : Change) (all : List Rule) where
   -- the rules that the change may trigger are candidates, and those that were before
   abbrev Joins : Type 0
   Joins =
@@ -179,9 +191,9 @@ module _ (trig : LastChangeTriggers) (lives : ProperListsHaveLives) (index : Lis
       by : (b : Bool) → rule_is_triggered p rule ≡ b → is_candidate_of new session rule.id ≡ true
       by true e = j.0 rule.id ∙ ap (λ (b : Bool). b || ((nat_eq session session) && flag_at set rule.id)) (was active e)
       by false e =
-          let found = trig rule.triggers rule.table since c (lives_from lives origin (take m p.changes) (since ++ c ∷ []) s (subst (IsProper (entries origin)) (sym whole) proper) rule.table) e
+          let found = trig rule.triggers rule.table since c (lives_from lives origin (take m p.changes) (since ++ c ∷ []) s (subst (IsProper (entries origin)) (sym whole) proper)) e
           (ap (is_triggered rule.triggers rule.table) (sym cut) ∙ triggered) in
-          joined j rule (in_index index tenant c rule.id rule.triggers c.kind le (named_in indexed rule member active found.0) found.1)
+          joined j rule (in_index index tenant c rule.id rule.triggers c.kind (named_in indexed rule member active found.0) found.1)
 
   candidates_grow : Joins → AreIndexed index tenant all → (origin : List Held) (p : Progress) → AreStored origin → IsProper (entries origin) (p.changes ++ c ∷ []) → ((r : ℕ) → p.marks r ≤ length p.changes) →
       (rules : List Rule) → ((q : Rule → Bool) → list_any q rules ≡ true → list_any q all ≡ true) → AreCandidates old session p rules → AreCandidates new session (record p { changes = p.changes ++ c ∷ [] }) rules
@@ -201,11 +213,11 @@ locked_more locks session c (d ∷ cs) h e = (h.0, locked_more locks session c c
 
 pub with_change : (trig : LastChangeTriggers) (lives : ProperListsHaveLives) (index : List (List TableSets)) (d : Database) (session : ℕ) (records more : List Record) (clock later : ℕ) (setting : Setting) (progress : Progress)
     (origin : List Held) (c : Change) (tables : List Held) (kept : Kept) (set : List Bool) → Represents origin d session records clock setting progress → AreIndexed index d.id setting.rules →
-    author c ≡ who_in d session → length c.columns ≤ 8 → held d.locks session c.table Write ≡ true → AreMade origin (progress.changes ++ c ∷ []) tables →
-    ((s r : ℕ) → mark_of kept s r ≡ mark_of d.transactions s r) → ((s r : ℕ) → is_candidate_of kept s r ≡ (is_candidate_of d.transactions s r || ((nat_eq s session) && flag_at set r))) →
+    author c ≡ who_in d session → held d.locks session c.table Write ≡ true → AreMade origin (progress.changes ++ c ∷ []) tables →
+    ((s r : ℕ) → mark_of kept s r ≡ mark_of d.transactions s r) → ((s r : ℕ) → tested_of kept s r ≡ tested_of d.transactions s r) → ((s r : ℕ) → is_candidate_of kept s r ≡ (is_candidate_of d.transactions s r || ((nat_eq s session) && flag_at set r))) →
     ((r : ℕ) → flag_at set r ≡ kind_triggers c.kind (triggers_of index c.tenant c.table r) c) → more ≡ records ++ (clock, c) ∷ [] → changes_by (author c) more ≡ changes_by (author c) records ++ c ∷ [] →
     later ≡ clock + 1 → Represents origin (record d { tables = tables; transactions = kept }) session more later setting (record progress { changes = progress.changes ++ c ∷ [] })
-with_change trig lives index d session records more clock later setting progress origin c tables kept set r indexed by le locked made marks candidates flags appended own moved =
+with_change trig lives index d session records more clock later setting progress origin c tables kept set r indexed by locked made marks tested candidates flags appended own moved =
     let who : Who = who_in d session in
     let cs : List Change = progress.changes ++ c ∷ [] in
     let within = λ (rule : ℕ).
@@ -214,6 +226,10 @@ with_change trig lives index d session records more clock later setting progress
       who = r.who;
       changes = subst (λ (w : Who). changes_by w more ≡ changes_by w records ++ c ∷ []) by own ∙ ap (λ (l : List Change). l ++ c ∷ []) r.changes;
       past = λ rule. let q : mark_of d.transactions session rule ≤ clock = r.past rule in let e : mark_of kept session rule ≡ mark_of d.transactions session rule = marks session rule in omega (arith, q, e, moved);
+      tested = λ rule. let q = r.tested rule in let e = marks session rule in let f = tested session rule in (let a = q.0 in omega arith, let b = q.1 in omega (arith, moved));
+      untriggered = still-untriggered who d.transactions kept records more
+          (λ rule. (λ i. changes_between who (marks session rule i) (tested session rule i) (appended i)) ∙ between-kept who (mark_of d.transactions session rule) (tested_of d.transactions session rule) clock c records (r.tested rule).1)
+          setting.rules r.untriggered;
       marks = λ rule.
           r.marks rule
           ∙ sym (mark_stays who (mark_of d.transactions session rule) clock c records (r.past rule))
@@ -222,6 +238,6 @@ with_change trig lives index d session records more clock later setting progress
       made = made;
       locks = r.locks;
       locked = locked_more progress.locks session c progress.changes r.locked (sym (r.locks session c.table Write) ∙ locked);
-      candidates = candidates_grow trig lives index d.id session d.transactions kept set c setting.rules le
+      candidates = candidates_grow trig lives index d.id session d.transactions kept set c setting.rules
           (candidates session, λ rule. flags rule ∙ ap (λ (w : Who). kind_triggers c.kind (triggers_of index w.tenant c.table rule) c) by) indexed origin progress made.stored made.proper within setting.rules (λ q e. e) r.candidates;
     }

@@ -123,6 +123,8 @@ with_room d tables session records more clock later setting progress origin r sa
       who = r.who;
       changes = r.changes;
       past = r.past;
+      tested = r.tested;
+      untriggered = r.untriggered;
       marks = r.marks;
       base = r.base;
       made = record { numbered = r.made.numbered; stored = r.made.stored; proper = r.made.proper; made = same ∙ r.made.made };

@@ -159,7 +159,7 @@ module _ (setting : Setting) (eligible : ℕ → Bool) (progress : Progress) (al
 -- ---- the work goes on
 
 pub sessions-on : (a b c : Kept) (session : ℕ) → OtherSessionsStay a b session → OtherSessionsStay b c session → OtherSessionsStay a c session
-sessions-on a b c session f h s r other = ((h s r other).0 ∙ (f s r other).0, (h s r other).1 ∙ (f s r other).1)
+sessions-on a b c session f h s r other = ((h s r other).0 ∙ (f s r other).0, (h s r other).1 ∙ (f s r other).1, (h s r other).2 ∙ (f s r other).2)
 
 pub others-on : (session : ℕ) (old mid : Database) (a b c : List Record) → mid.id ≡ old.id → OthersStay (who_in old session) a b → OthersStay (who_in mid session) b c → OthersStay (who_in old session) a c
 others-on session old mid a b c same f h = λ other differs. h other (λ e. differs (e ∙ ap (λ (id : ℕ). record { tenant = id; session = session }) same)) ∙ f other differs

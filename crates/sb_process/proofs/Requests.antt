@@ -123,6 +123,8 @@ module _ (d : Database) (session : ℕ) (records : List Record) (clock : ℕ) (s
     who = r.who;
     changes = r.changes;
     past = r.past;
+    tested = r.tested;
+    untriggered = r.untriggered;
     marks = r.marks;
     base = r.base;
     made = r.made;

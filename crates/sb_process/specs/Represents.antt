@@ -1,19 +1,20 @@
 -- What memory and a log hold of a session's transaction.
-use Rattle.std.specs.Prelude.{◌≡◌, ◌≤◌, ℕ, Bool, ◌&&◌, nat_lt, List, [], ◌∷◌, IsTrue}
+use Rattle.std.specs.Prelude.{◌≡◌, ◌≤◌, ℕ, Bool, ◌&&◌, nat_lt, List, [], ◌∷◌, IsTrue, IsFalse}
 use Rattle.sb_value.specs.declared.change.Change.{Change}
 use Rattle.sb_value.specs.declared.id.Who.{Who}
 use Rattle.sb_value.specs.declared.lock.Mode.{Mode}
 use Rattle.sb_value.specs.declared.lock.Mode.TheVariants.{Write}
 use Rattle.sb_value.specs.Locks.{Locks, released}
+use Rattle.sb_value.specs.NetEffect.{is_triggered}
 use Rattle.sb_rawlog.specs.Records.{Record}
-use Rattle.sb_rawlog.specs.Sessions.{changes_by, mark_at}
+use Rattle.sb_rawlog.specs.Sessions.{changes_by, changes_between, mark_at}
 use Rattle.sb_tables.specs.Held.{Held, entries}
 use Rattle.sb_locks.specs.Held.{held}
 use Rattle.sb_catalog.specs.declared.rule.Rule.{Rule}
 use Rattle.sb_process.specs.declared.database.Database.{Database}
 use Rattle.sb_process.specs.Made.{AreMade}
 use Rattle.sb_process.specs.Sharing.{settled_where}
-use Rattle.sb_process.specs.Transactions.{Kept, mark_of, is_candidate_of, OtherSessionsStay}
+use Rattle.sb_process.specs.Transactions.{Kept, mark_of, tested_of, is_candidate_of, ArePast, OtherSessionsStay}
 use Rattle.sb_process.specs.Setting.{Setting, Progress, rule_is_triggered, tables_seen}
 
 -- the session of the tenant
@@ -26,17 +27,27 @@ AreCandidates kept session progress [] = Unit {0}
 AreCandidates kept session progress (rule ∷ rules) =
     (IsTrue rule.active → IsTrue (rule_is_triggered progress rule) → IsTrue (is_candidate_of kept session rule.id)) × AreCandidates kept session progress rules
 
+-- the changes since a rule's mark up to its last test don't trigger it
+abbrev pub AreUntriggered : Who → Kept → List Record → List Rule → Type 0
+AreUntriggered who kept records [] = Unit {0}
+AreUntriggered who kept records (rule ∷ rules) =
+    IsFalse (is_triggered rule.triggers rule.table (changes_between who (mark_of kept who.session rule.id) (tested_of kept who.session rule.id) records))
+    × AreUntriggered who kept records rules
+
 -- each table that is changed is locked for writing
 abbrev pub AreLocked : Locks → ℕ → List Change → Type 0
 AreLocked locks session [] = Unit {0}
 AreLocked locks session (c ∷ cs) = IsTrue (locks session c.table Write) × AreLocked locks session cs
 
 -- what the log has of the session is the transaction's list; a time that isn't past the clock stands for each mark;
+-- a rule was last tested after its mark, and what it was tested for doesn't trigger it;
 -- the tables are those that stand without the transaction, with its changes made; the locks are those that are held
 pub record Represents (origin : List Held) (database : Database) (session : ℕ) (records : List Record) (clock : ℕ) (setting : Setting) (progress : Progress) : Type 0 where
   pub who : setting.who ≡ who_in database session
   pub changes : changes_by (who_in database session) records ≡ progress.changes
   pub past : (rule : ℕ) → mark_of database.transactions session rule ≤ clock
+  pub tested : ArePast database.transactions session clock
+  pub untriggered : AreUntriggered (who_in database session) database.transactions records setting.rules
   pub marks : (rule : ℕ) → progress.marks rule ≡ mark_at (who_in database session) (mark_of database.transactions session rule) records
   pub base : entries origin ≡ setting.base
   pub made : AreMade origin progress.changes database.tables

@@ -1,21 +1,30 @@
 -- What a tenant keeps of its sessions' transactions beside their changes.
-use Rattle.std.specs.Prelude.{◌≡◌, ℕ, Bool, false, ◌==◌, List, [], slice_index, slice_index_or}
+use Rattle.std.specs.Prelude.{◌≡◌, ◌≤◌, ℕ, Bool, false, ◌==◌, List, [], slice_index, slice_index_or}
 use Rattle.sb_value.specs.Flags.{flag_at}
 
--- for each session a time for each rule, and a set of rules
+-- for each session two times for each rule, and a set of rules
 pub record Kept : Type 0 where
   pub marks : List (List ℕ)
+  pub tested : List (List ℕ)
   pub candidates : List (List Bool)
 
 -- the time of a rule's mark
 abbrev pub mark_of : Kept → ℕ → ℕ → ℕ
 mark_of kept session rule = slice_index (slice_index_or kept.marks session []) rule
 
+-- the time up to which the changes since a rule's mark were found not to trigger it
+abbrev pub tested_of : Kept → ℕ → ℕ → ℕ
+tested_of kept session rule = slice_index (slice_index_or kept.tested session []) rule
+
+-- a rule was tested no earlier than its mark was set, and before now
+abbrev pub ArePast : Kept → ℕ → ℕ → Type 0
+ArePast kept session clock = (rule : ℕ) → (mark_of kept session rule ≤ tested_of kept session rule) × (tested_of kept session rule ≤ clock)
+
 -- whether the rule is one of the session's candidates
 abbrev pub is_candidate_of : Kept → ℕ → ℕ → Bool
 is_candidate_of kept session rule = flag_at (slice_index_or kept.candidates session []) rule
 
--- the marks and the candidates of the other sessions stay
+-- the times and the candidates of the other sessions stay
 abbrev pub OtherSessionsStay : Kept → Kept → ℕ → Type 0
 OtherSessionsStay old new session =
-    (s r : ℕ) → (s == session) ≡ false → (mark_of new s r ≡ mark_of old s r) × (is_candidate_of new s r ≡ is_candidate_of old s r)
+    (s r : ℕ) → (s == session) ≡ false → (mark_of new s r ≡ mark_of old s r) × (tested_of new s r ≡ tested_of old s r) × (is_candidate_of new s r ≡ is_candidate_of old s r)

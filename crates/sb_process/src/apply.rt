@@ -58,7 +58,6 @@ impl Database {
         ready: Ready,
     )
         requires by { author ready.change ≡ who_in self.old session }
-        requires columns { length ready.change.columns ≤ 8 }
         requires there { IsTrue (has_number self.old.tables ready.change.table) }
         requires fits { fits_kind ready.change.kind ready.change (stored_at self.old.tables ready.change.table).table }
         requires place { HasPlaceFor ready.change.kind (stored_at self.old.tables ready.change.table) }

@@ -7,16 +7,16 @@ ghost use Rattle.sb_tables.specs.Held.{Held};
 ghost use Rattle.sb_process.specs.Represents.{Represents, who_in};
 ghost use Rattle.sb_process.specs.Setting as spec;
 ghost use Rattle.sb_process.specs.Setting.{Setting, Progress};
-ghost use Rattle.sb_process.specs.Transactions.{OtherSessionsStay};
-ghost use Rattle.sb_process.specs.Triggered.{AreSifted, HasCandidates, is_hit};
+ghost use Rattle.sb_process.specs.Transactions.{ArePast, OtherSessionsStay};
+ghost use Rattle.sb_process.specs.Triggered.{AreSifted, CanTest, CanTestAll, HasCandidates, is_hit};
 ghost use Rattle.sb_process.specs.Work.{AreActive, IsWork};
 
 use crate::database::Database;
 use crate::process::Rules;
 use sb_catalog::{Catalog, Rule};
-use sb_net::is_triggered;
+use sb_net::is_triggered_anew;
 use sb_rawlog::ChangeLog;
-use sb_value::{RuleId, RuleSet, SessionId, Who};
+use sb_value::{RuleId, RuleSet, SessionId, Who, proper_lists_have_lives};
 
 impl Database {
     /// The rule that is considered next: of the eligible rules that are triggered, the earliest created that no other
@@ -28,7 +28,8 @@ impl Database {
         session: SessionId,
         eligible: RuleSet,
     ) -> Option<&'a Rule>
-        requires { AreActive (flag_at eligible) rules.now.catalog.now }
+        requires work { (origin : List Held) × (setting : Setting) × (progress : Progress) × IsWork origin self.old session (L.records log.now) (L.clock log.now) rules.now.index.now rules.now.catalog.now rules.now.order.now setting progress }
+        requires active { AreActive (flag_at eligible) rules.now.catalog.now }
         ensures next { (origin : List Held) (setting : Setting) (progress : Progress) → IsWork origin self.old session (L.records log.now) (L.clock log.now) rules.now.index.now rules.now.catalog.now rules.now.order.now setting progress → option_copied result ≡ spec.next_rule setting (flag_at eligible) progress }
         ensures work { (origin : List Held) (setting : Setting) (progress : Progress) → IsWork origin self.old session (L.records log.now) (L.clock log.now) rules.now.index.now rules.now.catalog.now rules.now.order.now setting progress → IsWork origin self.new session (L.records log.now) (L.clock log.now) rules.now.index.now rules.now.catalog.now rules.now.order.now setting progress }
         ensures sessions { OtherSessionsStay self.old.transactions self.new.transactions session }
@@ -49,15 +50,17 @@ impl Database {
         session: SessionId,
         eligible: RuleSet,
     ) -> RuleSet
-        requires { AreActive (flag_at eligible) catalog.now }
+        requires transaction { (origin : List Held) × (setting : Setting) × (progress : Progress) × Represents origin self.old session (L.records log.now) (L.clock log.now) setting progress × (setting.rules ≡ catalog.now) }
+        requires active { AreActive (flag_at eligible) catalog.now }
         ensures set { (origin : List Held) (setting : Setting) (progress : Progress) → Represents origin self.old session (L.records log.now) (L.clock log.now) setting progress → setting.rules ≡ catalog.now → HasCandidates result (flag_at eligible) progress catalog.now }
         ensures stands { (origin : List Held) (setting : Setting) (progress : Progress) → Represents origin self.old session (L.records log.now) (L.clock log.now) setting progress → setting.rules ≡ catalog.now → Represents origin self.new session (L.records log.now) (L.clock log.now) setting progress }
         ensures sessions { OtherSessionsStay self.old.transactions self.new.transactions session }
         ensures only_candidates { self.new ≡ record self.old { transactions = self.new.transactions } }
     {
-        // for the proof: a time marks the changes that are older, and a rule's number is its own
+        // for the proof: a time marks the changes that are older, a rule's number is its own, and a tuple's changes are its life
         let _now = log.now();
         let _rules = catalog.rules();
+        proper_lists_have_lives();
         self.sift(log, catalog, session, eligible)
     }
 
@@ -69,16 +72,19 @@ impl Database {
         session: SessionId,
         eligible: RuleSet,
     ) -> RuleSet
-        ensures sifted { AreSifted (who_in self.old session) (L.records log.now) catalog.now eligible self.old.transactions self.new.transactions result }
+        requires past { ArePast self.old.transactions session (L.clock log.now) }
+        requires can { CanTestAll (who_in self.old session) self.old.transactions (L.records log.now) catalog.now }
+        ensures sifted { AreSifted (who_in self.old session) (L.records log.now) (L.clock log.now) catalog.now eligible self.old.transactions self.new.transactions result }
         ensures sessions { OtherSessionsStay self.old.transactions self.new.transactions session }
         ensures only_candidates { self.new ≡ record self.old { transactions = self.new.transactions } }
     {
+        let now = log.now();
         let mut set = self.transactions.candidates(session).intersection(eligible);
         let mut next = 0;
         while let Some(rule) = set.first_from(next) {
             next = rule.index() + 1;
             if !self.is_hit(log, catalog, session, rule) {
-                self.transactions.leave(session, rule);
+                self.transactions.leave(session, rule, now);
                 set = set.without(rule);
             }
         }
@@ -93,6 +99,8 @@ impl Database {
         session: SessionId,
         rule: RuleId,
     ) -> bool
+        requires past { ArePast self.now.transactions session (L.clock log.now) }
+        requires can { CanTest (who_in self.now session) self.now.transactions (L.records log.now) (numbered catalog.now rule) }
         ensures { result ≡ is_hit (who_in self.now session) self.now.transactions (L.records log.now) (numbered catalog.now rule) }
     {
         let Some(rule) = catalog.rule(rule) else {
@@ -103,6 +111,7 @@ impl Database {
             session,
         };
         let since = self.transactions.mark(session, rule.id);
-        is_triggered(log, who, rule.table, rule.triggers, since)
+        let tested = self.transactions.tested(session, rule.id);
+        is_triggered_anew(log, who, rule.table, rule.triggers, since, tested)
     }
 }

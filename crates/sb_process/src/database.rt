@@ -5,7 +5,7 @@ ghost use Rattle.sb_value.specs.declared.lock.Mode.{Mode};
 ghost use Rattle.sb_rawlog.specs.Sessions.{changes_by, OthersStay};
 ghost use Rattle.sb_locks.specs.Held.{held};
 ghost use Rattle.sb_process.specs.Setting.{Setting, Progress};
-ghost use Rattle.sb_process.specs.Transactions.{mark_of, is_candidate_of};
+ghost use Rattle.sb_process.specs.Transactions.{mark_of, tested_of, is_candidate_of};
 
 use crate::transactions::Transactions;
 use sb_locks::Locks;
@@ -30,6 +30,7 @@ impl Database {
         ensures tables { result.tables ≡ [] }
         ensures locks { (s t : ℕ) (m : Mode) → held result.locks s t m ≡ no_locks s t m }
         ensures marks { (s r : ℕ) → mark_of result.transactions s r ≡ 0 }
+        ensures tested { (s r : ℕ) → tested_of result.transactions s r ≡ 0 }
     {
         Database {
             id,

@@ -9,7 +9,7 @@ ghost use Rattle.sb_process.specs.Represents.{IsTakenBack, who_in};
 ghost use Rattle.sb_process.specs.Running.{ComesTo, Finds, is_done};
 ghost use Rattle.sb_process.specs.Setting.{Setting, Progress};
 ghost use Rattle.sb_process.specs.Statement.{RisesBy};
-ghost use Rattle.sb_process.specs.Transactions.{OtherSessionsStay, mark_of};
+ghost use Rattle.sb_process.specs.Transactions.{OtherSessionsStay, ArePast};
 ghost use Rattle.sb_process.specs.Work.{AreActive, CanRun, IsWork, Processes};
 
 use crate::database::Database;
@@ -67,7 +67,7 @@ impl Database {
         ensures others { OthersStay (who_in self.old session) (L.records log.old) (L.records log.new) }
         ensures times { RisesBy (32768 * bound) (L.clock log.old) (L.clock log.new) }
         ensures numbers { (n : ℕ) → NumbersBelow n self.old.tables → NumbersBelow (n + 32768 * bound) self.new.tables }
-        ensures past { (rule : ℕ) → mark_of self.new.transactions session rule ≤ L.clock log.new }
+        ensures past { ArePast self.new.transactions session (L.clock log.new) }
     {
         let mut list = Vec::new(alloc);
         match self.consider_all(alloc, log, rules, session, eligible, bound, &mut list) {

@@ -31,7 +31,7 @@ loop-ready-init g c =
             (sym (append-nil progress.changes)) r,
       );
       id = refl;
-      sessions = λ s r other. (refl, refl);
+      sessions = λ s r other. (refl, refl, refl);
       others = λ other differs. refl;
       numbers = λ n b. (n, omega (arith, ap length same), b);
     }
@@ -72,7 +72,7 @@ loop-ready-preserved g c =
             (subst (λ (id : ℕ). AreIndexed c.args.index.now id setting.rules) (sym v.id) indexed)),
       );
       id = same ∙ v.id;
-      sessions = λ s r other. let a = c.apply_one.ensures.sessions s r other in let b = v.sessions s r other in (a.0 ∙ b.0, a.1 ∙ b.1);
+      sessions = λ s r other. let a = c.apply_one.ensures.sessions s r other in let b = v.sessions s r other in (a.0 ∙ b.0, a.1 ∙ b.1, a.2 ∙ b.2);
       others = λ other differs.
           c.apply_one.ensures.others other (λ is. differs (is ∙ ap (λ (id : ℕ). let w : Who = record { tenant = id; session = c.args.session } in w) v.id)) ∙ v.others other differs;
       numbers = λ n b.

@@ -30,7 +30,7 @@ returns-clause-kept g c = λ origin setting progress r.
       };
       settled = done ∙ same-settled written (is_written progress.locks session) (λ t. ap (λ (b : Bool). nat_lt t 16 && b) (r.locks session t Write)) old;
       locks = λ s t m. c.release.ensures s t m ∙ same_released _ progress.locks session r.locks s t m;
-      sessions = λ s o other. (refl, refl);
+      sessions = λ s o other. (refl, refl, refl);
     }
 
 pub returns-clause-numbers : goal.returns-clause-numbers

@@ -311,3 +311,25 @@ returns-in-None-clause-numbers g c = λ n h.
     let turn = c.loop-turn._turn in
     each-weaken (n + 32768 * turn) (n + 32768 * c.args.bound) (entries c.next_rule-2.new.self.tables) (omega (arith, c.loop-turn.auto._turn-end))
     (subst (λ (d : Database). EachBelow (n + 32768 * turn) (entries d.tables)) (sym c.next_rule-2.ensures.only_candidates) (c.loop-turn.invariant.numbers n h))
+
+-- ---- the work of each turn
+
+pub next_rule-requires-clause-work : goal.next_rule-requires-clause-work
+next_rule-requires-clause-work g c =
+    let w = c.requires.work in let r = c.loop-turn.invariant.reached w.0 w.1 w.2 w.3 in (
+      w.0,
+      w.1,
+      r.after,
+      work-after w.0 c.args.session c.args.rules.now.index.now c.args.rules.now.catalog.now c.args.rules.now.order.now w.1 w.2 c.args.self.now (g.L.ChangeLog.records c.args.log.now) (g.L.ChangeLog.clock c.args.log.now) w.3
+          c.loop-turn.self (g.L.ChangeLog.records c.loop-turn.log) (g.L.ChangeLog.clock c.loop-turn.log) r.after r.comes_to c.loop-turn.invariant.id,
+    )
+
+pub next_rule-requires-2-clause-work : goal.next_rule-requires-2-clause-work
+next_rule-requires-2-clause-work g c =
+    let w = c.requires.work in let r = c.loop-turn.invariant.reached w.0 w.1 w.2 w.3 in (
+      w.0,
+      w.1,
+      r.after,
+      work-after w.0 c.args.session c.args.rules.now.index.now c.args.rules.now.catalog.now c.args.rules.now.order.now w.1 w.2 c.args.self.now (g.L.ChangeLog.records c.args.log.now) (g.L.ChangeLog.clock c.args.log.now) w.3
+          c.loop-turn.self (g.L.ChangeLog.records c.loop-turn.log) (g.L.ChangeLog.clock c.loop-turn.log) r.after r.comes_to c.loop-turn.invariant.id,
+    )

@@ -1,6 +1,6 @@
 use Rattle.std.proofs.Common.{◌∙◌, ap, subst, cond, nat_eq, ◌&&◌, ℕ}
 use Rattle.sb_rawlog.specs.Records.{Rising}
-use Rattle.sb_process.specs.Transactions.{mark_of}
+use Rattle.sb_process.specs.Transactions.{mark_of, tested_of}
 use Rattle.sb_process.proofs.MarkLaws.{represents-marked}
 use Rattle.sb_process.proofs.database.Database.mark_now.Goals as goal
 
@@ -10,4 +10,5 @@ returns-clause-marked g c = λ origin setting progress r.
     let records = g.L.ChangeLog.records c.args.log.now in
     let clock = g.L.ChangeLog.clock c.args.log.now in
     represents-marked origin d c.args.session records clock setting progress r (subst (Rising 0 records) c.now.ensures.clock c.now.ensures.rising) c.args.rule.now c.set_mark.new.self
-    (λ s x. c.set_mark.ensures.marks s x ∙ ap (λ (t : ℕ). cond ((nat_eq s c.args.session) && (nat_eq x c.args.rule.now.id)) t (mark_of d.transactions s x)) c.now.ensures.clock) c.set_mark.ensures.candidates
+    (λ s x. c.set_mark.ensures.marks s x ∙ ap (λ (t : ℕ). cond ((nat_eq s c.args.session) && (nat_eq x c.args.rule.now.id)) t (mark_of d.transactions s x)) c.now.ensures.clock)
+    (λ s x. c.set_mark.ensures.tested s x ∙ ap (λ (t : ℕ). cond ((nat_eq s c.args.session) && (nat_eq x c.args.rule.now.id)) t (tested_of d.transactions s x)) c.now.ensures.clock) c.set_mark.ensures.candidates

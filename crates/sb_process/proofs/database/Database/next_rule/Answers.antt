@@ -35,3 +35,6 @@ returns-in-None-clause-work g c = λ origin setting progress w. record {
   indexed = subst (λ (d : Database). AreIndexed c.args.rules.now.index.now d.id c.args.rules.now.catalog.now) (sym c.candidates-set.ensures.only_candidates) w.indexed;
   ordered = w.ordered;
 }
+
+pub candidates-set-requires-clause-transaction : goal.candidates-set-requires-clause-transaction
+candidates-set-requires-clause-transaction g c = let w = c.requires.work in (w.0, w.1, w.2, (w.3).transaction, (w.3).rules)

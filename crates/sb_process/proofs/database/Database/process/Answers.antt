@@ -79,14 +79,14 @@ returns-in-Err-clause-numbers g c = λ n h. c.rollback-in-Err.ensures.numbers (n
 
 pub returns-then-is_done-clause-past : goal.returns-then-is_done-clause-past
 returns-then-is_done-clause-past g c = λ rule.
-    let w = c.requires.work in let come = c.consider_all.ensures.under_way w.0 w.1 w.2 w.3 in (come.1).stands.past rule
+    let w = c.requires.work in let come = c.consider_all.ensures.under_way w.0 w.1 w.2 w.3 in (come.1).stands.tested rule
 
 pub returns-else-is_done-clause-past : goal.returns-else-is_done-clause-past
 returns-else-is_done-clause-past g c = λ rule.
     let w = c.requires.work in let come = c.consider_all.ensures.under_way w.0 w.1 w.2 w.3 in
-    rw (c.rollback.ensures.transactions, c.rollback.ensures.clock) ((come.1).stands.past rule)
+    rw (c.rollback.ensures.transactions, c.rollback.ensures.clock) ((come.1).stands.tested rule)
 
 pub returns-in-Err-clause-past : goal.returns-in-Err-clause-past
 returns-in-Err-clause-past g c = λ rule.
     let w = c.requires.work in let come = c.consider_all.ensures.under_way w.0 w.1 w.2 w.3 in
-    rw (c.rollback-in-Err.ensures.transactions, c.rollback-in-Err.ensures.clock) ((come.1).stands.past rule)
+    rw (c.rollback-in-Err.ensures.transactions, c.rollback-in-Err.ensures.clock) ((come.1).stands.tested rule)

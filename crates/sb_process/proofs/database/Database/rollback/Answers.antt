@@ -16,7 +16,7 @@ returns-clause-back g c = λ origin setting progress r.
       tables = entries-made origin [] c.undo_all.new.tables back ∙ r.base;
       made = back;
       locks = λ s t m. c.release.ensures s t m ∙ same_released _ progress.locks c.args.session r.locks s t m;
-      sessions = λ s o other. (refl, refl);
+      sessions = λ s o other. (refl, refl, refl);
     }
 
 pub returns-clause-numbers : goal.returns-clause-numbers
