@@ -25,7 +25,7 @@ use Rattle.sb_tenant.specs.declared.store.Store.{Store}
 use Rattle.sb_tenant.specs.Defining.{IsAtRest, IsDone, Defines, HasFewActions, is_under_way, is_not_closed, is_another_under_way, phase_refusal, told}
 use Rattle.sb_tenant.specs.Limits.{is_session}
 use Rattle.sb_tenant.specs.Represents.{StandFor, Performs, Leaves, phase_at, phase_of}
-use Rattle.sb_tenant.specs.Resolved.{Class, opens, ends, begins, defines, works}
+use Rattle.sb_tenant.specs.Resolved.{Class, opens, ends, begins, defines}
 use Rattle.sb_tenant.specs.State.{State, Session, closed, idle, active, session_at, is_open, has_transaction, rolled_back}
 use Rattle.sb_tenant.specs.Step.{refusal_by, first_of, session_refusal, outcome_of, reply_to_command, reply_to}
 use Rattle.sb_tenant.specs.Trail.{aborted}

@@ -19,6 +19,8 @@ use Rattle.sb_tenant.specs.declared.store.Store.{Store}
 use Rattle.sb_tenant.specs.Defining.{IsAtRest, is_under_way}
 use Rattle.sb_tenant.specs.Limits.{is_session}
 use Rattle.sb_tenant.specs.Represents.{Holds, StandFor, phase_of, all_changes}
+use Rattle.sb_tenant.specs.Logged.{who_of}
+use Rattle.sb_tenant.proofs.Moves.{none-untriggered}
 use Rattle.sb_tenant.specs.State.{State, Catalog, Session, closed, idle, active, session_at, changes_of, progress_of}
 
 -- ---- no changes
@@ -92,5 +94,11 @@ stands_anew old records clock before after state origin tables definitions catal
       runnable = kept.runnable;
     },
   ),
-  record { transactions = agrees.transactions; marks = agrees.marks; indexed = kept.indexed },
+  record {
+    transactions = agrees.transactions;
+    marks = agrees.marks;
+    past = agrees.past;
+    untriggered = λ s i. none-untriggered (who_of old.database.id s) old.database.transactions records (agrees.transactions s i ∙ none old first state rest holds s i) catalog.rules;
+    indexed = kept.indexed;
+  },
 )

@@ -1,5 +1,5 @@
 -- The calls on a session's transaction, each from what the database says of it.
-use Rattle.std.proofs.Common.{◌≡◌, ◌∙◌, ◌⊎◌, inl, inr, ℕ, ◌<◌, ◌≤◌, Bool, true, false, not, ◌&&◌, cond, nat_eq, List, [], ◌∷◌, ◌++◌, length, Option, Some, None, Result, Ok, Err, refl, sym, ap, subst, true≢false, lt-ltb, IsTrue}
+use Rattle.std.proofs.Common.{◌≡◌, ◌∙◌, ◌⊎◌, inl, inr, ℕ, ◌<◌, Bool, true, false, not, ◌&&◌, cond, nat_eq, List, [], ◌∷◌, ◌++◌, length, Option, Some, None, Result, Ok, Err, refl, sym, ap, subst, true≢false, lt-ltb, IsTrue}
 use Rattle.std.proofs.lemmas.Bool.{eq-eqb}
 use Rattle.sb_value.specs.declared.value.Value.{Value}
 use Rattle.sb_value.specs.declared.change.Change.{Change}
@@ -23,7 +23,7 @@ use Rattle.sb_process.specs.Request.{IsAnswer, after_request, Selects}
 use Rattle.sb_process.specs.Setting.{Setting, Progress, seen_with}
 use Rattle.sb_process.specs.Sharing.{TablesAreShared}
 use Rattle.sb_process.specs.Statement.{changes_meant, with_changes_of, after_statement, counted, Runs}
-use Rattle.sb_process.specs.Transactions.{mark_of}
+use Rattle.sb_process.specs.Transactions.{ArePast}
 use Rattle.sb_process.specs.Work.{Stands}
 use Rattle.sb_process.specs.declared.Outcome.{Outcome}
 use Rattle.sb_process.specs.declared.Outcome.TheVariants.{Done, ByRule, ByError, ByLimit}
@@ -168,13 +168,13 @@ module _ (laws : TablesAreShared) (s : ℕ) (is : IsTrue (is_session s)) (old ne
       (begin (record { who = refl; none = before.changes ∙ none; base = before.base; made = subst (λ cs. AreMade base cs old.database.tables) none before.made })) refl
 
   -- it is taken back
-  pub goes-back : phase_at new.phases s ≡ Idle → ((rule : ℕ) → mark_of new.database.transactions s rule ≤ later) → IsTakenBack base old.database new.database s after setting progress → StandFor new after later index (rolled_back state s)
+  pub goes-back : phase_at new.phases s ≡ Idle → ArePast new.database.transactions s later → IsTakenBack base old.database new.database s after setting progress → StandFor new after later index (rolled_back state s)
   goes-back phase past b =
       stands-back laws s is old new earlier after clock later index state (rolled_back state s) origin h a c (after-session idle (released state.locks s)) (ap changes_of (own_session state s idle))
       (λ rule. ap (λ x. marks_of x rule) (own_session state s idle)) refl (phase ∙ ap phase_of (sym (own_session state s idle))) past old.database b refl
 
   -- or kept
-  pub goes-in : phase_at new.phases s ≡ Idle → ((rule : ℕ) → mark_of new.database.transactions s rule ≤ later) → IsKept old.database new.database s after setting progress → StandFor new after later index (committed state s)
+  pub goes-in : phase_at new.phases s ≡ Idle → ArePast new.database.transactions s later → IsKept old.database new.database s after setting progress → StandFor new after later index (committed state s)
   goes-in phase past b =
       stands-kept laws s is old new earlier after clock later index state (committed state s) origin h a c (record { sessions = λ o other. other_session state s idle o other; rules = refl; pairs = refl; rulesets = refl })
       (ap changes_of (own_session state s idle)) (λ rule. ap (λ x. marks_of x rule) (own_session state s idle)) refl (phase ∙ ap phase_of (sym (own_session state s idle))) past b refl
@@ -332,7 +332,7 @@ module _ (laws : TablesAreShared) (s : ℕ) (is : IsTrue (is_session s)) (old ne
           by ByLimit e r = absurd (true≢false (sym e))
 
       -- and else it is taken back
-      pub back-stands : is_done o ≡ false → phase_at new.phases s ≡ Idle → ((rule : ℕ) → mark_of new.database.transactions s rule ≤ later) → Stands base old.database new.database s after later setting progress (stands_after o p) →
+      pub back-stands : is_done o ≡ false → phase_at new.phases s ≡ Idle → ArePast new.database.transactions s later → Stands base old.database new.database s after later setting progress (stands_after o p) →
           StandFor new after later index (stands_as state s stays (stands_after o p)) × StandAside new after later index state s
       back-stands back phase past stands = by o back stands
         where

@@ -51,7 +51,7 @@ reindexed : (store : Store) (records : List Record) (clock : ℕ) (before after 
     → StandFor store records clock before state → StandFor store records clock after state
 reindexed store records clock before after state indexed ((origin, holds), agrees) =
     let there : AreIndexed before store.database.id store.definitions.rules = subst (AreIndexed before store.database.id) (sym holds.rules) agrees.indexed in
-    ((origin, holds), record { transactions = agrees.transactions; marks = agrees.marks; indexed = subst (AreIndexed after store.database.id) holds.rules (indexed there) })
+    ((origin, holds), record { transactions = agrees.transactions; marks = agrees.marks; past = agrees.past; untriggered = agrees.untriggered; indexed = subst (AreIndexed after store.database.id) holds.rules (indexed there) })
 
 module _ (command : Command) where
   -- where nothing has changed, the walk refuses the command, or memory ran out

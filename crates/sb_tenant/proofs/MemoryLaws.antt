@@ -1,5 +1,5 @@
--- The definitions never answer that memory ran out: neither a walk, nor a statement, nor a step.
-use Rattle.std.proofs.Common.{◌≡◌, ℕ, ◌+◌, Bool, true, false, not, ◌&&◌, ◌==◌, List, [], ◌∷◌, length, Option, Some, None, Result, Ok, Err, refl}
+-- The definitions never answer that memory ran out, and that the trail is full only where it is: neither a walk nor a statement says so.
+use Rattle.std.proofs.Common.{◌≡◌, ℕ, ◌+◌, Bool, true, false, not, ◌&&◌, ◌==◌, List, [], ◌∷◌, length, Option, Some, None, Result, Ok, Err, refl, sym, ap, ◌∙◌, inl, inr}
 use Rattle.sb_value.specs.declared.value.ColumnType.{ColumnType}
 use Rattle.sb_value.specs.declared.value.ColumnDefinition.{ColumnDefinition}
 use Rattle.sb_value.specs.declared.net.Triggers.{Triggers}
@@ -52,26 +52,35 @@ use Rattle.sb_catalog.specs.Rules.{rule_named, is_active}
 use Rattle.sb_tenant.specs.Walk.{unless, walk_lists, walk_rule, of_members, walk, class_of}
 use Rattle.sb_tenant.specs.Perform.{reply_rows, change_seen, with_request, reply_of, named, process_at, stays, select_seen, perform_change, perform}
 use Rattle.sb_tenant.specs.Step.{first_of, session_refusal, outcome_of, reply_to_command, reply_to, numbered, is_full_for, step}
-use Rattle.sb_tenant.specs.Trail.{is_no_memory}
+use Rattle.sb_tenant.specs.declared.reply.Entry.{Entry as TrailEntry}
+use Rattle.sb_tenant.specs.Trail.{Extends, is_no_memory, state_of}
+use Rattle.sb_tenant.specs.TrailLaws.{AnswersAreNumbered}
+use Rattle.std.proofs.lemmas.Bool.{false≢true}
 
-abbrev is_memory : Refusal → Bool
-is_memory refusal.NoMemory = true
-is_memory other = false
+-- what only a trail or want of memory answers
+abbrev is_outside : Refusal → Bool
+is_outside refusal.NoMemory = true
+is_outside refusal.TrailFull = true
+is_outside other = false
+
+abbrev says_outside : Reply → Bool
+says_outside (reply.No r) = is_outside r
+says_outside other = false
 
 -- a result that is there, or a refusal for another reason
 pub data IsFine {A : Type 0} : Result A Refusal → Type 0 where
   given : (a : A) → IsFine (Ok a)
-  refused : (e : Refusal) → is_memory e ≡ false → IsFine (Err e)
+  refused : (e : Refusal) → is_outside e ≡ false → IsFine (Err e)
 
 fine-and_then : {A B : Type 0} (r : Result A Refusal) (next : A → Result B Refusal) → IsFine r → ((a : A) → IsFine (next a)) → IsFine (and_then r next)
 fine-and_then r next (given a) h = h a
 fine-and_then r next (refused e p) h = refused e p
 
-fine-required : {A : Type 0} (b : Bool) (e : Refusal) (next : Result A Refusal) → is_memory e ≡ false → IsFine next → IsFine (required b e next)
+fine-required : {A : Type 0} (b : Bool) (e : Refusal) (next : Result A Refusal) → is_outside e ≡ false → IsFine next → IsFine (required b e next)
 fine-required true e next p h = h
 fine-required false e next p h = refused e p
 
-fine-some_or : {A : Type 0} (e : Refusal) (o : Option A) → is_memory e ≡ false → IsFine (some_or e o)
+fine-some_or : {A : Type 0} (e : Refusal) (o : Option A) → is_outside e ≡ false → IsFine (some_or e o)
 fine-some_or e None p = refused e p
 fine-some_or e (Some a) p = given a
 
@@ -288,9 +297,9 @@ fine-statement_changes seen s = fine-within_rows (rows_after seen s) (within_cos
 
 abbrev IsFineIfAny : Option Refusal → Type 0
 IsFineIfAny None = Unit {0}
-IsFineIfAny (Some r) = is_memory r ≡ false
+IsFineIfAny (Some r) = is_outside r ≡ false
 
-fine-first_of : (b : Bool) (r : Refusal) (others : Option Refusal) → is_memory r ≡ false → IsFineIfAny others → IsFineIfAny (first_of b r others)
+fine-first_of : (b : Bool) (r : Refusal) (others : Option Refusal) → is_outside r ≡ false → IsFineIfAny others → IsFineIfAny (first_of b r others)
 fine-first_of true r others p h = p
 fine-first_of false r others p h = h
 
@@ -309,35 +318,35 @@ fine-session_refusal works state s =
     fine-first_of (not (is_open (session_at state s))) refusal.NotOpen (first_of (not (has_transaction (session_at state s))) refusal.NoTransaction None) refl
     (fine-first_of (not (has_transaction (session_at state s))) refusal.NoTransaction None refl tt)
 
-fine-reply_rows : (r : Result (List (List Value)) Refusal) → IsFine r → is_no_memory (reply_rows r) ≡ false
+fine-reply_rows : (r : Result (List (List Value)) Refusal) → IsFine r → says_outside (reply_rows r) ≡ false
 fine-reply_rows r (given rows) = refl
 fine-reply_rows r (refused e p) = p
 
-fine-change_seen : (state : State) (s : ℕ) (progress : Progress) (r : Result (List Change) Refusal) → IsFine r → is_no_memory (change_seen state s progress r).1 ≡ false
+fine-change_seen : (state : State) (s : ℕ) (progress : Progress) (r : Result (List Change) Refusal) → IsFine r → says_outside (change_seen state s progress r).1 ≡ false
 fine-change_seen state s progress r (given changes) = refl
 fine-change_seen state s progress r (refused e p) = p
 
-fine-with_request : (state : State) (s : ℕ) (request : List (ℕ × Mode)) (next : Progress → State × Reply) → ((p : Progress) → is_no_memory (next p).1 ≡ false) →
-    is_no_memory (with_request state s request next).1 ≡ false
+fine-with_request : (state : State) (s : ℕ) (request : List (ℕ × Mode)) (next : Progress → State × Reply) → ((p : Progress) → says_outside (next p).1 ≡ false) →
+    says_outside (with_request state s request next).1 ≡ false
 fine-with_request state s request next h =
     elim (first_conflict state.locks s request) as (λ x.
     let r : State × Reply = elim x [
       | Some table ↦ (state, reply.No (refusal.Locked (name_at state.catalog.tables table)))
       | None ↦ next (record (progress_of state s) { locks = with_locks state.locks s request })
-    ] in is_no_memory r.1 ≡ false) [ Some table ↦ refl | None ↦ h _ ]
+    ] in says_outside r.1 ≡ false) [ Some table ↦ refl | None ↦ h _ ]
 
-fine-reply_of : (catalog : Catalog) (outcome : Outcome) (trace : List (List ℕ × Verdict)) → is_no_memory (reply_of catalog outcome trace) ≡ false
+fine-reply_of : (catalog : Catalog) (outcome : Outcome) (trace : List (List ℕ × Verdict)) → says_outside (reply_of catalog outcome trace) ≡ false
 fine-reply_of catalog Done trace = refl
 fine-reply_of catalog (ByRule r) trace = refl
 fine-reply_of catalog (ByError r e) trace = refl
 fine-reply_of catalog ByLimit trace = refl
 
 module _ (tenant bound : ℕ) (state : State) (s : ℕ) where
-  fine-process_at : (eligible : ℕ → Bool) (finish : State → State) → is_no_memory (process_at tenant bound state s eligible finish).1 ≡ false
+  fine-process_at : (eligible : ℕ → Bool) (finish : State → State) → says_outside (process_at tenant bound state s eligible finish).1 ≡ false
   fine-process_at eligible finish =
       let p = process bound (setting_of tenant state s) eligible (progress_of state s) in fine-reply_of state.catalog p.outcome (named state.catalog p.trace)
 
-  fine-perform : (r : Resolved) → is_no_memory (perform tenant bound state s r).1 ≡ false
+  fine-perform : (r : Resolved) → says_outside (perform tenant bound state s r).1 ≡ false
   fine-perform open_session = refl
   fine-perform end_session = refl
   fine-perform begin = refl
@@ -365,15 +374,15 @@ module _ (tenant bound : ℕ) (state : State) (s : ℕ) where
       (fine-statement_changes (seen_with (setting_of tenant state s) no_transition p) statement))
 
 module _ (tenant bound : ℕ) (state : State) (s : ℕ) where
-  fine-outcome_of : (r : Option Refusal) (w : Result Resolved Refusal) → IsFineIfAny r → IsFine w → is_no_memory (outcome_of tenant bound state s r w).1 ≡ false
+  fine-outcome_of : (r : Option Refusal) (w : Result Resolved Refusal) → IsFineIfAny r → IsFine w → says_outside (outcome_of tenant bound state s r w).1 ≡ false
   fine-outcome_of (Some r) w p h = p
   fine-outcome_of None w p (refused e q) = q
   fine-outcome_of None w p (given r) = fine-perform tenant bound state s r
 
-  fine-reply_to : (line : List ℕ) → is_no_memory (reply_to tenant bound state s line).1 ≡ false
+  fine-reply_to : (line : List ℕ) → says_outside (reply_to tenant bound state s line).1 ≡ false
   fine-reply_to line =
       elim (command_of line) as (λ c.
-      let r : State × Reply = elim c [ None ↦ (state, reply.No refusal.Syntax) | Some command ↦ reply_to_command tenant bound state s command ] in is_no_memory r.1 ≡ false) [
+      let r : State × Reply = elim c [ None ↦ (state, reply.No refusal.Syntax) | Some command ↦ reply_to_command tenant bound state s command ] in says_outside r.1 ≡ false) [
         | None ↦ refl
         | Some command ↦ fine-outcome_of (session_refusal (class_of command) state s) (walk state.catalog command) (fine-session_refusal (class_of command) state s) (fine-walk state.catalog command)
       ]
@@ -382,4 +391,34 @@ module _ (tenant bound : ℕ) (state : State) (s : ℕ) where
   fine-step line =
       elim (is_full_for state s line) as (λ b.
       let r : State × Answer = elim b [ true ↦ (state, record { number = None; reply = reply.No refusal.TrailFull }) | false ↦ numbered state (reply_to tenant bound state s line) ] in
-      is_no_memory r.1.reply ≡ false) [ true ↦ refl | false ↦ fine-reply_to line ]
+      is_no_memory r.1.reply ≡ false) [ true ↦ refl | false ↦ memory (reply_to tenant bound state s line).1 (fine-reply_to line) ]
+    where
+      memory : (r : Reply) → says_outside r ≡ false → is_no_memory r ≡ false
+      memory (reply.No refusal.NoMemory) h = h
+      memory other h = refl
+
+  -- a full trail alone is answered without a number
+  unnumbered : (line : List ℕ) → (step tenant bound state s line).1.reply ≡ reply.No refusal.TrailFull → (step tenant bound state s line).1.number ≡ None
+  unnumbered line =
+      elim (is_full_for state s line) as (λ b.
+      let r : State × Answer = elim b [ true ↦ (state, record { number = None; reply = reply.No refusal.TrailFull }) | false ↦ numbered state (reply_to tenant bound state s line) ] in
+      r.1.reply ≡ reply.No refusal.TrailFull → r.1.number ≡ None) [
+        | true ↦ λ told. refl
+        | false ↦ λ told. absurd (false≢true (sym (fine-reply_to line) ∙ ap says_outside told))
+      ]
+
+-- ---- the answer of a step
+
+module _ (tenant bound : ℕ) where
+  has-number : (trail new : List TrailEntry) (s : ℕ) (line : List ℕ) (answer : Answer) → Extends tenant bound trail s line answer new → answer.number ≡ None → ⊥
+  has-number trail new s line answer (longer, number, next) none = absurd (let e = sym number ∙ none in cc)
+
+  not-full : (trail new : List TrailEntry) (s : ℕ) (line : List ℕ) (answer : Answer) → Extends tenant bound trail s line answer new → answer.reply ≡ reply.No refusal.TrailFull → ⊥
+  not-full trail new s line answer (longer, number, (one, inl (fine, stepped))) full =
+      let none = unnumbered tenant bound (state_of tenant bound trail) s line (ap (λ (r : State × Answer). r.1.reply) stepped ∙ full) in
+      absurd (let e = sym none ∙ ap (λ (r : State × Answer). r.1.number) stepped in cc)
+  not-full trail new s line answer (longer, number, (one, inr (told, aborted, may))) full = absurd (let e = sym told ∙ full in cc)
+
+  pub are_numbered : AnswersAreNumbered tenant bound
+  are_numbered trail new s line answer (inl more) = ((λ none. absurd (has-number trail new s line answer more none)), (λ full. absurd (not-full trail new s line answer more full)))
+  are_numbered trail new s line answer (inr (full, is, same)) = ((λ none. ap (λ (a : Answer). a.reply) is), (λ told. ap (λ (a : Answer). a.number) is))

@@ -1,10 +1,11 @@
 -- What stands after the calls on a session's transaction.
-use Rattle.std.proofs.Common.{◌≡◌, ◌∙◌, ℕ, ◌≤◌, Bool, false, ◌||◌, nat_eq, List, [], ◌∷◌, ◌++◌, drop, length, refl, sym, ap, subst, true≢false, IsTrue}
+use Rattle.std.proofs.Common.{◌≡◌, ◌∙◌, ℕ, ◌≤◌, Bool, false, ◌||◌, nat_eq, List, [], ◌∷◌, ◌++◌, drop, length, refl, sym, ap, subst, true≢false, IsTrue, filter, nat_le, nat_lt, ◌&&◌, arith}
 use Rattle.sb_value.specs.declared.lock.Mode.{Mode}
 use Rattle.std.proofs.Math.Seq.{drop-nil}
 use Rattle.sb_value.specs.Locks.{sessions, released}
 use Rattle.sb_value.specs.NetEffect.{is_triggered}
 use Rattle.sb_value.specs.Table.{after_all, has_table}
+use Rattle.sb_value.specs.declared.id.Who.{Who}
 use Rattle.sb_rawlog.specs.Records.{Record, before}
 use Rattle.sb_rawlog.specs.Sessions.{changes, records_by, OthersStay as OtherRecordsStay}
 use Rattle.sb_tables.specs.Held.{Held, entries, has_number}
@@ -12,10 +13,10 @@ use Rattle.sb_locks.specs.Held.{held}
 use Rattle.sb_index.specs.TableSets.{TableSets}
 use Rattle.sb_catalog.specs.declared.rule.Rule.{Rule}
 use Rattle.sb_process.specs.Made.{AreMade, tables_after_all}
-use Rattle.sb_process.specs.Represents.{Represents, AreCandidates, AreLocked, IsTakenBack, IsKept, is_written}
+use Rattle.sb_process.specs.Represents.{Represents, AreCandidates, AreUntriggered, AreLocked, IsTakenBack, IsKept, is_written}
 use Rattle.sb_process.specs.Setting.{Progress}
 use Rattle.sb_process.specs.Sharing.{settled_where, TablesAreShared}
-use Rattle.sb_process.specs.Transactions.{Kept, mark_of, OtherSessionsStay}
+use Rattle.sb_process.specs.Transactions.{Kept, mark_of, tested_of, ArePast, OtherSessionsStay}
 use Rattle.sb_process.specs.declared.database.Database.{Database}
 use Rattle.sb_tenant.specs.declared.phase.Phase.TheVariants.{Active}
 use Rattle.sb_tenant.specs.declared.store.Store.{Store}
@@ -42,6 +43,17 @@ no-candidates kept s p e [] = tt
 no-candidates kept s p e (rule ∷ rules) = (
   λ active triggered. absurd (true≢false (sym triggered ∙ ap (is_triggered rule.triggers rule.table) (drop-none (p.marks rule.id) p.changes e))),
   no-candidates kept s p e rules,
+)
+
+none-between : (since until : ℕ) (rs : List Record) → changes rs ≡ [] → changes (filter (λ r. nat_le since r.0 && nat_lt r.0 until) rs) ≡ []
+none-between since until [] e = refl
+none-between since until (r ∷ rs) e = absurd (cc)
+
+pub none-untriggered : (who : Who) (kept : Kept) (rs : List Record) → changes (records_by who rs) ≡ [] → (rules : List Rule) → AreUntriggered who kept rs rules
+none-untriggered who kept rs e [] = tt
+none-untriggered who kept rs e (rule ∷ rules) = (
+  ap (is_triggered rule.triggers rule.table) (none-between (mark_of kept who.session rule.id) (tested_of kept who.session rule.id) (records_by who rs) e),
+  none-untriggered who kept rs e rules,
 )
 
 has-entries : (tables : List Held) (id : ℕ) → has_table (entries tables) id ≡ has_number tables id
@@ -91,6 +103,8 @@ module _ (laws : TablesAreShared) (s : ℕ) (is : IsTrue (is_session s)) (old ne
       phase = phase ∙ ap phase_of (sym session);
       changes = r.changes ∙ ap changes_of (sym session);
       marks = λ rule. (r.past rule, sym (r.marks rule) ∙ ap (λ (x : Session). marks_of x rule) (sym session));
+      past = r.tested;
+      untriggered = r.untriggered;
       locked = subst (λ l. AreLocked l s (changes_of (session_at next s))) (sym locks) (subst (AreLocked p.locks s) (ap changes_of (sym session)) r.locked);
       candidates = still-candidates new.database.transactions new.database.transactions s p (progress_of next s) (λ x. refl) (ap changes_of session) (λ x. ap (λ (y : Session). marks_of y x) session) state.catalog.rules r.candidates;
     }
@@ -101,7 +115,7 @@ module _ (laws : TablesAreShared) (s : ℕ) (is : IsTrue (is_session s)) (old ne
 
   -- the session has no changes any more, and no locks
   module _ (none : changes_of (session_at next s) ≡ []) (unmarked : (rule : ℕ) → marks_of (session_at next s) rule ≡ 0) (locks : next.locks ≡ released state.locks s) (phase : phase_at new.phases s ≡ phase_of (session_at next s))
-      (past : (rule : ℕ) → mark_of new.database.transactions s rule ≤ later) where
+      (past : ArePast new.database.transactions s later) where
     module _ (numbers : (t : ℕ) → has_number new.database.tables t ≡ has_number old.database.tables t) (empty : changes (records_by (who_of new.database.id s) after) ≡ [])
         (held_after : (o t : ℕ) (m : Mode) → held new.database.locks o t m ≡ released state.locks s o t m) where
       rests : IsStepOf s old new earlier after clock later state next
@@ -122,7 +136,9 @@ module _ (laws : TablesAreShared) (s : ℕ) (is : IsTrue (is_session s)) (old ne
         held = λ o t m. held_after o t m ∙ sym (ap (λ l. l o t m) locks);
         phase = phase;
         changes = empty ∙ sym none;
-        marks = λ rule. (past rule, none-before (mark_of new.database.transactions s rule) (records_by (who_of new.database.id s) after) empty ∙ sym (unmarked rule));
+        marks = λ rule. (let p = past rule in omega (arith, p.0, p.1), none-before (mark_of new.database.transactions s rule) (records_by (who_of new.database.id s) after) empty ∙ sym (unmarked rule));
+        past = past;
+        untriggered = none-untriggered (who_of new.database.id s) new.database.transactions after empty state.catalog.rules;
         locked = subst (AreLocked next.locks s) (sym none) tt;
         candidates = no-candidates new.database.transactions s (progress_of next s) none state.catalog.rules;
       }

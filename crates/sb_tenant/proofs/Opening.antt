@@ -1,5 +1,5 @@
 -- A session that opens, and one that closes.
-use Rattle.std.proofs.Common.{◌≡◌, ◌∙◌, ℕ, ◌≤◌, Bool, true, false, not, ◌&&◌, cond, nat_eq, List, [], refl, sym, ap, subst, IsTrue}
+use Rattle.std.proofs.Common.{◌≡◌, ◌∙◌, ℕ, Bool, true, false, not, ◌&&◌, cond, nat_eq, List, [], refl, sym, ap, subst, IsTrue}
 use Rattle.std.specs.List.{flat_map}
 use Rattle.sb_value.specs.Locks.{Locks, sessions, released}
 use Rattle.sb_rawlog.specs.Records.{Record}
@@ -10,7 +10,7 @@ use Rattle.sb_value.specs.declared.lock.Mode.{Mode}
 use Rattle.sb_process.specs.Made.{AreMade}
 use Rattle.sb_process.specs.Represents.{AreCandidates, AreLocked}
 use Rattle.sb_process.specs.Sharing.{TablesAreShared}
-use Rattle.sb_process.specs.Transactions.{mark_of}
+use Rattle.sb_process.specs.Transactions.{ArePast}
 use Rattle.sb_process.specs.Work.{CanRun}
 use Rattle.sb_catalog.specs.Definitions.{AreOrdered}
 use Rattle.sb_rawlog.specs.Sessions.{changes_by}
@@ -69,6 +69,8 @@ module _ (s : ℕ) (is : IsTrue (is_session s)) (old new : Store) (state : State
   opens-agrees tenant records clock index a = record {
     transactions = λ o io. a.transactions o io ∙ sym (same-changes o);
     marks = λ o io rule. let was = a.marks o io rule in (was.0, was.1 ∙ sym (same-marks o rule));
+    past = a.past;
+    untriggered = a.untriggered;
     indexed = a.indexed;
   }
 
@@ -121,5 +123,5 @@ module _ (laws : TablesAreShared) (s : ℕ) (is : IsTrue (is_session s)) (old ne
       stands-without laws s is old new records records clock clock index state (closed_in s state) origin h a c
       (record { sessions = λ o other. other_session state s closed o other; rules = refl; pairs = refl; rulesets = refl }) (ap changes_of (own_session state s closed))
       (λ rule. ap (λ (x : Session). marks_of x rule) (own_session state s closed)) refl (phase ∙ ap phase_of (sym (own_session state s closed)))
-      (λ rule. subst (λ t. mark_of t s rule ≤ clock) (sym transactions) (a.marks s is rule).0) empty c.id tables
+      (subst (λ t. ArePast t s clock) (sym transactions) (a.past s is)) empty c.id tables
       (ap (λ (id : ℕ). changes_by (who_of id s) records) c.id ∙ a.transactions s is ∙ empty) (λ o t m. held_after o t m ∙ ap (λ (b : Bool). not (nat_eq o s) && b) (h.locks o t m)) refl

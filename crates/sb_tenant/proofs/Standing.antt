@@ -1,5 +1,5 @@
 -- What stands for a state, session by session.
-use Rattle.std.proofs.Common.{◌≡◌, ◌∙◌, ◌≢◌, ℕ, ◌≤◌, Bool, true, false, nat_eq, List, [], ◌∷◌, ◌++◌, Option, Some, None, drop, length, refl, sym, ap, subst, eqb-true, true≢false, arith, IsTrue}
+use Rattle.std.proofs.Common.{◌≡◌, ◌∙◌, ◌≢◌, ℕ, ◌≤◌, Bool, true, false, nat_eq, List, [], ◌∷◌, ◌++◌, Option, Some, None, drop, length, refl, sym, ap, subst, eqb-true, true≢false, arith, IsTrue, filter, nat_le, nat_lt, ◌&&◌}
 use Rattle.std.specs.List.{flat_map}
 use Rattle.std.proofs.lemmas.Bool.{eq-eqb}
 use Rattle.sb_value.specs.declared.change.Change.{Change}
@@ -13,7 +13,7 @@ use Rattle.sb_check.specs.Condition.{Query}
 use Rattle.sb_check.specs.declared.tree.Action.{Action}
 use Rattle.sb_check.specs.declared.tree.Action.TheVariants as action
 use Rattle.sb_rawlog.specs.Records.{Record, before}
-use Rattle.sb_rawlog.specs.Sessions.{changes, changes_by, mark_at, OthersStay as OtherRecordsStay}
+use Rattle.sb_rawlog.specs.Sessions.{changes, changes_by, mark_at, OthersStay as OtherRecordsStay, changes_between}
 use Rattle.sb_tables.specs.Held.{Held, entries, has_number}
 use Rattle.sb_locks.specs.Held.{held}
 use Rattle.sb_index.specs.TableSets.{TableSets}
@@ -22,11 +22,11 @@ use Rattle.sb_catalog.specs.Definitions.{AreIndexed, AreOrdered}
 use Rattle.sb_catalog.specs.declared.definitions.Definitions.{Definitions}
 use Rattle.sb_catalog.specs.declared.rule.Rule.{Rule}
 use Rattle.sb_process.specs.Made.{AreMade, tables_after_all}
-use Rattle.sb_process.specs.Represents.{Represents, AreCandidates, AreLocked}
+use Rattle.sb_process.specs.Represents.{Represents, AreCandidates, AreUntriggered, AreLocked}
 use Rattle.sb_process.specs.Request.{AreThere}
 use Rattle.sb_process.specs.Setting.{Progress}
 use Rattle.sb_process.specs.Sharing.{TablesAreShared}
-use Rattle.sb_process.specs.Transactions.{Kept, mark_of, is_candidate_of, OtherSessionsStay}
+use Rattle.sb_process.specs.Transactions.{Kept, mark_of, tested_of, is_candidate_of, ArePast, OtherSessionsStay}
 use Rattle.sb_process.specs.Work.{IsConditionThere, AreActionsThere, CanRun}
 use Rattle.sb_tenant.specs.declared.store.Store.{Store}
 use Rattle.sb_tenant.specs.Limits.{is_session}
@@ -62,6 +62,8 @@ module _ (laws : TablesAreShared) (origin : List Held) (store : Store) (state : 
     who = refl;
     changes = a.transactions s is;
     past = λ rule. (a.marks s is rule).0;
+    tested = a.past s is;
+    untriggered = a.untriggered s is;
     marks = λ rule. sym ((a.marks s is rule).1);
     base = laws.seen origin (others_of state s) ∙ ap (after_all (others_of state s)) h.committed;
     made = (laws.in_turn origin store.database.tables (others_of state s) (changes_at state s) made-last).1;
@@ -90,6 +92,12 @@ still-candidates old new o p q e cs ms (rule ∷ rules) h = (
   λ active triggered. e rule.id ∙ h.0 active ((λ i. is_triggered rule.triggers rule.table (drop (sym (ms rule.id) i) (sym cs i))) ∙ triggered),
   still-candidates old new o p q e cs ms rules h.1,
 )
+
+pub still-untriggered : (who other : Who) (old new : Kept) (rs more : List Record)
+    → ((r : ℕ) → changes_between other (mark_of new other.session r) (tested_of new other.session r) more ≡ changes_between who (mark_of old who.session r) (tested_of old who.session r) rs)
+    → (rules : List Rule) → AreUntriggered who old rs rules → AreUntriggered other new more rules
+still-untriggered who other old new rs more same [] h = tt
+still-untriggered who other old new rs more same (rule ∷ rules) h = (ap (is_triggered rule.triggers rule.table) (same rule.id) ∙ h.0, still-untriggered who other old new rs more same rules h.1)
 
 module _ (old new : List Held) (e : (id : ℕ) → has_number new id ≡ has_number old id) where
   still-there : (request : List (ℕ × Mode)) → AreThere old request → AreThere new request
@@ -132,6 +140,8 @@ pub record IsStepOf (s : ℕ) (old new : Store) (earlier after : List Record) (c
   pub phase : phase_at new.phases s ≡ phase_of (session_at next s)
   pub changes : changes_by (who_of new.database.id s) after ≡ changes_of (session_at next s)
   pub marks : StandsFor new.database.id s next after later (mark_of new.database.transactions s)
+  pub past : ArePast new.database.transactions s later
+  pub untriggered : AreUntriggered (who_of new.database.id s) new.database.transactions after state.catalog.rules
   pub locked : AreLocked next.locks s (changes_of (session_at next s))
   pub candidates : AreCandidates new.database.transactions s (progress_of next s) state.catalog.rules
 
@@ -160,7 +170,7 @@ module _ (s : ℕ) (is : IsTrue (is_session s)) (old new : Store) (earlier after
         (λ other. k.phases o other ∙ h.phases o io ∙ ap phase_of (sym (k.sessions o other)));
     candidates = λ o io. subst (AreCandidates new.database.transactions o (progress_of next o)) (sym k.rules)
         (own-or-other s o (λ x. AreCandidates new.database.transactions x (progress_of next x) state.catalog.rules) k.candidates
-        (λ other. still-candidates old.database.transactions new.database.transactions o (progress_of state o) (progress_of next o) (λ r. (k.transactions o r other).1)
+        (λ other. still-candidates old.database.transactions new.database.transactions o (progress_of state o) (progress_of next o) (λ r. (k.transactions o r other).2)
         (ap changes_of (k.sessions o other)) (λ r. ap (λ x. marks_of x r) (k.sessions o other)) state.catalog.rules (h.candidates o io)));
     rules = ap (λ (d : Definitions). d.rules) k.definitions ∙ h.rules ∙ sym k.rules;
     ordered = subst (λ (d : Definitions). AreOrdered d.order next.catalog.rules next.catalog.pairs) (sym k.definitions)
@@ -188,10 +198,30 @@ module _ (s : ℕ) (is : IsTrue (is_session s)) (old new : Store) (earlier after
               ∙ ap (λ (id : ℕ). mark_at (who_of id o) (mark_of old.database.transactions o rule) earlier) k.id ∙ was.1 ∙ ap (λ x. marks_of x rule) (sym (k.sessions o other)),
         )
 
+    past-on : (o : ℕ) → nat_eq o s ≡ false → IsTrue (is_session o) → ArePast new.database.transactions o later
+    past-on o other io = λ rule.
+        let same = k.transactions o rule other in
+        let was = a.past o io rule in
+        (let m = same.0 in let t = same.1 in let l = was.0 in omega arith, let t = same.1 in let l = was.1 in let on = k.times in omega arith)
+
+    untriggered-on : (o : ℕ) → nat_eq o s ≡ false → IsTrue (is_session o) → AreUntriggered (who_of new.database.id o) new.database.transactions after state.catalog.rules
+    untriggered-on o other io =
+        still-untriggered (who_of old.database.id o) (who_of new.database.id o) old.database.transactions new.database.transactions earlier after
+        (λ rule.
+        (λ i. changes_among ((k.transactions o rule other).0 i) ((k.transactions o rule other).1 i) (k.records (who_of new.database.id o) (other-who o other) i))
+        ∙ ap (λ (id : ℕ). changes_between (who_of id o) (mark_of old.database.transactions o rule) (tested_of old.database.transactions o rule) earlier) k.id)
+        state.catalog.rules (a.untriggered o io)
+      where
+        changes_among : ℕ → ℕ → List Record → List Change
+        changes_among since until rs = changes (filter (λ r. nat_le since r.0 && nat_lt r.0 until) rs)
+
     pub agrees-on : Agrees new.database.id next new.database.transactions after later index
     agrees-on = record {
       transactions = λ o io. own-or-other s o (λ x. changes_by (who_of new.database.id x) after ≡ changes_of (session_at next x)) k.changes (λ other. transactions-on o other io);
       marks = λ o io. own-or-other s o (λ x. StandsFor new.database.id x next after later (mark_of new.database.transactions x)) k.marks (λ other. marks-on o other io);
+      past = λ o io. own-or-other s o (λ x. ArePast new.database.transactions x later) k.past (λ other. past-on o other io);
+      untriggered = λ o io. subst (AreUntriggered (who_of new.database.id o) new.database.transactions after) (sym k.rules)
+          (own-or-other s o (λ x. AreUntriggered (who_of new.database.id x) new.database.transactions after state.catalog.rules) k.untriggered (λ other. untriggered-on o other io));
       indexed = subst (λ id. AreIndexed index id next.catalog.rules) (sym k.id) (subst (AreIndexed index old.database.id) (sym k.rules) a.indexed);
     }
 

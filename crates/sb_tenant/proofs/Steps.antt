@@ -11,7 +11,7 @@ use Rattle.sb_tables.specs.Held.{Held}
 use Rattle.sb_catalog.specs.Definitions.{OtherTenantsStay}
 use Rattle.sb_process.specs.declared.database.Database.{Database}
 use Rattle.sb_process.specs.Made.{NumbersBelow}
-use Rattle.sb_process.specs.Transactions.{Kept, mark_of}
+use Rattle.sb_process.specs.Transactions.{Kept, mark_of, tested_of}
 use Rattle.sb_tenant.specs.declared.phase.Phase.TheVariants.{Closed}
 use Rattle.sb_tenant.specs.declared.reply.Answer.{Answer}
 use Rattle.sb_tenant.specs.declared.reply.Entry.{Entry}
@@ -77,7 +77,7 @@ restepped_store store st n (origin, h) = (
 
 restepped : (store : Store) (records : List Record) (clock : ℕ) (index : List (List TableSets)) (st : State) (n : ℕ) → StandFor store records clock index st → StandFor store records clock index (record st { steps = n })
 restepped store records clock index st n (h, agrees) =
-    (restepped_store store st n h, record { transactions = agrees.transactions; marks = agrees.marks; indexed = agrees.indexed })
+    (restepped_store store st n h, record { transactions = agrees.transactions; marks = agrees.marks; past = agrees.past; untriggered = agrees.untriggered; indexed = agrees.indexed })
 
 -- a trail with one more entry, and the state after it, for which memory, the log and the index stand
 pub record IsEntered (id bound : ℕ) (trail : List Entry) (s : ℕ) (line : List ℕ) (told : Reply) (store : Store) (records : List Record) (clock : ℕ) (index : List (List TableSets)) (after : State) : Type 0 where
@@ -182,11 +182,13 @@ none_before : (time : ℕ) → length (before time []) ≡ 0
 unfolding before
 none_before time = refl
 
-pub new_in_step : (id bound : ℕ) (kept : Kept) → ((s r : ℕ) → mark_of kept s r ≡ 0) → (records : List Record) (clock : ℕ) (index : List (List TableSets)) → HoldNothing id records index →
+pub new_in_step : (id bound : ℕ) (kept : Kept) → ((s r : ℕ) → mark_of kept s r ≡ 0) → ((s r : ℕ) → tested_of kept s r ≡ 0) → (records : List Record) (clock : ℕ) (index : List (List TableSets)) → HoldNothing id records index →
     Agrees id (state_of id bound []) kept records clock index
-new_in_step id bound kept marks records clock index nothing = record {
+new_in_step id bound kept marks tested records clock index nothing = record {
   transactions = λ s is_one. ap changes (nothing.0 s);
   marks = λ s is_one rule. let none = marks s rule in (omega (arith, none), ap (λ (rs : List Record). length (before (mark_of kept s rule) rs)) (nothing.0 s) ∙ none_before (mark_of kept s rule));
+  past = λ s is_one rule. let m = marks s rule in let t = tested s rule in (omega arith, omega arith);
+  untriggered = λ s is_one. tt;
   indexed = nothing.1;
 }
 

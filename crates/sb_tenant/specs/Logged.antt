@@ -5,7 +5,8 @@ use Rattle.sb_rawlog.specs.Records.{Record}
 use Rattle.sb_rawlog.specs.Sessions.{changes_by, mark_at}
 use Rattle.sb_index.specs.TableSets.{TableSets}
 use Rattle.sb_catalog.specs.Definitions.{AreIndexed}
-use Rattle.sb_process.specs.Transactions.{Kept, mark_of}
+use Rattle.sb_process.specs.Represents.{AreUntriggered}
+use Rattle.sb_process.specs.Transactions.{Kept, mark_of, ArePast}
 use Rattle.sb_tenant.specs.Limits.{is_session}
 use Rattle.sb_tenant.specs.State.{State, session_at, changes_of, marks_of}
 
@@ -21,8 +22,11 @@ abbrev pub StandsFor : ℕ → ℕ → State → List Record → ℕ → (ℕ �
 StandsFor tenant s state records clock times =
     (rule : ℕ) → (times rule ≤ clock) × (mark_at (who_of tenant s) (times rule) records ≡ marks_of (session_at state s) rule)
 
--- the log has the transactions of a tenant in this state, a time for each of its marks, and the index has its active rules
+-- the log has the transactions of a tenant in this state, a time for each of its marks; what its rules were tested for since then
+-- doesn't trigger them; and the index has its active rules
 pub record Agrees (tenant : ℕ) (state : State) (kept : Kept) (records : List Record) (clock : ℕ) (index : List (List TableSets)) : Type 0 where
   pub transactions : HoldsTransactions tenant state records
   pub marks : (s : ℕ) → IsTrue (is_session s) → StandsFor tenant s state records clock (mark_of kept s)
+  pub past : (s : ℕ) → IsTrue (is_session s) → ArePast kept s clock
+  pub untriggered : (s : ℕ) → IsTrue (is_session s) → AreUntriggered (who_of tenant s) kept records state.catalog.rules
   pub indexed : AreIndexed index tenant state.catalog.rules

@@ -1,11 +1,14 @@
 -- Laws of trails, as statements.
-use Rattle.std.specs.Prelude.{◌≡◌, ℕ, ◌+◌, ◌≤◌, Bool, true, false, ◌==◌, List, length, Option, Some, IsFalse}
+use Rattle.std.specs.Prelude.{◌≡◌, ℕ, ◌+◌, ◌≤◌, ◌↔◌, Bool, true, false, ◌==◌, List, length, Option, Some, None, IsFalse}
 use Rattle.sb_syntax.specs.Text.{command_of}
 use Rattle.sb_syntax.specs.Tree.{Command, open_session, end_session}
+use Rattle.sb_value.specs.declared.refusal.Refusal.TheVariants.{TrailFull}
+use Rattle.sb_tenant.specs.declared.reply.Answer.{Answer}
 use Rattle.sb_tenant.specs.declared.reply.Entry.{Entry}
+use Rattle.sb_tenant.specs.declared.reply.Reply.TheVariants.{No}
 use Rattle.sb_tenant.specs.State.{State, opening, session_at, is_open, open_count}
 use Rattle.sb_tenant.specs.Step.{step}
-use Rattle.sb_tenant.specs.Trail.{is_no_memory, IsNext, IsLegal, after_entry, state_of}
+use Rattle.sb_tenant.specs.Trail.{is_no_memory, IsNext, IsLegal, Steps, after_entry, state_of}
 
 -- whether the session is open after an own entry: `open` opens it and `end` closes it
 abbrev pub open_by : Option Command → Bool → Bool
@@ -43,3 +46,8 @@ module _ (tenant bound : ℕ) where
   -- a legal trail has at most 65,536 entries, and one more for the end of each open session
   abbrev pub TrailsAreBounded : Type 0
   TrailsAreBounded = (trail : List Entry) (state : State) → IsLegal tenant bound opening trail state → length trail + open_count state ≤ 65544
+
+  -- an answer has no number exactly where its reply is that the trail is full
+  abbrev pub AnswersAreNumbered : Type 0
+  AnswersAreNumbered =
+      (trail new : List Entry) (s : ℕ) (line : List ℕ) (answer : Answer) → Steps tenant bound trail s line answer new → (answer.number ≡ None) ↔ (answer.reply ≡ No TrailFull)

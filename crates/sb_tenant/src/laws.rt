@@ -1,6 +1,7 @@
 //! What holds of the definitions alone: each law is the contract of a function that does nothing.
 ghost use Rattle.std.specs.Prelude.{ℕ};
-ghost use Rattle.sb_tenant.specs.TrailLaws.{TrailsFixStates, LegalStatesAreReplayed, StepsHaveMemory, OthersStay, OwnOpens, TrailsAreBounded};
+ghost use Rattle.sb_tenant.specs.RefusalLaws.{RefusalsTakeLocksAtMost, RefusedDefinitionsChangeNothing};
+ghost use Rattle.sb_tenant.specs.TrailLaws.{TrailsFixStates, LegalStatesAreReplayed, StepsHaveMemory, AnswersAreNumbered, OthersStay, OwnOpens, TrailsAreBounded};
 ghost use Rattle.sb_tenant.specs.Walk.{NamesComeFirst};
 ghost use Rattle.sb_tenant.specs.WellFormed.{StatesAreWellFormed};
 
@@ -20,6 +21,17 @@ pub fn legal_states_are_replayed()
 /// The definitions never run out of memory: `NoMemory` is the reply of an abort alone.
 pub fn steps_have_memory()
     ensures { (tenant bound : ℕ) → StepsHaveMemory tenant bound }
+{}
+
+/// An answer without a number says that the trail is full, and no other answer does.
+pub fn answers_are_numbered()
+    ensures { (tenant bound : ℕ) → AnswersAreNumbered tenant bound }
+{}
+
+/// A line that a step refuses changes nothing but the trail and the locks that its statement had taken.
+pub fn refused_lines_change_little()
+    ensures locks { (tenant bound : ℕ) → RefusalsTakeLocksAtMost tenant bound }
+    ensures definitions { (tenant bound : ℕ) → RefusedDefinitionsChangeNothing tenant bound }
 {}
 
 /// An entry changes no session but its own, and opens or closes that one as its command says.

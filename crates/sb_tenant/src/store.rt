@@ -4,7 +4,7 @@ ghost use Rattle.sb_index.specs.TableSets.{TableSets};
 ghost use Rattle.sb_rawlog.specs.Records.{Record};
 ghost use Rattle.sb_value.specs.Locks.{released};
 ghost use Rattle.sb_tables.specs.Held.{Held};
-ghost use Rattle.sb_process.specs.Transactions.{mark_of};
+ghost use Rattle.sb_process.specs.Transactions.{mark_of, tested_of};
 ghost use Rattle.sb_tenant.specs.Represents.{Holds, Leaves, Performs, Refuses, StandAside, StandFor, phase_at};
 ghost use Rattle.sb_tenant.specs.State.{State, opening, closed, idle, active, with_session, rolled_back};
 ghost use Rattle.sb_tenant.specs.Trail.{aborted};
@@ -35,6 +35,7 @@ impl Store {
         ensures id { result.database.id ≡ id }
         ensures holds { (origin : List Held) × Holds origin result opening }
         ensures marks { (s r : ℕ) → mark_of result.database.transactions s r ≡ 0 }
+        ensures tested { (s r : ℕ) → tested_of result.database.transactions s r ≡ 0 }
         ensures tables { result.database.tables ≡ [] }
     {
         Store {

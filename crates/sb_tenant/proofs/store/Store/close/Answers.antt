@@ -14,7 +14,7 @@ returns-clause-closed c = λ records clock index state st.
       id = refl;
       records = λ other differs. refl;
       times = omega arith;
-      transactions = λ o r other. (refl, refl);
+      transactions = λ o r other. (refl, refl, refl);
       phases = set-other old.phases new.phases s Closed c.set.ensures;
       definitions = refl;
     })

@@ -36,7 +36,7 @@ returns-clause-kept g c = λ index state st.
       phases = set-other old.phases new.phases s Idle c.set.ensures;
       definitions = refl;
     })
-    (set-own old.phases new.phases s Idle c.set.ensures) (λ rule. rw (c.commit.ensures.transactions, c.commit.ensures.clock) ((st.1.marks s is rule).0)) kept
+    (set-own old.phases new.phases s Idle c.set.ensures) (λ rule. rw (c.commit.ensures.transactions, c.commit.ensures.clock) (st.1.past s is rule)) kept
 
 pub returns-clause-leaves : goal.returns-clause-leaves
 returns-clause-leaves g c =

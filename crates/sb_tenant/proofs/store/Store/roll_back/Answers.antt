@@ -36,7 +36,7 @@ returns-clause-rolled_back g c = λ index state st.
       phases = set-other old.phases new.phases s Idle c.set.ensures;
       definitions = refl;
     })
-    (set-own old.phases new.phases s Idle c.set.ensures) (λ rule. rw (c.rollback.ensures.transactions, c.rollback.ensures.clock) ((st.1.marks s is rule).0)) back
+    (set-own old.phases new.phases s Idle c.set.ensures) (λ rule. rw (c.rollback.ensures.transactions, c.rollback.ensures.clock) (st.1.past s is rule)) back
 
 pub returns-clause-leaves : goal.returns-clause-leaves
 returns-clause-leaves g c =

@@ -1,6 +1,6 @@
 use Rattle.std.proofs.Common.{ap, refl, arith}
 use Rattle.sb_process.specs.declared.database.Database.{Database}
-use Rattle.sb_process.specs.Transactions.{mark_of, is_candidate_of}
+use Rattle.sb_process.specs.Transactions.{mark_of, tested_of, is_candidate_of}
 use Rattle.sb_tenant.specs.declared.store.Store.{Store}
 use Rattle.sb_tenant.specs.State.{setting_of, progress_of}
 use Rattle.sb_tenant.proofs.Calls.{number-below, selects, selects-aside}
@@ -17,7 +17,7 @@ returns-clause-comes c = λ records clock index state bound st.
       id = ap (λ (d : Database). d.id) only;
       records = λ other differs. refl;
       times = omega arith;
-      transactions = λ o r other. (ap (λ (d : Database). mark_of d.transactions o r) only, ap (λ (d : Database). is_candidate_of d.transactions o r) only);
+      transactions = λ o r other. (ap (λ (d : Database). mark_of d.transactions o r) only, ap (λ (d : Database). tested_of d.transactions o r) only, ap (λ (d : Database). is_candidate_of d.transactions o r) only);
       phases = λ o other. refl;
       definitions = refl;
     } in
@@ -34,7 +34,7 @@ returns-clause-aside c = λ records clock index state st.
       id = ap (λ (d : Database). d.id) only;
       records = λ other differs. refl;
       times = omega arith;
-      transactions = λ o r other. (ap (λ (d : Database). mark_of d.transactions o r) only, ap (λ (d : Database). is_candidate_of d.transactions o r) only);
+      transactions = λ o r other. (ap (λ (d : Database). mark_of d.transactions o r) only, ap (λ (d : Database). tested_of d.transactions o r) only, ap (λ (d : Database). is_candidate_of d.transactions o r) only);
       phases = λ o other. refl;
       definitions = refl;
     } in

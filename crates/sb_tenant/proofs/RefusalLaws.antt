@@ -1,0 +1,228 @@
+-- A refused line leaves the state, but for the locks of its statement.
+use Rattle.std.proofs.Common.{◌≡◌, ◌∙◌, sym, ap, refl, ◌⊎◌, inl, inr, ℕ, ◌+◌, Bool, true, false, not, cond, ◌&&◌, ◌==◌, List, Option, Some, None, Result, Ok, Err, eqb-true}
+use Rattle.std.proofs.lemmas.Bool.{true≢false, false≢true}
+use Rattle.std.specs.Prelude.{option_and_then}
+use Rattle.sb_value.specs.declared.change.Change.{Change}
+use Rattle.sb_value.specs.declared.lock.Mode.{Mode}
+use Rattle.sb_value.specs.declared.refusal.Refusal.{Refusal}
+use Rattle.sb_value.specs.declared.refusal.Refusal.TheVariants as refusal
+use Rattle.sb_value.specs.declared.refusal.Verdict.{Verdict}
+use Rattle.sb_value.specs.Locks.{first_conflict, with_locks}
+use Rattle.sb_value.specs.Table.{name_at}
+use Rattle.sb_syntax.specs.Text.{command_of}
+use Rattle.sb_syntax.specs.Tree as text
+use Rattle.sb_syntax.specs.Tree.{Command}
+use Rattle.sb_check.specs.Names.{and_then, required}
+use Rattle.sb_eval.specs.Seen.{no_transition}
+use Rattle.sb_eval.specs.Statement.{query_locks, statement_changes, statement_locks}
+use Rattle.sb_process.specs.Process.{process}
+use Rattle.sb_process.specs.Setting.{Progress, seen_with}
+use Rattle.sb_process.specs.declared.Outcome.{Outcome}
+use Rattle.sb_process.specs.declared.Outcome.TheVariants.{Done, ByRule, ByError, ByLimit}
+use Rattle.sb_catalog.specs.Definitions.{is_member}
+use Rattle.sb_catalog.specs.Rules.{is_active}
+use Rattle.sb_tenant.specs.declared.reply.Answer.{Answer}
+use Rattle.sb_tenant.specs.declared.reply.Reply.{Reply}
+use Rattle.sb_tenant.specs.declared.reply.Reply.TheVariants as reply
+use Rattle.sb_tenant.specs.State.{State, Catalog, Session, closed, idle, active, changes_of, committed, has_transaction, is_open, marks_of, progress_of, session_at, setting_of, with_progress}
+use Rattle.sb_tenant.specs.Resolved.{Resolved, Class, defines, works, open_session, end_session, begin, commit, rollback, process_rules, process_ruleset, process_rule, create_table, drop_table, create_rule, drop_rule, activate_rule, deactivate_rule, create_ruleset, drop_ruleset, add_rules, del_rules, query, change}
+use Rattle.sb_tenant.specs.Walk.{class_of, unless, walk}
+use Rattle.sb_tenant.specs.Perform.{change_seen, named, perform, perform_change, process_at, reply_of, select_seen, stays, with_request}
+use Rattle.sb_tenant.specs.Step.{first_of, is_full_for, numbered, outcome_of, reply_to, reply_to_command, session_refusal, step}
+use Rattle.sb_tenant.specs.RefusalLaws.{ChangesNothing, RefusalsTakeLocksAtMost, RefusedDefinitionsChangeNothing, TakesLocks, request_in, request_of}
+
+-- ---- other commands ask for no locks
+
+-- a walk that is refused, or resolves to a command that asks for none
+data AsksNothing : Result Resolved Refusal → Type 0 where
+  refused : (e : Refusal) → AsksNothing (Err e)
+  resolved : (r : Resolved) → request_of (Ok r) ≡ None → AsksNothing (Ok r)
+
+none-of : (w : Result Resolved Refusal) → AsksNothing w → request_of w ≡ None
+none-of w (refused e) = refl
+none-of w (resolved r h) = h
+
+none-required : (b : Bool) (e : Refusal) (next : Result Resolved Refusal) → AsksNothing next → AsksNothing (required b e next)
+none-required true e next h = h
+none-required false e next h = refused e
+
+none-unless : (o : Option Refusal) (next : Result Resolved Refusal) → AsksNothing next → AsksNothing (unless o next)
+none-unless None next h = h
+none-unless (Some e) next h = refused e
+
+none-then : {A : Type 0} (r : Result A Refusal) (next : A → Result Resolved Refusal) → ((a : A) → AsksNothing (next a)) → AsksNothing (and_then r next)
+none-then (Ok a) next h = h a
+none-then (Err e) next h = refused e
+
+abbrev is_statement : Command → Bool
+is_statement (text.query q) = true
+is_statement (text.change c) = true
+is_statement other = false
+
+asks-nothing : (catalog : Catalog) (c : Command) → is_statement c ≡ false → AsksNothing (walk catalog c)
+asks-nothing catalog text.open_session h = resolved open_session refl
+asks-nothing catalog text.end_session h = resolved end_session refl
+asks-nothing catalog text.begin h = resolved begin refl
+asks-nothing catalog text.commit h = resolved commit refl
+asks-nothing catalog text.rollback h = resolved rollback refl
+asks-nothing catalog text.process_rules h = resolved process_rules refl
+asks-nothing catalog (text.process_ruleset name) h = search (none-required, resolved)
+asks-nothing catalog (text.process_rule name) h = search (none-then, resolved)
+asks-nothing catalog (text.create_table name columns) h = search (none-then, none-required, resolved)
+asks-nothing catalog (text.drop_table name) h = search (none-required, none-then, resolved)
+asks-nothing catalog (text.create_rule r) h = search (none-required, none-then, resolved) depth 16
+asks-nothing catalog (text.drop_rule name) h = search (none-then, resolved)
+asks-nothing catalog (text.activate_rule name) h = search (none-then, resolved)
+asks-nothing catalog (text.deactivate_rule name) h = search (none-then, resolved)
+asks-nothing catalog (text.create_ruleset name) h = search (none-unless, resolved)
+asks-nothing catalog (text.drop_ruleset name) h = search (none-required, resolved)
+asks-nothing catalog (text.add_rules name rules) h = search (none-required, none-then, resolved)
+asks-nothing catalog (text.del_rules name rules) h = search (none-required, none-then, resolved)
+asks-nothing catalog (text.query q) h = absurd (true≢false h)
+asks-nothing catalog (text.change c) h = absurd (true≢false h)
+
+none-walk : (catalog : Catalog) (c : Command) → is_statement c ≡ false → request_of (walk catalog c) ≡ None
+none-walk catalog c h = none-of (walk catalog c) (asks-nothing catalog c h)
+
+no-definition : (c : Command) → class_of c ≡ defines → is_statement c ≡ false
+no-definition (text.query q) h = absurd (let e = h in cc)
+no-definition (text.change c) h = absurd (let e = h in cc)
+no-definition other h = refl
+
+-- ---- a transaction whose changes and marks are put anew
+
+refilled : (session : Session) → has_transaction session ≡ true → active (changes_of session) (marks_of session) ≡ session
+refilled closed h = absurd (false≢true h)
+refilled idle h = absurd (false≢true h)
+refilled (active changes marks) h = refl
+
+module _ (tenant bound : ℕ) (state : State) (s : ℕ) where
+  abbrev asked : List (ℕ × Mode) → Progress
+  asked request = record (progress_of state s) { locks = with_locks state.locks s request }
+
+  abbrev locked : List (ℕ × Mode) → State
+  locked request = record state { locks = with_locks state.locks s request }
+
+  same-session : has_transaction (session_at state s) ≡ true → (o : ℕ) →
+      cond (o == s) (active (changes_of (session_at state s)) (marks_of (session_at state s))) (session_at state o) ≡ session_at state o
+  same-session has o = by (o == s) refl
+    where
+      by : (b : Bool) → (o == s) ≡ b → cond b (active (changes_of (session_at state s)) (marks_of (session_at state s))) (session_at state o) ≡ session_at state o
+      by true own = refilled (session_at state s) has ∙ ap (session_at state) (sym (eqb-true o s own))
+      by false other = refl
+
+  goes-on : has_transaction (session_at state s) ≡ true → (request : List (ℕ × Mode)) → with_progress state s (asked request) ≡ locked request
+  goes-on has request = λ i. record state { locks = with_locks state.locks s request; sessions = λ o. same-session has o i }
+
+  -- ---- what a command leaves where it is refused
+
+  -- the state as it was, or with these locks
+  abbrev Leaves : Option (List (ℕ × Mode)) → State × Reply → Type 0
+  Leaves asks r =
+      (e : Refusal) → r.1 ≡ reply.No e →
+      (r.0 ≡ state) ⊎ ((request : List (ℕ × Mode)) × (asks ≡ Some request) × (first_conflict state.locks s request ≡ None) × (r.0 ≡ locked request))
+
+  leaves-request : (request : List (ℕ × Mode)) (next : Progress → State × Reply) → ((e : Refusal) → (next (asked request)).1 ≡ reply.No e → (next (asked request)).0 ≡ locked request) →
+      Leaves (Some request) (with_request state s request next)
+  leaves-request request next h = by (first_conflict state.locks s request) refl
+    where
+      by : (o : Option ℕ) → first_conflict state.locks s request ≡ o →
+          Leaves (Some request) (elim o as (λ _. State × Reply) [ Some table ↦ (state, reply.No (refusal.Locked (name_at state.catalog.tables table))) | None ↦ next (asked request) ])
+      by (Some table) conflict = λ e told. inl refl
+      by None free = λ e told. inr (request, refl, free, h e told)
+
+  leaves-change : has_transaction (session_at state s) ≡ true → (request : List (ℕ × Mode)) (r : Result (List Change) Refusal) (e : Refusal) →
+      (change_seen state s (asked request) r).1 ≡ reply.No e → (change_seen state s (asked request) r).0 ≡ locked request
+  leaves-change has request (Err why) e told = goes-on has request
+  leaves-change has request (Ok changes) e told = absurd (let x = told in cc)
+
+  never : (catalog : Catalog) (outcome : Outcome) (trace : List (List ℕ × Verdict)) (e : Refusal) → reply_of catalog outcome trace ≡ reply.No e → ⊥
+  never catalog Done trace e told = cc
+  never catalog (ByRule r) trace e told = cc
+  never catalog (ByError r error) trace e told = cc
+  never catalog ByLimit trace e told = cc
+
+  leaves-process : (asks : Option (List (ℕ × Mode))) (eligible : ℕ → Bool) (finish : State → State) → Leaves asks (process_at tenant bound state s eligible finish)
+  leaves-process asks eligible finish e told =
+      let p = process bound (setting_of tenant state s) eligible (progress_of state s) in absurd (never state.catalog p.outcome (named state.catalog p.trace) e told)
+
+  leaves-perform : (r : Resolved) → ((request : List (ℕ × Mode)) → request_of (Ok r) ≡ Some request → has_transaction (session_at state s) ≡ true) →
+      Leaves (request_of (Ok r)) (perform tenant bound state s r)
+  leaves-perform commit has = leaves-process None (is_active state.catalog.rules) (λ after. committed after s)
+  leaves-perform process_rules has = leaves-process None (is_active state.catalog.rules) stays
+  leaves-perform (process_ruleset name) has = leaves-process None (λ id. is_active state.catalog.rules id && is_member state.catalog.rulesets name id) stays
+  leaves-perform (process_rule r) has = leaves-process None (λ id. (id == r) && is_active state.catalog.rules id) stays
+  leaves-perform (query q) has = leaves-request (query_locks q) (select_seen tenant state s q) (λ e told. goes-on (has (query_locks q) refl) (query_locks q))
+  leaves-perform (change statement) has =
+      leaves-request (statement_locks statement) (perform_change tenant state s statement)
+      (leaves-change (has (statement_locks statement) refl) (statement_locks statement)
+      (statement_changes (seen_with (setting_of tenant state s) no_transition (asked (statement_locks statement))) statement))
+  leaves-perform other has = λ e told. absurd (let x = told in cc)
+
+  leaves-outcome : (r : Option Refusal) (w : Result Resolved Refusal) →
+      (r ≡ None → (request : List (ℕ × Mode)) → request_of w ≡ Some request → has_transaction (session_at state s) ≡ true) →
+      Leaves (request_of w) (outcome_of tenant bound state s r w)
+  leaves-outcome (Some r) w has = λ e told. inl refl
+  leaves-outcome None (Err r) has = λ e told. inl refl
+  leaves-outcome None (Ok r) has = leaves-perform r (has refl)
+
+  -- a query or a statement runs in a transaction
+  works-in : (opened own : Bool) → first_of (not opened) refusal.NotOpen (first_of (not own) refusal.NoTransaction None) ≡ None → own ≡ true
+  works-in true true h = refl
+  works-in true false h = absurd (let e = h in cc)
+  works-in false own h = absurd (let e = h in cc)
+
+  has-transaction : (c : Command) → session_refusal (class_of c) state s ≡ None → (request : List (ℕ × Mode)) → request_of (walk state.catalog c) ≡ Some request →
+      has_transaction (session_at state s) ≡ true
+  has-transaction c free request asks = by (is_statement c) refl
+    where
+      works-as : (d : Command) → is_statement d ≡ true → class_of d ≡ works
+      works-as (text.query q) h = refl
+      works-as (text.change x) h = refl
+      works-as other h = absurd (false≢true h)
+
+      by : (b : Bool) → is_statement c ≡ b → has_transaction (session_at state s) ≡ true
+      by false h = absurd (let x = sym (none-walk state.catalog c h) ∙ asks in cc)
+      by true h =
+          works-in (is_open (session_at state s)) (has_transaction (session_at state s)) (ap (λ (class : Class). session_refusal class state s) (sym (works-as c h)) ∙ free)
+
+  leaves-command : (c : Command) → Leaves (request_of (walk state.catalog c)) (reply_to_command tenant bound state s c)
+  leaves-command c = leaves-outcome (session_refusal (class_of c) state s) (walk state.catalog c) (has-transaction c)
+
+  leaves-line : (line : List ℕ) → Leaves (request_in state line) (reply_to tenant bound state s line)
+  leaves-line line = by (command_of line)
+    where
+      by : (o : Option Command) →
+          Leaves (option_and_then (λ c. request_of (walk state.catalog c)) o)
+          (elim o as (λ _. State × Reply) [ None ↦ (state, reply.No refusal.Syntax) | Some command ↦ reply_to_command tenant bound state s command ])
+      by None = λ e told. inl refl
+      by (Some command) = leaves-command command
+
+  abbrev placed : Bool → State × Reply → State × Answer
+  placed full r = elim full [ true ↦ (state, record { number = None; reply = reply.No refusal.TrailFull }) | false ↦ numbered state r ]
+
+  leaves-step : (line : List ℕ) (full : Bool) (e : Refusal) → (placed full (reply_to tenant bound state s line)).1.reply ≡ reply.No e →
+      ChangesNothing state (placed full (reply_to tenant bound state s line)).0 ⊎ TakesLocks state s line (placed full (reply_to tenant bound state s line)).0
+  leaves-step line true e told = inl refl
+  leaves-step line false e told = by (leaves-line line e told)
+    where
+      after : State
+      after = (reply_to tenant bound state s line).0
+
+      by : (after ≡ state) ⊎ ((request : List (ℕ × Mode)) × (request_in state line ≡ Some request) × (first_conflict state.locks s request ≡ None) × (after ≡ locked request)) →
+          ChangesNothing state (record after { steps = state.steps + 1 }) ⊎ TakesLocks state s line (record after { steps = state.steps + 1 })
+      by (inl same) = inl (λ i. record (same i) { steps = state.steps + 1 })
+      by (inr (request, asks, free, is)) = inr (request, asks, free, λ i. record (is i) { steps = state.steps + 1 })
+
+pub take_locks_at_most : (tenant bound : ℕ) → RefusalsTakeLocksAtMost tenant bound
+take_locks_at_most tenant bound state s line e told = leaves-step tenant bound state s line (is_full_for state s line) e told
+
+pub change_nothing : (tenant bound : ℕ) → RefusedDefinitionsChangeNothing tenant bound
+change_nothing tenant bound state s line command e is class told = by (take_locks_at_most tenant bound state s line e told)
+  where
+    none : request_in state line ≡ None
+    none = ap (option_and_then (λ c. request_of (walk state.catalog c))) is ∙ none-walk state.catalog command (no-definition command class)
+
+    by : ChangesNothing state (step tenant bound state s line).0 ⊎ TakesLocks state s line (step tenant bound state s line).0 → ChangesNothing state (step tenant bound state s line).0
+    by (inl same) = same
+    by (inr (request, asks, free, after)) = absurd (let x = sym none ∙ asks in cc)
