@@ -1,15 +1,18 @@
 -- A cell after a call of one of its tenants: what holds of it at any time still holds, and the line is answered as an event.
-use Rattle.std.proofs.Common.{◌≡◌, ℕ, ◌+◌, ◌*◌, ◌/◌, ◌%◌, ◌^◌, suc, ◌<◌, ◌≤◌, Bool, true, false, cond, ◌&&◌, ◌==◌, nat_lt, nat_le, not, codes, get_or, List, [], ◌∷◌, length, slice_set, Option, Some, None, Result, inl, inr, IsFalse, refl, sym, ap, ◌∙◌, subst, arith, length-append, length-set}
+use Rattle.std.proofs.Common.{◌≡◌, ℕ, ◌+◌, ◌*◌, ◌/◌, ◌%◌, ◌^◌, suc, ◌<◌, ◌≤◌, Bool, true, false, cond, ◌&&◌, ◌==◌, nat_lt, nat_le, not, codes, get_or, List, [], ◌∷◌, length, filter, slice_set, Option, Some, None, Result, inl, inr, IsFalse, refl, sym, ap, ◌∙◌, subst, arith, length-append, length-set}
 use Rattle.std.specs.List.{slice_get}
 use Rattle.std.proofs.lemmas.Bool.{true≢false, eqb-true, eqb-false, ne_eqb}
 use Rattle.std.proofs.lemmas.List.Sums.{sum_by-cons, sum_by-set}
 use Rattle.std.proofs.lemmas.Option.{get_or_from_slice_get, same_Some}
 use Rattle.sb_value.specs.declared.id.Who.{Who}
+use Rattle.sb_value.specs.NetEffect.{is_triggered}
 use Rattle.sb_rawlog.specs.Records.{Record, before}
 use Rattle.sb_rawlog.specs.Sessions.{OthersStay, changes, records_by}
 use Rattle.sb_index.specs.TableSets.{TableSets}
 use Rattle.sb_catalog.specs.Definitions.{AreIndexed, OtherTenantsStay}
-use Rattle.sb_process.specs.Transactions.{mark_of}
+use Rattle.sb_catalog.specs.declared.rule.Rule.{Rule}
+use Rattle.sb_process.specs.Represents.{AreUntriggered}
+use Rattle.sb_process.specs.Transactions.{Kept, mark_of, tested_of}
 use Rattle.sb_tenant.specs.declared.reply.Answer.{Answer}
 use Rattle.sb_tenant.specs.declared.reply.Entry.{Entry}
 use Rattle.sb_value.specs.Name.{same_name}
@@ -29,6 +32,15 @@ use Rattle.sb_cell.proofs.Hosted.{set-own, set-other, place_of, number_of, withi
 
 -- ---- a tenant beside another's call
 
+-- what a session's rules were tested for is what the log has of it
+still_untriggered : (who : Who) (kept : Kept) (old new : List Record) → records_by who new ≡ records_by who old → (rules : List Rule) →
+    AreUntriggered who kept old rules → AreUntriggered who kept new rules
+still_untriggered who kept old new own [] h = tt
+still_untriggered who kept old new own (rule ∷ rules) h = (
+  ap (λ (rs : List Record). is_triggered rule.triggers rule.table (changes (filter (λ r. nat_le (mark_of kept who.session rule.id) r.0 && nat_lt r.0 (tested_of kept who.session rule.id)) rs))) own ∙ h.0,
+  still_untriggered who kept old new own rules h.1,
+)
+
 -- what another tenant's session does leaves a tenant in step
 stays_in_step : (w : Tenant) (id s : ℕ) (records records' : List Record) (clock clock' : ℕ) (index index' : List (List TableSets)) → (w.id ≡ id → ⊥) →
     OthersStay (who_of id s) records records' → clock ≤ clock' → OtherTenantsStay id index index' → InStep w records clock index → InStep w records' clock' index'
@@ -37,6 +49,8 @@ stays_in_step w id s records records' clock clock' index index' other stay rises
   marks = λ o is_one rule.
       let was = in_step.marks o is_one rule in
       (omega (arith, was.0), ap (λ (rs : List Record). length (before (mark_of w.transactions o rule) rs)) (own o) ∙ was.1);
+  past = λ o is_one rule. let was = in_step.past o is_one rule in (was.0, omega (arith, was.1, rises));
+  untriggered = λ o is_one. still_untriggered (who_of w.id o) w.transactions records records' (own o) (state w).catalog.rules (in_step.untriggered o is_one);
   indexed = λ table operation rule. tenants w.id table operation rule (ne_eqb w.id id other) ∙ in_step.indexed table operation rule;
 }
   where

@@ -1,5 +1,5 @@
 //! Tenants that are served one step at a time, over one log and one index.
-ghost use Rattle.std.specs.Prelude.{◌≡◌, ◌≤◌, ◌<◌, ◌+◌, ◌*◌, ◌==◌, ◌%◌, ◌&&◌, ℕ, true, false, nat_le, nat_lt, Ok, Some, IfOk, IfSome, OnErr, IsTrue, MatchOption, All, codes, length, option_copied, option_map};
+ghost use Rattle.std.specs.Prelude.{◌≡◌, ◌≤◌, ◌<◌, ◌+◌, ◌*◌, ◌==◌, ◌%◌, ◌&&◌, ℕ, true, false, nat_le, nat_lt, Ok, Some, IfOk, IfSome, OnErr, IsTrue, MatchOption, All, codes, length, option_copied, option_map, if◌then◌else◌};
 ghost use Rattle.sb_tenant.specs.declared.reply.Reply.TheVariants as told;
 ghost use Rattle.sb_tenant.specs.Limits.{trail_limit};
 ghost use Rattle.sb_tenant.specs.Trail.{IsTrail};
@@ -24,13 +24,21 @@ use std::marker::Model;
 /// The log of a cell.
 pub type Log = RawLog;
 
-/// The number of buckets of the log of so many tenants: 64 a tenant, which keeps chains short where
-/// all of them are at work, and at least 1,024.
-fn bucket_count(tenants: u32) -> usize
+/// The usual number of buckets.
+const BUCKETS: usize = 1_024;
+
+/// The number of buckets that keeps the log's chains short where so many tenants are all at work: 64
+/// a tenant, and at least the usual number.
+pub fn ample_buckets(tenants: u32) -> usize
     requires { tenants ≤ 256 }
-    ensures { (0 < result) × (result ≤ 65536) }
+    ensures ample { result ≡ (if nat_le 16 tenants then 64 * tenants else 1024) }
+    ensures limits { (0 < result) × (result ≤ 65536) }
 {
-    (tenants as usize * 64).max(1_024)
+    if tenants >= 16 {
+        tenants as usize * 64
+    } else {
+        BUCKETS
+    }
 }
 
 /// The tenants whose numbers are `first`, `first + stride`, .. with what their transactions share.
@@ -69,12 +77,30 @@ impl Cell {
         requires bound { bound ≤ 1000 }
         ensures { IfOk result (IsNew first stride tenants bound) }
     {
+        Cell::with_buckets(alloc, first, stride, tenants, bound, BUCKETS)
+    }
+
+    /// The same, with so many buckets of the log: one is as right as many, and slower.
+    pub fn with_buckets(
+        alloc: Global,
+        first: u32,
+        stride: u32,
+        tenants: u32,
+        bound: u32,
+        buckets: usize,
+    ) -> Result<Cell, AllocError>
+        requires first { first < stride }
+        requires tenants { tenants ≤ 256 }
+        requires bound { bound ≤ 1000 }
+        requires buckets { (0 < buckets) × (buckets ≤ 65536) }
+        ensures { IfOk result (IsNew first stride tenants bound) }
+    {
         Ok(Cell {
             first,
             stride,
             bound,
             tenants: opened(alloc, first, stride, tenants, bound)?,
-            log: Log::new(alloc, bucket_count(tenants))?,
+            log: Log::new(alloc, buckets)?,
             index: RuleIndex::new(alloc),
         })
     }
