@@ -6,18 +6,25 @@ use Rattle.std.specs.Io.KnownBytes.{Appends, Consumes, IsAtEnd}
 use Rattle.sb_cell.specs.Tenants.{Cell, hosts}
 use Rattle.sb_wire.specs.Lines.{Piece, pieces_of}
 use Rattle.sb_wire.specs.Output.{AreAnswers, IsOutput}
+use Rattle.sb_wire.specs.Apart.{RunsApart}
 use Rattle.sb_wire.specs.Counts.{Counts}
 use Rattle.sb_wire.specs.Responses.{AnswersStream, AreAnswered, StopsBy}
 use Rattle.sb_wire.specs.Stream.{states, AnswersCounted, AnswersInput, AnswersPieces, EndsBy, Streams}
 use Rattle.sb_wire.specs.declared.fault.StreamError.{StreamError}
 use Rattle.sb_wire.specs.declared.fault.StreamError.TheVariants.{ReadFault, WriteFault, NoMemory}
 use Rattle.sb_wire.specs.declared.summary.Summary.{Summary}
+use Rattle.sb_wire.proofs.Apart.{runs-apart}
 use Rattle.sb_wire.proofs.Answers.{same_hosts, same_again}
 use Rattle.sb_wire.proofs.Counting.{counts-none, counts-one, counts-then}
 use Rattle.sb_wire.proofs.Exact.{exact}
 
 abbrev Counted : Type 0
 Counted = Cell × Summary
+
+-- each tenant is told what it would be told alone
+apart-in : (old : Cell) (ps : List Piece) (text : List ℕ) (new : Cell) → AreAnswers (hosts old) old.bound (states old) ps text (states new)
+    → RunsApart (hosts old) old.bound (states old) ps text (states new)
+apart-in old ps text new answers = runs-apart (hosts old) old.bound (states old) ps text (states new) answers
 
 -- no event ends the stream
 abbrev pub goes_on : Counted → Bool
@@ -30,15 +37,16 @@ Told old ps text new = AnswersPieces old.0 ps text new.0 × Counts ps text old.1
 told : (old new : Counted) (ps : List Piece) (text : List ℕ) → AreAnswered AnswersCounted goes_on old ps text new → Told old ps text new
 told old new [] text (none, same) =
     subst (λ (x : Counted). Told old [] text x) (sym same) (subst (λ (t : List ℕ). Told old [] t old) (sym none)
-    (record { answers = (refl, refl); same = (refl, refl, refl, refl) }, counts-none old.1))
+    (record { answers = (refl, refl); apart = apart-in old.0 [] [] old.0 (refl, refl); same = (refl, refl, refl, refl) }, counts-none old.1))
 told old new (p ∷ ps) text (first, rest, mid, is, going, (r, said, own, same, adds), others) =
     let next = told mid new ps rest others in
     let later = next.0 in
     let after =
     subst (λ (h : ℕ → Bool). AreAnswers h old.0.bound (states mid.0) ps rest (states new.0)) (same_hosts old.0 mid.0 same)
     (subst (λ (k : ℕ). AreAnswers (hosts mid.0) k (states mid.0) ps rest (states new.0)) same.2 later.answers) in
+    let answers : AreAnswers (hosts old.0) old.0.bound (states old.0) (p ∷ ps) text (states new.0) = (first, rest, states mid.0, is, own, after) in
     let count = subst (λ (t : List ℕ). Counts (p ∷ []) t old.1 mid.1) (sym said) (counts-one p r old.1 mid.1 adds) in (
-      record { answers = (first, rest, states mid.0, is, own, after); same = same_again old.0 mid.0 new.0 same later.same },
+      record { answers = answers; apart = apart-in old.0 (p ∷ ps) text new.0 answers; same = same_again old.0 mid.0 new.0 same later.same },
       subst (λ (t : List ℕ). Counts (p ∷ ps) t old.1 new.1) (sym is) (counts-then (p ∷ []) ps first rest old.1 mid.1 new.1 count next.1),
     )
 
@@ -79,7 +87,12 @@ stream-ok fails remaining reader a c (Some bytes) h0 h2 (Ok x) s (at_end, all, n
     subst (λ (ps : List Piece). AreAnswers (hosts a) a.bound (states a) ps text (states c)) (all ∙ ap pieces_of is) s.replies.answered.answers in (
       text,
       subst (λ (t : List ℕ). Appends h0 h2 t) (sym whole) s.replies.appends,
-      record { answers = answers; exact = exact (hosts a) a.bound (states a) (pieces_of bytes) text (states c) answers; same = s.replies.answered.same },
+      record {
+        answers = answers;
+        exact = exact (hosts a) a.bound (states a) (pieces_of bytes) text (states c) answers;
+        apart = apart-in a (pieces_of bytes) text c answers;
+        same = s.replies.answered.same;
+      },
     )
   where
     read-all : (rest : Option (List ℕ)) (bytes seen : List ℕ) → Consumes (Some bytes) rest seen → IsAtEnd rest → seen ≡ bytes

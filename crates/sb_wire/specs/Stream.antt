@@ -1,11 +1,12 @@
 -- What a cell answers to lines, and how a stream of them ends.
-use Rattle.std.specs.Prelude.{◌≡◌, ◌⊎◌, ◌≤◌, nat_lt, ℕ, List, [], ◌∷◌, ◌++◌, length, Option, Result, Ok, Err, ⊤}
+use Rattle.std.specs.Prelude.{◌≡◌, ◌⊎◌, ◌<◌, ◌≤◌, nat_lt, ℕ, List, [], ◌∷◌, ◌++◌, length, Option, Result, Ok, Err, ⊤}
 use Rattle.std.specs.Io.KnownBytes.{Appends, Consumes, IsAtEnd, Keeps}
 use Rattle.sb_tenant.specs.State.{State, opening}
 use Rattle.sb_tenant.specs.Trail.{state_of}
 use Rattle.sb_cell.specs.Tenants.{Cell, hosts, trails, IsSame}
 use Rattle.sb_wire.specs.Lines.{Piece, pieces_of, complete_pieces}
 use Rattle.sb_wire.specs.Output.{IsAnswer, AreAnswers, IsOutput, TellsNoWant, output}
+use Rattle.sb_wire.specs.Apart.{MetNoWant, RunsApart, own_lines, tenant_lines}
 use Rattle.sb_wire.specs.Counts.{Adds, Response, response_text}
 use Rattle.sb_wire.specs.declared.fault.StreamError.{StreamError}
 use Rattle.sb_wire.specs.declared.fault.StreamError.TheVariants.{ReadFault, WriteFault, NoMemory}
@@ -24,16 +25,18 @@ abbrev pub AnswersCounted : Cell × Summary → Piece → List ℕ → Cell × S
 AnswersCounted old piece text new =
     (response : Response) × (text ≡ response_text response) × AnswersPiece old.0 piece text new.0 × IsSame old.0 new.0 × Adds old.1 (response ∷ []) new.1
 
--- the text answers the pieces in order, and the cell goes on from there, with its bound and its tenants
+-- the text answers the pieces in order, each tenant as if it were alone, and the cell goes on from there, with its bound and its tenants
 pub record AnswersPieces (old : Cell) (pieces : List Piece) (text : List ℕ) (new : Cell) : Type 0 where
   pub answers : AreAnswers (hosts old) old.bound (states old) pieces text (states new)
+  pub apart : RunsApart (hosts old) old.bound (states old) pieces text (states new)
   pub same : IsSame old new
 
 -- The text answers the lines of an input in order, and the cell goes on from there. Where it doesn't say that memory ran out, it is what is
--- written for the input.
+-- written for the input; and where it doesn't say so of a tenant, that tenant's lines are what it would be told alone.
 pub record AnswersInput (old : Cell) (input text : List ℕ) (new : Cell) : Type 0 where
   pub answers : IsOutput (hosts old) old.bound (states old) input text (states new)
   pub exact : TellsNoWant text → text ≡ output (hosts old) old.bound (states old) input
+  pub apart : RunsApart (hosts old) old.bound (states old) (pieces_of input) text (states new)
   pub same : IsSame old new
 
 -- The same on a fresh cell of the tenants below a number: all begin without tables and rules, and no session is open.
@@ -41,6 +44,16 @@ pub record AnswersFresh (tenants bound : ℕ) (input text : List ℕ) : Type 0 w
   pub after : ℕ → State
   pub answers : IsOutput (λ t. nat_lt t tenants) bound (λ t. opening) input text after
   pub exact : TellsNoWant text → text ≡ output (λ t. nat_lt t tenants) bound (λ t. opening) input
+  pub apart : RunsApart (λ t. nat_lt t tenants) bound (λ t. opening) (pieces_of input) text after
+
+-- Two inputs with the same lines of a tenant, on fresh cells that have it: where it met no want of memory, its lines of output are the same,
+-- whatever the other tenants sent and however many there are.
+abbrev pub SameLinesAreToldTheSame : ℕ → Type 0
+SameLinesAreToldTheSame bound =
+    (tenants others : ℕ) (input text another told : List ℕ) (one : AnswersFresh tenants bound input text) (two : AnswersFresh others bound another told)
+    → (t : ℕ) → t < tenants → t < others → MetNoWant t one.apart.lines → MetNoWant t two.apart.lines
+    → own_lines t (pieces_of input) ≡ own_lines t (pieces_of another)
+    → (tenant_lines t one.apart.lines ≡ tenant_lines t two.apart.lines) × (one.after t ≡ two.after t)
 
 -- the pieces are answered behind a text that waits; the writer took a first part of all this, and the rest is left
 pub record Replies (old : Cell) (held : Option (List ℕ)) (waiting : List ℕ) (pieces : List Piece) (new : Cell) (holds : Option (List ℕ)) (left : List ℕ) : Type 0 where

@@ -9,7 +9,7 @@ use crate::ends::{Sink, Source};
 use crate::fault::StreamError;
 use crate::run::run_stream;
 use crate::summary::Summary;
-use sb_cell::Cell;
+use sb_cell::{Cell, ample_buckets};
 use std::alloc::{AllocError, Global};
 
 /// Answers the lines of the input on a fresh cell of the tenants below the number `tenants`.
@@ -45,7 +45,8 @@ pub fn run_fresh<R: Source, W: Sink>(
         × EndsBy R.fails R.remaining reader.new s.seen s.pieces s.left result
         × Counts s.pieces s.replies.text summary.old summary.new) }
 {
-    let Ok(mut cell) = Cell::new(alloc, 0, 1, tenants, bound) else {
+    let buckets = ample_buckets(tenants);
+    let Ok(mut cell) = Cell::with_buckets(alloc, 0, 1, tenants, bound, buckets) else {
         return Err(StreamError::NoMemory);
     };
     run_stream(alloc, reader, writer, &mut cell, summary)

@@ -1,5 +1,6 @@
 //! Calls that are interrupted are made again.
-ghost use Rattle.std.specs.Prelude.{IsTrue, ◌<◌};
+ghost use Rattle.std.specs.Prelude.{◌≡◌, ◌<◌, ◌+◌, ◌↔◌, IsTrue, IsFalse};
+ghost use Rattle.std.specs.IoError.{error_kind};
 
 use std::io::{Error, ErrorKind};
 
@@ -12,13 +13,17 @@ pub(crate) struct Tries {
 }
 
 impl Tries {
-    pub fn new() -> Tries {
+    pub fn new() -> Tries
+        ensures { result.left ≡ 1000000 }
+    {
         Tries { left: MOST_TRIES }
     }
 
     /// Whether a call that failed in this way is to be made again.
     pub fn again(&mut self, error: &Error) -> bool
-        ensures { IsTrue result → self.new.left < self.old.left }
+        ensures interrupted { IsTrue result ↔ ((0 < self.old.left) × (error_kind error.now ≡ ErrorKind.Interrupted)) }
+        ensures fewer { IsTrue result → self.new.left + 1 ≡ self.old.left }
+        ensures same { IsFalse result → self.new ≡ self.old }
     {
         if self.left == 0 || error.kind() != ErrorKind::Interrupted {
             return false;

@@ -1,4 +1,4 @@
-use Rattle.std.proofs.Common.{◌≡◌, ◌∙◌, ◌++◌, ◌<◌, arith, rules, sym, ap, take, drop, List, ℕ, append_assoc}
+use Rattle.std.proofs.Common.{◌≡◌, ◌∙◌, ◌+◌, ◌++◌, arith, rules, sym, ap, take, drop, List, ℕ, append_assoc}
 use Rattle.std.proofs.lemmas.List.{take_rest, take-append-drop}
 use Rattle.std.proofs.KnownBytes.{Appends-trans}
 use Rattle.sb_wire.proofs.stream.write_bytes.Goals as goal
@@ -19,4 +19,4 @@ loop-rest-preserved-in-Ok g c =
 -- or a try is made again
 pub loop-rest-smaller : goal.loop-rest-smaller
 loop-rest-smaller g c =
-    let fewer : c.again.new.self.left < c.loop-rest.tries.left = c.again.ensures (search rules) in omega arith
+    let fewer : c.again.new.self.left + 1 ≡ c.loop-rest.tries.left = c.again.ensures.fewer (search rules) in omega arith
