@@ -1,5 +1,5 @@
 -- What a session knows of its calls. The cell's part of the step is the contract of a desk's calls.
-use Rattle.std.specs.Prelude.{ℕ, ◌≡◌, ◌<◌, ◌≤◌, Bool, true, false, List, Option, Some, None, Result, Ok, Err}
+use Rattle.std.specs.Prelude.{ℕ, ◌≡◌, ◌↔◌, ◌<◌, ◌≤◌, Bool, true, false, List, Option, Some, None, Result, Ok, Err}
 use Rattle.sb_value.specs.declared.refusal.Refusal.TheVariants.{TrailFull}
 use Rattle.sb_tenant.specs.declared.reply.Answer.{Answer}
 use Rattle.sb_tenant.specs.declared.reply.Reply.TheVariants.{No}
@@ -13,9 +13,9 @@ use Rattle.sb_desk.specs.Receipts.{Receipts, after, after_end, closes, list_afte
 
 -- ---- behind a lock
 
--- an answer has no number only where the trail is full
+-- an answer has no number exactly where it says that the trail is full
 abbrev pub IsNumbered : Answer → Type 0
-IsNumbered answer = answer.number ≡ None → answer.reply ≡ No TrailFull
+IsNumbered answer = (answer.number ≡ None) ↔ (answer.reply ≡ No TrailFull)
 
 -- one answer to the line that was ready
 abbrev pub Called : Receipts → Receipts → Type 0

@@ -6,6 +6,7 @@ use crate::gate::Gate;
 use crossbeam_utils::CachePadded;
 use sb_desk::seats::SeatTable;
 use sb_desk::{AttachError, CallError, Desk, Naming, Receipts};
+use sb_tenant::laws::answers_are_numbered;
 use sb_value::SessionId;
 use std::alloc::Global;
 use std::sync::{Mutex, Wait};
@@ -41,6 +42,8 @@ pub(crate) fn enter_in<N: Naming, const F: u32, R: Wait, G: Gate>(
     let Some(lock) = lock else { unreachable!() };
     let mut desk = lock.lock(rt);
     gate.inside(r.tenant(), r.session());
+    // for the proof: an answer has no number exactly where the trail is full
+    answers_are_numbered();
     desk.enter(alloc, r, reach.table, reach.cells)
 }
 

@@ -7,7 +7,7 @@ ghost use Rattle.sb_host.specs.Opening.{left_at, left_in};
 use crate::host::Host;
 use crate::locks::Lock;
 use crossbeam_utils::CachePadded;
-use sb_cell::Cell;
+use sb_cell::{Cell, ample_buckets};
 use sb_desk::seats::{SeatTable, Seats, SessionSeat, open_seats, split, split_block};
 use sb_desk::{Desk, Naming};
 use std::alloc::{AllocError, Global};
@@ -125,8 +125,13 @@ fn desk_of<N: Naming, const F: u32>(
     requires block { block.me ≡ (left_in F 0, []) }
     requires share { share.parts ≡ 2 ^ 32 }
 {
-    let cell = Cell::new(alloc, F, numbers.cells, numbers.tenants, numbers.bound)?;
-    let places = (numbers.tenants - 1) / numbers.cells + 1;
+    let Numbers {
+        tenants,
+        cells,
+        bound,
+    } = numbers;
+    let cell = Cell::with_buckets(alloc, F, cells, tenants, bound, ample_buckets(tenants))?;
+    let places = (tenants - 1) / cells + 1;
     let seats = deal(alloc, table, &mut block, F, 8 * places as usize)?;
     Ok(Desk::new(cell, share, seats))
 }

@@ -23,7 +23,7 @@ ending (answered line answer) numbered ended = by_number answer.number refl
     by_number (Some n) is = (receipt line answer, refl, ended)
     by_number None is =
         let ok : is_ok answer.reply ≡ true = (and_parts _ _ ended).1 in
-        absurd (false≢true (sym (ap is_ok (numbered is)) ∙ ok))
+        absurd (false≢true (sym (ap is_ok (numbered.0 is)) ∙ ok))
 
 ending_last : (es : List Exchange) → AreCalls es → has_ended es ≡ true → IsClosed (receipts_of es)
 ending_last [] are ended = absurd (false≢true ended)

@@ -45,7 +45,7 @@ ends e = false
 abbrev pub has_ended : List Exchange → Bool
 has_ended es = list_any ends es
 
--- an answer has no number only where the trail is full
+-- an answer has no number exactly where it says that the trail is full
 abbrev pub IsCall : Exchange → Type 0
 IsCall (answered line answer) = IsNumbered answer
 IsCall e = ⊤
