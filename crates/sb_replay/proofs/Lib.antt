@@ -4,3 +4,4 @@ mod Playing
 mod Ending
 mod Whole
 mod Faults
+mod Alone

@@ -3,3 +3,4 @@ pub mod Sessions
 pub mod Sheets
 pub mod Parts
 pub mod Replay
+pub mod Alone

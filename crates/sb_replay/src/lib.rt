@@ -5,6 +5,7 @@
 mod closing;
 mod error;
 mod finishing;
+pub mod laws;
 mod part;
 mod replaying;
 mod round;
