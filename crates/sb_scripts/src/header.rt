@@ -26,6 +26,10 @@ pub enum Each {
     Fails,
     /// For each smaller room of the writer.
     Room,
+    /// For each read that may fail.
+    Reads,
+    /// For each byte that may not be taken.
+    Writes,
 }
 
 #[derive(Clone, Copy)]
@@ -34,6 +38,8 @@ pub struct Header {
     pub each: Each,
     pub tenants: u32,
     pub bound: u32,
+    /// The buckets of the log, if they aren't the usual ones.
+    pub buckets: Option<u32>,
     /// The most bytes that a read gives.
     pub pieces: u32,
     /// How many bytes at the end aren't sent.
@@ -52,6 +58,7 @@ impl Header {
             each: Each::Once,
             tenants: 1,
             bound: 1000,
+            buckets: None,
             pieces: u32::MAX,
             cut: 0,
             fails: u32::MAX,
@@ -80,6 +87,7 @@ impl Header {
         match setting {
             b"tenants" => self.tenants = number,
             b"bound" => self.bound = number,
+            b"buckets" => self.buckets = Some(number),
             b"pieces" => self.pieces = number,
             b"cut" => self.cut = number,
             b"fails" => self.fails = number,
@@ -104,6 +112,8 @@ fn read_each(value: &[u8]) -> Result<Each, ScriptFault> {
     match value {
         b"fails" => Ok(Each::Fails),
         b"room" => Ok(Each::Room),
+        b"reads" => Ok(Each::Reads),
+        b"writes" => Ok(Each::Writes),
         _ => Err(ScriptFault::BadHeader),
     }
 }

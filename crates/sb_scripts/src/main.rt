@@ -3,18 +3,22 @@
 //! A header is `# name setting=value ..`; its words without `=` say what the block shows. The lines
 //! below it, up to the next header, are commands:
 //!
-//! - of a stream on a fresh cell, as a client sends them. `tenants=2` and `bound=3` say of which
-//!   cell, `pieces=7` that a read gives at most 7 bytes, `cut=1` that the last byte isn't sent,
-//!   `fails=30` that reads fail behind 30 bytes, `room=6` that the writer has room for 6 bytes, and
-//!   `each=fails` or `each=room` that the block is played for each number below that one;
+//! - of a stream on a fresh cell, as a client sends them. `tenants=2`, `bound=3` and `buckets=1` say
+//!   of which cell, `pieces=7` that a read gives at most 7 bytes, `cut=1` that the last byte isn't
+//!   sent, `fails=30` that reads fail behind 30 bytes, `room=6` that the writer has room for 6 bytes,
+//!   and `each=fails` or `each=room` that the block is played for each number below that one. With
+//!   `each=reads` it is played with each read failing in turn, with `each=writes` as it is and then
+//!   with each smaller room, where a play counts that has just so much of the whole answer;
 //! - with `lines=tenant`, of session 0 of one tenant by itself, as `tenant` shows it;
 //! - with `lines=shared`, of a stream, with what the tenants' log and index hold, as `shared` shows it;
 //! - with `lines=syntax`, texts that are read as commands, as `syntax` shows them;
 //! - with `lines=memory`, numbers of the refusals that come where memory runs out.
 //!
-//! A line without a byte stands between blocks and is no command. `*65 LINE` is 65 such lines, and
-//! `{40|TEXT}` within a line is that text 40 times. An answer of more than nine equal lines in a row
-//! has one of them and their number.
+//! A line without a byte stands between blocks and is no command. `*65 LINE` is 65 such lines, of
+//! which `{#}` is the number, from 0 on, and `%LINE` one for each reserved word, which stands for
+//! `{%}` there. Within a line `{40|TEXT}` is that text 40 times, `{byte 13}` the byte 13, and
+//! `{bytes 128}` the byte 128 in the first of several lines, 129 in the second and so on. An answer
+//! of more than nine equal lines in a row has one of them and their number.
 #![tactic(auto)]
 
 mod ends;

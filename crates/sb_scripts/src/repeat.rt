@@ -6,6 +6,10 @@ use memchr::memchr;
 use std::alloc::AllocError;
 use std::str;
 
+/// The words that are no names.
+const RESERVED: &str =
+    "open end begin commit rollback process rules ruleset rule create drop alter table on when if then precedes follows nopriority activate deactivate addrules delrules insert into values delete from update set select where and or not in exists count sum int text inserted deleted updated old-updated new-updated";
+
 /// So many equal lines are written each; more are one with their number.
 const FOLDED_FROM: u32 = 9;
 
@@ -24,45 +28,111 @@ pub fn push_number(number: u64, out: &mut Vec<u8>) -> Result<(), AllocError> {
     out.extend_from_slice(buffer.format(number).as_bytes())
 }
 
+/// Which of the lines that a line of a script stands for is written.
+#[derive(Clone, Copy)]
+struct Turn<'a> {
+    /// How many were written before it.
+    at: u32,
+    /// Its reserved word.
+    word: &'a [u8],
+}
+
 /// Adds the lines that a line of a script stands for.
 pub fn push_lines(line: &[u8], out: &mut Vec<u8>) -> Result<(), ScriptFault> {
-    let Some(starred) = line.strip_prefix(b"*".as_slice()) else {
-        return push_line(line, out);
-    };
-    let Some((digits, rest)) = cut(starred, b' ') else {
-        return Err(ScriptFault::BadRepeat);
-    };
-    for _ in 0..number(digits).ok_or(ScriptFault::BadRepeat)? {
-        push_line(rest, out)?;
+    if let Some(starred) = line.strip_prefix(b"*".as_slice()) {
+        let Some((digits, rest)) = cut(starred, b' ') else {
+            return Err(ScriptFault::BadRepeat);
+        };
+        push_starred(number(digits).ok_or(ScriptFault::BadRepeat)?, rest, out)
+    } else if let Some(rest) = line.strip_prefix(b"%".as_slice()) {
+        push_reserved(rest, out)
+    } else {
+        push_line(line, Turn { at: 0, word: b"" }, out)
+    }
+}
+
+/// Adds a line so many times.
+fn push_starred(times: u32, line: &[u8], out: &mut Vec<u8>) -> Result<(), ScriptFault> {
+    for at in 0..times {
+        push_line(line, Turn { at, word: b"" }, out)?;
     }
     Ok(())
 }
 
-/// Adds a line with its repeated texts written out.
-fn push_line(line: &[u8], out: &mut Vec<u8>) -> Result<(), ScriptFault> {
+/// Adds a line once for each reserved word.
+fn push_reserved(line: &[u8], out: &mut Vec<u8>) -> Result<(), ScriptFault> {
+    for word in RESERVED.as_bytes().split(|byte| *byte == b' ') {
+        push_line(line, Turn { at: 0, word }, out)?;
+    }
+    Ok(())
+}
+
+/// Adds a line with what stands in braces written out.
+fn push_line(line: &[u8], turn: Turn<'_>, out: &mut Vec<u8>) -> Result<(), ScriptFault> {
     let mut parts = line.split(|byte| *byte == b'{');
     if let Some(first) = parts.next() {
         out.extend_from_slice(first)?;
     }
     for part in parts {
-        push_repeated(part, out)?;
+        let Some((form, rest)) = cut(part, b'}') else {
+            return Err(ScriptFault::BadRepeat);
+        };
+        push_form(form, turn, out)?;
+        out.extend_from_slice(rest)?;
     }
     out.push(b'\n')?;
     Ok(())
 }
 
-/// Adds a repeated text, `40|TEXT}`, and what stands behind it.
-fn push_repeated(part: &[u8], out: &mut Vec<u8>) -> Result<(), ScriptFault> {
-    let Some((digits, repeated)) = cut(part, b'|') else {
-        return Err(ScriptFault::BadRepeat);
-    };
-    let Some((text, rest)) = cut(repeated, b'}') else {
+/// Adds what a form in braces stands for.
+fn push_form(form: &[u8], turn: Turn<'_>, out: &mut Vec<u8>) -> Result<(), ScriptFault> {
+    if form == b"#".as_slice() {
+        push_number(u64::from(turn.at), out)?;
+    } else if form == b"%".as_slice() {
+        out.extend_from_slice(turn.word)?;
+    } else if let Some(digits) = form.strip_prefix(b"byte ".as_slice()) {
+        push_byte(digits, 0, out)?;
+    } else if let Some(digits) = form.strip_prefix(b"bytes ".as_slice()) {
+        push_byte(digits, turn.at, out)?;
+    } else {
+        push_repeated(form, out)?;
+    }
+    Ok(())
+}
+
+/// Adds the byte of that number, or one so far behind it.
+fn push_byte(digits: &[u8], behind: u32, out: &mut Vec<u8>) -> Result<(), ScriptFault> {
+    let first = number(digits).ok_or(ScriptFault::BadRepeat)?;
+    match u8::try_from(first.saturating_add(behind)) {
+        Ok(byte) => Ok(out.push(byte)?),
+        Err(_) => Err(ScriptFault::BadRepeat),
+    }
+}
+
+/// Adds a repeated text, `40|TEXT`.
+fn push_repeated(form: &[u8], out: &mut Vec<u8>) -> Result<(), ScriptFault> {
+    let Some((digits, text)) = cut(form, b'|') else {
         return Err(ScriptFault::BadRepeat);
     };
     for _ in 0..number(digits).ok_or(ScriptFault::BadRepeat)? {
         out.extend_from_slice(text)?;
     }
-    out.extend_from_slice(rest)?;
+    Ok(())
+}
+
+/// Adds a text and how often it came, if it came at all.
+pub fn push_times(
+    text: &[u8],
+    times: u32,
+    what: &[u8],
+    out: &mut Vec<u8>,
+) -> Result<(), ScriptFault> {
+    if times > 0 {
+        out.extend_from_slice(text)?;
+        out.push(b'(')?;
+        push_number(u64::from(times), out)?;
+        out.extend_from_slice(what)?;
+    }
     Ok(())
 }
 

@@ -3,6 +3,7 @@
 use crate::ends::{Failing, Narrow};
 use crate::fault::ScriptFault;
 use crate::header::{Each, Header};
+use crate::repeat::push_times;
 use sb_cell::Cell;
 use sb_wire::{Fallible, StreamError, Summary, run_stream};
 use std::alloc::Global;
@@ -13,7 +14,10 @@ const MOST_TENANTS: u32 = 256;
 /// The most considerations at an assertion point.
 const MOST_BOUND: u32 = 1000;
 
-/// Plays these lines once, or for each number below the header's.
+/// The most buckets of a log.
+const MOST_BUCKETS: u32 = 65_536;
+
+/// Plays these lines once, or for each failure that the header says.
 pub fn play_stream(
     alloc: Global,
     header: &Header,
@@ -34,7 +38,77 @@ pub fn play_stream(
             }
             Ok(())
         }
+        Each::Reads => play_reads(alloc, header, input, out),
+        Each::Writes => play_writes(alloc, header, input, out),
     }
+}
+
+/// Plays these lines with the first read failing, with the second, and so on to the last. Plays in a
+/// row that are answered the same are one with their number.
+fn play_reads(
+    alloc: Global,
+    header: &Header,
+    input: &[u8],
+    out: &mut Vec<u8>,
+) -> Result<(), ScriptFault> {
+    let mut last = Vec::new(alloc);
+    let mut times: u32 = 0;
+    let mut fails: u32 = 0;
+    for _ in input.chunks(header.pieces.max(1) as usize) {
+        let mut text = Vec::new(alloc);
+        play_once(alloc, &Header { fails, ..*header }, input, &mut text)?;
+        if text.as_slice() != last.as_slice() {
+            push_times(last.as_slice(), times, b" reads)\n", out)?;
+            last = text;
+            times = 0;
+        }
+        times = times.saturating_add(1);
+        fails = fails.saturating_add(header.pieces);
+    }
+    push_times(last.as_slice(), times, b" reads)\n", out)
+}
+
+/// Plays these lines, and again with each smaller room for the answer. A play that wrote just so much
+/// of the answer is counted, any other shown.
+fn play_writes(
+    alloc: Global,
+    header: &Header,
+    input: &[u8],
+    out: &mut Vec<u8>,
+) -> Result<(), ScriptFault> {
+    let mut whole = Vec::new(alloc);
+    play_once(alloc, header, input, &mut whole)?;
+    let mut times: u32 = 0;
+    for room in 0..whole.len() {
+        if ends_behind(alloc, header, input, &whole[..room], out)? {
+            times = times.saturating_add(1);
+        }
+    }
+    push_times(whole.as_slice(), times, b" writes failed)\n", out)
+}
+
+/// Whether a play that has room for this much of the answer writes just that. If not, what it wrote is
+/// added.
+fn ends_behind(
+    alloc: Global,
+    header: &Header,
+    input: &[u8],
+    begun: &[u8],
+    out: &mut Vec<u8>,
+) -> Result<bool, ScriptFault> {
+    let narrow = Header {
+        room: u32::try_from(begun.len()).unwrap_or(u32::MAX),
+        ..*header
+    };
+    let mut wanted = Vec::from_slice(alloc, begun)?;
+    push_end(Err(StreamError::WriteFault), &mut wanted)?;
+    let mut text = Vec::new(alloc);
+    play_once(alloc, &narrow, input, &mut text)?;
+    if text.as_slice() == wanted.as_slice() {
+        return Ok(true);
+    }
+    out.extend_from_slice(text.as_slice())?;
+    Ok(false)
 }
 
 /// Adds the replies to these lines, and the fault that ends them, if one does.
@@ -57,12 +131,19 @@ fn play_once(
     push_end(ended, out)
 }
 
-/// A cell with the tenants and the bound that a header says.
+/// A cell with the tenants, the bound and the buckets that a header says.
 pub fn fresh_cell(alloc: Global, header: &Header) -> Result<Cell, ScriptFault> {
     if header.tenants > MOST_TENANTS || header.bound > MOST_BOUND {
         return Err(ScriptFault::BadHeader);
     }
-    Ok(Cell::new(alloc, 0, 1, header.tenants, header.bound)?)
+    let Header { tenants, bound, .. } = *header;
+    match header.buckets {
+        None => Ok(Cell::new(alloc, 0, 1, tenants, bound)?),
+        Some(buckets) if buckets > 0 && buckets <= MOST_BUCKETS => {
+            Ok(Cell::with_buckets(alloc, 0, 1, tenants, bound, buckets as usize)?)
+        }
+        Some(_) => Err(ScriptFault::BadHeader),
+    }
 }
 
 /// Adds the fault that ended a stream.
