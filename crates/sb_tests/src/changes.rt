@@ -1,12 +1,16 @@
 //! Changes of one table, and logs of them.
+ghost use Rattle.std.specs.Prelude.{◌≡◌};
 
+use crate::mark::mark;
 use sb_rawlog::ChangeLog;
 use sb_value::{Change, Columns, Kind, Row, SessionId, TableId, TenantId, Value, Who};
 use std::alloc::{AllocError, Global};
 use std::process::Abort;
 
 /// Session 0 of the tenant.
-pub fn session_of(tenant: u8) -> Who {
+pub fn session_of(tenant: u8) -> Who
+    ensures { result ≡ record { tenant = tenant; session = 0 } }
+{
     Who {
         tenant: TenantId::new(tenant),
         session: SessionId::new(0),
@@ -18,14 +22,19 @@ pub fn table() -> TableId {
     TableId::new(0)
 }
 
-/// The row of one integer, if there is one.
-fn row(alloc: Global, value: Option<i64>) -> Result<Option<Row>, AllocError> {
-    let Some(value) = value else {
-        return Ok(None);
-    };
+/// The row of one integer.
+pub fn row_of(alloc: Global, value: i64) -> Result<Row, AllocError> {
     let mut row = Row::new(alloc);
     row.push(Value::Int(value))?;
-    Ok(Some(row))
+    Ok(row)
+}
+
+/// The row of one integer, if there is one.
+fn row(alloc: Global, value: Option<i64>) -> Result<Option<Row>, AllocError> {
+    match value {
+        Some(value) => Ok(Some(row_of(alloc, value)?)),
+        None => Ok(None),
+    }
 }
 
 /// A change of the tuple by the tenant's session 0, which names no column.
@@ -53,7 +62,9 @@ pub fn change(
 pub fn append<L: ChangeLog>(rt: &impl Abort, log: &mut L, change: Change) {
     assert!(rt; log.spare() > 0);
     assert!(rt; log.now() < u64::MAX);
+    mark();
     log.append(change);
+    mark();
 }
 
 /// The integer of a row of one.

@@ -1,6 +1,7 @@
 //! The hashed log, by the tests that every log passes, with one bucket and with many.
 
 use crate::changes::{append, change, session_of, table};
+use crate::net::{all_pairs, one_life, tables, triggers};
 use crate::rawlog::{fills_again, steps, takes_out, walks};
 use sb_rawlog::{ChangeLog, RawLog};
 use sb_value::Kind;
@@ -28,6 +29,18 @@ fn a_hashed_log_gives_changes_back(rt: HostRuntime) -> Result<(), Fail> {
 fn a_hashed_log_is_filled_again(rt: HostRuntime) -> Result<(), Fail> {
     fills_again(&rt, rt.alloc(), &mut RawLog::new(rt.alloc(), 1)?)?;
     fills_again(&rt, rt.alloc(), &mut RawLog::new(rt.alloc(), 1_000)?)
+}
+
+#[test]
+fn a_hashed_log_has_net_effects(rt: HostRuntime) -> Result<(), Fail> {
+    let alloc = rt.alloc();
+    for buckets in [1, 1_000] {
+        all_pairs(&rt, alloc, &mut RawLog::new(alloc, buckets)?)?;
+        one_life(&rt, alloc, &mut RawLog::new(alloc, buckets)?)?;
+        tables(&rt, alloc, &mut RawLog::new(alloc, buckets)?)?;
+        triggers(&rt, alloc, &mut RawLog::new(alloc, buckets)?)?;
+    }
+    Ok(())
 }
 
 /// A change that stands behind others in all its lists leaves them whole.

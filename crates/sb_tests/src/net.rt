@@ -1,6 +1,7 @@
 //! Net effects over every log, by one list of tests.
 
 use crate::changes::{append, change, integer, only_integer, session_of, table};
+use crate::mark::mark;
 use sb_net::{NetOf, is_triggered, net, transition_tables};
 use sb_rawlog::{ChangeLog, PlainLog};
 use sb_value::{Columns, Kind, RowList, Triggers};
@@ -21,7 +22,10 @@ fn shown(net: &NetOf<'_>) -> Shown {
 
 /// The net effect on tuple 1.
 fn net_at<L: ChangeLog>(log: &L, since: u64) -> Option<Shown> {
-    match net(log, session_of(0), table(), 1, since) {
+    mark();
+    let net = net(log, session_of(0), table(), 1, since);
+    mark();
+    match net {
         Some(net) => Some(shown(&net)),
         None => None,
     }
@@ -90,7 +94,7 @@ pub fn one_life<L: ChangeLog>(rt: &impl Abort, alloc: Global, log: &mut L) -> Re
     Ok(())
 }
 
-/// A delete of tuple 0, updates of tuples 2 and 1 that name columns 0 and 1, and an insert of tuple 3.
+/// A delete of tuple 0, updates of tuples 2 and 1 in their one column, of which the second names another one, and an insert of tuple 3.
 fn four_changes<L: ChangeLog>(
     rt: &impl Abort,
     alloc: Global,
@@ -137,13 +141,8 @@ pub fn tables<L: ChangeLog>(rt: &impl Abort, alloc: Global, log: &mut L) -> Resu
         ),
         (
             on_update(false, none.with(0)),
-            [Some(1)].as_slice(),
-            [Some(2)].as_slice(),
-        ),
-        (
-            on_update(false, none.with(1)),
-            [Some(7)].as_slice(),
-            [Some(8)].as_slice(),
+            [Some(7), Some(1)].as_slice(),
+            [Some(8), Some(2)].as_slice(),
         ),
     ];
     for (triggers, old, new) in rows {
@@ -168,14 +167,17 @@ pub fn triggers<L: ChangeLog>(rt: &impl Abort, alloc: Global, log: &mut L) -> Re
     let none = Columns::empty();
     let rows = [
         (0, on_update(false, none.with(0)), 0, true),
-        (0, on_update(false, none.with(0)), 2, false),
+        (0, on_update(false, none.with(0)), 2, true),
+        (0, on_update(false, none.with(1)), 0, false),
         (0, on_update(true, none), 2, true),
         (0, on_update(true, none), 3, false),
         (0, on_update(false, none), 0, false),
         (1, on_update(true, none.with(0)), 0, false),
     ];
     for (tenant, triggers, since, expected) in rows {
+        mark();
         let triggered = is_triggered(log, session_of(tenant), table(), triggers, since);
+        mark();
         assert_eq!(rt; triggered, expected);
     }
     Ok(())

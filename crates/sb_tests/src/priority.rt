@@ -1,5 +1,6 @@
 //! The order of rules: which precede which.
 
+use crate::mark::mark;
 use sb_priority::Priorities;
 use sb_value::{RuleId, RuleSet};
 use std::test::Fail;
@@ -9,6 +10,7 @@ use std::test::Fail;
 fn precedence(rt: HostRuntime) -> Result<(), Fail> {
     let [first, middle, last] = [RuleId::new(63), RuleId::new(7), RuleId::new(0)];
     let mut order = Priorities::new();
+    mark();
     assert!(rt; order.has_room());
     assert_eq!(rt; order.add(middle, &[], &[]), Ok(()));
     assert!(rt; order.has_room());
@@ -20,5 +22,6 @@ fn precedence(rt: HostRuntime) -> Result<(), Fail> {
     assert_eq!(rt; order.choose(both).map(|rule| rule.number()), Some(63));
     order.drop_rule(middle);
     assert!(rt; !order.precedes(first, last));
+    mark();
     Ok(())
 }

@@ -1,6 +1,7 @@
 //! Every log of changes, by one list of tests.
 
 use crate::changes::{append, change, only_integer, session_of, table};
+use crate::mark::mark;
 use sb_rawlog::{ChangeLog, PlainLog};
 use sb_value::{Kind, Who};
 use std::alloc::{AllocError, Global};
@@ -17,18 +18,22 @@ fn compare_op<L: ChangeLog>(
     times: &[u64],
 ) {
     let mut left = times.iter();
+    mark();
     for (time, _) in log.by_op(who, table(), kind, since) {
         assert!(rt; left.next() == Some(&time));
     }
+    mark();
     assert!(rt; left.next().is_none());
 }
 
 /// The walk over the changes of tuple 1 has these times.
 fn compare_tuple<L: ChangeLog>(rt: &impl Abort, log: &L, who: Who, since: u64, times: &[u64]) {
     let mut left = times.iter();
+    mark();
     for (time, _) in log.by_tuple(who, table(), 1, since) {
         assert!(rt; left.next() == Some(&time));
     }
+    mark();
     assert!(rt; left.next().is_none());
 }
 
@@ -66,6 +71,7 @@ pub fn walks<L: ChangeLog>(rt: &impl Abort, alloc: Global, log: &mut L) -> Resul
 /// A walk goes on from where it stands.
 pub fn steps<L: ChangeLog>(rt: &impl Abort, alloc: Global, log: &mut L) -> Result<(), Fail> {
     three_changes(rt, alloc, log)?;
+    mark();
     let Some(update) = log.tuple_first(session_of(0), table(), 1, 0) else {
         return Err(Fail::new("no change of the tuple"));
     };
@@ -83,12 +89,14 @@ pub fn steps<L: ChangeLog>(rt: &impl Abort, alloc: Global, log: &mut L) -> Resul
         return Err(Fail::new("no insert"));
     };
     assert!(rt; log.op_next(only).is_none());
+    mark();
     Ok(())
 }
 
 /// The newest change is taken out, and the others are forgotten.
 pub fn takes_out<L: ChangeLog>(rt: &impl Abort, alloc: Global, log: &mut L) -> Result<(), Fail> {
     three_changes(rt, alloc, log)?;
+    mark();
     let Some(shown) = log.newest(session_of(0)) else {
         return Err(Fail::new("no newest change"));
     };
@@ -100,6 +108,7 @@ pub fn takes_out<L: ChangeLog>(rt: &impl Abort, alloc: Global, log: &mut L) -> R
     log.forget(session_of(8));
     assert!(rt; log.take_newest(session_of(8)).is_none());
     assert_eq!(rt; (log.len(), log.now(), log.spare()), (1, 3, 2));
+    mark();
     Ok(())
 }
 
