@@ -7,15 +7,19 @@ use std::io::IsTerminal as _;
 use std::process::ExitCode;
 use std::{env, io};
 
+/// The status of a fault.
+const FAULT: u8 = 1;
+
 /// The status where the words can't be read.
 const BAD_WORDS: u8 = 2;
 
 fn main(rt: HostRuntime) -> ExitCode {
-    let Ok(given) = env::args(&rt) else {
-        return ExitCode::from(BAD_WORDS);
+    let given = match env::args(&rt) {
+        Ok(given) => given,
+        Err(error) => return unread(&rt, error.kind() == io::ErrorKind::OutOfMemory),
     };
     let Ok(words) = given.collect::<Vec<String>>(rt.alloc()) else {
-        return ExitCode::from(BAD_WORDS);
+        return unread(&rt, true);
     };
     let mut reader = Fallible { inner: rt.reader() };
     let mut writer = Fallible {
@@ -34,4 +38,15 @@ fn main(rt: HostRuntime) -> ExitCode {
         &mut writer,
         &mut errors,
     ))
+}
+
+/// Tells why there are no words: memory ran out, or one of them isn't text.
+fn unread(rt: &HostRuntime, lacks_memory: bool) -> ExitCode {
+    // a standard error that takes nothing can't be told of
+    if lacks_memory {
+        let _told = eprintln!(rt; "fault: out of memory");
+        return ExitCode::from(FAULT);
+    }
+    let _told = eprintln!(rt; "error: a word isn't text");
+    ExitCode::from(BAD_WORDS)
 }
