@@ -1,7 +1,7 @@
 //! Lines of tenants on one cell, some of which are timed.
 ghost use Rattle.std.specs.Prelude.{◌<◌, ◌≤◌};
 
-use sb_cell::Cell;
+use sb_cell::{Cell, ample_buckets};
 use sb_tenant::Reply;
 use std::io::{self, Write as _};
 use std::time::{Duration, Instant};
@@ -26,7 +26,8 @@ pub fn time_cell(rt: &HostRuntime, input: &[u8], tenants: u32, rounds: u32) -> i
     requires some { 0 < tenants }
     requires few { tenants ≤ 256 }
 {
-    let mut cell = Cell::new(rt.alloc(), 0, 1, tenants, BOUND)?;
+    let buckets = ample_buckets(tenants);
+    let mut cell = Cell::with_buckets(rt.alloc(), 0, 1, tenants, BOUND, buckets)?;
     let mut times = Times {
         lines: 0,
         nanoseconds: 0,
