@@ -8,9 +8,9 @@ use Rattle.sb_syntax.specs.declared.kind.Kind.{Kind}
 use Rattle.sb_syntax.specs.declared.kind.Kind.TheVariants as k
 use Rattle.sb_syntax.specs.Input.{Input, Is, same_kind}
 use Rattle.sb_syntax.specs.Tree as tree
-use Rattle.sb_syntax.specs.Tree.{Name, Operand, Filter, Query, Assignment, Statement, Action, Trigger, RuleText, Command}
+use Rattle.sb_syntax.specs.Tree.{Name, Operand, Filter, Query, Assignment, Statement, Action, Trigger, RuleText, AlterationText, Command}
 use Rattle.sb_syntax.specs.Grammar as g
-use Rattle.sb_syntax.specs.Grammar.{IsName, IsLiteral, IsOperand, IsFilter, IsQuery, IsColumnType, IsDefinition, IsTuple, IsAssignment, IsChange, IsNames, IsTrigger, IsAction, IsIf, IsListed, IsPhrase, IsRuleHead, IsRuleBody, IsRule, IsLeadingCommand, Separated, IsCommand, max_depth, max_columns, max_actions}
+use Rattle.sb_syntax.specs.Grammar.{IsName, IsLiteral, IsOperand, IsFilter, IsQuery, IsColumnType, IsDefinition, IsTuple, IsAssignment, IsChange, IsNames, IsTrigger, IsAction, IsIf, IsThen, IsListed, IsPhrase, IsRuleHead, IsRuleBody, IsRule, IsAlteration, IsLeadingCommand, Separated, IsCommand, max_depth, max_columns, max_actions}
 use Rattle.sb_syntax.specs.Reading as r
 use Rattle.sb_syntax.specs.Reading.{Reader, Joins, and_then, kind_at, sees, next, expect, bytes_of, ◌>>=◌, ◌>>◌, pure, pushes}
 use Rattle.sb_syntax.proofs.TokenLaws.{Reads, is-kind, is-sees, is-other, is-next, is-shorter, is-expect}
@@ -224,6 +224,88 @@ rule-reads y ts mid rest first (g.rule {n = n} {on = on} {all = all} {query = qu
     let a = rule_head-reads n on all ts mid x first d b.1 b.2 in
     (rw (a.0, b.0) refl, a.1)
 
+-- where the parts of an alteration end, from the last one back
+record EndsPart (ts : Input) : Type 0 where
+  rule : EndsRule ts
+  no_follows : sees k.Follows ts ≡ false
+  no_precedes : sees k.Precedes ts ≡ false
+  no_then : sees k.Then ts ≡ false
+  no_if : sees k.If ts ≡ false
+
+nothing-part : (ts : Input) → kind_at ts ≡ None → EndsPart ts
+nothing-part ts none = record {
+  rule = record { query = nothing-follows ts none; no_semicolon = nothing-seen k.Semicolon ts none };
+  no_follows = nothing-seen k.Follows ts none;
+  no_precedes = nothing-seen k.Precedes ts none;
+  no_then = nothing-seen k.Then ts none;
+  no_if = nothing-seen k.If ts none;
+}
+
+nopriority-first : (ns : List Name) (ts rest : Input) → IsListed k.NoPriority ns ts rest → kind_at rest ≡ None → EndsPart ts
+unfolding same_kind
+nopriority-first ns ts rest g.not_listed none = nothing-part ts none
+nopriority-first ns ts rest (g.listed {x = x} is d) none = record {
+  rule = record { query = stops-query k.NoPriority ts x is refl refl refl refl refl refl refl refl; no_semicolon = is-other k.NoPriority k.Semicolon ts x is refl };
+  no_follows = is-other k.NoPriority k.Follows ts x is refl;
+  no_precedes = is-other k.NoPriority k.Precedes ts x is refl;
+  no_then = is-other k.NoPriority k.Then ts x is refl;
+  no_if = is-other k.NoPriority k.If ts x is refl;
+}
+
+-- what stands before a list of follows ends there, and so on
+record EndsLists (ts : Input) : Type 0 where
+  rule : EndsRule ts
+  no_precedes : sees k.Precedes ts ≡ false
+  no_then : sees k.Then ts ≡ false
+  no_if : sees k.If ts ≡ false
+
+follows-part : (ns : List Name) (ts rest : Input) → IsListed k.Follows ns ts rest → EndsPart rest → EndsLists ts
+unfolding same_kind
+follows-part ns ts rest g.not_listed end = record { rule = end.rule; no_precedes = end.no_precedes; no_then = end.no_then; no_if = end.no_if }
+follows-part ns ts rest (g.listed {x = x} is d) end = record {
+  rule = record { query = stops-query k.Follows ts x is refl refl refl refl refl refl refl refl; no_semicolon = is-other k.Follows k.Semicolon ts x is refl };
+  no_precedes = is-other k.Follows k.Precedes ts x is refl;
+  no_then = is-other k.Follows k.Then ts x is refl;
+  no_if = is-other k.Follows k.If ts x is refl;
+}
+
+record EndsActions (ts : Input) : Type 0 where
+  rule : EndsRule ts
+  no_then : sees k.Then ts ≡ false
+  no_if : sees k.If ts ≡ false
+
+precedes-part : (ns : List Name) (ts rest : Input) → IsListed k.Precedes ns ts rest → EndsLists rest → EndsActions ts
+unfolding same_kind
+precedes-part ns ts rest g.not_listed end = record { rule = end.rule; no_then = end.no_then; no_if = end.no_if }
+precedes-part ns ts rest (g.listed {x = x} is d) end = record {
+  rule = record { query = stops-query k.Precedes ts x is refl refl refl refl refl refl refl refl; no_semicolon = is-other k.Precedes k.Semicolon ts x is refl };
+  no_then = is-other k.Precedes k.Then ts x is refl;
+  no_if = is-other k.Precedes k.If ts x is refl;
+}
+
+then-reads : (all : Option (List Action)) (ts rest : Input) → IsThen all ts rest → EndsActions rest → Reads r.actions_then all ts rest × StopsQuery ts × (sees k.If ts ≡ false)
+unfolding r.actions_then same_kind
+then-reads w ts rest g.as_before end = ((rw end.no_then refl, omega arith), end.rule.query, end.no_if)
+then-reads w ts rest (g.then_actions {actions = all} {x = x} is d le) end =
+    let m = actions-reads all x rest d le end.rule.query end.rule.no_semicolon in
+    ((rw (is-sees k.Then ts x is, is-expect k.Then ts x is, m.0) refl, omega (arith, is-shorter k.Then ts x is, m.1)), then-stops ts x is, is-other k.Then k.If ts x is refl)
+
+alteration-reads : (y : AlterationText) (ts mid rest : Input) → Is k.Alter ts mid → IsAlteration y ts rest → kind_at rest ≡ None → (r.alteration mid ≡ Some (y, rest)) × (kind_at mid ≡ Some k.Rule)
+unfolding r.alteration
+alteration-reads w ts mid rest first (g.alteration {n = n} {query = query} {steps = steps} {before = before} {after = after} {apart = apart} {x = x} {y = y} {z = z} {u = u} {v = v} (g.phrase {x = i} {y = j} a b c) d h e f l) none =
+    let same : i ≡ mid = sym (is-next k.Alter ts i a) ∙ is-next k.Alter ts mid first in
+    let b2 : Is k.Rule mid j = subst (λ (i : Input). Is k.Rule i j) same b in
+    let last = nopriority-first apart v rest l none in
+    let lists = follows-part after u v f last in
+    let ends = precedes-part before z u e lists in
+    let m = after-reads k.Rule n mid j x b2 c in
+    let t = then-reads steps y z h ends in
+    let q = if-reads query x y d t.1 t.2 in
+    let p = listed-reads k.Precedes before z u e lists.no_precedes lists.rule.query.no_comma in
+    let o = listed-reads k.Follows after u v f last.no_follows last.rule.query.no_comma in
+    let s = listed-reads k.NoPriority apart v rest l (nothing-seen k.NoPriority rest none) (nothing-seen k.Comma rest none) in
+    (rw (m.0, q.0, t.0.0, p.0, o.0, s.0) refl, is-kind k.Rule mid j b2)
+
 -- ---- commands
 
 column_type-reads : (u : ColumnType) (ts rest : Input) → IsColumnType u ts rest → Reads r.column_type u ts rest
@@ -305,15 +387,25 @@ processes-reads : (ts x rest : Input) → Is k.Process ts x → Is k.Rules x res
 unfolding r.leading_command r.processes r.word
 processes-reads ts x rest a b = rw (is-kind k.Process ts x a, is-expect k.Process ts x a, is-kind k.Rules x rest b, is-expect k.Rules x rest b) refl
 
+alteration_first : (y : AlterationText) (ts rest : Input) → IsAlteration y ts rest → (mid : Input) × Is k.Alter ts mid
+alteration_first y ts rest (g.alteration (g.phrase {x = u} a b c) d e f h l) = (u, a)
+
+alters_rule-reads : (y : AlterationText) (ts rest : Input) → IsAlteration y ts rest → kind_at rest ≡ None → r.leading_command ts ≡ Some (tree.alter_rule y, rest)
+unfolding r.leading_command r.alters
+alters_rule-reads y ts rest d none =
+    let f = alteration_first y ts rest d in
+    let m = alteration-reads y ts f.0 rest f.1 d none in
+    rw (is-kind k.Alter ts f.0 f.1, is-expect k.Alter ts f.0 f.1, m.1, m.0) refl
+
 adds_rules-reads : (n : Name) (ns : List Name) (ts x y rest : Input) → IsPhrase k.Alter k.Ruleset n ts x → Is k.AddRules x y → IsNames ns y rest → kind_at rest ≡ None → r.leading_command ts ≡ Some (tree.add_rules n ns, rest)
-unfolding r.leading_command r.alters r.alters_from r.adds_rules
+unfolding r.leading_command r.alters r.alters_ruleset r.alters_from r.adds_rules
 adds_rules-reads n ns ts x y rest (g.phrase {x = u} {y = v} a b c) d e none =
-    rw (is-kind k.Alter ts u a, is-expect k.Alter ts u a, (after-reads k.Ruleset n u v x b c).0, is-sees k.AddRules x y d, is-expect k.AddRules x y d, (names-reads ns y rest e (nothing-seen k.Comma rest none)).0) refl
+    rw (is-kind k.Alter ts u a, is-expect k.Alter ts u a, is-kind k.Ruleset u v b, (after-reads k.Ruleset n u v x b c).0, is-sees k.AddRules x y d, is-expect k.AddRules x y d, (names-reads ns y rest e (nothing-seen k.Comma rest none)).0) refl
 
 removes_rules-reads : (n : Name) (ns : List Name) (ts x y rest : Input) → IsPhrase k.Alter k.Ruleset n ts x → Is k.DelRules x y → IsNames ns y rest → kind_at rest ≡ None → r.leading_command ts ≡ Some (tree.del_rules n ns, rest)
-unfolding r.leading_command r.alters r.alters_from r.removes_rules same_kind
+unfolding r.leading_command r.alters r.alters_ruleset r.alters_from r.removes_rules same_kind
 removes_rules-reads n ns ts x y rest (g.phrase {x = u} {y = v} a b c) d e none =
-    rw (is-kind k.Alter ts u a, is-expect k.Alter ts u a, (after-reads k.Ruleset n u v x b c).0, is-other k.DelRules k.AddRules x y d refl, is-expect k.DelRules x y d, (names-reads ns y rest e (nothing-seen k.Comma rest none)).0) refl
+    rw (is-kind k.Alter ts u a, is-expect k.Alter ts u a, is-kind k.Ruleset u v b, (after-reads k.Ruleset n u v x b c).0, is-other k.DelRules k.AddRules x y d refl, is-expect k.DelRules x y d, (names-reads ns y rest e (nothing-seen k.Comma rest none)).0) refl
 
 leading_command-reads : (s : Command) (ts rest : Input) → IsLeadingCommand s ts rest → kind_at rest ≡ None → r.leading_command ts ≡ Some (s, rest)
 leading_command-reads s ts rest (g.opens is) none = word-reads k.Open tree.open_session ts rest is refl
@@ -324,6 +416,7 @@ leading_command-reads s ts rest (g.rolls_back is) none = word-reads k.Rollback t
 leading_command-reads s ts rest (g.creates_table {n = n} {columns = cs} {x = x} {y = y} {z = z} a d e le close) none = creates_table-reads n cs ts x y z rest a d e le close
 leading_command-reads s ts rest (g.drops_table {n = n} d) none = drop-reads k.Table tree.drop_table n ts rest d refl
 leading_command-reads s ts rest (g.creates_rule {r = y} d) none = creates_rule-reads y ts rest d none
+leading_command-reads s ts rest (g.alters_rule {r = y} d) none = alters_rule-reads y ts rest d none
 leading_command-reads s ts rest (g.drops_rule {n = n} d) none = drop-reads k.Rule tree.drop_rule n ts rest d refl
 leading_command-reads s ts rest (g.activates {n = n} d) none = activates-reads n ts rest d
 leading_command-reads s ts rest (g.deactivates {n = n} d) none = deactivates-reads n ts rest d

@@ -8,9 +8,9 @@ use Rattle.sb_syntax.specs.declared.kind.Kind.{Kind}
 use Rattle.sb_syntax.specs.declared.kind.Kind.TheVariants as k
 use Rattle.sb_syntax.specs.Input.{Input, Is}
 use Rattle.sb_syntax.specs.Tree as tree
-use Rattle.sb_syntax.specs.Tree.{Name, Operand, Filter, Query, Assignment, Statement, Action, Trigger, RuleText, Command}
+use Rattle.sb_syntax.specs.Tree.{Name, Operand, Filter, Query, Assignment, Statement, Action, Trigger, RuleText, AlterationText, Command}
 use Rattle.sb_syntax.specs.Grammar as g
-use Rattle.sb_syntax.specs.Grammar.{IsName, IsLiteral, IsOperand, IsFilter, IsQuery, IsColumnType, IsDefinition, IsTuple, IsAssignment, IsChange, IsNames, IsTrigger, IsAction, IsIf, IsListed, IsPhrase, IsRuleHead, IsRuleBody, IsRule, IsLeadingCommand, Separated, IsCommand, max_depth, max_columns, max_actions}
+use Rattle.sb_syntax.specs.Grammar.{IsName, IsLiteral, IsOperand, IsFilter, IsQuery, IsColumnType, IsDefinition, IsTuple, IsAssignment, IsChange, IsNames, IsTrigger, IsAction, IsIf, IsThen, IsListed, IsPhrase, IsRuleHead, IsRuleBody, IsRule, IsAlteration, IsLeadingCommand, Separated, IsCommand, max_depth, max_columns, max_actions}
 use Rattle.sb_syntax.specs.Reading as r
 use Rattle.sb_syntax.specs.Reading.{Reader, Joins, and_then, kind_at, sees, next, expect, bytes_of, ◌>>=◌, ◌>>◌, pure}
 use Rattle.sb_syntax.proofs.TokenLaws.{two_steps, chosen, expect-is}
@@ -208,6 +208,31 @@ rule-sound y ts mid rest is e =
     let s = two_steps (r.rule_head mid) r.rule_body (y, rest) e in
     rule_body-sound s.0 ts s.1 (rule_head-sound s.0 ts mid s.1 is s.2) y rest s.3
 
+then-sound : Sound r.actions_then IsThen
+unfolding r.actions_then
+then-sound y ts rest e = elim (chosen (sees k.Then ts) _ _ (y, rest) e) [
+  | inl p ↦ (let s = two_steps (expect k.Then ts) (λ _. r.actions >>= λ all. pure (Some all)) (y, rest) p.1 in
+      let all = two_steps (r.actions s.1) (λ all. pure (Some all)) (y, rest) s.3 in
+      let d = actions-sound all.0 s.1 all.1 all.2 in
+      same_read (λ z m. IsThen z ts m) _ y all.1 rest all.3 (g.then_actions (expect-is k.Then ts s.1 s.0 s.2) d.0 d.1))
+  | inr p ↦ same_read (λ z m. IsThen z ts m) None y ts rest p.1 g.as_before
+]
+
+alteration-sound : (y : AlterationText) (ts mid rest : Input) → Is k.Alter ts mid → r.alteration mid ≡ Some (y, rest) → IsAlteration y ts rest
+unfolding r.alteration
+alteration-sound y ts mid rest is e =
+    let last = λ (n : Name) (q : Option Query) (steps : Option (List Action)) (before after : List Name). r.listed k.NoPriority >>= λ apart. pure (r.alteration_of n q steps before after apart) in
+    let lists = λ (n : Name) (q : Option Query) (steps : Option (List Action)). r.listed k.Precedes >>= λ before. r.listed k.Follows >>= λ after. last n q steps before after in
+    let s1 = two_steps (r.name_after k.Rule mid) (λ n. r.condition_if >>= λ q. r.actions_then >>= λ steps. lists n q steps) (y, rest) e in
+    let s2 = two_steps (r.condition_if s1.1) (λ q. r.actions_then >>= λ steps. lists s1.0 q steps) (y, rest) s1.3 in
+    let s3 = two_steps (r.actions_then s2.1) (λ steps. lists s1.0 s2.0 steps) (y, rest) s2.3 in
+    let s4 = two_steps (r.listed k.Precedes s3.1) (λ before. r.listed k.Follows >>= λ after. last s1.0 s2.0 s3.0 before after) (y, rest) s3.3 in
+    let s5 = two_steps (r.listed k.Follows s4.1) (λ after. last s1.0 s2.0 s3.0 s4.0 after) (y, rest) s4.3 in
+    let s6 = two_steps (r.listed k.NoPriority s5.1) (λ apart. pure (r.alteration_of s1.0 s2.0 s3.0 s4.0 s5.0 apart)) (y, rest) s5.3 in
+    let n = after-sound k.Rule s1.0 mid s1.1 s1.2 in
+    same_read (λ z m. IsAlteration z ts m) (r.alteration_of s1.0 s2.0 s3.0 s4.0 s5.0 s6.0) y s6.1 rest s6.3
+    (g.alteration (g.phrase is n.1 n.2) (if-sound s2.0 s1.1 s2.1 s2.2) (then-sound s3.0 s2.1 s3.1 s3.2) (listed-sound k.Precedes s4.0 s3.1 s4.1 s4.2) (listed-sound k.Follows s5.0 s4.1 s5.1 s5.2) (listed-sound k.NoPriority s6.0 s5.1 s6.1 s6.2))
+
 -- ---- commands
 
 column_type-sound : Sound r.column_type IsColumnType
@@ -326,17 +351,29 @@ removes_rules-sound n ts mid d y rest e =
     let ns = two_steps (r.names s.1) (λ ns. pure (tree.del_rules n ns)) (y, rest) s.3 in
     same_read (λ z m. IsLeadingCommand z ts m) _ y ns.1 rest ns.3 (g.removes_rules d (expect-is k.DelRules mid s.1 s.0 s.2) (names-sound ns.0 s.1 ns.1 ns.2))
 
-alters-sound : Sound r.alters IsLeadingCommand
-unfolding r.alters r.alters_from
-alters-sound y ts rest e =
-    let s = two_steps (expect k.Alter ts) (λ _. r.name_after k.Ruleset >>= r.alters_from) (y, rest) e in
-    let n = two_steps (r.name_after k.Ruleset s.1) r.alters_from (y, rest) s.3 in
-    let d = after-sound k.Ruleset n.0 s.1 n.1 n.2 in
-    let whole : IsPhrase k.Alter k.Ruleset n.0 ts n.1 = g.phrase (expect-is k.Alter ts s.1 s.0 s.2) d.1 d.2 in
+alters_rule-sound : Behind k.Alter (r.alteration >>= λ r. pure (tree.alter_rule r))
+alters_rule-sound y ts mid rest is e =
+    let s = two_steps (r.alteration mid) (λ r. pure (tree.alter_rule r)) (y, rest) e in
+    same_read (λ z m. IsLeadingCommand z ts m) _ y s.1 rest s.3 (g.alters_rule (alteration-sound s.0 ts mid s.1 is s.2))
+
+alters_ruleset-sound : Behind k.Alter r.alters_ruleset
+unfolding r.alters_ruleset r.alters_from
+alters_ruleset-sound y ts mid rest is e =
+    let n = two_steps (r.name_after k.Ruleset mid) r.alters_from (y, rest) e in
+    let d = after-sound k.Ruleset n.0 mid n.1 n.2 in
+    let whole : IsPhrase k.Alter k.Ruleset n.0 ts n.1 = g.phrase is d.1 d.2 in
     elim (chosen (sees k.AddRules n.1) (r.adds_rules n.0 n.1) (r.removes_rules n.0 n.1) (y, rest) n.3) [
       | inl p ↦ adds_rules-sound n.0 ts n.1 whole y rest p.1
       | inr p ↦ removes_rules-sound n.0 ts n.1 whole y rest p.1
     ]
+
+alters_by-sound : (kind : Option Kind) → Behind k.Alter (r.alters_by kind)
+alters_by-sound (Some k.Rule) = alters_rule-sound
+alters_by-sound _ = alters_ruleset-sound
+
+alters-sound : Sound r.alters IsLeadingCommand
+unfolding r.alters
+alters-sound = behind-sound k.Alter r.alters_by alters_by-sound
 
 -- by the first token
 leading_command_by-sound : (kind : Option Kind) → Sound (r.leading_command_by kind) IsLeadingCommand

@@ -19,7 +19,7 @@ use Rattle.sb_syntax.specs.declared.tree.ColumnReference.TheVariants.{Plain, Qua
 use Rattle.sb_syntax.specs.declared.tree.SourceReference.{SourceReference}
 use Rattle.sb_syntax.specs.Input.{Input, Is}
 use Rattle.sb_syntax.specs.Tree as tree
-use Rattle.sb_syntax.specs.Tree.{Name, Expression, Items, Condition, Operand, Filter, Query, Assignment, Statement, Action, Trigger, RuleText, Command}
+use Rattle.sb_syntax.specs.Tree.{Name, Expression, Items, Condition, Operand, Filter, Query, Assignment, Statement, Action, Trigger, RuleText, AlterationText, Command}
 use Rattle.sb_syntax.specs.Literal.{decimal, negative, unquoted}
 
 -- x {sep x}, as a list of one or more
@@ -199,6 +199,11 @@ pub data IsListed (kind : Kind) : List Name → Input → Input → Type 0 where
   not_listed : {ts : Input} → IsListed kind [] ts ts
   listed : {names : List Name} {ts x rest : Input} → Is kind ts x → IsNames names x rest → IsListed kind names ts rest
 
+-- the actions behind `then`, or nothing
+pub data IsThen : Option (List Action) → Input → Input → Type 0 where
+  as_before : {ts : Input} → IsThen None ts ts
+  then_actions : {actions : List Action} {ts x rest : Input} → Is k.Then ts x → Separated k.Semicolon IsAction actions x rest → length actions ≤ max_actions → IsThen (Some actions) ts rest
+
 -- two words and a name
 pub data IsPhrase (first second : Kind) : Name → Input → Input → Type 0 where
   phrase : {n : Name} {ts x y rest : Input} → Is first ts x → Is second x y → IsName n y rest → IsPhrase first second n ts rest
@@ -215,6 +220,12 @@ pub data IsRule : RuleText → Input → Input → Type 0 where
   rule : {n on : Name} {all : List Trigger} {query : Option Query} {steps : List Action} {before after : List Name} {ts x rest : Input} → IsRuleHead n on all ts x → IsRuleBody query steps before after x rest
       → IsRule (record { name = n; table = on; triggers = all; condition = query; actions = steps; precedes = before; follows = after }) ts rest
 
+-- new parts of a rule
+pub data IsAlteration : AlterationText → Input → Input → Type 0 where
+  alteration : {n : Name} {query : Option Query} {steps : Option (List Action)} {before after apart : List Name} {ts x y z u v rest : Input} → IsPhrase k.Alter k.Rule n ts x → IsIf query x y → IsThen steps y z
+      → IsListed k.Precedes before z u → IsListed k.Follows after u v → IsListed k.NoPriority apart v rest
+      → IsAlteration (record { name = n; condition = query; actions = steps; precedes = before; follows = after; nopriority = apart }) ts rest
+
 -- ---- commands
 
 pub data IsLeadingCommand : Command → Input → Input → Type 0 where
@@ -227,6 +238,7 @@ pub data IsLeadingCommand : Command → Input → Input → Type 0 where
       → IsLeadingCommand (tree.create_table n columns) ts rest
   drops_table : {n : Name} {ts rest : Input} → IsPhrase k.Drop k.Table n ts rest → IsLeadingCommand (tree.drop_table n) ts rest
   creates_rule : {r : RuleText} {ts rest : Input} → IsRule r ts rest → IsLeadingCommand (tree.create_rule r) ts rest
+  alters_rule : {r : AlterationText} {ts rest : Input} → IsAlteration r ts rest → IsLeadingCommand (tree.alter_rule r) ts rest
   drops_rule : {n : Name} {ts rest : Input} → IsPhrase k.Drop k.Rule n ts rest → IsLeadingCommand (tree.drop_rule n) ts rest
   activates : {n : Name} {ts rest : Input} → IsPhrase k.Activate k.Rule n ts rest → IsLeadingCommand (tree.activate_rule n) ts rest
   deactivates : {n : Name} {ts rest : Input} → IsPhrase k.Deactivate k.Rule n ts rest → IsLeadingCommand (tree.deactivate_rule n) ts rest

@@ -23,7 +23,7 @@ use Rattle.sb_syntax.specs.Input.{Input, same_kind}
 use Rattle.sb_syntax.specs.Literal.{decimal, negative, unquoted}
 use Rattle.sb_syntax.specs.Grammar.{max_nesting, max_depth}
 use Rattle.sb_syntax.specs.Tree as tree
-use Rattle.sb_syntax.specs.Tree.{Name, Expression, Items, Condition, Operand, Filter, Query, Assignment, Statement, Action, Trigger, RuleText, Command}
+use Rattle.sb_syntax.specs.Tree.{Name, Expression, Items, Condition, Operand, Filter, Query, Assignment, Statement, Action, Trigger, RuleText, AlterationText, Command}
 
 abbrev pub Reader : Type 0 → Type 0
 Reader A = Input → Option (A × Input)
@@ -469,6 +469,23 @@ rule = do
   head ← rule_head
   rule_body head
 
+unfoldable pub actions_then : Reader (Option (List Action))
+actions_then ts = if sees k.Then ts then (do expect k.Then; all ← actions; pure (Some all)) ts else Some (None, ts)
+
+abbrev pub alteration_of : Name → Option Query → Option (List Action) → List Name → List Name → List Name → AlterationText
+alteration_of n query steps before after apart = record { name = n; condition = query; actions = steps; precedes = before; follows = after; nopriority = apart }
+
+-- behind `alter`
+unfoldable pub alteration : Reader AlterationText
+alteration = do
+  n ← name_after k.Rule
+  query ← condition_if
+  steps ← actions_then
+  before ← listed k.Precedes
+  after ← listed k.Follows
+  apart ← listed k.NoPriority
+  pure (alteration_of n query steps before after apart)
+
 -- ---- commands
 
 unfoldable pub column_type : Reader ColumnType
@@ -538,11 +555,19 @@ removes_rules n = do
 unfoldable pub alters_from : Name → Reader Command
 alters_from n ts = if sees k.AddRules ts then adds_rules n ts else removes_rules n ts
 
+unfoldable pub alters_ruleset : Reader Command
+alters_ruleset = do
+  n ← name_after k.Ruleset
+  alters_from n
+
+abbrev pub alters_by : Option Kind → Reader Command
+alters_by (Some k.Rule) = do r ← alteration; pure (tree.alter_rule r)
+alters_by _ = alters_ruleset
+
 unfoldable pub alters : Reader Command
 alters = do
   expect k.Alter
-  n ← name_after k.Ruleset
-  alters_from n
+  (λ ts. alters_by (kind_at ts) ts)
 
 unfoldable pub activates : Reader Command
 activates = do

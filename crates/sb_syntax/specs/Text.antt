@@ -35,7 +35,7 @@ command_by text (Some tokens) = read_by (command (lexemes text tokens))
 
 -- The command that a text spells, as a reader finds it. To unfold it is to unfold all that it uses, so that it computes.
 unfoldable pub command_of : List ℕ → Option Command
-unfolding same_kind l.word_kind l.transition s.word_at s.integer_at s.text_at s.symbol_at s.token_at s.scan r.kind_at r.sees r.next r.expect r.bytes_of r.chain r.separated r.separated_to r.name r.integer r.minus r.text r.literal_value r.table_by r.table r.column_from r.column_after r.column_by r.column r.factor r.term r.expr r.all_columns r.count_rows r.sum_rows r.expressions r.items r.alias r.source r.sources_after r.sources r.conj r.cond r.group r.subquery r.operand r.member r.compared_by r.predicate r.neg_with r.inner_neg r.neg r.filter r.query_with r.inner_query r.query_to r.tuple r.inserts_rows r.inserts_into r.inserts r.assignment r.updates r.deletes r.change r.names r.updated_of r.updated r.word r.trigger r.condition_if r.action r.actions r.listed r.name_after r.rule_head r.rule_body r.rule r.column_type r.definition r.columns r.creates_table r.creates r.drops r.processes r.adds_rules r.removes_rules r.alters_from r.alters r.activates r.deactivates r.leading_command r.command
+unfolding same_kind l.word_kind l.transition s.word_at s.integer_at s.text_at s.symbol_at s.token_at s.scan r.kind_at r.sees r.next r.expect r.bytes_of r.chain r.separated r.separated_to r.name r.integer r.minus r.text r.literal_value r.table_by r.table r.column_from r.column_after r.column_by r.column r.factor r.term r.expr r.all_columns r.count_rows r.sum_rows r.expressions r.items r.alias r.source r.sources_after r.sources r.conj r.cond r.group r.subquery r.operand r.member r.compared_by r.predicate r.neg_with r.inner_neg r.neg r.filter r.query_with r.inner_query r.query_to r.tuple r.inserts_rows r.inserts_into r.inserts r.assignment r.updates r.deletes r.change r.names r.updated_of r.updated r.word r.trigger r.condition_if r.action r.actions r.listed r.name_after r.rule_head r.rule_body r.rule r.column_type r.definition r.columns r.creates_table r.creates r.drops r.processes r.adds_rules r.removes_rules r.alters_from r.alters_ruleset r.actions_then r.alteration r.alters r.activates r.deactivates r.leading_command r.command
 command_of text = command_by text (scan 0 0 text)
 
 -- what the error says of a text

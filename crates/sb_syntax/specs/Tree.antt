@@ -73,6 +73,17 @@ pub record RuleText : Type 0 where
   pub precedes : List Name
   pub follows : List Name
 
+-- what `alter rule` writes of a rule
+pub record AlterationText : Type 0 where
+  pub name : Name
+  -- the query behind `if`, or none
+  pub condition : Option Query
+  -- the actions behind `then`, or none
+  pub actions : Option (List Action)
+  pub precedes : List Name
+  pub follows : List Name
+  pub nopriority : List Name
+
 pub data Command : Type 0 where
   open_session : Command
   end_session : Command
@@ -85,6 +96,7 @@ pub data Command : Type 0 where
   create_table : Name → List ColumnDefinition → Command
   drop_table : Name → Command
   create_rule : RuleText → Command
+  alter_rule : AlterationText → Command
   drop_rule : Name → Command
   activate_rule : Name → Command
   deactivate_rule : Name → Command

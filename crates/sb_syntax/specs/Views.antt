@@ -14,6 +14,7 @@ use Rattle.sb_syntax.specs.declared.tree.Action.TheVariants as actions
 use Rattle.sb_syntax.specs.declared.tree.Trigger.{Trigger}
 use Rattle.sb_syntax.specs.declared.tree.Trigger.TheVariants as triggers
 use Rattle.sb_syntax.specs.declared.tree.RuleText.{RuleText}
+use Rattle.sb_syntax.specs.declared.tree.AlterationText.{AlterationText}
 use Rattle.sb_syntax.specs.declared.tree.Command.{Command}
 use Rattle.sb_syntax.specs.declared.tree.Command.TheVariants as commands
 use Rattle.sb_syntax.specs.Tree as tree
@@ -83,6 +84,16 @@ rule r = record {
   follows = r.follows.items;
 }
 
+abbrev pub alteration : AlterationText → tree.AlterationText
+alteration r = record {
+  name = r.name;
+  condition = option_map query r.condition;
+  actions = option_map (λ all. map action all.items) r.actions;
+  precedes = r.precedes.items;
+  follows = r.follows.items;
+  nopriority = r.nopriority.items;
+}
+
 abbrev pub command : Command → tree.Command
 command commands.OpenSession = tree.open_session
 command commands.EndSession = tree.end_session
@@ -95,6 +106,7 @@ command (commands.ProcessRule n) = tree.process_rule n
 command (commands.CreateTable n columns) = tree.create_table n columns.items
 command (commands.DropTable n) = tree.drop_table n
 command (commands.CreateRule r) = tree.create_rule (rule r.value)
+command (commands.AlterRule r) = tree.alter_rule (alteration r.value)
 command (commands.DropRule n) = tree.drop_rule n
 command (commands.ActivateRule n) = tree.activate_rule n
 command (commands.DeactivateRule n) = tree.deactivate_rule n

@@ -9,9 +9,9 @@ use crate::cursor::Cursor;
 use crate::error::Fault;
 use crate::kind::Kind;
 use crate::literal::{name, name_after, names};
-use crate::rule::rule;
+use crate::rule::{alteration, rule};
 use crate::statement::{change, whole_query};
-use crate::tree::{Command, RuleText};
+use crate::tree::{AlterationText, Command, RuleText};
 use sb_value::{ColumnDefinition, ColumnType, Name};
 use std::alloc::Global;
 
@@ -135,16 +135,33 @@ fn remove_rules(alloc: Global, tokens: &mut Cursor<'_>, target: Name) -> Result<
     Ok(Command::DelRules(target, rules))
 }
 
-#[tactic(auto, unfolding(crate::specs::Reading::alters, crate::specs::Reading::alters_from))]
-fn alter(alloc: Global, tokens: &mut Cursor<'_>) -> Result<Command, Fault>
-    ensures { Gives view.command (spec.alters tokens.old) result tokens.old tokens.new }
+#[tactic(auto, unfolding(crate::specs::Reading::alters_ruleset, crate::specs::Reading::alters_from))]
+fn alter_ruleset(alloc: Global, tokens: &mut Cursor<'_>) -> Result<Command, Fault>
+    ensures { Gives view.command (spec.alters_ruleset tokens.old) result tokens.old tokens.new }
 {
-    tokens.expect(Kind::Alter)?;
     let ruleset = name_after(tokens, Kind::Ruleset)?;
     if tokens.sees(Kind::AddRules) {
         add_rules(alloc, tokens, ruleset)
     } else {
         remove_rules(alloc, tokens, ruleset)
+    }
+}
+
+fn boxed_alteration(alloc: Global, tokens: &mut Cursor<'_>) -> Result<Box<AlterationText>, Fault>
+    ensures { Gives (λ r. view.alteration r.value) (spec.alteration tokens.old) result tokens.old tokens.new }
+{
+    let alteration = alteration(alloc, tokens)?;
+    Ok(Box::new(alloc, alteration)?)
+}
+
+#[tactic(auto, unfolding(crate::specs::Reading::alters))]
+fn alter(alloc: Global, tokens: &mut Cursor<'_>) -> Result<Command, Fault>
+    ensures { Gives view.command (spec.alters tokens.old) result tokens.old tokens.new }
+{
+    tokens.expect(Kind::Alter)?;
+    match tokens.peek() {
+        Some(Kind::Rule) => Ok(Command::AlterRule(boxed_alteration(alloc, tokens)?)),
+        _ => alter_ruleset(alloc, tokens),
     }
 }
 

@@ -20,6 +20,7 @@ pub use error::ParseError;
 pub use kind::Kind;
 pub use token::{command_of_is_the_grammar, one_command, parse, tokens, values_spell_themselves};
 pub use tree::{
-    Action, Arithmetic, Assignment, ColumnReference, Command, Comparison, Condition, Expression,
-    Items, Operand, Query, RuleText, SourceReference, Statement, TableReference, Trigger,
+    Action, AlterationText, Arithmetic, Assignment, ColumnReference, Command, Comparison,
+    Condition, Expression, Items, Operand, Query, RuleText, SourceReference, Statement,
+    TableReference, Trigger,
 };

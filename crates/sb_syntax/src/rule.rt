@@ -11,7 +11,7 @@ use crate::kind::Kind;
 use crate::literal::{name_after, names};
 use crate::query::query;
 use crate::statement::{MAX_DEPTH, change};
-use crate::tree::{Action, Query, RuleText, Trigger};
+use crate::tree::{Action, AlterationText, Query, RuleText, Trigger};
 use sb_value::Name;
 use std::alloc::Global;
 
@@ -176,4 +176,38 @@ pub fn rule(alloc: Global, tokens: &mut Cursor<'_>) -> Result<RuleText, Fault>
 {
     let head = head(alloc, tokens)?;
     body(alloc, tokens, head)
+}
+
+/// The actions behind `then`, if it stands there.
+#[tactic(auto, unfolding(crate::specs::Reading::actions_then))]
+fn actions_then(alloc: Global, tokens: &mut Cursor<'_>) -> Result<Option<Vec<Action>>, Fault>
+    ensures { Gives (option_map (λ v. map view.action v.items))
+        (spec.actions_then tokens.old) result tokens.old tokens.new }
+{
+    if !tokens.sees(Kind::Then) {
+        return Ok(None);
+    }
+    tokens.expect(Kind::Then)?;
+    Ok(Some(actions(alloc, tokens)?))
+}
+
+/// New parts of a rule, behind `alter`.
+#[tactic(auto, unfolding(crate::specs::Reading::alteration))]
+pub fn alteration(alloc: Global, tokens: &mut Cursor<'_>) -> Result<AlterationText, Fault>
+    ensures { Gives view.alteration (spec.alteration tokens.old) result tokens.old tokens.new }
+{
+    let name = name_after(tokens, Kind::Rule)?;
+    let condition = condition(alloc, tokens)?;
+    let actions = actions_then(alloc, tokens)?;
+    let precedes = listed(alloc, tokens, Kind::Precedes)?;
+    let follows = listed(alloc, tokens, Kind::Follows)?;
+    let nopriority = listed(alloc, tokens, Kind::NoPriority)?;
+    Ok(AlterationText {
+        name,
+        condition,
+        actions,
+        precedes,
+        follows,
+        nopriority,
+    })
 }

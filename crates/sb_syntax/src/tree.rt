@@ -153,6 +153,22 @@ pub struct RuleText {
     pub follows: Vec<Name>,
 }
 
+/// What `alter rule` writes of a rule. A part that isn't written stays as it is.
+#[derive(Drop)]
+pub struct AlterationText {
+    pub name: Name,
+    /// The query behind `if`.
+    pub condition: Option<Query>,
+    /// The actions behind `then`.
+    pub actions: Option<Vec<Action>>,
+    /// More rules that are considered after it.
+    pub precedes: Vec<Name>,
+    /// More rules that are considered before it.
+    pub follows: Vec<Name>,
+    /// The rules to which it has no pair any more.
+    pub nopriority: Vec<Name>,
+}
+
 /// A command line.
 #[derive(Drop)]
 pub enum Command {
@@ -170,6 +186,7 @@ pub enum Command {
     CreateTable(Name, Vec<ColumnDefinition>),
     DropTable(Name),
     CreateRule(Box<RuleText>),
+    AlterRule(Box<AlterationText>),
     DropRule(Name),
     ActivateRule(Name),
     DeactivateRule(Name),
