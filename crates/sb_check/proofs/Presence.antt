@@ -11,7 +11,7 @@ use Rattle.sb_value.specs.declared.value.ColumnType.{ColumnType}
 use Rattle.sb_value.specs.declared.value.ColumnType.TheVariants.{Int}
 use Rattle.sb_value.specs.Name.{same_name}
 use Rattle.sb_value.specs.Table.{Entry}
-use Rattle.sb_syntax.specs.Tree.{Name, RuleText}
+use Rattle.sb_syntax.specs.Tree.{Name, RuleText, AlterationText}
 use Rattle.sb_syntax.specs.Tree as text
 use Rattle.sb_syntax.specs.declared.tree.SourceReference.{SourceReference}
 use Rattle.sb_syntax.specs.declared.tree.TableReference.{TableReference}
@@ -26,8 +26,8 @@ use Rattle.sb_check.specs.declared.tree.Statement.TheVariants.{InsertRows, Inser
 use Rattle.sb_check.specs.Condition.{Condition, always, disjunction, conjunction, negation, compare, is_in, exists, Operand, expression, scalar_subquery, Query}
 use Rattle.sb_check.specs.Mentions.{sources_of, operand_sources, query_sources, assignment_sources}
 use Rattle.sb_check.specs.Names.{and_then, in_order, required, some_or, same_table, same_type, Visible, Scope, column_in}
-use Rattle.sb_check.specs.RuleParts.{Parts, in_rule, condition_parts, walk_parts}
-use Rattle.sb_check.specs.There.{IsTable, IsThere, AreThere, IsStatementThere, IsConditionThere, AreActionsThere, ArePartsThere}
+use Rattle.sb_check.specs.RuleParts.{Parts, NewParts, in_rule, condition_parts, actions_parts, walk_parts, walk_alteration}
+use Rattle.sb_check.specs.There.{IsTable, IsThere, AreThere, IsStatementThere, IsConditionThere, AreActionsThere, ArePartsThere, AreNewActionsThere, AreNewPartsThere}
 use Rattle.sb_check.specs.Triggers.{walk_triggers}
 use Rattle.sb_check.specs.Walk.{Schema, Walked, type_of, table_named, has_updates, walk_table, visible_name, walk_sources, walk_expression, has_aggregate, in_type, with_not, fitting, walk_condition, walk_operand, walk_filter, walk_query, visible_table, walk_assignments, walk_statement, walk_action}
 use Rattle.sb_check.proofs.Fitting.{then_ok, required_ok, some_ok, selected}
@@ -261,3 +261,18 @@ parts_there schema r parts h =
     let actions = actions_there inside r.actions a.0 a.1 in
     subst (ArePartsThere schema.tables r) is
     (record { table = table_there schema r.table e.0 e.1; condition = rule_condition_there inside r.condition c.0 c.1; actions = actions.0; count = actions.1 })
+
+new_actions_there : (schema : Schema) (written : Option (List text.Action)) (x : Option (List Action)) → actions_parts schema written ≡ Ok x → AreNewActionsThere schema.tables written x
+new_actions_there schema None x h = let is : None ≡ x = cc h in subst (AreNewActionsThere schema.tables None) is tt
+new_actions_there schema (Some written) x h =
+    let all = then_ok (in_order (walk_action schema) written) (λ all. Ok (Some all)) x h in
+    let is : Some all.0 ≡ x = cc all.2 in
+    subst (AreNewActionsThere schema.tables (Some written)) is (actions_there schema written all.0 all.1)
+
+pub alteration_there : (schema : Schema) (columns : List ColumnDefinition) (triggers : Triggers) (r : AlterationText) (parts : NewParts) → walk_alteration schema columns triggers r ≡ Ok parts → AreNewPartsThere schema.tables r parts
+alteration_there schema columns triggers r parts h =
+    let inside = in_rule schema columns triggers in
+    let c = then_ok (condition_parts inside r.condition) (λ condition. and_then (actions_parts inside r.actions) (λ actions. Ok (condition, actions))) parts h in
+    let a = then_ok (actions_parts inside r.actions) (λ actions. Ok (c.0, actions)) parts c.2 in
+    let is : (c.0, a.0) ≡ parts = cc a.2 in
+    subst (AreNewPartsThere schema.tables r) is (record { condition = rule_condition_there inside r.condition c.0 c.1; actions = new_actions_there inside r.actions a.0 a.1 })

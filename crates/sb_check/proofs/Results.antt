@@ -1,5 +1,5 @@
 -- A refusal of the first part is that of both.
-use Rattle.std.proofs.Common.{◌≡◌, ap, refl, inl, inr, sym, subst}
+use Rattle.std.proofs.Common.{◌≡◌, ◌∙◌, ap, refl, inl, inr, sym, subst}
 use Rattle.std.specs.Prelude.{Result, Ok, Err, ◌⊎◌}
 use Rattle.sb_value.specs.declared.refusal.Refusal.{Refusal}
 use Rattle.sb_value.specs.declared.refusal.Refusal.TheVariants as refusal
@@ -39,3 +39,12 @@ pub regroup : {A B C : Type 0} (a : Result A Refusal) (b : Result B Refusal) (ma
 regroup (Ok x) (Ok y) made = refl
 regroup (Ok x) (Err e) made = refl
 regroup (Err e) b made = refl
+
+-- two answers of one walk are the same
+pub same_refusal : {A : Type 0} (walk : Result A Refusal) (d e : Refusal) → walk ≡ Err d → walk ≡ Err e → d ≡ e
+same_refusal (Ok a) d e h k = absurd (cc h)
+same_refusal (Err r) d e h k = let one : r ≡ d = cc h in let other : r ≡ e = cc k in sym one ∙ other
+
+pub not_both : {A : Type 0} (walk : Result A Refusal) (a : A) (e : Refusal) → walk ≡ Ok a → walk ≡ Err e → ⊥
+not_both (Ok b) a e h k = cc k
+not_both (Err r) a e h k = cc h

@@ -37,3 +37,9 @@ Walks walk (Err e) = walk ≡ Err (refusal_of e)
 abbrev pub Answers : {X A : Type 0} → (X → A) → Result A Refusal → Result X Refusal → Type 0
 Answers view walk (Ok x) = walk ≡ Ok (view x)
 Answers view walk (Err e) = (walk ≡ Err e) ⊎ (e ≡ refusal.NoMemory)
+
+-- a part is refused by this, and not for want of memory
+abbrev pub IsRefused : {X : Type 0} → Refusal → Result X Fault → Type 0
+IsRefused e (Ok x) = ⊥
+IsRefused e (Err (Refused r)) = refusal_of r ≡ e
+IsRefused e (Err NoMemory) = ⊥

@@ -36,8 +36,8 @@ rule_lent r = (r.columns.now, r.triggers)
 abbrev pub source_lent : Source × Bor (List ColumnDefinition) → Source × List ColumnDefinition
 source_lent s = (s.0, s.1.now)
 
--- a table is lent where it is found
+-- a table is lent where it is found; to look for it takes no memory
 abbrev pub LendsTable : Result Entry Refusal → Result TableEntry Fault → Type 0
 LendsTable walk (Ok t) = (e : Entry) × (walk ≡ Ok e) × (table_lent t ≡ table_seen e)
 LendsTable walk (Err (Refused e)) = walk ≡ Err (refusal_of e)
-LendsTable walk (Err NoMemory) = Unit {0}
+LendsTable walk (Err NoMemory) = ⊥

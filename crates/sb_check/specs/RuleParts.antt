@@ -4,7 +4,7 @@ use Rattle.sb_value.specs.declared.value.ColumnDefinition.{ColumnDefinition}
 use Rattle.sb_value.specs.declared.net.Triggers.{Triggers}
 use Rattle.sb_value.specs.declared.refusal.Refusal.{Refusal}
 use Rattle.sb_value.specs.Table.{Entry}
-use Rattle.sb_syntax.specs.Tree.{RuleText}
+use Rattle.sb_syntax.specs.Tree.{RuleText, AlterationText}
 use Rattle.sb_syntax.specs.Tree as text
 use Rattle.sb_check.specs.Condition.{Query}
 use Rattle.sb_check.specs.declared.tree.Action.{Action}
@@ -38,6 +38,28 @@ walk_parts_on schema r e =
 abbrev pub walk_parts : Schema → RuleText → Result Parts Refusal
 walk_parts schema r = and_then (table_named schema r.table) (walk_parts_on schema r)
 
+-- what is looked up first, and takes no memory: the table, then the triggers
+abbrev pub walk_head : Schema → RuleText → Result Triggers Refusal
+walk_head schema r = and_then (table_named schema r.table) (λ e. walk_triggers e.table.columns r.triggers)
+
+-- ---- new parts of a rule that is there
+
+-- a condition and actions, as far as they are written
+abbrev pub NewParts : Type 0
+NewParts = Option Query × Option (List Action)
+
+-- the actions in order, if they are written
+abbrev pub actions_parts : Schema → Option (List text.Action) → Result (Option (List Action)) Refusal
+actions_parts schema None = Ok None
+actions_parts schema (Some actions) = and_then (in_order (walk_action schema) actions) (λ all. Ok (Some all))
+
+-- the new parts of a rule with these triggers on a table of these columns: its condition, its actions in order
+abbrev pub walk_alteration : Schema → List ColumnDefinition → Triggers → AlterationText → Result NewParts Refusal
+walk_alteration schema columns triggers r =
+    and_then (condition_parts (in_rule schema columns triggers) r.condition) (λ condition.
+    and_then (actions_parts (in_rule schema columns triggers) r.actions) (λ actions.
+    Ok (condition, actions)))
+
 -- ---- the same under names that proofs don't open by themselves
 
 unfoldable pub rule_triggers : List ColumnDefinition → List text.Trigger → Result Triggers Refusal
@@ -60,3 +82,14 @@ parts_on schema id columns r =
 
 abbrev pub parts : Schema → RuleText → Result Parts Refusal
 parts schema r = and_then (table_named schema r.table) (λ e. parts_on schema e.id e.table.columns r)
+
+unfoldable pub written_actions : Schema → Option (List text.Action) → Result (Option (List Action)) Refusal
+written_actions schema None = Ok None
+written_actions schema (Some actions) = and_then (rule_actions schema actions) (λ all. Ok (Some all))
+
+-- the new parts of a rule, by what it may name
+unfoldable pub new_parts : Schema → AlterationText → Result NewParts Refusal
+new_parts schema r =
+    and_then (rule_condition schema r.condition) (λ condition.
+    and_then (written_actions schema r.actions) (λ actions.
+    Ok (condition, actions)))

@@ -1,10 +1,11 @@
 -- What a resolved command names is there: each table that it has as a target or a source is one of the tables.
 use Rattle.std.specs.Prelude.{◌≡◌, ℕ, List, [], ◌∷◌, ◌++◌, length, Option, None, Some, IsTrue}
 use Rattle.sb_value.specs.Table.{Entry, has_table}
-use Rattle.sb_syntax.specs.Tree.{RuleText}
+use Rattle.sb_syntax.specs.Tree.{RuleText, AlterationText}
+use Rattle.sb_syntax.specs.Tree as text
 use Rattle.sb_check.specs.Condition.{Query}
 use Rattle.sb_check.specs.Mentions.{sources_of, query_sources, assignment_sources}
-use Rattle.sb_check.specs.RuleParts.{Parts}
+use Rattle.sb_check.specs.RuleParts.{Parts, NewParts}
 use Rattle.sb_check.specs.declared.tree.Source.{Source}
 use Rattle.sb_check.specs.declared.tree.Source.TheVariants.{Table, Inserted, Deleted, OldUpdated, NewUpdated}
 use Rattle.sb_check.specs.declared.tree.Statement.{Statement}
@@ -52,3 +53,14 @@ module _ (tables : List Entry) where
     pub condition : IsConditionThere parts.2
     pub actions : AreActionsThere parts.3
     pub count : length parts.3 ≡ length r.actions
+
+  -- actions that are written, of which there are as many as in their text
+  abbrev pub AreNewActionsThere : Option (List text.Action) → Option (List Action) → Type 0
+  AreNewActionsThere written None = Unit {0}
+  AreNewActionsThere None (Some actions) = ⊥
+  AreNewActionsThere (Some written) (Some actions) = AreActionsThere actions × (length actions ≡ length written)
+
+  -- a rule's new condition and actions
+  pub record AreNewPartsThere (r : AlterationText) (parts : NewParts) : Type 0 where
+    pub condition : IsConditionThere parts.0
+    pub actions : AreNewActionsThere r.actions parts.1

@@ -1,22 +1,22 @@
 //! Queries, statements and actions with their names resolved, or the first refusal.
-ghost use Rattle.std.specs.Prelude.{◌≡◌, [], Ok, map};
+ghost use Rattle.std.specs.Prelude.{◌≡◌, [], Err, Ok, map};
 ghost use Rattle.sb_check.specs.Answer.{Answers};
 ghost use Rattle.sb_check.specs.Names.{and_then, in_order};
-ghost use Rattle.sb_check.specs.RuleParts.{walk_parts};
-ghost use Rattle.sb_check.specs.RulePartsView.{rule_parts};
+ghost use Rattle.sb_check.specs.RuleParts.{walk_alteration, walk_head, walk_parts};
+ghost use Rattle.sb_check.specs.RulePartsView.{new_parts, rule_parts};
 ghost use Rattle.sb_check.specs.Triggers.{walk_triggers};
 ghost use Rattle.sb_check.specs.Walk as spec;
 ghost use Rattle.sb_syntax.specs.Views as view;
 
 use crate::action::{action, actions};
 use crate::query::query;
-use crate::rule::{RuleParts, rule};
-use crate::schema::Schema;
+use crate::rule::{NewParts, RuleParts, alteration, rule};
+use crate::schema::{InRule, RuleEntry, Schema};
 use crate::scope::Scope;
 use crate::statement::statement;
 use crate::tree::{Action, Actions, Query, Statement};
 use crate::trigger::triggers;
-use sb_syntax::{RuleText, Trigger};
+use sb_syntax::{AlterationText, RuleText, Trigger};
 use sb_value::{ColumnDefinition, Refusal, Triggers};
 use std::alloc::Global;
 
@@ -94,9 +94,33 @@ pub fn resolve_rule<'s, S: Schema>(
     text: &RuleText,
     schema: &'s S,
 ) -> Result<RuleParts, Refusal>
-    ensures { Answers rule_parts (walk_parts (S.names schema.now) (view.rule text.now)) result }
+    ensures value { Answers rule_parts (walk_parts (S.names schema.now) (view.rule text.now)) result }
+
+    // What takes no memory to look up isn't answered as want of memory.
+    ensures head { (e : Refusal) → walk_head (S.names schema.now) (view.rule text.now) ≡ Err e → result ≡ Err e }
 {
     match rule(alloc, text, schema) {
+        Ok(parts) => Ok(parts),
+        Err(fault) => Err(fault.refusal()),
+    }
+}
+
+/// The names and types of a rule's new parts, where the rule has these triggers on a table with these columns: its condition,
+/// then its actions.
+pub fn resolve_alteration<'s, S: Schema>(
+    alloc: Global,
+    text: &AlterationText,
+    rule: &RuleEntry<'s>,
+    schema: &'s S,
+) -> Result<NewParts, Refusal>
+    ensures { Answers new_parts (walk_alteration (S.names schema.now) rule.now.columns.now rule.now.triggers (view.alteration text.now)) result }
+{
+    let inside = InRule {
+        outside: schema,
+        columns: rule.columns,
+        triggers: rule.triggers,
+    };
+    match alteration(alloc, text, &inside) {
         Ok(parts) => Ok(parts),
         Err(fault) => Err(fault.refusal()),
     }

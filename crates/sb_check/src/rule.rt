@@ -1,9 +1,11 @@
 //! The parts of a rule that name tables and columns.
-ghost use Rattle.std.specs.Prelude.{map, option_map};
-ghost use Rattle.sb_check.specs.Answer.{Gives};
-ghost use Rattle.sb_check.specs.RulePartsView.{rule_parts};
+ghost use Rattle.std.specs.Prelude.{◌≡◌, Err, map, option_map};
+ghost use Rattle.sb_check.specs.Answer.{Gives, IsRefused};
+ghost use Rattle.sb_check.specs.RulePartsView.{new_parts, rule_parts};
 ghost use Rattle.sb_check.specs.RuleParts as spec;
+ghost use Rattle.sb_check.specs.Triggers.{walk_triggers};
 ghost use Rattle.sb_syntax.specs.Views as view;
+ghost use Rattle.sb_value.specs.declared.refusal.Refusal.{Refusal};
 
 use crate::action::actions;
 use crate::fault::Fault;
@@ -13,7 +15,7 @@ use crate::scope::Scope;
 use crate::source::table_named;
 use crate::tree::{Actions, Query};
 use crate::trigger::triggers;
-use sb_syntax::RuleText;
+use sb_syntax::{AlterationText, RuleText};
 use sb_value::{TableId, Triggers};
 use std::alloc::Global;
 
@@ -64,7 +66,8 @@ fn parts_on<'s, S: Schema>(
     rule: &RuleText,
     schema: &'s S,
 ) -> Result<RuleParts, Fault>
-    ensures { Gives rule_parts (spec.parts_on (S.names schema.now) table.now.id table.now.columns.now (view.rule rule.now)) result }
+    ensures value { Gives rule_parts (spec.parts_on (S.names schema.now) table.now.id table.now.columns.now (view.rule rule.now)) result }
+    ensures triggers { (e : Refusal) → walk_triggers table.now.columns.now (map view.trigger rule.now.triggers.items) ≡ Err e → IsRefused e result }
 {
     let walked = match triggers(table.columns, rule.triggers.as_slice()) {
         Ok(walked) => walked,
@@ -96,10 +99,54 @@ pub(crate) fn rule<'s, S: Schema>(
     text: &RuleText,
     schema: &'s S,
 ) -> Result<RuleParts, Fault>
-    ensures { Gives rule_parts (spec.parts (S.names schema.now) (view.rule text.now)) result }
+    ensures value { Gives rule_parts (spec.parts (S.names schema.now) (view.rule text.now)) result }
+    ensures head { (e : Refusal) → spec.walk_head (S.names schema.now) (view.rule text.now) ≡ Err e → IsRefused e result }
 {
     match table_named(schema, &text.table) {
         Ok(table) => parts_on(alloc, &table, text, schema),
         Err(fault) => Err(fault),
     }
+}
+
+/// A rule's new condition and actions, as far as they are written.
+#[derive(Drop)]
+pub struct NewParts {
+    pub condition: Option<Query>,
+    pub actions: Option<Actions>,
+}
+
+#[tactic(auto, unfolding(crate::specs::RuleParts::written_actions))]
+fn written_actions<'s, S: Schema>(
+    alloc: Global,
+    list: &Option<Vec<sb_syntax::Action>>,
+    schema: &'s S,
+) -> Result<Option<Actions>, Fault>
+    ensures { Gives (λ a. a) (spec.written_actions (S.names schema.now) (option_map (λ all. map view.action all.items) list.now)) result }
+{
+    match list {
+        None => Ok(None),
+        Some(list) => match all_actions(alloc, list.as_slice(), schema) {
+            Ok(actions) => Ok(Some(actions)),
+            Err(fault) => Err(fault),
+        },
+    }
+}
+
+#[tactic(auto, unfolding(crate::specs::RuleParts::new_parts))]
+pub(crate) fn alteration<'s, S: Schema>(
+    alloc: Global,
+    text: &AlterationText,
+    inside: &'s S,
+) -> Result<NewParts, Fault>
+    ensures { Gives new_parts (spec.new_parts (S.names inside.now) (view.alteration text.now)) result }
+{
+    let condition = match condition(alloc, &text.condition, inside) {
+        Ok(resolved) => resolved,
+        Err(fault) => return Err(fault),
+    };
+    let actions = match written_actions(alloc, &text.actions, inside) {
+        Ok(resolved) => resolved,
+        Err(fault) => return Err(fault),
+    };
+    Ok(NewParts { condition, actions })
 }
