@@ -1,12 +1,12 @@
 -- What a set of pairs leads to. Each fact takes the law that the test of precedence is the transitive closure.
 use Rattle.std.proofs.lemmas.Bool.{false≢true, and_parts, or_cases, or_left}
-use Rattle.std.proofs.Common.{◌≡◌, ℕ, Bool, true, false, not, cond, ◌&&◌, ◌||◌, ◌==◌, List, [], ◌∷◌, ◌++◌, map, ◌⊎◌, refl, sym, inl, inr, ap, ◌∙◌, subst, eqb-true}
+use Rattle.std.proofs.Common.{◌≡◌, ℕ, Bool, true, false, not, cond, ◌&&◌, ◌||◌, ◌==◌, List, [], ◌∷◌, ◌++◌, map, filter, ◌⊎◌, refl, sym, inl, inr, ap, ◌∙◌, subst, eqb-true}
 use Rattle.std.proofs.Math.Bool.{and-false}
 use Rattle.std.proofs.lemmas.List.Folds.{list_any-append}
 use Rattle.sb_value.specs.Order.{Precedes, pair, onward, precedes}
 use Rattle.sb_value.specs.Laws.{PrecedesIsClosure}
 use Rattle.sb_priority.specs.Closed.{has_pair}
-use Rattle.sb_priority.specs.Ranks.{IsAcyclic, pairs_of, pairs_without}
+use Rattle.sb_priority.specs.Ranks.{IsAcyclic, pairs_of, pairs_without, pairs_apart, is_between}
 use Rattle.sb_priority.proofs.Tests.{same_test, not_true}
 
 -- ---- only the set of pairs counts
@@ -115,7 +115,7 @@ added_acyclic law r ps xs ys old new =
     (λ a b h. has_pair-append ps (pairs_of r xs ys) a b ∙ or_left (has_pair ps a b) (has_pair (pairs_of r xs ys) a b) h)
     (names_new r ps xs ys) old new
 
--- ---- the pairs without a rule
+-- ---- fewer pairs
 
 kept_more : (same kept h hs named : Bool) → (same ≡ true → named ≡ kept) → h ≡ (hs && named) → cond kept (same || h) h ≡ ((same || hs) && named)
 kept_more true true h hs named e g = sym (e refl)
@@ -127,14 +127,28 @@ has_pair-cond : (kept : Bool) (p : ℕ × ℕ) (ps : List (ℕ × ℕ)) (a b : �
 has_pair-cond true p ps a b = refl
 has_pair-cond false p ps a b = refl
 
+-- of the pairs that pass a test
+pub has_pair-kept : (keep : ℕ × ℕ → Bool) (ps : List (ℕ × ℕ)) (a b : ℕ) → has_pair (filter keep ps) a b ≡ (has_pair ps a b && keep (a, b))
+has_pair-kept keep [] a b = refl
+has_pair-kept keep (p ∷ ps) a b =
+    has_pair-cond (keep p) p (filter keep ps) a b
+    ∙ kept_more ((p.0 == a) && (p.1 == b)) (keep p) (has_pair (filter keep ps) a b) (has_pair ps a b) (keep (a, b))
+    (λ e i. keep (sym (eqb-true p.0 a (and_parts (p.0 == a) (p.1 == b) e).0) i, sym (eqb-true p.1 b (and_parts (p.0 == a) (p.1 == b) e).1) i))
+    (has_pair-kept keep ps a b)
+
 pub has_pair-without : (r : ℕ) (ps : List (ℕ × ℕ)) (a b : ℕ) → has_pair (pairs_without r ps) a b ≡ (has_pair ps a b && (not (a == r) && not (b == r)))
-has_pair-without r [] a b = refl
-has_pair-without r (p ∷ ps) a b =
-    has_pair-cond (not (p.0 == r) && not (p.1 == r)) p (pairs_without r ps) a b
-    ∙ kept_more ((p.0 == a) && (p.1 == b)) (not (p.0 == r) && not (p.1 == r)) (has_pair (pairs_without r ps) a b) (has_pair ps a b) (not (a == r) && not (b == r))
-    (λ e i. not (sym (eqb-true p.0 a (and_parts (p.0 == a) (p.1 == b) e).0) i == r) && not (sym (eqb-true p.1 b (and_parts (p.0 == a) (p.1 == b) e).1) i == r))
-    (has_pair-without r ps a b)
+has_pair-without r ps a b = has_pair-kept (λ p. not (p.0 == r) && not (p.1 == r)) ps a b
+
+pub has_pair-apart : (r : ℕ) (xs : List ℕ) (ps : List (ℕ × ℕ)) (a b : ℕ) → has_pair (pairs_apart r xs ps) a b ≡ (has_pair ps a b && not (is_between r xs a b))
+has_pair-apart r xs ps a b = has_pair-kept (λ p. not (is_between r xs p.0 p.1)) ps a b
+
+-- fewer pairs close no cycle
+kept_acyclic : PrecedesIsClosure → (keep : ℕ × ℕ → Bool) (ps : List (ℕ × ℕ)) → IsAcyclic ps → IsAcyclic (filter keep ps)
+kept_acyclic law keep ps old a =
+    not_true (precedes (filter keep ps) a a) (λ p. sym (old a) ∙ precedes_more law (filter keep ps) ps (λ x y h. (and_parts (has_pair ps x y) (keep (x, y)) (sym (has_pair-kept keep ps x y) ∙ h)).0) a a p)
 
 pub dropped_acyclic : PrecedesIsClosure → (r : ℕ) (ps : List (ℕ × ℕ)) → IsAcyclic ps → IsAcyclic (pairs_without r ps)
-dropped_acyclic law r ps old a =
-    not_true (precedes (pairs_without r ps) a a) (λ p. sym (old a) ∙ precedes_more law (pairs_without r ps) ps (λ x y h. (and_parts (has_pair ps x y) (not (x == r) && not (y == r)) (sym (has_pair-without r ps x y) ∙ h)).0) a a p)
+dropped_acyclic law r ps old = kept_acyclic law (λ p. not (p.0 == r) && not (p.1 == r)) ps old
+
+pub apart_acyclic : PrecedesIsClosure → (r : ℕ) (xs : List ℕ) (ps : List (ℕ × ℕ)) → IsAcyclic ps → IsAcyclic (pairs_apart r xs ps)
+apart_acyclic law r xs ps old = kept_acyclic law (λ p. not (is_between r xs p.0 p.1)) ps old

@@ -1,13 +1,14 @@
 -- Steps of the loops over lists of rules and over rows.
-use Rattle.std.proofs.Common.{◌≡◌, ℕ, zero, suc, ◌+◌, ◌<◌, ◌≤◌, Bool, true, false, not, cond, ◌&&◌, ◌||◌, ◌==◌, nat_lt, List, [], ◌∷◌, ◌++◌, map, take, drop, length, get_or, find, Some, None, refl, sym, ap, ◌∙◌, arith, add-one, eqb-true, drop-cons}
+use Rattle.std.proofs.Common.{◌≡◌, ℕ, zero, suc, ◌+◌, ◌<◌, ◌≤◌, Bool, true, false, not, cond, ◌&&◌, ◌||◌, ◌==◌, nat_lt, List, [], ◌∷◌, ◌++◌, map, take, drop, length, get_or, find, Some, None, refl, sym, ap, ◌∙◌, arith, add-one, eqb-true, eq-eqb, drop-cons}
 use Rattle.std.proofs.lemmas.Bool.{ltb-true, ltb-false, lt-ltb, eqb-false, false≢true}
 use Rattle.std.proofs.Math.ListN.{get_or-eq_default}
 use Rattle.std.proofs.lemmas.List.{get_or_read}
 use Rattle.std.proofs.lemmas.List.Folds.{list_any_more}
-use Rattle.std.proofs.Math.Bool.{and-true, and-false, or_assoc}
+use Rattle.std.proofs.Math.Bool.{and-true, and-false, or-false, or_assoc}
 use Rattle.std.specs.List.{list_any}
 use Rattle.sb_value.specs.Flags.{flag_at}
 use Rattle.sb_priority.specs.Closed.{relates, has_pair, HasPairs}
+use Rattle.sb_priority.specs.Ranks.{is_between}
 use Rattle.sb_priority.proofs.Paths.{has_pair-append}
 use Rattle.sb_priority.proofs.Tests.{same_test}
 
@@ -68,18 +69,15 @@ kept_row_by below row kept rest false h = ap (λ b. (below && rest) || b) (and-f
     passed_by false true = refl
     passed_by false false = refl
 
--- one row more is linked, without a dropped rule
-pub kept_more : (rows : List (List Bool)) (old new : ℕ → ℕ → Bool) (row : List Bool) (i r : ℕ) →
-    ((a b : ℕ) → old a b ≡ (nat_lt b i && (relates rows a b && (not (a == r) && not (b == r))))) →
-    ((a : ℕ) → flag_at row a ≡ (relates rows a i && (not (a == r) && not (i == r)))) →
-    ((a b : ℕ) → new a b ≡ (old a b || (flag_at row a && (i == b)))) →
-    (a b : ℕ) → new a b ≡ (nat_lt b (i + 1) && (relates rows a b && (not (a == r) && not (b == r))))
-kept_more rows old new row i r before of_row step a b =
-    let rest : Bool = relates rows a b && (not (a == r) && not (b == r)) in
+-- one row more is linked, as far as its pairs are kept
+pub kept_more : (rows : List (List Bool)) (old new keep : ℕ → ℕ → Bool) (row : List Bool) (i : ℕ) →
+    ((a b : ℕ) → old a b ≡ (nat_lt b i && (relates rows a b && keep a b))) → ((a : ℕ) → flag_at row a ≡ (relates rows a i && keep a i)) →
+    ((a b : ℕ) → new a b ≡ (old a b || (flag_at row a && (i == b)))) → (a b : ℕ) → new a b ≡ (nat_lt b (i + 1) && (relates rows a b && keep a b))
+kept_more rows old new keep row i before of_row step a b =
+    let rest : Bool = relates rows a b && keep a b in
     step a b
     ∙ (λ j. before a b j || (of_row a j && (i == b)))
-    ∙ kept_row_by (nat_lt b i) (relates rows a i) (not (a == r) && not (i == r)) rest (i == b)
-    (λ e j. relates rows a (sym (eqb-true i b e) j) && (not (a == r) && not (sym (eqb-true i b e) j == r)))
+    ∙ kept_row_by (nat_lt b i) (relates rows a i) (keep a i) rest (i == b) (λ e j. relates rows a (sym (eqb-true i b e) j) && keep a (sym (eqb-true i b e) j))
     ∙ sym (ap (λ t. t && rest) (below_next b i))
 
 all_rows_by : (rows : List (List Bool)) (n a b : ℕ) (rest below : Bool) → length rows ≤ n → nat_lt b n ≡ below → (below && (relates rows a b && rest)) ≡ (relates rows a b && rest)
@@ -118,3 +116,47 @@ found_here f xs i x h is in_ =
   where
     read : x ≡ get_or xs i 0
     read = get_or_read xs i x h is 0
+
+-- ---- a row without some rules
+
+same_turned : (a b : ℕ) → (a == b) ≡ (b == a)
+same_turned a b = same_test (a == b) (b == a) (λ e. eq-eqb b a (sym (eqb-true a b e))) (λ e. eq-eqb a b (sym (eqb-true b a e)))
+
+-- one rule more of the list is out of the row
+pub less_more : (f g h : ℕ → Bool) (xs : List ℕ) (i x : ℕ) → i < length xs → x ≡ get_or xs i x → ((a : ℕ) → g a ≡ (f a && not (list_any (λ o. o == a) (take i xs)))) → ((a : ℕ) → h a ≡ (g a && not (a == x)))
+    → (a : ℕ) → h a ≡ (f a && not (list_any (λ o. o == a) (take (i + 1) xs)))
+less_more f g h xs i x below is before step a =
+    step a
+    ∙ ap (λ b. b && not (a == x)) (before a)
+    ∙ two_out (f a) (list_any (λ o. o == a) (take i xs)) (a == x)
+    ∙ ap (λ b. f a && not b)
+    (ap (λ b. list_any (λ o. o == a) (take i xs) || b) (same_turned a x) ∙ ap (λ y. list_any (λ o. o == a) (take i xs) || (y == a)) (get_or_read xs i x below is 0) ∙ sym (list_any_more (λ o. o == a) xs i 0 below))
+  where
+    two_out : (x y z : Bool) → ((x && not y) && not z) ≡ (x && not (y || z))
+    two_out true true z = refl
+    two_out true false z = refl
+    two_out false y z = refl
+
+-- a row without the rules that the rule of the row is put apart from, or the others' rows without that rule
+pub apart_own : (keeps : Bool) (r : ℕ) (xs : List ℕ) (a b : ℕ) → (b == r) ≡ true → (keeps && not (list_any (λ o. o == a) xs)) ≡ (keeps && not (is_between r xs a b))
+apart_own keeps r xs a b own = ap (λ t. keeps && not t) (by (a == r) refl)
+  where
+    listed : ℕ → Bool
+    listed c = list_any (λ o. o == c) xs
+
+    by : (t : Bool) → (a == r) ≡ t → listed a ≡ is_between r xs a b
+    by true e = sym (both (listed a)) ∙ (λ i. (sym e i && listed (same i)) || (sym own i && listed a))
+      where
+        both : (t : Bool) → (t || t) ≡ t
+        both true = refl
+        both false = refl
+
+        same : a ≡ b
+        same = eqb-true a r e ∙ sym (eqb-true b r own)
+    by false e = λ i. (sym e i && listed b) || (sym own i && listed a)
+
+pub apart_listed : (keeps : Bool) (r : ℕ) (xs : List ℕ) (a b : ℕ) → (b == r) ≡ false → list_any (λ o. o == b) xs ≡ true → (keeps && not (a == r)) ≡ (keeps && not (is_between r xs a b))
+apart_listed keeps r xs a b other is = ap (λ t. keeps && not t) (sym (or-false (a == r)) ∙ (λ i. sym (and-true (a == r)) i || false) ∙ (λ i. ((a == r) && sym is i) || (sym other i && list_any (λ o. o == a) xs)))
+
+pub apart_other : (keeps : Bool) (r : ℕ) (xs : List ℕ) (a b : ℕ) → (b == r) ≡ false → list_any (λ o. o == b) xs ≡ false → keeps ≡ (keeps && not (is_between r xs a b))
+apart_other keeps r xs a b other is = sym (and-true keeps) ∙ ap (λ t. keeps && not t) (sym (or-false false) ∙ (λ i. sym (and-false (a == r)) i || false) ∙ (λ i. ((a == r) && sym is i) || (sym other i && list_any (λ o. o == a) xs)))

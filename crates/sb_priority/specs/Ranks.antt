@@ -1,5 +1,5 @@
 -- An order of rules, and the pairs that it stands for.
-use Rattle.std.specs.Prelude.{◌≡◌, ℕ, Bool, true, false, not, ◌&&◌, ◌==◌, List, ◌++◌, map, filter}
+use Rattle.std.specs.Prelude.{◌≡◌, ℕ, Bool, true, false, not, ◌&&◌, ◌||◌, ◌==◌, List, ◌++◌, map, filter}
 use Rattle.std.specs.List.{list_any}
 use Rattle.sb_value.specs.Flags.{flag_at}
 use Rattle.sb_value.specs.Order.{precedes}
@@ -27,6 +27,18 @@ pairs_of rule ahead_of behind = map (λ p. (rule, p)) ahead_of ++ map (λ f. (f,
 abbrev pub pairs_without : ℕ → List (ℕ × ℕ) → List (ℕ × ℕ)
 pairs_without rule pairs = filter (λ p. not (p.0 == rule) && not (p.1 == rule)) pairs
 
+-- whether a pair is between the rule and one of the others, either way round
+abbrev pub is_between : ℕ → List ℕ → ℕ → ℕ → Bool
+is_between rule others a b = ((a == rule) && list_any (λ o. o == b) others) || ((b == rule) && list_any (λ o. o == a) others)
+
+-- the pairs but for those between the rule and the others
+abbrev pub pairs_apart : ℕ → List ℕ → List (ℕ × ℕ) → List (ℕ × ℕ)
+pairs_apart rule others pairs = filter (λ p. not (is_between rule others p.0 p.1)) pairs
+
+-- the pairs after a rule is put apart from the ones, before the next and behind the last
+abbrev pub pairs_altered : ℕ → List ℕ → List ℕ → List ℕ → List (ℕ × ℕ) → List (ℕ × ℕ)
+pairs_altered rule apart ahead_of behind pairs = pairs_apart rule apart pairs ++ pairs_of rule ahead_of behind
+
 -- the new order has these pairs more
 abbrev pub Gains : Ranks → Ranks → List (ℕ × ℕ) → Type 0
 Gains old new more = (pairs : List (ℕ × ℕ)) → HasOrder old pairs → HasOrder new (pairs ++ more)
@@ -38,6 +50,14 @@ Loses old new rule = (pairs : List (ℕ × ℕ)) → HasOrder old pairs → HasO
 -- with these pairs more the rule precedes itself
 abbrev pub ClosesCycle : Ranks → ℕ → List (ℕ × ℕ) → Type 0
 ClosesCycle old rule more = (pairs : List (ℕ × ℕ)) → HasOrder old pairs → precedes (pairs ++ more) rule rule ≡ true
+
+-- the new order has the old one's pairs, altered so
+abbrev pub Alters : Ranks → Ranks → (List (ℕ × ℕ) → List (ℕ × ℕ)) → Type 0
+Alters old new altered = (pairs : List (ℕ × ℕ)) → HasOrder old pairs → HasOrder new (altered pairs)
+
+-- with the pairs altered so the rule precedes itself
+abbrev pub AltersToCycle : Ranks → ℕ → (List (ℕ × ℕ) → List (ℕ × ℕ)) → Type 0
+AltersToCycle old rule altered = (pairs : List (ℕ × ℕ)) → HasOrder old pairs → precedes (altered pairs) rule rule ≡ true
 
 -- the rules of the set, in order of creation
 abbrev pub ranked : List Bool → List ℕ → List ℕ

@@ -3,7 +3,8 @@ ghost use Rattle.std.specs.Prelude.{◌≡◌, ℕ, Bool, List, [], not, ◌&&�
 ghost use Rattle.sb_value.specs.Flags.{flag_at};
 ghost use Rattle.sb_value.specs.Order.{precedes};
 ghost use Rattle.sb_priority.specs.Closed.{relates, HasPairs};
-ghost use Rattle.sb_priority.specs.Ranks.{pairs_of};
+ghost use Rattle.sb_priority.specs.Ranks.{is_between, pairs_of};
+ghost use Rattle.std.specs.List.{list_any};
 
 use crate::closure::Closure;
 use sb_value::{RULE_LIMIT, RuleId, RuleSet, precedes_is_closure};
@@ -116,6 +117,13 @@ impl Pairs {
     {
         linked_without(&self.direct, rule)
     }
+
+    /// The pairs without those between the rule and the others, either way round.
+    pub fn apart(&self, rule: RuleId, others: &[RuleId]) -> Pairs
+        ensures { (a b : ℕ) → relates result a b ≡ (relates self.now a b && not (is_between rule others.now a b)) }
+    {
+        linked_apart(&self.direct, rule, others)
+    }
 }
 
 /// The pairs of the rows, linked afresh without those of the dropped rule.
@@ -149,4 +157,48 @@ fn row_without(row: RuleSet, second: RuleId, dropped: RuleId) -> RuleSet
     } else {
         row.without(dropped)
     }
+}
+
+/// The pairs of the rows, linked afresh without those between the rule and the others.
+fn linked_apart(rows: &[RuleSet], rule: RuleId, others: &[RuleId]) -> Pairs
+    requires { length rows.now ≡ 64 }
+    ensures { (a b : ℕ) → relates result a b ≡ (relates rows.now a b && not (is_between rule others.now a b)) }
+{
+    let mut kept = Pairs::none();
+    for number in 0..RULE_LIMIT {
+        let second = RuleId::new(number as u8);
+        kept.link_row(row_apart(rows[number], second, rule, others), second);
+    }
+    kept
+}
+
+/// The row of the second rule without what stands between the rule and the others.
+fn row_apart(row: RuleSet, second: RuleId, rule: RuleId, others: &[RuleId]) -> RuleSet
+    ensures { (a : ℕ) → flag_at result a ≡ (flag_at row a && not (is_between rule others.now a second)) }
+{
+    if second == rule {
+        row_less(row, others)
+    } else if is_listed(others, second) {
+        row.without(rule)
+    } else {
+        row
+    }
+}
+
+/// Whether the rule is in the list.
+fn is_listed(list: &[RuleId], rule: RuleId) -> bool
+    ensures { result ≡ list_any (λ o. o == rule) list.now }
+{
+    list.iter().any(|other| *other == rule)
+}
+
+/// The set without the rules of the list.
+fn row_less(row: RuleSet, others: &[RuleId]) -> RuleSet
+    ensures { (a : ℕ) → flag_at result a ≡ (flag_at row a && not (list_any (λ o. o == a) others.now)) }
+{
+    let mut kept = row;
+    for other in others {
+        kept = kept.without(*other);
+    }
+    kept
 }

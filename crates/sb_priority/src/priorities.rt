@@ -2,7 +2,7 @@
 ghost use Rattle.std.specs.Prelude.{◌≡◌, ℕ, ◌<◌, not, ◌&&◌, ◌==◌, nat_lt, List, [], ◌∷◌, ◌++◌, filter, length, OnOk, OnErr};
 ghost use Rattle.sb_value.specs.Flags.{flag_at};
 ghost use Rattle.sb_value.specs.Order.{precedes, chosen};
-ghost use Rattle.sb_priority.specs.Ranks.{HasOrder, pairs_of, Gains, Loses, ClosesCycle, ranked, is_free};
+ghost use Rattle.sb_priority.specs.Ranks.{HasOrder, pairs_of, pairs_altered, Alters, AltersToCycle, Gains, Loses, ClosesCycle, ranked, is_free};
 
 use crate::list::RuleList;
 use crate::pairs::Pairs;
@@ -64,6 +64,31 @@ impl Priorities {
         }
         self.pairs = pairs;
         self.rules.push(rule);
+        Ok(())
+    }
+
+    /// Takes away the pairs between a rule and those of the last list, either way round; then the rule precedes those of the first
+    /// list and follows those of the second.
+    pub fn alter(
+        &mut self,
+        rule: RuleId,
+        ahead_of: &[RuleId],
+        behind: &[RuleId],
+        apart: &[RuleId],
+    ) -> Result<(), Cycle>
+        ensures rules { self.new.rules ≡ self.old.rules }
+        ensures altered { OnOk result (Alters self.old self.new (pairs_altered rule apart.now ahead_of.now behind.now)) }
+        ensures cycle { OnErr result (AltersToCycle self.old rule (pairs_altered rule apart.now ahead_of.now behind.now)) }
+        ensures unchanged { OnErr result (self.new ≡ self.old) }
+    {
+        // for the proof: a cycle goes through the rule whose pairs are new
+        precedes_is_closure();
+        let mut altered = self.pairs.apart(rule, apart);
+        altered.add_rule(rule, ahead_of, behind);
+        if altered.predecessors(rule).contains(rule) {
+            return Err(Cycle);
+        }
+        self.pairs = altered;
         Ok(())
     }
 

@@ -8,7 +8,7 @@ use Rattle.sb_priority.proofs.pairs.linked_without.Goals as goal
 pub loop-number-preserved : goal.loop-number-preserved
 loop-number-preserved c =
     let read : c.index-rows-number.result ≡ get_or c.args.rows.now c.loop-number.number [] = get_or_read c.args.rows.now c.loop-number.number c.index-rows-number.result (omega arith) c.index-rows-number.is [] in
-    kept_more c.args.rows.now (relates c.loop-number.kept) (relates c.link_row.new.self) c.row_without.result c.loop-number.number c.args.dropped c.loop-number.invariant
+    kept_more c.args.rows.now (relates c.loop-number.kept) (relates c.link_row.new.self) (λ a b. not (a == c.args.dropped) && not (b == c.args.dropped)) c.row_without.result c.loop-number.number c.loop-number.invariant
     (λ a. c.row_without.ensures a ∙ (λ j. flag_at (read j) a && (not (a == c.args.dropped) && not (c.new-second.ensures j == c.args.dropped))))
     (λ a b. c.link_row.ensures a b ∙ (λ j. relates c.loop-number.kept a b || (flag_at c.row_without.result a && (c.new-second.ensures j == b))))
 
