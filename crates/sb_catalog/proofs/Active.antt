@@ -8,7 +8,7 @@ use Rattle.sb_value.specs.Flags.{flag_at}
 use Rattle.sb_value.specs.Name.{same_name}
 use Rattle.sb_catalog.specs.declared.rule.Rule.{Rule}
 use Rattle.sb_catalog.specs.Places.{HasActive}
-use Rattle.sb_catalog.specs.Rules.{is_active, named, set_active, with_active, without_rule}
+use Rattle.sb_catalog.specs.Rules.{is_active, named, change_numbered, set_active, with_active, without_rule}
 
 same_number : (n : ℕ) → nat_eq n n ≡ true
 same_number n = eq-eqb n n refl
@@ -148,3 +148,17 @@ active-set set new rules n active h there is id =
         ∙ any-same (λ r. after r n) (λ r. nat_eq r.id n && active) rules (λ r. own r (nat_eq r.id n) refl)
         ∙ any-both (λ (r : Rule). nat_eq r.id n) active rules ∙ (λ i. there i && active))
     by false e = sym (any-same (λ r. after r id) (λ r. nat_eq r.id id && r.active) rules (λ r. other r (nat_eq r.id n) e refl))
+
+-- ---- a rule changed, which stays active or not
+
+-- a test that passes the changed rule as it was passes as many
+pub any-changed : (f : Rule → Bool) (change : Rule → Rule) → ((r : Rule) → f (change r) ≡ f r) → (rules : List Rule) (n : ℕ) → list_any f (map (change_numbered n change) rules) ≡ list_any f rules
+any-changed f change same rules n = any-map f (change_numbered n change) rules ∙ any-same (λ r. f (change_numbered n change r)) f rules (λ r. by r (nat_eq r.id n))
+  where
+    by : (r : Rule) (b : Bool) → f (cond b (change r) r) ≡ f r
+    by r true = same r
+    by r false = refl
+
+pub active-same : (set : List Bool) (change : Rule → Rule) → ((r : Rule) → ((change r).id ≡ r.id) × ((change r).active ≡ r.active)) → (rules : List Rule) (n : ℕ) → HasActive set rules → HasActive set (map (change_numbered n change) rules)
+active-same set change same rules n h id =
+    h id ∙ sym (any-changed (λ (r : Rule). nat_eq r.id id && r.active) change (λ r i. nat_eq ((same r).0 i) id && (same r).1 i) rules n)

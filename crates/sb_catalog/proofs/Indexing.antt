@@ -9,7 +9,7 @@ use Rattle.std.proofs.lemmas.List.Folds.{list_any-append}
 use Rattle.sb_value.specs.Name.{same_name}
 use Rattle.sb_index.specs.Operation.{Operation, names}
 use Rattle.sb_catalog.specs.declared.rule.Rule.{Rule}
-use Rattle.sb_catalog.specs.Rules.{numbered, named, has_name, with_active, without_rule, AreNumbered}
+use Rattle.sb_catalog.specs.Rules.{numbered, named, has_name, change_numbered, with_active, without_rule, AreNumbered}
 
 pub same_number : (n : ℕ) → nat_eq n n ≡ true
 same_number n = eq-eqb n n refl
@@ -152,13 +152,16 @@ listed_without gone (r ∷ rules) = by (nat_eq r.id gone) (listed_without gone r
     by true rest = rest
     by false rest = ap (λ (l : List ℕ). r.id ∷ l) rest
 
-pub listed_active : (id : ℕ) (active : Bool) (rules : List Rule) → map (λ (r : Rule). r.id) (with_active rules id active) ≡ map (λ (r : Rule). r.id) rules
-listed_active id active [] = refl
-listed_active id active (r ∷ rules) = λ i. by (nat_eq r.id id) i ∷ listed_active id active rules i
+pub listed_changed : (change : Rule → Rule) → ((r : Rule) → (change r).id ≡ r.id) → (id : ℕ) (rules : List Rule) → map (λ (r : Rule). r.id) (map (change_numbered id change) rules) ≡ map (λ (r : Rule). r.id) rules
+listed_changed change keeps id [] = refl
+listed_changed change keeps id (r ∷ rules) = λ i. by (nat_eq r.id id) i ∷ listed_changed change keeps id rules i
   where
-    by : (b : Bool) → (cond b (record r { active = active }) r).id ≡ r.id
-    by true = refl
+    by : (b : Bool) → (cond b (change r) r).id ≡ r.id
+    by true = keeps r
     by false = refl
+
+pub listed_active : (id : ℕ) (active : Bool) (rules : List Rule) → map (λ (r : Rule). r.id) (with_active rules id active) ≡ map (λ (r : Rule). r.id) rules
+listed_active id active rules = listed_changed (λ r. record r { active = active }) (λ r. refl) id rules
 
 -- ---- the set of the active rules
 

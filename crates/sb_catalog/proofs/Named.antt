@@ -12,7 +12,7 @@ use Rattle.sb_value.specs.declared.refusal.Refusal.{Refusal}
 use Rattle.sb_value.specs.declared.refusal.Refusal.TheVariants.{NoRule}
 use Rattle.sb_check.specs.Names.{some_or}
 use Rattle.sb_catalog.specs.declared.rule.Rule.{Rule}
-use Rattle.sb_catalog.specs.Rules.{named, with_active}
+use Rattle.sb_catalog.specs.Rules.{named, change_numbered}
 use Rattle.sb_catalog.specs.Places.{under_name, AreNotedFrom, HasActive, AreKept}
 use Rattle.sb_catalog.proofs.Noted.{changed}
 
@@ -34,41 +34,38 @@ numbers found = some_or NoRule (option_map (λ r. r.id) found)
 
 -- ---- a rule that is found by its name, and changed there
 
-abbrev pub made : Rule → Bool → Rule
-made r active = record r { active = active }
+abbrev pub IsFoundAt : List ℕ → (Rule → Rule) → List Rule → Rule → Type 0
+IsFoundAt name change rules r = (i : ℕ) × (slice_get rules i ≡ Some r) × (set_value (same_name name) (map under_name rules) (change r) ≡ map under_name (set rules i (change r)))
 
-abbrev pub IsFoundAt : List ℕ → Bool → List Rule → Rule → Type 0
-IsFoundAt name active rules r =
-    (i : ℕ) × (slice_get rules i ≡ Some r) × (set_value (same_name name) (map under_name rules) (made r active) ≡ map under_name (set rules i (made r active)))
+module _ (name : List ℕ) (change : Rule → Rule) (keeps : (r : Rule) → (change r).name ≡ r.name) where
+  found_by : (s : Rule) (rules : List Rule) (r : Rule) (b : Bool) → same_name name s.name ≡ b → cond b (Some s) (lookup (same_name name) (map under_name rules)) ≡ Some r →
+      (lookup (same_name name) (map under_name rules) ≡ Some r → IsFoundAt name change rules r) → IsFoundAt name change (s ∷ rules) r
+  found_by s rules r true p e rest =
+      let same = same_Some s r e in (
+        0,
+        e,
+        (λ i. cond (p i) ((s.name, change r) ∷ map under_name rules) (under_name s ∷ set_value (same_name name) (map under_name rules) (change r)))
+            ∙ (λ i. ((ap (λ (x : Rule). x.name) same ∙ sym (keeps r)) i, change r) ∷ map under_name rules),
+      )
+  found_by s rules r false p e rest =
+      let later = rest e in (
+        suc later.0,
+        later.1,
+        (λ i. cond (p i) ((s.name, change r) ∷ map under_name rules) (under_name s ∷ set_value (same_name name) (map under_name rules) (change r)))
+            ∙ (λ i. under_name s ∷ later.2 i),
+      )
 
-found_by : (name : List ℕ) (active : Bool) (s : Rule) (rules : List Rule) (r : Rule) (b : Bool) → same_name name s.name ≡ b → cond b (Some s) (lookup (same_name name) (map under_name rules)) ≡ Some r →
-    (lookup (same_name name) (map under_name rules) ≡ Some r → IsFoundAt name active rules r) → IsFoundAt name active (s ∷ rules) r
-found_by name active s rules r true p e rest =
-    let same = same_Some s r e in (
-      0,
-      e,
-      (λ i. cond (p i) ((s.name, made r active) ∷ map under_name rules) (under_name s ∷ set_value (same_name name) (map under_name rules) (made r active)))
-          ∙ (λ i. ((same i).name, made r active) ∷ map under_name rules),
-    )
-found_by name active s rules r false p e rest =
-    let later = rest e in (
-      suc later.0,
-      later.1,
-      (λ i. cond (p i) ((s.name, made r active) ∷ map under_name rules) (under_name s ∷ set_value (same_name name) (map under_name rules) (made r active)))
-          ∙ (λ i. under_name s ∷ later.2 i),
-    )
+  found_at : (rules : List Rule) (r : Rule) → lookup (same_name name) (map under_name rules) ≡ Some r → IsFoundAt name change rules r
+  found_at [] r e = absurd (none-some r e)
+  found_at (s ∷ rules) r e = found_by s rules r (same_name name s.name) refl e (found_at rules r)
 
-pub found_at : (name : List ℕ) (active : Bool) (rules : List Rule) (r : Rule) → lookup (same_name name) (map under_name rules) ≡ Some r → IsFoundAt name active rules r
-found_at name active [] r e = absurd (none-some r e)
-found_at name active (s ∷ rules) r e = found_by name active s rules r (same_name name s.name) refl e (found_at name active rules r)
-
--- what is written through the name is the rule with that number made active or not
-pub written : (places : List ℕ) (flags : List Bool) (name : List ℕ) (active : Bool) (entries : List (List ℕ × Rule)) (r : Rule) → AreKept entries places flags → lookup (same_name name) entries ≡ Some r →
-    set_value (same_name name) entries (made r active) ≡ map under_name (with_active (values_of entries) r.id active)
-written places flags name active entries r h e =
-    let rules : List Rule = values_of entries in
-    let f = found_at name active rules r (ap (lookup (same_name name)) (sym h.named) ∙ e) in
-    ap (λ es. set_value (same_name name) es (made r active)) h.named ∙ f.2 ∙ ap (map under_name) (sym (changed places active 0 f.0 rules r h.noted f.1))
+  -- what is written through the name is the rule with that number changed
+  pub written : (places : List ℕ) (flags : List Bool) (entries : List (List ℕ × Rule)) (r : Rule) → AreKept entries places flags → lookup (same_name name) entries ≡ Some r →
+      set_value (same_name name) entries (change r) ≡ map under_name (map (change_numbered r.id change) (values_of entries))
+  written places flags entries r h e =
+      let rules : List Rule = values_of entries in
+      let f = found_at rules r (ap (lookup (same_name name)) (sym h.named) ∙ e) in
+      ap (λ es. set_value (same_name name) es (change r)) h.named ∙ f.2 ∙ ap (map under_name) (sym (changed places change 0 f.0 rules r h.noted f.1))
 
 pub kept_with : (places : List ℕ) (flags : List Bool) (entries : List (List ℕ × Rule)) (rules : List Rule) → entries ≡ map under_name rules → AreNotedFrom 0 places rules → HasActive flags rules →
     AreKept entries places flags

@@ -5,7 +5,7 @@ use Rattle.std.specs.List.{list_any, remove}
 use Rattle.std.proofs.lemmas.Bool.Decides.{nat_tests}
 use Rattle.std.proofs.lemmas.Option.{none-some, same_Some, slice_get-map}
 use Rattle.sb_catalog.specs.declared.rule.Rule.{Rule}
-use Rattle.sb_catalog.specs.Rules.{with_active, without_rule, numbered, AreNumbered}
+use Rattle.sb_catalog.specs.Rules.{change_numbered, without_rule, numbered, AreNumbered}
 use Rattle.sb_catalog.proofs.LeastFree.{has}
 use Rattle.sb_catalog.specs.Places.{place_at, closed, AreNotedFrom}
 
@@ -30,11 +30,11 @@ module _ (places : List ℕ) where
         let rest = none_behind (k + 1) rules (omega arith) h.1 in
         λ i. cond (not (other i)) (s ∷ rest i) (rest i)
 
-    pub none_set : (active : Bool) (k : ℕ) (rules : List Rule) → j < k → AreNotedFrom k places rules → with_active rules n active ≡ rules
-    none_set active k [] l h = refl
-    none_set active k (s ∷ rules) l h =
+    pub none_changed : (change : Rule → Rule) (k : ℕ) (rules : List Rule) → j < k → AreNotedFrom k places rules → map (change_numbered n change) rules ≡ rules
+    none_changed change k [] l h = refl
+    none_changed change k (s ∷ rules) l h =
         let other = others s.id n j k at h.0 (λ same. absurd (omega arith)) in
-        λ i. cond (other i) (record s { active = active }) s ∷ none_set active (k + 1) rules (omega arith) h.1 i
+        λ i. cond (other i) (change s) s ∷ none_changed change (k + 1) rules (omega arith) h.1 i
 
   -- to drop a rule is to take out its place
   pub removed : (k i : ℕ) (rules : List Rule) (r : Rule) → AreNotedFrom k places rules → slice_get rules i ≡ Some r → without_rule rules r.id ≡ remove rules i
@@ -49,19 +49,17 @@ module _ (places : List ℕ) where
       let rest = removed (k + 1) i rules r h.1 e in
       λ l. cond (not (other l)) (s ∷ rest l) (rest l)
 
-  -- to make a rule active or not is to change it at its place
-  pub changed : (active : Bool) (k i : ℕ) (rules : List Rule) (r : Rule) → AreNotedFrom k places rules → slice_get rules i ≡ Some r →
-      with_active rules r.id active ≡ set rules i (record r { active = active })
-  changed active k i [] r h e = absurd (none-some r e)
-  changed active k zero (s ∷ rules) r h e =
+  -- to change a rule is to change it at its place
+  pub changed : (change : Rule → Rule) (k i : ℕ) (rules : List Rule) (r : Rule) → AreNotedFrom k places rules → slice_get rules i ≡ Some r → map (change_numbered r.id change) rules ≡ set rules i (change r)
+  changed change k i [] r h e = absurd (none-some r e)
+  changed change k zero (s ∷ rules) r h e =
       let same = same_Some s r e in
       let it : nat_eq s.id r.id ≡ true = eq-eqb s.id r.id (ap (λ (x : Rule). x.id) same) in
       let at : slice_get places r.id ≡ Some k = ap (λ (x : Rule). slice_get places x.id) (sym same) ∙ h.0 in
-      (λ l. cond (it l) (record s { active = active }) s ∷ none_set r.id k at active (k + 1) rules (omega arith) h.1 l)
-      ∙ ap (λ (x : Rule). record x { active = active } ∷ rules) same
-  changed active k (suc i) (s ∷ rules) r h e =
+      (λ l. cond (it l) (change s) s ∷ none_changed r.id k at change (k + 1) rules (omega arith) h.1 l) ∙ ap (λ (x : Rule). change x ∷ rules) same
+  changed change k (suc i) (s ∷ rules) r h e =
       let other = others s.id r.id (k + 1 + i) k (noted_at (k + 1) i rules r h.1 e) h.0 (λ same. absurd (omega arith)) in
-      λ l. cond (other l) (record s { active = active }) s ∷ changed active (k + 1) i rules r h.1 e l
+      λ l. cond (other l) (change s) s ∷ changed change (k + 1) i rules r h.1 e l
 
   -- the rule at a place is the one of its number
   pub numbered_at : (k i : ℕ) (rules : List Rule) (r : Rule) → AreNotedFrom k places rules → slice_get rules i ≡ Some r → numbered rules r.id ≡ Some r
@@ -74,13 +72,13 @@ module _ (places : List ℕ) where
       let other = others s.id r.id (k + 1 + i) k (noted_at (k + 1) i rules r h.1 e) h.0 (λ same. absurd (omega arith)) in
       (λ l. cond (other l) (Some s) (numbered rules r.id)) ∙ numbered_at (k + 1) i rules r h.1 e
 
-  -- the rules as they are noted once a rule is changed
-  pub noted_set : (active : Bool) (n k : ℕ) (rules : List Rule) → AreNotedFrom k places rules → AreNotedFrom k places (with_active rules n active)
-  noted_set active n k [] h = tt
-  noted_set active n k (s ∷ rules) h = (by (nat_eq s.id n), noted_set active n (k + 1) rules h.1)
+  -- the rules as they are noted once a rule is changed, which keeps its number
+  pub noted_changed : (change : Rule → Rule) → ((r : Rule) → (change r).id ≡ r.id) → (n k : ℕ) (rules : List Rule) → AreNotedFrom k places rules → AreNotedFrom k places (map (change_numbered n change) rules)
+  noted_changed change keeps n k [] h = tt
+  noted_changed change keeps n k (s ∷ rules) h = (by (nat_eq s.id n), noted_changed change keeps n (k + 1) rules h.1)
     where
-      by : (b : Bool) → slice_get places (cond b (record s { active = active }) s).id ≡ Some k
-      by true = h.0
+      by : (b : Bool) → slice_get places (cond b (change s) s).id ≡ Some k
+      by true = ap (slice_get places) (keeps s) ∙ h.0
       by false = h.0
 
 -- a rule of some number stands at some place

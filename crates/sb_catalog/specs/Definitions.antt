@@ -5,19 +5,19 @@ use Rattle.sb_value.specs.declared.refusal.Refusal.{Refusal}
 use Rattle.sb_value.specs.declared.refusal.Refusal.TheVariants.{TooManyRules, Cycle, NoRuleset, NoMemory}
 use Rattle.sb_value.specs.Flags.{flag_at}
 use Rattle.sb_value.specs.Order.{precedes}
-use Rattle.sb_syntax.specs.Tree.{Name}
+use Rattle.sb_syntax.specs.Tree.{Name, AlterationText}
 use Rattle.sb_check.specs.Names.{and_then, in_order, required}
-use Rattle.sb_check.specs.RuleParts.{Parts}
+use Rattle.sb_check.specs.RuleParts.{Parts, NewParts}
 use Rattle.sb_index.specs.Operation.{Operation, names}
 use Rattle.sb_index.specs.Stands.{stands}
 use Rattle.sb_index.specs.TableSets.{TableSets}
-use Rattle.sb_priority.specs.Ranks.{Ranks, HasOrder, pairs_of, pairs_without}
+use Rattle.sb_priority.specs.Ranks.{Ranks, HasOrder, pairs_of, pairs_without, pairs_altered}
 use Rattle.sb_rulesets.specs.Ruleset.{Ruleset}
 use Rattle.sb_rulesets.specs.Sets.{has_name, members_of, changed}
 use Rattle.sb_rulesets.specs.Sets as rulesets
 use Rattle.sb_catalog.specs.declared.rule.Rule.{Rule}
 use Rattle.sb_catalog.specs.declared.definitions.Definitions.{Definitions}
-use Rattle.sb_catalog.specs.Rules.{rule_named, free_rule, has_room, created, without_rule, with_active}
+use Rattle.sb_catalog.specs.Rules.{rule_named, free_rule, has_room, created, without_rule, with_active, with_parts}
 
 -- ---- names
 
@@ -45,6 +45,20 @@ new_pairs rules pairs precedes follows =
     and_then (rules_named rules precedes) (λ before.
     and_then (rules_named rules follows) (λ after.
     required (has_room rules) TooManyRules (acyclic rules pairs (pairs_of (free_rule rules) before after))))
+
+-- ---- an altered rule
+
+-- pairs in which the rule doesn't precede itself
+abbrev pub uncycled : ℕ → List (ℕ × ℕ) → Result (List (ℕ × ℕ)) Refusal
+uncycled id pairs = required (not (precedes pairs id id)) Cycle (Ok pairs)
+
+-- the pairs once the rule has them altered; its lists and a cycle refuse it in this order
+abbrev pub altered_pairs : List Rule → List (ℕ × ℕ) → ℕ → AlterationText → Result (List (ℕ × ℕ)) Refusal
+altered_pairs rules pairs id r =
+    and_then (rules_named rules r.precedes) (λ before.
+    and_then (rules_named rules r.follows) (λ after.
+    and_then (rules_named rules r.nopriority) (λ apart.
+    uncycled id (pairs_altered id apart before after pairs))))
 
 -- ---- an index and an order of rules
 
@@ -78,6 +92,13 @@ abbrev pub Pushes : Definitions → Definitions → List (ℕ × ℕ) → Name �
 Pushes old new pairs name parts more (Ok u) =
     (acyclic old.rules pairs more ≡ Ok more) × (new.rules ≡ created old.rules name parts) × AreOrdered new.order new.rules (pairs ++ more) × (new.rulesets ≡ old.rulesets)
 Pushes old new pairs name parts more (Err e) = ((acyclic old.rules pairs more ≡ Err e) ⊎ (e ≡ NoMemory)) × (new ≡ old)
+
+-- a rule has its new parts and pairs, and keeps its place; or it is refused, and nothing changes
+abbrev pub Alters : Definitions → Definitions → List (ℕ × ℕ) → ℕ → AlterationText → NewParts → Result (Unit {0}) Refusal → Type 0
+Alters old new pairs id r parts (Ok u) =
+    (all : List (ℕ × ℕ)) × (altered_pairs old.rules pairs id r ≡ Ok all)
+    × (new.rules ≡ with_parts old.rules id parts) × AreOrdered new.order new.rules all × (new.rulesets ≡ old.rulesets)
+Alters old new pairs id r parts (Err e) = ((altered_pairs old.rules pairs id r ≡ Err e) ⊎ (e ≡ NoMemory)) × (new ≡ old)
 
 -- a rule goes with its pairs and its memberships
 pub record Drops (old new : Definitions) (id : ℕ) : Type 0 where

@@ -1,11 +1,11 @@
 -- Rules in order of creation, and what the commands on rules do to them.
-use Rattle.std.specs.Prelude.{◌≡◌, ℕ, zero, suc, ◌+◌, ◌<◌, IsTrue, IsFalse, Bool, true, not, ◌&&◌, ◌==◌, nat_lt, if◌then◌else◌, List, [], ◌∷◌, ◌++◌, length, map, filter, find, Option, Some, None, option_map, Result}
+use Rattle.std.specs.Prelude.{◌≡◌, ℕ, zero, suc, ◌+◌, ◌<◌, IsTrue, IsFalse, Bool, true, not, ◌&&◌, ◌==◌, nat_lt, if◌then◌else◌, List, [], ◌∷◌, ◌++◌, length, map, filter, find, Option, Some, None, option_map, unwrap_or, Result}
 use Rattle.std.specs.List.{list_any}
 use Rattle.sb_value.specs.Name.{same_name}
 use Rattle.sb_value.specs.declared.refusal.Refusal.{Refusal}
 use Rattle.sb_value.specs.declared.refusal.Refusal.TheVariants.{NoRule, RuleExists, TooManyRules}
 use Rattle.sb_check.specs.Names.{some_or}
-use Rattle.sb_check.specs.RuleParts.{Parts}
+use Rattle.sb_check.specs.RuleParts.{Parts, NewParts}
 use Rattle.sb_catalog.specs.declared.rule.Rule.{Rule}
 
 -- the most rules, active or not
@@ -58,6 +58,11 @@ free_rule rules = least_free (map (λ r. r.id) rules)
 
 -- ---- changes
 
+-- what is written, or else what was before
+abbrev pub written_or : {A : Type 0} → Option A → Option A → Option A
+written_or None before = before
+written_or (Some new) before = Some new
+
 -- a new rule is active
 abbrev pub rule_of : ℕ → List ℕ → Parts → Rule
 rule_of id name parts = record {
@@ -81,6 +86,18 @@ created rules name parts = rules ++ rule_of (free_rule rules) name parts ∷ []
 -- the others keep their order
 abbrev pub without_rule : List Rule → ℕ → List Rule
 without_rule rules id = filter (λ r. not (r.id == id)) rules
+
+-- a rule, changed if it has that number
+abbrev pub change_numbered : ℕ → (Rule → Rule) → Rule → Rule
+change_numbered id change rule = if rule.id == id then change rule else rule
+
+-- a rule with its new parts, as far as they are written
+abbrev pub set_parts : NewParts → Rule → Rule
+set_parts parts rule = record rule { condition = written_or parts.0 rule.condition; actions = unwrap_or parts.1 rule.actions }
+
+-- the rules with new parts for one of them, which keeps its place
+abbrev pub with_parts : List Rule → ℕ → NewParts → List Rule
+with_parts rules id parts = map (change_numbered id (set_parts parts)) rules
 
 -- a rule, made active or not if it has that number
 abbrev pub set_active : ℕ → Bool → Rule → Rule

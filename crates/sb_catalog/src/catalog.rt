@@ -2,16 +2,16 @@
 ghost use Rattle.std.specs.Prelude.{◌≡◌, ℕ, ◌==◌, if◌then◌else◌, [], ◌∷◌, ◌++◌, IsTrue, IsFalse, unwrap_or, true, false, OnOk, IfOk, IfErr, OnErr};
 ghost use Rattle.std.specs.Option.{option_copied};
 ghost use Rattle.sb_value.specs.Flags.{flag_at};
-ghost use Rattle.sb_check.specs.RulePartsView.{rule_parts};
+ghost use Rattle.sb_check.specs.RulePartsView.{new_parts, rule_parts};
 ghost use Rattle.sb_catalog.specs.Rules as spec;
-ghost use Rattle.sb_catalog.specs.Rules.{AreNumbered, named, numbered, rule_named, create_refusal, created, without_rule, with_active, is_active};
+ghost use Rattle.sb_catalog.specs.Rules.{AreNumbered, named, numbered, rule_named, create_refusal, created, without_rule, with_active, with_parts, is_active};
 ghost use Rattle.sb_catalog.specs.Uses.{is_used};
 
 use crate::mentions::rule_names;
 use crate::places::Places;
 use crate::rule::{Rule, rule_of_parts};
 use indexmap::IndexMap;
-use sb_check::RuleParts;
+use sb_check::{NewParts, RuleParts};
 use sb_value::{Name, RULE_LIMIT, Refusal, RuleId, RuleSet, TableId};
 use std::alloc::Global;
 use std::marker::Model;
@@ -167,6 +167,21 @@ impl Catalog {
             }
             None => Err(Refusal::NoRule),
         }
+    }
+
+    /// Gives the rule of that name new parts, as far as they are written, and gives its number.
+    pub fn alter(&mut self, name: &Name, parts: NewParts) -> Result<RuleId, Refusal>
+        ensures found { result ≡ rule_named self.old name.now }
+        ensures altered { IfOk result (λ id. self.new ≡ with_parts self.old id (new_parts parts)) }
+        ensures unchanged { OnErr result (self.new ≡ self.old) }
+    {
+        let Some(rule) = self.rules.get_mut(name) else {
+            drop(parts);
+            return Err(Refusal::NoRule);
+        };
+        let id = rule.id;
+        rule.alter(parts);
+        Ok(id)
     }
 
     /// The rule of that name.

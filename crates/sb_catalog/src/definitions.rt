@@ -2,19 +2,22 @@
 ghost use Rattle.std.specs.Prelude.{◌≡◌, ℕ, List, [], ◌&&◌, ◌==◌, true, false, None, Ok, Err, IsTrue, IsFalse, IfOk, OnErr, MatchOption};
 ghost use Rattle.sb_value.specs.Flags.{flag_at};
 ghost use Rattle.sb_check.specs.Answer.{Answers};
-ghost use Rattle.sb_check.specs.RulePartsView.{rule_parts};
+ghost use Rattle.sb_check.specs.RulePartsView.{new_parts, rule_parts};
+ghost use Rattle.sb_syntax.specs.Views.{alteration};
+ghost use Rattle.sb_index.specs.TableSets.{TableSets};
 ghost use Rattle.sb_rulesets.specs.Sets.{has_name as has_ruleset};
 ghost use Rattle.sb_priority.specs.Ranks.{pairs_of};
 ghost use Rattle.sb_rulesets.specs.Members.{with_rules, without_rules};
 ghost use Rattle.sb_catalog.specs.Definitions as spec;
-ghost use Rattle.sb_catalog.specs.Definitions.{AreIndexed, AreOrdered, ChangesMembers, Creates, Drops, OtherTenantsStay, Pushes, SetsActive};
+ghost use Rattle.sb_catalog.specs.Definitions.{Alters, AreIndexed, AreOrdered, ChangesMembers, Creates, Drops, OtherTenantsStay, Pushes, SetsActive};
 ghost use Rattle.sb_catalog.specs.Rules.{free_rule, has_name, has_room, numbered, rule_named, is_active};
 
 use crate::catalog::Catalog;
-use sb_check::RuleParts;
+use sb_check::{NewParts, RuleParts};
 use sb_index::RuleIndex;
 use sb_priority::Priorities;
 use sb_rulesets::Rulesets;
+use sb_syntax::AlterationText;
 use sb_value::{Name, Refusal, RuleId, RuleSet, TenantId};
 use std::alloc::Global;
 
@@ -115,6 +118,51 @@ impl Definitions {
                 }
             },
             Err(refusal) => Err(refusal),
+        }
+    }
+
+    /// Gives a rule new parts and new pairs. Everything that can be refused is looked at before anything changes.
+    pub fn alter_rule(
+        &mut self,
+        alloc: Global,
+        rule: RuleId,
+        text: &AlterationText,
+        parts: NewParts,
+    ) -> Result<(), Refusal>
+        requires named { rule_named self.old.rules text.now.name ≡ Ok rule }
+        ensures altered { (pairs : List (ℕ × ℕ)) → AreOrdered self.old.order self.old.rules pairs → Alters self.old self.new pairs rule (alteration text.now) (new_parts parts) result }
+        ensures indexed { (index : List (List TableSets)) (tenant : ℕ) → AreIndexed index tenant self.old.rules → AreIndexed index tenant self.new.rules }
+    {
+        let before = match self.numbers(alloc, text.precedes.as_slice()) {
+            Ok(before) => before,
+            Err(refusal) => {
+                drop(parts);
+                return Err(refusal);
+            }
+        };
+        let after = match self.numbers(alloc, text.follows.as_slice()) {
+            Ok(after) => after,
+            Err(refusal) => {
+                drop(parts);
+                return Err(refusal);
+            }
+        };
+        let apart = match self.numbers(alloc, text.nopriority.as_slice()) {
+            Ok(apart) => apart,
+            Err(refusal) => {
+                drop(parts);
+                return Err(refusal);
+            }
+        };
+        match self.order.alter(rule, before.as_slice(), after.as_slice(), apart.as_slice()) {
+            Ok(()) => {
+                let _ = self.rules.alter(&text.name, parts);
+                Ok(())
+            }
+            Err(_) => {
+                drop(parts);
+                Err(Refusal::Cycle)
+            }
         }
     }
 

@@ -1,9 +1,9 @@
 //! A rule.
-ghost use Rattle.std.specs.Prelude.{◌≡◌};
-ghost use Rattle.sb_check.specs.RulePartsView.{rule_parts};
-ghost use Rattle.sb_catalog.specs.Rules.{rule_of};
+ghost use Rattle.std.specs.Prelude.{◌≡◌, unwrap_or};
+ghost use Rattle.sb_check.specs.RulePartsView.{new_parts, rule_parts};
+ghost use Rattle.sb_catalog.specs.Rules.{rule_of, set_parts, written_or};
 
-use sb_check::{Actions, Query, RuleParts};
+use sb_check::{Actions, NewParts, Query, RuleParts};
 use sb_value::{Name, RuleId, TableId, Triggers};
 
 /// A rule with its names resolved.
@@ -31,5 +31,33 @@ pub(crate) fn rule_of_parts(id: RuleId, name: Name, parts: RuleParts) -> Rule
         condition: parts.condition,
         actions: parts.actions,
         active: true,
+    }
+}
+
+impl Rule {
+    /// Puts new parts in the place of the old ones, as far as they are written.
+    pub(crate) fn alter(&mut self, parts: NewParts)
+        ensures { self.new ≡ set_parts (new_parts parts) self.old }
+    {
+        self.put_condition(parts.condition);
+        self.put_actions(parts.actions);
+    }
+
+    fn put_condition(&mut self, written: Option<Query>)
+        ensures { self.new ≡ record self.old { condition = written_or written self.old.condition } }
+    {
+        let Some(condition) = written else {
+            return;
+        };
+        self.condition = Some(condition);
+    }
+
+    fn put_actions(&mut self, written: Option<Actions>)
+        ensures { self.new ≡ record self.old { actions = unwrap_or written self.old.actions } }
+    {
+        let Some(actions) = written else {
+            return;
+        };
+        self.actions = actions;
     }
 }

@@ -1,0 +1,40 @@
+use Rattle.std.proofs.Common.{◌≡◌, ◌∙◌, ℕ, not, List, map, Ok, IfOk, refl, sym, ap, subst}
+use Rattle.std.specs.List.{list_any}
+use Rattle.sb_value.specs.declared.refusal.Refusal.TheVariants.{Cycle}
+use Rattle.sb_check.specs.Names.{and_then, required}
+use Rattle.sb_check.specs.RulePartsView.{new_parts}
+use Rattle.sb_priority.specs.Ranks.{pairs_altered}
+use Rattle.sb_catalog.specs.declared.rule.Rule.{Rule}
+use Rattle.sb_catalog.specs.Definitions.{rules_named, uncycled}
+use Rattle.sb_catalog.specs.Rules.{set_parts, with_parts}
+use Rattle.sb_catalog.proofs.Active.{any-changed}
+use Rattle.sb_catalog.proofs.Indexing.{has, listed_changed}
+use Rattle.sb_catalog.proofs.definitions.Definitions.alter_rule.Goals.{After-drop-before-in-Ok-alter}
+use Rattle.sb_catalog.proofs.definitions.Definitions.alter_rule.Goals as goal
+
+-- the rule has its new parts
+altered : (c : After-drop-before-in-Ok-alter) → c.alter-in-Ok-alter.new.self ≡ with_parts c.args.self.now.rules c.args.rule (new_parts c.args.parts)
+altered c = subst (λ r. IfOk r (λ id. c.alter-in-Ok-alter.new.self ≡ with_parts c.args.self.now.rules id (new_parts c.args.parts))) (c.alter-in-Ok-alter.ensures.found ∙ c.requires.named) c.alter-in-Ok-alter.ensures.altered
+
+pub returns-in-Ok-alter-clause-altered : goal.returns-in-Ok-alter-clause-altered
+returns-in-Ok-alter-clause-altered c pairs o =
+    let rules = c.args.self.now.rules in
+    let before = ap (rules_named rules) (sym c.as_slice.ensures.value) ∙ c.in-Ok.ensures ∙ ap Ok (sym c.as_slice-4.ensures.value) in
+    let after = ap (rules_named rules) (sym c.as_slice-2.ensures.value) ∙ c.in-Ok-numbers.ensures ∙ ap Ok (sym c.as_slice-5.ensures.value) in
+    let apart = ap (rules_named rules) (sym c.as_slice-3.ensures.value) ∙ c.in-Ok-numbers-2.ensures ∙ ap Ok (sym c.as_slice-6.ensures.value) in
+    let all = pairs_altered c.args.rule c.as_slice-6.result.now c.as_slice-4.result.now c.as_slice-5.result.now pairs in
+    let linked = c.in-Ok-alter.ensures.altered pairs o.order in (
+      all,
+      (λ i. and_then (before i) (λ x. and_then (after i) (λ y. and_then (apart i) (λ z. uncycled c.args.rule (pairs_altered c.args.rule z x y pairs)))))
+          ∙ (λ i. required (not (linked.acyclic c.args.rule i)) Cycle (Ok all)),
+      altered c,
+      record {
+        order = linked;
+        listed = c.in-Ok-alter.ensures.rules ∙ o.listed ∙ sym (listed_changed (set_parts (new_parts c.args.parts)) (λ r. refl) c.args.rule rules) ∙ ap (map (λ (r : Rule). r.id)) (sym (altered c));
+      },
+      refl,
+    )
+
+pub returns-in-Ok-alter-clause-indexed : goal.returns-in-Ok-alter-clause-indexed
+returns-in-Ok-alter-clause-indexed c index tenant h table operation id =
+    h table operation id ∙ sym (any-changed (has table operation id) (set_parts (new_parts c.args.parts)) (λ r. refl) c.args.self.now.rules c.args.rule) ∙ ap (list_any (has table operation id)) (sym (altered c))
