@@ -170,10 +170,14 @@ changes_by seen (InsertQuery t q) = option_map (insert_changes seen t (table_at 
 changes_by seen (Delete t c) = option_map (map (delete_change seen t)) (found seen t c)
 changes_by seen (Update t assignments c) = option_and_then (each (update_of seen t assignments)) (found seen t c)
 
+-- how many rows a table would have with these inserts
+abbrev pub rows_with : Seen → ℕ → List Change → ℕ
+rows_with seen t changes = length (table_at seen.tables t).rows + length changes
+
 -- how many rows the table of the statement would have
 abbrev pub rows_after : Seen → Statement → List Change → ℕ
-rows_after seen (InsertRows t rows) changes = length (table_at seen.tables t).rows + length changes
-rows_after seen (InsertQuery t q) changes = length (table_at seen.tables t).rows + length changes
+rows_after seen (InsertRows t rows) changes = rows_with seen t changes
+rows_after seen (InsertQuery t q) changes = rows_with seen t changes
 rows_after seen (Delete t c) changes = 0
 rows_after seen (Update t assignments c) changes = 0
 
