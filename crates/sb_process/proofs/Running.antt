@@ -14,7 +14,6 @@ use Rattle.sb_check.specs.declared.tree.Action.{Action}
 use Rattle.sb_check.specs.declared.tree.Action.TheVariants as action
 use Rattle.sb_catalog.specs.declared.rule.Rule.{Rule}
 use Rattle.sb_tables.specs.Held.{Held, has_number}
-use Rattle.sb_eval.specs.Meaning.{has_row}
 use Rattle.sb_eval.specs.Statement.{statement_locks, statement_changes}
 use Rattle.sb_rawlog.specs.Records.{Record}
 use Rattle.sb_process.specs.declared.database.Database.{Database}
@@ -302,13 +301,3 @@ same-id old mid new a b = sym (ap (λ (d : Database). d.id) b ∙ ap (λ (d : Da
 
 pub same-held : (old mid new : Database) → mid ≡ record old { transactions = mid.transactions } → new ≡ record mid { locks = new.locks } → old.tables ≡ new.tables
 same-held old mid new a b = sym (ap (λ (d : Database). d.tables) b ∙ ap (λ (d : Database). d.tables) a)
-
-rows-refusal : (a b : Refusal) → ◌≡◌ {A = Result (List (List Value)) Refusal} (Err a) (Err b) → a ≡ b
-rows-refusal a b e = cc
-
-pub truth-ok : (meant same : Result (List (List Value)) Refusal) (rows : List (List Value)) (b : Bool) → meant ≡ Ok rows → meant ≡ same → b ≡ has_row rows → IsAnswer (truth same) (Ok b)
-truth-ok meant same rows b e s h = inl (ap Ok h ∙ ap truth (sym e ∙ s))
-
-pub truth-err : (same : Result (List (List Value)) Refusal) (refusal : Refusal) → IsAnswer same (Err refusal) → IsAnswer (truth same) (Err refusal)
-truth-err same refusal (inl e) = inl (ap truth e)
-truth-err same refusal (inr e) = inr (ap Err (rows-refusal refusal NoMemory e))

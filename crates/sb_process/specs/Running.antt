@@ -9,6 +9,7 @@ use Rattle.sb_value.specs.Locks.{released}
 use Rattle.sb_tables.specs.Held.{Held}
 use Rattle.sb_index.specs.TableSets.{TableSets}
 use Rattle.sb_eval.specs.Meaning.{has_row}
+use Rattle.sb_eval.specs.Refused.{with_given}
 use Rattle.sb_rawlog.specs.Records.{Record}
 use Rattle.sb_process.specs.declared.database.Database.{Database}
 use Rattle.sb_process.specs.declared.Outcome.{Outcome}
@@ -35,8 +36,7 @@ pub record ComesTo (origin : List Held) (new : Database) (session : ℕ) (record
 
 -- a query as a test
 abbrev pub truth : Result (List (List Value)) Refusal → Result Bool Refusal
-truth (Ok rows) = Ok (has_row rows)
-truth (Err refusal) = Err refusal
+truth found = with_given has_row found
 
 -- the condition's truth, or its refusal
 abbrev pub Tests : (Progress → Type 0) → Result (Bool × Progress) Refusal → Result Bool Refusal → Type 0

@@ -16,7 +16,7 @@ use crate::lock_list::query_locks;
 use crate::request::request;
 use crate::statement::refusal_for;
 use sb_check::Query;
-use sb_eval::condition_rows;
+use sb_eval::holds;
 use sb_value::{Refusal, SessionId, Transition};
 use std::alloc::Global;
 
@@ -72,8 +72,8 @@ impl Database {
         ensures { IsAnswer (truth (statement.condition_rows (seen_by self.now.tables tables.now (who_in self.now session)) query.now)) result }
     {
         let view = self.view(session, tables);
-        match condition_rows(alloc, query, &view) {
-            Ok(rows) => Ok(rows.len() > 0),
+        match holds(alloc, query, &view) {
+            Ok(found) => Ok(found),
             Err(error) => Err(refusal_for(error)),
         }
     }

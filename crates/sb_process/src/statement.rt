@@ -15,6 +15,7 @@ use crate::request::request;
 use crate::view::View;
 use sb_check::Query;
 use sb_eval::{EvalError, select_rows};
+use sb_rows::SharedRows;
 use sb_value::{Refusal, RowList, SessionId, Transition, Who};
 use std::alloc::Global;
 
@@ -25,7 +26,7 @@ impl Database {
         alloc: Global,
         session: SessionId,
         query: &Query,
-    ) -> Result<RowList, Refusal>
+    ) -> Result<SharedRows, Refusal>
         requires { AreThere self.old.tables (spec.query_locks query.now) }
         ensures selected { (origin : List Held) (records : List Record) (clock : ℕ) (setting : Setting) (progress : Progress) → Represents origin self.old session records clock setting progress → Selects origin self.new session query.now result records clock setting progress }
         ensures only_locks { self.new ≡ record self.old { locks = self.new.locks } }
@@ -40,7 +41,7 @@ impl Database {
     }
 
     /// The rows of a query over the tables as they are, without transition tables.
-    fn rows(&self, alloc: Global, session: SessionId, query: &Query) -> Result<RowList, Refusal>
+    fn rows(&self, alloc: Global, session: SessionId, query: &Query) -> Result<SharedRows, Refusal>
         ensures { IsAnswer (spec.select_rows (seen_by self.now.tables seen.no_transition (who_in self.now session)) query.now) result }
     {
         let none = no_transition(alloc);
