@@ -1,5 +1,5 @@
 -- A command's class, what its session refuses, and what its answer leaves.
-use Rattle.std.proofs.Common.{◌≡◌, ◌∙◌, ◌⊎◌, ℕ, zero, suc, ◌+◌, ◌<◌, ◌≤◌, Bool, true, false, not, ◌&&◌, ◌||◌, nat_eq, List, [], ◌∷◌, length, refl, sym, ap, subst, arith, inl, inr, eqb-true, ne_eqb}
+use Rattle.std.proofs.Common.{◌≡◌, ◌∙◌, ◌⊎◌, ℕ, zero, suc, ◌+◌, ◌<◌, ◌≤◌, Bool, true, false, not, ◌&&◌, ◌||◌, nat_eq, List, [], ◌∷◌, length, refl, sym, ap, subst, arith, inl, inr, eqb-true, ne_eqb, unwrap_or}
 use Rattle.std.specs.Prelude.{if◌then◌else◌, Option, None, Some, Result, IsTrue}
 use Rattle.std.specs.List.{list_any}
 use Rattle.std.proofs.lemmas.Bool.{ltb-true, lt-ltb, not-false}
@@ -52,8 +52,16 @@ few_in_body (grammar.rule_body i t s few b a) = few
 few_in_rule : {r : text.RuleText} {ts rest : Input} → grammar.IsRule r ts rest → length r.actions ≤ 8
 few_in_rule (grammar.rule head body) = few_in_body body
 
+few_then : {all : Option (List text.Action)} {ts rest : Input} → grammar.IsThen all ts rest → length (unwrap_or all []) ≤ 8
+few_then grammar.as_before = omega arith
+few_then (grammar.then_actions is d few) = few
+
+few_altered : {r : text.AlterationText} {ts rest : Input} → grammar.IsAlteration r ts rest → length (unwrap_or r.actions []) ≤ 8
+few_altered (grammar.alteration p i t b a n) = few_then t
+
 few_in : {c : Command} {ts rest : Input} → grammar.IsLeadingCommand c ts rest → HasFewActions c
 few_in (grammar.creates_rule r) = few_in_rule r
+few_in (grammar.alters_rule r) = few_altered r
 few_in other = tt
 
 pub few_spelt : (line : List ℕ) (c : Command) → Spells line c → HasFewActions c

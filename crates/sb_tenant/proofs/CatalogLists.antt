@@ -10,7 +10,11 @@ use Rattle.sb_check.specs.declared.tree.Action.TheVariants as action
 use Rattle.sb_check.specs.declared.tree.Statement.{Statement}
 use Rattle.sb_check.specs.declared.tree.Statement.TheVariants.{InsertRows, InsertQuery, Delete, Update}
 use Rattle.sb_check.specs.Mentions.{sources_of, query_sources, assignment_sources}
-use Rattle.sb_catalog.specs.Rules.{without_rule, with_active}
+use Rattle.sb_catalog.specs.Rules.{without_rule, with_active, set_parts, with_parts}
+use Rattle.sb_check.specs.RuleParts.{NewParts}
+use Rattle.sb_syntax.specs.Tree as text
+use Rattle.std.proofs.lemmas.Option.{none-some, same_Some}
+use Rattle.std.specs.Prelude.{Option, None, Some, unwrap_or}
 use Rattle.sb_catalog.specs.Uses.{has_source, statement_names, action_names, condition_names, rule_names, is_used}
 use Rattle.sb_catalog.specs.declared.rule.Rule.{Rule}
 use Rattle.sb_eval.specs.Target.{target}
@@ -140,6 +144,18 @@ module _ (Good : Statement → Type 0) where
       by true = h.0
       by false = h.0
 
+  pub rules-altered : (rules : List Rule) (id : ℕ) (parts : NewParts) → AreGoodRules Good rules → ((actions : List Action) → parts.1 ≡ Some actions → AreGoodActions Good actions) → AreGoodRules Good (with_parts rules id parts)
+  rules-altered [] id parts h k = tt
+  rules-altered (r ∷ rules) id parts h k = (by (nat_eq r.id id), rules-altered rules id parts h.1 k)
+    where
+      written : (new : Option (List Action)) → parts.1 ≡ new → AreGoodActions Good (unwrap_or new r.actions)
+      written None e = h.0
+      written (Some actions) e = k actions e
+
+      by : (b : Bool) → AreGoodActions Good (cond b (set_parts parts r) r).actions
+      by true = written parts.1 refl
+      by false = h.0
+
 -- what a walk found is there
 pub statement-in : (es : List Entry) (s : Statement) → check.IsStatementThere es s → IsIn es s
 statement-in es (InsertRows id rows) h = h
@@ -151,3 +167,8 @@ pub actions-in : (es : List Entry) (actions : List Action) → check.AreActionsT
 actions-in es [] h = tt
 actions-in es (action.Rollback ∷ actions) h = actions-in es actions h
 actions-in es (action.Change s ∷ actions) h = (statement-in es s h.0, actions-in es actions h.1)
+
+pub new-actions-in : (es : List Entry) (written : Option (List text.Action)) (new : Option (List Action)) → check.AreNewActionsThere es written new → (actions : List Action) → new ≡ Some actions → AreGoodActions (IsIn es) actions
+new-actions-in es written None h actions e = absurd (none-some actions e)
+new-actions-in es None (Some new) h actions e = absurd h
+new-actions-in es (Some written) (Some new) h actions e = subst (AreGoodActions (IsIn es)) (same_Some new actions e) (actions-in es new h.0)

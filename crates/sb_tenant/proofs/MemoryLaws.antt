@@ -43,13 +43,13 @@ use Rattle.sb_tenant.specs.declared.reply.Answer.{Answer}
 use Rattle.sb_tenant.specs.declared.reply.Reply.{Reply}
 use Rattle.sb_tenant.specs.declared.reply.Reply.TheVariants as reply
 use Rattle.sb_tenant.specs.State.{State, Catalog, session_at, is_open, has_transaction, another_has_transaction, setting_of, progress_of, committed}
-use Rattle.sb_catalog.specs.Definitions.{acyclic, new_pairs, is_member}
-use Rattle.sb_tenant.specs.Resolved.{Class, opens, ends, begins, defines, works, Resolved, open_session, end_session, begin, commit, rollback, process_rules, process_ruleset, process_rule, create_table, drop_table, create_rule, drop_rule, activate_rule, deactivate_rule, create_ruleset, drop_ruleset, add_rules, del_rules, query, change}
+use Rattle.sb_catalog.specs.Definitions.{acyclic, new_pairs, is_member, altered_pairs}
+use Rattle.sb_tenant.specs.Resolved.{Class, opens, ends, begins, defines, works, Resolved, open_session, end_session, begin, commit, rollback, process_rules, process_ruleset, process_rule, create_table, drop_table, create_rule, alter_rule, drop_rule, activate_rule, deactivate_rule, create_ruleset, drop_ruleset, add_rules, del_rules, query, change}
 use Rattle.sb_check.specs.Triggers.{trigger_places, walk_triggers}
-use Rattle.sb_check.specs.RuleParts.{Parts, condition_parts, walk_parts}
+use Rattle.sb_check.specs.RuleParts.{Parts, condition_parts, walk_parts, actions_parts, walk_alteration}
 use Rattle.sb_catalog.specs.declared.rule.Rule.{Rule}
 use Rattle.sb_catalog.specs.Rules.{rule_named, is_active}
-use Rattle.sb_tenant.specs.Walk.{unless, walk_lists, walk_rule, of_members, walk, class_of}
+use Rattle.sb_tenant.specs.Walk.{unless, walk_lists, walk_rule, of_members, walk, class_of, walk_altered}
 use Rattle.sb_tenant.specs.Perform.{reply_rows, change_seen, with_request, reply_of, named, process_at, stays, select_seen, perform_change, perform}
 use Rattle.sb_tenant.specs.Step.{first_of, session_refusal, outcome_of, reply_to_command, reply_to, numbered, is_full_for, step}
 use Rattle.sb_tenant.specs.declared.reply.Entry.{Entry as TrailEntry}
@@ -242,6 +242,23 @@ fine-walk_lists catalog r parts = search (fine-and_then, fine-new_pairs, given)
 fine-walk_rule : (catalog : Catalog) (r : text.RuleText) → IsFine (walk_rule catalog r)
 fine-walk_rule catalog r = search (fine-required, fine-and_then, fine-walk_parts, fine-walk_lists)
 
+fine-actions_parts : (schema : Schema) (actions : Option (List text.Action)) → IsFine (actions_parts schema actions)
+fine-actions_parts schema None = given None
+fine-actions_parts schema (Some actions) = search (fine-and_then, fine-in_order, fine-walk_action, given)
+
+fine-walk_alteration : (schema : Schema) (columns : List ColumnDefinition) (triggers : Triggers) (r : text.AlterationText) → IsFine (walk_alteration schema columns triggers r)
+fine-walk_alteration schema columns triggers r = search (fine-and_then, fine-condition_parts, fine-actions_parts, given)
+
+fine-altered_pairs : (rules : List Rule) (pairs : List (ℕ × ℕ)) (id : ℕ) (r : text.AlterationText) → IsFine (altered_pairs rules pairs id r)
+fine-altered_pairs rules pairs id r = search (fine-and_then, fine-in_order, fine-rule_named, fine-required, given) depth 12
+
+fine-found : (found : Option Rule) → IsFine (some_or refusal.NoRule found)
+fine-found None = refused refusal.NoRule refl
+fine-found (Some rule) = given rule
+
+fine-walk_altered : (catalog : Catalog) (r : text.AlterationText) → IsFine (walk_altered catalog r)
+fine-walk_altered catalog r = search (fine-and_then, fine-found, fine-walk_alteration, fine-altered_pairs, given)
+
 fine-of_members : (catalog : Catalog) (name : Name) (rules : List Name) (form : List ℕ → Resolved) → IsFine (of_members catalog name rules form)
 fine-of_members catalog name rules form = search (fine-and_then, fine-required, fine-in_order, fine-rule_named, given)
 
@@ -264,6 +281,7 @@ fine-walk catalog (text.process_rule name) = search (fine-and_then, fine-rule_na
 fine-walk catalog (text.create_table name columns) = search (fine-and_then, fine-required, given)
 fine-walk catalog (text.drop_table name) = search (fine-and_then, fine-table_named, fine-required, given)
 fine-walk catalog (text.create_rule r) = fine-walk_rule catalog r
+fine-walk catalog (text.alter_rule r) = fine-walk_altered catalog r
 fine-walk catalog (text.drop_rule name) = search (fine-and_then, fine-rule_named, given)
 fine-walk catalog (text.activate_rule name) = search (fine-and_then, fine-rule_named, given)
 fine-walk catalog (text.deactivate_rule name) = search (fine-and_then, fine-rule_named, given)
@@ -358,6 +376,7 @@ module _ (tenant bound : ℕ) (state : State) (s : ℕ) where
   fine-perform (create_table name columns) = refl
   fine-perform (drop_table id) = refl
   fine-perform (create_rule new) = refl
+  fine-perform (alter_rule new) = refl
   fine-perform (drop_rule id) = refl
   fine-perform (activate_rule id) = refl
   fine-perform (deactivate_rule id) = refl

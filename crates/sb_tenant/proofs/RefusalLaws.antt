@@ -25,7 +25,7 @@ use Rattle.sb_tenant.specs.declared.reply.Answer.{Answer}
 use Rattle.sb_tenant.specs.declared.reply.Reply.{Reply}
 use Rattle.sb_tenant.specs.declared.reply.Reply.TheVariants as reply
 use Rattle.sb_tenant.specs.State.{State, Catalog, Session, closed, idle, active, changes_of, committed, has_transaction, is_open, marks_of, progress_of, session_at, setting_of, with_progress}
-use Rattle.sb_tenant.specs.Resolved.{Resolved, Class, defines, works, open_session, end_session, begin, commit, rollback, process_rules, process_ruleset, process_rule, create_table, drop_table, create_rule, drop_rule, activate_rule, deactivate_rule, create_ruleset, drop_ruleset, add_rules, del_rules, query, change}
+use Rattle.sb_tenant.specs.Resolved.{Resolved, Class, defines, works, open_session, end_session, begin, commit, rollback, process_rules, process_ruleset, process_rule, create_table, drop_table, create_rule, alter_rule, drop_rule, activate_rule, deactivate_rule, create_ruleset, drop_ruleset, add_rules, del_rules, query, change}
 use Rattle.sb_tenant.specs.Walk.{class_of, unless, walk}
 use Rattle.sb_tenant.specs.Perform.{change_seen, named, perform, perform_change, process_at, reply_of, select_seen, stays, with_request}
 use Rattle.sb_tenant.specs.Step.{first_of, is_full_for, numbered, outcome_of, reply_to, reply_to_command, session_refusal, step}
@@ -71,6 +71,7 @@ asks-nothing catalog (text.process_rule name) h = search (none-then, resolved)
 asks-nothing catalog (text.create_table name columns) h = search (none-then, none-required, resolved)
 asks-nothing catalog (text.drop_table name) h = search (none-required, none-then, resolved)
 asks-nothing catalog (text.create_rule r) h = search (none-required, none-then, resolved) depth 16
+asks-nothing catalog (text.alter_rule r) h = search (none-then, resolved) depth 16
 asks-nothing catalog (text.drop_rule name) h = search (none-then, resolved)
 asks-nothing catalog (text.activate_rule name) h = search (none-then, resolved)
 asks-nothing catalog (text.deactivate_rule name) h = search (none-then, resolved)

@@ -1,37 +1,38 @@
 -- The rules with one more or one less, and with one of them active or not.
 use Rattle.std.proofs.Common.{◌≡◌, ◌∙◌, ◌⊎◌, ℕ, ◌≤◌, Bool, true, false, not, List, ◌++◌, length, refl, sym, ap, subst, inl, inr}
-use Rattle.std.specs.Prelude.{Result, Ok, Err}
+use Rattle.std.specs.Prelude.{Option, Some, None, Result, Ok, Err, [], unwrap_or}
 use Rattle.sb_value.specs.declared.refusal.Refusal.{Refusal}
 use Rattle.sb_value.specs.declared.refusal.Refusal.TheVariants as refusal
-use Rattle.sb_syntax.specs.Tree.{RuleText}
+use Rattle.sb_value.specs.Table.{Entry, table_at}
+use Rattle.sb_syntax.specs.Tree.{RuleText, AlterationText}
 use Rattle.sb_syntax.specs.Tree as text
-use Rattle.sb_check.specs.Names.{and_then, required}
-use Rattle.sb_check.specs.RuleParts.{Parts, walk_parts}
-use Rattle.sb_check.specs.There.{ArePartsThere}
+use Rattle.sb_check.specs.Names.{and_then, required, some_or}
+use Rattle.sb_check.specs.RuleParts.{Parts, NewParts, walk_parts, walk_alteration}
+use Rattle.sb_check.specs.There.{ArePartsThere, AreNewPartsThere}
 use Rattle.sb_rawlog.specs.Records.{Record}
 use Rattle.sb_index.specs.TableSets.{TableSets}
 use Rattle.sb_priority.specs.Ranks.{pairs_without}
 use Rattle.sb_tables.specs.Held.{entries}
 use Rattle.sb_rulesets.specs.Ruleset.{Ruleset}
 use Rattle.sb_rulesets.specs.Sets as rulesets
-use Rattle.sb_catalog.specs.Definitions.{AreIndexed, AreOrdered, Creates, Drops, SetsActive, OtherTenantsStay, new_pairs}
-use Rattle.sb_catalog.specs.Rules.{rule_named, has_name, free_rule, created, rule_of}
+use Rattle.sb_catalog.specs.Definitions.{AreIndexed, AreOrdered, Alters, Creates, Drops, SetsActive, OtherTenantsStay, altered_pairs, new_pairs}
+use Rattle.sb_catalog.specs.Rules.{rule_named, named, has_name, free_rule, created, rule_of, with_parts}
 use Rattle.sb_catalog.specs.Rules as rules
 use Rattle.sb_catalog.specs.declared.definitions.Definitions.{Definitions}
 use Rattle.sb_catalog.specs.declared.rule.Rule.{Rule}
 use Rattle.sb_process.specs.Work.{CanRun}
 use Rattle.sb_tenant.specs.declared.store.Store.{Store}
-use Rattle.sb_tenant.specs.Catalog.{with_rule, without_rule, with_active}
+use Rattle.sb_tenant.specs.Catalog.{with_rule, with_altered, without_rule, with_active}
 use Rattle.sb_tenant.specs.Defining.{Defines, IsAtRest, Stands}
 use Rattle.sb_tenant.specs.Represents.{StandFor}
-use Rattle.sb_tenant.specs.Resolved.{Resolved, NewRule, create_rule, drop_rule}
+use Rattle.sb_tenant.specs.Resolved.{Resolved, NewRule, AlteredRule, create_rule, alter_rule, drop_rule}
 use Rattle.sb_tenant.specs.Perform.{perform}
 use Rattle.sb_tenant.specs.State.{State}
 use Rattle.sb_tenant.specs.Walk.{walk}
 use Rattle.sb_tenant.specs.declared.reply.Reply.TheVariants as reply
 use Rattle.sb_tenant.proofs.AtRest.{entries_at_rest, made_at_rest, stands_anew}
-use Rattle.sb_tenant.proofs.Defining.{two_more, refused, IsPerformed, is_done}
-use Rattle.sb_tenant.proofs.Runnable.{new_rule_runs, others_run, run_active}
+use Rattle.sb_tenant.proofs.Defining.{two_more, refused, refused_here, IsPerformed, is_done}
+use Rattle.sb_tenant.proofs.Runnable.{new_rule_runs, altered_rule_runs, others_run, run_active}
 use Rattle.sb_tenant.proofs.TableCommands.{outside}
 
 -- other definitions, and the same tables
@@ -238,3 +239,101 @@ module _ (old : Store) (before after : List (List TableSets)) (name : List ℕ) 
                   (sets.rulesets ∙ holds.rulesets)
                   (run_active old.database.tables state.catalog.rules id active holds.runnable) (indexed_by records clock state all h are);
             }
+
+-- ---- a rule that is altered
+
+abbrev walk_with : List Entry → List Rule → List (ℕ × ℕ) → AlterationText → Result Resolved Refusal
+walk_with tables all pairs r =
+    and_then (some_or refusal.NoRule (named all r.name)) (λ rule.
+    and_then (walk_alteration (outside tables) (table_at tables rule.table).columns rule.triggers r) (λ parts.
+    and_then (altered_pairs all pairs rule.id r) (λ altered.
+    Ok (alter_rule (record { id = rule.id; parts = parts; pairs = altered })))))
+
+module _ (old : Store) (index : List (List TableSets)) (r : AlterationText) (rest : IsAtRest old.phases) where
+  abbrev command : text.Command
+  command = text.alter_rule r
+
+  abbrev known : List Entry
+  known = entries old.database.tables
+
+  -- the walk by what memory has
+  walk_is_by : (records : List Record) (clock : ℕ) (state : State) → StandFor old records clock index state → walk state.catalog command ≡ walk_with known old.definitions.rules state.catalog.pairs r
+  walk_is_by records clock state ((origin, holds), agrees) = λ i. walk_with (sym (entries_at_rest old origin state rest holds) i) (sym holds.rules i) state.catalog.pairs r
+
+  pub not_altered : named old.definitions.rules r.name ≡ None → Defines old old index index command (Err refusal.NoRule)
+  not_altered none =
+      refused_here command old index refusal.NoRule
+      (λ records clock state h. inl (walk_is_by records clock state h ∙ ap (λ (found : Option Rule). and_then (some_or refusal.NoRule found) (λ rule.
+      and_then (walk_alteration (outside known) (table_at known rule.table).columns rule.triggers r) (λ parts.
+      and_then (altered_pairs old.definitions.rules state.catalog.pairs rule.id r) (λ altered.
+      Ok (alter_rule (record { id = rule.id; parts = parts; pairs = altered })))))) none))
+
+  module _ (rule : Rule) (found : named old.definitions.rules r.name ≡ Some rule) where
+    abbrev walked : Result NewParts Refusal
+    walked = walk_alteration (outside known) (table_at known rule.table).columns rule.triggers r
+
+    -- the walk by its two parts
+    walk_on : (pairs : List (ℕ × ℕ)) (parts : Result NewParts Refusal) (altered : Result (List (ℕ × ℕ)) Refusal) → walked ≡ parts → altered_pairs old.definitions.rules pairs rule.id r ≡ altered
+        → walk_with known old.definitions.rules pairs r ≡ and_then parts (λ p. and_then altered (λ all. Ok (alter_rule (record { id = rule.id; parts = p; pairs = all }))))
+    walk_on pairs parts altered p q =
+        ap (λ (x : Option Rule). and_then (some_or refusal.NoRule x) (λ rule.
+        and_then (walk_alteration (outside known) (table_at known rule.table).columns rule.triggers r) (λ parts.
+        and_then (altered_pairs old.definitions.rules pairs rule.id r) (λ altered.
+        Ok (alter_rule (record { id = rule.id; parts = parts; pairs = altered })))))) found
+        ∙ (λ i. and_then (p i) (λ p. and_then (q i) (λ all. Ok (alter_rule (record { id = rule.id; parts = p; pairs = all })))))
+
+    pub new_parts_refused : (e : Refusal) → (walked ≡ Err e) ⊎ (e ≡ refusal.NoMemory) → Defines old old index index command (Err e)
+    new_parts_refused e why = refused_here command old index e (λ records clock state h. by records clock state h why)
+      where
+        by : (records : List Record) (clock : ℕ) (state : State) → StandFor old records clock index state → (walked ≡ Err e) ⊎ (e ≡ refusal.NoMemory) → (walk state.catalog command ≡ Err e) ⊎ (e ≡ refusal.NoMemory)
+        by records clock state h (inl w) = inl (walk_is_by records clock state h ∙ walk_on state.catalog.pairs (Err e) (altered_pairs old.definitions.rules state.catalog.pairs rule.id r) w refl)
+        by records clock state h (inr m) = inr m
+
+    module _ (parts : NewParts) (is : walked ≡ Ok parts) (new : Definitions) where
+      abbrev pub IsAltered : Result (Unit {0}) Refusal → Type 0
+      IsAltered result = (pairs : List (ℕ × ℕ)) → AreOrdered old.definitions.order old.definitions.rules pairs → Alters old.definitions new pairs rule.id r parts result
+
+      order_of : (records : List Record) (clock : ℕ) (state : State) → StandFor old records clock index state → AreOrdered old.definitions.order old.definitions.rules state.catalog.pairs
+      order_of records clock state ((origin, holds), agrees) = subst (λ (rs : List Rule). AreOrdered old.definitions.order rs state.catalog.pairs) (sym holds.rules) holds.ordered
+
+      lists_refused_by : (records : List Record) (clock : ℕ) (state : State) (e : Refusal) → StandFor old records clock index state
+          → (altered_pairs old.definitions.rules state.catalog.pairs rule.id r ≡ Err e) ⊎ (e ≡ refusal.NoMemory) → (walk state.catalog command ≡ Err e) ⊎ (e ≡ refusal.NoMemory)
+      lists_refused_by records clock state e h (inl w) = inl (walk_is_by records clock state h ∙ walk_on state.catalog.pairs (Ok parts) (Err e) is w)
+      lists_refused_by records clock state e h (inr m) = inr m
+
+      rule_altered : AreNewPartsThere known r parts → length (unwrap_or r.actions []) ≤ 8 → (AreIndexed index old.database.id old.definitions.rules → AreIndexed index old.database.id new.rules)
+          → IsAltered (Ok tt) → Defines old (record old { definitions = new }) index index command (Ok tt)
+      rule_altered there few indexed made = record {
+        done = λ records clock state tenant bound s h. is_done command (record old { definitions = new }) records clock index index state tenant bound s (performed records clock state h);
+        id = refl;
+        numbers = λ n. two_more n old.database.tables;
+        others = λ n table operation id other. refl;
+      }
+        where
+          performed : (records : List Record) (clock : ℕ) (state : State) → StandFor old records clock index state → IsPerformed command (record old { definitions = new }) records clock index state
+          performed records clock state ((origin, holds), agrees) =
+              let h : StandFor old records clock index state = ((origin, holds), agrees) in
+              let m = made state.catalog.pairs (order_of records clock state h) in
+              let altered : AlteredRule = record { id = rule.id; parts = parts; pairs = m.0 } in
+              let all : List Rule = with_parts state.catalog.rules rule.id parts in
+              let are : new.rules ≡ all = m.2 ∙ ap (λ (rs : List Rule). with_parts rs rule.id parts) holds.rules in
+              record {
+                resolved = alter_rule altered;
+                catalog = with_altered state.catalog altered;
+                walked = walk_is_by records clock state h ∙ walk_on state.catalog.pairs (Ok parts) (Ok m.0) is m.1;
+                performed = λ tenant bound s. refl;
+                stands =
+                    stands_defined old records clock index index state new rest all m.0 state.catalog.rulesets h are (subst (λ (rs : List Rule). AreOrdered new.order rs m.0) are m.3) (m.4 ∙ holds.rulesets)
+                    (altered_rule_runs old.database.tables state.catalog.rules rule.id r parts holds.runnable there few)
+                    (subst (AreIndexed index old.database.id) are (indexed (subst (AreIndexed index old.database.id) (sym holds.rules) agrees.indexed)));
+              }
+
+      -- whichever it was; the order stands for some pairs
+      pub rule_tried : AreNewPartsThere known r parts → length (unwrap_or r.actions []) ≤ 8 → (AreIndexed index old.database.id old.definitions.rules → AreIndexed index old.database.id new.rules)
+          → (pairs : List (ℕ × ℕ)) × AreOrdered old.definitions.order old.definitions.rules pairs → (result : Result (Unit {0}) Refusal) → IsAltered result
+          → Defines old (record old { definitions = new }) index index command result
+      rule_tried there few indexed order (Ok u) made = rule_altered there few indexed made
+      rule_tried there few indexed order (Err e) made =
+          let same : new ≡ old.definitions = (made order.0 order.1).1 in
+          subst (λ (d : Definitions). Defines old (record old { definitions = d }) index index command (Err e)) (sym same)
+          (refused_here command old index e (λ records clock state h. lists_refused_by records clock state e h (made state.catalog.pairs (order_of records clock state h)).0))

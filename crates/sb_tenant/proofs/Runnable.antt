@@ -1,7 +1,7 @@
 -- Rules that can run: the tables that they name are there, whatever else the catalog has.
 use Rattle.std.proofs.lemmas.Bool.{or_parts}
 use Rattle.std.proofs.Common.{◌≡◌, ◌∙◌, ℕ, ◌≤◌, Bool, true, false, not, ◌||◌, cond, nat_eq, List, [], ◌∷◌, ◌++◌, map, length, refl, sym, ap, subst}
-use Rattle.std.specs.Prelude.{filter_map, Option, None, Some, IsTrue, IsFalse, ◌==◌}
+use Rattle.std.specs.Prelude.{filter_map, Option, None, Some, unwrap_or, IsTrue, IsFalse, ◌==◌}
 use Rattle.std.specs.List.{list_any}
 use Rattle.std.proofs.lemmas.List.Folds.{list_any-append}
 use Rattle.sb_value.specs.declared.lock.Mode.{Mode}
@@ -9,7 +9,7 @@ use Rattle.sb_value.specs.declared.lock.Mode.TheVariants.{Write}
 use Rattle.sb_value.specs.Table.{has_table}
 use Rattle.sb_check.specs.Condition.{Query}
 use Rattle.sb_check.specs.Mentions.{sources_of, query_sources, assignment_sources}
-use Rattle.sb_check.specs.RuleParts.{Parts}
+use Rattle.sb_check.specs.RuleParts.{Parts, NewParts}
 use Rattle.sb_check.specs.There as check
 use Rattle.sb_check.specs.declared.tree.Action.{Action}
 use Rattle.sb_check.specs.declared.tree.Action.TheVariants as action
@@ -18,9 +18,10 @@ use Rattle.sb_check.specs.declared.tree.Source.TheVariants.{Table, Inserted, Del
 use Rattle.sb_check.specs.declared.tree.Statement.{Statement}
 use Rattle.sb_check.specs.declared.tree.Statement.TheVariants.{InsertRows, InsertQuery, Delete, Update}
 use Rattle.sb_syntax.specs.Tree.{RuleText}
+use Rattle.sb_syntax.specs.Tree as text
 use Rattle.sb_eval.specs.Statement.{read_of, write_of, query_locks, statement_locks}
 use Rattle.sb_tables.specs.Held.{Held, entries, has_number}
-use Rattle.sb_catalog.specs.Rules.{rule_of, without_rule, with_active}
+use Rattle.sb_catalog.specs.Rules.{rule_of, without_rule, with_active, written_or, set_parts, with_parts}
 use Rattle.sb_catalog.specs.Uses.{is_table, has_source, statement_names, action_names, condition_names, rule_names, is_used}
 use Rattle.sb_catalog.specs.declared.rule.Rule.{Rule}
 use Rattle.sb_process.specs.Request.{AreThere}
@@ -96,6 +97,26 @@ run_active tables (r ∷ rules) id active h = (by (r.id == id), run_active table
     by : (b : Bool) → IsConditionThere tables (cond b (record r { active = active }) r).condition × AreActionsThere tables (cond b (record r { active = active }) r).actions × (length (cond b (record r { active = active }) r).actions ≤ 8)
     by true = h.0
     by false = h.0
+
+module _ (tables : List Held) where
+  condition_written : (new old : Option Query) → check.IsConditionThere (entries tables) new → IsConditionThere tables old → IsConditionThere tables (written_or new old)
+  condition_written None old h k = k
+  condition_written (Some q) old h k = condition_there tables (Some q) h
+
+  actions_written : (written : Option (List text.Action)) (new : Option (List Action)) (old : List Action) → check.AreNewActionsThere (entries tables) written new → length (unwrap_or written []) ≤ 8
+      → AreActionsThere tables old × (length old ≤ 8) → AreActionsThere tables (unwrap_or new old) × (length (unwrap_or new old) ≤ 8)
+  actions_written written None old h few k = k
+  actions_written None (Some new) old h few k = absurd h
+  actions_written (Some written) (Some new) old h few k = (actions_there tables new h.0, subst (λ (n : ℕ). n ≤ 8) (sym h.1) few)
+
+  pub altered_rule_runs : (rules : List Rule) (id : ℕ) (r : text.AlterationText) (parts : NewParts) → CanRun tables rules → check.AreNewPartsThere (entries tables) r parts → length (unwrap_or r.actions []) ≤ 8
+      → CanRun tables (with_parts rules id parts)
+  altered_rule_runs [] id r parts h there few = tt
+  altered_rule_runs (x ∷ rules) id r parts h there few = (by (x.id == id), altered_rule_runs rules id r parts h.1 there few)
+    where
+      by : (b : Bool) → IsConditionThere tables (cond b (set_parts parts x) x).condition × AreActionsThere tables (cond b (set_parts parts x) x).actions × (length (cond b (set_parts parts x) x).actions ≤ 8)
+      by true = let k = actions_written r.actions parts.1 x.actions there.actions few (h.0.1, h.0.2) in (condition_written parts.0 x.condition there.condition h.0.0, k.0, k.1)
+      by false = h.0
 
 -- ---- more tables, and fewer
 

@@ -20,7 +20,7 @@ use Rattle.sb_tenant.specs.declared.reply.Reply.TheVariants as reply
 use Rattle.sb_value.specs.declared.refusal.Refusal.TheVariants.{Locked}
 use Rattle.sb_value.specs.declared.refusal.Refusal.TheVariants as refusal
 use Rattle.sb_tenant.specs.State.{State, Catalog, Session, idle, closed, active, session_at, is_open, with_session, with_progress, progress_of, setting_of, rolled_back, committed}
-use Rattle.sb_tenant.specs.Resolved.{Resolved, open_session, end_session, begin, commit, rollback, process_rules, process_ruleset, process_rule, create_table, drop_table, create_rule, drop_rule, activate_rule, deactivate_rule, create_ruleset, drop_ruleset, add_rules, del_rules, query, change, begins, defines, works}
+use Rattle.sb_tenant.specs.Resolved.{Resolved, open_session, end_session, begin, commit, rollback, process_rules, process_ruleset, process_rule, create_table, drop_table, create_rule, alter_rule, drop_rule, activate_rule, deactivate_rule, create_ruleset, drop_ruleset, add_rules, del_rules, query, change, begins, defines, works}
 use Rattle.sb_tenant.specs.Walk.{unless, walk, class_of}
 use Rattle.sb_tenant.specs.Perform.{with_request, change_seen, select_seen, perform_change, stands_as, stays, process_at, perform}
 use Rattle.sb_catalog.specs.Definitions.{is_member}
@@ -86,6 +86,7 @@ module _ (s o : ℕ) (other : (o == s) ≡ false) where
   perform-other tenant bound state (create_table name columns) = refl
   perform-other tenant bound state (drop_table id) = refl
   perform-other tenant bound state (create_rule new) = refl
+  perform-other tenant bound state (alter_rule new) = refl
   perform-other tenant bound state (drop_rule id) = refl
   perform-other tenant bound state (activate_rule id) = refl
   perform-other tenant bound state (deactivate_rule id) = refl
@@ -156,6 +157,7 @@ module _ (tenant bound : ℕ) (state : State) (s : ℕ) (was_open : is_open (ses
   perform-open (create_table name columns) h = was_open
   perform-open (drop_table id) h = was_open
   perform-open (create_rule new) h = was_open
+  perform-open (alter_rule new) h = was_open
   perform-open (drop_rule id) h = was_open
   perform-open (activate_rule id) h = was_open
   perform-open (deactivate_rule id) h = was_open
@@ -199,6 +201,7 @@ inner-walk catalog (text.process_rule name) h = search (and_then-inner, resolved
 inner-walk catalog (text.create_table name columns) h = search (and_then-inner, required-inner, resolved)
 inner-walk catalog (text.drop_table name) h = search (required-inner, and_then-inner, resolved)
 inner-walk catalog (text.create_rule r) h = search (required-inner, and_then-inner, resolved) depth 16
+inner-walk catalog (text.alter_rule r) h = search (and_then-inner, resolved) depth 16
 inner-walk catalog (text.drop_rule name) h = search (and_then-inner, resolved)
 inner-walk catalog (text.activate_rule name) h = search (and_then-inner, resolved)
 inner-walk catalog (text.deactivate_rule name) h = search (and_then-inner, resolved)
@@ -249,6 +252,7 @@ module _ (tenant bound : ℕ) (state : State) (s : ℕ) where
   own_command (text.create_table name columns) = defining (walk state.catalog (text.create_table name columns)) (inner-walk state.catalog (text.create_table name columns) refl)
   own_command (text.drop_table name) = defining (walk state.catalog (text.drop_table name)) (inner-walk state.catalog (text.drop_table name) refl)
   own_command (text.create_rule r) = defining (walk state.catalog (text.create_rule r)) (inner-walk state.catalog (text.create_rule r) refl)
+  own_command (text.alter_rule r) = defining (walk state.catalog (text.alter_rule r)) (inner-walk state.catalog (text.alter_rule r) refl)
   own_command (text.drop_rule name) = defining (walk state.catalog (text.drop_rule name)) (inner-walk state.catalog (text.drop_rule name) refl)
   own_command (text.activate_rule name) = defining (walk state.catalog (text.activate_rule name)) (inner-walk state.catalog (text.activate_rule name) refl)
   own_command (text.deactivate_rule name) = defining (walk state.catalog (text.deactivate_rule name)) (inner-walk state.catalog (text.deactivate_rule name) refl)

@@ -7,7 +7,10 @@ use Rattle.sb_value.specs.declared.lock.Mode.{Mode}
 use Rattle.sb_value.specs.declared.refusal.Refusal.{Refusal}
 use Rattle.sb_value.specs.declared.refusal.Refusal.TheVariants as refusal
 use Rattle.sb_value.specs.Locks.{first_conflict, with_locks, released}
-use Rattle.sb_value.specs.Table.{Entry, empty_table, name_at, IsProper}
+use Rattle.sb_value.specs.Table.{Entry, empty_table, name_at, table_at, IsProper}
+use Rattle.sb_value.specs.declared.value.ColumnDefinition.{ColumnDefinition}
+use Rattle.sb_value.specs.declared.net.Triggers.{Triggers}
+use Rattle.sb_check.specs.declared.tree.Action.{Action}
 use Rattle.sb_check.specs.declared.tree.Statement.{Statement}
 use Rattle.sb_catalog.specs.Definitions.{is_member}
 use Rattle.sb_catalog.specs.Rules.{least_free, free_rule, rule_of, is_active}
@@ -19,13 +22,13 @@ use Rattle.sb_process.specs.declared.Outcome.{Outcome}
 use Rattle.sb_process.specs.declared.Outcome.TheVariants.{Done, ByRule, ByError, ByLimit}
 use Rattle.sb_process.specs.Process.{process, stands_after}
 use Rattle.sb_process.specs.Setting.{Setting, Progress, seen_with}
-use Rattle.sb_check.specs.Names.{and_then, required}
-use Rattle.sb_check.specs.RuleParts.{Parts, walk_parts}
+use Rattle.sb_check.specs.Names.{and_then, required, some_or}
+use Rattle.sb_check.specs.RuleParts.{Parts, NewParts, walk_parts, walk_alteration}
 use Rattle.sb_check.specs.Resolved.{walk_names}
-use Rattle.sb_check.specs.There.{IsStatementThere, ArePartsThere}
+use Rattle.sb_check.specs.There.{IsStatementThere, ArePartsThere, AreNewPartsThere}
 use Rattle.sb_check.specs.Walk.{Schema, table_named, walk_query, walk_statement}
-use Rattle.sb_catalog.specs.Definitions.{rules_named, new_pairs}
-use Rattle.sb_catalog.specs.Rules.{has_name, rule_named}
+use Rattle.sb_catalog.specs.Definitions.{rules_named, new_pairs, altered_pairs}
+use Rattle.sb_catalog.specs.Rules.{has_name, named, rule_named}
 use Rattle.sb_rulesets.specs.Sets as rulesets
 use Rattle.sb_syntax.specs.Text.{command_of}
 use Rattle.sb_syntax.specs.Tree as text
@@ -36,16 +39,16 @@ use Rattle.sb_tenant.specs.declared.reply.Reply.{Reply}
 use Rattle.sb_tenant.specs.declared.reply.Reply.TheVariants as reply
 use Rattle.sb_tenant.specs.Limits.{is_session}
 use Rattle.sb_tenant.specs.Perform.{with_request, change_seen, select_seen, perform_change, stands_as, stays, process_at, perform}
-use Rattle.sb_tenant.specs.Resolved.{Resolved, open_session, end_session, begin, commit, rollback, process_rules, process_ruleset, process_rule, create_table, drop_table, create_rule, drop_rule, activate_rule, deactivate_rule, create_ruleset, drop_ruleset, add_rules, del_rules, query, change}
+use Rattle.sb_tenant.specs.Resolved.{Resolved, open_session, end_session, begin, commit, rollback, process_rules, process_ruleset, process_rule, create_table, drop_table, create_rule, alter_rule, drop_rule, activate_rule, deactivate_rule, create_ruleset, drop_ruleset, add_rules, del_rules, query, change}
 use Rattle.sb_tenant.specs.State.{State, Session, closed, idle, active, session_at, changes_of, with_session, setting_of, progress_of, with_progress, rolled_back, committed}
 use Rattle.sb_tenant.specs.Limits.{table_limit}
 use Rattle.sb_tenant.specs.Resolved.{defines}
 use Rattle.sb_tenant.specs.State.{opening, is_open, has_transaction, another_has_transaction}
 use Rattle.sb_tenant.specs.Step.{first_of, refusal_by, is_full_for, session_refusal, outcome_of, reply_to_command, reply_to, numbered, step}
 use Rattle.sb_tenant.specs.Trail.{after_abort, is_no_memory, IsLegal, after_entry}
-use Rattle.sb_tenant.specs.Walk.{outside_rules, unless, walk_lists, class_of, walk}
+use Rattle.sb_tenant.specs.Walk.{outside_rules, unless, walk_lists, walk_new_parts, class_of, walk}
 use Rattle.sb_tenant.specs.WellFormed.{HasSoundLocks, StatesAreWellFormed}
-use Rattle.sb_tenant.proofs.CatalogLists.{statement-in, actions-in, has-more, sound-more, proper-more, sound-less, rules-less, rules-last, rules-without, rules-active}
+use Rattle.sb_tenant.proofs.CatalogLists.{statement-in, actions-in, has-more, sound-more, proper-more, sound-less, rules-less, rules-last, rules-without, rules-active, rules-altered, new-actions-in}
 use Rattle.sb_tenant.proofs.Keeping.{AreGoodActions, IsKept, process-keeps}
 use Rattle.sb_tenant.proofs.ListLaws.{IsIn, IsInOrder, order-kept, from-base, to-base, HasProperTables, proper-put, good-rules, proper-committed}
 use Rattle.sb_tenant.proofs.LockLaws.{begins-fit, sound-goes, sound-entry, opening-sound}
@@ -62,6 +65,7 @@ IsCalm state = (o : ℕ) → IsTrue (is_session o) → changes_of (session_at st
 abbrev pub Fits : State → Resolved → Type 0
 Fits state (change statement) = IsIn state.catalog.tables statement
 Fits state (create_rule new) = AreGoodActions (IsIn state.catalog.tables) new.parts.3
+Fits state (alter_rule new) = (actions : List Action) → new.parts.1 ≡ Some actions → AreGoodActions (IsIn state.catalog.tables) actions
 Fits state (drop_table id) = IsFalse (is_used state.catalog.rules id) × IsCalm state
 Fits state other = Unit {0}
 
@@ -148,6 +152,7 @@ module _ (laws : ChangesAreProper) (tenant bound : ℕ) (state : State) (h : Has
     rules = rules-last (IsIn tables) state.catalog.rules (rule_of (free_rule state.catalog.rules) new.name new.parts) g.rules fits;
     lists = g.lists;
   }
+  proper-perform (alter_rule new) fits e = record { tables = g.tables; rules = rules-altered (IsIn tables) state.catalog.rules new.id new.parts g.rules fits; lists = g.lists }
   proper-perform (drop_rule id) fits e = record { tables = g.tables; rules = rules-without (IsIn tables) state.catalog.rules id g.rules; lists = g.lists }
   proper-perform (activate_rule id) fits e = record { tables = g.tables; rules = rules-active (IsIn tables) state.catalog.rules id true g.rules; lists = g.lists }
   proper-perform (deactivate_rule id) fits e = record { tables = g.tables; rules = rules-active (IsIn tables) state.catalog.rules id false g.rules; lists = g.lists }
@@ -170,6 +175,7 @@ proper-steps state g steps = record { tables = g.tables; rules = g.rules; lists 
 pub record TablesAreThere : Type 0 where
   pub statements : (names : Schema) (c : text.Statement) (s : Statement) → walk_statement names c ≡ Ok s → IsStatementThere names.tables s
   pub rules : (names : Schema) (r : RuleText) (parts : Parts) → walk_parts names r ≡ Ok parts → ArePartsThere names.tables r parts
+  pub alterations : (names : Schema) (columns : List ColumnDefinition) (triggers : Triggers) (r : text.AlterationText) (parts : NewParts) → walk_alteration names columns triggers r ≡ Ok parts → AreNewPartsThere names.tables r parts
 
 abbrev Gives : State → Result Resolved Refusal → Type 0
 Gives state (Ok r) = Fits state r
@@ -208,6 +214,12 @@ module _ (state : State) where
       gives-then (walk_parts (outside_rules state.catalog) r) (walk_lists state.catalog r) (λ parts e.
       gives-then (new_pairs state.catalog.rules state.catalog.pairs r.precedes r.follows) (λ pairs. Ok (create_rule (record { name = r.name; parts = parts; pairs = pairs })))
       (λ pairs q. actions-in state.catalog.tables parts.3 (there.rules (outside_rules state.catalog) r parts e).actions)))
+  gives-walk there (text.alter_rule r) calm =
+      gives-then (some_or refusal.NoRule (named state.catalog.rules r.name)) (walk_new_parts state.catalog r) (λ rule p.
+      gives-then (walk_alteration (outside_rules state.catalog) (table_at state.catalog.tables rule.table).columns rule.triggers r)
+      (λ parts. and_then (altered_pairs state.catalog.rules state.catalog.pairs rule.id r) (λ pairs. Ok (alter_rule (record { id = rule.id; parts = parts; pairs = pairs })))) (λ parts e.
+      gives-then (altered_pairs state.catalog.rules state.catalog.pairs rule.id r) (λ pairs. Ok (alter_rule (record { id = rule.id; parts = parts; pairs = pairs })))
+      (λ pairs q. new-actions-in state.catalog.tables r.actions parts.1 (there.alterations (outside_rules state.catalog) (table_at state.catalog.tables rule.table).columns rule.triggers r parts e).actions)))
   gives-walk there (text.drop_rule name) calm = gives-then (rule_named state.catalog.rules name) (λ id. Ok (drop_rule id)) (λ id e. tt)
   gives-walk there (text.activate_rule name) calm = gives-then (rule_named state.catalog.rules name) (λ id. Ok (activate_rule id)) (λ id e. tt)
   gives-walk there (text.deactivate_rule name) calm = gives-then (rule_named state.catalog.rules name) (λ id. Ok (deactivate_rule id)) (λ id e. tt)

@@ -2,8 +2,9 @@
 use Rattle.std.proofs.Common.{◌≡◌, ℕ, Bool, true, false, cond, ◌==◌, List, [], ◌∷◌, map, find, Option, Some, None, option_map, refl, sym, ap, ◌∙◌}
 use Rattle.sb_value.specs.declared.change.Change.{Change}
 use Rattle.sb_value.specs.Name.{same_name}
-use Rattle.sb_value.specs.Table.{Entry, after, after_all, after_change}
-use Rattle.sb_tables.specs.Held.{Held, entry_of, entries, named}
+use Rattle.std.proofs.lemmas.Option.{none-some, same_Some}
+use Rattle.sb_value.specs.Table.{Entry, after, after_all, after_change, empty_table, table_at}
+use Rattle.sb_tables.specs.Held.{Held, entry_of, entries, named, numbered}
 use Rattle.sb_tables.specs.Stored.{Stored}
 use Rattle.sb_tables.specs.Undo.{stored_after}
 use Rattle.sb_process.specs.Made.{tables_after, tables_after_all, without_room}
@@ -59,3 +60,22 @@ module _ (origin : List Held) (store : Store) (state : State) (h : Holds origin 
   -- the table that is found by its name
   pub found : (given : Option Stored) → given ≡ option_map (λ g. g.stored) (named tables name) → option_map (λ s. s.table) given ≡ table_seen state name
   found given is = ap (option_map (λ (s : Stored). s.table)) is ∙ mapped (named tables name) ∙ sym seen_so
+
+-- the table of a number, as it is stored
+pub table_found : (tables : List Held) (id : ℕ) (s : Stored) → option_map (λ (h : Held). h.stored) (numbered tables id) ≡ Some s → table_at (entries tables) id ≡ s.table
+table_found [] id s e = absurd (none-some s e)
+table_found (h ∷ tables) id s e = by (h.id == id) e (table_found tables id s)
+  where
+    by : (b : Bool) → option_map (λ (x : Held). x.stored) (cond b (Some h) (numbered tables id)) ≡ Some s → (option_map (λ (x : Held). x.stored) (numbered tables id) ≡ Some s → table_at (entries tables) id ≡ s.table)
+        → cond b h.stored.table (table_at (entries tables) id) ≡ s.table
+    by true p rest = ap (λ (x : Stored). x.table) (same_Some h.stored s p)
+    by false p rest = rest p
+
+pub table_missing : (tables : List Held) (id : ℕ) → option_map (λ (h : Held). h.stored) (numbered tables id) ≡ None → table_at (entries tables) id ≡ empty_table []
+table_missing [] id e = refl
+table_missing (h ∷ tables) id e = by (h.id == id) e (table_missing tables id)
+  where
+    by : (b : Bool) → option_map (λ (x : Held). x.stored) (cond b (Some h) (numbered tables id)) ≡ None → (option_map (λ (x : Held). x.stored) (numbered tables id) ≡ None → table_at (entries tables) id ≡ empty_table [])
+        → cond b h.stored.table (table_at (entries tables) id) ≡ empty_table []
+    by true p rest = absurd (none-some h.stored (sym p))
+    by false p rest = rest p

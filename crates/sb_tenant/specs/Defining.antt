@@ -1,10 +1,10 @@
 -- The commands that define what has a name: tables, rules and rulesets. They are done where no session has a transaction.
-use Rattle.std.specs.Prelude.{◌≡◌, ◌⊎◌, ℕ, ◌+◌, ◌≤◌, length, Bool, true, false, not, ◌&&◌, ◌==◌, List, Option, None, Result, Ok, Err, IsTrue, IsFalse}
+use Rattle.std.specs.Prelude.{◌≡◌, ◌⊎◌, ℕ, ◌+◌, ◌≤◌, length, unwrap_or, [], Bool, true, false, not, ◌&&◌, ◌==◌, List, Option, None, Result, Ok, Err, IsTrue, IsFalse}
 use Rattle.std.specs.List.{list_any}
 use Rattle.sb_value.specs.declared.refusal.Refusal.{Refusal}
 use Rattle.sb_value.specs.declared.refusal.Refusal.TheVariants.{NoMemory}
 use Rattle.sb_value.specs.Locks.{sessions}
-use Rattle.sb_syntax.specs.Tree.{Command, create_rule}
+use Rattle.sb_syntax.specs.Tree.{Command, create_rule, alter_rule}
 use Rattle.sb_rawlog.specs.Records.{Record}
 use Rattle.sb_index.specs.TableSets.{TableSets}
 use Rattle.sb_catalog.specs.Definitions.{OtherTenantsStay}
@@ -72,7 +72,8 @@ pub record Defines (old new : Store) (before after : List (List TableSets)) (com
 abbrev pub Stands : Store → List (List TableSets) → Type 0
 Stands store index = (records : List Record) × (clock : ℕ) × (state : State) × StandFor store records clock index state
 
--- a new rule has 8 actions at most
+-- a rule has 8 actions at most
 abbrev pub HasFewActions : Command → Type 0
 HasFewActions (create_rule r) = length r.actions ≤ 8
+HasFewActions (alter_rule r) = length (unwrap_or r.actions []) ≤ 8
 HasFewActions other = Unit {0}

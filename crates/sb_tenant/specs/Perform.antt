@@ -21,8 +21,8 @@ use Rattle.sb_catalog.specs.Rules.{is_active}
 use Rattle.sb_tenant.specs.declared.reply.Reply.{Reply}
 use Rattle.sb_tenant.specs.declared.reply.Reply.TheVariants as reply
 use Rattle.sb_tenant.specs.State.{State, closed, idle, active, Catalog, with_session, setting_of, progress_of, with_progress, rolled_back, committed}
-use Rattle.sb_tenant.specs.Catalog.{with_table, without_table, with_rule, without_rule, with_active, with_ruleset, without_ruleset, with_members, without_members, rule_name}
-use Rattle.sb_tenant.specs.Resolved.{Resolved, open_session, end_session, begin, commit, rollback, process_rules, process_ruleset, process_rule, create_table, drop_table, create_rule, drop_rule, activate_rule, deactivate_rule, create_ruleset, drop_ruleset, add_rules, del_rules, query, change}
+use Rattle.sb_tenant.specs.Catalog.{with_table, without_table, with_rule, with_altered, without_rule, with_active, with_ruleset, without_ruleset, with_members, without_members, rule_name}
+use Rattle.sb_tenant.specs.Resolved.{Resolved, open_session, end_session, begin, commit, rollback, process_rules, process_ruleset, process_rule, create_table, drop_table, create_rule, alter_rule, drop_rule, activate_rule, deactivate_rule, create_ruleset, drop_ruleset, add_rules, del_rules, query, change}
 
 -- ---- statements
 
@@ -106,6 +106,7 @@ perform tenant bound state s (process_rule r) = process_at tenant bound state s 
 perform tenant bound state s (create_table name columns) = defined state (with_table state.catalog name columns)
 perform tenant bound state s (drop_table id) = defined state (without_table state.catalog id)
 perform tenant bound state s (create_rule new) = defined state (with_rule state.catalog new)
+perform tenant bound state s (alter_rule new) = defined state (with_altered state.catalog new)
 perform tenant bound state s (drop_rule id) = defined state (without_rule state.catalog id)
 perform tenant bound state s (activate_rule id) = defined state (with_active state.catalog id true)
 perform tenant bound state s (deactivate_rule id) = defined state (with_active state.catalog id false)

@@ -3,12 +3,18 @@ use Rattle.std.specs.Prelude.{ℕ, List}
 use Rattle.sb_value.specs.declared.value.ColumnDefinition.{ColumnDefinition}
 use Rattle.sb_check.specs.Condition.{Query}
 use Rattle.sb_check.specs.declared.tree.Statement.{Statement}
-use Rattle.sb_check.specs.RuleParts.{Parts}
+use Rattle.sb_check.specs.RuleParts.{Parts, NewParts}
 
 -- a rule as a command gives it: its name, what the tables tell of it, and the pairs of precedence that it brings
 pub record NewRule : Type 0 where
   pub name : List ℕ
   pub parts : Parts
+  pub pairs : List (ℕ × ℕ)
+
+-- a rule as a command alters it: its number, its new parts as far as they are written, and all pairs of precedence that stand then
+pub record AlteredRule : Type 0 where
+  pub id : ℕ
+  pub parts : NewParts
   pub pairs : List (ℕ × ℕ)
 
 -- tables and rules by their ids, rulesets by their names; what a rule, a query and a statement name is resolved as the tables tell it
@@ -24,6 +30,7 @@ pub data Resolved : Type 0 where
   create_table : List ℕ → List ColumnDefinition → Resolved
   drop_table : ℕ → Resolved
   create_rule : NewRule → Resolved
+  alter_rule : AlteredRule → Resolved
   drop_rule : ℕ → Resolved
   activate_rule : ℕ → Resolved
   deactivate_rule : ℕ → Resolved

@@ -3,19 +3,21 @@
 use Rattle.std.specs.Prelude.{◌≡◌, ℕ, Bool, false, not, nat_lt, List, [], length, Option, Some, None, Result, Ok, Err}
 use Rattle.sb_value.specs.declared.refusal.Refusal.{Refusal}
 use Rattle.sb_value.specs.declared.refusal.Refusal.TheVariants as refusal
-use Rattle.sb_syntax.specs.Tree.{Name, Command, RuleText}
+use Rattle.sb_value.specs.Table.{table_at}
+use Rattle.sb_syntax.specs.Tree.{Name, Command, RuleText, AlterationText}
 use Rattle.sb_syntax.specs.Tree as text
-use Rattle.sb_check.specs.Names.{and_then, required}
+use Rattle.sb_check.specs.Names.{and_then, required, some_or}
 use Rattle.sb_check.specs.Walk.{Schema, table_named, walk_query, walk_statement}
-use Rattle.sb_check.specs.RuleParts.{Parts, walk_parts}
+use Rattle.sb_check.specs.RuleParts.{Parts, walk_parts, walk_alteration}
 use Rattle.sb_check.specs.Resolved.{walk_names}
-use Rattle.sb_catalog.specs.Definitions.{rules_named, new_pairs}
-use Rattle.sb_catalog.specs.Rules.{has_name, rule_named}
+use Rattle.sb_catalog.specs.Definitions.{rules_named, new_pairs, altered_pairs}
+use Rattle.sb_catalog.specs.declared.rule.Rule.{Rule}
+use Rattle.sb_catalog.specs.Rules.{has_name, named, rule_named}
 use Rattle.sb_catalog.specs.Uses.{is_used}
 use Rattle.sb_rulesets.specs.Sets as rulesets
 use Rattle.sb_tenant.specs.Limits.{table_limit}
 use Rattle.sb_tenant.specs.State.{Catalog}
-use Rattle.sb_tenant.specs.Resolved.{Class, opens, ends, begins, defines, works, Resolved, open_session, end_session, begin, commit, rollback, process_rules, process_ruleset, process_rule, create_table, drop_table, create_rule, drop_rule, activate_rule, deactivate_rule, create_ruleset, drop_ruleset, add_rules, del_rules, query, change}
+use Rattle.sb_tenant.specs.Resolved.{Class, opens, ends, begins, defines, works, Resolved, open_session, end_session, begin, commit, rollback, process_rules, process_ruleset, process_rule, create_table, drop_table, create_rule, alter_rule, drop_rule, activate_rule, deactivate_rule, create_ruleset, drop_ruleset, add_rules, del_rules, query, change}
 
 -- what a statement outside of rules may name
 abbrev pub outside_rules : Catalog → Schema
@@ -37,6 +39,17 @@ abbrev pub walk_rule : Catalog → RuleText → Result Resolved Refusal
 walk_rule catalog r =
     required (not (has_name catalog.rules r.name)) refusal.RuleExists
     (and_then (walk_parts (outside_rules catalog) r) (walk_lists catalog r))
+
+-- new parts of a rule that is found: what the tables tell of them, its lists, a cycle
+abbrev pub walk_new_parts : Catalog → AlterationText → Rule → Result Resolved Refusal
+walk_new_parts catalog r rule =
+    and_then (walk_alteration (outside_rules catalog) (table_at catalog.tables rule.table).columns rule.triggers r) (λ parts.
+    and_then (altered_pairs catalog.rules catalog.pairs rule.id r) (λ pairs.
+    Ok (alter_rule (record { id = rule.id; parts = parts; pairs = pairs }))))
+
+-- a rule that is altered: whether it is there, and then the rest
+abbrev pub walk_altered : Catalog → AlterationText → Result Resolved Refusal
+walk_altered catalog r = and_then (some_or refusal.NoRule (named catalog.rules r.name)) (walk_new_parts catalog r)
 
 -- ---- all commands
 
@@ -70,6 +83,7 @@ walk catalog (text.drop_table name) =
     and_then (table_named (outside_rules catalog) name) (λ e.
     required (not (is_used catalog.rules e.id)) refusal.TableInUse (Ok (drop_table e.id)))
 walk catalog (text.create_rule r) = walk_rule catalog r
+walk catalog (text.alter_rule r) = walk_altered catalog r
 walk catalog (text.drop_rule name) = of_rule catalog name drop_rule
 walk catalog (text.activate_rule name) = of_rule catalog name activate_rule
 walk catalog (text.deactivate_rule name) = of_rule catalog name deactivate_rule
@@ -104,6 +118,7 @@ class_of (text.process_rule name) = works
 class_of (text.create_table name columns) = defines
 class_of (text.drop_table name) = defines
 class_of (text.create_rule r) = defines
+class_of (text.alter_rule r) = defines
 class_of (text.drop_rule name) = defines
 class_of (text.activate_rule name) = defines
 class_of (text.deactivate_rule name) = defines

@@ -36,6 +36,7 @@ pub(crate) fn class_of(command: &Command) -> Class
         Command::CreateTable(_, _) => Class::Defines,
         Command::DropTable(_) => Class::Defines,
         Command::CreateRule(_) => Class::Defines,
+        Command::AlterRule(_) => Class::Defines,
         Command::DropRule(_) => Class::Defines,
         Command::ActivateRule(_) => Class::Defines,
         Command::DeactivateRule(_) => Class::Defines,

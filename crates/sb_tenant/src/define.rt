@@ -29,6 +29,7 @@ impl Store {
             Command::CreateTable(name, columns) => self.create_table(name, columns),
             Command::DropTable(name) => self.drop_table(&name),
             Command::CreateRule(rule) => self.create_rule(alloc, index, &rule),
+            Command::AlterRule(rule) => self.alter_rule(alloc, &rule),
             Command::DropRule(name) => self.drop_rule(index, &name),
             Command::ActivateRule(name) => self.activate_rule(index, &name),
             Command::DeactivateRule(name) => self.deactivate_rule(index, &name),

@@ -23,5 +23,5 @@ mod work;
 
 pub use lines::KnownLines;
 pub use places::reserve_here;
-pub use reply::{Answer, Entry, Line, NamedTrace, Reply, SharedRows};
+pub use reply::{Answer, Entry, Line, NamedTrace, Reply};
 pub use tenant::{NotBegun, Tenant};

@@ -1,7 +1,8 @@
 //! Replies, answers and the entries of a trail.
 ghost use Rattle.std.specs.Prelude.{◌≡◌, ◌++◌, ◌∷◌, [], IfOk, OnOk, OnErr};
 
-use sb_value::{Name, Refusal, RowList, SessionId, Verdict};
+use sb_rows::SharedRows;
+use sb_value::{Name, Refusal, SessionId, Verdict};
 use smallvec::SmallVec;
 use std::alloc::{AllocError, Global};
 use std::marker::Model;
@@ -47,49 +48,6 @@ impl Line {
     {
         Ok(Line {
             bytes: self.bytes.clone()?,
-        })
-    }
-}
-
-/// The rows of a `select`. Its copies share them.
-#[derive(Drop)]
-pub struct SharedRows {
-    rows: Arc<RowList>,
-}
-
-impl Model for SharedRows {
-    ghost use Rattle.std.specs.Prelude.{List};
-    ghost use Rattle.std.specs.Arc.{arc_value};
-    ghost use Rattle.sb_value.specs.declared.value.Value.{Value as Item};
-
-    ghost Value = { List (List Item) };
-
-    ghost view = { λ r. arc_value r.rows };
-}
-
-impl SharedRows {
-    /// These rows, to be shared.
-    pub fn new(alloc: Global, rows: RowList) -> Result<SharedRows, AllocError>
-        ensures { IfOk result (λ shared. shared ≡ rows) }
-    {
-        Ok(SharedRows {
-            rows: Arc::new(alloc, rows)?,
-        })
-    }
-
-    /// The rows.
-    pub fn as_list(&self) -> &RowList
-        ensures { result.now ≡ self.now }
-    {
-        &self.rows
-    }
-
-    /// The same rows, once more.
-    pub fn share(&self) -> Result<SharedRows, AllocError>
-        ensures { IfOk result (λ shared. shared ≡ self.now) }
-    {
-        Ok(SharedRows {
-            rows: self.rows.clone()?,
         })
     }
 }

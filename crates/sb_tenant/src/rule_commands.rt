@@ -1,15 +1,19 @@
 //! The commands that define rules.
-ghost use Rattle.std.specs.Prelude.{◌≤◌, length};
+ghost use Rattle.std.specs.Prelude.{◌≡◌, ◌≤◌, List, [], length, unwrap_or};
+ghost use Rattle.sb_index.specs.TableSets.{TableSets};
 ghost use Rattle.sb_syntax.specs.Tree as text;
-ghost use Rattle.sb_syntax.specs.Views.{rule as rule_text};
+ghost use Rattle.sb_syntax.specs.Views.{alteration as alteration_text, rule as rule_text};
+ghost use Rattle.sb_tables.specs.Held.{entries};
 ghost use Rattle.sb_tenant.specs.Defining.{Defines, IsAtRest, Stands};
+ghost use Rattle.sb_value.specs.Table.{table_at};
 
 use crate::names::Names;
 use crate::store::Store;
-use sb_check::{resolve_rule, resolved_tables_are_there};
+use sb_check::{RuleEntry, resolve_alteration, resolve_rule, resolved_tables_are_there};
 use sb_index::RuleIndex;
-use sb_syntax::RuleText;
-use sb_value::{Name, Refusal};
+use sb_syntax::{AlterationText, RuleText};
+use sb_tables::Tables;
+use sb_value::{ColumnDefinition, Name, Refusal, TableId};
 use std::alloc::Global;
 
 impl Store {
@@ -46,6 +50,33 @@ impl Store {
             rule.precedes.as_slice(),
             rule.follows.as_slice(),
         )
+    }
+
+    /// Gives a rule new parts and new pairs; it keeps its place.
+    pub(crate) fn alter_rule(&mut self, alloc: Global, rule: &AlterationText) -> Result<(), Refusal>
+        requires rest { IsAtRest self.old.phases }
+        requires stand { (index : List (List TableSets)) × Stands self.old index }
+        requires few { length (unwrap_or (alteration_text rule.now).actions []) ≤ 8 }
+        ensures { (index : List (List TableSets)) → Defines self.old self.new index index (text.alter_rule (alteration_text rule.now)) result }
+    {
+        let Some(found) = self.definitions.rules.find(&rule.name) else {
+            return Err(Refusal::NoRule);
+        };
+        // for the proof: the tables that the rule names are there
+        resolved_tables_are_there();
+        let names = Names {
+            tables: &self.database.tables,
+        };
+        let entry = RuleEntry {
+            columns: columns_of(names.tables, found.table),
+            triggers: found.triggers,
+        };
+        let id = found.id;
+        let parts = match resolve_alteration(alloc, rule, &entry, &names) {
+            Ok(parts) => parts,
+            Err(refusal) => return Err(refusal),
+        };
+        self.definitions.alter_rule(alloc, id, rule, parts)
     }
 
     /// Drops a rule with its pairs and its memberships.
@@ -87,5 +118,15 @@ impl Store {
             Ok(_) => Ok(()),
             Err(refusal) => Err(refusal),
         }
+    }
+}
+
+/// The columns of the table of that number.
+fn columns_of(tables: &Tables, id: TableId) -> &[ColumnDefinition]
+    ensures { result.now ≡ (table_at (entries tables.now) id).columns }
+{
+    match tables.get(id) {
+        Some(table) => table.columns(),
+        None => &[],
     }
 }

@@ -11,13 +11,14 @@ ghost use Rattle.sb_tenant.specs.Resolved.{query as query_of, change as change_o
 ghost use Rattle.sb_tenant.specs.State.{State};
 ghost use Rattle.sb_tenant.specs.declared.phase.Phase.TheVariants as phase;
 
-use crate::reply::{Reply, SharedRows};
+use crate::reply::Reply;
 use crate::store::{Replies, Store};
 use sb_check::{Query, Statement};
 use sb_index::RuleIndex;
 use sb_process::transactions_share_tables;
 use sb_rawlog::ChangeLog;
-use sb_value::{Refusal, RowList, SessionId};
+use sb_rows::SharedRows;
+use sb_value::{Refusal, SessionId};
 use std::alloc::{AllocError, Global};
 
 impl Store {
@@ -37,7 +38,7 @@ impl Store {
         ensures leaves { Leaves 0 self.old self.new session (L.records log.old) (L.records log.new) (L.clock log.old) (L.clock log.new) }
     {
         match self.rows(alloc, session, query) {
-            Ok(rows) => match shared(alloc, rows) {
+            Ok(rows) => match shared(rows) {
                 Ok(replies) => replies,
                 Err(_) => self.run_out(log, session),
             },
@@ -46,7 +47,12 @@ impl Store {
     }
 
     /// The rows themselves.
-    fn rows(&mut self, alloc: Global, session: SessionId, query: &Query) -> Result<RowList, Refusal>
+    fn rows(
+        &mut self,
+        alloc: Global,
+        session: SessionId,
+        query: &Query,
+    ) -> Result<SharedRows, Refusal>
         requires active { phase_at self.old.phases session ≡ phase.Active }
         requires there { AreThere self.old.database.tables (locks.query_locks query.now) }
         ensures comes { (records : List Record) (clock : ℕ) (index : List (List TableSets)) (state : State) (bound : ℕ) → StandFor self.old records clock index state → Comes Reply.Rows (StandFor self.new records clock index) (perform self.old.database.id bound state session (query_of query.now)) result }
@@ -110,11 +116,10 @@ impl Store {
 }
 
 /// The reply of a select, twice.
-fn shared(alloc: Global, rows: RowList) -> Result<Replies, AllocError>
+fn shared(rows: SharedRows) -> Result<Replies, AllocError>
     ensures rows { IfOk result (λ r. r.0 ≡ Reply.Rows rows) }
     ensures twice { IfOk result (λ r. r.1 ≡ r.0) }
 {
-    let rows = SharedRows::new(alloc, rows)?;
     let copy = rows.share()?;
     Ok((Reply::Rows(rows), Reply::Rows(copy)))
 }

@@ -22,7 +22,7 @@ returns-then-has c =
 pub returns-in-Err : goal.returns-in-Err
 returns-in-Err c =
     let r = view.rule c.args.rule.now in
-    let why : (walk_parts (outside (entries c.args.self.now.database.tables)) r ≡ Err c.in-Err.refusal) ⊎ (c.in-Err.refusal ≡ refusal.NoMemory) = c.in-Err.ensures in
+    let why : (walk_parts (outside (entries c.args.self.now.database.tables)) r ≡ Err c.in-Err.refusal) ⊎ (c.in-Err.refusal ≡ refusal.NoMemory) = c.in-Err.ensures.value in
     refused_here (text.create_rule r) c.args.self.now c.args.index.now c.in-Err.refusal
     (parts_refused c.args.self.now c.args.index.now c.args.index.now r c.requires.rest (sym c.has.ensures ∙ c.if-has.false) c.in-Err.refusal why)
 
@@ -31,7 +31,7 @@ returns c =
     let old = c.args.self.now in
     let r = view.rule c.args.rule.now in
     let parts = rule_parts c.in-Ok.parts in
-    let walked : walk_parts (outside (entries old.database.tables)) r ≡ Ok parts = c.in-Ok.ensures in
+    let walked : walk_parts (outside (entries old.database.tables)) r ≡ Ok parts = c.in-Ok.ensures.value in
     let few : length r.actions ≤ 8 = subst (λ n. n ≤ 8) (sym (length-map c.args.rule.now.actions.items view.action)) c.requires.few in
     rule_made old c.args.index.now c.create_rule.new.index r c.requires.rest (sym c.has.ensures ∙ c.if-has.false) parts walked c.create_rule.new.self c.create_rule.ensures.others c.create_rule.ensures.indexed
     (c.resolved_tables_are_there.ensures.rules (outside (entries old.database.tables)) r parts walked) few (some_order old c.args.index.now c.requires.stand) c.create_rule.result

@@ -1,6 +1,7 @@
 use Rattle.std.proofs.Common.{List, ℕ, sym, subst}
 use Rattle.sb_syntax.specs.Tree as text
-use Rattle.sb_syntax.specs.Views.{command as tree_of}
+use Rattle.sb_syntax.specs.Views.{alteration, command as tree_of}
+use Rattle.sb_syntax.specs.declared.tree.AlterationText.{AlterationText}
 use Rattle.sb_syntax.specs.declared.tree.Command.{Command}
 use Rattle.sb_tenant.specs.Defining.{Defines}
 use Rattle.sb_tenant.proofs.store.Store.define.Goals as goal
@@ -36,3 +37,9 @@ returns-in-DelRules c =
     let P : Command → Type 0 = λ command. Defines c.args.self.now c.del_rules.new.self c.args.index.now c.args.index.now (tree_of command) c.del_rules.result in
     let Q : List (List ℕ) → Type 0 = λ rules. Defines c.args.self.now c.del_rules.new.self c.args.index.now c.args.index.now (text.del_rules c.in-DelRules.name rules) c.del_rules.result in
     subst P (sym c.in-DelRules.is) (subst Q c.as_slice-in-DelRules.ensures.value (c.del_rules.ensures c.args.index.now))
+
+pub returns-in-AlterRule : goal.returns-in-AlterRule
+returns-in-AlterRule c =
+    let P : Command → Type 0 = λ command. Defines c.args.self.now c.alter_rule.new.self c.args.index.now c.args.index.now (tree_of command) c.alter_rule.result in
+    let Q : AlterationText → Type 0 = λ rule. Defines c.args.self.now c.alter_rule.new.self c.args.index.now c.args.index.now (text.alter_rule (alteration rule)) c.alter_rule.result in
+    subst P (sym c.in-AlterRule.is) (subst Q c.deref-in-AlterRule.ensures (c.alter_rule.ensures c.args.index.now))
