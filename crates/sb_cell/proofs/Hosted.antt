@@ -1,10 +1,10 @@
 -- The tenants of a cell by their numbers.
 use Rattle.std.proofs.Common.{◌≡◌, ℕ, zero, suc, ◌+◌, ◌*◌, ◌/◌, ◌%◌, ◌<◌, Bool, true, false, cond, ◌&&◌, ◌==◌, nat_lt, List, [], ◌∷◌, length, get_or, slice_set, Some, None, refl, sym, ap, ◌∙◌, arith}
-use Rattle.std.specs.List.{All, slice_get}
+use Rattle.std.specs.List.{All, Contains, slice_get}
 use Rattle.std.proofs.Math.Nat.{add-mul-div_left}
-use Rattle.std.proofs.lemmas.Bool.{true≢false, and_from, and_parts, eq-eqb, eqb-true, lt-ltb, ltb-true, ltb-false}
+use Rattle.std.proofs.lemmas.Bool.{and_from, and_parts, eq-eqb, eqb-true, lt-ltb, ltb-true, ltb-false}
 use Rattle.std.proofs.lemmas.Nat.{div-mul-add, mod-mul-add}
-use Rattle.std.proofs.lemmas.Option.{slice_get-get_or, slice_get_past, slice_get_read}
+use Rattle.std.proofs.lemmas.Option.{get_or_from_slice_get, slice_get-get_or, slice_get_past, slice_get_read}
 use Rattle.sb_tenant.specs.State.{opening}
 use Rattle.sb_tenant.specs.Tenant.{Tenant}
 use Rattle.sb_tenant.specs.Trail.{state_of}
@@ -41,12 +41,18 @@ place_of first stride i j below same =
     let both = ap (λ n. n / stride) same in
     omega (arith, one, other, both)
 
+-- the place of a place's number
+own_place : (first stride place : ℕ) → first < stride → (first + stride * place) / stride ≡ place
+own_place first stride place below =
+    let turned : first + stride * place ≡ place * stride + first = omega arith in
+    ap (λ k. k / stride) turned ∙ div-mul-add place stride first below
+
 -- the number of a place is hosted
 pub own_number : (first stride place n : ℕ) → first < stride → place < n → (((first + stride * place) % stride == first) && nat_lt ((first + stride * place) / stride) n) ≡ true
 own_number first stride place n below within =
     let turned : first + stride * place ≡ place * stride + first = omega arith in
     let rest = ap (λ k. k % stride) turned ∙ mod-mul-add place stride first below in
-    let quotient = ap (λ k. k / stride) turned ∙ div-mul-add place stride first below in
+    let quotient = own_place first stride place below in
     and_from _ _ (eq-eqb _ _ rest) (lt-ltb _ _ (omega (arith, quotient)))
 
 -- a hosted number is that of its place
@@ -94,8 +100,21 @@ module _ (c : Cell) (t : ℕ) where
   pub read_at : hosts c t ≡ true → (w : Tenant) → w ≡ get_or c.tenants (t / c.stride) w → slice_get c.tenants (t / c.stride) ≡ Some w
   read_at hosted w is = slice_get_read c.tenants (length c.tenants) (t / c.stride) w refl (within hosted) is
 
+-- where it is hosted, it is one of the tenants
+pub everyone : (c : Cell) → IsHosted c → (t : ℕ) → hosts c t ≡ true → (own : Tenant) × Contains c.tenants own × (own.id ≡ t)
+everyone c h t hosted =
+    let own = found c t hosted in (
+      own.0,
+      (t / c.stride, within c t hosted, get_or_from_slice_get c.tenants (t / c.stride) own.0 own.0 own.1),
+      (h.tenants (t / c.stride) own.0 own.1).id ∙ number_of c.first c.stride t h.first (own_class c t hosted),
+    )
+
 -- each tenant is hosted under its own number
-pub all_hosted : (c : Cell) → IsHosted c → All (λ t. (hosts c t.id ≡ true) × (t.bound ≡ c.bound)) c.tenants
-all_hosted c h place d within =
-    let at = h.tenants place (get_or c.tenants place d) (slice_get-get_or c.tenants place d within) in
-    (ap (hosts c) at.id ∙ own_number c.first c.stride place (length c.tenants) h.first within, at.bound)
+pub all_hosted : (c : Cell) → IsHosted c → All (λ t. (hosts c t.id ≡ true) × (t.bound ≡ c.bound) × (tenant_at c t.id ≡ Some t)) c.tenants
+all_hosted c h place d inside =
+    let at = h.tenants place (get_or c.tenants place d) (slice_get-get_or c.tenants place d inside) in
+    let hosted = ap (hosts c) at.id ∙ own_number c.first c.stride place (length c.tenants) h.first inside in (
+      hosted,
+      at.bound,
+      by_place c (get_or c.tenants place d).id hosted ∙ ap (slice_get c.tenants) (ap (λ k. k / c.stride) at.id ∙ own_place c.first c.stride place h.first) ∙ slice_get-get_or c.tenants place d inside,
+    )

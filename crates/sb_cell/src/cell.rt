@@ -1,14 +1,16 @@
 //! Tenants that are served one step at a time, over one log and one index.
+ghost use Rattle.std.specs.List.{Contains};
 ghost use Rattle.std.specs.Prelude.{◌≡◌, ◌≤◌, ◌<◌, ◌+◌, ◌*◌, ◌==◌, ◌%◌, ◌&&◌, ℕ, true, false, nat_le, nat_lt, Ok, Some, IfOk, IfSome, OnErr, IsTrue, MatchOption, All, codes, length, option_copied, option_map, if◌then◌else◌};
 ghost use Rattle.sb_tenant.specs.declared.reply.Reply.TheVariants as told;
 ghost use Rattle.sb_tenant.specs.Limits.{trail_limit};
+ghost use Rattle.sb_tenant.specs.Tenant.{Tenant as ItsTenant};
 ghost use Rattle.sb_tenant.specs.Trail.{IsTrail};
 ghost use Rattle.sb_tenant.specs.State.{session_at, is_open as session_is_open, table_seen};
 ghost use Rattle.sb_cell.specs.Events.{AreEvents};
 ghost use Rattle.sb_cell.specs.Headline.{RunsInTurn, RunsAlone};
 ghost use Rattle.sb_cell.specs.Hosting.{AreFresh, entry_count};
 ghost use Rattle.sb_cell.specs.Memory.{HoldsTransactions, HoldsRules, AreInStep};
-ghost use Rattle.sb_cell.specs.Tenants.{AnswersEvent, IsNew, IsSame, hosts, trails, states, run_of};
+ghost use Rattle.sb_cell.specs.Tenants.{AnswersEvent, IsNew, IsSame, hosts, tenant_at, trails, states, run_of};
 
 use crate::laws::{events_run_in_turn, turns_run_alone};
 use crate::{Answers, Event, StepError};
@@ -119,7 +121,8 @@ impl Cell {
     /// Its tenants alone, each of which it hosts under its own number.
     pub fn into_tenants(self) -> Vec<Tenant>
         ensures tenants { result.items ≡ self.tenants }
-        ensures hosted { All (λ t. (hosts self t.id ≡ true) × (t.bound ≡ self.bound)) result.items }
+        ensures hosted { All (λ t. (hosts self t.id ≡ true) × (t.bound ≡ self.bound) × (tenant_at self t.id ≡ Some t)) result.items }
+        ensures whole { (t : ℕ) → hosts self t ≡ true → (own : ItsTenant) × Contains result.items own × (own.id ≡ t) }
     {
         let Cell { tenants, .. } = self;
         tenants

@@ -3,7 +3,7 @@ use Rattle.std.proofs.Common.{◌≡◌, ℕ, ◌+◌, Bool, true, false, ◌&&�
 use Rattle.std.proofs.lemmas.Bool.{true≢false}
 use Rattle.sb_value.specs.declared.refusal.Refusal.TheVariants as refusal
 use Rattle.sb_syntax.specs.Text.{command_of}
-use Rattle.sb_syntax.specs.Tree.{Command, open_session, end_session, begin, commit, rollback, process_rules, process_ruleset, process_rule, create_table, drop_table, create_rule, drop_rule, activate_rule, deactivate_rule, create_ruleset, drop_ruleset, add_rules, del_rules, query, change}
+use Rattle.sb_syntax.specs.Tree.{Command, open_session, end_session, begin, commit, rollback, process_rules, process_ruleset, process_rule, create_table, drop_table, create_rule, alter_rule, drop_rule, activate_rule, deactivate_rule, create_ruleset, drop_ruleset, add_rules, del_rules, query, change}
 use Rattle.sb_tenant.specs.declared.reply.Answer.{Answer}
 use Rattle.sb_tenant.specs.declared.reply.Entry.{Entry}
 use Rattle.sb_tenant.specs.declared.reply.Reply.{Reply}
@@ -40,6 +40,7 @@ closed_by n k (Some (process_rule a)) h g = stays n
 closed_by n k (Some (create_table a b)) h g = stays n
 closed_by n k (Some (drop_table a)) h g = stays n
 closed_by n k (Some (create_rule a)) h g = stays n
+closed_by n k (Some (alter_rule a)) h g = stays n
 closed_by n k (Some (drop_rule a)) h g = stays n
 closed_by n k (Some (activate_rule a)) h g = stays n
 closed_by n k (Some (deactivate_rule a)) h g = stays n

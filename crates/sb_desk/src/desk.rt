@@ -95,6 +95,7 @@ impl<N: Naming, const FIRST: u32> Desk<N, FIRST> {
         requires hosts { (tenant < N.tenants) × (tenant % N.cells ≡ FIRST) }
         ensures ok { IfOk result (λ r. Admits self.old tenant session self.new r) }
         ensures err { IfErr result (λ e. RefusesRightly self.old tenant session e self.new) }
+        ensures hosted { hosts self.old tenant ≡ true }
     {
         // for the proof: it is one of the tenant's sessions
         let _number = session.number();

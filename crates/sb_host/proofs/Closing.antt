@@ -6,7 +6,6 @@ use Rattle.std.proofs.lemmas.Bool.{cases_lt}
 use Rattle.std.proofs.lemmas.List.Sorted.{IsPermutation-refl, length_permutation}
 use Rattle.sb_tenant.specs.declared.reply.Entry.{Entry}
 use Rattle.sb_tenant.specs.Limits.{session_count}
-use Rattle.sb_tenant.specs.Trail.{IsTrail}
 use Rattle.sb_desk.specs.declared.receipts.Receipt.{Receipt}
 use Rattle.sb_desk.specs.Receipts.{receipts_of}
 use Rattle.sb_host.specs.declared.comparing.Found.TheVariants.{Fewer, Different}
@@ -18,10 +17,6 @@ use Rattle.sb_host.specs.declared.stub.Stub.{Stub}
 use Rattle.sb_host.specs.Comparing.{Audits, FailsAt, IsFirstStray, RowAgrees, RowFails, due_at}
 use Rattle.sb_host.specs.Finish.{AgreeBefore, Agrees, AreTrails, Finishes, IsMismatch, IsMissing, gathered, rank, row_at, wanted}
 use Rattle.sb_host.proofs.Rows.{row_past}
-
--- trails without entries are legal
-pub empty_trails : (bound tenants : ℕ) (trails : List (Vec Entry Global)) → length trails ≡ tenants → ((t : ℕ) → row_at trails t ≡ []) → AreTrails bound tenants trails
-empty_trails bound tenants trails long none = (long, λ t. subst (λ (es : List Entry). IsTrail t bound es) (sym (none t)) refl)
 
 -- an audit against legal trails is the whole check
 pub finishes : (bound tenants : ℕ) (stubs : List Stub) (trails : List (Vec Entry Global)) (result : Result Report FinishError) → AreTrails bound tenants trails → Audits trails stubs result → Finishes bound tenants stubs result

@@ -3,6 +3,7 @@ pub mod Numbers
 pub mod Rising
 pub mod Receipts
 pub mod Rows
+pub mod Trails
 pub mod Refusals
 pub mod Closing
 pub mod Sending

@@ -1,5 +1,5 @@
 -- An answer has no number exactly where it says that the trail is full.
-use Rattle.std.proofs.Common.{◌≡◌, ℕ, Bool, true, false, List, Ok}
+use Rattle.std.proofs.Common.{ℕ, Bool, true, false, List, Ok}
 use Rattle.sb_tenant.specs.declared.reply.Answer.{Answer}
 use Rattle.sb_tenant.specs.Limits.{is_session}
 use Rattle.sb_tenant.specs.TrailLaws.{AnswersAreNumbered}

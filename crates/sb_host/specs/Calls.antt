@@ -4,11 +4,13 @@ use Rattle.sb_value.specs.declared.refusal.Refusal.TheVariants.{TrailFull}
 use Rattle.sb_tenant.specs.declared.reply.Answer.{Answer}
 use Rattle.sb_tenant.specs.declared.reply.Reply.TheVariants.{No}
 use Rattle.sb_tenant.specs.Limits.{session_count}
+use Rattle.sb_cell.specs.Tenants.{Cell, hosts}
 use Rattle.sb_desk.specs.declared.desk.AttachError.{AttachError}
 use Rattle.sb_desk.specs.declared.desk.AttachError.TheVariants.{NoTenant, NoSession}
 use Rattle.sb_desk.specs.declared.desk.CallError.{CallError}
 use Rattle.sb_desk.specs.declared.desk.CallError.TheVariants as call
 use Rattle.sb_desk.specs.declared.receipts.Receipt.{Receipt}
+use Rattle.sb_desk.specs.Desks.{RefusesRightly}
 use Rattle.sb_desk.specs.Receipts.{Receipts, after, after_end, closes, list_after, newcomer}
 
 -- ---- behind a lock
@@ -36,11 +38,9 @@ Left r r' = (r.ended ≡ true → r' ≡ r) × (r.ended ≡ false → (n : ℕ) 
 abbrev pub IsNewcomer : ℕ → ℕ → Receipts → Type 0
 IsNewcomer t s r = (n : ℕ) × (r ≡ newcomer t s n)
 
--- the refusals that come where both numbers are in range
-abbrev pub IsLate : AttachError → Type 0
-IsLate NoTenant = ⊥
-IsLate NoSession = ⊥
-IsLate e = Unit {0}
+-- behind a lock a session isn't opened for the reason that a cell of its tenant shows: it is open, the trail is full, or the step wasn't begun
+abbrev pub IsRefused : ℕ → ℕ → AttachError → Type 0
+IsRefused t s e = (c c' : Cell) × (hosts c t ≡ true) × RefusesRightly c t s e c'
 
 -- ---- a session
 
@@ -70,9 +70,9 @@ abbrev pub Calls : Session → List ℕ → Result Answer CallError → Session 
 Calls old line (Ok answer) new = (old.ended ≡ false) × IsNumbered answer × (new ≡ after_call old line answer)
 Calls old line (Err e) new = (old.ended ≡ is_ended e) × (new ≡ old)
 
--- a new session; or a refusal: the numbers are looked at first
+-- a new session; or a refusal: the numbers are looked at first, then the tenant's cell
 abbrev pub Attached : ℕ → ℕ → ℕ → Result Session AttachError → Type 0
 Attached tenants t s (Ok new) = (t < tenants) × (s < session_count) × ((n : ℕ) × (new ≡ shown (newcomer t s n)))
 Attached tenants t s (Err NoTenant) = tenants ≤ t
 Attached tenants t s (Err NoSession) = (t < tenants) × (session_count ≤ s)
-Attached tenants t s (Err e) = (t < tenants) × (s < session_count)
+Attached tenants t s (Err e) = (t < tenants) × (s < session_count) × IsRefused t s e

@@ -1,9 +1,11 @@
 -- The parts of the closing check.
-use Rattle.std.specs.Prelude.{ℕ, ◌/◌, ◌%◌, ◌≡◌, ◌<◌, ◌≤◌, Bool, MatchBool, List, [], length, take, Option, Some, None, Result, Ok, Err, Vec}
+use Rattle.std.specs.Prelude.{ℕ, ◌==◌, if◌then◌else◌, ◌∷◌, ◌/◌, ◌%◌, ◌≡◌, ◌<◌, ◌≤◌, Bool, MatchBool, List, [], length, take, Option, Some, None, Result, Ok, Err, Vec}
 use Rattle.std.specs.Global.{Global}
 use Rattle.std.specs.List.Sorted.{IsPermutation}
 use Rattle.sb_tenant.specs.declared.reply.Entry.{Entry}
 use Rattle.sb_tenant.specs.Limits.{session_count}
+use Rattle.sb_tenant.specs.Tenant.{Tenant}
+use Rattle.sb_tenant.specs.Trail.{IsTrail}
 use Rattle.sb_desk.specs.declared.receipts.Receipt.{Receipt}
 use Rattle.sb_host.specs.declared.comparing.Found.{Found}
 use Rattle.sb_host.specs.declared.comparing.Found.TheVariants.{Equal, Fewer, Different}
@@ -13,7 +15,7 @@ use Rattle.sb_host.specs.declared.finish.FinishError.TheVariants.{Missing, Misma
 use Rattle.sb_host.specs.declared.finish.Report.{Report}
 use Rattle.sb_host.specs.declared.gathering.Place.{Place}
 use Rattle.sb_host.specs.declared.stub.Stub.{Stub}
-use Rattle.sb_host.specs.Finish.{Agrees, IsMismatch, IsMissing, gathered, rank, row_at, wanted}
+use Rattle.sb_host.specs.Finish.{Agrees, IsKept, IsMismatch, IsMissing, gathered, rank, row_at, wanted}
 
 -- the test says whether the two are equal
 abbrev pub Tells : {A : Type 0} → Bool → A → A → Type 0
@@ -55,6 +57,19 @@ abbrev pub RowFails : List (Vec Receipt Global) → List (Vec Entry Global) → 
 RowFails rows trails (Missing t s) = (s < session_count) × FailsAt rows trails (rank t s) Fewer
 RowFails rows trails (Mismatch t s) = (s < session_count) × FailsAt rows trails (rank t s) Different
 RowFails rows trails NoMemory = ⊥
+
+-- ---- the trails of cells
+
+-- the trail of the last of these tenants that has this number, or else the one that stood there
+abbrev pub trail_by : ℕ → List Entry → List Tenant → List Entry
+trail_by n held [] = held
+trail_by n held (t ∷ ts) = trail_by n (if t.id == n then t.trail else held) ts
+
+-- one legal trail for each tenant; and those of the first cells are the ones that they keep
+abbrev pub AreTrailsOf : ℕ → ℕ → ℕ → ℕ → List (Vec Entry Global) → Type 0
+AreTrailsOf cells bound tenants count trails =
+    (length trails ≡ tenants) × ((t : ℕ) → IsTrail t bound (row_at trails t))
+    × ((t : ℕ) → t < tenants → t % cells < count → IsKept bound t (row_at trails t))
 
 -- ---- the sessions of other tenants
 

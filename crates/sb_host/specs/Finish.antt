@@ -1,7 +1,8 @@
 -- What the closing check compares, and what it answers.
-use Rattle.std.specs.Prelude.{ℕ, zero, suc, ◌+◌, ◌*◌, ◌≡◌, ◌<◌, ◌≤◌, ◌==◌, ◌&&◌, if◌then◌else◌, List, [], ◌∷◌, ◌++◌, length, Option, Some, None, Result, Ok, Err, Vec}
+use Rattle.std.specs.Prelude.{ℕ, zero, suc, true, ◌+◌, ◌*◌, ◌≡◌, ◌<◌, ◌≤◌, ◌==◌, ◌&&◌, if◌then◌else◌, List, [], ◌∷◌, ◌++◌, length, Option, Some, None, Result, Ok, Err, Vec}
 use Rattle.std.specs.Global.{Global}
 use Rattle.std.specs.List.Sorted.{IsNonDecreasingBy, IsPermutation}
+use Rattle.sb_cell.specs.Tenants.{Cell, hosts, trails as trail_in}
 use Rattle.sb_tenant.specs.declared.reply.Entry.{Entry}
 use Rattle.sb_tenant.specs.Limits.{session_count}
 use Rattle.sb_tenant.specs.Trail.{IsTrail}
@@ -64,9 +65,14 @@ AgreeBefore t s stubs trails = (u r : ℕ) → r < session_count → rank u r < 
 
 -- ---- the answer
 
--- one trail for each tenant, and each is legal
+-- the trail that a cell keeps of this tenant
+abbrev pub IsKept : ℕ → ℕ → List Entry → Type 0
+IsKept bound t trail = (c : Cell) × (hosts c t ≡ true) × (c.bound ≡ bound) × (trail ≡ trail_in c t)
+
+-- one trail for each tenant; each is legal, and the one that the tenant's cell keeps
 abbrev pub AreTrails : ℕ → ℕ → List (Vec Entry Global) → Type 0
-AreTrails bound tenants trails = (length trails ≡ tenants) × ((t : ℕ) → IsTrail t bound (row_at trails t))
+AreTrails bound tenants trails =
+    (length trails ≡ tenants) × ((t : ℕ) → IsTrail t bound (row_at trails t)) × ((t : ℕ) → t < tenants → IsKept bound t (row_at trails t))
 
 -- the number of entries of all trails
 abbrev pub steps_in : List (Vec Entry Global) → ℕ

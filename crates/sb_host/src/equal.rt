@@ -3,7 +3,7 @@ ghost use Rattle.std.specs.Prelude.{◌≡◌};
 ghost use Rattle.sb_host.specs.Comparing.{Tells};
 
 use sb_tenant::{NamedTrace, Reply};
-use sb_value::{Name, Refusal, Row, Value, Verdict};
+use sb_value::{Name, Refusal, Verdict};
 
 /// Whether the two have the same bytes.
 pub(crate) fn same_bytes(one: &[u8], other: &[u8]) -> bool
@@ -16,51 +16,6 @@ fn same_name(one: &Name, other: &Name) -> bool
     ensures { Tells result one.now other.now }
 {
     same_bytes(one.as_slice(), other.as_slice())
-}
-
-fn same_value(one: &Value, other: &Value) -> bool
-    ensures { Tells result one.now other.now }
-{
-    match one {
-        Value::Int(number) => match other {
-            Value::Int(another) => *number == *another,
-            Value::Text(_) => false,
-        },
-        Value::Text(text) => match other {
-            Value::Text(another) => same_bytes(text.as_slice(), another.as_slice()),
-            Value::Int(_) => false,
-        },
-    }
-}
-
-fn same_row(one: &Row, other: &Row) -> bool
-    ensures { Tells result one.now other.now }
-{
-    let values = one.values();
-    let others = other.values();
-    if values.len() != others.len() {
-        return false;
-    }
-    for i in 0..values.len() {
-        if !same_value(&values[i], &others[i]) {
-            return false;
-        }
-    }
-    true
-}
-
-fn same_rows(rows: &[Row], others: &[Row]) -> bool
-    ensures { Tells result rows.now others.now }
-{
-    if rows.len() != others.len() {
-        return false;
-    }
-    for i in 0..rows.len() {
-        if !same_row(&rows[i], &others[i]) {
-            return false;
-        }
-    }
-    true
 }
 
 fn same_verdict(one: Verdict, other: Verdict) -> bool
@@ -117,7 +72,7 @@ pub(crate) fn same_reply(one: &Reply, other: &Reply) -> bool
             _ => false,
         },
         Reply::Rows(rows) => match other {
-            Reply::Rows(others) => same_rows(rows.as_list().rows(), others.as_list().rows()),
+            Reply::Rows(others) => rows.is_same(others),
             _ => false,
         },
         Reply::Done(trace) => match other {

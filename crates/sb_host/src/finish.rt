@@ -1,7 +1,8 @@
 //! The closing check: every session's receipts against the entries of its tenant's trail.
-ghost use Rattle.std.specs.Prelude.{ℕ, ◌≡◌, ◌<◌, ◌≤◌, All, length, IfOk, IfSome};
-ghost use Rattle.sb_host.specs.Comparing.{Audits};
-ghost use Rattle.sb_host.specs.Finish.{AreTrails, Finishes, steps_in};
+ghost use Rattle.std.specs.Prelude.{ℕ, ◌≡◌, ◌<◌, ◌≤◌, ◌+◌, All, length, IfOk, IfSome, IsSome};
+ghost use Rattle.sb_tenant.specs.Trail.{IsTrail};
+ghost use Rattle.sb_host.specs.Comparing.{AreTrailsOf, Audits, trail_by};
+ghost use Rattle.sb_host.specs.Finish.{AreTrails, Finishes, row_at, steps_in};
 
 use crate::comparing::check_all;
 use crate::gathering::{blank, first_stray, rows_of};
@@ -131,8 +132,10 @@ fn audit(alloc: Global, trails: Vec<Vec<Entry>>, stubs: Vec<Stub>) -> Result<Rep
 
 /// Puts the trails of a lock's cell at the places of their tenants.
 fn put<N: Naming, const F: u32>(trails: &mut Vec<Vec<Entry>>, lock: Lock<N, F>)
-    requires { AreTrails N.bound N.tenants trails.old.items }
-    ensures { AreTrails N.bound N.tenants trails.new.items }
+    requires trails { AreTrailsOf N.cells N.bound N.tenants F trails.old.items }
+    requires cells { 0 < N.cells }
+    requires there { F < N.cells → IsSome lock }
+    ensures { AreTrailsOf N.cells N.bound N.tenants (F + 1) trails.new.items }
 {
     if let Some(lock) = lock {
         let desk = lock.into_inner().into_inner();
@@ -143,9 +146,11 @@ fn put<N: Naming, const F: u32>(trails: &mut Vec<Vec<Entry>>, lock: Lock<N, F>)
 /// Puts the trails of these tenants at their places.
 fn put_all(trails: &mut Vec<Vec<Entry>>, tenants: Vec<Tenant>)
     ghost bound: { ℕ }
-    requires trails { AreTrails bound (length trails.old.items) trails.old.items }
+    requires legal { (n : ℕ) → IsTrail n bound (row_at trails.old.items n) }
     requires tenants { All (λ t. (t.id < length trails.old.items) × (t.bound ≡ bound)) tenants.items }
-    ensures { AreTrails bound (length trails.old.items) trails.new.items }
+    ensures length { length trails.new.items ≡ length trails.old.items }
+    ensures legal { (n : ℕ) → IsTrail n bound (row_at trails.new.items n) }
+    ensures put { (n : ℕ) → row_at trails.new.items n ≡ trail_by n (row_at trails.old.items n) tenants.items }
 {
     for tenant in tenants {
         let at = tenant.id().index();

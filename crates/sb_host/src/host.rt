@@ -1,6 +1,6 @@
 //! The cells of a host, each behind a lock of its own.
 ghost use Rattle.std.specs.Prelude.{◌≡◌, ◌<◌, ◌≤◌, false, IsSome, IfOk, IfErr, OnOk};
-ghost use Rattle.sb_host.specs.Calls.{Attached, Called, IsLate, IsNewcomer, Left, Refused};
+ghost use Rattle.sb_host.specs.Calls.{Attached, Called, IsRefused, IsNewcomer, Left, Refused};
 
 use crate::gate::Gate;
 use crate::locks::{Lock, Reach, admit_in, enter_in, leave_in};
@@ -99,7 +99,7 @@ impl<N: Naming> Host<N> {
     ) -> Result<Receipts<N>, AttachError>
         requires { tenant < self.now }
         ensures ok { IfOk result (λ r. IsNewcomer tenant session r) }
-        ensures late { IfErr result (λ e. IsLate e) }
+        ensures late { IfErr result (λ e. IsRefused tenant session e) }
     {
         match tenant % self.cells {
             0 => admit_in(rt, alloc, &self.d0, tenant, session, self.cells),

@@ -1,6 +1,6 @@
 //! The three calls of a desk, behind its lock.
 ghost use Rattle.std.specs.Prelude.{◌≡◌, ◌<◌, ◌≤◌, ◌%◌, true, false, IsSome, IfOk, IfErr, OnOk};
-ghost use Rattle.sb_host.specs.Calls.{Called, IsNewcomer, IsLate, Left, Refused};
+ghost use Rattle.sb_host.specs.Calls.{Called, IsNewcomer, IsRefused, Left, Refused};
 
 use crate::gate::Gate;
 use crossbeam_utils::CachePadded;
@@ -78,7 +78,7 @@ pub(crate) fn admit_in<N: Naming, const F: u32, R: Wait>(
     requires cells { cells ≡ N.cells }
     requires hosts { (tenant < N.tenants) × (tenant % N.cells ≡ F) }
     ensures ok { IfOk result (λ r. IsNewcomer tenant session r) }
-    ensures late { IfErr result (λ e. IsLate e) }
+    ensures late { IfErr result (λ e. IsRefused tenant session e) }
 {
     let Some(lock) = lock else { unreachable!() };
     let mut desk = lock.lock(rt);
