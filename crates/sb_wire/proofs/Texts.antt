@@ -1,12 +1,13 @@
 -- Text that is added in parts.
-use Rattle.std.proofs.Common.{◌≡◌, ℕ, List, [], ◌∷◌, ◌++◌, length, take, refl, ap, sym, append_assoc, subst}
+use Rattle.std.proofs.Common.{◌≡◌, ℕ, List, [], ◌∷◌, ◌++◌, length, map, take, refl, ap, sym, ◌∙◌, append_assoc, subst}
 use Rattle.sb_value.specs.declared.value.Value.{Value}
-use Rattle.sb_value.specs.Literal.{value_text}
-use Rattle.std.proofs.lemmas.List.{append-nil}
+use Rattle.sb_rows.specs.RowText.{row_text, started_rows}
 use Rattle.sb_wire.specs.Lines.{space}
 use Rattle.sb_wire.specs.Output.{prefixed}
-use Rattle.sb_wire.specs.ReplyText.{row_text}
-use Rattle.sb_wire.specs.Written.{IsInFront, started_lines, others_text}
+use Rattle.std.proofs.lemmas.List.{append-nil, length-map}
+use Rattle.std.specs.Prelude.{codes, decimal}
+use Rattle.sb_wire.specs.ReplyText.{words, counted}
+use Rattle.sb_wire.specs.Written.{IsInFront, started_lines}
 
 -- what stands in front of more stands in front
 pub front_before : (old more new : List ℕ) → IsInFront (old ++ more) new → IsInFront old new
@@ -26,11 +27,21 @@ pub prefixed_started : (prefix : List ℕ) (lines : List (List ℕ)) → started
 prefixed_started prefix [] = refl
 prefixed_started prefix (line ∷ lines) = rw (prefixed_started prefix lines) (simp append_assoc)
 
--- the first value and the others
-pub row_others : (value : Value) (values : List Value) → row_text (value ∷ values) ≡ value_text value ++ others_text values
-row_others value [] = sym (append-nil (value_text value))
-row_others value (next ∷ values) = ap (λ t. value_text value ++ 44 ∷ t) (row_others next values)
+-- each row's line behind the same bytes
+pub rows_started : (start : List ℕ) (rows : List (List Value)) → started_rows start rows ≡ started_lines start (map row_text rows)
+rows_started start [] = refl
+rows_started start (row ∷ rows) = ap (λ t. (start ++ row_text row ++ 10 ∷ []) ++ t) (rows_started start rows)
 
--- a row is added by its first value and by the others
-pub row_added : (old mid new : List ℕ) (value : Value) (values row : List Value) → row ≡ value ∷ values → mid ≡ old ++ value_text value → new ≡ mid ++ others_text values → new ≡ old ++ row_text row
-row_added old mid new value values row is first others = rw (others, first, is, row_others value values) (append_assoc old (value_text value) (others_text values))
+-- the number of the rows, and their lines
+pub rows_added : (old mid new start : List ℕ) (rows : List (List Value)) (count : ℕ) → count ≡ length rows
+    → mid ≡ old ++ started_lines start (words (codes "rows" ∷ decimal count ∷ []) ∷ []) → new ≡ mid ++ started_rows start rows
+    → new ≡ old ++ started_lines start (counted (codes "rows" ∷ []) (map row_text rows))
+rows_added old mid new start rows count is head more =
+    let lines : List (List ℕ) = map row_text rows in
+    let first : ℕ → List ℕ = λ n. words (codes "rows" ∷ decimal n ∷ []) in
+    let number : count ≡ length lines = is ∙ sym (length-map rows row_text) in
+    more ∙ ap (λ m. m ++ started_rows start rows) head
+    ∙ ap (λ t. (old ++ started_lines start (first count ∷ [])) ++ t) (rows_started start rows)
+    ∙ append_assoc old (started_lines start (first count ∷ [])) (started_lines start lines)
+    ∙ ap (λ t. old ++ (t ++ started_lines start lines)) (append-nil (start ++ first count ++ 10 ∷ []))
+    ∙ ap (λ n. old ++ ((start ++ first n ++ 10 ∷ []) ++ started_lines start lines)) number

@@ -1,12 +1,11 @@
 -- The text of a reply, as its lines.
 use Rattle.std.specs.Prelude.{ℕ, List, [], ◌∷◌, ◌++◌, map, length, codes, decimal}
 use Rattle.std.specs.List.{join_with_byte}
-use Rattle.sb_value.specs.declared.value.Value.{Value}
 use Rattle.sb_value.specs.declared.refusal.Verdict.{Verdict}
 use Rattle.sb_value.specs.declared.refusal.Verdict.TheVariants as verdict
 use Rattle.sb_value.specs.declared.refusal.Refusal.{Refusal}
 use Rattle.sb_value.specs.declared.refusal.Refusal.TheVariants as refusal
-use Rattle.sb_value.specs.Literal.{value_text}
+use Rattle.sb_rows.specs.RowText.{row_text}
 use Rattle.sb_value.specs.Refusal.{refusal_number, refusal_name}
 use Rattle.sb_tenant.specs.declared.reply.Reply.{Reply}
 use Rattle.sb_tenant.specs.declared.reply.Reply.TheVariants as reply
@@ -23,10 +22,6 @@ refusal_words r = decimal (refusal_number r) ∷ refusal_name r ∷ []
 abbrev pub table_words : Refusal → List (List ℕ)
 table_words (refusal.Locked table) = table ∷ []
 table_words r = []
-
--- the values of a row
-abbrev pub row_text : List Value → List ℕ
-row_text row = join_with_byte 44 (map value_text row)
 
 -- the word for a verdict
 abbrev pub verdict_word : Verdict → List ℕ

@@ -1,7 +1,5 @@
 -- Text that is added behind what stands there.
 use Rattle.std.specs.Prelude.{◌≡◌, ℕ, ◌-◌, List, [], ◌∷◌, ◌++◌, length, take, flat_map}
-use Rattle.sb_value.specs.declared.value.Value.{Value}
-use Rattle.sb_value.specs.Literal.{value_text}
 use Rattle.sb_wire.specs.Lines.{newline}
 
 -- the bytes of old still stand in front
@@ -15,10 +13,3 @@ without_last bytes = take (length bytes - 1) bytes
 -- each line with the same bytes in front and an own newline
 abbrev pub started_lines : List ℕ → List (List ℕ) → List ℕ
 started_lines start lines = flat_map (λ l. start ++ l ++ newline ∷ []) lines
-
-abbrev pub comma : ℕ
-comma = 44
-
--- the values behind the first of a row, with a comma before each
-abbrev pub others_text : List Value → List ℕ
-others_text values = flat_map (λ v. comma ∷ value_text v) values

@@ -92,7 +92,7 @@ fn push_reply(out: &mut Vec<u8>, start: &[u8], reply: &Reply) -> Result<(), Allo
     match reply {
         Reply::Ok => push_line(out, start, b"ok"),
         Reply::Count(count) => push_counted(out, start, b"ok", *count),
-        Reply::Rows(rows) => push_rows(out, start, rows.as_list().rows()),
+        Reply::Rows(rows) => push_rows(out, start, rows),
         Reply::Done(trace) => push_considered(out, start, b"done", trace.as_slice()),
         Reply::ByRule(rule, trace) => push_by_rule(out, start, rule, trace.as_slice()),
         Reply::ByError(rule, refusal, trace) => {

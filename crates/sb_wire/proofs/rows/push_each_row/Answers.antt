@@ -1,9 +1,0 @@
--- the lines before stay
-use Rattle.std.proofs.lemmas.Result.{err_from_is_err_and}
-use Rattle.sb_wire.proofs.Texts.{front_through}
-use Rattle.sb_wire.proofs.rows.push_each_row.Goals as goal
-
-pub returns-in_err-push_row-clause-err : goal.returns-in_err-push_row-clause-err
-returns-in_err-push_row-clause-err c =
-    let p = err_from_is_err_and c.from_residual.result c.from_residual.ensures.1 in
-    rw p.1 (front_through _ _ _ _ c.loop-row.invariant c.in_err-push_row.ensures.err)
