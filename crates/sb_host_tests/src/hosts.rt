@@ -3,7 +3,7 @@ ghost use Rattle.std.specs.Prelude.{◌≡◌};
 
 use sb_host::{AttachError, CallError, FinishError, Host, Naming, Opened, Report, Session};
 use sb_tenant::{Answer, Reply};
-use sb_value::{Refusal, Value};
+use sb_value::Refusal;
 use std::alloc::Global;
 use std::marker::Brand;
 use std::sync::Wait;
@@ -42,7 +42,7 @@ fn said<N: Naming, R: Wait>(
     match &session.last()?.reply {
         Reply::Ok => Some(0),
         Reply::Count(count) => usize::try_from(*count).ok(),
-        Reply::Rows(rows) => Some(rows.as_list().rows().len()),
+        Reply::Rows(rows) => Some(rows.len()),
         Reply::Done(trace) => Some(trace.as_slice().len()),
         _ => None,
     }
@@ -59,15 +59,7 @@ fn reads_back<N: Naming>(session: &Session<'_, N>) -> bool {
     else {
         return false;
     };
-    let Some(row) = rows.as_list().rows().first() else {
-        return false;
-    };
-    match (row.values().get(0), row.values().get(1)) {
-        (Some(Value::Int(number)), Some(Value::Text(text))) => {
-            *number == 1 && text.as_slice() == b"x'y".as_slice()
-        }
-        _ => false,
-    }
+    rows.text().starts_with(b"1,'x''y'\n")
 }
 
 /// A transaction whose rows the next one reads: whether all replies were as they are to be, and the

@@ -246,7 +246,7 @@ fn made<N: Naming>(session: &Session<'_, N>) -> usize {
 }
 
 /// The number of rows that a session counts.
-fn rows_counted<N: Naming>(session: &Session<'_, N>) -> Option<i64> {
+fn rows_counted<N: Naming>(alloc: Global, session: &Session<'_, N>) -> Option<i64> {
     let Some(
         Answer {
             reply: Reply::Rows(rows),
@@ -256,8 +256,11 @@ fn rows_counted<N: Naming>(session: &Session<'_, N>) -> Option<i64> {
     else {
         return None;
     };
-    match rows.as_list().rows().first()?.values().first()? {
-        Value::Int(number) => Some(*number),
+    let [digits @ .., b'\n'] = rows.text() else {
+        return None;
+    };
+    match Value::from_literal(alloc, digits) {
+        Ok(Value::Int(number)) => Some(number),
         _ => None,
     }
 }
@@ -286,7 +289,7 @@ fn last_count<N: Naming, R: Wait>(
     let mut session = session;
     let _ = session.call(rt, alloc, b"begin");
     let _ = session.call(rt, alloc, b"select count(*) from t");
-    let rows = rows_counted(&session);
+    let rows = rows_counted(alloc, &session);
     (rows, session.close(rt))
 }
 
