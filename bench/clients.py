@@ -18,7 +18,8 @@ ROOT = os.path.dirname(os.path.dirname(os.path.abspath(__file__)))
 def blocks(kind):
     """The blocks of the page that begin with three quotes and this word."""
     with open(f"{ROOT}/docs/CLIENTS.md", encoding="ascii") as page:
-        return re.findall(rf"^```{kind}\n(.*?)^```$", page.read(), re.M | re.S)
+        found = re.findall(r"^```(\w*)\n(.*?)^```$", page.read(), re.M | re.S)
+    return [text for its, text in found if its == kind]
 
 
 def main():

@@ -4,9 +4,10 @@
     bench/several_hosts/several_hosts.py [PROGRAM]
 
 It needs HAProxy (2.6 or later) and the built program, crates/starhost/out/starhost where no other is given. It starts
-two servers and the balancer with haproxy.cfg, plays the same lines of each tenant through the balancer and on one server
-alone, and compares the replies, tenant by tenant. Then it moves the line of a tenant that has no session to the other host, and looks
-that the tenant is there: without its tables, since a host's data stays on it. At the end it says on one line what it saw."""
+two servers and the balancer with haproxy.cfg, plays the same lines of each tenant through the balancer and on one
+server alone, and compares the replies, tenant by tenant. Then it moves the line of a tenant that has no session to the
+other host, and looks that the tenant is there: without its tables, since a host's data stays on it. At the end it says
+on one line what it saw."""
 
 import os
 import shutil
@@ -15,6 +16,7 @@ import subprocess
 import sys
 import tempfile
 import threading
+import time
 
 HERE = os.path.dirname(os.path.abspath(__file__))
 ROOT = os.path.dirname(os.path.dirname(HERE))
@@ -87,6 +89,7 @@ def balance(folder, front, ports):
             probe.settimeout(0.1)
             if probe.connect_ex(("127.0.0.1", front)) == 0:
                 return balancer
+        time.sleep(0.1)
     raise SystemExit("haproxy doesn't listen")
 
 
@@ -117,7 +120,8 @@ def main():
         tell(folder, "set map tenants.map 6 host1")
         moved = replies(front, 6, "begin\nselect * from emp\nend\n") == "ok\nok\nno 20 NoTable\nok\n"
         stayed = replies(front, 8, "begin\nselect * from dept\nend\n") == "ok\nok\nrows 1\n2\nok\n"
-        print(f"{TENANTS} tenants on two hosts, {len(wrong)} answered otherwise than on one host; a tenant whose line moved is on the other host: {moved}; the others stay: {stayed}")
+        print(f"{TENANTS} tenants on two hosts, {len(wrong)} answered otherwise than on one host;", end=" ")
+        print(f"a tenant whose line moved is on the other host: {moved}; the others stay: {stayed}")
         return 0 if not wrong and moved and stayed else 1
     finally:
         for process in started:
