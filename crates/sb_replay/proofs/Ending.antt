@@ -70,6 +70,7 @@ attended t s commands None sheet own (empty, is) left none = record {
   exchanges = [];
   commands_are = empty;
   tenant_is = ap (λ (x : Sheet). x.tenant) is;
+  number_is = ap (λ (x : Sheet). x.number) is;
   text_is = ap (λ (x : Sheet). x.text) is;
   full_is = ap (λ (x : Sheet). x.is_full) is;
   unopened = λ _. ap (gathered t s) none;
@@ -82,6 +83,7 @@ attended t s commands (Some last) sheet own (some, p) left (stub, one, leaves, o
       exchanges = p.exchanges;
       commands_are = p.commands_are ∙ ap (λ (l : List (List ℕ)). commands_in p.exchanges ++ l) left ∙ append-nil (commands_in p.exchanges);
       tenant_is = p.tenant_is;
+      number_is = p.number_is;
       text_is = p.text_is;
       full_is = p.full_is;
       unopened = λ none. absurd (some none);

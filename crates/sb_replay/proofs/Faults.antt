@@ -1,8 +1,14 @@
--- The fault of a writer.
-use Rattle.std.proofs.Common.{◌≡◌, ℕ, Result, Ok, Err, IfErr, OnErr, sym, subst}
+-- Why an input isn't replayed.
+use Rattle.std.proofs.Common.{◌≡◌, ℕ, List, Option, Result, Ok, Err, IfErr, IfSome, OnErr, Vec, inl, inr, sym, subst}
+use Rattle.std.specs.Global.{Global}
+use Rattle.std.specs.Io.KnownBytes.{Keeps}
+use Rattle.sb_host.specs.declared.stub.Stub.{Stub}
 use Rattle.sb_replay.specs.declared.error.ReplayError.{ReplayError}
 use Rattle.sb_replay.specs.declared.error.ReplayError.TheVariants.{ReadFault, WriteFault, BadLine, Attach, Finish, NoMemory}
-use Rattle.sb_replay.specs.Replay.{IsUnclosed, IsUnopened, IsUnplayed}
+use Rattle.sb_script.specs.Scripts.{HoldsScript}
+use Rattle.sb_replay.specs.Parts.{AreAttended}
+use Rattle.sb_replay.specs.Replay.{Fails, IsUnclosed, IsUnfinished, IsUnopened, IsUnplayed}
+use Rattle.sb_replay.specs.Sheets.{Sheet}
 
 -- where writing says no more than that it failed
 pub not_written : (result : Result (Unit {0}) ReplayError) (Q : ReplayError → Type 0) (M : Type 0)
@@ -26,3 +32,23 @@ unclosed_unplayed tenants (BadLine n) h = absurd h
 unclosed_unplayed tenants (Attach t s) h = absurd h
 unclosed_unplayed tenants (Finish e) h = h
 unclosed_unplayed tenants NoMemory h = h
+
+module _ {R W : Type 0} (fails : R → Type 0) (remaining : R → Option (List ℕ)) (refuses : W → Type 0) (contents : W → Option (List ℕ)) (tenants bound : ℕ)
+    (reader reader' : R) (writer writer' : W) (keeps : Keeps (contents writer) (contents writer')) where
+  pub unplayed_fails : (e : ReplayError) → IsUnplayed tenants e → Fails fails remaining refuses contents tenants bound reader reader' writer writer' e
+  unplayed_fails ReadFault h = absurd h
+  unplayed_fails WriteFault h = absurd h
+  unplayed_fails (BadLine n) h = absurd h
+  unplayed_fails (Attach t s) h = (h, keeps)
+  unplayed_fails (Finish e) h = (inr h, keeps)
+  unplayed_fails NoMemory h = keeps
+
+  pub unreported_fails : (rows : List (Vec (Vec ℕ Global) Global)) (sheets : List Sheet) (stubs : List Stub) (e : ReplayError)
+      → IfSome (remaining reader) (λ input. HoldsScript tenants input rows) → AreAttended rows sheets stubs
+      → IsUnfinished tenants bound stubs sheets e → Fails fails remaining refuses contents tenants bound reader reader' writer writer' e
+  unreported_fails rows sheets stubs ReadFault script attended h = absurd h
+  unreported_fails rows sheets stubs WriteFault script attended h = absurd h
+  unreported_fails rows sheets stubs (BadLine n) script attended h = absurd h
+  unreported_fails rows sheets stubs (Attach t s) script attended h = absurd h
+  unreported_fails rows sheets stubs (Finish e) script attended h = (inl (rows, sheets, stubs, script, attended, h), keeps)
+  unreported_fails rows sheets stubs NoMemory script attended h = keeps

@@ -124,6 +124,7 @@ pub record Attended (t s : ℕ) (commands : List (List ℕ)) (receipts : List Re
   pub exchanges : List Exchange
   pub commands_are : commands ≡ commands_in exchanges
   pub tenant_is : sheet.tenant ≡ t
+  pub number_is : sheet.number ≡ s
   pub text_is : sheet.text ≡ session_text t s exchanges
   pub full_is : sheet.is_full ≡ any_lacks exchanges
   pub unopened : commands ≡ [] → receipts ≡ []

@@ -1,7 +1,7 @@
 -- What a replay writes, and why it fails.
-use Rattle.std.specs.Prelude.{◌≡◌, ◌⊎◌, ⊤, ◌+◌, ◌*◌, ◌<◌, ◌≤◌, ℕ, true, List, [], ◌∷◌, ◌++◌, get_or, length, flat_map, Option, IfSome, Err, Vec}
+use Rattle.std.specs.Prelude.{◌≡◌, ◌⊎◌, ⊤, ◌+◌, ◌*◌, ◌<◌, ◌≤◌, ℕ, true, List, [], ◌∷◌, ◌++◌, get_or, length, flat_map, Option, IfSome, Ok, Err, Vec}
 use Rattle.std.specs.Global.{Global}
-use Rattle.std.specs.List.{All}
+use Rattle.std.specs.List.{All, Contains}
 use Rattle.std.specs.Io.KnownBytes.{Appends, Consumes, Keeps}
 use Rattle.sb_tenant.specs.declared.reply.Entry.{Entry}
 use Rattle.sb_tenant.specs.Limits.{session_count, trail_limit}
@@ -9,16 +9,21 @@ use Rattle.sb_wire.specs.Counts.{totals_line}
 use Rattle.sb_wire.specs.Lines.{Addressed}
 use Rattle.sb_wire.specs.Stream.{MayFail, read_limit}
 use Rattle.sb_script.specs.Input.{IsAsked, IsBadLine, commands_for}
-use Rattle.sb_host.specs.Calls.{Session}
+use Rattle.sb_script.specs.Scripts.{HoldsScript}
+use Rattle.sb_desk.specs.declared.desk.AttachError.{AttachError}
+use Rattle.sb_desk.specs.declared.desk.AttachError.TheVariants.{AlreadyOpen, TrailFull, NotBegun}
+use Rattle.sb_host.specs.Calls.{IsRefused, Session}
 use Rattle.sb_host.specs.Finish.{Agrees, AreTrails, Finishes, IsInOrder, rank, row_at, steps_in, wanted}
 use Rattle.sb_host.specs.Stubs.{LeavesStub}
 use Rattle.sb_host.specs.declared.finish.FinishError.{FinishError}
 use Rattle.sb_host.specs.declared.finish.FinishError.TheVariants.{Mismatch}
+use Rattle.sb_host.specs.declared.finish.Report.{Report}
 use Rattle.sb_host.specs.declared.stub.Stub.{Stub}
 use Rattle.sb_replay.specs.declared.error.ReplayError.{ReplayError}
 use Rattle.sb_replay.specs.declared.error.ReplayError.TheVariants.{ReadFault, WriteFault, BadLine, Attach, Finish, NoMemory}
 use Rattle.sb_script.specs.declared.error.ScriptError.{ScriptError}
 use Rattle.sb_script.specs.declared.error.ScriptError.TheVariants as script
+use Rattle.sb_replay.specs.Parts.{AreAttended}
 use Rattle.sb_replay.specs.Sessions.{Attends}
 use Rattle.sb_replay.specs.Sheets.{Sheet, texts_of}
 
@@ -59,9 +64,13 @@ pub record Reports (tenants bound : ℕ) (stubs : List Stub) (sheets : List Shee
 
 -- ---- faults
 
--- a session whose numbers are in range wasn't opened, or there was no memory
+-- a session whose numbers are in range is open already, or its tenant's trail is full
+abbrev pub IsUnattached : ℕ → ℕ → ℕ → Type 0
+IsUnattached tenants t s = (t < tenants) × (s < session_count) × (IsRefused t s AlreadyOpen ⊎ IsRefused t s TrailFull)
+
+-- so it wasn't opened, or there was no memory
 abbrev pub IsUnopened : ℕ → ReplayError → Type 0
-IsUnopened tenants (Attach t s) = (t < tenants) × (s < session_count)
+IsUnopened tenants (Attach t s) = IsUnattached tenants t s
 IsUnopened tenants NoMemory = ⊤
 IsUnopened tenants other = ⊥
 
@@ -79,26 +88,44 @@ IsUnclosed other = ⊥
 
 -- not all sessions were opened, called and closed
 abbrev pub IsUnplayed : ℕ → ReplayError → Type 0
-IsUnplayed tenants (Attach t s) = (t < tenants) × (s < session_count)
+IsUnplayed tenants (Attach t s) = IsUnattached tenants t s
 IsUnplayed tenants (Finish e) = IsDisordered e
 IsUnplayed tenants NoMemory = ⊤
 IsUnplayed tenants other = ⊥
 
--- a session was told of a full trail, which the trail denies
-abbrev pub DeniesFull : List (Vec Entry Global) → FinishError → Type 0
-DeniesFull trails (Mismatch t s) = length (row_at trails t) < trail_limit
-DeniesFull trails other = ⊥
+-- this session was told of a full trail, which the trail denies
+abbrev pub DeniesSheet : List (Vec Entry Global) → Sheet → FinishError → Type 0
+DeniesSheet trails sheet (Mismatch t s) =
+    (t ≡ sheet.tenant) × (s ≡ sheet.number) × (sheet.is_full ≡ true) × (length (row_at trails sheet.tenant) < trail_limit)
+DeniesSheet trails sheet other = ⊥
 
--- or the receipts of a session deny its own order, or `finish` answered so
-abbrev pub FailsToFinish : ℕ → ℕ → FinishError → Type 0
-FailsToFinish tenants bound e =
-    ((stubs : List Stub) × Finishes bound tenants stubs (Err e))
-    ⊎ (((trails : List (Vec Entry Global)) × AreTrails bound tenants trails × DeniesFull trails e) ⊎ IsDisordered e)
+-- one of these was
+abbrev pub DeniesOne : List (Vec Entry Global) → List Sheet → FinishError → Type 0
+DeniesOne trails sheets e = (sheet : Sheet) × Contains sheets sheet × DeniesSheet trails sheet e
 
-abbrev pub IsUnfinished : ℕ → ℕ → ReplayError → Type 0
-IsUnfinished tenants bound (Finish e) = FailsToFinish tenants bound e
-IsUnfinished tenants bound NoMemory = ⊤
-IsUnfinished tenants bound other = ⊥
+-- `finish` answered so of these stubs, or reported, and one of these sessions was told of a full trail that isn't
+abbrev pub IsUnreported : ℕ → ℕ → List Stub → List Sheet → FinishError → Type 0
+IsUnreported tenants bound stubs sheets e =
+    Finishes bound tenants stubs (Err e)
+    ⊎ ((report : Report) × Finishes bound tenants stubs (Ok report) × DeniesOne report.trails.items sheets e)
+
+-- so it was, or there was no memory
+abbrev pub IsUnfinished : ℕ → ℕ → List Stub → List Sheet → ReplayError → Type 0
+IsUnfinished tenants bound stubs sheets (Finish e) = IsUnreported tenants bound stubs sheets e
+IsUnfinished tenants bound stubs sheets NoMemory = ⊤
+IsUnfinished tenants bound stubs sheets other = ⊥
+
+-- so it was of the sessions of an input, which were called with all their commands; or the receipts of one deny its own order
+abbrev pub FailsToFinish : ℕ → ℕ → Option (List ℕ) → FinishError → Type 0
+FailsToFinish tenants bound known e =
+    ((rows : List (Vec (Vec ℕ Global) Global)) × (sheets : List Sheet) × (stubs : List Stub)
+    × IfSome known (λ input. HoldsScript tenants input rows) × AreAttended rows sheets stubs × IsUnreported tenants bound stubs sheets e)
+    ⊎ IsDisordered e
+
+-- what a session that isn't attached is told as
+abbrev pub unattached_as : ℕ → ℕ → AttachError → ReplayError
+unattached_as t s NotBegun = NoMemory
+unattached_as t s other = Attach t s
 
 -- what a fault in reading is told as
 abbrev pub unread_by : ScriptError → ReplayError
@@ -115,8 +142,8 @@ module _ {R W : Type 0} (fails : R → Type 0) (remaining : R → Option (List �
       × (MayFail fails remaining reader' ⊎ (read_limit ≤ length seen)) × Keeps (contents writer) (contents writer')
   Fails reader reader' writer writer' (BadLine n) =
       (seen : List ℕ) × Consumes (remaining reader) (remaining reader') seen × IsBadLine tenants seen n × Keeps (contents writer) (contents writer')
-  Fails reader reader' writer writer' (Attach t s) = (t < tenants) × (s < session_count) × Keeps (contents writer) (contents writer')
-  Fails reader reader' writer writer' (Finish e) = FailsToFinish tenants bound e × Keeps (contents writer) (contents writer')
+  Fails reader reader' writer writer' (Attach t s) = IsUnattached tenants t s × Keeps (contents writer) (contents writer')
+  Fails reader reader' writer writer' (Finish e) = FailsToFinish tenants bound (remaining reader) e × Keeps (contents writer) (contents writer')
   Fails reader reader' writer writer' NoMemory = Keeps (contents writer) (contents writer')
   Fails reader reader' writer writer' WriteFault =
       (text written left : List ℕ) × IfSome (remaining reader) (λ input. Replays tenants bound input text)

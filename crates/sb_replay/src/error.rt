@@ -1,8 +1,8 @@
 //! Why an input isn't replayed.
 ghost use Rattle.std.specs.Prelude.{◌≡◌};
-ghost use Rattle.sb_replay.specs.Replay.{unread_by};
+ghost use Rattle.sb_replay.specs.Replay.{unattached_as, unread_by};
 
-use sb_host::FinishError;
+use sb_host::{AttachError, FinishError};
 use sb_script::ScriptError;
 use sb_value::SessionId;
 
@@ -30,5 +30,15 @@ pub(crate) fn unread(error: ScriptError) -> ReplayError
         ScriptError::ReadFault => ReplayError::ReadFault,
         ScriptError::BadLine { line } => ReplayError::BadLine { line },
         ScriptError::NoMemory => ReplayError::NoMemory,
+    }
+}
+
+/// What a session that isn't attached is told as.
+pub(crate) fn unattached(error: AttachError, tenant: u32, session: SessionId) -> ReplayError
+    ensures { result ≡ unattached_as tenant session error }
+{
+    match error {
+        AttachError::NotBegun => ReplayError::NoMemory,
+        _ => ReplayError::Attach { tenant, session },
     }
 }

@@ -1,9 +1,9 @@
 //! The host is finished, and the text of the replay made.
-ghost use Rattle.std.specs.Prelude.{◌≡◌, ◌++◌, ◌<◌, nat_le, MatchBool, IfErr, IfOk, OnOk, length};
+ghost use Rattle.std.specs.Prelude.{◌≡◌, ◌++◌, ◌<◌, nat_le, true, MatchBool, IfErr, IfOk, OnOk, length};
 ghost use Rattle.std.specs.List.{All};
 ghost use Rattle.sb_tenant.specs.Limits.{trail_limit};
 ghost use Rattle.sb_host.specs.Finish.{row_at};
-ghost use Rattle.sb_replay.specs.Replay.{DeniesFull, IsFullBy, IsUnfinished, Reports, replay_text};
+ghost use Rattle.sb_replay.specs.Replay.{DeniesOne, IsFullBy, IsUnfinished, Reports, replay_text};
 ghost use Rattle.sb_replay.specs.Sheets.{texts_of};
 
 use crate::closing::Closed;
@@ -30,7 +30,7 @@ fn has_full_trail(trails: &[Vec<Entry>], tenant: u32) -> bool
 
 /// Whether a session was told of a full trail where the trail isn't.
 fn denies(trails: &[Vec<Entry>], sheet: &Sheet) -> bool
-    ensures { MatchBool result (length (row_at trails.now sheet.now.tenant) < trail_limit) (IsFullBy trails.now sheet.now) }
+    ensures { MatchBool result ((sheet.now.is_full ≡ true) × (length (row_at trails.now sheet.now.tenant) < trail_limit)) (IsFullBy trails.now sheet.now) }
 {
     if !sheet.is_full() {
         return false;
@@ -41,7 +41,7 @@ fn denies(trails: &[Vec<Entry>], sheet: &Sheet) -> bool
 /// Finds the first session that was told of a full trail where the trail isn't.
 fn check_full(sheets: &[Sheet], trails: &[Vec<Entry>]) -> Result<(), FinishError>
     ensures ok { OnOk result (All (IsFullBy trails.now) sheets.now) }
-    ensures err { IfErr result (DeniesFull trails.now) }
+    ensures err { IfErr result (DeniesOne trails.now sheets.now) }
 {
     for sheet in sheets {
         if denies(trails, sheet) {
@@ -84,7 +84,7 @@ pub(crate) fn finish<N: Naming>(
     closed: Closed,
 ) -> Result<Vec<u8>, ReplayError>
     ensures ok { IfOk result (λ text. Reports host N.bound closed.stubs.items closed.sheets.items text.items) }
-    ensures err { IfErr result (λ e. IsUnfinished host N.bound e) }
+    ensures err { IfErr result (IsUnfinished host N.bound closed.stubs.items closed.sheets.items) }
 {
     let Closed { stubs, sheets } = closed;
     let report = match host.finish(alloc, stubs) {

@@ -4,9 +4,9 @@ ghost use Rattle.sb_replay.specs.Lists.{AllFrom};
 ghost use Rattle.sb_replay.specs.Parts.{AddsPart, Opens};
 ghost use Rattle.sb_replay.specs.Replay.{IsUnopened};
 
-use crate::error::ReplayError;
+use crate::error::{ReplayError, unattached};
 use crate::sheet::Sheet;
-use sb_host::{AttachError, Host, Naming, Session};
+use sb_host::{Host, Naming, Session};
 use sb_value::{SESSION_LIMIT, SessionId};
 use std::alloc::Global;
 use std::sync::Wait;
@@ -72,11 +72,7 @@ fn attach<'h, T: Wait, N: Naming>(
                 sheet,
             },
         ),
-        Err(AttachError::NotBegun) => Err(ReplayError::NoMemory),
-        Err(_) => Err(ReplayError::Attach {
-            tenant,
-            session: number,
-        }),
+        Err(error) => Err(unattached(error, tenant, number)),
     }
 }
 

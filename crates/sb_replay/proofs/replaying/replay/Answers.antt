@@ -2,7 +2,8 @@ use Rattle.std.proofs.Common.{◌≡◌, ℕ, List, ◌++◌, IfSome, sym, ap, �
 use Rattle.std.specs.Io.KnownBytes.{Appends}
 use Rattle.std.proofs.lemmas.Result.{on_ok_weaker}
 use Rattle.sb_script.specs.Scripts.{HoldsScript}
-use Rattle.sb_replay.proofs.Faults.{not_written}
+use Rattle.std.proofs.KnownBytes.{Keeps-refl}
+use Rattle.sb_replay.proofs.Faults.{not_written, unplayed_fails, unreported_fails}
 use Rattle.sb_replay.proofs.Whole.{and_appends, replays_known}
 use Rattle.sb_replay.proofs.replaying.replay.Goals as goal
 
@@ -34,3 +35,16 @@ returns-clause-err g c =
     let writes = c.write_out.ensures.writes in
     not_written c.write_out.result _ _ c.write_out.ensures.fault c.write_out.ensures.refused
     (λ refused. (text, writes.0, writes.1, replays, sym c.as_slice.ensures.value ∙ writes.2, writes.3, refused))
+
+pub returns-in-Err-play_all-clause-err : goal.returns-in-Err-play_all-clause-err
+returns-in-Err-play_all-clause-err g c =
+    unplayed_fails g.R.Source.fails g.R.Read.remaining g.W.Sink.refuses g.W.Write.contents c.args.host g.N.Naming.bound c.args.reader.now c.read_script.new.reader c.args.writer.now c.args.writer.now
+    (Keeps-refl (g.W.Write.contents c.args.writer.now)) c.in-Err-play_all.error c.in-Err-play_all.ensures.err
+
+pub returns-in-Err-finish-clause-err : goal.returns-in-Err-finish-clause-err
+returns-in-Err-finish-clause-err g c =
+    let input = g.R.Read.remaining c.args.reader.now in
+    let closed = c.in-Ok-play_all.closed in
+    let script = subst (λ (n : ℕ). IfSome input (λ bytes. HoldsScript n bytes c.in-Ok.rows.items)) c.tenants.ensures c.in-Ok.ensures.ok in
+    unreported_fails g.R.Source.fails g.R.Read.remaining g.W.Sink.refuses g.W.Write.contents c.args.host g.N.Naming.bound c.args.reader.now c.read_script.new.reader c.args.writer.now c.args.writer.now
+    (Keeps-refl (g.W.Write.contents c.args.writer.now)) c.in-Ok.rows.items closed.sheets.items closed.stubs.items c.in-Err-finish.error script c.in-Ok-play_all.ensures.ok c.in-Err-finish.ensures.err
