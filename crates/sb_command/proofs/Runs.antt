@@ -1,6 +1,6 @@
 -- What words ask for at no words, and statuses.
-use Rattle.std.proofs.Common.{◌≡◌, ◌≤◌, ◌⊎◌, ℕ, List, [], ◌∷◌, length, Result, Ok, Err, refl, sym, subst, ap, inl, inr, arith, map, ◌<◌, ◌∙◌}
-use Rattle.std.specs.Prelude.{OnErr, OnOk}
+use Rattle.std.proofs.Common.{◌≡◌, ◌≤◌, ◌⊎◌, ℕ, List, [], ◌∷◌, length, Option, Result, Ok, Err, refl, sym, subst, ap, inl, inr, arith, map, ◌<◌, ◌∙◌}
+use Rattle.std.specs.Prelude.{OnOk}
 use Rattle.clap.specs.Words.{Text}
 use Rattle.clap.proofs.OnLiterals.{clap_on_literals}
 use Rattle.sb_words.specs.Words.{AskFor, AskOnce, IsAsked}
@@ -11,6 +11,7 @@ use Rattle.sb_words.specs.declared.request.Run.{Run}
 use Rattle.sb_words.specs.declared.request.Serving.{Serving}
 use Rattle.sb_words.specs.declared.words.Asked.{Asked}
 use Rattle.sb_words.specs.declared.words.Asked.TheVariants.{For}
+use Rattle.sb_command.specs.Faults.{TellsEnd}
 use Rattle.sb_service.specs.declared.fault.Fault.{Fault}
 
 pub no_words : {A : Type 0} (f : A → Text) (words : List A) → length words ≤ 1 → AskFor (map f words) (run_request (record { tenants = 16; bound = 1000 }))
@@ -58,31 +59,7 @@ module _ (once : AskOnce) (words : List Text) where
       apart m n l e = absurd (omega arith)
 
 -- a command that is told as a success went well
-pub went_well : {P : Type 0} (ended : Result (Unit {0}) Fault) (n : ℕ) → OnErr ended (n ≡ 1) → n ≡ 0 → OnOk ended P → P
-went_well (Ok value) n err zero h = h
-went_well (Err why) n err zero h = absurd (apart n err zero)
-  where
-    apart : (n : ℕ) → n ≡ 1 → n ≡ 0 → ⊥
-    apart n one none = absurd (omega arith)
-
--- a success, or a fault
-pub at_most_one : (ended : Result (Unit {0}) Fault) (n : ℕ) → OnOk ended (n ≡ 0) → OnErr ended (n ≡ 1) → n ≤ 1
-at_most_one (Ok value) n ok err = omega (arith, ok)
-at_most_one (Err why) n ok err = omega (arith, err)
-
-pub not_two : (n : ℕ) → (n ≡ 0) ⊎ (n ≡ 1) → n ≡ 2 → ⊥
-not_two n (inl none) two = absurd (omega arith)
-not_two n (inr one) two = absurd (omega arith)
-
-pub at_most_two-shown : (n : ℕ) → (n ≡ 0) ⊎ (n ≡ 1) → n ≤ 2
-at_most_two-shown n (inl none) = omega arith
-at_most_two-shown n (inr one) = omega arith
-
--- a status of 1 or 2
-pub not_success : (n : ℕ) → (n ≡ 1) ⊎ (n ≡ 2) → n ≡ 0 → ⊥
-not_success n (inl one) zero = absurd (omega arith)
-not_success n (inr two) zero = absurd (omega arith)
-
-pub at_most_two : (n : ℕ) → (n ≡ 1) ⊎ (n ≡ 2) → n ≤ 2
-at_most_two n (inl one) = omega arith
-at_most_two n (inr two) = omega arith
+module _ {E P : Type 0} (denies : E → Type 0) (told : E → Option (List ℕ)) (errors more : E) where
+  pub went_well : (ended : Result (Unit {0}) Fault) (n : ℕ) → TellsEnd denies told errors more ended n → n ≡ 0 → OnOk ended P → P
+  went_well (Ok value) n tells none h = h
+  went_well (Err why) n tells none h = absurd (let one = tells.0 in omega arith)

@@ -53,3 +53,11 @@ GoesFresh fails remaining refuses contents tenants bound reader rest writer afte
     × (s : Streams old (remaining reader) (contents writer) new (remaining rest) (contents after))
     × EndsBy fails remaining rest s.seen s.pieces s.left ended × Summarizes s.pieces s.replies.text summary))
     × OnWriteFault ended (MayFail refuses contents after)
+
+-- A text that is asked for is written, with status 0, and nothing is told; or the writer took a first part of it, and this is told, with status 1.
+module _ {W E : Type 0} (refuses : W → Type 0) (contents : W → Option (List ℕ)) (denies : E → Type 0) (told : E → Option (List ℕ)) where
+  abbrev pub Shows : List ℕ → W → W → E → E → ℕ → Type 0
+  Shows text writer after errors more status =
+      ((status ≡ 0) × Appends (contents writer) (contents after) text × (more ≡ errors))
+      ⊎ ((status ≡ 1) × ((written left : List ℕ) × (text ≡ written ++ left) × Appends (contents writer) (contents after) written)
+      × MayFail refuses contents after × Tells denies told errors more (fault_line WriteFault))

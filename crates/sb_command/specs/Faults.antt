@@ -1,6 +1,7 @@
 -- The lines of faults.
-use Rattle.std.specs.Prelude.{ℕ, List, ◌++◌, codes, decimal}
-use Rattle.sb_command.specs.Does.{fault_line}
+use Rattle.std.specs.Prelude.{ℕ, ◌≡◌, ◌⊎◌, List, ◌++◌, Option, Result, Ok, Err, codes, decimal}
+use Rattle.sb_command.specs.Does.{Tells, fault_line}
+use Rattle.sb_wire.specs.declared.fault.StreamError.TheVariants.{NoMemory}
 use Rattle.sb_service.specs.declared.fault.Fault.{Fault}
 use Rattle.sb_service.specs.declared.fault.Fault.TheVariants.{Stream, CannotListen, BadLine, CannotAttach, TrailMissing, TrailMismatch}
 
@@ -15,3 +16,13 @@ fault_text (BadLine n) = codes "fault: bad line " ++ decimal n ++ codes "\n"
 fault_text (CannotAttach t s) = numbered_text (codes "fault: cannot attach ") t s
 fault_text (TrailMissing t s) = numbered_text (codes "fault: trail missing ") t s
 fault_text (TrailMismatch t s) = numbered_text (codes "fault: trail mismatch ") t s
+
+module _ {E : Type 0} (denies : E → Type 0) (told : E → Option (List ℕ)) (errors more : E) where
+  -- a fault is told by its line, or want of memory where there is none for the line
+  abbrev pub TellsFault : Fault → Type 0
+  TellsFault why = Tells denies told errors more (fault_text why) ⊎ Tells denies told errors more (fault_line NoMemory)
+
+  -- a server or a replay that ended well has status 0 and tells nothing; one that didn't has status 1 and tells its fault
+  abbrev pub TellsEnd : Result (Unit {0}) Fault → ℕ → Type 0
+  TellsEnd (Ok value) status = (status ≡ 0) × (more ≡ errors)
+  TellsEnd (Err why) status = (status ≡ 1) × TellsFault why

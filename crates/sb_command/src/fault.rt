@@ -1,8 +1,6 @@
 //! The line that tells why a server or a replay ended early.
 ghost use Rattle.std.specs.Prelude.{◌≡◌, ◌++◌, decimal, IfOk, OnOk};
-ghost use Rattle.sb_command.specs.Does.{Tells, fault_line};
-ghost use Rattle.sb_command.specs.Faults.{fault_text, numbered_text};
-ghost use Rattle.sb_service.specs.declared.fault.Fault.{Fault as ItsFault};
+ghost use Rattle.sb_command.specs.Faults.{TellsFault, fault_text, numbered_text};
 
 use crate::telling::fault;
 use sb_service::Fault;
@@ -14,7 +12,7 @@ const FAULT: u8 = 1;
 /// Tells a fault by its line, or want of memory where there is none for the line.
 pub(crate) fn tell_fault<E: Sink>(alloc: Global, why: Fault, errors: &mut E) -> u8
     ensures status { result ≡ 1 }
-    ensures tells { (told : ItsFault) × Tells E.refuses E.contents errors.old errors.new (fault_text told) }
+    ensures tells { TellsFault E.refuses E.contents errors.old errors.new why }
 {
     match line_of(alloc, why) {
         Ok(line) => {

@@ -1,10 +1,12 @@
 //! What a command line is answered.
-ghost use Rattle.std.specs.Prelude.{◌≡◌, ◌≤◌, ◌⊎◌, List, ℕ, IfSome, OnErr, OnOk, length, map};
-ghost use Rattle.std.specs.Io.KnownBytes.{Appends, Keeps};
+ghost use Rattle.std.specs.Prelude.{◌≡◌, ◌≤◌, ◌⊎◌, List, ℕ, IfErr, IfSome, length, map};
+ghost use Rattle.std.specs.Io.KnownBytes.{Appends};
 ghost use Rattle.sb_wire.specs.Stream.{AnswersFresh};
-ghost use Rattle.sb_command.specs.Does.{GoesFresh, Tells, TellsRun, fault_line, status_of};
-ghost use Rattle.sb_command.specs.Faults.{fault_text};
-ghost use Rattle.sb_replay.specs.Replay.{Replays};
+ghost use Rattle.sb_command.specs.Does.{GoesFresh, Shows, Tells, TellsRun, fault_line, status_of};
+ghost use Rattle.sb_command.specs.Faults.{TellsEnd};
+ghost use Rattle.sb_replay.specs.Replay.{Fails, Replays};
+ghost use Rattle.sb_replay.specs.declared.error.ReplayError.{ReplayError as ItsError};
+ghost use Rattle.sb_service.specs.Faults.{unplayed_as};
 ghost use Rattle.sb_service.specs.Totals.{TellsServer};
 ghost use Rattle.sb_words.specs.declared.request.Hosting.{Hosting as ItsHosting};
 ghost use Rattle.sb_words.specs.declared.request.Request.TheVariants as request;
@@ -55,25 +57,33 @@ pub fn command<
         → result ≡ 0 → IfSome (R.remaining reader.old) (λ input. (text : List ℕ)
         × Appends (W.contents writer.old) (W.contents writer.new) text
         × Replays h.run.tenants h.run.bound input text) }
-    // whatever the status, it tells how a run's stream went, or a fault
+    // whatever the status: of a run how its stream went; of a server or a replay the fault that it ended with; help and the
+    // version, as they are asked for; words that are refused; and want of memory
     ensures asked { ((r : ItsRun) × AskFor (map S.text words.now) (request.Run r)
         × (ended : _) × (summary : _) × (result ≡ status_of ended)
         × GoesFresh R.fails R.remaining W.refuses W.contents r.tenants r.bound reader.old reader.new
         writer.old writer.new ended summary
         × TellsRun E.refuses E.contents errors.old.is_terminal errors.old.sink errors.new.sink
         summary ended)
-        ⊎ ((s : ItsServing) × AskFor (map S.text words.now) (request.Serve s) × (result ≤ 1)
-        × (reader.new ≡ reader.old) × (result ≡ 1 → (why : _)
-        × Tells E.refuses E.contents errors.old.sink errors.new.sink (fault_text why)))
-        ⊎ ((h : ItsHosting) × AskFor (map S.text words.now) (request.Replay h) × (result ≤ 1)
-        × (result ≡ 1 → (why : _)
-        × Tells E.refuses E.contents errors.old.sink errors.new.sink (fault_text why)))
-        ⊎ ((result ≡ 0 → AskForHelp (map S.text words.now) ⊎ AskForVersion (map S.text words.now))
-        × (result ≡ 1 → (why : _)
-        × Tells E.refuses E.contents errors.old.sink errors.new.sink (fault_line why))
-        × (result ≡ 2 → AreRefused (map S.text words.now)
-        × Keeps (W.contents writer.old) (W.contents writer.new))
-        × (result ≤ 2) × (reader.new ≡ reader.old)) }
+        ⊎ ((s : ItsServing) × AskFor (map S.text words.now) (request.Serve s) × (ended : _)
+        × TellsEnd E.refuses E.contents errors.old.sink errors.new.sink ended result
+        × (reader.new ≡ reader.old))
+        ⊎ ((h : ItsHosting) × AskFor (map S.text words.now) (request.Replay h) × (ended : _)
+        × TellsEnd E.refuses E.contents errors.old.sink errors.new.sink ended result
+        × IfErr ended (λ why. (e : ItsError) × (why ≡ unplayed_as e)
+        × Fails R.fails R.remaining W.refuses W.contents h.run.tenants h.run.bound
+        reader.old reader.new writer.old writer.new e))
+        ⊎ (AskForHelp (map S.text words.now) × (reader.new ≡ reader.old)
+        × Shows W.refuses W.contents E.refuses E.contents HELP.now writer.old writer.new
+        errors.old.sink errors.new.sink result)
+        ⊎ (AskForVersion (map S.text words.now) × (reader.new ≡ reader.old)
+        × Shows W.refuses W.contents E.refuses E.contents VERSION.now writer.old writer.new
+        errors.old.sink errors.new.sink result)
+        ⊎ (AreRefused (map S.text words.now) × (result ≡ 2) × (reader.new ≡ reader.old)
+        × (writer.new ≡ writer.old))
+        ⊎ ((result ≡ 1) × (reader.new ≡ reader.old) × (writer.new ≡ writer.old)
+        × Tells E.refuses E.contents errors.old.sink errors.new.sink
+        (fault_line StreamError.NoMemory)) }
 {
     // for the proof: words ask for one thing
     words_ask_once();
@@ -127,10 +137,7 @@ fn run<R: Source, W: Sink, E: Sink>(
 
 /// Tells of the fault that ended a server or a replay, if one did.
 fn tell_end<E: Sink>(alloc: Global, ended: Result<(), Fault>, errors: &mut E) -> u8
-    ensures ok { OnOk ended (result ≡ 0) }
-    ensures err { OnErr ended (result ≡ 1) }
-    ensures told { result ≡ 1 → (why : _)
-        × Tells E.refuses E.contents errors.old errors.new (fault_text why) }
+    ensures { TellsEnd E.refuses E.contents errors.old errors.new ended result }
 {
     match ended {
         Ok(()) => SUCCESS,
@@ -139,10 +146,8 @@ fn tell_end<E: Sink>(alloc: Global, ended: Result<(), Fault>, errors: &mut E) ->
 }
 
 fn show<W: Sink, E: Sink>(text: &str, writer: &mut W, errors: &mut E) -> u8
-    ensures status { (result ≡ 0) ⊎ (result ≡ 1) }
-    ensures told { result ≡ 1 → (why : _)
-        × Tells E.refuses E.contents errors.old errors.new (fault_line why) }
-    ensures shows { result ≡ 0 → Appends (W.contents writer.old) (W.contents writer.new) text.now }
+    ensures { Shows W.refuses W.contents E.refuses E.contents text.now writer.old writer.new
+        errors.old errors.new result }
 {
     match write_bytes(writer, text.as_bytes()) {
         Ok(()) => SUCCESS,
@@ -152,9 +157,8 @@ fn show<W: Sink, E: Sink>(text: &str, writer: &mut W, errors: &mut E) -> u8
 
 /// Writes the first line of an error, and what is allowed.
 fn refuse<E: Sink>(alloc: Global, error: &Error, errors: &mut E) -> u8
-    ensures status { (result ≡ 1) ⊎ (result ≡ 2) }
-    ensures told { result ≡ 1 → (why : _)
-        × Tells E.refuses E.contents errors.old errors.new (fault_line why) }
+    ensures { (result ≡ 2) ⊎ ((result ≡ 1)
+        × Tells E.refuses E.contents errors.old errors.new (fault_line StreamError.NoMemory)) }
 {
     let Ok(text) = format!(in alloc; "{error}") else {
         return fault(StreamError::NoMemory, errors);

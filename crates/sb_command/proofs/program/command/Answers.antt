@@ -1,14 +1,12 @@
-use Rattle.std.proofs.Common.{◌≡◌, ◌∙◌, List, ℕ, IfSome, map, inl, inr, refl, sym, subst, arith}
+use Rattle.std.proofs.Common.{◌≡◌, ◌⊎◌, List, ℕ, IfSome, map, inl, inr, refl, subst, arith}
 use Rattle.std.specs.Io.KnownBytes.{Appends}
-use Rattle.std.proofs.KnownBytes.{Keeps-refl}
 use Rattle.clap.specs.declared.error.kind.ErrorKind.TheVariants.{DisplayHelp, DisplayVersion}
 use Rattle.sb_wire.specs.Stream.{AnswersFresh}
-use Rattle.sb_wire.specs.declared.fault.StreamError.TheVariants.{NoMemory}
 use Rattle.sb_replay.specs.Replay.{Replays}
 use Rattle.sb_service.specs.Totals.{TellsServer}
 use Rattle.sb_words.specs.Words.{IsAsked}
 use Rattle.sb_words.specs.declared.request.Request.TheVariants.{Run, Serve, Replay}
-use Rattle.sb_command.proofs.Runs.{asked_for, at_most_two, at_most_two-shown, no_other, no_words, not_success, not_two, same_hosting, same_run, same_serving, went_well}
+use Rattle.sb_command.proofs.Runs.{asked_for, no_other, no_words, same_hosting, same_run, same_serving, went_well}
 use Rattle.sb_command.proofs.program.command.Goals as goal
 
 pub returns-in-Ok-For-Run-clause-runs : goal.returns-in-Ok-For-Run-clause-runs
@@ -35,7 +33,7 @@ returns-in-Ok-For-Serve-clause-serves g c = λ s asks ok. let words = map g.S.As
     same_serving c.words_ask_once.ensures.once words b.asked s
     (λ q. (text : List ℕ) × Appends (g.W.Write.contents c.args.writer.now) (g.W.Write.contents c.serve-ended.new.writer) text × TellsServer q.hosting.run.bound q.hosting.run.tenants text)
     (asked_for words b.field-0 b.field-0-0 (Serve b.asked) b.ensures.asked b.field-0-is b.field-0-0-is) asks
-    (went_well c.serve-ended.result c.tell_end.result c.tell_end.ensures.err ok c.serve-ended.ensures)
+    (went_well g.E.Sink.refuses g.E.Write.contents c.args.errors.now.sink c.tell_end.new.errors c.serve-ended.result c.tell_end.result c.tell_end.ensures ok c.serve-ended.ensures)
 
 pub returns-in-Ok-For-Replay-clause-usual : goal.returns-in-Ok-For-Replay-clause-usual
 returns-in-Ok-For-Replay-clause-usual g c = λ few ok. let words = map g.S.AsStr.text c.args.words.now in let b = c.in-Ok-For-Replay in
@@ -48,7 +46,7 @@ returns-in-Ok-For-Replay-clause-replays g c = λ h asks ok. let words = map g.S.
     (λ q. IfSome (g.R.Read.remaining c.args.reader.now)
     (λ input. (text : List ℕ) × Appends (g.W.Write.contents c.args.writer.now) (g.W.Write.contents c.replay-ended.new.writer) text × Replays q.run.tenants q.run.bound input text))
     (asked_for words b.field-0 b.field-0-0 (Replay b.asked) b.ensures.asked b.field-0-is b.field-0-0-is) asks
-    (went_well c.replay-ended.result c.tell_end-in-Ok-For-Replay.result c.tell_end-in-Ok-For-Replay.ensures.err ok c.replay-ended.ensures.ok)
+    (went_well g.E.Sink.refuses g.E.Write.contents c.args.errors.now.sink c.tell_end-in-Ok-For-Replay.new.errors c.replay-ended.result c.tell_end-in-Ok-For-Replay.result c.tell_end-in-Ok-For-Replay.ensures ok c.replay-ended.ensures.ok)
 
 pub returns-in-Ok-Help-clause-usual : goal.returns-in-Ok-Help-clause-usual
 returns-in-Ok-Help-clause-usual g c = λ few ok. let words = map g.S.AsStr.text c.args.words.now in
@@ -57,45 +55,45 @@ returns-in-Ok-Help-clause-usual g c = λ few ok. let words = map g.S.AsStr.text 
 
 pub returns-in-Ok-Help-clause-asked : goal.returns-in-Ok-Help-clause-asked
 returns-in-Ok-Help-clause-asked g c =
-    inr (inr (inr (
-      λ zero. inl (subst (IsAsked (map g.S.AsStr.text c.args.words.now)) c.in-Ok-Help.field-0-is c.in-Ok-Help.ensures.asked),
-      c.show.ensures.told,
-      λ two. absurd (not_two c.show.result c.show.ensures.status two),
-      at_most_two-shown c.show.result c.show.ensures.status,
+    inr (inr (inr (inl (
+      subst (IsAsked (map g.S.AsStr.text c.args.words.now)) c.in-Ok-Help.field-0-is c.in-Ok-Help.ensures.asked,
       refl,
-    )))
+      c.show.ensures,
+    ))))
 
 pub returns-in-Ok-Version-clause-usual : goal.returns-in-Ok-Version-clause-usual
 returns-in-Ok-Version-clause-usual g c = λ few ok. let words = map g.S.AsStr.text c.args.words.now in
     absurd (c.words_ask_once.ensures.one_thing words (Run (record { tenants = 16; bound = 1000 })) (no_words g.S.AsStr.text c.args.words.now few) DisplayVersion
     (subst (IsAsked words) c.in-Ok-Version.field-0-is c.in-Ok-Version.ensures.asked))
 
+pub returns-in-Ok-Version-clause-asked : goal.returns-in-Ok-Version-clause-asked
+returns-in-Ok-Version-clause-asked g c =
+    inr (inr (inr (inr (inl (
+      subst (IsAsked (map g.S.AsStr.text c.args.words.now)) c.in-Ok-Version.field-0-is c.in-Ok-Version.ensures.asked,
+      refl,
+      c.show-in-Ok-Version.ensures,
+    )))))
+
+-- two words for what is said, or no memory for it
+module _ {A : Type 0} (asked : A) (n : ℕ) {R W Told : Type 0} (reader : R) (writer : W) where
+  refused : (n ≡ 2) ⊎ ((n ≡ 1) × Told) → (A × (n ≡ 2) × (reader ≡ reader) × (writer ≡ writer)) ⊎ ((n ≡ 1) × (reader ≡ reader) × (writer ≡ writer) × Told)
+  refused (inl two) = inl (asked, two, refl, refl)
+  refused (inr one) = inr (one.0, refl, refl, one.1)
+
 pub returns-in-Ok-Refused-clause-asked : goal.returns-in-Ok-Refused-clause-asked
 returns-in-Ok-Refused-clause-asked g c =
-    inr (inr (inr (
-      λ zero. absurd (not_success c.refuse.result c.refuse.ensures.status zero),
-      c.refuse.ensures.told,
-      λ two. (subst (IsAsked (map g.S.AsStr.text c.args.words.now)) c.in-Ok-Refused.field-0-is c.in-Ok-Refused.ensures.asked, Keeps-refl (g.W.Write.contents c.args.writer.now)),
-      at_most_two c.refuse.result c.refuse.ensures.status,
-      refl,
-    )))
+    inr (inr (inr (inr (inr (
+    refused (subst (IsAsked (map g.S.AsStr.text c.args.words.now)) c.in-Ok-Refused.field-0-is c.in-Ok-Refused.ensures.asked) c.refuse.result c.args.reader.now c.args.writer.now c.refuse.ensures
+    )))))
 
 pub returns-in-Ok-NotAllowed-clause-asked : goal.returns-in-Ok-NotAllowed-clause-asked
 returns-in-Ok-NotAllowed-clause-asked g c =
-    inr (inr (inr (
-      λ zero. absurd (not_success c.refuse_numbers.result (inr c.refuse_numbers.ensures) zero),
-      λ one. let bad : 2 ≡ 1 = sym c.refuse_numbers.ensures ∙ one in absurd (omega arith),
-      λ two. (subst (IsAsked (map g.S.AsStr.text c.args.words.now)) c.in-Ok-NotAllowed.field-0-is c.in-Ok-NotAllowed.ensures.asked, Keeps-refl (g.W.Write.contents c.args.writer.now)),
-      at_most_two c.refuse_numbers.result (inr c.refuse_numbers.ensures),
+    inr (inr (inr (inr (inr (inl (
+      subst (IsAsked (map g.S.AsStr.text c.args.words.now)) c.in-Ok-NotAllowed.field-0-is c.in-Ok-NotAllowed.ensures.asked,
+      c.refuse_numbers.ensures,
       refl,
-    )))
+      refl,
+    ))))))
 
 pub returns-in-Err-clause-asked : goal.returns-in-Err-clause-asked
-returns-in-Err-clause-asked g c =
-    inr (inr (inr (
-      λ zero. absurd (not_success c.fault.result (inl c.fault.ensures.status) zero),
-      λ one. (NoMemory, c.fault.ensures.tells),
-      λ two. let bad : 1 ≡ 2 = sym c.fault.ensures.status ∙ two in absurd (omega arith),
-      at_most_two c.fault.result (inl c.fault.ensures.status),
-      refl,
-    )))
+returns-in-Err-clause-asked g c = inr (inr (inr (inr (inr (inr (c.fault.ensures.status, refl, refl, c.fault.ensures.tells))))))
