@@ -15,8 +15,10 @@ NoMemory, and nothing has changed behind NotBegun. Beyond that: one refused requ
 tenant that has no such reply has the replies of a run in which nothing is refused. A run that ends with the fault
 `out of memory` has to have written a first part of what was to be written.
 
-Calls that take no memory are made by tests of sb_tests between two marks: all requests from the first to the second are
-refused, and the tests have to pass. None of these calls asks for memory.
+Calls that no line makes are made by tests of sb_tests, sb_cell_tests and sb_host_tests. Those of PRESSED say what may be answered on a
+host where any request may be refused, and are run as a script is played. The others of MARKED put calls that take no
+memory between two marks: all requests from the first to the second are refused, and the tests have to pass. None of
+these calls asks for memory; one test does between its marks, so that a refusal there is seen.
 
 The programs stand where `rt ci` leaves them, or in FOLDER.
 """
@@ -40,7 +42,9 @@ FIRST = 500  # each request is refused up to this one,
 STEP = 10  # and behind it each of this many,
 SECONDS = 12  # of which fewer, evenly spread, where a script's runs would take more processor time than this
 LINES = 3_000  # a script of more lines isn't played
-MARKED = {"sb_tests": ("",)}
+MARKED = {"sb_tests": ("",), "sb_cell_tests": ("cells::",), "sb_host_tests": ("hosts::",)}
+ASKING = "cells::a_step_without_memory_is_not_begun"
+PRESSED = {"sb_host_tests": ("pressed::",)}
 SHOWN = 5  # so many wrong runs of a script are told
 
 FAULT = b"fault: out of memory\n"
@@ -398,6 +402,17 @@ def look_at_test(run):
     return "same"
 
 
+def press(player, arguments, pool):
+    """Runs tests of hosts with each request refused."""
+    wrong = 0
+    for name, tests in PRESSED.items():
+        program = arguments.tests(name)
+        for test in player.tests(program, tests):
+            play = lambda number: player.run([program, test], b"", REFUSED=number)
+            wrong += told(test, *sweep(play, look_at_test, play(0), arguments.whole, pool))
+    return wrong
+
+
 def run_marked(player, arguments):
     """Runs tests with all requests between marks refused."""
     wrong = []
@@ -408,7 +423,7 @@ def run_marked(player, arguments):
             try:
                 run = player.run([program, test], b"", MARKED=1)
                 look_at_test(run)
-                if run.refused or run.marks % 2:
+                if (run.refused > 0) != (test == ASKING) or run.marks % 2:
                     raise Wrong(f"{run.refused} requests between {run.marks} marks")
                 marks += run.marks
             except Wrong as why:
@@ -441,6 +456,7 @@ def main():
         with concurrent.futures.ThreadPoolExecutor(os.cpu_count()) as pool:
             wrong = play_scripts(player, arguments, pool)
             if not arguments.names:
+                wrong += press(player, arguments, pool)
                 wrong += run_marked(player, arguments)
     spent = sum(os.times()[:4]) / 60
     much = f"each request to the {FIRST}th, then every {STEP}th, and fewer past {SECONDS} s"

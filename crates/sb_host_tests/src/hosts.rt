@@ -1,9 +1,11 @@
 //! Hosts from their opening to their closing check, on one thread.
 ghost use Rattle.std.specs.Prelude.{◌≡◌};
 
+use crate::mark::mark;
 use sb_host::{AttachError, CallError, FinishError, Host, Naming, Opened, Report, Session};
-use sb_tenant::{Answer, Reply};
+use sb_tenant::Reply;
 use sb_value::Refusal;
+use sb_wire::write_bare_reply;
 use std::alloc::Global;
 use std::marker::Brand;
 use std::sync::Wait;
@@ -31,66 +33,49 @@ fn is_full<N: Naming>(session: &Session<'_, N>) -> bool {
     }
 }
 
-/// Sends a line, and says how many changes, rows or considered rules its reply has. `ok` has 0.
-fn said<N: Naming, R: Wait>(
+/// A transaction whose rows the next one reads.
+const LINES: &[u8] =
+    b"create table t (a int, b text)\nbegin\ninsert into t values (1, 'x''y'), (-2, '')
+select * from t\ncommit\nbegin\nselect * from t\nend";
+
+const REPLIES: &[u8] =
+    b"ok\nok\nok 2\nrows 2\n1,'x''y'\n-2,''\ndone 0\nok\nrows 2\n1,'x''y'\n-2,''\nok\n";
+
+/// Sends these lines, and gives the text of what they are answered.
+fn answered<N: Naming, R: Wait>(
     rt: &R,
     alloc: Global,
     session: &mut Session<'_, N>,
-    line: &[u8],
-) -> Option<usize> {
-    let _ = session.call(rt, alloc, line);
-    match &session.last()?.reply {
-        Reply::Ok => Some(0),
-        Reply::Count(count) => usize::try_from(*count).ok(),
-        Reply::Rows(rows) => Some(rows.len()),
-        Reply::Done(trace) => Some(trace.as_slice().len()),
-        _ => None,
+    lines: &[u8],
+) -> Option<Vec<u8>> {
+    let mut text = Vec::new(alloc);
+    for line in lines.split(|byte| *byte == b'\n') {
+        let _ = session.call(rt, alloc, line);
+        write_bare_reply(&mut text, &session.last()?.reply).ok()?;
     }
+    Some(text)
 }
 
-/// Whether the newest answer has rows, of which the first is `1, 'x''y'`.
-fn reads_back<N: Naming>(session: &Session<'_, N>) -> bool {
-    let Some(
-        Answer {
-            reply: Reply::Rows(rows),
-            ..
-        },
-    ) = session.last()
-    else {
-        return false;
-    };
-    rows.text().starts_with(b"1,'x''y'\n")
-}
-
-/// A transaction whose rows the next one reads: whether all replies were as they are to be, and the
-/// length of the trail.
-fn served<N: Naming, R: Wait>(rt: &R, alloc: Global, opened: Opened) -> Option<(bool, usize)>
+/// What these lines are answered, whether the last answer is `ok` and has number 9, and the length of the
+/// trail.
+fn served<N: Naming, R: Wait>(
+    rt: &R,
+    alloc: Global,
+    opened: Opened,
+    lines: &[u8],
+) -> Option<(Vec<u8>, bool, usize)>
     requires table { N.table ≡ opened.table }
     requires numbers { (N.tenants ≡ opened.tenants) × (N.cells ≡ opened.cells) × (N.bound ≡ opened.bound) }
     requires ledger { (N.name ≡ opened.name) × (N.parts ≡ opened.parts) }
 {
     let host = Host::<N>::new(alloc, opened).ok()?;
     let mut session = host.attach(rt, alloc, 0, 0).ok()?;
-    let create = said(rt, alloc, &mut session, b"create table t (a int, b text)")?;
-    let begin = said(rt, alloc, &mut session, b"begin")?;
-    let insert = said(
-        rt,
-        alloc,
-        &mut session,
-        b"insert into t values (1, 'x''y'), (-2, '')",
-    )?;
-    let select = said(rt, alloc, &mut session, b"select * from t")?;
-    let first = [create, begin, insert, select] == [0, 0, 2, 2] && reads_back(&session);
-    let commit = said(rt, alloc, &mut session, b"commit")?;
-    let begin = said(rt, alloc, &mut session, b"begin")?;
-    let select = said(rt, alloc, &mut session, b"select * from t")?;
-    let second = [commit, begin, select] == [0, 0, 2] && reads_back(&session);
-    let _ = said(rt, alloc, &mut session, b"end")?;
-    let good = first && second && is_ok_at(&session, 9) && session.ended();
+    let text = answered(rt, alloc, &mut session, lines)?;
+    let good = is_ok_at(&session, 9) && session.ended();
     let mut stubs = Vec::new(alloc);
     stubs.push(session.close(rt)).ok()?;
     let report = host.finish(alloc, stubs).ok()?;
-    Some((good, report.trails.get(0)?.len()))
+    Some((text, good, report.trails.get(0)?.len()))
 }
 
 /// Whether the first session of the first tenant has fewer receipts than entries.
@@ -118,30 +103,40 @@ fn refused<N: Naming, R: Wait>(rt: &R, alloc: Global, opened: Opened) -> Option<
 {
     let host = Host::<N>::new(alloc, opened).ok()?;
     let mut wrong = 0u32;
+    mark();
     if host.attach(rt, alloc, 2, 0).err() != Some(AttachError::NoTenant) {
         wrong |= 1;
     }
     if host.attach(rt, alloc, 0, 8).err() != Some(AttachError::NoSession) {
         wrong |= 2;
     }
+    mark();
     let mut session = host.attach(rt, alloc, 0, 0).ok()?;
+    mark();
     if host.attach(rt, alloc, 0, 0).err() != Some(AttachError::AlreadyOpen) {
         wrong |= 4;
     }
+    mark();
     let _ = session.call(rt, alloc, b"begin");
     if !is_ok_at(&session, 2) {
         wrong |= 8;
     }
     let _ = session.call(rt, alloc, b"end");
+    mark();
     if !is_ok_at(&session, 3) || !session.ended() {
         wrong |= 16;
     }
-    if session.call(rt, alloc, b"begin").err() != Some(CallError::Ended) {
+    if session.call(rt, alloc, b"begin").err() != Some(CallError::Ended) || host.tenants() != 2 {
         wrong |= 32;
     }
     let stub = session.close(rt);
     let receipts = stub.list().len();
-    let _dropped = host.attach(rt, alloc, 0, 0).ok()?.close(rt);
+    mark();
+    let mut again = host.attach(rt, alloc, 0, 0).ok()?;
+    let _ = again.call(rt, alloc, b"begin");
+    mark();
+    let _dropped = again.close(rt);
+    mark();
     let mut stubs = Vec::new(alloc);
     stubs.push(stub).ok()?;
     let report = host.finish(alloc, stubs);
@@ -171,11 +166,13 @@ fn filled<N: Naming, R: Wait>(rt: &R, alloc: Global, opened: Opened) -> Option<(
     if !is_ok_at(&session, 65_537) {
         wrong |= 4;
     }
+    let mut stubs = Vec::with_capacity(alloc, 1).ok()?;
+    mark();
     if host.attach(rt, alloc, 0, 0).err() != Some(AttachError::TrailFull) {
         wrong |= 8;
     }
-    let mut stubs = Vec::new(alloc);
     stubs.push(session.close(rt)).ok()?;
+    mark();
     let report = host.finish(alloc, stubs).ok()?;
     Some((wrong, report.trails.get(0)?.len()))
 }
@@ -183,7 +180,13 @@ fn filled<N: Naming, R: Wait>(rt: &R, alloc: Global, opened: Opened) -> Option<(
 #[test]
 fn hosts_are_finished(rt: HostRuntime) -> Result<(), Fail> {
     let one = Opened::new(rt.alloc(), 1, 1, 1000)?;
-    assert_eq!(rt; served::<Brand, _>(&rt, rt.alloc(), one), Some((true, 9)));
+    match served::<Brand, _>(&rt, rt.alloc(), one, LINES) {
+        Some((text, good, steps)) => {
+            assert_eq!(rt; text.as_slice(), REPLIES);
+            assert_eq!(rt; (good, steps), (true, 9));
+        }
+        None => assert!(rt; false),
+    }
     let two = Opened::new(rt.alloc(), 2, 2, 1000)?;
     assert_eq!(rt;
         refused::<Brand, _>(&rt, rt.alloc(), two),

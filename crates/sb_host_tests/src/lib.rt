@@ -5,4 +5,8 @@
 #[cfg(test)]
 mod hosts;
 #[cfg(test)]
+mod mark;
+#[cfg(test)]
+mod pressed;
+#[cfg(test)]
 mod workers;

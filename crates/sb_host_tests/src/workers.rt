@@ -79,10 +79,19 @@ fn begin<'h, N: Naming>(alloc: Global, session: Session<'h, N>) -> Option<Job<'h
     Some(Job { session, line })
 }
 
-/// How many trails a finished host has, and how many entries the first one.
-fn counted<N: Naming>(alloc: Global, host: Host<N>, stubs: Vec<Stub>) -> Option<(usize, usize)> {
+/// How many trails a finished host has, and how many entries the first one and the last one.
+fn counted<N: Naming>(
+    alloc: Global,
+    host: Host<N>,
+    stubs: Vec<Stub>,
+) -> Option<(usize, usize, usize)> {
     let report = host.finish(alloc, stubs).ok()?;
-    Some((report.trails.len(), report.trails.get(0)?.len()))
+    let last = report.trails.len().wrapping_sub(1);
+    Some((
+        report.trails.len(),
+        report.trails.get(0)?.len(),
+        report.trails.get(last)?.len(),
+    ))
 }
 
 /// A session of each of two tenants, with a line.
@@ -134,7 +143,7 @@ fn overlap<N: Naming + Send + Sync, R: Threads + Wait + Sync>(
     rt: &R,
     alloc: Global,
     opened: Opened,
-) -> Option<(u32, bool, (usize, usize))>
+) -> Option<(u32, bool, (usize, usize, usize))>
     requires table { N.table ≡ opened.table }
     requires numbers { (N.tenants ≡ opened.tenants) × (N.cells ≡ opened.cells) × (N.bound ≡ opened.bound) }
     requires ledger { (N.name ≡ opened.name) × (N.parts ≡ opened.parts) }
@@ -224,7 +233,7 @@ fn apart<N: Naming + Send + Sync, R: Threads + Wait + Sync>(
     rt: &R,
     alloc: Global,
     opened: Opened,
-) -> Option<(usize, usize)>
+) -> Option<(usize, usize, usize)>
     requires table { N.table ≡ opened.table }
     requires numbers { (N.tenants ≡ opened.tenants) × (N.cells ≡ opened.cells) × (N.bound ≡ opened.bound) }
     requires ledger { (N.name ≡ opened.name) × (N.parts ≡ opened.parts) }
@@ -336,7 +345,7 @@ fn together<N: Naming + Send + Sync, R: Threads + Wait + Sync>(
 {
     let host = Host::<N>::new(alloc, opened).ok()?;
     let (kept, stubs) = shared(rt, alloc, &host)?;
-    let (trails, _) = counted(alloc, host, stubs)?;
+    let (trails, _, _) = counted(alloc, host, stubs)?;
     Some((kept, trails))
 }
 
@@ -363,7 +372,7 @@ fn calls_in_two_cells_overlap(rt: HostRuntime) -> Result<(), Fail> {
     let two = Opened::new(rt.alloc(), 2, 2, 1000)?;
     assert_eq!(rt;
         overlap::<Brand, _>(&rt, rt.alloc(), two),
-        Some((2, false, (2, 3)))
+        Some((2, false, (2, 3, 3)))
     );
     Ok(())
 }
@@ -371,7 +380,10 @@ fn calls_in_two_cells_overlap(rt: HostRuntime) -> Result<(), Fail> {
 #[test]
 fn threads_share_a_host(rt: HostRuntime) -> Result<(), Fail> {
     let two = Opened::new(rt.alloc(), 2, 2, 1000)?;
-    assert_eq!(rt; apart::<Brand, _>(&rt, rt.alloc(), two), Some((2, 303)));
+    assert_eq!(rt;
+        apart::<Brand, _>(&rt, rt.alloc(), two),
+        Some((2, 303, 303))
+    );
     let one = Opened::new(rt.alloc(), 1, 1, 1000)?;
     assert_eq!(rt; together::<Brand, _>(&rt, rt.alloc(), one), Some((true, 1)));
     Ok(())

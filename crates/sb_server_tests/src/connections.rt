@@ -9,7 +9,8 @@ use std::marker::Brand;
 use std::sync::Wait;
 use std::test::*;
 
-/// How many receipts a connection with these lines leaves, and what it writes.
+/// How many receipts a connection with these lines leaves, and what it writes, on a host that is then
+/// reported.
 fn served<N: Naming, R: Wait>(
     rt: &R,
     alloc: Global,
@@ -25,11 +26,18 @@ fn served<N: Naming, R: Wait>(
     let mut text = Vec::new(alloc);
     let Served { stub, ended } = serve_one(rt, alloc, &mut reader, &mut text, &host);
     ended.ok()?;
-    let receipts = match stub {
-        Some(stub) => stub.list().len(),
-        None => 0,
-    };
-    Some((receipts, text))
+    let mut receipts = 0;
+    let mut stubs = Vec::new(alloc);
+    if let Some(stub) = stub {
+        receipts = stub.list().len();
+        stubs.push(stub).ok()?;
+    }
+    let report = host.finish(alloc, stubs).ok()?;
+    if report.steps()? == receipts as u64 {
+        Some((receipts, text))
+    } else {
+        None
+    }
 }
 
 #[test]

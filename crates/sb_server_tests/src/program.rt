@@ -43,10 +43,64 @@ const REPLIES: &[u8] =
 
 const SUMMARY: &[u8] = b"lines 5, steps 3, no 10 Syntax: 1, no 12 BadLine: 1, no 14 NoSession: 1\n";
 
-const REFUSED: &[u8] = b"error: a word or a number isn't allowed; \
-allowed are: run, serve, replay, --tenants 1 to 256, \
+/// What stands behind each reason why words are refused.
+const ALLOWED: &[u8] = b"; allowed are: run, serve, replay, --tenants 1 to 256, \
 --bound 1 to 1000; of serve and replay --cells 1 to 16, --workers 1 to 16; of serve --port \
 0 to 65535, --connections 0 to 1000000; --help, --version\n";
+
+/// What is shown to who asks for help.
+const HELP: &[u8] = b"\
+starhost answers the command lines of hosted active databases.
+
+Usage: starhost [run|serve|replay] [OPTIONS]
+
+Commands:
+  run            answer the lines of standard input on standard output;
+                 so does no command at all
+  serve          serve connections on 127.0.0.1, each of them a session
+  replay         read all lines of standard input, call their sessions on
+                 several threads, and write the replies session by session
+
+Options of every command:
+  --tenants N    host the tenants 0 to N - 1: 1 to 256, or else 16
+  --bound N      the most rules that are considered at one assertion point:
+                 1 to 1000, or else 1000
+
+Options of serve and replay:
+  --cells N      locks that tenants are shared out among: 1 to 16, or else 4
+  --workers N    threads, and so the sessions that are called at a time:
+                 1 to 16, or else 4
+
+Options of serve:
+  --port N       the port: 0 to 65535, or else 0, which is any free one
+  --connections N
+                 stop behind so many connections: 0 to 1000000, or else 0,
+                 which is never
+
+Other options:
+  -h, --help     show this
+  -V, --version  show the version
+
+A line of run and replay is `<tenant> <session> <command>`, and each line of its
+reply begins with the same two numbers. In run each reply is written before more
+input is read. In replay each session that a line names is opened beforehand.
+The first line of a connection is `<tenant> <session>`, each further one is a
+command, and replies stand without numbers.
+
+Examples:
+  printf '0 0 open\\n0 0 create table t (a int)\\n0 0 end\\n' | starhost
+  starhost --tenants 2 --bound 10 < lines.txt > replies.txt
+  starhost replay --workers 8 < lines.txt > replies.txt
+  starhost serve --port 7411 &
+  printf '0 0\\ncreate table t (a int)\\n' | nc -N 127.0.0.1 7411
+
+A command ends with status 0; with 1 and a line `fault: ..` on standard error
+where reading or writing failed, memory ran out, nothing can listen at the port,
+or a line of a replay is no command for a session of the host. Where standard
+error is a terminal, a line before that counts lines, steps and refusals of a
+run. Words that aren't allowed are refused with status 2.
+docs/COMMANDS.md has all commands.
+";
 
 fn console(alloc: Global, is_terminal: bool) -> Console<Vec<u8>> {
     Console {
@@ -97,18 +151,71 @@ fn faults_are_told(rt: HostRuntime) -> Result<(), Fail> {
 #[test]
 fn words_are_answered(rt: HostRuntime) -> Result<(), Fail> {
     let alloc = rt.alloc();
-    let mut reader = b"0 0 open\n".as_slice();
-    let mut writer = Vec::new(alloc);
-    let mut errors = console(alloc, true);
-    let wrong = ["starhost", "--tenants", "257"];
-    let status = command(&rt, alloc, &wrong, &mut reader, &mut writer, &mut errors);
-    assert_eq!(rt; status, 2);
-    assert_eq!(rt; errors.sink.as_slice(), REFUSED);
-    assert!(rt; writer.is_empty());
-    let asked = ["starhost", "--version"];
-    let status = command(&rt, alloc, &asked, &mut reader, &mut writer, &mut errors);
-    assert_eq!(rt; status, 0);
-    assert_eq!(rt; writer.as_slice(), b"starhost 0.1\n".as_slice());
+    for (word, text) in [
+        ("--version", b"starhost 0.1\n".as_slice()),
+        ("-V", b"starhost 0.1\n"),
+        ("--help", HELP),
+        ("-h", HELP),
+    ] {
+        let mut reader = b"0 0 open\n".as_slice();
+        let mut writer = Vec::new(alloc);
+        let mut errors = console(alloc, true);
+        let words = ["starhost", word];
+        let status = command(&rt, alloc, &words, &mut reader, &mut writer, &mut errors);
+        assert_eq!(rt; status, 0);
+        assert_eq!(rt; writer.as_slice(), text);
+        assert!(rt; errors.sink.is_empty());
+    }
+    Ok(())
+}
+
+#[test]
+fn other_words_are_refused(rt: HostRuntime) -> Result<(), Fail> {
+    let alloc = rt.alloc();
+    for (words, why) in [
+        (
+            ["starhost", "--tenants", "257"].as_slice(),
+            "error: a word or a number isn't allowed",
+        ),
+        (
+            &["starhost", "serves"],
+            "error: a word or a number isn't allowed",
+        ),
+        (
+            &["starhost", "run", "--cells", "2"],
+            "error: a word or a number isn't allowed",
+        ),
+        (
+            &["starhost", "run", "x"],
+            "error: unexpected argument 'x' found",
+        ),
+        (
+            &["starhost", "--nix"],
+            "error: unexpected argument '--nix' found",
+        ),
+        (
+            &["starhost", "--bound"],
+            "error: a value is required for '--bound <bound>' but none was supplied",
+        ),
+        (
+            &["starhost", "--bound", "1", "--bound", "2"],
+            "error: the argument '--bound <bound>' cannot be used multiple times",
+        ),
+        (
+            &["starhost", "--help=3"],
+            "error: unexpected value '3' for '--help' found; no more were expected",
+        ),
+    ] {
+        let mut reader = b"0 0 open\n".as_slice();
+        let mut writer = Vec::new(alloc);
+        let mut errors = console(alloc, true);
+        let status = command(&rt, alloc, words, &mut reader, &mut writer, &mut errors);
+        let mut told = Vec::from_slice(alloc, why.as_bytes())?;
+        told.extend_from_slice(ALLOWED)?;
+        assert_eq!(rt; status, 2);
+        assert_eq!(rt; errors.sink.as_slice(), told.as_slice());
+        assert!(rt; writer.is_empty());
+    }
     Ok(())
 }
 
