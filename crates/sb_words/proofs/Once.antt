@@ -1,5 +1,6 @@
 -- Texts ask for one command at most.
-use Rattle.std.proofs.Common.{◌≡◌, ◌<◌, ◌∙◌, ◌⊎◌, ℕ, [], Option, Some, None, codes, length, refl, sym, subst, ap, inl, inr, arith}
+use Rattle.std.proofs.Common.{◌≡◌, ◌<◌, ◌∙◌, ◌⊎◌, ◌↔◌, ℕ, Bool, true, false, IsTrue, [], Option, Some, None, codes, length, refl, sym, subst, ap, inl, inr, arith}
+use Rattle.std.proofs.lemmas.Bool.{false≢true}
 use Rattle.clap.specs.Words.{IsAmong, Kinds, Text}
 use Rattle.clap.specs.declared.error.kind.ErrorKind.{ErrorKind}
 use Rattle.sb_words.specs.Asking.{AsksBy, HasNumber, HostsBy, RunsBy, ServesBy}
@@ -20,8 +21,15 @@ run_of m u = record { tenants = m; bound = u }
 abbrev host_of : Run → ℕ → ℕ → Hosting
 host_of r m u = record { run = r; cells = m; workers = u }
 
-abbrev server_of : Hosting → ℕ → ℕ → Serving
-server_of r m u = record { hosting = r; port = m; connections = u }
+abbrev server_of : Hosting → ℕ → ℕ → ℕ → Bool → Serving
+server_of r m u i b = record { hosting = r; port = m; connections = u; idle = i; until_input_ends = b }
+
+-- one fact decides both
+same_flag : {P : Type 0} (a b : Bool) → (IsTrue a ↔ P) → (IsTrue b ↔ P) → a ≡ b
+same_flag true true x y = refl
+same_flag true false x y = absurd (false≢true (y.1 (x.0 refl)))
+same_flag false true x y = absurd (false≢true (x.1 (y.0 refl)))
+same_flag false false x y = refl
 
 same_run : (t : Texts) (a b : Run) → RunsBy t a → RunsBy t b → a ≡ b
 same_run t a b x y =
@@ -42,11 +50,12 @@ same_host t a b x y =
 
 same_server : (t : Texts) (a b : Serving) → ServesBy t a → ServesBy t b → a ≡ b
 same_server t a b x y =
-    server_parts a.hosting b.hosting a.port b.port a.connections b.connections (same_host t a.hosting b.hosting x.0 y.0)
+    server_parts a.hosting b.hosting a.port b.port a.connections b.connections a.idle b.idle a.until_input_ends b.until_input_ends (same_host t a.hosting b.hosting x.0 y.0)
     (same_number 0 65535 0 t.port a.port b.port x.1 y.1) (same_number 0 1000000 0 t.connections a.connections b.connections x.2 y.2)
+    (same_number 0 86400 0 t.idle a.idle b.idle x.3 y.3) (same_flag a.until_input_ends b.until_input_ends x.4 y.4)
   where
-    server_parts : (r s : Hosting) (m n u v : ℕ) → r ≡ s → m ≡ n → u ≡ v → server_of r m u ≡ server_of s n v
-    server_parts r s m n u v d e f = rw (d, e, f) refl
+    server_parts : (r s : Hosting) (m n u v i j : ℕ) (b c : Bool) → r ≡ s → m ≡ n → u ≡ v → i ≡ j → b ≡ c → server_of r m u i b ≡ server_of s n v j c
+    server_parts r s m n u v i j b c d e f g k = rw (d, e, f, g, k) refl
 
 abbrev word_length : Option Text → ℕ
 word_length None = 0

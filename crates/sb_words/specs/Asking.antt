@@ -1,5 +1,5 @@
 -- What texts ask for.
-use Rattle.std.specs.Prelude.{◌≡◌, ◌≤◌, ◌⊎◌, ℕ, Option, Some, None, codes}
+use Rattle.std.specs.Prelude.{◌≡◌, ◌≤◌, ◌⊎◌, ◌↔◌, ℕ, IsTrue, Option, Some, None, codes}
 use Rattle.std.specs.Str.Parse.{IsNumeral, digits_value, without_leading_plus}
 use Rattle.clap.specs.Words.{Text}
 use Rattle.sb_words.specs.Texts.{Texts, text_of}
@@ -19,6 +19,8 @@ texts_of g = record {
   workers = text_of g.workers;
   port = text_of g.port;
   connections = text_of g.connections;
+  idle = text_of g.idle;
+  until_input_ends = text_of g.until_input_ends;
 }
 
 -- a text in decimal digits, of a number from the least to the most that is allowed
@@ -31,6 +33,10 @@ abbrev pub HasNumber : ℕ → ℕ → ℕ → Option Text → ℕ → Type 0
 HasNumber least most usual None n = n ≡ usual
 HasNumber least most usual (Some text) n = IsNumber least most text n
 
+-- an option without a value is given
+abbrev pub IsGiven : Option Text → Type 0
+IsGiven text = text ≡ Some (codes "true")
+
 -- 1 to 256 tenants, or else 16; 1 to 1000 considerations, or else 1000
 abbrev pub RunsBy : Texts → Run → Type 0
 RunsBy t r = HasNumber 1 256 16 t.tenants r.tenants × HasNumber 1 1000 1000 t.bound r.bound
@@ -39,13 +45,15 @@ RunsBy t r = HasNumber 1 256 16 t.tenants r.tenants × HasNumber 1 1000 1000 t.b
 abbrev pub HostsBy : Texts → Hosting → Type 0
 HostsBy t h = RunsBy t h.run × HasNumber 1 16 4 t.cells h.cells × HasNumber 1 16 4 t.workers h.workers
 
--- a port up to 65535, or else 0; up to 1000000 connections, or else 0
+-- a port up to 65535, or else 0; up to 1000000 connections, or else 0; up to 86400 idle seconds, or else 0; whether the input's end counts
 abbrev pub ServesBy : Texts → Serving → Type 0
-ServesBy t s = HostsBy t s.hosting × HasNumber 0 65535 0 t.port s.port × HasNumber 0 1000000 0 t.connections s.connections
+ServesBy t s =
+    HostsBy t s.hosting × HasNumber 0 65535 0 t.port s.port × HasNumber 0 1000000 0 t.connections s.connections
+    × HasNumber 0 86400 0 t.idle s.idle × (IsTrue s.until_input_ends ↔ IsGiven t.until_input_ends)
 
 -- the options of a server aren't given
 abbrev pub LacksServer : Texts → Type 0
-LacksServer t = (t.port ≡ None) × (t.connections ≡ None)
+LacksServer t = (t.port ≡ None) × (t.connections ≡ None) × (t.idle ≡ None) × (IsGiven t.until_input_ends → ⊥)
 
 -- nor are those of a host
 abbrev pub LacksHost : Texts → Type 0

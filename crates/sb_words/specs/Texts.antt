@@ -16,3 +16,5 @@ pub record Texts : Type 0 where
   pub workers : Option Text
   pub port : Option Text
   pub connections : Option Text
+  pub idle : Option Text
+  pub until_input_ends : Option Text

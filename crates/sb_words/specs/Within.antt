@@ -15,7 +15,7 @@ abbrev pub AreHost : Hosting → Type 0
 AreHost h = AreRun h.run × (1 ≤ h.cells) × (h.cells ≤ 16) × (1 ≤ h.workers) × (h.workers ≤ 16)
 
 abbrev pub AreServer : Serving → Type 0
-AreServer s = AreHost s.hosting × (s.port ≤ 65535) × (s.connections ≤ 1000000)
+AreServer s = AreHost s.hosting × (s.port ≤ 65535) × (s.connections ≤ 1000000) × (s.idle ≤ 86400)
 
 abbrev pub IsWithin : Request → Type 0
 IsWithin (run_request r) = AreRun r

@@ -1,6 +1,7 @@
 -- What the words of a command line ask for.
 use Rattle.std.specs.Prelude.{◌≡◌, ◌≢◌, ◌⊎◌, List, [], codes, true, Some}
 use Rattle.clap.specs.Words.{App, IsAmong, Row, Rule, Text, fault_of, first_of, matches_of, new_app, new_rule, with_rule}
+use Rattle.clap.specs.declared.builder.action.ArgAction.TheVariants.{SetTrue}
 use Rattle.clap.specs.declared.error.kind.ErrorKind.{ErrorKind}
 use Rattle.clap.specs.declared.error.kind.ErrorKind.TheVariants.{DisplayHelp, DisplayVersion}
 use Rattle.sb_words.specs.Asking.{AsksBy}
@@ -12,6 +13,10 @@ use Rattle.sb_words.specs.declared.words.Asked.TheVariants.{For, Help, Version, 
 -- an option `--name` with a value
 abbrev pub option_of : Text → Rule
 option_of name = record (new_rule name) { long = Some name }
+
+-- an option `--name` without one
+abbrev pub flag_of : Text → Rule
+flag_of name = record (new_rule name) { long = Some name; action = Some SetTrue }
 
 -- the program has a version
 abbrev pub with_version : App → App
@@ -25,8 +30,11 @@ run_words = with_rule (with_rule (with_rule (with_version (new_app (codes "starh
 abbrev pub host_words : App
 host_words = with_rule (with_rule run_words (option_of (codes "cells"))) (option_of (codes "workers"))
 
+abbrev pub server_words : App
+server_words = with_rule (with_rule host_words (option_of (codes "port"))) (option_of (codes "connections"))
+
 abbrev pub starhost : App
-starhost = with_rule (with_rule host_words (option_of (codes "port"))) (option_of (codes "connections"))
+starhost = with_rule (with_rule server_words (option_of (codes "idle"))) (flag_of (codes "until-input-ends"))
 
 -- what is found in them for the command and behind the options
 abbrev pub found_in : List Row → Texts
@@ -38,6 +46,8 @@ found_in rows = record {
   workers = first_of (codes "workers") rows;
   port = first_of (codes "port") rows;
   connections = first_of (codes "connections") rows;
+  idle = first_of (codes "idle") rows;
+  until_input_ends = first_of (codes "until-input-ends") rows;
 }
 
 -- These words, the program's name first, ask for a command: clap finds no fault in them, and the texts that it finds do.

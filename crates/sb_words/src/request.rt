@@ -37,6 +37,11 @@ const CONNECTIONS: u32 = 0;
 
 const MOST_CONNECTIONS: u32 = 1_000_000;
 
+/// Connections may be idle without end.
+const IDLE: u32 = 0;
+
+const MOST_IDLE: u32 = 86_400;
+
 /// A run over standard input: how many tenants are hosted, and their consideration limit.
 #[derive(Clone, Copy, Debug)]
 pub struct Run {
@@ -52,13 +57,16 @@ pub struct Hosting {
     pub workers: u32,
 }
 
-/// A server: a host, the port that it listens at (0: any free one), and how many connections it
-/// serves (0: without end).
+/// A server: a host, the port that it listens at (0: any free one), how many connections it serves
+/// (0: without end), after how many idle seconds it closes one (0: never), and whether it stops where
+/// its input ends.
 #[derive(Clone, Copy, Debug)]
 pub struct Serving {
     pub hosting: Hosting,
     pub port: u32,
     pub connections: u32,
+    pub idle: u32,
+    pub until_input_ends: bool,
 }
 
 /// A command with its options.
@@ -79,6 +87,8 @@ pub(crate) struct Given<'a> {
     pub(crate) workers: Option<&'a str>,
     pub(crate) port: Option<&'a str>,
     pub(crate) connections: Option<&'a str>,
+    pub(crate) idle: Option<&'a str>,
+    pub(crate) until_input_ends: Option<&'a str>,
 }
 
 /// The command with its options that these texts ask for.
@@ -156,7 +166,10 @@ fn is_word(text: Option<&str>, word: &str) -> bool
 fn lacks_server(given: Given<'_>) -> bool
     ensures { IsTrue result ↔ LacksServer (texts_of given.entry) }
 {
-    given.port.is_none() && given.connections.is_none()
+    given.port.is_none()
+        && given.connections.is_none()
+        && given.idle.is_none()
+        && !is_word(given.until_input_ends, "true")
 }
 
 fn lacks_host(given: Given<'_>) -> bool
@@ -214,9 +227,14 @@ fn server_numbers(given: Given<'_>) -> Option<Serving>
     let Some(connections) = number(given.connections, 0, MOST_CONNECTIONS, CONNECTIONS) else {
         return None;
     };
+    let Some(idle) = number(given.idle, 0, MOST_IDLE, IDLE) else {
+        return None;
+    };
     Some(Serving {
         hosting,
         port,
         connections,
+        idle,
+        until_input_ends: is_word(given.until_input_ends, "true"),
     })
 }

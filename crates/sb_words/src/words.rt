@@ -3,11 +3,11 @@ ghost use Rattle.std.specs.Prelude.{◌≡◌, IfOk, map};
 ghost use Rattle.clap.specs.Words.{FailsBy, app_of, fault_of, matches_of, with_rule};
 ghost use Rattle.sb_words.specs.Asking.{texts_of};
 ghost use Rattle.sb_words.specs.Within.{AreWithin};
-ghost use Rattle.sb_words.specs.Words.{IsAsked, run_words, found_in, option_of, host_words, starhost};
+ghost use Rattle.sb_words.specs.Words.{IsAsked, flag_of, found_in, host_words, option_of, run_words, server_words, starhost};
 
 use crate::request::{Given, Request, requested};
 use clap::error::ErrorKind;
-use clap::{Arg, Command, Error};
+use clap::{Arg, ArgAction, Command, Error};
 use std::alloc::{AllocError, Global};
 use std::convert::AsStr;
 
@@ -56,6 +56,8 @@ fn texts_given<'a, S: AsStr>(alloc: Global, words: &'a [S]) -> Result<Given<'a>,
         workers: matches.get_str("workers"),
         port: matches.get_str("port"),
         connections: matches.get_str("connections"),
+        idle: matches.get_str("idle"),
+        until_input_ends: matches.get_str("until-input-ends"),
     })
 }
 
@@ -63,11 +65,19 @@ fn texts_given<'a, S: AsStr>(alloc: Global, words: &'a [S]) -> Result<Given<'a>,
 fn program<'a>(alloc: Global) -> Result<Command<'a>, AllocError>
     ensures { IfOk result (λ c. app_of c ≡ starhost) }
 {
+    let command = with_option(alloc, server_words(alloc)?, "idle")?;
+    with_flag(alloc, command, "until-input-ends")
+}
+
+/// All but when a server ends by itself.
+fn server_words<'a>(alloc: Global) -> Result<Command<'a>, AllocError>
+    ensures { IfOk result (λ c. app_of c ≡ server_words) }
+{
     let command = with_option(alloc, host_words(alloc)?, "port")?;
     with_option(alloc, command, "connections")
 }
 
-/// All but where a server listens, and how long.
+/// All but where a server listens, and whom it serves.
 fn host_words<'a>(alloc: Global) -> Result<Command<'a>, AllocError>
     ensures { IfOk result (λ c. app_of c ≡ host_words) }
 {
@@ -93,4 +103,16 @@ fn with_option<'a>(
     ensures { IfOk result (λ c. app_of c ≡ with_rule (app_of command.entry) (option_of name.entry.now)) }
 {
     command.arg(Arg::new(alloc, name).long(name))
+}
+
+/// Adds an option without a value.
+fn with_flag<'a>(
+    alloc: Global,
+    command: Command<'a>,
+    name: &'a str,
+) -> Result<Command<'a>, AllocError>
+    ensures { IfOk result (λ c. app_of c ≡ with_rule (app_of command.entry) (flag_of name.entry.now)) }
+{
+    let flag = Arg::new(alloc, name).long(name).action(ArgAction::SetTrue);
+    command.arg(flag)
 }

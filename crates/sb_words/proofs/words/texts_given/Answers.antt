@@ -4,7 +4,8 @@ use Rattle.clap.specs.Matches.{first_value}
 use Rattle.clap.specs.Words.{Text, app_of, first_of, found_of, matches_of}
 use Rattle.sb_words.specs.Texts.{text_of}
 use Rattle.sb_words.specs.Words.{starhost}
-use Rattle.sb_words.proofs.Found.{no_fault, same_texts, text_in}
+use Rattle.std.proofs.lemmas.Result.{err_from_is_err_and}
+use Rattle.sb_words.proofs.Found.{has_fault, no_fault, same_texts, text_in}
 use Rattle.sb_words.proofs.words.texts_given.Goals as goal
 
 pub returns-clause-kinds : goal.returns-clause-kinds
@@ -18,4 +19,10 @@ returns-clause-texts g c = let words = map g.S.AsStr.text c.args.words.now in le
     same_texts (is (codes "command") c.get_str.result c.get_str.ensures) (is (codes "tenants") c.get_str-2.result c.get_str-2.ensures)
     (is (codes "bound") c.get_str-3.result c.get_str-3.ensures) (is (codes "cells") c.get_str-4.result c.get_str-4.ensures)
     (is (codes "workers") c.get_str-5.result c.get_str-5.ensures) (is (codes "port") c.get_str-6.result c.get_str-6.ensures)
-    (is (codes "connections") c.get_str-7.result c.get_str-7.ensures)
+    (is (codes "connections") c.get_str-7.result c.get_str-7.ensures) (is (codes "idle") c.get_str-8.result c.get_str-8.ensures)
+    (is (codes "until-input-ends") c.get_str-9.result c.get_str-9.ensures)
+
+pub returns-in_err-matches-clause-kinds : goal.returns-in_err-matches-clause-kinds
+returns-in_err-matches-clause-kinds g c =
+    let p = err_from_is_err_and c.from_residual-in_err-matches.result c.from_residual-in_err-matches.ensures.1 in
+    rw (p.1, p.2) (has_fault (app_of c.in_ok-program.field-0) (map g.S.AsStr.text c.args.words.now) c.in_err-matches.field-0.0 c.in_ok-program.ensures c.in_err-matches.ensures.kinds)
