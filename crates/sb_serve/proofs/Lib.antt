@@ -1,3 +1,4 @@
 pub mod Talks
 pub mod Closing
-pub mod Connection
+pub mod Whole
+pub mod Steps

@@ -33,6 +33,17 @@ impl Named {
     }
 }
 
+/// The tenant that a first line names, or 0.
+pub(crate) fn tenant_named(piece: Piece<'_>) -> u32 {
+    let Piece::Line(line) = piece else {
+        return 0;
+    };
+    match Named::split(line) {
+        Some(named) => named.tenant,
+        None => 0,
+    }
+}
+
 /// Opens the session that a first line names, or turns the connection away.
 pub(crate) fn greet<'h, T: Wait, N: Naming, V: Watch>(
     rt: &T,

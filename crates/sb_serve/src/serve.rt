@@ -7,6 +7,7 @@ ghost use Rattle.sb_wire.specs.Responses.{StopsBy};
 ghost use Rattle.sb_wire.specs.Stream.{MayFail, OnWriteFault};
 
 use crate::greeting::Named;
+use crate::room::steps_left;
 use crate::talking::Talk;
 use crate::watch::{Event, NoWatch, Watch};
 use sb_host::{Host, Naming, Session, Stub};
@@ -64,7 +65,7 @@ pub fn serve_one_with<T: Wait, N: Naming, R: Source, W: Sink, V: Watch>(
 }
 
 /// Closes the session, if one was opened.
-fn close<T: Wait, N: Naming>(rt: &T, session: Option<Session<'_, N>>) -> Option<Stub>
+pub(crate) fn close<T: Wait, N: Naming>(rt: &T, session: Option<Session<'_, N>>) -> Option<Stub>
     ensures { LeavesSome session.entry result }
 {
     match session {
@@ -74,19 +75,31 @@ fn close<T: Wait, N: Naming>(rt: &T, session: Option<Session<'_, N>>) -> Option<
 }
 
 /// Tells how a connection ended.
-fn tell_end<V: Watch>(watch: &V, stub: &Option<Stub>, ended: &Result<(), StreamError>) {
-    let closed = match stub {
-        Some(stub) => Some((session_of(stub), stub.list().len())),
+pub(crate) fn tell_end<V: Watch>(watch: &V, stub: &Option<Stub>, ended: &Result<(), StreamError>) {
+    let named = match stub {
+        Some(stub) => Some(session_of(stub)),
         None => None,
     };
     if let Err(why) = ended {
-        watch.see(Event::Failed {
-            named: closed.map(|closed| closed.0),
-            why: *why,
-        });
+        watch.see(Event::Failed { named, why: *why });
     }
-    if let Some((named, receipts)) = closed {
-        watch.see(Event::Closed { named, receipts });
+    match stub {
+        Some(stub) => watch.see(closed(stub)),
+        None => watch.see(Event::Left),
+    }
+}
+
+/// What is told of a session that is closed.
+fn closed(stub: &Stub) -> Event {
+    let receipts = stub.list();
+    let newest = match receipts.last() {
+        Some(receipt) => receipt.answer.number,
+        None => None,
+    };
+    Event::Closed {
+        named: session_of(stub),
+        steps: receipts.len(),
+        left: steps_left(newest),
     }
 }
 

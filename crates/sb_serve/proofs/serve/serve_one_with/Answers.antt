@@ -1,5 +1,5 @@
 use Rattle.sb_serve.specs.Responding.{is_over}
-use Rattle.sb_serve.proofs.Connection.{whole}
+use Rattle.sb_serve.proofs.Whole.{whole}
 use Rattle.sb_serve.proofs.serve.serve_one_with.Goals as goal
 
 pub returns-clause-goes : goal.returns-clause-goes
