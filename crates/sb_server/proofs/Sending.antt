@@ -1,13 +1,13 @@
--- What the workers share may be used by all of them: a host may, and who watches.
+-- What the workers share may be used by all of them: a host may, and who watches, and the clock.
 use denote.RattleType.{RattleType}
 use denote.Ref.{NamedLft}
 use denote.Param.Send.{IsSync, sendable}
-use Rattle.std.proofs.Crossing.{crosses, sync}
+use Rattle.std.proofs.Crossing.{crosses}
 use Rattle.std.specs.declared.sync.ledger.Ledger as ledger
 use Rattle.sb_desk.specs.declared.naming.Naming as naming
 use Rattle.sb_host.proofs.Sending.{host_sync}
-use Rattle.sb_server.specs.contracts.worker.Serving as Serving
+use Rattle.sb_server.specs.contracts.server.Serving as Serving
 
 module _ (N : RattleType) (n : naming.Ghosts N.Denot) (l : ledger.Ghosts N.Denot) where
-  pub serving_sync : (κ : NamedLft) (V : RattleType) → IsSync V → IsSync (Serving.the_row κ N V n l)
-  serving_sync κ V watch = search (sendable, crosses, sync, host_sync) depth 40
+  pub serving_sync : (κ : NamedLft) (V C : RattleType) → IsSync V → IsSync C → IsSync (Serving.the_row κ N V C n l)
+  serving_sync κ V C watch clock = search (sendable, crosses, host_sync) depth 40

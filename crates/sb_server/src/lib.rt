@@ -1,8 +1,11 @@
-//! Connections of a listener, served on a host.
+//! Connections of a listener, served on a host by workers, each of which waits for many of them at once.
 #![tactic(auto)]
 
+mod door;
+mod input;
 mod server;
+mod told;
+mod visit;
 mod worker;
 
-pub use server::serve_all;
-pub use worker::serve_kept;
+pub use server::{ServeError, Terms, serve_all};

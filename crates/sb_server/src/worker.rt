@@ -1,139 +1,344 @@
-//! One worker's loop.
-ghost use Rattle.std.specs.Prelude.{◌≡◌, ◌<◌, ◌++◌, Option, IfSome, option_to_list, vec_len, vec_capacity};
-ghost use Rattle.sb_wire.specs.Responses.{StopsBy};
+//! One worker: it waits for events of its connections, and serves those that have some.
+ghost use Rattle.std.specs.Prelude.{◌≡◌, ◌+◌, ◌≤◌, ◌++◌, [], ℕ, None, Option, option_to_list, vec_len, vec_capacity};
 ghost use Rattle.sb_host.specs.declared.stub.Stub.{Stub as ItsStub};
-ghost use Rattle.sb_serve.specs.Conversation.{Conversation};
-ghost use Rattle.sb_server.specs.Closed.{GainsClosed, LeavesClosed};
+ghost use Rattle.slab.specs.Slab.{Updates, get, slab_len};
+ghost use Rattle.sb_server.specs.Closed.{GainsClosed, Leaves};
 
-use sb_host::{Host, Naming, Stub};
-use sb_pool::Work;
-use sb_serve::{Event, Served, Watch, serve_one_with};
-use sb_wire::{Fallible, Sink, Source, StreamError};
-use std::alloc::Global;
-use std::net::{TcpListener, TcpStream};
+use crate::door::{Client, Door};
+use crate::input::{has_ended, watch_input};
+use crate::server::Serving;
+use crate::visit::{Next, Visit};
+use mio::event::Event as Ready;
+use mio::net::TcpStream;
+use mio::unix::SourceFd;
+use mio::{Events, Interest, Poll, Token};
+use sb_host::{Naming, Stub};
+use sb_serve::{Connection, Event, Watch};
+use sb_wire::StreamError;
+use slab::Slab;
+use std::mem;
+use std::rt::Clock;
 use std::sync::Wait;
-use std::sync::atomic::{AtomicU64, Ordering};
+use std::sync::atomic::Ordering;
+use std::time::{Duration, Instant};
 
-/// What every worker serves.
+const LISTENER: Token = Token(usize::MAX);
+
+const INPUT: Token = Token(usize::MAX - 1);
+
+pub(crate) const WAKER: Token = Token(usize::MAX - 2);
+
+/// How many connections are taken at most before those that are there have their turn.
+const TAKEN_A_TURN: usize = 16;
+
+/// How often connections that may be idle are looked at, in milliseconds.
+const SWEEP: u64 = 1_000;
+
+/// What a worker begins with.
 #[derive(Drop)]
-pub(crate) struct Serving<'s, N: Naming, V> {
-    pub(crate) alloc: Global,
-    pub(crate) listener: &'s TcpListener,
-    pub(crate) host: &'s Host<N>,
-    pub(crate) watch: &'s V,
-    pub(crate) workers: u64,
-    /// How many connections all workers serve together, or 0, which is without end.
-    pub(crate) connections: u64,
-    pub(crate) tickets: AtomicU64,
-    /// How many workers have a connection.
-    pub(crate) busy: AtomicU64,
+pub(crate) struct Seat {
+    pub(crate) poll: Poll,
+    pub(crate) events: Events,
+    pub(crate) buffer: Vec<u8>,
+    /// It looks at the program's input.
+    pub(crate) watches_input: bool,
 }
 
-impl<'s, N: Naming, V: Watch> Work<u64, Vec<Stub>> for Serving<'s, N, V> {
-    ghost use Rattle.sb_server.specs.Closed.{LeaveClosed};
+/// A worker with its connections, by their tokens.
+#[derive(Drop)]
+pub(crate) struct Worker<'s, N: Naming, V, C> {
+    serving: &'s Serving<'s, N, V, C>,
+    poll: Poll,
+    door: Door<'s>,
+    buffer: Vec<u8>,
+    visits: Slab<Box<Visit<'s, N>>>,
+    /// Those that are served next.
+    due: Vec<usize>,
+    stubs: Vec<Stub>,
+    /// When idle connections were looked for.
+    swept: Option<Instant>,
+    /// Each connection has a place for its receipts.
+    ghost room: { vec_len stubs + slab_len visits ≤ vec_capacity stubs },
+}
 
-    ghost does = { λ _ stubs. LeaveClosed stubs };
+impl<'s, N: Naming, V: Watch, C: Clock> Worker<'s, N, V, C> {
+    /// A worker at its seat, which has no connection yet.
+    pub(crate) fn new(serving: &'s Serving<'s, N, V, C>, poll: Poll, buffer: Vec<u8>) -> Self
+        ensures { result.stubs.items ≡ [] }
+    {
+        Worker {
+            serving,
+            poll,
+            door: Door::new(&serving.entrance),
+            buffer,
+            visits: Slab::new(serving.alloc),
+            due: Vec::new(serving.alloc),
+            stubs: Vec::new(serving.alloc),
+            swept: None,
+        }
+    }
 
-    fn work<R: Wait>(&self, rt: &R, _job: u64) -> Vec<Stub> {
-        let mut stubs = Vec::new(self.alloc);
-        serve_connections(rt, self, &mut stubs);
+    /// The receipts of all sessions.
+    pub(crate) fn into_stubs(self) -> Vec<Stub>
+        ensures { result.items ≡ self.entry.stubs.items }
+    {
+        let Worker { stubs, .. } = self;
         stubs
     }
-}
 
-/// Serves one connection after another, each for a ticket, as long as there are tickets. The receipts of their sessions
-/// come behind those that are there.
-fn serve_connections<T: Wait, N: Naming, V: Watch>(
-    rt: &T,
-    serving: &Serving<'_, N, V>,
-    stubs: &mut Vec<Stub>,
-)
-    ensures { GainsClosed stubs.old.items stubs.new.items }
-{
-    for _turn in 0..u64::MAX {
-        let ticket = serving.tickets.fetch_add(1, Ordering::SeqCst);
-        if serving.connections != 0 && serving.connections <= ticket {
+    /// Serves connections until none is to be taken and none is left, or the server stops.
+    pub(crate) fn serve<T: Wait>(&mut self, rt: &T, events: &mut Events, watches_input: bool)
+        ensures { GainsClosed self.old.stubs.items self.new.stubs.items }
+    {
+        self.begin(watches_input);
+        for _turn in 0..u64::MAX {
+            if !self.goes_on() {
+                return;
+            }
+            let patience = self.patience();
+            if self.poll.poll(events, patience).is_err() {
+                return;
+            }
+            for event in events.iter() {
+                self.note(event);
+            }
+            self.take_some();
+            self.serve_due(rt);
+            self.sweep(rt);
+        }
+    }
+
+    /// Has connections at the listener reported, and the end of the input where that is asked for.
+    fn begin(&mut self, watches_input: bool)
+        ensures { self.new.stubs ≡ self.old.stubs }
+    {
+        let registry = self.poll.registry();
+        let listener = self.serving.entrance.descriptor();
+        let _told_by_a_turn = registry.register(
+            &mut SourceFd(&listener),
+            LISTENER,
+            Interest::READABLE,
+        );
+        if watches_input && watch_input(registry, INPUT) {
+            self.serving.stop();
+        }
+    }
+
+    fn goes_on(&self) -> bool {
+        !self.serving.stopping.load(Ordering::SeqCst)
+            && (self.serving.entrance.is_open() || !self.visits.is_empty())
+    }
+
+    /// How long it may wait for events.
+    fn patience(&self) -> Option<Duration> {
+        if !self.due.is_empty() {
+            return Some(Duration::ZERO);
+        }
+        match self.door.patience() {
+            Some(patience) => Some(patience),
+            None if self.serving.idle.is_some() => Some(Duration::from_millis(SWEEP)),
+            None => None,
+        }
+    }
+
+    /// The time, where it matters.
+    fn now(&self) -> Option<Instant> {
+        if self.serving.idle.is_none() && !self.door.has_fault() {
+            return None;
+        }
+        Instant::now(self.serving.clock).ok()
+    }
+
+    /// One event.
+    fn note(&mut self, event: &Ready)
+        ensures { self.new.stubs ≡ self.old.stubs }
+    {
+        let token = event.token();
+        if token == LISTENER {
+            self.door.note();
+        } else if token == INPUT {
+            if has_ended(self.poll.registry(), INPUT) {
+                self.serving.stop();
+            }
+        } else if token != WAKER {
+            self.note_client(token.0, event.is_read_closed());
+        }
+    }
+
+    /// Something came of a client, or goes again.
+    fn note_client(&mut self, key: usize, hung_up: bool)
+        ensures { self.new.stubs ≡ self.old.stubs }
+    {
+        let Some(mut visit) = self.visits.try_remove(key) else {
+            return;
+        };
+        visit.hung_up |= hung_up;
+        self.put_due(visit);
+    }
+
+    /// Puts a connection back, and serves it next.
+    fn put_due(&mut self, mut visit: Box<Visit<'s, N>>)
+        requires stub { vec_len self.old.stubs + (slab_len self.old.visits + 1) ≤ vec_capacity self.old.stubs }
+        requires visit { slab_len self.old.visits + 1 ≤ self.old.visits.capacity }
+        ensures { self.new.stubs ≡ self.old.stubs }
+    {
+        let was_due = visit.is_due;
+        visit.is_due = true;
+        let key = self.visits.insert_reserved(visit);
+        if !was_due && self.due.push(key).is_err() {
+            self.serving.stop();
+        }
+    }
+
+    /// Takes some of the connections that wait at the listener.
+    fn take_some(&mut self)
+        ensures { self.new.stubs.items ≡ self.old.stubs.items }
+    {
+        let now = self.now();
+        for _taken in 0..TAKEN_A_TURN {
+            match self.door.take(self.serving.watch, now) {
+                Some(Client { stream, port }) => self.admit(TcpStream::from_std(stream), port),
+                None => return,
+            }
+        }
+    }
+
+    /// Takes a connection. One that has no place isn't served.
+    fn admit(&mut self, mut stream: TcpStream, port: u16)
+        ensures { self.new.stubs.items ≡ self.old.stubs.items }
+    {
+        if self.stubs.reserve(self.visits.len() + 1).is_err() || self.visits.reserve(1).is_err() {
+            self.serving.watch.see(Event::NoPlace);
             return;
         }
-        serve_next(rt, serving, stubs);
+        let token = Token(self.visits.vacant_key());
+        let interest = Interest::READABLE | Interest::WRITABLE;
+        if self
+            .poll
+            .registry()
+            .register(&mut stream, token, interest)
+            .is_err()
+        {
+            self.serving.watch.see(Event::NotAccepted);
+            return;
+        }
+        let visit = Visit {
+            stream,
+            port,
+            connection: Connection::new(self.serving.alloc, self.serving.host),
+            heard: self.now(),
+            is_due: false,
+            hung_up: false,
+        };
+        match Box::new(self.serving.alloc, visit) {
+            Ok(visit) => {
+                self.serving.watch.see_client(port, Event::Came);
+                self.visits.insert_reserved(visit);
+            }
+            Err(_) => self.serving.watch.see(Event::NoPlace),
+        }
     }
-}
 
-/// Serves the next connection. One that can't be accepted, or whose receipts find no place, isn't served.
-fn serve_next<T: Wait, N: Naming, V: Watch>(
-    rt: &T,
-    serving: &Serving<'_, N, V>,
-    stubs: &mut Vec<Stub>,
-)
-    ensures { GainsClosed stubs.old.items stubs.new.items }
-{
-    let Some(stream) = accept(serving.listener) else {
-        serving.watch.see(Event::NotAccepted);
-        return;
-    };
-    if stubs.reserve(1).is_err() {
-        serving.watch.see(Event::NoPlace);
-        return;
+    /// Gives each connection that is due its turn.
+    fn serve_due<T: Wait>(&mut self, rt: &T)
+        ensures { GainsClosed self.old.stubs.items self.new.stubs.items }
+    {
+        let due = mem::replace(&mut self.due, Vec::new(self.serving.alloc));
+        for key in due {
+            self.serve_one(rt, key);
+        }
     }
-    tell_begin(serving);
-    let mut reader = Fallible { inner: &stream };
-    let mut writer = Fallible { inner: &stream };
-    let _told = serve_kept(
-        rt,
-        serving.alloc,
-        &mut reader,
-        &mut writer,
-        serving.host,
-        serving.watch,
-        stubs,
-    );
-    let _others = serving.busy.fetch_sub(1, Ordering::SeqCst);
-}
 
-fn accept(listener: &TcpListener) -> Option<TcpStream> {
-    let (stream, _peer) = listener.accept().ok()?;
-    stream.set_nodelay(true).ok()?;
-    Some(stream)
-}
-
-/// Tells where the last free worker takes a connection.
-fn tell_begin<N: Naming, V: Watch>(serving: &Serving<'_, N, V>) {
-    let others = serving.busy.fetch_add(1, Ordering::SeqCst);
-    if others.wrapping_add(1) == serving.workers {
-        serving.watch.see(Event::AllBusy {
-            workers: serving.workers,
-        });
+    /// Gives a connection its turn.
+    fn serve_one<T: Wait>(&mut self, rt: &T, key: usize)
+        ensures { GainsClosed self.old.stubs.items self.new.stubs.items }
+    {
+        let Some(mut visit) = self.visits.try_remove(key) else {
+            return;
+        };
+        visit.is_due = false;
+        let (next, has_heard) = visit.serve(rt, self.serving.watch, self.buffer.as_mut_slice());
+        if has_heard {
+            visit.heard = self.now();
+        }
+        match next {
+            Next::Waits => {
+                self.visits.insert_reserved(visit);
+            }
+            Next::GoesOn => self.put_due(visit),
+            Next::Ends(ended) => self.settle(rt, Box::into_inner(visit), ended),
+        }
     }
-}
 
-/// Serves one connection as `serve_one` does. There is room for the receipts of its session, which come behind the others.
-pub fn serve_kept<T: Wait, N: Naming, R: Source, W: Sink, V: Watch>(
-    rt: &T,
-    alloc: Global,
-    reader: &mut R,
-    writer: &mut W,
-    host: &Host<N>,
-    watch: &V,
-    stubs: &mut Vec<Stub>,
-) -> Result<(), StreamError>
-    requires { vec_len stubs.old < vec_capacity stubs.old }
-    ensures { (stub : Option ItsStub) × (stubs.new.items ≡ stubs.old.items ++ option_to_list stub)
-        × IfSome stub LeavesClosed
-        × (c : Conversation host.now (R.remaining reader.old) (W.contents writer.old)
-        (R.remaining reader.new) (W.contents writer.new) stub)
-        × StopsBy R.fails R.remaining reader.new c.over c.seen c.pieces c.left result }
-{
-    let Served { stub, ended } = serve_one_with(rt, alloc, reader, writer, host, watch);
-    keep(stubs, stub);
-    ended
-}
+    /// Closes the connections that have sent nothing for too long.
+    fn sweep<T: Wait>(&mut self, rt: &T)
+        ensures { GainsClosed self.old.stubs.items self.new.stubs.items }
+    {
+        let (Some(idle), Some(now)) = (self.serving.idle, self.now()) else {
+            return;
+        };
+        if let Some(swept) = self.swept {
+            if now.duration_since(swept) < Duration::from_millis(SWEEP) {
+                return;
+            }
+        }
+        self.swept = Some(now);
+        for key in 0..self.visits.capacity() {
+            self.end_idle(rt, key, now, idle);
+        }
+    }
 
-/// Puts the receipts of a session behind the others, if there was one.
-fn keep(stubs: &mut Vec<Stub>, left: Option<Stub>)
-    requires { vec_len stubs.old < vec_capacity stubs.old }
-    ensures { stubs.new.items ≡ stubs.old.items ++ option_to_list left }
-{
-    if let Some(stub) = left {
-        stubs.push_reserved(stub);
+    /// Closes a connection that has sent nothing for so long.
+    fn end_idle<T: Wait>(&mut self, rt: &T, key: usize, now: Instant, idle: Duration)
+        ensures { GainsClosed self.old.stubs.items self.new.stubs.items }
+    {
+        if !self.is_idle(key, now, idle) {
+            return;
+        }
+        self.end(rt, key, Err(StreamError::ReadFault));
+    }
+
+    /// Whether a connection has sent nothing for so long.
+    fn is_idle(&self, key: usize, now: Instant, idle: Duration) -> bool {
+        match self.visits.get(key) {
+            Some(visit) => match visit.heard {
+                Some(heard) => now.duration_since(heard) >= idle,
+                None => false,
+            },
+            None => false,
+        }
+    }
+
+    /// Closes all connections that are left.
+    pub(crate) fn close_all<T: Wait>(&mut self, rt: &T)
+        ensures none_left { (key : ℕ) → get self.new.visits key ≡ None }
+        ensures gains { GainsClosed self.old.stubs.items self.new.stubs.items }
+    {
+        for key in 0..self.visits.capacity() {
+            self.end(rt, key, Ok(()));
+        }
+    }
+
+    /// Closes a connection, if there is one.
+    fn end<T: Wait>(&mut self, rt: &T, key: usize, ended: Result<(), StreamError>)
+        ensures ends { Updates self.old.visits self.new.visits key None }
+        ensures gains { GainsClosed self.old.stubs.items self.new.stubs.items }
+    {
+        if let Some(visit) = self.visits.try_remove(key) {
+            self.settle(rt, Box::into_inner(visit), ended);
+        }
+    }
+
+    /// Closes a connection, and keeps the receipts of its session.
+    fn settle<T: Wait>(&mut self, rt: &T, visit: Visit<'s, N>, ended: Result<(), StreamError>)
+        requires { vec_len self.old.stubs + (slab_len self.old.visits + 1) ≤ vec_capacity self.old.stubs }
+        ensures left { (stub : Option ItsStub) × Leaves visit.entry.connection stub
+            × (self.new.stubs.items ≡ self.old.stubs.items ++ option_to_list stub) }
+        ensures others { self.new.visits ≡ self.old.visits }
+        ensures gains { GainsClosed self.old.stubs.items self.new.stubs.items }
+    {
+        if let Some(stub) = visit.leave(rt, self.serving.watch, ended) {
+            self.stubs.push_reserved(stub);
+        }
     }
 }

@@ -1,5 +1,5 @@
 use denote.Param.Send.{arg_sync, param_sync}
-use Rattle.std.proofs.Common.{◌≡◌, List, [], ◌∷◌, subst, sym}
+use Rattle.std.proofs.Common.{List, [], ◌∷◌, subst, sym}
 use Rattle.std.specs.Prelude.{Vec}
 use Rattle.std.specs.Global.{Global}
 use Rattle.std.specs.List.{All, AllZip, flat_map}
@@ -7,10 +7,9 @@ use Rattle.std.proofs.lemmas.List.Elements.{All-append, All-nil}
 use Rattle.sb_host.specs.declared.stub.Stub.{Stub}
 use Rattle.sb_server.specs.Closed.{LeaveClosed, LeavesClosed}
 use Rattle.sb_server.proofs.Sending.{serving_sync}
-use Rattle.std.proofs.lemmas.Result.{IfOk-weaker}
 use Rattle.sb_server.proofs.server.serve_all.Goals as goal
 
--- the workers share the host, the listener and the tickets
+-- the workers share the host and the entrance
 pub run-requires-sync-W : goal.run-requires-sync-W
 run-requires-sync-W g c = λ κs bounds. search (param_sync, arg_sync, serving_sync)
 
@@ -21,8 +20,7 @@ all_closed [] (part ∷ parts) all = absurd all
 all_closed (job ∷ jobs) [] all = absurd all
 all_closed (job ∷ jobs) (part ∷ parts) (own, others) = All-append LeavesClosed part.items (flat_map (λ part. part.items) parts) own (all_closed jobs parts others)
 
-pub returns-in-Ok : goal.returns-in-Ok
-returns-in-Ok g c =
-    let closed = all_closed c.loop-worker.jobs.items c.in-Ok.parts.items c.in-Ok.ensures.done in
-    let are : (stubs : Vec Stub Global) → stubs.items ≡ flat_map (λ part. part.items) c.in-Ok.parts.items → All LeavesClosed stubs.items = λ stubs same. subst (λ (l : List Stub). All LeavesClosed l) (sym same) closed in
-    IfOk-weaker c.gather.result _ _ are c.gather.ensures
+pub returns-in-Ok-gather : goal.returns-in-Ok-gather
+returns-in-Ok-gather g c =
+    let closed = all_closed c.in_ok-seats.seats.items c.in-Ok.parts.items c.in-Ok.ensures.done in
+    subst (λ (l : List Stub). All LeavesClosed l) (sym c.in-Ok-gather.ensures) closed
