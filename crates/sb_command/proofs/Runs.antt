@@ -1,5 +1,6 @@
 -- What words ask for at no words, and statuses.
-use Rattle.std.proofs.Common.{◌≡◌, ◌≤◌, ◌⊎◌, ℕ, List, [], ◌∷◌, length, Option, Result, Ok, Err, refl, sym, subst, ap, inl, inr, arith, map, ◌<◌, ◌∙◌}
+use Rattle.std.proofs.Common.{◌≡◌, ◌≤◌, ℕ, nat_eq, Bool, false, codes, List, [], ◌∷◌, length, Option, Some, None, Result, Ok, Err, refl, subst, ap, inl, arith, map, ◌<◌}
+use Rattle.std.proofs.lemmas.Bool.{false≢true}
 use Rattle.std.specs.Prelude.{OnOk}
 use Rattle.clap.specs.Words.{Text}
 use Rattle.clap.proofs.OnLiterals.{clap_on_literals}
@@ -14,10 +15,19 @@ use Rattle.sb_words.specs.declared.words.Asked.TheVariants.{For}
 use Rattle.sb_command.specs.Faults.{TellsEnd}
 use Rattle.sb_service.specs.declared.fault.Fault.{Fault}
 
+abbrev begins_with_t : Option Text → Bool
+begins_with_t None = false
+begins_with_t (Some []) = false
+begins_with_t (Some (c ∷ rest)) = nat_eq c 116
+
+-- a word that isn't given is `false`
+not_given : Some (codes "false") ≡ Some (codes "true") → ⊥
+not_given is = false≢true (ap begins_with_t is)
+
 pub no_words : {A : Type 0} (f : A → Text) (words : List A) → length words ≤ 1 → AskFor (map f words) (run_request (record { tenants = 16; bound = 1000 }))
 unfolding clap_on_literals
-no_words f [] h = (refl, (inl refl, (refl, refl, (refl, refl)), (refl, refl)))
-no_words f (w ∷ []) h = (refl, (inl refl, (refl, refl, (refl, refl)), (refl, refl)))
+no_words f [] h = (refl, (inl refl, (refl, refl, (refl, refl, refl, not_given)), (refl, refl)))
+no_words f (w ∷ []) h = (refl, (inl refl, (refl, refl, (refl, refl, refl, not_given)), (refl, refl)))
 no_words f (w ∷ v ∷ rest) h = absurd (omega arith)
 
 -- what is read is what the words ask for

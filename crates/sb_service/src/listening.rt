@@ -4,23 +4,30 @@ ghost use Rattle.std.specs.Io.KnownBytes.{Appends};
 ghost use Rattle.sb_service.specs.Totals.{listening_line};
 
 use crate::fault::Fault;
+use crate::journal::Journal;
 use crate::lines::write_line;
 use sb_wire::{Sink, StreamError, push_labelled};
 use std::alloc::Global;
 use std::net::{Net, SocketAddr, TcpListener, TcpStream};
+use std::rt::Clock;
 
 /// Listens at this port, or at any free one, and tells which it is.
-pub(crate) fn listen<T: Net<Listener = TcpListener, Stream = TcpStream>, W: Sink>(
+pub(crate) fn listen<T: Net<Listener = TcpListener, Stream = TcpStream> + Eprint + Clock, W: Sink>(
     rt: &T,
     alloc: Global,
     port: u16,
+    journal: &Journal<'_, T>,
     writer: &mut W,
 ) -> Result<TcpListener, Fault>
     ensures { OnOk result ((port : ℕ)
         × Appends (W.contents writer.old) (W.contents writer.new) (listening_line port)) }
 {
-    let Ok(listener) = TcpListener::bind(rt, SocketAddr::from(([127, 0, 0, 1], port))) else {
-        return Err(Fault::CannotListen);
+    let listener = match TcpListener::bind(rt, SocketAddr::from(([127, 0, 0, 1], port))) {
+        Ok(listener) => listener,
+        Err(error) => {
+            journal.tell_cannot_listen(port, &error);
+            return Err(Fault::CannotListen);
+        }
     };
     let Ok(address) = listener.local_addr() else {
         return Err(Fault::CannotListen);

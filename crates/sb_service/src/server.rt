@@ -10,7 +10,7 @@ use crate::journal::Journal;
 use crate::listening::listen;
 use sb_host::{Host, Naming, Opened};
 use sb_serve::Watch;
-use sb_server::serve_all;
+use sb_server::{ServeError, Terms, serve_all};
 use sb_wire::{Sink, StreamError};
 use sb_words::Serving;
 use std::alloc::Global;
@@ -19,6 +19,7 @@ use std::net::{Net, TcpListener, TcpStream};
 use std::rt::Clock;
 use std::sync::Wait;
 use std::thread::Threads;
+use std::time::Duration;
 
 const OUT_OF_MEMORY: Fault = Fault::Stream(StreamError::NoMemory);
 
@@ -56,24 +57,32 @@ fn serve_host<
     let Ok(host) = Host::<N>::new(alloc, opened) else {
         return Err(OUT_OF_MEMORY);
     };
-    let listener = listen(rt, alloc, serving.port as u16, writer)?;
+    let journal = Journal::new(rt);
+    let listener = listen(rt, alloc, serving.port as u16, &journal, writer)?;
     let workers = serving.hosting.workers as usize;
-    let connections = u64::from(serving.connections);
-    let journal = Journal { rt };
-    serve_on(
-        rt,
-        alloc,
-        &listener,
-        host,
-        &journal,
-        workers,
-        connections,
-        writer,
-    )
+    let terms = Terms {
+        connections: u64::from(serving.connections),
+        idle: idle(serving.idle),
+        until_input_ends: serving.until_input_ends,
+    };
+    serve_by(rt, alloc, &listener, host, &journal, workers, terms, writer)
+}
+
+/// So many seconds, or no end where that is 0.
+fn idle(seconds: u32) -> Option<Duration> {
+    if seconds == 0 {
+        return None;
+    }
+    Some(Duration::from_secs(u64::from(seconds)))
 }
 
 /// Serves so many connections of the listener, or without end where that is 0, and tells the host's trails behind the last one.
-pub fn serve_on<N: Naming + Send + Sync, V: Watch + Sync, T: Threads + Wait + Sync, W: Sink>(
+pub fn serve_on<
+    N: Naming + Send + Sync,
+    V: Watch + Sync,
+    T: Threads + Wait + Net + Clock + Sync,
+    W: Sink,
+>(
     rt: &T,
     alloc: Global,
     listener: &TcpListener,
@@ -88,8 +97,38 @@ pub fn serve_on<N: Naming + Send + Sync, V: Watch + Sync, T: Threads + Wait + Sy
         × Appends (W.contents writer.old) (W.contents writer.new) line
         × TellsTrails N.bound host line) }
 {
-    match serve_all(rt, alloc, listener, &host, watch, workers, connections) {
+    let terms = Terms {
+        connections,
+        idle: None,
+        until_input_ends: false,
+    };
+    serve_by(rt, alloc, listener, host, watch, workers, terms, writer)
+}
+
+/// Serves the listener's connections by these terms, and tells the host's trails behind the last one.
+pub fn serve_by<
+    N: Naming + Send + Sync,
+    V: Watch + Sync,
+    T: Threads + Wait + Net + Clock + Sync,
+    W: Sink,
+>(
+    rt: &T,
+    alloc: Global,
+    listener: &TcpListener,
+    host: Host<N>,
+    watch: &V,
+    workers: usize,
+    terms: Terms,
+    writer: &mut W,
+) -> Result<(), Fault>
+    requires { (0 < workers) × (workers ≤ 16) }
+    ensures { OnOk result ((line : List ℕ)
+        × Appends (W.contents writer.old) (W.contents writer.new) line
+        × TellsTrails N.bound host line) }
+{
+    match serve_all(rt, alloc, listener, &host, watch, workers, terms) {
         Ok(stubs) => finish(alloc, host, stubs, writer),
-        Err(_) => Err(OUT_OF_MEMORY),
+        Err(ServeError::NoMemory) => Err(OUT_OF_MEMORY),
+        Err(ServeError::NoPlace) => Err(Fault::CannotListen),
     }
 }
