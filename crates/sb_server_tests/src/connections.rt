@@ -99,17 +99,31 @@ fn events_have_lines(rt: HostRuntime) -> Result<(), Fail> {
             "failed: tenant 3, session 7: read failed",
         ),
         (
-            Event::Closed { named, receipts: 3 },
+            Event::Closed {
+                named,
+                steps: 3,
+                left: 65_530,
+            },
             false,
-            "closed: tenant 3, session 7: 3 receipts",
+            "closed: tenant 3, session 7: 3 steps, 65530 left",
         ),
+        (
+            Event::Fills {
+                tenant: 3,
+                left: 6_553,
+            },
+            true,
+            "the trail of tenant 3 has room for 6553 steps",
+        ),
+        (
+            Event::Fills { tenant: 3, left: 0 },
+            true,
+            "the trail of tenant 3 is full",
+        ),
+        (Event::Came, false, "connected"),
+        (Event::Left, false, "disconnected"),
         (Event::NotAccepted, true, "a connection can't be accepted"),
         (Event::NoPlace, true, "no memory for a connection"),
-        (
-            Event::AllBusy { workers: 4 },
-            false,
-            "all 4 workers are busy: further connections wait",
-        ),
     ] {
         assert_eq!(rt; event.is_warning(), warning);
         let line = format!(in rt.alloc(); "{event}")?;

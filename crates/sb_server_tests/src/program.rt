@@ -46,7 +46,7 @@ const SUMMARY: &[u8] = b"lines 5, steps 3, no 10 Syntax: 1, no 12 BadLine: 1, no
 /// What stands behind each reason why words are refused.
 const ALLOWED: &[u8] = b"; allowed are: run, serve, replay, --tenants 1 to 256, \
 --bound 1 to 1000; of serve and replay --cells 1 to 16, --workers 1 to 16; of serve --port \
-0 to 65535, --connections 0 to 1000000; --help, --version\n";
+0 to 65535, --connections 0 to 1000000, --idle 0 to 86400, --until-input-ends; --help, --version\n";
 
 /// What is shown to who asks for help.
 const HELP: &[u8] = b"\
@@ -68,14 +68,17 @@ Options of every command:
 
 Options of serve and replay:
   --cells N      locks that tenants are shared out among: 1 to 16, or else 4
-  --workers N    threads, and so the sessions that are called at a time:
-                 1 to 16, or else 4
+  --workers N    threads: 1 to 16, or else 4
 
 Options of serve:
   --port N       the port: 0 to 65535, or else 0, which is any free one
   --connections N
                  stop behind so many connections: 0 to 1000000, or else 0,
                  which is never
+  --idle SECONDS close a connection that has sent nothing for so long:
+                 0 to 86400, or else 0, which is never
+  --until-input-ends
+                 stop where standard input ends
 
 Other options:
   -h, --help     show this

@@ -8,6 +8,7 @@ use std::alloc::Global;
 use std::io::{Read, Write};
 use std::marker::Brand;
 use std::net::{Net, Shutdown, TcpListener, TcpStream};
+use std::rt::Clock;
 use std::sync::Wait;
 use std::test::*;
 use std::thread;
@@ -25,7 +26,7 @@ fn read_back(alloc: Global, client: TcpStream, lines: &[u8]) -> Option<Vec<u8>> 
 /// What the one client of a server reads, and what the server tells at its end.
 fn visited<
     N: Naming + Send + Sync,
-    R: Net<Listener = TcpListener, Stream = TcpStream> + Threads + Wait + Sync,
+    R: Net<Listener = TcpListener, Stream = TcpStream> + Threads + Wait + Clock + Sync,
 >(rt: &R, alloc: Global, opened: Opened, lines: &'static [u8]) -> Option<(Vec<u8>, Vec<u8>)>
     requires table { N.table ≡ opened.table }
     requires numbers { (N.tenants ≡ opened.tenants) × (N.cells ≡ opened.cells) × (N.bound ≡ opened.bound) }
