@@ -19,6 +19,10 @@ use Rattle.sb_syntax.specs.Scan.{scan}
 use Rattle.sb_syntax.specs.Reading as r
 use Rattle.sb_syntax.specs.Reading.{command}
 
+-- the most bytes of a command's text
+abbrev pub text_limit : ℕ
+text_limit = 4096
+
 -- the text is made of tokens and spaces, and the tokens spell the command
 pub record Spells (text : List ℕ) (s : Command) : Type 0 where
   pub tokens : List Token

@@ -18,7 +18,9 @@ mod tree;
 pub use cursor::Token;
 pub use error::ParseError;
 pub use kind::Kind;
-pub use token::{command_of_is_the_grammar, one_command, parse, tokens, values_spell_themselves};
+pub use token::{
+    TEXT_LIMIT, command_of_is_the_grammar, one_command, parse, tokens, values_spell_themselves,
+};
 pub use tree::{
     Action, AlterationText, Arithmetic, Assignment, ColumnReference, Command, Comparison,
     Condition, Expression, Items, Operand, Query, RuleText, SourceReference, Statement,
