@@ -66,6 +66,7 @@ module _ {R : Type 0} (fails : R → Type 0) (remaining : R → Option (List ℕ
           record {
             seen = s.seen;
             reads = s.reads;
+            in_time = s.in_time;
             pieces = s.pieces;
             left = s.left;
             replies = record { text = s.lines.text; answered = all.0; written = s.lines.written; whole = s.lines.whole; appends = s.lines.appends };

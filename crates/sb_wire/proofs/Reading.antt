@@ -5,7 +5,7 @@ use Rattle.std.specs.Io.KnownBytes.{Consumes, IsAtEnd}
 use Rattle.std.proofs.KnownBytes.{Consumes-nil, Consumes-trans}
 use Rattle.sb_wire.specs.Lines.{Piece, line, piece_of, pieces_of, complete_pieces, open_line, last_piece}
 use Rattle.sb_wire.specs.Responses.{AnswersBytes, AnswersLines, AnswersStream, Answering, StopsBy}
-use Rattle.sb_wire.specs.Stream.{AreFirst}
+use Rattle.sb_wire.specs.Stream.{AreFirst, IsSeenInTime}
 use Rattle.sb_wire.specs.declared.fault.StreamError.{StreamError}
 use Rattle.sb_wire.specs.declared.fault.StreamError.TheVariants.{ReadFault, WriteFault, NoMemory}
 use Rattle.sb_wire.proofs.Responses.{lines_none, lines_then}
@@ -43,22 +43,30 @@ module _ {State : Type 0} (responds : Answering State) (over : State → Bool) w
           }
 
       -- the stream stops among them
-      pub reading-stopped : (s : AnswersStream responds over a i0 h0 c i2 h2) × (s.left ≡ left) × AreFirst s.pieces s.seen
-      reading-stopped =
+      pub reading-stopped : IsSeenInTime (seen ++ bytes) → (s : AnswersStream responds over a i0 h0 c i2 h2) × (s.left ≡ left) × AreFirst s.pieces s.seen
+      reading-stopped in_time =
           let more = pieces-before (seen ++ takes.taken) takes.ahead in
           let all : seen ++ bytes ≡ (seen ++ takes.taken) ++ takes.ahead = ap (λ (t : List ℕ). seen ++ t) takes.split ∙ sym (append_assoc seen takes.taken takes.ahead) in (
-            record { seen = seen ++ bytes; reads = Consumes-trans i0 i1 i2 seen bytes so_far.reads reads; pieces = complete_pieces seen ++ takes.pieces; left = left; lines = reading-lines },
+            record {
+              seen = seen ++ bytes;
+              reads = Consumes-trans i0 i1 i2 seen bytes so_far.reads reads;
+              in_time = in_time;
+              pieces = complete_pieces seen ++ takes.pieces;
+              left = left;
+              lines = reading-lines;
+            },
             refl,
             (more.0, ap pieces_of all ∙ more.1 ∙ ap (λ (ps : List Piece). ps ++ more.0) completed.0),
           )
 
     -- the open line is answered at the end
-    pub reading-last : Consumes i1 i2 [] → AnswersLines responds over b h1 waiting (last_piece p) c h2 left
+    pub reading-last : IsSeenInTime seen → Consumes i1 i2 [] → AnswersLines responds over b h1 waiting (last_piece p) c h2 left
         → (s : AnswersStream responds over a i0 h0 c i2 h2) × (s.left ≡ left) × (s.pieces ≡ pieces_of s.seen)
-    reading-last none last = (
+    reading-last in_time none last = (
       record {
         seen = seen;
         reads = subst (λ (t : List ℕ). Consumes i0 i2 t) (append-nil seen) (Consumes-trans i0 i1 i2 seen [] so_far.reads none);
+        in_time = in_time;
         pieces = complete_pieces seen ++ last_piece p;
         left = left;
         lines = lines_then responds over a b c h0 h1 h2 [] [] left (complete_pieces seen) (last_piece p) so_far.lines (subst (λ (t : List ℕ). AnswersLines responds over b h1 t (last_piece p) c h2 left) empty last);

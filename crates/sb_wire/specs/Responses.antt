@@ -2,7 +2,7 @@
 use Rattle.std.specs.Prelude.{◌≡◌, ◌⊎◌, ◌≤◌, ℕ, Bool, true, false, List, [], ◌∷◌, ◌++◌, length, Option, Result, Ok, Err}
 use Rattle.std.specs.Io.KnownBytes.{Appends, Consumes, IsAtEnd}
 use Rattle.sb_wire.specs.Lines.{Piece, pieces_of, complete_pieces, Completes}
-use Rattle.sb_wire.specs.Stream.{AreFirst, MayFail, read_limit}
+use Rattle.sb_wire.specs.Stream.{AreFirst, IsSeenInTime, MayFail, read_limit}
 use Rattle.sb_wire.specs.declared.fault.StreamError.{StreamError}
 use Rattle.sb_wire.specs.declared.fault.StreamError.TheVariants.{ReadFault, WriteFault, NoMemory}
 
@@ -38,6 +38,7 @@ pub record AnswersBytes {State : Type 0} (responds : Answering State) (over : St
 pub record AnswersStream {State : Type 0} (responds : Answering State) (over : State → Bool) (old : State) (input held : Option (List ℕ)) (new : State) (rest holds : Option (List ℕ)) : Type 0 where
   pub seen : List ℕ
   pub reads : Consumes input rest seen
+  pub in_time : IsSeenInTime seen
   pub pieces : List Piece
   pub left : List ℕ
   pub lines : AnswersLines responds over old held [] pieces new holds left

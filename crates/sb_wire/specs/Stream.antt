@@ -1,5 +1,5 @@
 -- What a cell answers to lines, and how a stream of them ends.
-use Rattle.std.specs.Prelude.{◌≡◌, ◌⊎◌, ◌<◌, ◌≤◌, nat_lt, ℕ, List, [], ◌∷◌, ◌++◌, length, Option, Result, Ok, Err, ⊤}
+use Rattle.std.specs.Prelude.{◌≡◌, ◌⊎◌, ◌*◌, ◌<◌, ◌≤◌, nat_lt, ℕ, List, [], ◌∷◌, ◌++◌, length, Option, Result, Ok, Err, ⊤}
 use Rattle.std.specs.Io.KnownBytes.{Appends, Consumes, IsAtEnd, Keeps}
 use Rattle.sb_tenant.specs.State.{State, opening}
 use Rattle.sb_tenant.specs.Trail.{state_of}
@@ -74,14 +74,22 @@ OnWriteFault (Err NoMemory) P = ⊤
 abbrev pub MayFail : {S : Type 0} → (S → Type 0) → (S → Option (List ℕ)) → S → Type 0
 MayFail {S} fails known now = (s : S) × fails s × Keeps (known s) (known now)
 
--- the most reads of a stream
+-- the most reads of a stream, and the most bytes of one
 abbrev pub read_limit : ℕ
 read_limit = 4294967296
+
+abbrev pub piece_limit : ℕ
+piece_limit = 65536
+
+-- no more than so many reads see
+abbrev pub IsSeenInTime : List ℕ → Type 0
+IsSeenInTime seen = length seen ≤ piece_limit * read_limit
 
 -- What a stream does until it ends: it reads some bytes and answers some lines, and what isn't written is left.
 pub record Streams (old : Cell) (input held : Option (List ℕ)) (new : Cell) (rest holds : Option (List ℕ)) : Type 0 where
   pub seen : List ℕ
   pub reads : Consumes input rest seen
+  pub in_time : IsSeenInTime seen
   pub pieces : List Piece
   pub left : List ℕ
   pub replies : Replies old held [] pieces new holds left

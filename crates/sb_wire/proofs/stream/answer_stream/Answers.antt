@@ -20,7 +20,7 @@ refilled n new rest is =
 pub returns-in_default-clause-goes : goal.returns-in_default-clause-goes
 returns-in_default-clause-goes g c =
     let state : g.row.S.Denot × g.row.T.Denot = (c.args.first.now, c.args.second.now) in (
-      record { seen = []; reads = Consumes-nil (g.R.Read.remaining c.args.reader.now); pieces = []; left = []; lines = lines_none (g.A.Responder.responds c.args.responder.now) g.A.Responder.over state (g.W.Write.contents c.args.writer.now) [] },
+      record { seen = []; reads = Consumes-nil (g.R.Read.remaining c.args.reader.now); in_time = omega arith; pieces = []; left = []; lines = lines_none (g.A.Responder.responds c.args.responder.now) g.A.Responder.over state (g.W.Write.contents c.args.writer.now) [] },
       ([], refl),
     )
 
@@ -31,7 +31,7 @@ loop-read-init g c =
     let i = g.R.Read.remaining c.args.reader.now in
     let h = g.W.Write.contents c.args.writer.now in
     let state : g.row.S.Denot × g.row.T.Denot = (c.args.first.now, c.args.second.now) in
-    ([], subst (λ (p : Piece). Reading by over state i h [] p state i h) (sym c.new-lines.ensures) (reading-none by over state i h), omega arith, c.new-out.ensures.items, c.in-Ok.ensures.len, c.requires)
+    ([], subst (λ (p : Piece). Reading by over state i h [] p state i h) (sym c.new-lines.ensures) (reading-none by over state i h), omega arith, omega arith, c.new-out.ensures.items, c.in-Ok.ensures.len, c.requires)
 
 -- the lines that one more read completes are answered
 pub loop-read-preserved : goal.loop-read-preserved
@@ -58,10 +58,11 @@ loop-read-preserved g c =
     let whole : count ≡ length bytes = subst (λ (t : List ℕ). count ≡ length (take count t)) same c.in_ok-count.ensures.bound.1 in
     let some : 1 ≤ length bytes = omega arith in (
       so.0 ++ bytes,
-      reading-more by over old was new i0 i1 i2 h0 h1 h2 so.0 c.loop-read.out.items c.loop-read.lines so.1 so.3 told.0 bytes reads told.1 c.answer_bytes.new.lines (told.2.2 going).0 (told.2.2 going).1 told.2.0,
+      reading-more by over old was new i0 i1 i2 h0 h1 h2 so.0 c.loop-read.out.items c.loop-read.lines so.1 so.4 told.0 bytes reads told.1 c.answer_bytes.new.lines (told.2.2 going).0 (told.2.2 going).1 told.2.0,
+      simp length-append (omega arith),
       simp length-append (omega arith),
       told.2.1,
-      so.4,
+      so.5,
       going,
     )
 
@@ -73,11 +74,12 @@ returns-in_err-count-clause-goes g c =
       record {
         seen = so.0;
         reads = Consumes-kept (g.R.Read.remaining c.args.reader.now) (g.R.Read.remaining c.loop-read.reader) (g.R.Read.remaining c.read_piece.new.reader) so.0 so.1.reads c.in_err-count.ensures.bytes;
+        in_time = omega arith;
         pieces = complete_pieces so.0;
         left = [];
         lines = so.1.lines;
       },
-      rw (p.1, p.2, c.in_err-count.ensures.fault) (refl, refl, so.5, inl c.in_err-count.ensures.fails),
+      rw (p.1, p.2, c.in_err-count.ensures.fault) (refl, refl, so.6, inl c.in_err-count.ensures.fails),
     )
 
 -- the input ends
@@ -99,7 +101,7 @@ returns-then-count-eq0-clause-goes g c =
     let none : Consumes i1 i2 [] = subst (λ (n : ℕ). Consumes i1 i2 (take n c.read_piece.new.buf)) c.if-count-eq0.true read.0 in
     let room : 0 < length c.read_piece.new.buf = omega arith in
     let last = c.answer_last.ensures.replies in
-    let s = reading-last by over old was new i0 i1 i2 h0 h1 h2 so.0 c.loop-read.out.items c.loop-read.lines so.1 so.3 last.0 none last.1 in (
+    let s = reading-last by over old was new i0 i1 i2 h0 h1 h2 so.0 c.loop-read.out.items c.loop-read.lines so.1 so.4 last.0 (omega arith) none last.1 in (
       s.0,
       stops-last g.R.Source.fails g.R.Read.remaining c.read_piece.new.reader (over new) s.0.seen s.0.pieces s.0.left c.answer_last.result (read.1 c.if-count-eq0.true room) s.2 (on_ok c.answer_last.result (λ e. s.1 ∙ e) last.2) c.answer_last.ensures.reads,
     )
@@ -125,7 +127,7 @@ returns-in_err-answer_bytes-clause-goes g c =
     let same : c.read_piece.new.buf ≡ c.as_slice.result.now = refilled c.loop-read.buffer.len c.read_piece.new.buf _ full ∙ sym c.as_slice.ensures.value in
     let reads : Consumes i1 i2 bytes = subst (λ (t : List ℕ). Consumes i1 i2 (take count t)) same c.in_ok-count.ensures.bytes.0 in
     let told = c.in_err-answer_bytes.ensures.takes in
-    let s = reading-stopped by over old was new i0 i1 i2 h0 h1 h2 so.0 c.loop-read.out.items c.loop-read.lines so.1 so.3 told.0 bytes reads told.1 in
+    let s = reading-stopped by over old was new i0 i1 i2 h0 h1 h2 so.0 c.loop-read.out.items c.loop-read.lines so.1 so.4 told.0 bytes reads told.1 (simp length-append (omega arith)) in
     let p = err_from_is_err_and c.from_residual-in_err-answer_bytes.result c.from_residual-in_err-answer_bytes.ensures.1 in
     (s.0, rw (p.1, p.2) (stops-early g.R.Source.fails g.R.Read.remaining c.read_piece.new.reader (over new) s.0.seen s.0.pieces s.0.left _ c.in_err-answer_bytes.ensures.reads s.2))
 
@@ -150,7 +152,7 @@ returns-then-is_over-clause-goes g c =
     let same : c.read_piece.new.buf ≡ c.as_slice.result.now = refilled c.loop-read.buffer.len c.read_piece.new.buf _ full ∙ sym c.as_slice.ensures.value in
     let reads : Consumes i1 i2 bytes = subst (λ (t : List ℕ). Consumes i1 i2 (take count t)) same c.in_ok-count.ensures.bytes.0 in
     let told = c.in_ok-answer_bytes.ensures.takes in
-    let s = reading-stopped by over old was new i0 i1 i2 h0 h1 h2 so.0 c.loop-read.out.items c.loop-read.lines so.1 so.3 told.0 bytes reads told.1 in
+    let s = reading-stopped by over old was new i0 i1 i2 h0 h1 h2 so.0 c.loop-read.out.items c.loop-read.lines so.1 so.4 told.0 bytes reads told.1 (simp length-append (omega arith)) in
     (s.0, (s.1 ∙ told.2.0, inl (sym c.is_over.ensures ∙ c.if-is_over.true, s.2)))
 
 -- too many reads
@@ -158,4 +160,4 @@ pub returns-clause-goes : goal.returns-clause-goes
 returns-clause-goes g c =
     let so = c.loop-read.invariant in
     let many : 4294967296 ≤ length so.0 = omega arith in
-    (record { seen = so.0; reads = so.1.reads; pieces = complete_pieces so.0; left = []; lines = so.1.lines }, (refl, refl, so.5, inr many))
+    (record { seen = so.0; reads = so.1.reads; in_time = omega arith; pieces = complete_pieces so.0; left = []; lines = so.1.lines }, (refl, refl, so.6, inr many))
