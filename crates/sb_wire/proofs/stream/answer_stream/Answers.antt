@@ -56,11 +56,12 @@ loop-read-preserved g c =
     let told = c.in_ok-answer_bytes.ensures.takes in
     let going : over new ≡ false = sym c.is_over.ensures ∙ c.if-is_over.false in
     let whole : count ≡ length bytes = subst (λ (t : List ℕ). count ≡ length (take count t)) same c.in_ok-count.ensures.bound.1 in
+    let few : length bytes ≤ 65536 = omega (arith, c.in_ok-count.ensures.bound.0, full, so.5, whole) in
     let some : 1 ≤ length bytes = omega arith in (
       so.0 ++ bytes,
       reading-more by over old was new i0 i1 i2 h0 h1 h2 so.0 c.loop-read.out.items c.loop-read.lines so.1 so.4 told.0 bytes reads told.1 c.answer_bytes.new.lines (told.2.2 going).0 (told.2.2 going).1 told.2.0,
       simp length-append (omega arith),
-      simp length-append (omega arith),
+      simp length-append (omega (arith, so.3, few)),
       told.2.1,
       so.5,
       going,
@@ -126,8 +127,10 @@ returns-in_err-answer_bytes-clause-goes g c =
     let full : c.loop-read.buffer.len ≡ length c.read_piece.new.buf = omega arith in
     let same : c.read_piece.new.buf ≡ c.as_slice.result.now = refilled c.loop-read.buffer.len c.read_piece.new.buf _ full ∙ sym c.as_slice.ensures.value in
     let reads : Consumes i1 i2 bytes = subst (λ (t : List ℕ). Consumes i1 i2 (take count t)) same c.in_ok-count.ensures.bytes.0 in
+    let whole : count ≡ length bytes = subst (λ (t : List ℕ). count ≡ length (take count t)) same c.in_ok-count.ensures.bound.1 in
+    let few : length bytes ≤ 65536 = omega (arith, c.in_ok-count.ensures.bound.0, full, so.5, whole) in
     let told = c.in_err-answer_bytes.ensures.takes in
-    let s = reading-stopped by over old was new i0 i1 i2 h0 h1 h2 so.0 c.loop-read.out.items c.loop-read.lines so.1 so.4 told.0 bytes reads told.1 (simp length-append (omega arith)) in
+    let s = reading-stopped by over old was new i0 i1 i2 h0 h1 h2 so.0 c.loop-read.out.items c.loop-read.lines so.1 so.4 told.0 bytes reads told.1 (simp length-append (omega (arith, so.3, few))) in
     let p = err_from_is_err_and c.from_residual-in_err-answer_bytes.result c.from_residual-in_err-answer_bytes.ensures.1 in
     (s.0, rw (p.1, p.2) (stops-early g.R.Source.fails g.R.Read.remaining c.read_piece.new.reader (over new) s.0.seen s.0.pieces s.0.left _ c.in_err-answer_bytes.ensures.reads s.2))
 
@@ -151,8 +154,10 @@ returns-then-is_over-clause-goes g c =
     let full : c.loop-read.buffer.len ≡ length c.read_piece.new.buf = omega arith in
     let same : c.read_piece.new.buf ≡ c.as_slice.result.now = refilled c.loop-read.buffer.len c.read_piece.new.buf _ full ∙ sym c.as_slice.ensures.value in
     let reads : Consumes i1 i2 bytes = subst (λ (t : List ℕ). Consumes i1 i2 (take count t)) same c.in_ok-count.ensures.bytes.0 in
+    let whole : count ≡ length bytes = subst (λ (t : List ℕ). count ≡ length (take count t)) same c.in_ok-count.ensures.bound.1 in
+    let few : length bytes ≤ 65536 = omega (arith, c.in_ok-count.ensures.bound.0, full, so.5, whole) in
     let told = c.in_ok-answer_bytes.ensures.takes in
-    let s = reading-stopped by over old was new i0 i1 i2 h0 h1 h2 so.0 c.loop-read.out.items c.loop-read.lines so.1 so.4 told.0 bytes reads told.1 (simp length-append (omega arith)) in
+    let s = reading-stopped by over old was new i0 i1 i2 h0 h1 h2 so.0 c.loop-read.out.items c.loop-read.lines so.1 so.4 told.0 bytes reads told.1 (simp length-append (omega (arith, so.3, few))) in
     (s.0, (s.1 ∙ told.2.0, inl (sym c.is_over.ensures ∙ c.if-is_over.true, s.2)))
 
 -- too many reads
