@@ -3,7 +3,7 @@ ghost use Rattle.std.specs.Prelude.{◌≡◌, ◌<◌, ◌≤◌};
 
 use sb_cell::Cell;
 use sb_host::{Host, Naming, Opened, Session, Stub};
-use sb_pool::{Work, run};
+use sb_workers::{Work, run};
 use std::alloc::{AllocError, Global};
 use std::io;
 use std::marker::Brand;

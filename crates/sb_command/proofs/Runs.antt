@@ -4,14 +4,14 @@ use Rattle.std.proofs.lemmas.Bool.{false≢true}
 use Rattle.std.specs.Prelude.{OnOk}
 use Rattle.clap.specs.Words.{Text}
 use Rattle.clap.proofs.OnLiterals.{clap_on_literals}
-use Rattle.sb_words.specs.Words.{AskFor, AskOnce, IsAsked}
-use Rattle.sb_words.specs.declared.request.Hosting.{Hosting}
-use Rattle.sb_words.specs.declared.request.Request.{Request}
-use Rattle.sb_words.specs.declared.request.Request.TheVariants.{Run as run_request, Serve, Replay}
-use Rattle.sb_words.specs.declared.request.Run.{Run}
-use Rattle.sb_words.specs.declared.request.Serving.{Serving}
-use Rattle.sb_words.specs.declared.words.Asked.{Asked}
-use Rattle.sb_words.specs.declared.words.Asked.TheVariants.{For}
+use Rattle.sb_options.specs.Words.{AskFor, AskOnce, IsAsked}
+use Rattle.sb_options.specs.declared.request.Hosting.{Hosting}
+use Rattle.sb_options.specs.declared.request.Request.{Request}
+use Rattle.sb_options.specs.declared.request.Request.TheVariants.{Run as run_request, Serve, Replay}
+use Rattle.sb_options.specs.declared.request.Run.{Run}
+use Rattle.sb_options.specs.declared.request.Serving.{Serving}
+use Rattle.sb_options.specs.declared.words.Asked.{Asked}
+use Rattle.sb_options.specs.declared.words.Asked.TheVariants.{For}
 use Rattle.sb_command.specs.Faults.{TellsEnd}
 use Rattle.sb_service.specs.declared.fault.Fault.{Fault}
 

@@ -2,7 +2,8 @@
 ghost use Rattle.std.specs.Prelude.{◌≡◌};
 
 use sb_host::{Gate, Host, Naming, Opened, Session, Stub};
-use sb_pool::{Done, Job, Pool, Work, run};
+use sb_pool::{Done, Job, Pool};
+use sb_workers::{Work, run};
 use sb_tenant::{Answer, Reply};
 use sb_value::{SessionId, Value};
 use std::alloc::Global;

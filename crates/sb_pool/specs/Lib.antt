@@ -1,4 +1,1 @@
-pub mod Rule
-pub mod Seats
-pub mod Results
 pub mod Pool

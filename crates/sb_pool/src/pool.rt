@@ -3,9 +3,8 @@ ghost use Rattle.std.specs.Prelude.{◌≡◌, ◌<◌, ◌≤◌, IfErr, IfOk};
 ghost use Rattle.std.specs.List.{AllZip};
 ghost use Rattle.sb_pool.specs.Pool.{CallsOnce};
 
-use crate::crew::run;
-use crate::work::Work;
 use sb_host::{CallError, Gate, Naming, Session};
+use sb_workers::{Work, run};
 use std::alloc::Global;
 use std::sync::Wait;
 use std::thread::Threads;

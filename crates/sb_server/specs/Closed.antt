@@ -3,8 +3,8 @@ use Rattle.std.specs.Prelude.{◌≡◌, List, ◌++◌, IfSome, Option, Some, V
 use Rattle.std.specs.Global.{Global}
 use Rattle.std.specs.List.{All}
 use Rattle.sb_host.specs.declared.stub.Stub.{Stub}
-use Rattle.sb_serve.specs.Exchanges.{IsClosed}
-use Rattle.sb_serve.specs.History.{Converses, History}
+use Rattle.sb_connection.specs.Exchanges.{IsClosed}
+use Rattle.sb_connection.specs.History.{Converses, History}
 
 -- what a connection with this history leaves: the receipts of its session, which was closed, if it had one
 abbrev pub Leaves : History → Option Stub → Type 0

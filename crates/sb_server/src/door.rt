@@ -2,7 +2,7 @@
 
 use libc::net as system;
 use mio::Waker;
-use sb_serve::{Event, Watch};
+use sb_connection::{Event, Watch};
 use std::io::ErrorKind;
 use std::net::{TcpListener, TcpStream};
 use std::os::fd::AsRawFd;

@@ -1,6 +1,6 @@
 //! What is told of one client.
 
-use sb_serve::{Event, Watch};
+use sb_connection::{Event, Watch};
 
 /// Who is told what happens to the connection of the client at this port.
 #[derive(Drop)]

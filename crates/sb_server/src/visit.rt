@@ -4,7 +4,7 @@ ghost use Rattle.sb_server.specs.Closed.{Leaves};
 use crate::told::Told;
 use mio::net::TcpStream;
 use sb_host::{Naming, Stub};
-use sb_serve::{Connection, Watch};
+use sb_connection::{Connection, Watch};
 use sb_wire::StreamError;
 use std::io::{ErrorKind, Read, Write};
 use std::sync::Wait;

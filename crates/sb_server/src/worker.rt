@@ -13,7 +13,7 @@ use mio::net::TcpStream;
 use mio::unix::SourceFd;
 use mio::{Events, Interest, Poll, Token};
 use sb_host::{Naming, Stub};
-use sb_serve::{Connection, Event, Watch};
+use sb_connection::{Connection, Event, Watch};
 use sb_wire::StreamError;
 use slab::Slab;
 use std::mem;

@@ -2,7 +2,7 @@
 ghost use Rattle.std.specs.Prelude.{◌≡◌};
 
 use sb_host::{AttachError, Host, Naming, Opened};
-use sb_serve::{Event, Named, Served, serve_one};
+use sb_connection::{Event, Named, Served, serve_one};
 use sb_wire::{StreamError, WireRefusal};
 use std::alloc::Global;
 use std::marker::Brand;

@@ -2,7 +2,7 @@
 ghost use Rattle.std.specs.Prelude.{◌≡◌};
 
 use sb_host::{Host, Naming, Opened};
-use sb_serve::NoWatch;
+use sb_connection::NoWatch;
 use sb_service::serve_on;
 use std::alloc::Global;
 use std::io::{Read, Write};

@@ -5,7 +5,7 @@ use libc::net as system;
 use libc::types::pollfd;
 use log::sink::Console;
 use log::{Level, LevelFilter, Logged, log};
-use sb_serve::{Event, Watch};
+use sb_connection::{Event, Watch};
 use std::fmt::Display;
 use std::io;
 use std::rt::Clock;

@@ -1,7 +1,7 @@
 //! A replay, from its host to its last line.
 ghost use Rattle.std.specs.Prelude.{◌≡◌, ◌<◌, ◌≤◌, List, ℕ, IfErr, IfSome, OnOk};
 ghost use Rattle.std.specs.Io.KnownBytes.{Appends};
-ghost use Rattle.sb_words.specs.Within.{AreHost};
+ghost use Rattle.sb_options.specs.Within.{AreHost};
 ghost use Rattle.sb_replay.specs.Replay.{Fails, Replays};
 ghost use Rattle.sb_replay.specs.declared.error.ReplayError.{ReplayError as ItsError};
 ghost use Rattle.sb_service.specs.Faults.{unplayed_as};
@@ -11,7 +11,7 @@ use crate::fault::Fault;
 use sb_host::{Host, Naming, Opened};
 use sb_replay::ReplayError;
 use sb_wire::{Sink, Source, StreamError};
-use sb_words::Hosting;
+use sb_options::Hosting;
 use std::alloc::Global;
 use std::marker::Brand;
 use std::sync::Wait;

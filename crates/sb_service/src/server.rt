@@ -1,7 +1,7 @@
 //! A server, from its port to its last line.
 ghost use Rattle.std.specs.Prelude.{◌≡◌, ◌<◌, ◌≤◌, List, ℕ, OnOk};
 ghost use Rattle.std.specs.Io.KnownBytes.{Appends};
-ghost use Rattle.sb_words.specs.Within.{AreServer};
+ghost use Rattle.sb_options.specs.Within.{AreServer};
 ghost use Rattle.sb_service.specs.Totals.{TellsServer, TellsTrails};
 
 use crate::closing::finish;
@@ -9,10 +9,10 @@ use crate::fault::Fault;
 use crate::journal::Journal;
 use crate::listening::listen;
 use sb_host::{Host, Naming, Opened};
-use sb_serve::Watch;
+use sb_connection::Watch;
 use sb_server::{ServeError, Terms, serve_all};
 use sb_wire::{Sink, StreamError};
-use sb_words::Serving;
+use sb_options::Serving;
 use std::alloc::Global;
 use std::marker::Brand;
 use std::net::{Net, TcpListener, TcpStream};

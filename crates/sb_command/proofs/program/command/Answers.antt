@@ -4,8 +4,8 @@ use Rattle.clap.specs.declared.error.kind.ErrorKind.TheVariants.{DisplayHelp, Di
 use Rattle.sb_wire.specs.Stream.{AnswersFresh}
 use Rattle.sb_replay.specs.Replay.{Replays}
 use Rattle.sb_service.specs.Totals.{TellsServer}
-use Rattle.sb_words.specs.Words.{IsAsked}
-use Rattle.sb_words.specs.declared.request.Request.TheVariants.{Run, Serve, Replay}
+use Rattle.sb_options.specs.Words.{IsAsked}
+use Rattle.sb_options.specs.declared.request.Request.TheVariants.{Run, Serve, Replay}
 use Rattle.sb_command.proofs.Runs.{asked_for, no_other, no_words, same_hosting, same_run, same_serving, went_well}
 use Rattle.sb_command.proofs.program.command.Goals as goal
 

@@ -1,0 +1,307 @@
+-- What a connection does keeps what holds of it.
+use Rattle.std.proofs.Common.{◌≡◌, ◌≤◌, ◌-◌, ◌∙◌, ◌==◌, MatchBool, arith, length, length-append, sym, ap, subst, refl, inl, inr, ℕ, Bool, true, false, List, [], ◌∷◌, ◌++◌, take, drop, append_assoc, append-nil, None}
+use Rattle.std.proofs.lemmas.Bool.{eqb-false, eqb-true, false≢true}
+use Rattle.std.proofs.lemmas.List.{length-drop, take-append-drop}
+use Rattle.std.proofs.Math.Seq.{drop-append_seam, drop-length}
+use Rattle.sb_wire.specs.Lines.{Completes, Piece, complete_pieces, last_piece, line, open_line, piece_of}
+use Rattle.sb_wire.specs.Responses.{AreAnswered}
+use Rattle.sb_connection.specs.declared.state.State.TheVariants.{Open, Answered, Over, Failed}
+use Rattle.sb_connection.specs.declared.state.State as stands
+use Rattle.sb_connection.specs.History.{AreAll, AreComplete, History, MayReceive, Stands, Tells, after_end, after_receiving, after_sending, nothing_yet}
+use Rattle.sb_connection.specs.Machine.{Adds, AddsLast, Answers, Finishes, Holds, Steps, Talking}
+use Rattle.sb_connection.specs.Responding.{Responds, State, over}
+use Rattle.sb_connection.specs.Standing.{is_open}
+
+pub nothing_holds : (tenants : ℕ) → Holds (record { history = nothing_yet tenants; opened = line []; talk = (None, false) })
+nothing_holds tenants = record {
+  pieces = [];
+  text = [];
+  tells = record { taken = []; split = refl; lost = []; whole = refl; stands = (refl, refl, refl) };
+  is_open = refl;
+  answered = (refl, refl);
+}
+
+-- behind the last line none is answered
+pub closed_last : (s : stands.State) (old text new : List ℕ) → AddsLast s old text new → is_open s ≡ false
+closed_last Open old text new none = absurd none
+closed_last Answered old text new added = refl
+closed_last Over old text new none = absurd none
+closed_last Failed old text new same = refl
+
+pub open_is : (s : stands.State) → is_open s ≡ true → s ≡ Open
+open_is Open is = refl
+open_is Answered is = absurd (false≢true is)
+open_is Over is = absurd (false≢true is)
+open_is Failed is = absurd (false≢true is)
+
+-- nothing is left of bytes of which so many are taken
+pub all_taken : (n : ℕ) (bytes : List ℕ) → n ≤ length bytes → drop n bytes ≡ [] → n ≡ length bytes
+all_taken n bytes within none =
+    let rest : length bytes - n ≡ 0 = sym (length-drop n bytes) ∙ ap length none in omega (arith, rest, within)
+
+-- more may be received where all is taken
+pub may_by : (b : Bool) (taken : ℕ) (bytes : List ℕ) (h : History) → (taken == length bytes) ≡ b → taken ≤ length bytes → is_open h.state ≡ true → h.at_end ≡ false → drop taken bytes ≡ h.waiting
+    → MatchBool b (MayReceive h) (MayReceive h → ⊥)
+may_by true taken bytes h all within going more waits =
+    let same : taken ≡ length bytes = eqb-true taken (length bytes) all in (going, more, sym waits ∙ ap (λ (n : ℕ). drop n bytes) same ∙ drop-length bytes)
+may_by false taken bytes h all within going more waits = λ may.
+    let same : taken ≡ length bytes = all_taken taken bytes within (waits ∙ may.2) in
+    absurd (eqb-false taken (length bytes) all same)
+
+-- what is left of bytes behind a first part of those that were left
+pub drop_behind : (n : ℕ) (bytes fed behind : List ℕ) → drop n bytes ≡ fed ++ behind → drop (length bytes - length behind) bytes ≡ behind
+drop_behind n bytes fed behind is =
+    let front = take n bytes ++ fed in
+    let whole : bytes ≡ front ++ behind = sym (take-append-drop n bytes) ∙ ap (λ (t : List ℕ). take n bytes ++ t) is ∙ sym (append_assoc (take n bytes) fed behind) in
+    let count : length (front ++ behind) - length behind ≡ length front = let sum = length-append front behind in omega (arith, sum) in
+    subst (λ (t : List ℕ). drop (length t - length behind) t ≡ behind) (sym whole)
+    (ap (λ (m : ℕ). drop m (front ++ behind)) count ∙ drop-append_seam front behind)
+
+-- some lines, and then others
+answered_then : (tenants : ℕ) (a b c : State) (ps qs : List Piece) (text more : List ℕ) → AreAnswered (Responds tenants) over a ps text b → AreAnswered (Responds tenants) over b qs more c → AreAnswered (Responds tenants) over a (ps ++ qs) (text ++ more) c
+answered_then tenants a b c [] qs text more (none, same) others =
+    subst (λ (t : List ℕ). AreAnswered (Responds tenants) over a qs t c) (ap (λ (t : List ℕ). t ++ more) (sym none)) (subst (λ (s : State). AreAnswered (Responds tenants) over s qs more c) same others)
+answered_then tenants a b c (p ∷ ps) qs text more (first, rest, mid, is, going, own, first-others) others =
+    (first, rest ++ more, mid, ap (λ (t : List ℕ). t ++ more) is ∙ append_assoc first rest more, going, own, answered_then tenants mid b c ps qs rest more first-others others)
+
+module _ (k : Talking) (holds : Holds k) where
+  abbrev h : History
+  h = k.history
+
+  abbrev taken : List ℕ
+  taken = holds.tells.taken
+
+  -- the text so far with more of it, where nothing is lost
+  whole_then : (handed pending own : List ℕ) → holds.tells.lost ≡ [] → handed ≡ h.handed → pending ≡ h.pending ++ own → holds.text ++ own ≡ handed ++ pending
+  whole_then handed pending own none same is =
+      ap (λ (t : List ℕ). t ++ own) (holds.tells.whole ∙ ap (λ (t : List ℕ). (h.handed ++ h.pending) ++ t) none ∙ append-nil (h.handed ++ h.pending))
+      ∙ append_assoc h.handed h.pending own ∙ ap (λ (t : List ℕ). h.handed ++ t) (sym is) ∙ ap (λ (t : List ℕ). t ++ pending) (sym same)
+
+  -- ---- from outside
+
+  stands_sent : (s : stands.State) (count : ℕ) (pieces : List Piece) (lost : List ℕ) (b : Bool) → Stands s h taken pieces lost b → Stands s (after_sending h count) taken pieces lost b
+  stands_sent Open count pieces lost b so = so
+  stands_sent Answered count pieces lost b so = so
+  stands_sent Over count pieces lost b so = so
+  stands_sent Failed count pieces lost b so = so
+
+  pub holds_sent : (count : ℕ) → Holds (record k { history = after_sending h count })
+  holds_sent count =
+      let sent : (h.handed ++ take count h.pending) ++ drop count h.pending ≡ h.handed ++ h.pending =
+      append_assoc h.handed (take count h.pending) (drop count h.pending) ∙ ap (λ (t : List ℕ). h.handed ++ t) (take-append-drop count h.pending) in record {
+        pieces = holds.pieces;
+        text = holds.text;
+        tells = record {
+          taken = taken;
+          split = holds.tells.split;
+          lost = holds.tells.lost;
+          whole = holds.tells.whole ∙ ap (λ (t : List ℕ). t ++ holds.tells.lost) (sym sent);
+          stands = stands_sent h.state count holds.pieces holds.tells.lost (over k.talk) holds.tells.stands;
+        };
+        is_open = holds.is_open;
+        answered = holds.answered;
+      }
+
+  module _ (going : is_open h.state ≡ true) where
+    standing : AreComplete taken holds.pieces × (holds.tells.lost ≡ []) × (over k.talk ≡ false)
+    standing = subst (λ (s : stands.State). Stands s h taken holds.pieces holds.tells.lost (over k.talk)) (open_is h.state going) holds.tells.stands
+
+    pub not_over : over k.talk ≡ false
+    not_over = standing.2
+
+    stands_open : (new : History) (others : List ℕ) → new.state ≡ h.state → AreComplete others holds.pieces → Stands new.state new others holds.pieces holds.tells.lost (over k.talk)
+    stands_open new others same all = subst (λ (s : stands.State). Stands s new others holds.pieces holds.tells.lost (over k.talk)) (sym (same ∙ open_is h.state going)) (all, standing.1, standing.2)
+
+    pub holds_received : (bytes : List ℕ) → Holds (record k { history = after_receiving h bytes })
+    holds_received bytes = record {
+      pieces = holds.pieces;
+      text = holds.text;
+      tells = record {
+        taken = taken;
+        split = ap (λ (t : List ℕ). t ++ bytes) holds.tells.split ∙ append_assoc taken h.waiting bytes;
+        lost = holds.tells.lost;
+        whole = holds.tells.whole;
+        stands = stands_open (after_receiving h bytes) taken refl standing.0;
+      };
+      is_open = holds.is_open;
+      answered = holds.answered;
+    }
+
+    pub holds_ended : Holds (record k { history = after_end h })
+    holds_ended = record {
+      pieces = holds.pieces;
+      text = holds.text;
+      tells = record {
+        taken = taken;
+        split = holds.tells.split;
+        lost = holds.tells.lost;
+        whole = holds.tells.whole;
+        stands = stands_open (after_end h) taken refl standing.0;
+      };
+      is_open = holds.is_open;
+      answered = holds.answered;
+    }
+
+    -- ---- a step
+
+    -- what waits goes on with the open line
+    pub holds_none : (q : Piece) → Completes k.opened h.waiting [] q → Holds (record { history = record h { waiting = [] }; opened = q; talk = k.talk })
+    holds_none q completes =
+        let more = completes.behind taken holds.is_open in record {
+          pieces = holds.pieces;
+          text = holds.text;
+          tells = record {
+            taken = taken ++ h.waiting;
+            split = holds.tells.split ∙ sym (append-nil (taken ++ h.waiting));
+            lost = holds.tells.lost;
+            whole = holds.tells.whole;
+            stands = stands_open (record h { waiting = [] }) (taken ++ h.waiting) refl (standing.0 ∙ sym (more.0 ∙ append-nil (complete_pieces taken)));
+          };
+          is_open = more.1;
+          answered = holds.answered;
+        }
+
+    -- the line that the first bytes complete is answered
+    module _ (fed behind : List ℕ) (split : h.waiting ≡ fed ++ behind) (p : Piece) (completes : Completes k.opened fed (p ∷ []) (line [])) (new : Talking) (a : Answers (record { history = record h { waiting = behind }; opened = p; talk = k.talk }) new) where
+      abbrev pieces : List Piece
+      pieces = holds.pieces ++ p ∷ []
+
+      complete : AreComplete (taken ++ fed) pieces
+      complete = ap (λ (ps : List Piece). ps ++ p ∷ []) standing.0 ∙ sym (completes.behind taken holds.is_open).0
+
+      new_split : new.history.received ≡ (taken ++ fed) ++ new.history.waiting
+      new_split =
+          a.streams.2 ∙ holds.tells.split ∙ ap (λ (t : List ℕ). taken ++ t) split ∙ sym (append_assoc taken fed behind)
+          ∙ ap (λ (t : List ℕ). (taken ++ fed) ++ t) (sym a.waiting)
+
+      told : (s : stands.State) → new.history.state ≡ s → Adds s h.pending a.text new.history.pending (over new.talk) → (t : Tells new.history pieces (holds.text ++ a.text) (over new.talk)) × (t.taken ≡ taken ++ fed)
+      told Open is (added, going_on) = (
+        record {
+          taken = taken ++ fed;
+          split = new_split;
+          lost = [];
+          whole = whole_then new.history.handed new.history.pending a.text standing.1 a.streams.3 added ∙ sym (append-nil (new.history.handed ++ new.history.pending));
+          stands = subst (λ (s : stands.State). Stands s new.history (taken ++ fed) pieces [] (over new.talk)) (sym is) (complete, refl, going_on);
+        },
+        refl,
+      )
+      told Answered is none = absurd none
+      told Over is (added, at_last) = (
+        record {
+          taken = taken ++ fed;
+          split = new_split;
+          lost = [];
+          whole = whole_then new.history.handed new.history.pending a.text standing.1 a.streams.3 added ∙ sym (append-nil (new.history.handed ++ new.history.pending));
+          stands = subst (λ (s : stands.State). Stands s new.history (taken ++ fed) pieces [] (over new.talk)) (sym is) (complete, refl, at_last);
+        },
+        refl,
+      )
+      told Failed is same = (
+        record {
+          taken = taken ++ fed;
+          split = new_split;
+          lost = a.text;
+          whole =
+              whole_then new.history.handed (h.pending ++ a.text) a.text standing.1 a.streams.3 refl ∙ sym (append_assoc new.history.handed h.pending a.text)
+              ∙ ap (λ (t : List ℕ). (new.history.handed ++ t) ++ a.text) (sym same);
+          stands = subst (λ (s : stands.State). Stands s new.history (taken ++ fed) pieces a.text (over new.talk)) (sym is) (inl complete);
+        },
+        refl,
+      )
+
+      pub holds_line : Holds (record new { opened = line [] })
+      holds_line =
+          let t = told new.history.state refl a.adds in record {
+            pieces = pieces;
+            text = holds.text ++ a.text;
+            tells = t.0;
+            is_open = (completes.behind taken holds.is_open).1 ∙ ap (λ (bytes : List ℕ). piece_of (open_line bytes)) (sym t.1);
+            answered =
+                subst (λ (n : ℕ). AreAnswered (Responds n) over (None, false) pieces (holds.text ++ a.text) new.talk) (sym a.streams.0)
+                (answered_then h.tenants (None, false) k.talk new.talk holds.pieces (p ∷ []) holds.text a.text holds.answered (a.text, [], new.talk, sym (append-nil a.text), standing.2, a.responds, (refl, refl)));
+          }
+
+    -- the line that stands open at the end is answered
+    module _ (none : h.waiting ≡ []) (at_end : h.at_end ≡ true) (new : Talking) (a : Finishes k new) where
+      abbrev all : List Piece
+      all = holds.pieces ++ last_piece k.opened
+
+      same_bytes : new.history.received ≡ taken
+      same_bytes = a.streams.2 ∙ holds.tells.split ∙ ap (λ (t : List ℕ). taken ++ t) none ∙ append-nil taken
+
+      are_all : AreAll new.history.received all
+      are_all =
+          ap (λ (ps : List Piece). ps ++ last_piece k.opened) standing.0 ∙ ap (λ (p : Piece). complete_pieces taken ++ last_piece p) holds.is_open
+          ∙ ap (λ (t : List ℕ). complete_pieces t ++ last_piece (piece_of (open_line t))) (sym same_bytes)
+
+      last_split : new.history.received ≡ taken ++ new.history.waiting
+      last_split = a.streams.2 ∙ holds.tells.split ∙ ap (λ (t : List ℕ). taken ++ t) (sym a.waiting)
+
+      last_told : (s : stands.State) → new.history.state ≡ s → AddsLast s h.pending a.text new.history.pending → (t : Tells new.history all (holds.text ++ a.text) (over new.talk)) × (t.taken ≡ taken)
+      last_told Open is added = absurd added
+      last_told Answered is added = (
+        record {
+          taken = taken;
+          split = last_split;
+          lost = [];
+          whole = whole_then new.history.handed new.history.pending a.text standing.1 a.streams.3 added ∙ sym (append-nil (new.history.handed ++ new.history.pending));
+          stands = subst (λ (s : stands.State). Stands s new.history taken all [] (over new.talk)) (sym is) (are_all, refl, a.streams.1 ∙ at_end);
+        },
+        refl,
+      )
+      last_told Over is added = absurd added
+      last_told Failed is same = (
+        record {
+          taken = taken;
+          split = last_split;
+          lost = a.text;
+          whole =
+              whole_then new.history.handed (h.pending ++ a.text) a.text standing.1 a.streams.3 refl ∙ sym (append_assoc new.history.handed h.pending a.text)
+              ∙ ap (λ (t : List ℕ). (new.history.handed ++ t) ++ a.text) (sym same);
+          stands = subst (λ (s : stands.State). Stands s new.history taken all a.text (over new.talk)) (sym is) (inr are_all);
+        },
+        refl,
+      )
+
+      pub holds_last : Holds new
+      holds_last =
+          let t = last_told new.history.state refl a.adds in record {
+            pieces = all;
+            text = holds.text ++ a.text;
+            tells = t.0;
+            is_open = a.opened ∙ holds.is_open ∙ ap (λ (bytes : List ℕ). piece_of (open_line bytes)) (sym t.1);
+            answered =
+                subst (λ (n : ℕ). AreAnswered (Responds n) over (None, false) all (holds.text ++ a.text) new.talk) (sym a.streams.0)
+                (answered_then h.tenants (None, false) k.talk new.talk holds.pieces (last_piece k.opened) holds.text a.text holds.answered a.answered);
+          }
+
+-- ---- steps, from the fields of a connection
+
+abbrev with_waiting : Talking → List ℕ → Piece → Talking
+with_waiting k waiting opened = record { history = record k.history { waiting = waiting }; opened = opened; talk = k.talk }
+
+module _ (k0 k : Talking) (is : k0 ≡ k) (going : is_open k0.history.state ≡ true) (waiting : List ℕ) where
+  pub line_step : (fed behind : List ℕ) (p q : Piece) (new0 new : Talking) → k0.history.waiting ≡ fed ++ behind → waiting ≡ behind → Completes k0.opened fed (p ∷ []) (line []) → q ≡ line [] → new0 ≡ new
+      → Answers (with_waiting k0 waiting p) new → Steps k true (record new0 { opened = q })
+  line_step fed behind p q new0 new split left completes cleared view_is a =
+      let answers : Answers (with_waiting k0 behind p) new = subst (λ (t : List ℕ). Answers (with_waiting k0 t p) new) left a in
+      subst (λ (m : Talking). Steps m true (record new0 { opened = q })) is
+      (subst (λ (n : Talking). Steps k0 true (record n { opened = q })) (sym view_is)
+      (subst (λ (r : Piece). Steps k0 true (record new { opened = r })) (sym cleared)
+      (record { holds = λ holds. holds_line k0 holds going fed behind split p completes new answers; streams = a.streams; settles = λ more. absurd (false≢true (sym more)) })))
+
+  pub none_step : (q : Piece) → waiting ≡ [] → Completes k0.opened k0.history.waiting [] q → k0.history.at_end ≡ false → Steps k false (with_waiting k0 waiting q)
+  none_step q none completes more =
+      subst (λ (m : Talking). Steps m false (with_waiting k0 waiting q)) is
+      (subst (λ (t : List ℕ). Steps k0 false (with_waiting k0 t q)) (sym none)
+      (record { holds = λ holds. holds_none k0 holds going q completes; streams = (refl, refl, refl, refl); settles = λ over. inr (inr (refl, more)) }))
+
+  pub last_step : (q : Piece) (new : Talking) → waiting ≡ [] → Completes k0.opened k0.history.waiting [] q → k0.history.at_end ≡ true → Finishes (with_waiting k0 waiting q) new → Steps k false new
+  last_step q new none completes at_end a =
+      let finishes : Finishes (with_waiting k0 [] q) new = subst (λ (t : List ℕ). Finishes (with_waiting k0 t q) new) none a in
+      subst (λ (m : Talking). Steps m false new) is
+      (record {
+        holds = λ holds. holds_last (with_waiting k0 [] q) (holds_none k0 holds going q completes) going refl at_end new finishes;
+        streams = a.streams;
+        settles = λ over. inl (closed_last new.history.state _ _ _ a.adds);
+      })

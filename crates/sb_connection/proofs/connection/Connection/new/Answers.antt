@@ -1,0 +1,7 @@
+use Rattle.std.proofs.Common.{sym, subst}
+use Rattle.sb_connection.specs.Machine.{Holds}
+use Rattle.sb_connection.proofs.Steps.{nothing_holds}
+use Rattle.sb_connection.proofs.connection.Connection.new.Goals as goal
+
+pub invariant_of-result : goal.invariant_of-result
+invariant_of-result g c = subst Holds (sym c.new.ensures) (nothing_holds c.args.host.now)

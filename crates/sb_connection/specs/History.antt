@@ -1,0 +1,83 @@
+-- What a connection has received and handed out, however both were cut, and which lines it has answered.
+use Rattle.std.specs.Prelude.{◌≡◌, ◌⊎◌, ℕ, Bool, true, false, List, [], ◌++◌, take, drop, Option}
+use Rattle.sb_wire.specs.Lines.{Piece, complete_pieces, last_piece, open_line, piece_of}
+use Rattle.sb_host.specs.declared.stub.Stub.{Stub}
+use Rattle.sb_connection.specs.declared.state.State.{State}
+use Rattle.sb_connection.specs.declared.state.State.TheVariants.{Open, Answered, Over, Failed}
+use Rattle.sb_connection.specs.Conversation.{Talks}
+use Rattle.sb_connection.specs.Standing.{is_open}
+
+pub record History : Type 0 where
+  -- those of the host
+  pub tenants : ℕ
+  pub state : State
+  -- the client sends no more
+  pub at_end : Bool
+  -- all bytes that came, and those of them that aren't looked at yet
+  pub received : List ℕ
+  pub waiting : List ℕ
+  -- all bytes that were sent, and those that are to be sent next
+  pub handed : List ℕ
+  pub pending : List ℕ
+
+-- ---- what is done from outside
+
+abbrev pub nothing_yet : ℕ → History
+nothing_yet tenants = record { tenants = tenants; state = Open; at_end = false; received = []; waiting = []; handed = []; pending = [] }
+
+abbrev pub after_receiving : History → List ℕ → History
+after_receiving h bytes = record h { received = h.received ++ bytes; waiting = h.waiting ++ bytes }
+
+abbrev pub after_end : History → History
+after_end h = record h { at_end = true }
+
+abbrev pub after_sending : History → ℕ → History
+after_sending h count = record h { handed = h.handed ++ take count h.pending; pending = drop count h.pending }
+
+-- lines are answered, more bytes may come, and all that came are looked at
+abbrev pub MayReceive : History → Type 0
+MayReceive h = (is_open h.state ≡ true) × (h.at_end ≡ false) × (h.waiting ≡ [])
+
+-- ---- a turn
+
+-- nothing is received or sent
+abbrev pub SameStreams : History → History → Type 0
+SameStreams old new =
+    (new.tenants ≡ old.tenants) × (new.at_end ≡ old.at_end) × (new.received ≡ old.received) × (new.handed ≡ old.handed)
+
+-- no line is answered any more, or something is to be sent first, or all that came are looked at and more may come
+abbrev pub IsSettled : History → Type 0
+IsSettled h = (is_open h.state ≡ false) ⊎ ((h.pending ≡ [] → ⊥) ⊎ ((h.waiting ≡ []) × (h.at_end ≡ false)))
+
+-- ---- what was answered
+
+-- the lines that are complete in these bytes
+abbrev pub AreComplete : List ℕ → List Piece → Type 0
+AreComplete taken pieces = pieces ≡ complete_pieces taken
+
+-- all lines: what stands behind the last newline is one if it has a byte
+abbrev pub AreAll : List ℕ → List Piece → Type 0
+AreAll received pieces = pieces ≡ complete_pieces received ++ last_piece (piece_of (open_line received))
+
+-- Which lines were answered. What is lost of their replies: nothing, unless memory ran out.
+abbrev pub Stands : State → History → List ℕ → List Piece → List ℕ → Bool → Type 0
+Stands Open h taken pieces lost over = AreComplete taken pieces × (lost ≡ []) × (over ≡ false)
+Stands Answered h taken pieces lost over = AreAll h.received pieces × (lost ≡ []) × (h.at_end ≡ true)
+Stands Over h taken pieces lost over = AreComplete taken pieces × (lost ≡ []) × (over ≡ true)
+Stands Failed h taken pieces lost over = AreComplete taken pieces ⊎ AreAll h.received pieces
+
+-- the lines of the bytes that are looked at, and the text that answers them: it was sent, it is to be sent, or it is lost
+pub record Tells (h : History) (pieces : List Piece) (text : List ℕ) (over : Bool) : Type 0 where
+  pub taken : List ℕ
+  pub split : h.received ≡ taken ++ h.waiting
+  pub lost : List ℕ
+  pub whole : text ≡ (h.handed ++ h.pending) ++ lost
+  pub stands : Stands h.state h taken pieces lost over
+
+-- what a connection did until it was closed
+pub record Converses (h : History) (stub : Option Stub) : Type 0 where
+  pub pieces : List Piece
+  pub text : List ℕ
+  pub over : Bool
+  pub tells : Tells h pieces text over
+  pub talks : Talks h.tenants pieces text stub over

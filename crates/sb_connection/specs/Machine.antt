@@ -1,0 +1,62 @@
+-- What holds of a connection between its steps.
+use Rattle.std.specs.Prelude.{◌≡◌, ℕ, Bool, true, false, List, [], ◌++◌, Option, None}
+use Rattle.sb_wire.specs.Lines.{Piece, last_piece, line, open_line, piece_of}
+use Rattle.sb_wire.specs.Responses.{AreAnswered}
+use Rattle.sb_connection.specs.declared.state.State.TheVariants.{Open, Answered, Over, Failed}
+use Rattle.sb_connection.specs.declared.state.State as stands
+use Rattle.sb_connection.specs.History.{History, IsSettled, SameStreams, Tells}
+use Rattle.sb_connection.specs.Responding.{Responds, State, over}
+
+-- its history, the line that stands open, and the session
+pub record Talking : Type 0 where
+  pub history : History
+  pub opened : Piece
+  pub talk : State
+
+-- the session answered the lines of the bytes that are looked at, and goes on behind them
+pub record Holds (k : Talking) : Type 0 where
+  pub pieces : List Piece
+  pub text : List ℕ
+  pub tells : Tells k.history pieces text (over k.talk)
+  pub is_open : k.opened ≡ piece_of (open_line tells.taken)
+  pub answered : AreAnswered (Responds k.history.tenants) over (None, false) pieces text k.talk
+
+-- a step keeps what holds, and receives and sends nothing
+pub record Steps (old : Talking) (more : Bool) (new : Talking) : Type 0 where
+  pub holds : Holds old → Holds new
+  pub streams : SameStreams old.history new.history
+  pub settles : more ≡ false → IsSettled new.history
+
+-- ---- one line
+
+-- the text is to be sent behind the rest, unless memory ran out
+abbrev pub Adds : stands.State → List ℕ → List ℕ → List ℕ → Bool → Type 0
+Adds Open old text new is_over = (new ≡ old ++ text) × (is_over ≡ false)
+Adds Answered old text new is_over = ⊥
+Adds Over old text new is_over = (new ≡ old ++ text) × (is_over ≡ true)
+Adds Failed old text new is_over = new ≡ old
+
+-- the open line is answered, and all else stays
+pub record Answers (old new : Talking) : Type 0 where
+  pub text : List ℕ
+  pub responds : Responds old.history.tenants old.talk old.opened text new.talk
+  pub adds : Adds new.history.state old.history.pending text new.history.pending (over new.talk)
+  pub streams : SameStreams old.history new.history
+  pub waiting : new.history.waiting ≡ old.history.waiting
+  pub opened : new.opened ≡ old.opened
+
+-- as the lines are answered that there are: one or none
+abbrev pub AddsLast : stands.State → List ℕ → List ℕ → List ℕ → Type 0
+AddsLast Open old text new = ⊥
+AddsLast Answered old text new = new ≡ old ++ text
+AddsLast Over old text new = ⊥
+AddsLast Failed old text new = new ≡ old
+
+-- the line that stands open at the end is answered, if it has a byte, and no other one is
+pub record Finishes (old new : Talking) : Type 0 where
+  pub text : List ℕ
+  pub answered : AreAnswered (Responds old.history.tenants) over old.talk (last_piece old.opened) text new.talk
+  pub adds : AddsLast new.history.state old.history.pending text new.history.pending
+  pub streams : SameStreams old.history new.history
+  pub waiting : new.history.waiting ≡ old.history.waiting
+  pub opened : new.opened ≡ old.opened

@@ -1,0 +1,137 @@
+//! A connection as a value over bytes: bytes come in and bytes go out, and it makes no system call.
+ghost use Rattle.std.specs.Prelude.{◌≡◌, ◌<◌, ◌≤◌, ◌↔◌, length, IfSome, IsFalse, IsTrue, OnErr, OnOk, [], false};
+ghost use Rattle.sb_connection.specs.Exchanges.{IsClosed};
+ghost use Rattle.sb_connection.specs.History.{Converses, IsSettled, MayReceive, SameStreams, after_end, after_receiving, after_sending, nothing_yet};
+ghost use Rattle.sb_connection.specs.Standing.{is_open};
+
+use crate::machine::Machine;
+use crate::serve::{close, tell_end};
+use crate::state::State;
+use crate::watch::Watch;
+use sb_host::{Host, Naming, Stub};
+use sb_wire::StreamError;
+use std::alloc::{AllocError, Global};
+use std::marker::Model;
+use std::sync::Wait;
+
+/// How many lines are answered at most before other connections have their turn.
+const LINES_A_TURN: usize = 64;
+
+/// Give it what comes while it `wants_read`, `advance` it, and send its `output` while it
+/// `wants_write`, until it `is_done`. Then close it, or at any time before.
+#[derive(Drop)]
+pub struct Connection<'h, N: Naming> {
+    machine: Machine<'h, N>,
+}
+
+impl<'h, N: Naming> Model for Connection<'h, N> {
+    ghost use Rattle.sb_connection.specs.History.{History};
+    ghost use Rattle.sb_connection.specs.Machine.{Holds};
+
+    ghost Value = { History };
+
+    ghost view = { λ c. c.machine.history };
+
+    ghost invariant = { λ c. Holds c.machine };
+}
+
+impl<'h, N: Naming> Connection<'h, N> {
+    /// Before its first byte. It allocates nothing.
+    pub fn new(alloc: Global, host: &'h Host<N>) -> Connection<'h, N>
+        ensures { result ≡ nothing_yet host.now }
+    {
+        Connection {
+            machine: Machine::new(alloc, host),
+        }
+    }
+
+    /// Whether all lines so far are answered, more may come, and little waits to be sent.
+    pub fn wants_read(&self) -> bool
+        ensures may { IsTrue result → MayReceive self.now }
+        ensures wants { MayReceive self.now → self.now.pending ≡ [] → IsTrue result }
+    {
+        self.machine.wants_read()
+    }
+
+    /// Takes the next bytes of the client.
+    pub fn receive(&mut self, bytes: &[u8]) -> Result<(), AllocError>
+        requires { MayReceive self.old }
+        ensures ok { OnOk result (self.new ≡ after_receiving self.old bytes.now) }
+        ensures err { OnErr result (self.new ≡ self.old) }
+    {
+        self.machine.receive(bytes)
+    }
+
+    /// The client sends no more.
+    pub fn receive_end(&mut self)
+        requires { MayReceive self.old }
+        ensures { self.new ≡ after_end self.old }
+    {
+        self.machine.end();
+    }
+
+    /// Answers the lines that came, as many as there are for one turn. Whether there may be more to answer at once.
+    pub fn advance<T: Wait, V: Watch>(&mut self, rt: &T, watch: &V) -> bool
+        ensures streams { SameStreams self.old self.new }
+        ensures settles { IsFalse result → IsSettled self.new }
+    {
+        for _line in 0..LINES_A_TURN {
+            if !self.machine.step(rt, watch) {
+                return false;
+            }
+        }
+        true
+    }
+
+    /// The next bytes to send.
+    pub fn output(&self) -> &[u8]
+        ensures { result.now ≡ self.now.pending }
+    {
+        self.machine.pending()
+    }
+
+    /// So many of them were sent.
+    pub fn sent(&mut self, count: usize)
+        requires { count ≤ length self.old.pending }
+        ensures { self.new ≡ after_sending self.old count }
+    {
+        self.machine.note_sent(count);
+    }
+
+    /// Whether there is something to send.
+    pub fn wants_write(&self) -> bool
+        ensures { IsTrue result ↔ (0 < length self.now.pending) }
+    {
+        !self.output().is_empty()
+    }
+
+    /// Whether no line is answered any more, and all replies are sent.
+    pub fn is_done(&self) -> bool
+        ensures { IsTrue result ↔ ((is_open self.now.state ≡ false) × (self.now.pending ≡ [])) }
+    {
+        !self.machine.state().is_open() && self.output().is_empty()
+    }
+
+    /// Whether there was no memory for a reply.
+    pub fn has_failed(&self) -> bool
+        ensures { IsTrue result ↔ (self.now.state ≡ State.Failed) }
+    {
+        matches!(self.machine.state(), State::Failed)
+    }
+
+    /// Closes the session, if one was opened, and tells of it.
+    pub fn close<T: Wait, V: Watch>(
+        self,
+        rt: &T,
+        watch: &V,
+        ended: Result<(), StreamError>,
+    ) -> Option<Stub>
+        ensures conversation { Converses self.entry result }
+        ensures closed { IfSome result (λ stub. IsClosed stub.receipts.items) }
+    {
+        let Connection { machine } = self;
+        let stub = close(rt, machine.into_session());
+        tell_end(watch, &stub, &ended);
+        stub
+    }
+}

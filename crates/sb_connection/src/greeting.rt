@@ -1,0 +1,130 @@
+//! The first line of a connection.
+ghost use Rattle.std.specs.Prelude.{◌≡◌, ◌++◌, ◌∷◌, [], List, ℕ, None, OnOk, OnErr, true};
+ghost use Rattle.sb_wire.specs.Output.{ended_lines};
+ghost use Rattle.sb_wire.specs.Seen.{piece_seen, refusal_line};
+ghost use Rattle.sb_connection.specs.Conversation.{attach_lines, named_of};
+ghost use Rattle.sb_connection.specs.Responding.{Greets, GreetsNamed};
+
+use crate::watch::{Event, Watch};
+use sb_host::{AttachError, Host, Naming, Session};
+use sb_tenant::Reply;
+use sb_value::Refusal;
+use sb_wire::{
+    Piece, WireRefusal, number, number_before_space, write_bare_refusal, write_bare_reply,
+};
+use std::alloc::{AllocError, Global};
+use std::sync::Wait;
+
+/// A tenant and one of its sessions, as a first line names them.
+#[derive(Clone, Copy)]
+pub struct Named {
+    pub tenant: u32,
+    pub session: u32,
+}
+
+impl Named {
+    /// The two numbers of a line, if it is that.
+    fn split(line: &[u8]) -> Option<Named>
+        ensures { result ≡ named_of line.now }
+    {
+        let (tenant, rest) = number_before_space(line)?;
+        let session = number(rest)?;
+        Some(Named { tenant, session })
+    }
+}
+
+/// The tenant that a first line names, or 0.
+pub(crate) fn tenant_named(piece: Piece<'_>) -> u32 {
+    let Piece::Line(line) = piece else {
+        return 0;
+    };
+    match Named::split(line) {
+        Some(named) => named.tenant,
+        None => 0,
+    }
+}
+
+/// Opens the session that a first line names, or turns the connection away.
+pub(crate) fn greet<'h, T: Wait, N: Naming, V: Watch>(
+    rt: &T,
+    alloc: Global,
+    host: &'h Host<N>,
+    watch: &V,
+    piece: Piece<'_>,
+    out: &mut Vec<u8>,
+    session: &mut Option<Session<'h, N>>,
+    away: &mut bool,
+) -> Result<(), AllocError>
+    requires { session.old ≡ None }
+    ensures { (text : List ℕ) × Greets host.now (piece_seen piece.entry) text session.new away.new
+        × OnOk result (out.new.items ≡ out.old.items ++ text)
+        × OnErr result (out.new.items ≡ out.old.items) }
+{
+    match piece {
+        Piece::TooLong => turn_away(watch, out, away, WireRefusal::TooLong),
+        Piece::Line(line) => match Named::split(line) {
+            Some(named) => open(rt, alloc, host, watch, named, out, session, away),
+            None => turn_away(watch, out, away, WireRefusal::BadLine),
+        },
+    }
+}
+
+/// Turns a connection away whose first line names no session.
+fn turn_away<V: Watch>(
+    watch: &V,
+    out: &mut Vec<u8>,
+    away: &mut bool,
+    why: WireRefusal,
+) -> Result<(), AllocError>
+    ensures away { away.new ≡ true }
+    ensures ok { OnOk result (out.new.items ≡ out.old.items ++ ended_lines (refusal_line why ∷ [])) }
+    ensures err { OnErr result (out.new.items ≡ out.old.items) }
+{
+    *away = true;
+    watch.see(Event::Unnamed(why));
+    write_bare_refusal(out, why)
+}
+
+/// Opens this session, or turns the connection away.
+fn open<'h, T: Wait, N: Naming, V: Watch>(
+    rt: &T,
+    alloc: Global,
+    host: &'h Host<N>,
+    watch: &V,
+    named: Named,
+    out: &mut Vec<u8>,
+    session: &mut Option<Session<'h, N>>,
+    away: &mut bool,
+) -> Result<(), AllocError>
+    requires { session.old ≡ None }
+    ensures { (text : List ℕ) × GreetsNamed host.now named text session.new away.new
+        × OnOk result (out.new.items ≡ out.old.items ++ text)
+        × OnErr result (out.new.items ≡ out.old.items) }
+{
+    match host.attach(rt, alloc, named.tenant, named.session) {
+        Ok(opened) => {
+            watch.see(Event::Attached(named));
+            *session = Some(opened);
+            write_bare_reply(out, &Reply::Ok)
+        }
+        Err(error) => {
+            watch.see(Event::TurnedAway { named, why: error });
+            *away = true;
+            refuse(out, error)
+        }
+    }
+}
+
+/// Says why no session was opened.
+fn refuse(out: &mut Vec<u8>, error: AttachError) -> Result<(), AllocError>
+    ensures ok { OnOk result (out.new.items ≡ out.old.items ++ ended_lines (attach_lines error)) }
+    ensures err { OnErr result (out.new.items ≡ out.old.items) }
+{
+    match error {
+        AttachError::NoTenant => write_bare_refusal(out, WireRefusal::NoTenant),
+        AttachError::NoSession => write_bare_refusal(out, WireRefusal::NoSession),
+        AttachError::AlreadyOpen => write_bare_reply(out, &Reply::No(Refusal::AlreadyOpen)),
+        AttachError::TrailFull => write_bare_reply(out, &Reply::No(Refusal::TrailFull)),
+        AttachError::NotBegun => write_bare_refusal(out, WireRefusal::NotBegun),
+    }
+}

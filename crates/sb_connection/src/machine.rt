@@ -1,0 +1,272 @@
+//! The steps of a connection, each of which answers a line.
+ghost use Rattle.std.specs.Prelude.{◌≡◌, ◌≤◌, [], false, true, None, length, ◌⊎◌, IsFalse, IsTrue, MatchBool, OnErr, OnOk};
+ghost use Rattle.sb_wire.specs.Lines.{line};
+ghost use Rattle.sb_connection.specs.History.{MayReceive, after_end, after_receiving, after_sending, nothing_yet};
+ghost use Rattle.sb_connection.specs.Machine.{Answers, Finishes, Steps};
+ghost use Rattle.sb_connection.specs.Responding.{over};
+ghost use Rattle.sb_connection.specs.Standing.{is_open};
+
+use crate::greeting::tenant_named;
+use crate::room::{newest_step, tell_room};
+use crate::state::State;
+use crate::talking::Talk;
+use crate::watch::Watch;
+use http_server::Log;
+use sb_host::{Host, Naming, Session};
+use sb_wire::{Lines, Responder};
+use std::alloc::{AllocError, Global};
+use std::marker::Model;
+use std::sync::Wait;
+
+/// While so many bytes or more wait to be sent, no line is answered.
+const MOST_PENDING: usize = 65_536;
+
+/// What a connection is: its session, the bytes that came and the bytes that go.
+#[derive(Drop)]
+pub(crate) struct Machine<'h, N: Naming> {
+    pub(crate) alloc: Global,
+    pub(crate) host: &'h Host<N>,
+    pub(crate) state: State,
+    /// The client sends no more.
+    pub(crate) at_end: bool,
+    pub(crate) session: Option<Session<'h, N>>,
+    /// That of the session.
+    pub(crate) tenant: u32,
+    /// No session was opened.
+    pub(crate) away: bool,
+    /// The line that stands open behind what is taken of the input.
+    pub(crate) lines: Lines,
+    pub(crate) input: Vec<u8>,
+    pub(crate) taken: usize,
+    pub(crate) output: Vec<u8>,
+    pub(crate) sent: usize,
+    /// What each read gave.
+    pub(crate) reads: Log<Vec<u8>, ()>,
+    /// The output at each write, how much of it had gone, and how much went.
+    pub(crate) writes: Log<Vec<u8>, (usize, usize)>,
+}
+
+impl<'h, N: Naming> Model for Machine<'h, N> {
+    ghost use Rattle.std.specs.Prelude.{◌≤◌, flat_map, take, drop, vec_len};
+    ghost use Rattle.sb_connection.specs.Machine.{Talking};
+
+    ghost Value = { Talking };
+
+    ghost view = { λ m. record {
+      history = record {
+        tenants = m.host.now;
+        state = m.state;
+        at_end = m.at_end;
+        received = flat_map (λ r. r.0.items) m.reads.items;
+        waiting = drop m.taken m.input.items;
+        handed = flat_map (λ w. take w.1.1 (drop w.1.0 w.0.items)) m.writes.items;
+        pending = drop m.sent m.output.items;
+      };
+      opened = m.lines;
+      talk = (m.session, m.away);
+    } };
+
+    ghost invariant = { λ m. (m.taken ≤ vec_len m.input) × (m.sent ≤ vec_len m.output) };
+}
+
+impl<'h, N: Naming> Machine<'h, N> {
+    pub(crate) fn new(alloc: Global, host: &'h Host<N>) -> Machine<'h, N>
+        ensures { result ≡ record { history = nothing_yet host.now; opened = line []; talk = (None, false) } }
+    {
+        Machine {
+            alloc,
+            host,
+            state: State::Open,
+            at_end: false,
+            session: None,
+            tenant: 0,
+            away: false,
+            lines: Lines::new(),
+            input: Vec::new(alloc),
+            taken: 0,
+            output: Vec::new(alloc),
+            sent: 0,
+            reads: Log::new(),
+            writes: Log::new(),
+        }
+    }
+
+    pub(crate) fn state(&self) -> State
+        ensures { result ≡ self.now.history.state }
+    {
+        self.state
+    }
+
+    /// The client sends no more.
+    pub(crate) fn end(&mut self)
+        ensures { self.new ≡ record self.old { history = after_end self.old.history } }
+    {
+        self.at_end = true;
+    }
+
+    pub(crate) fn into_session(self) -> Option<Session<'h, N>>
+        ensures { result ≡ self.entry.talk.0 }
+    {
+        let Machine { session, .. } = self;
+        session
+    }
+
+    /// Answers the next line, if one is complete and there is room for its reply. Whether there may be another one.
+    pub(crate) fn step<T: Wait, V: Watch>(&mut self, rt: &T, watch: &V) -> bool
+        requires { is_open self.old.history.state ≡ true → over self.old.talk ≡ false }
+        ensures { Steps self.old result self.new }
+    {
+        if !self.may_answer() {
+            return false;
+        }
+        let rest = &self.input.as_slice()[self.taken..];
+        match self.lines.feed(rest) {
+            Some(behind) => {
+                let left = behind.len();
+                self.taken = self.input.len() - left;
+                self.answer(rt, watch);
+                self.lines.clear();
+                true
+            }
+            None => {
+                // the memory is given back while nothing waits
+                self.input = Vec::new(self.alloc);
+                self.taken = 0;
+                if self.at_end {
+                    self.answer_last(rt, watch);
+                }
+                false
+            }
+        }
+    }
+
+    /// Answers the line that is complete. A trail that fills up is told.
+    fn answer<T: Wait, V: Watch>(&mut self, rt: &T, watch: &V)
+        requires { over self.old.talk ≡ false }
+        ensures { Answers self.old self.new }
+    {
+        if self.session.is_none() {
+            self.tenant = tenant_named(self.lines.line());
+        }
+        let before = newest_step(&self.session);
+        self.respond(rt, watch);
+        match newest_step(&self.session) {
+            Some(step) if before != Some(step) => tell_room(watch, self.tenant, step),
+            _ => {}
+        }
+    }
+
+    fn respond<T: Wait, V: Watch>(&mut self, rt: &T, watch: &V)
+        requires { over self.old.talk ≡ false }
+        ensures { Answers self.old self.new }
+    {
+        let talk = Talk {
+            rt,
+            host: self.host,
+            watch,
+        };
+        let answered = talk.respond(
+            self.alloc,
+            self.lines.line(),
+            &mut self.output,
+            &mut self.session,
+            &mut self.away,
+        );
+        self.state = match answered {
+            Err(_) => State::Failed,
+            Ok(()) if talk.is_over(&self.session, &self.away) => State::Over,
+            Ok(()) => State::Open,
+        };
+    }
+
+    /// Answers the line that stands open at the end, if it has a byte.
+    fn answer_last<T: Wait, V: Watch>(&mut self, rt: &T, watch: &V)
+        requires { over self.old.talk ≡ false }
+        ensures { Finishes self.old self.new }
+    {
+        let Some(_) = self.lines.finish() else {
+            self.state = State::Answered;
+            return;
+        };
+        self.answer(rt, watch);
+        match self.state {
+            State::Failed => {}
+            _ => self.state = State::Answered,
+        }
+    }
+
+    /// Whether a line is answered where one comes.
+    fn may_answer(&self) -> bool
+        ensures open { IsTrue result → is_open self.now.history.state ≡ true }
+        ensures not { IsFalse result → (is_open self.now.history.state ≡ false) ⊎ (self.now.history.pending ≡ [] → ⊥) }
+    {
+        if !self.state.is_open() {
+            return false;
+        }
+        self.has_room()
+    }
+
+    /// Whether a reply may be added to what waits to be sent.
+    fn has_room(&self) -> bool
+        ensures { self.now.history.pending ≡ [] → IsTrue result }
+    {
+        if self.sent == self.output.len() {
+            return true;
+        }
+        self.output.len() < MOST_PENDING
+    }
+
+    /// Whether more may be received.
+    fn may_receive(&self) -> bool
+        ensures { MatchBool result (MayReceive self.now.history) (MayReceive self.now.history → ⊥) }
+    {
+        if !self.state.is_open() || self.at_end {
+            return false;
+        }
+        self.taken == self.input.len()
+    }
+
+    pub(crate) fn wants_read(&self) -> bool
+        ensures may { IsTrue result → MayReceive self.now.history }
+        ensures wants { MayReceive self.now.history → self.now.history.pending ≡ [] → IsTrue result }
+    {
+        if !self.may_receive() {
+            return false;
+        }
+        self.has_room()
+    }
+
+    /// Takes the next bytes of the client.
+    pub(crate) fn receive(&mut self, bytes: &[u8]) -> Result<(), AllocError>
+        requires { self.old.history.waiting ≡ [] }
+        ensures ok { OnOk result (self.new ≡ record self.old { history = after_receiving self.old.history bytes.now }) }
+        ensures err { OnErr result (self.new ≡ self.old) }
+    {
+        let mut input = Vec::new(self.alloc);
+        input.extend_from_slice(bytes)?;
+        self.reads = self.reads.and(&input, &());
+        self.input = input;
+        self.taken = 0;
+        Ok(())
+    }
+
+    /// The next bytes to send.
+    pub(crate) fn pending(&self) -> &[u8]
+        ensures { result.now ≡ self.now.history.pending }
+    {
+        &self.output.as_slice()[self.sent..]
+    }
+
+    /// So many of them were sent. The memory is given back when all are.
+    pub(crate) fn note_sent(&mut self, count: usize)
+        requires { count ≤ length self.old.history.pending }
+        ensures { self.new ≡ record self.old { history = after_sending self.old.history count } }
+    {
+        self.writes = self.writes.and(&self.output, &(self.sent, count));
+        self.sent += count;
+        if self.sent == self.output.len() {
+            self.output = Vec::new(self.alloc);
+            self.sent = 0;
+        }
+    }
+}

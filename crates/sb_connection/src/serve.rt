@@ -1,0 +1,112 @@
+//! A connection from its first line to the end of its session.
+ghost use Rattle.std.specs.Prelude.{◌≡◌, IfSome};
+ghost use Rattle.sb_connection.specs.Conversation.{Conversation};
+ghost use Rattle.sb_connection.specs.Exchanges.{IsClosed};
+ghost use Rattle.sb_connection.specs.Responding.{LeavesSome};
+ghost use Rattle.sb_wire.specs.Responses.{StopsBy};
+ghost use Rattle.sb_wire.specs.Stream.{MayFail, OnWriteFault};
+
+use crate::greeting::Named;
+use crate::room::steps_left;
+use crate::talking::Talk;
+use crate::watch::{Event, NoWatch, Watch};
+use sb_host::{Host, Naming, Session, Stub};
+use sb_wire::{Sink, Source, StreamError, answer_stream};
+use std::alloc::Global;
+use std::sync::Wait;
+
+/// What is left of a connection: its session's receipts, if it had one, and how it ended.
+#[derive(Drop)]
+pub struct Served {
+    pub stub: Option<Stub>,
+    pub ended: Result<(), StreamError>,
+}
+
+/// Opens the session that the first line names, calls it with each further line and writes the
+/// answer, and closes it however the connection ends.
+pub fn serve_one<T: Wait, N: Naming, R: Source, W: Sink>(
+    rt: &T,
+    alloc: Global,
+    reader: &mut R,
+    writer: &mut W,
+    host: &Host<N>,
+) -> Served
+    ensures goes { (c : Conversation host.now (R.remaining reader.old) (W.contents writer.old)
+        (R.remaining reader.new) (W.contents writer.new) result.stub)
+        × StopsBy R.fails R.remaining reader.new c.over c.seen c.pieces c.left result.ended }
+    ensures refused { OnWriteFault result.ended (MayFail W.refuses W.contents writer.new) }
+    ensures closed { IfSome result.stub (λ stub. IsClosed stub.receipts.items) }
+{
+    serve_one_with(rt, alloc, reader, writer, host, &NoWatch)
+}
+
+/// As `serve_one` does; the watch is told of the session and of a fault.
+pub fn serve_one_with<T: Wait, N: Naming, R: Source, W: Sink, V: Watch>(
+    rt: &T,
+    alloc: Global,
+    reader: &mut R,
+    writer: &mut W,
+    host: &Host<N>,
+    watch: &V,
+) -> Served
+    ensures goes { (c : Conversation host.now (R.remaining reader.old) (W.contents writer.old)
+        (R.remaining reader.new) (W.contents writer.new) result.stub)
+        × StopsBy R.fails R.remaining reader.new c.over c.seen c.pieces c.left result.ended }
+    ensures refused { OnWriteFault result.ended (MayFail W.refuses W.contents writer.new) }
+    ensures closed { IfSome result.stub (λ stub. IsClosed stub.receipts.items) }
+{
+    let talk = Talk { rt, host, watch };
+    let mut session = None;
+    let mut away = false;
+    let ended = answer_stream(alloc, reader, writer, &talk, &mut session, &mut away);
+    let stub = close(rt, session);
+    tell_end(watch, &stub, &ended);
+    Served { stub, ended }
+}
+
+/// Closes the session, if one was opened.
+pub(crate) fn close<T: Wait, N: Naming>(rt: &T, session: Option<Session<'_, N>>) -> Option<Stub>
+    ensures { LeavesSome session.entry result }
+{
+    match session {
+        Some(session) => Some(session.close(rt)),
+        None => None,
+    }
+}
+
+/// Tells how a connection ended.
+pub(crate) fn tell_end<V: Watch>(watch: &V, stub: &Option<Stub>, ended: &Result<(), StreamError>) {
+    let named = match stub {
+        Some(stub) => Some(session_of(stub)),
+        None => None,
+    };
+    if let Err(why) = ended {
+        watch.see(Event::Failed { named, why: *why });
+    }
+    match stub {
+        Some(stub) => watch.see(closed(stub)),
+        None => watch.see(Event::Left),
+    }
+}
+
+/// What is told of a session that is closed.
+fn closed(stub: &Stub) -> Event {
+    let receipts = stub.list();
+    let newest = match receipts.last() {
+        Some(receipt) => receipt.answer.number,
+        None => None,
+    };
+    Event::Closed {
+        named: session_of(stub),
+        steps: receipts.len(),
+        left: steps_left(newest),
+    }
+}
+
+/// Whose receipts these are.
+fn session_of(stub: &Stub) -> Named {
+    Named {
+        tenant: stub.tenant,
+        session: u32::from(stub.session.number()),
+    }
+}

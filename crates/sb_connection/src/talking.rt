@@ -1,0 +1,75 @@
+//! The lines of a connection, one at a time.
+ghost use Rattle.std.specs.Prelude.{◌≡◌, ◌++◌, List, ℕ, false, OnOk, OnErr};
+ghost use Rattle.sb_wire.specs.Seen.{piece_seen};
+ghost use Rattle.sb_connection.specs.Exchanges.{Exchange, line_in, said_text};
+ghost use Rattle.sb_connection.specs.Responding.{Exchanges};
+
+use crate::greeting::greet;
+use crate::watch::Watch;
+use sb_host::{CallError, Host, Naming, Session};
+use sb_wire::{Piece, Responder, WireRefusal, write_bare_refusal, write_bare_reply};
+use std::alloc::{AllocError, Global};
+use std::sync::Wait;
+
+/// Answers the lines of a connection: the first one on the host, the others by the session that it opened.
+#[derive(Drop)]
+pub(crate) struct Talk<'r, 'h, T, N: Naming, V> {
+    pub(crate) rt: &'r T,
+    pub(crate) host: &'h Host<N>,
+    pub(crate) watch: &'r V,
+}
+
+impl<'r, 'h, T: Wait, N: Naming, V: Watch> Responder<Option<Session<'h, N>>, bool>
+    for Talk<'r, 'h, T, N, V> {
+    ghost use Rattle.sb_connection.specs.Responding.{Responds, over};
+
+    ghost responds = { λ talk. Responds talk.host.now };
+
+    ghost over = { over };
+
+    fn respond(
+        &self,
+        alloc: Global,
+        piece: Piece<'_>,
+        out: &mut Vec<u8>,
+        first: &mut Option<Session<'h, N>>,
+        second: &mut bool,
+    ) -> Result<(), AllocError> {
+        match first {
+            Some(session) => exchange(self.rt, alloc, piece, out, session),
+            None => greet(
+                self.rt, alloc, self.host, self.watch, piece, out, first, second,
+            ),
+        }
+    }
+
+    fn is_over(&self, first: &Option<Session<'h, N>>, second: &bool) -> bool {
+        match first {
+            Some(session) => session.ended(),
+            None => *second,
+        }
+    }
+}
+
+/// Calls the session with a line, and writes its answer.
+fn exchange<T: Wait, N: Naming>(
+    rt: &T,
+    alloc: Global,
+    piece: Piece<'_>,
+    out: &mut Vec<u8>,
+    session: &mut Session<'_, N>,
+) -> Result<(), AllocError>
+    requires { session.old.ended ≡ false }
+    ensures { (e : Exchange) × (piece_seen piece.entry ≡ line_in e) × Exchanges session.old e session.new
+        × OnOk result (out.new.items ≡ out.old.items ++ said_text e)
+        × OnErr result (out.new.items ≡ out.old.items) }
+{
+    match piece {
+        Piece::TooLong => write_bare_refusal(out, WireRefusal::TooLong),
+        Piece::Line(line) => match session.call(rt, alloc, line) {
+            Ok(answer) => write_bare_reply(out, &answer.reply),
+            Err(CallError::NotBegun) => write_bare_refusal(out, WireRefusal::NotBegun),
+            Err(CallError::Ended) => unreachable!(),
+        },
+    }
+}

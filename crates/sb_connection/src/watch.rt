@@ -1,0 +1,107 @@
+//! What is told of connections while they are served.
+ghost use Rattle.std.specs.Prelude.{◌≡◌};
+ghost use Rattle.sb_connection.specs.Watching.{is_warning};
+
+use crate::greeting::Named;
+use sb_host::AttachError;
+use sb_wire::{StreamError, WireRefusal};
+use std::fmt;
+use std::fmt::{Display, Formatter};
+
+/// What happens to connections.
+#[derive(Clone, Copy)]
+pub enum Event {
+    /// A client has a connection.
+    Came,
+    /// The session that a first line names was opened.
+    Attached(Named),
+    /// It wasn't.
+    TurnedAway {
+        named: Named,
+        why: AttachError,
+    },
+    /// A first line names no session.
+    Unnamed(WireRefusal),
+    /// The trail of a tenant has room for so few steps more, or for none. Each is told once.
+    Fills {
+        tenant: u32,
+        left: u32,
+    },
+    /// A connection ended by a fault. Its session, if it had one, is closed next.
+    Failed {
+        named: Option<Named>,
+        why: StreamError,
+    },
+    /// A session made so many steps, and its tenant's trail has room for so many more.
+    Closed {
+        named: Named,
+        steps: usize,
+        left: u32,
+    },
+    /// A connection without a session ended.
+    Left,
+    NotAccepted,
+    /// There is no memory for the receipts of a connection.
+    NoPlace,
+}
+
+impl Event {
+    /// Whether something went wrong.
+    pub fn is_warning(&self) -> bool
+        ensures { result ≡ is_warning self.now }
+    {
+        !matches!(
+            self,
+            Event::Came | Event::Attached(_) | Event::Closed { .. } | Event::Left
+        )
+    }
+}
+
+impl Display for Named {
+    fn fmt<W: fmt::Write>(&self, f: &mut Formatter<W>) -> fmt::Result {
+        write!(f, "tenant {}, session {}", self.tenant, self.session)
+    }
+}
+
+impl Display for Event {
+    fn fmt<W: fmt::Write>(&self, f: &mut Formatter<W>) -> fmt::Result {
+        match self {
+            Event::Came => f.write_str("connected"),
+            Event::Attached(named) => write!(f, "attached: {named}"),
+            Event::TurnedAway { named, why } => write!(f, "turned away: {named}: {why:?}"),
+            Event::Unnamed(why) => write!(f, "turned away: {why:?}"),
+            Event::Failed {
+                named: Some(named),
+                why,
+            } => write!(f, "failed: {named}: {why}"),
+            Event::Failed { named: None, why } => write!(f, "failed: {why}"),
+            Event::Fills { tenant, left: 0 } => write!(f, "the trail of tenant {tenant} is full"),
+            Event::Fills { tenant, left } => {
+                write!(f, "the trail of tenant {tenant} has room for {left} steps")
+            }
+            Event::Closed { named, steps, left } => {
+                write!(f, "closed: {named}: {steps} steps, {left} left")
+            }
+            Event::Left => f.write_str("disconnected"),
+            Event::NotAccepted => f.write_str("a connection can't be accepted"),
+            Event::NoPlace => f.write_str("no memory for a connection"),
+        }
+    }
+}
+
+/// Is told what happens to connections.
+pub trait Watch {
+    fn see(&self, event: Event);
+
+    /// What happens to the connection of the client at this port.
+    fn see_client(&self, port: u16, event: Event);
+}
+
+/// Nobody is told.
+pub struct NoWatch;
+
+impl Watch for NoWatch {
+    fn see(&self, _event: Event) {}
+
+    fn see_client(&self, _port: u16, _event: Event) {}
+}

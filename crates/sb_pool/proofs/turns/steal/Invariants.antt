@@ -1,7 +1,0 @@
-use Rattle.crossbeam_deque.specs.Handles.{view, stealer_deque}
-use Rattle.sb_pool.specs.Results.{AreDone}
-use Rattle.sb_pool.specs.Seats.{IsSeat}
-use Rattle.sb_pool.proofs.turns.steal.Given as goal
-
-abbrev pub invariant-loop : goal.invariant-loop
-invariant-loop g l = IsSeat (stealer_deque l.thief) l.seat × AreDone g.W.Work.does (view l.seat).given l.done.items
