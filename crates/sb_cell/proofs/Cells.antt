@@ -16,7 +16,7 @@ use Rattle.sb_process.specs.Transactions.{Kept, mark_of, tested_of}
 use Rattle.sb_tenant.specs.declared.reply.Answer.{Answer}
 use Rattle.sb_tenant.specs.declared.reply.Entry.{Entry}
 use Rattle.sb_value.specs.Name.{same_name}
-use Rattle.sb_tenant.specs.Limits.{is_session, trail_limit}
+use Rattle.sb_tenant.specs.Limits.{entry_limit, is_session, trail_limit}
 use Rattle.sb_tenant.specs.Logged.{who_of}
 use Rattle.sb_tenant.specs.Tenant.{Tenant, IsLegal, InStep, StaysInStep, AnswersLine, LeavesLine, MakesStep, rise_of_number, state}
 use Rattle.sb_tenant.specs.State.{session_at, is_open}
@@ -251,7 +251,7 @@ open_left w new s shut room same = (
 
 -- ---- the clock
 
-pub few_entries : ((tenant bound : ℕ) → TrailsAreBounded tenant bound) → (tenants : List Tenant) → ((place : ℕ) (v : Tenant) → slice_get tenants place ≡ Some v → IsLegal v) → entry_count tenants ≤ 65544 * length tenants
+pub few_entries : ((tenant bound : ℕ) → TrailsAreBounded tenant bound) → (tenants : List Tenant) → ((place : ℕ) (v : Tenant) → slice_get tenants place ≡ Some v → IsLegal v) → entry_count tenants ≤ entry_limit * length tenants
 few_entries bounded [] legal = omega arith
 few_entries bounded (v ∷ vs) legal =
     let own = bounded v.id v.bound v.trail (state v) (legal 0 v refl) in

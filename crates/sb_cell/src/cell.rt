@@ -2,7 +2,7 @@
 ghost use Rattle.std.specs.List.{Contains};
 ghost use Rattle.std.specs.Prelude.{◌≡◌, ◌≤◌, ◌<◌, ◌+◌, ◌*◌, ◌==◌, ◌%◌, ◌&&◌, ℕ, true, false, nat_le, nat_lt, Ok, Some, IfOk, IfSome, OnErr, IsTrue, MatchOption, All, codes, length, option_copied, option_map, if◌then◌else◌};
 ghost use Rattle.sb_tenant.specs.declared.reply.Reply.TheVariants as told;
-ghost use Rattle.sb_tenant.specs.Limits.{trail_limit};
+ghost use Rattle.sb_tenant.specs.Limits.{entry_limit, trail_limit};
 ghost use Rattle.sb_tenant.specs.Tenant.{Tenant as ItsTenant};
 ghost use Rattle.sb_tenant.specs.Trail.{IsTrail};
 ghost use Rattle.sb_tenant.specs.State.{session_at, is_open as session_is_open, table_seen};
@@ -110,7 +110,7 @@ impl Cell {
     /// At any time its trails are legal, and together they have few entries.
     pub fn keeps_trails(&self)
         ensures legal { (tenant : ℕ) → IsTrue (hosts self.now tenant) → IsTrail tenant self.now.bound (trails self.now tenant) }
-        ensures few { entry_count self.now.tenants ≤ 16779264 }
+        ensures few { entry_count self.now.tenants ≤ 256 * entry_limit }
         ensures first { self.now.first < self.now.stride }
     {
         // for the proof: a legal trail has few entries, and the trails are legal

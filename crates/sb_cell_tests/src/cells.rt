@@ -144,7 +144,7 @@ fn a_full_trail_takes_no_memory(rt: HostRuntime) -> Result<(), Fail> {
     let alloc = rt.alloc();
     let mut cell = Cell::new(alloc, 0, 1, 1, 1000)?;
     play(&rt, alloc, &mut cell, &[b"open", b"begin"]);
-    for _ in 0..65_534u32 {
+    for _ in 0..1_048_574u32 {
         let _ = cell.step(alloc, 0, 0, b"begin");
     }
     mark();
@@ -153,7 +153,7 @@ fn a_full_trail_takes_no_memory(rt: HostRuntime) -> Result<(), Fail> {
     let full = cell.step(alloc, 0, 0, b"begin");
     assert!(rt; is_full(&full));
     let ended = cell.step(alloc, 0, 0, b"end");
-    assert!(rt; is_served(&ended) && number_of(&ended) == Some(65_537));
+    assert!(rt; is_served(&ended) && number_of(&ended) == Some(1_048_577));
     mark();
     Ok(())
 }

@@ -2,9 +2,10 @@
 
 use crate::watch::{Event, Watch};
 use sb_host::{Naming, Session};
+use sb_tenant::TRAIL_LIMIT;
 
 /// The most steps of a trail.
-const MOST_STEPS: u32 = 65_536;
+const MOST_STEPS: u32 = TRAIL_LIMIT as u32;
 
 /// Where a trail has room for so few steps more, it is told.
 const FEW_STEPS: u32 = MOST_STEPS / 10;

@@ -21,6 +21,7 @@ use Rattle.sb_desk.specs.Seats.{IsSeat, SessionSeat, number_of}
 use Rattle.sb_desk.proofs.CellSteps.{beside, entries_by}
 use Rattle.sb_desk.proofs.DeskSteps.{hosted_by, kept}
 use Rattle.sb_desk.proofs.Ending.{ends}
+use Rattle.sb_tenant.specs.Limits.{entry_limit}
 
 -- ---- the two lines that open and close
 
@@ -106,7 +107,7 @@ module _ (p : Place) (c c' : Cell) (parts : ℕ) (seats : List (Option SessionSe
     grown = ap length longer.0 ∙ length-append (trails c t) (entry_of s line a.reply ∷ [])
 
     -- the share has a part for it, and one more
-    pub enough : entry_count c'.tenants ≤ 16779264 → 1 < parts
+    pub enough : entry_count c'.tenants ≤ 256 * entry_limit → 1 < parts
     enough few =
         let all = entries_by c c' t smaller hosted turned.1 turned.2 in
         let more = grown in

@@ -151,11 +151,11 @@ fn filled<N: Naming, R: Wait>(rt: &R, alloc: Global, opened: Opened) -> Option<(
 {
     let host = Host::<N>::new(alloc, opened).ok()?;
     let mut session = host.attach(rt, alloc, 0, 0).ok()?;
-    for _ in 0..65_535u32 {
+    for _ in 0..1_048_575u32 {
         let _ = session.call(rt, alloc, b"begin");
     }
     let mut wrong = 0u32;
-    if session.list().len() != 65_536 {
+    if session.list().len() != 1_048_576 {
         wrong |= 1;
     }
     let _ = session.call(rt, alloc, b"begin");
@@ -163,7 +163,7 @@ fn filled<N: Naming, R: Wait>(rt: &R, alloc: Global, opened: Opened) -> Option<(
         wrong |= 2;
     }
     let _ = session.call(rt, alloc, b"end");
-    if !is_ok_at(&session, 65_537) {
+    if !is_ok_at(&session, 1_048_577) {
         wrong |= 4;
     }
     let mut stubs = Vec::with_capacity(alloc, 1).ok()?;
@@ -193,6 +193,6 @@ fn hosts_are_finished(rt: HostRuntime) -> Result<(), Fail> {
         Some((3, 0, true))
     );
     let one = Opened::new(rt.alloc(), 1, 1, 1000)?;
-    assert_eq!(rt; filled::<Brand, _>(&rt, rt.alloc(), one), Some((0, 65_537)));
+    assert_eq!(rt; filled::<Brand, _>(&rt, rt.alloc(), one), Some((0, 1_048_577)));
     Ok(())
 }

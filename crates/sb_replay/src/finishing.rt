@@ -10,12 +10,9 @@ use crate::closing::Closed;
 use crate::error::ReplayError;
 use crate::sheet::Sheet;
 use sb_host::{FinishError, Host, Naming, Report};
-use sb_tenant::Entry;
+use sb_tenant::{Entry, TRAIL_LIMIT};
 use sb_wire::write_totals;
 use std::alloc::{AllocError, Global};
-
-/// A trail of so many entries takes no more but the `end` of open sessions.
-const TRAIL_LIMIT: usize = 65_536;
 
 /// Whether a tenant's trail is full.
 fn has_full_trail(trails: &[Vec<Entry>], tenant: u32) -> bool

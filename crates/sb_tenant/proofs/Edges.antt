@@ -15,6 +15,7 @@ use Rattle.sb_tenant.specs.State.{State, idle, opening, session_at, has_transact
 use Rattle.sb_tenant.specs.Step.{step}
 use Rattle.sb_tenant.specs.Trail.{entry_of, state_of}
 use Rattle.sb_tenant.proofs.Script.{replies, replies_in_sessions, row, t, h, a, integer_column, named, number, source, a_of, show, insert, b, aliased, plus_one, start, empties_h, no}
+use Rattle.sb_tenant.specs.Limits.{trail_limit}
 
 -- ---- limits of the catalog
 
@@ -71,7 +72,7 @@ too_many_rows = refl
 -- ---- a full trail
 
 abbrev full : State
-full = record (with_session opening 0 idle) { steps = 65536 }
+full = record (with_session opening 0 idle) { steps = trail_limit }
 
 abbrev answer_to : State → List ℕ → Answer
 answer_to state line = (step 0 1000 state 0 line).1
@@ -85,7 +86,7 @@ full_trail_refuses = refl
 pub full_trail_refuses_end_with_a_space : answer_to full (codes "end ") ≡ refused_by_full
 full_trail_refuses_end_with_a_space = refl
 
-pub full_trail_ends_the_session : answer_to full (codes "end") ≡ record { number = Some 65537; reply = reply.Ok }
+pub full_trail_ends_the_session : answer_to full (codes "end") ≡ record { number = Some (trail_limit + 1); reply = reply.Ok }
 unfolding command_of
 full_trail_ends_the_session = refl
 

@@ -11,7 +11,7 @@ use Rattle.sb_tenant.specs.declared.reply.Answer.{Answer}
 use Rattle.sb_tenant.specs.declared.reply.Entry.{Entry}
 use Rattle.sb_tenant.specs.declared.reply.Reply.{Reply}
 use Rattle.sb_tenant.specs.declared.reply.Reply.TheVariants as reply
-use Rattle.sb_tenant.specs.Limits.{is_session, trail_limit}
+use Rattle.sb_tenant.specs.Limits.{entry_limit, is_session, trail_limit}
 use Rattle.sb_tenant.specs.State.{State, Session, closed, idle, active, opening, session_at, is_open, open_count, has_transaction, rolled_back, with_session}
 use Rattle.sb_tenant.specs.Step.{is_full_for, is_end_of_open, reply_to, numbered, step}
 use Rattle.sb_tenant.specs.Trail.{after_abort, is_no_memory, IsStep, IsAbort, IsNext, IsLegal, after_entry, replayed, state_of, IsTrail}
@@ -191,8 +191,8 @@ ends = refl
 
 module _ (tenant bound : ℕ) where
   -- past the limit only the end of an open session is a step
-  by_end : (before : State) (entry : Entry) (after : State) → IsNext tenant bound before entry after → before.steps + open_count before ≤ 65544 → nat_le trail_limit before.steps ≡ true →
-      after.steps + open_count after ≤ 65544
+  by_end : (before : State) (entry : Entry) (after : State) → IsNext tenant bound before entry after → before.steps + open_count before ≤ entry_limit → nat_le trail_limit before.steps ≡ true →
+      after.steps + open_count after ≤ entry_limit
   by_end before entry after (is_one, inl s) h long =
       let room = has_room tenant bound before entry after s in
       let is_end = not-false (is_end_of_open before entry.session entry.line) (sym (ap (λ b. b && not (is_end_of_open before entry.session entry.line)) long) ∙ room) in
@@ -208,17 +208,17 @@ module _ (tenant bound : ℕ) where
       absurd (true≢false (sym (ap not no_end) ∙ sym (ap (λ b. b && not (is_end_of_open before entry.session entry.line)) long) ∙ room))
 
   -- at most eight more than the limit, the open ones added
-  bounded_next : (before : State) (entry : Entry) (after : State) → IsNext tenant bound before entry after → before.steps + open_count before ≤ 65544 → after.steps + open_count after ≤ 65544
+  bounded_next : (before : State) (entry : Entry) (after : State) → IsNext tenant bound before entry after → before.steps + open_count before ≤ entry_limit → after.steps + open_count after ≤ entry_limit
   bounded_next before entry after next h =
-      elim (nat_le trail_limit before.steps) as (λ b. nat_le trail_limit before.steps ≡ b → after.steps + open_count after ≤ 65544) [
+      elim (nat_le trail_limit before.steps) as (λ b. nat_le trail_limit before.steps ≡ b → after.steps + open_count after ≤ entry_limit) [
         | false ↦ λ short.
             let below = leb-false trail_limit before.steps short in
             let steps = next_steps tenant bound before entry after next in let few = open_at_most after in omega arith
         | true ↦ λ long. by_end before entry after next h long
       ] refl
 
-  bounded_from : (before : State) (entries : List Entry) (after : State) → IsLegal tenant bound before entries after → before.steps + open_count before ≤ 65544 → after.steps + open_count after ≤ 65544
-  bounded_from before [] after p h = subst (λ state. state.steps + open_count state ≤ 65544) (sym p) h
+  bounded_from : (before : State) (entries : List Entry) (after : State) → IsLegal tenant bound before entries after → before.steps + open_count before ≤ entry_limit → after.steps + open_count after ≤ entry_limit
+  bounded_from before [] after p h = subst (λ state. state.steps + open_count state ≤ entry_limit) (sym p) h
   bounded_from before (entry ∷ entries) after (mid, next, p) h = bounded_from mid entries after p (bounded_next before entry mid next h)
 
 pub trails_are_bounded : (tenant bound : ℕ) → TrailsAreBounded tenant bound

@@ -18,7 +18,7 @@ use Rattle.sb_tenant.specs.declared.reply.Entry.{Entry}
 use Rattle.sb_tenant.specs.declared.reply.Reply.{Reply}
 use Rattle.sb_tenant.specs.declared.reply.Reply.TheVariants as reply
 use Rattle.sb_tenant.specs.declared.store.Store.{Store}
-use Rattle.sb_tenant.specs.Limits.{is_session, trail_limit}
+use Rattle.sb_tenant.specs.Limits.{entry_limit, is_session, trail_limit}
 use Rattle.sb_tenant.specs.Logged.{Agrees}
 use Rattle.sb_tenant.specs.declared.tenant.Tenant.TheInside.{Inside}
 use Rattle.sb_tenant.specs.Remembered.{IsRemembered, number_limit, seen}
@@ -150,7 +150,7 @@ module _ (t new : Tenant) (same : IsSame t new) (s : ℕ) (line : List ℕ) (tol
 -- ---- numbers
 
 -- a trail's length is bounded, and is the number of its steps
-pub few_entries : (t : Tenant) → IsLegal t → length t.trail ≤ 65544
+pub few_entries : (t : Tenant) → IsLegal t → length t.trail ≤ entry_limit
 few_entries t legal =
     let bounded = trails_are_bounded t.id t.bound t.trail (state t) legal in omega (arith, bounded)
 
@@ -158,7 +158,7 @@ pub steps_are_entries : (t : Tenant) → IsLegal t → (state t).steps ≡ lengt
 steps_are_entries t legal = (legal_states_are_replayed t.id t.bound t.trail (state t) legal).1
 
 -- the tables' next numbers stay below 2^63
-pub few_numbers : (n : ℕ) → n ≤ 65544 → number_limit n ≤ 2 ^ 63
+pub few_numbers : (n : ℕ) → n ≤ entry_limit → number_limit n ≤ 2 ^ 63
 few_numbers n h = omega arith
 
 -- and rise with the steps

@@ -2,6 +2,7 @@
 use Rattle.std.specs.Prelude.{◌≡◌, ℕ, ◌+◌, ◌≤◌, ◌↔◌, Bool, true, false, ◌==◌, List, length, Option, Some, None, IsFalse}
 use Rattle.sb_syntax.specs.Text.{command_of}
 use Rattle.sb_syntax.specs.Tree.{Command, open_session, end_session}
+use Rattle.sb_tenant.specs.Limits.{entry_limit}
 use Rattle.sb_value.specs.declared.refusal.Refusal.TheVariants.{TrailFull}
 use Rattle.sb_tenant.specs.declared.reply.Answer.{Answer}
 use Rattle.sb_tenant.specs.declared.reply.Entry.{Entry}
@@ -43,9 +44,9 @@ module _ (tenant bound : ℕ) where
       is_open (session_at after entry.session)
       ≡ elim (is_no_memory entry.reply) [ true ↦ is_open (session_at before entry.session) | false ↦ open_by (command_of entry.line) (is_open (session_at before entry.session)) ]
 
-  -- a legal trail has at most 65,536 entries, and one more for the end of each open session
+  -- a legal trail has no more entries than its limit, and one more for the end of each open session
   abbrev pub TrailsAreBounded : Type 0
-  TrailsAreBounded = (trail : List Entry) (state : State) → IsLegal tenant bound opening trail state → length trail + open_count state ≤ 65544
+  TrailsAreBounded = (trail : List Entry) (state : State) → IsLegal tenant bound opening trail state → length trail + open_count state ≤ entry_limit
 
   -- an answer has no number exactly where its reply is that the trail is full
   abbrev pub AnswersAreNumbered : Type 0

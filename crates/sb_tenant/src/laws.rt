@@ -40,7 +40,7 @@ pub fn entries_open_and_close()
     ensures own { (tenant bound : ℕ) → OwnOpens tenant bound }
 {}
 
-/// A legal trail has at most 65,536 entries and one more for the end of each open session.
+/// A legal trail has at most 1,048,576 entries and one more for the end of each open session.
 pub fn trails_are_bounded()
     ensures { (tenant bound : ℕ) → TrailsAreBounded tenant bound }
 {}

@@ -24,4 +24,4 @@ mod work;
 pub use lines::KnownLines;
 pub use places::reserve_here;
 pub use reply::{Answer, Entry, Line, NamedTrace, Reply};
-pub use tenant::{NotBegun, Tenant};
+pub use tenant::{NotBegun, TRAIL_LIMIT, Tenant};

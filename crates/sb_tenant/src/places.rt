@@ -3,9 +3,12 @@ ghost use Rattle.std.specs.Prelude.{◌≡◌, ◌+◌, ◌<◌, ◌≤◌, OnEr
 
 use std::alloc::{AllocError, Global};
 
-/// Room for so many more elements. Those that have to move for it go to the heap of the calling thread:
-/// to grow in place keeps the lock of the heap that they stand in, which another thread may use, until all
-/// are copied.
+/// From so many places on a list stands in pages of its own, which the system moves without copying.
+const PAGES_OF_ITS_OWN: usize = 8192;
+
+/// Room for so many more elements. Few that have to move for it go to the heap of the calling thread: to
+/// grow in place keeps the lock of the heap that they stand in, which another thread may use, until all are
+/// copied. Many grow in place, for they stand in no heap.
 pub fn reserve_here<T: Drop>(
     alloc: Global,
     list: &mut Vec<T>,
@@ -22,6 +25,9 @@ pub fn reserve_here<T: Drop>(
     };
     if least <= list.capacity() {
         return Ok(());
+    }
+    if list.capacity() >= PAGES_OF_ITS_OWN {
+        return list.reserve(additional);
     }
     let twice = list.capacity().saturating_mul(2);
     let mut larger = Vec::with_capacity(alloc, least.max(twice))?;

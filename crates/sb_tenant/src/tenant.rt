@@ -3,7 +3,7 @@ ghost use Rattle.std.specs.Prelude.{◌≡◌, ◌≤◌, ◌<◌, ◌^◌, ◌+
 ghost use Rattle.sb_index.specs.TableSets.{TableSets};
 ghost use Rattle.sb_rawlog.specs.Records.{Record};
 ghost use Rattle.sb_tenant.specs.declared.reply.Reply.TheVariants as told;
-ghost use Rattle.sb_tenant.specs.Limits.{is_session, trail_limit};
+ghost use Rattle.sb_tenant.specs.Limits.{entry_limit, is_session, trail_limit};
 ghost use Rattle.sb_tenant.specs.State.{session_at, is_open as session_is_open, table_seen};
 ghost use Rattle.sb_tenant.specs.Step.{is_full_for, is_end_of_open};
 ghost use Rattle.sb_tenant.specs.Tenant.{state, IsLegal, IsNew, AnswersLine, MakesStep, LeavesLine, InStep, HoldNothing, StaysInStep, rise_of};
@@ -21,8 +21,8 @@ use sb_value::{Name, Refusal, SESSION_LIMIT, SessionId, TenantId};
 use std::alloc::Global;
 use std::marker::Model;
 
-/// The most entries, without those of the ends of open sessions.
-const TRAIL_LIMIT: usize = 65_536;
+/// The most entries of a tenant's trail, without those of the ends of open sessions.
+pub const TRAIL_LIMIT: usize = 1_048_576;
 
 /// The line that opens a session.
 const OPEN: &[u8] = b"open";
@@ -304,7 +304,7 @@ fn make_ready(
 /// Puts an entry behind the others, where there is a place for it, and gives its number.
 fn put(trail: &mut Vec<Entry>, entry: Entry) -> u32
     requires place { vec_len trail.old < vec_capacity trail.old }
-    requires few { length trail.old.items ≤ 65544 }
+    requires few { length trail.old.items ≤ entry_limit }
     ensures items { trail.new.items ≡ trail.old.items ++ entry ∷ [] }
     ensures len { vec_len trail.new ≡ vec_len trail.old + 1 }
     ensures capacity { vec_capacity trail.new ≡ vec_capacity trail.old }

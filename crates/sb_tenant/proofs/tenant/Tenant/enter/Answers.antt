@@ -11,6 +11,7 @@ use Rattle.sb_tenant.proofs.ReplayLaws.{open_at_most}
 use Rattle.sb_tenant.proofs.Steps.{IsEntered, few_entries, few_numbers, performed, still_remembered, entered_in_step, entered_legal, entered_made, entered_remembered}
 use Rattle.sb_tenant.proofs.tenant.Tenant.enter.Given.{Over}
 use Rattle.sb_tenant.proofs.tenant.Tenant.enter.Goals as goal
+use Rattle.sb_tenant.specs.Limits.{entry_limit}
 
 pub invariant_of-self : goal.invariant_of-self
 invariant_of-self g c =
@@ -22,7 +23,7 @@ answer-reply-requires-clause-numbers g c =
 
 pub put-requires-clause-few : goal.put-requires-clause-few
 put-requires-clause-few g c =
-    subst (λ (es : List Entry). length es ≤ 65544) (sym c.make_ready.ensures.items) (few_entries (seen c.self.inside) c.self.invariant.legal)
+    subst (λ (es : List Entry). length es ≤ entry_limit) (sym c.make_ready.ensures.items) (few_entries (seen c.self.inside) c.self.invariant.legal)
 
 -- the fields after it
 abbrev after : (g : Over) → goal.After-put g → Inside

@@ -3,7 +3,7 @@ use Rattle.sb_process.specs.declared.database.Database.{Database}
 use Rattle.sb_tenant.specs.declared.reply.Entry.{Entry}
 use Rattle.sb_tenant.specs.declared.reply.Reply.TheVariants.{Ok}
 use Rattle.sb_tenant.specs.declared.tenant.Tenant.TheInside.{Inside}
-use Rattle.sb_tenant.specs.Limits.{trail_limit}
+use Rattle.sb_tenant.specs.Limits.{entry_limit, trail_limit}
 use Rattle.sb_tenant.specs.Remembered.{seen}
 use Rattle.sb_tenant.specs.State.{session_at, is_open}
 use Rattle.sb_tenant.specs.Tenant.{Tenant, InStep, IsSame, MakesStep, state}
@@ -23,7 +23,7 @@ open-requires c =
 
 pub put-requires-clause-few : goal.put-requires-clause-few
 put-requires-clause-few c =
-    subst (λ (es : List Entry). length es ≤ 65544) (sym c.make_ready.ensures.items) (few_entries (seen c.self.inside) c.self.invariant.legal)
+    subst (λ (es : List Entry). length es ≤ entry_limit) (sym c.make_ready.ensures.items) (few_entries (seen c.self.inside) c.self.invariant.legal)
 
 shut : (c : goal.After-put) → is_open (session_at (state (seen c.self.inside)) c.args.session) ≡ false
 shut c = subst (λ (v : Tenant). is_open (session_at (state v) c.args.session) ≡ false) (sym c.self.view_is) c.requires.closed
