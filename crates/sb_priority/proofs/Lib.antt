@@ -2,4 +2,4 @@ pub mod Flags
 pub mod Tests
 pub mod Paths
 pub mod Choice
-pub mod Rows
+pub mod RowLaws

@@ -1,6 +1,7 @@
 //! Which rule precedes which, also through others.
 ghost use Rattle.std.specs.Prelude.{◌≡◌, ℕ, Bool, List, [], ◌∷◌, ◌&&◌, ◌||◌, ◌==◌, slice_index_or, length};
 ghost use Rattle.sb_value.specs.Flags.{flag_at};
+ghost use Rattle.sb_value.specs.Limits.{rule_limit};
 ghost use Rattle.sb_priority.specs.Closed.{relates, IsClosure};
 
 use sb_value::{RULE_LIMIT, RuleId, RuleSet};
@@ -23,6 +24,13 @@ impl Model for Closure {
 }
 
 impl Closure {
+    /// The closure that has these rows.
+    pub fn of(before: [RuleSet; RULE_LIMIT]) -> Closure
+        ensures { result ≡ before }
+    {
+        Closure { before }
+    }
+
     /// The closure of no pairs.
     pub fn new() -> Closure
         ensures { IsClosure result [] }
@@ -51,7 +59,7 @@ impl Closure {
 
 /// Adds the rules to each row that has the second rule or is its own.
 fn link_rows(rows: &mut [RuleSet], through: RuleSet, second: RuleId)
-    requires { length rows.old ≡ 64 }
+    requires { length rows.old ≡ rule_limit }
     ensures { (a b : ℕ) → relates rows.new a b ≡ (relates rows.old a b || (flag_at through a && ((second == b) || relates rows.old second b))) }
 {
     for number in 0..RULE_LIMIT {
