@@ -3,3 +3,5 @@ pub mod Tests
 pub mod Paths
 pub mod Choice
 pub mod RowLaws
+pub mod Kept
+pub mod ListLaws

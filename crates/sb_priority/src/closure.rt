@@ -62,10 +62,26 @@ fn link_rows(rows: &mut [RuleSet], through: RuleSet, second: RuleId)
     requires { length rows.old ≡ rule_limit }
     ensures { (a b : ℕ) → relates rows.new a b ≡ (relates rows.old a b || (flag_at through a && ((second == b) || relates rows.old second b))) }
 {
+    let _in_range = second.number();
     for number in 0..RULE_LIMIT {
-        let row = rows[number];
-        if number == second.index() || row.contains(second) {
-            rows[number] = row.union(through);
-        }
+        rows[number] = linked(rows[number], number, through, second);
     }
+}
+
+/// The row of that number, with the rules if it has the second rule or is its own.
+fn linked(row: RuleSet, number: usize, through: RuleSet, second: RuleId) -> RuleSet
+    ensures { (a : ℕ) → flag_at result a ≡ (flag_at row a || (flag_at through a && ((second == number) || flag_at row second))) }
+{
+    if reaches(row, number, second) {
+        row.union(through)
+    } else {
+        row
+    }
+}
+
+/// Whether the row of that number is the second rule's own or has it.
+fn reaches(row: RuleSet, number: usize, second: RuleId) -> bool
+    ensures { result ≡ ((second == number) || flag_at row second) }
+{
+    number == second.index() || row.contains(second)
 }

@@ -1,5 +1,5 @@
 //! Rules in order of creation.
-ghost use Rattle.std.specs.Prelude.{◌≡◌, ℕ, ◌<◌, ◌≤◌, not, ◌==◌, if◌then◌else◌, [], ◌∷◌, ◌++◌, length, filter, slice_get, Some, false};
+ghost use Rattle.std.specs.Prelude.{◌≡◌, ℕ, ◌<◌, ◌≤◌, not, ◌==◌, if◌then◌else◌, [], ◌∷◌, ◌++◌, length, filter, slice_get, slice_index, take, Some, false};
 ghost use Rattle.std.specs.List.{list_any};
 ghost use Rattle.sb_value.specs.Flags.{flag_at};
 ghost use Rattle.sb_value.specs.Limits.{rule_limit};
@@ -44,6 +44,7 @@ impl RuleList {
     pub fn as_slice(&self) -> &[RuleId]
         ensures value { result.now ≡ self.now }
         ensures bound { length result.now ≤ rule_limit }
+        ensures different { (k : ℕ) → k < length self.now → list_any (λ r. r == slice_index self.now k) (take k self.now) ≡ false }
     {
         &self.rules[..self.count]
     }

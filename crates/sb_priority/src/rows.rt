@@ -4,7 +4,7 @@ ghost use Rattle.sb_value.specs.Flags.{flag_at};
 ghost use Rattle.sb_value.specs.Limits.{rule_limit};
 ghost use Rattle.sb_value.specs.Order.{precedes};
 ghost use Rattle.sb_priority.specs.Closed.{relates, HasPairs};
-ghost use Rattle.sb_priority.specs.Rows.{row_at, direct_of, before_of, IsRowOf};
+ghost use Rattle.sb_priority.specs.Rows.{row_at, direct_of, before_of, AreKept, IsRowOf};
 
 use crate::closure::Closure;
 use crate::pairs::Pairs;
@@ -60,14 +60,7 @@ impl Rows {
     pub fn load(&self) -> Pairs
         ensures { (a b : ℕ) → relates result a b ≡ relates self.now a b }
     {
-        let mut direct = [RuleSet::empty(); RULE_LIMIT];
-        let mut before = [RuleSet::empty(); RULE_LIMIT];
-        for number in 0..self.rows.len() {
-            let row = self.rows[number];
-            direct[number] = row.direct;
-            before[number] = row.before;
-        }
-        Pairs::of(direct, Closure::of(before))
+        spread(self.rows.as_slice())
     }
 
     /// The rules that precede the rule.
@@ -76,10 +69,7 @@ impl Rows {
     {
         // for the proof: the test of precedence is the closure of the pairs
         precedes_is_closure();
-        match self.rows.get(rule.index()) {
-            Some(row) => row.before,
-            None => RuleSet::empty(),
-        }
+        before_in(self.rows.as_slice(), rule)
     }
 
     /// Takes other pairs over. Each rule that another one precedes has its row.
@@ -95,12 +85,38 @@ impl Rows {
     }
 }
 
+/// The pairs of the rows.
+fn spread(rows: &[Row]) -> Pairs
+    requires { AreKept rows.now }
+    ensures { (a b : ℕ) → relates result a b ≡ relates (direct_of rows.now) a b }
+{
+    let mut direct = [RuleSet::empty(); RULE_LIMIT];
+    let mut before = [RuleSet::empty(); RULE_LIMIT];
+    for number in 0..rows.len() {
+        let row = rows[number];
+        direct[number] = row.direct;
+        before[number] = row.before;
+    }
+    Pairs::of(direct, Closure::of(before))
+}
+
+/// What precedes the rule by any way of pairs.
+fn before_in(rows: &[Row], rule: RuleId) -> RuleSet
+    ensures { (a : ℕ) → flag_at result a ≡ relates (before_of rows.now) a rule }
+{
+    match rows.get(rule.index()) {
+        Some(row) => row.before,
+        None => RuleSet::empty(),
+    }
+}
+
 /// Lengthens the rows by empty ones.
 fn grow(rows: &mut Vec<Row>, count: usize) -> Result<(), AllocError>
-    requires { count ≤ rule_limit }
+    requires count { count ≤ rule_limit }
+    requires few { length rows.old.items ≤ rule_limit }
     ensures room { OnOk result (count ≤ length rows.new.items) }
     ensures longer { length rows.old.items ≤ length rows.new.items }
-    ensures few { length rows.old.items ≤ rule_limit → length rows.new.items ≤ rule_limit }
+    ensures few { length rows.new.items ≤ rule_limit }
     ensures direct { (a b : ℕ) → relates (direct_of rows.new.items) a b ≡ relates (direct_of rows.old.items) a b }
     ensures before { (a b : ℕ) → relates (before_of rows.new.items) a b ≡ relates (before_of rows.old.items) a b }
     ensures unchanged { OnErr result (rows.new.items ≡ rows.old.items) }
@@ -109,7 +125,7 @@ fn grow(rows: &mut Vec<Row>, count: usize) -> Result<(), AllocError>
     if rows.reserve(more).is_err() {
         return Err(AllocError);
     }
-    for _ in 0..more {
+    while rows.len() < count {
         rows.push_reserved(Row {
             direct: RuleSet::empty(),
             before: RuleSet::empty(),
@@ -119,10 +135,10 @@ fn grow(rows: &mut Vec<Row>, count: usize) -> Result<(), AllocError>
 }
 
 /// Puts the rows of the pairs in the place of these.
-fn fill(rows: &mut [Row], pairs: &Pairs)
-    requires { length rows.old ≤ rule_limit }
-    ensures count { length rows.new ≡ length rows.old }
-    ensures rows { (b : ℕ) → b < length rows.old → IsRowOf pairs.now b (row_at rows.new b) }
+fn fill(rows: &mut Vec<Row>, pairs: &Pairs)
+    requires { length rows.old.items ≤ rule_limit }
+    ensures count { length rows.new.items ≡ length rows.old.items }
+    ensures rows { (b : ℕ) → b < length rows.old.items → IsRowOf pairs.now b (row_at rows.new.items b) }
 {
     for number in 0..rows.len() {
         rows[number] = pairs.row(RuleId::new(number as u8));

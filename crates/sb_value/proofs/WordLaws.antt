@@ -60,6 +60,7 @@ are_words-set (suc n) (w ∷ words) zero word h low = (low, h.1)
 are_words-set (suc n) (w ∷ words) (suc i) word h low = (h.0, are_words-set n words i word h.1 low)
 
 pub length-flags_in : (n : ℕ) (words : List ℕ) → AreWords n words → length (flags_in words) ≡ n * 64
+unfolding flags_in
 length-flags_in zero words h = ap (λ (ws : List ℕ). length (flags_in ws)) h
 length-flags_in (suc n) [] h = absurd h
 length-flags_in (suc n) (word ∷ words) h = omega (arith, length-append (flags_of 64 word) (flags_in words), length-flags_in n words h.1, length-flags_of 64 word)
@@ -72,6 +73,7 @@ far k h = (omega (arith, h), omega (arith, h))
 
 -- a flag stands in the word of its place
 pub flag_at-flags_in : (n : ℕ) (words : List ℕ) (k : ℕ) → AreWords n words → k < n * 64 → flag_at (flags_in words) k ≡ flag_at (flags_of 64 (slice_index_or words (k / 64) 0)) (k % 64)
+unfolding flags_in
 flag_at-flags_in zero words k h low = absurd (omega arith)
 flag_at-flags_in (suc n) [] k h low = absurd h
 flag_at-flags_in (suc n) (w ∷ words) k h low = by (nat_lt k 64) refl (λ past. flag_at-flags_in n words (k - 64) h.1 (omega (arith, low, past)))
@@ -94,6 +96,7 @@ flag_at-flags_in (suc n) (w ∷ words) k h low = by (nat_lt k 64) refl (λ past.
 -- with a flag set in the word of its place, it is set in all
 pub flags_in-set : (n : ℕ) (words : List ℕ) (k word : ℕ) (flag : Bool) → AreWords n words → k < n * 64 →
     flags_of 64 word ≡ slice_set (flags_of 64 (slice_index_or words (k / 64) 0)) (k % 64) flag → flags_in (slice_set words (k / 64) word) ≡ slice_set (flags_in words) k flag
+unfolding flags_in
 flags_in-set zero words k word flag h low is = absurd (omega arith)
 flags_in-set (suc n) [] k word flag h low is = absurd h
 flags_in-set (suc n) (w ∷ words) k word flag h low is = by (nat_lt k 64) refl (λ past. flags_in-set n words (k - 64) word flag h.1 (omega (arith, low, past)))
@@ -137,6 +140,7 @@ pub four_both : (f : ℕ → ℕ → ℕ) (xs ys : List ℕ) → AreWords 4 xs �
 four_both f xs ys h g = sym (λ i. both f (four xs h i) (four ys g i))
 
 pub flags_in-or : (n : ℕ) (xs ys : List ℕ) → AreWords n xs → AreWords n ys → flags_in (both bit_or xs ys) ≡ union (flags_in xs) (flags_in ys)
+unfolding flags_in
 flags_in-or zero xs ys h g =
     (λ i. flags_in (both bit_or (h i) (g i))) ∙ sym (λ i. union (flags_in (h i)) (flags_in (g i)))
 flags_in-or (suc n) [] ys h g = absurd h
@@ -145,6 +149,7 @@ flags_in-or (suc n) (x ∷ xs) (y ∷ ys) h g =
     (λ i. flags_of-or 64 x y i ++ flags_in-or n xs ys h.1 g.1 i) ∙ sym (union-append (flags_of 64 x) (flags_in xs) (flags_of 64 y) (flags_in ys) (as_long x y))
 
 pub flags_in-and : (n : ℕ) (xs ys : List ℕ) → AreWords n xs → AreWords n ys → flags_in (both bit_and xs ys) ≡ intersection (flags_in xs) (flags_in ys)
+unfolding flags_in
 flags_in-and zero xs ys h g =
     (λ i. flags_in (both bit_and (h i) (g i))) ∙ sym (λ i. intersection (flags_in (h i)) (flags_in (g i)))
 flags_in-and (suc n) [] ys h g = absurd h
@@ -167,6 +172,7 @@ are_words-and (suc n) (x ∷ xs) (y ∷ ys) h g = (omega (arith, and_le_l x y, h
 -- ---- no number, the first number
 
 pub has_none-word : (word : ℕ) (words : List ℕ) → word < 2 ^ 64 → has_none (flags_in (word ∷ words)) ≡ (nat_eq word 0 && has_none (flags_in words))
+unfolding flags_in
 has_none-word word words h = has_none-append (flags_of 64 word) (flags_in words) ∙ ap (λ b. b && has_none (flags_in words)) (sym (has_none-flags_of 64 word h))
 
 or_none : (x y : ℕ) → nat_eq (bit_or x y) 0 ≡ (nat_eq x 0 && nat_eq y 0)
@@ -182,6 +188,7 @@ four_none false q r s = refl
 
 -- four words have no bit where no flag is set
 pub no_bits : (a b c d : ℕ) → a < 2 ^ 64 → b < 2 ^ 64 → c < 2 ^ 64 → d < 2 ^ 64 → nat_eq (bit_or (bit_or (bit_or a b) c) d) 0 ≡ has_none (flags_in (a ∷ b ∷ c ∷ d ∷ []))
+unfolding flags_in
 no_bits a b c d ha hb hc hd =
     or_none (bit_or (bit_or a b) c) d
     ∙ ap (λ t. t && nat_eq d 0) (or_none (bit_or a b) c ∙ ap (λ t. t && nat_eq c 0) (or_none a b))
@@ -195,9 +202,11 @@ abbrev pub NoneFrom : ℕ → List Bool → Type 0
 NoneFrom n flags = (k : ℕ) → n ≤ k → flag_at flags k ≡ false
 
 at_word : (word : ℕ) (words : List ℕ) (k : ℕ) → k < 64 → flag_at (flags_in (word ∷ words)) k ≡ flag_at (flags_of 64 word) k
+unfolding flags_in
 at_word word words k h = flag_at-left (flags_of 64 word) (flags_in words) k (omega (arith, h, length-flags_of 64 word))
 
 behind_word : (word : ℕ) (words : List ℕ) (k : ℕ) → 64 ≤ k → flag_at (flags_in (word ∷ words)) k ≡ flag_at (flags_in words) (k - 64)
+unfolding flags_in
 behind_word word words k h = flag_at-behind 64 (flags_of 64 word) (flags_in words) k (length-flags_of 64 word) h
 
 pub none_from-word : (n m word : ℕ) (words : List ℕ) → m ≡ n - 64 → NoneFrom n (flags_of 64 word) → NoneFrom m (flags_in words) → NoneFrom n (flags_in (word ∷ words))
@@ -259,6 +268,7 @@ first_in_fourth words n m o p k h is then last none none2 none3 low first =
     (first_in-word p (slice_index_or words 3 0) [] k low first))))
 
 pub none_in_four : (words : List ℕ) (n m o p : ℕ) → AreWords 4 words → m ≡ n - 64 → o ≡ m - 64 → p ≡ o - 64 → NoneFrom n (word_flags words 0) → NoneFrom m (word_flags words 1) → NoneFrom o (word_flags words 2) → NoneFrom p (word_flags words 3) → NoneFrom n (flags_in words)
+unfolding flags_in
 none_in_four words n m o p h is then last none none2 none3 none4 =
     subst (λ (ws : List ℕ). NoneFrom n (flags_in ws)) (sym (four words h))
     (none_from-word n m (slice_index_or words 0 0) (slice_index_or words 1 0 ∷ slice_index_or words 2 0 ∷ slice_index_or words 3 0 ∷ []) is none

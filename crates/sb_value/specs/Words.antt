@@ -2,12 +2,12 @@
 use Rattle.std.specs.Prelude.{◌≡◌, ◌<◌, ◌^◌, ℕ, zero, suc, Bool, List, [], ◌∷◌, ◌++◌, take, drop}
 use Rattle.sb_value.specs.Flags.{flags_of, word_of}
 
-abbrev pub flags_in : List ℕ → List Bool
+unfoldable pub flags_in : List ℕ → List Bool
 flags_in [] = []
 flags_in (word ∷ words) = flags_of 64 word ++ flags_in words
 
 -- the n words with these flags
-abbrev pub words_of : ℕ → List Bool → List ℕ
+unfoldable pub words_of : ℕ → List Bool → List ℕ
 words_of zero flags = []
 words_of (suc n) flags = word_of (take 64 flags) ∷ words_of n (drop 64 flags)
 

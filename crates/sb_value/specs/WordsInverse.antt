@@ -26,6 +26,7 @@ drop_first (suc n) [] ys h = absurd (omega arith)
 drop_first (suc n) (x ∷ xs) ys h = drop_first n xs ys (omega arith)
 
 pub words_of-flags_in : (n : ℕ) (words : List ℕ) → AreWords n words → words_of n (flags_in words) ≡ words
+unfolding flags_in words_of
 words_of-flags_in zero words h = sym h
 words_of-flags_in (suc n) [] h = absurd h
 words_of-flags_in (suc n) (word ∷ words) h =

@@ -1,4 +1,4 @@
-use Rattle.std.proofs.Common.{◌≡◌, not, ◌==◌, take, length, ap, arith, ℕ, List, refl}
+use Rattle.std.proofs.Common.{◌≡◌, ◌<◌, not, ◌==◌, take, length, ap, arith, ℕ, List, refl}
 use Rattle.std.specs.List.{filter}
 use Rattle.std.proofs.lemmas.List.{length-take-le}
 use Rattle.std.proofs.lemmas.List.Filters.{length-filter_both}
@@ -11,4 +11,8 @@ push_if-requires c =
     let seen : List ℕ = take c.loop-rule.rule-index c.args.self.now in
     let all : length seen ≡ c.loop-rule.rule-index = length-take-le c.loop-rule.rule-index c.args.self.now (omega arith) in
     let e : length c.loop-rule.kept ≡ length (filter (λ r. not (r == c.args.dropped)) seen) = ap (λ (l : List ℕ). length l) c.loop-rule.invariant in
-    omega (arith, e, all, length-filter_both (λ r. not (r == c.args.dropped)) (λ r. not (not (r == c.args.dropped))) (λ _. refl) seen)
+    let room : length c.loop-rule.kept < 256 = omega (arith, e, all, length-filter_both (λ r. not (r == c.args.dropped)) (λ r. not (not (r == c.args.dropped))) (λ _. refl) seen) in
+    record {
+      room = room;
+      new = ?;
+    }
