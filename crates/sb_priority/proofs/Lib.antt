@@ -5,3 +5,4 @@ pub mod Choice
 pub mod RowLaws
 pub mod Kept
 pub mod ListLaws
+pub mod Earliest

@@ -1,9 +1,11 @@
 -- Rules in the first places of an array, with the place of each.
-use Rattle.std.proofs.Common.{◌≡◌, ◌≢◌, ◌∙◌, ℕ, zero, suc, ◌+◌, ◌<◌, ◌≤◌, Bool, true, false, not, ◌||◌, ◌==◌, List, [], ◌∷◌, ◌++◌, length, take, filter, get_or, slice_set, nat_eq, refl, sym, ap, arith, eqb-true, eq-eqb, cond}
+use Rattle.std.proofs.Common.{◌≡◌, ◌≢◌, ◌∙◌, ℕ, zero, suc, ◌+◌, ◌<◌, ◌≤◌, Bool, true, false, not, ◌||◌, ◌==◌, List, [], ◌∷◌, ◌++◌, length, take, filter, get_or, slice_set, nat_eq, refl, sym, ap, arith, eqb-true, eq-eqb, cond, inl, inr}
 use Rattle.std.proofs.lemmas.Bool.{false≢true, or_cases, eqb-false}
 use Rattle.std.proofs.lemmas.List.{get_or-set_same, get_or-set_other, get_or-take, length-take-le}
 use Rattle.std.specs.List.{list_any}
-use Rattle.sb_priority.proofs.Tests.{not_true}
+use Rattle.std.proofs.lemmas.List.Folds.{list_any-append}
+use Rattle.std.proofs.Math.Bool.{or-false}
+use Rattle.sb_priority.proofs.Tests.{not_true, same_turned}
 
 abbrev pub has : List ℕ → ℕ → Bool
 has rules k = list_any (λ r. r == k) rules
@@ -75,3 +77,7 @@ any_kept keep (y ∷ xs) x h = by (keep y) (y == x) refl (any_kept keep xs x)
 -- what isn't in a list isn't in what is kept of it
 pub not_kept : (keep : ℕ → Bool) (xs kept : List ℕ) (x y : ℕ) → kept ≡ filter keep xs → x ≡ y → has xs x ≡ false → has kept y ≡ false
 not_kept keep xs kept x y is same none = (λ i. has (is i) (sym same i)) ∙ any_kept keep xs x none
+
+-- a list with one rule more has that rule, too
+pub has_last : (xs : List ℕ) (x k : ℕ) → (has xs k || (k == x)) ≡ has (xs ++ x ∷ []) k
+has_last xs x k = sym (list_any-append (λ r. r == k) xs (x ∷ []) ∙ ap (λ b. has xs k || b) (or-false (x == k) ∙ same_turned x k))

@@ -10,7 +10,7 @@ use Rattle.sb_value.specs.Flags.{flag_at}
 use Rattle.sb_priority.specs.Closed.{relates, has_pair, HasPairs}
 use Rattle.sb_priority.specs.Ranks.{is_between}
 use Rattle.sb_priority.proofs.Paths.{has_pair-append}
-use Rattle.sb_priority.proofs.Tests.{same_test, not_true}
+use Rattle.sb_priority.proofs.Tests.{same_test, same_turned, not_true}
 use Rattle.sb_priority.proofs.Flags.{none_related}
 
 -- ---- pairs for each rule of a list
@@ -119,9 +119,6 @@ found_here f xs i x h is in_ =
     read = get_or_read xs i x h is 0
 
 -- ---- a row without some rules
-
-same_turned : (a b : ℕ) → (a == b) ≡ (b == a)
-same_turned a b = same_test (a == b) (b == a) (λ e. eq-eqb b a (sym (eqb-true a b e))) (λ e. eq-eqb a b (sym (eqb-true b a e)))
 
 -- one rule more of the list is out of the row
 pub less_more : (f g h : ℕ → Bool) (xs : List ℕ) (i x : ℕ) → i < length xs → x ≡ get_or xs i x → ((a : ℕ) → g a ≡ (f a && not (list_any (λ o. o == a) (take i xs)))) → ((a : ℕ) → h a ≡ (g a && not (a == x)))

@@ -1,5 +1,5 @@
 //! The order of the rules of one tenant.
-ghost use Rattle.std.specs.Prelude.{◌≡◌, ℕ, ◌<◌, not, ◌&&◌, ◌==◌, nat_lt, true, false, List, [], ◌∷◌, ◌++◌, filter, length, OnOk, OnErr};
+ghost use Rattle.std.specs.Prelude.{◌≡◌, ℕ, ◌<◌, not, ◌&&◌, ◌==◌, nat_lt, true, false, Some, slice_get, if◌then◌else◌, MatchOption, List, [], ◌∷◌, ◌++◌, filter, length, OnOk, OnErr};
 ghost use Rattle.sb_value.specs.Flags.{flag_at};
 ghost use Rattle.sb_value.specs.Limits.{rule_limit};
 ghost use Rattle.sb_value.specs.Order.{precedes, chosen};
@@ -158,7 +158,9 @@ impl Priorities {
     }
 
     /// Of the two rules the one that was created earlier.
-    fn earlier(&self, first: Option<RuleId>, rule: RuleId) -> RuleId {
+    fn earlier(&self, first: Option<RuleId>, rule: RuleId) -> RuleId
+        ensures { (k : ℕ) → slice_get self.now.rules k ≡ Some rule → MatchOption first (result ≡ rule) (λ other. (j : ℕ) → slice_get self.now.rules j ≡ Some other → result ≡ (if nat_lt j k then other else rule)) }
+    {
         match first {
             Some(other) => {
                 if self.rules.place(other) < self.rules.place(rule) {

@@ -245,6 +245,9 @@ in_four : (words : List ℕ) (n k at : ℕ) → AreWords 4 words → k ≡ at �
 in_four words n k at h is first =
     subst (λ (ws : List ℕ). IsFirstFrom n (flags_in ws) k) (sym (four words h)) (subst (λ (m : ℕ). IsFirstFrom n (flags_in (slice_index_or words 0 0 ∷ slice_index_or words 1 0 ∷ slice_index_or words 2 0 ∷ slice_index_or words 3 0 ∷ [])) m) (sym is) first)
 
+pub first_in_first : (words : List ℕ) (n k : ℕ) → AreWords 4 words → k < 64 → IsFirstFrom n (word_flags words 0) k → IsFirstFrom n (flags_in words) k
+first_in_first words n k h low first = in_four words n k k h refl (first_in-word n (slice_index_or words 0 0) (slice_index_or words 1 0 ∷ slice_index_or words 2 0 ∷ slice_index_or words 3 0 ∷ []) k low first)
+
 pub first_in_second : (words : List ℕ) (n m k : ℕ) → AreWords 4 words → m ≡ n - 64 → NoneFrom n (word_flags words 0) → k < 64 → IsFirstFrom m (word_flags words 1) k → IsFirstFrom n (flags_in words) (64 + k)
 first_in_second words n m k h is none low first =
     in_four words n (64 + k) (64 + k) h refl

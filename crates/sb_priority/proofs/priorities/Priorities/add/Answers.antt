@@ -6,7 +6,7 @@ use Rattle.sb_priority.proofs.priorities.Priorities.add.Goals as goal
 
 pub returns-clause-linked : goal.returns-clause-linked
 returns-clause-linked c pairs h =
-    let inside : HasOrder (record { rules = c.self.inside.rules; before = c.self.inside.pairs }) pairs = subst (λ (r : Ranks). HasOrder r pairs) (sym c.self.view_is) h in
+    let inside : HasOrder (record { rules = c.self.inside.rules; before = c.self.inside.rows }) pairs = subst (λ (r : Ranks). HasOrder r pairs) (sym c.self.view_is) h in
     let linked = c.add_rule.ensures pairs (λ a b. (λ i. relates (c.copied-pairs.ensures i) a b) ∙ inside.pairs_are a b) in
     record {
       pairs_are = linked;

@@ -1,10 +1,15 @@
 use Rattle.std.proofs.Common.{◌≡◌, ◌∙◌, ℕ, List, Bool, sym, subst}
 use Rattle.sb_value.specs.Flags.{IsFirstFrom}
-use Rattle.sb_value.proofs.WordLaws.{NoneFrom, first_in_second, first_in_third, first_in_fourth, none_in_four}
+use Rattle.sb_value.proofs.WordLaws.{NoneFrom, first_in_first, first_in_second, first_in_third, first_in_fourth, none_in_four}
 use Rattle.sb_value.proofs.rule_set.RuleSet.first_from.Goals as goal
 
 in_set : (flags set : List Bool) (n k at : ℕ) → flags ≡ set → k ≡ at → IsFirstFrom n flags at → IsFirstFrom n set k
 in_set flags set n k at view is first = subst (λ (s : List Bool). IsFirstFrom n s k) view (subst (λ (m : ℕ). IsFirstFrom n flags m) (sym is) first)
+
+pub returns-in-Some : goal.returns-in-Some
+returns-in-Some c =
+    in_set _ c.args.self c.args.number c.new.result _ c.self.view_is c.new.ensures
+    (first_in_first c.self.inside.words c.args.number c.in-Some.place c.self.invariant c.in-Some.ensures.0 c.in-Some.ensures.1)
 
 pub returns-in-Some-first_in : goal.returns-in-Some-first_in
 returns-in-Some-first_in c =
