@@ -16,13 +16,13 @@ none_found test (x ∷ rules) none = ap (λ b. cond b (Some x) (find test rules)
 
 -- the first that passes
 first_found : (test : ℕ → Bool) (rules : List ℕ) (at f : ℕ) → slice_get rules at ≡ Some f → test f ≡ true → ((k r : ℕ) → slice_get rules k ≡ Some r → k < at → test r ≡ false) → find test rules ≡ Some f
-first_found test [] at f is yes before = absurd (cc)
-first_found test (x ∷ rules) zero f is yes before = ap (λ b. cond b (Some x) (find test rules)) (ap test (some_same x f is) ∙ yes) ∙ is
+first_found test [] at f is fits before = absurd (cc)
+first_found test (x ∷ rules) zero f is fits before = ap (λ b. cond b (Some x) (find test rules)) (ap test (some_same x f is) ∙ fits) ∙ is
   where
     some_same : (a b : ℕ) → Some a ≡ Some b → a ≡ b
     some_same a b e = cc
-first_found test (x ∷ rules) (suc at) f is yes before =
-    ap (λ b. cond b (Some x) (find test rules)) (before zero x refl (omega arith)) ∙ first_found test rules at f is yes (λ k r e low. before (suc k) r e (omega (arith, low)))
+first_found test (x ∷ rules) (suc at) f is fits before =
+    ap (λ b. cond b (Some x) (find test rules)) (before zero x refl (omega arith)) ∙ first_found test rules at f is fits (λ k r e low. before (suc k) r e (omega (arith, low)))
 
 -- with all numbers seen the earliest is the first of the list
 pub is_first : (test : ℕ → Bool) (rules : List ℕ) (n : ℕ) (o : Option ℕ) → ((k r : ℕ) → slice_get rules k ≡ Some r → n ≤ r → test r ≡ false) → IsEarliest test rules n o → o ≡ find test rules
@@ -39,11 +39,11 @@ is_first test rules n (Some f) past first = sym (first_found test rules first.1.
 
 -- no rule between the two numbers passes, nor the one at the second
 pub none_more : (test : ℕ → Bool) (rules : List ℕ) (n m : ℕ) (o : Option ℕ) → ((k r : ℕ) → slice_get rules k ≡ Some r → n ≤ r → r < m → test r ≡ false) → IsEarliest test rules n o → IsEarliest test rules m o
-none_more test rules n m None between none k r is low = by (nat_lt r n) refl
+none_more test rules n m None between none = λ k r is low. by k r is low (nat_lt r n) refl
   where
-    by : (b : Bool) → nat_lt r n ≡ b → test r ≡ false
-    by true e = none k r is (ltb-true r n e)
-    by false e = between k r is (ltb-false r n e) low
+    by : (k r : ℕ) → slice_get rules k ≡ Some r → r < m → (b : Bool) → nat_lt r n ≡ b → test r ≡ false
+    by k r is low true e = none k r is (ltb-true r n e)
+    by k r is low false e = between k r is (ltb-false r n e) low
 none_more test rules n m (Some f) between first = (first.0, first.1.0, first.1.1, λ k r is low before. by k r is low before (nat_lt r n) refl)
   where
     by : (k r : ℕ) → slice_get rules k ≡ Some r → r < m → k < first.1.0 → (b : Bool) → nat_lt r n ≡ b → test r ≡ false

@@ -1,7 +1,7 @@
 -- Rules in the first places of an array, with the place of each.
 use Rattle.std.proofs.Common.{◌≡◌, ◌≢◌, ◌∙◌, ℕ, zero, suc, ◌+◌, ◌<◌, ◌≤◌, Bool, true, false, not, ◌||◌, ◌==◌, List, [], ◌∷◌, ◌++◌, length, take, filter, get_or, slice_set, nat_eq, refl, sym, ap, arith, eqb-true, eq-eqb, cond, inl, inr}
 use Rattle.std.proofs.lemmas.Bool.{false≢true, or_cases, eqb-false}
-use Rattle.std.proofs.lemmas.List.{get_or-set_same, get_or-set_other, get_or-take, length-take-le}
+use Rattle.std.proofs.lemmas.List.{get_or-set_same, get_or-set_other, get_or-take, length-take, length-take-le}
 use Rattle.std.specs.List.{list_any}
 use Rattle.std.proofs.lemmas.List.Folds.{list_any-append}
 use Rattle.std.proofs.Math.Bool.{or-false}
@@ -53,16 +53,15 @@ listed_at (r ∷ rules) x h =
     ]
 
 -- rules with different places are different
-pub different : (rules places : List ℕ) (count k : ℕ) → count ≤ length rules → ((j : ℕ) → j < count → get_or places (get_or rules j 0) 0 ≡ j) → k < count → has (take k (take count rules)) (get_or (take count rules) k 0) ≡ false
-different rules places count k few placed h =
+pub different : (rules places : List ℕ) (count k : ℕ) → ((j : ℕ) → j < count → get_or places (get_or rules j 0) 0 ≡ j) → k < length (take count rules) → has (take k (take count rules)) (get_or (take count rules) k 0) ≡ false
+different rules places count k placed h =
     not_true (has (take k (take count rules)) (get_or (take count rules) k 0)) (λ e.
     let w = listed_at (take k (take count rules)) (get_or (take count rules) k 0) e in
-    let all : length (take count rules) ≡ count = length-take-le count rules few in
-    let some : length (take k (take count rules)) ≡ k = length-take-le k (take count rules) (omega (arith, all, h)) in
-    let below : w.0 < k = omega (arith, w.1, some) in
+    let low : k < count = omega (arith, h, length-take count rules) in
+    let below : w.0 < k = omega (arith, w.1, length-take k (take count rules)) in
     let read : get_or rules w.0 0 ≡ get_or rules k 0 =
-    sym (get_or-take count rules w.0 0 (omega (arith, below, h))) ∙ sym (get_or-take k (take count rules) w.0 0 below) ∙ w.2 ∙ get_or-take count rules k 0 h in
-    let one : w.0 ≡ k = sym (placed w.0 (omega (arith, below, h))) ∙ ap (λ r. get_or places r 0) read ∙ placed k h in
+    sym (get_or-take count rules w.0 0 (omega (arith, below, low))) ∙ sym (get_or-take k (take count rules) w.0 0 below) ∙ w.2 ∙ get_or-take count rules k 0 low in
+    let one : w.0 ≡ k = sym (placed w.0 (omega (arith, below, low))) ∙ ap (λ r. get_or places r 0) read ∙ placed k low in
     absurd (omega (arith, one, below)))
 
 any_kept : (keep : ℕ → Bool) (xs : List ℕ) (x : ℕ) → has xs x ≡ false → has (filter keep xs) x ≡ false

@@ -15,17 +15,17 @@ pub returns-then-contains-clause-cycle : goal.returns-then-contains-clause-cycle
 returns-then-contains-clause-cycle c pairs h =
     let kept = pairs_apart c.args.rule c.args.apart.now pairs in
     let all = kept ++ pairs_of c.args.rule c.args.ahead_of.now c.args.behind.now in
-    let before = parted _ c.args.self.now c.args.rule c.args.apart.now c.apart-altered.result pairs c.self.view_is c.apart-altered.ensures h in
+    let before = parted _ c.args.self.now c.args.rule c.args.apart.now c.apart-altered.result pairs c.self.view_is (λ a b. c.apart-altered.ensures a b ∙ ap (λ t. t && not (is_between c.args.rule c.args.apart.now a b)) (c.load.ensures a b)) h in
     sym (c.predecessors.ensures all (c.add_rule.ensures kept before) c.args.rule) ∙ sym c.contains.ensures ∙ c.if-contains.true
 
 pub returns-clause-altered : goal.returns-clause-altered
 returns-clause-altered c pairs h =
     let kept = pairs_apart c.args.rule c.args.apart.now pairs in
     let all = kept ++ pairs_of c.args.rule c.args.ahead_of.now c.args.behind.now in
-    let before = parted _ c.args.self.now c.args.rule c.args.apart.now c.apart-altered.result pairs c.self.view_is c.apart-altered.ensures h in
+    let before = parted _ c.args.self.now c.args.rule c.args.apart.now c.apart-altered.result pairs c.self.view_is (λ a b. c.apart-altered.ensures a b ∙ ap (λ t. t && not (is_between c.args.rule c.args.apart.now a b)) (c.load.ensures a b)) h in
     let linked = c.add_rule.ensures kept before in
     record {
-      pairs_are = linked;
+      pairs_are = λ a b. c.store.ensures.pairs a b ∙ linked a b;
       acyclic = added_acyclic c.precedes_is_closure.ensures c.args.rule kept c.args.ahead_of.now c.args.behind.now (apart_acyclic c.precedes_is_closure.ensures c.args.rule c.args.apart.now pairs h.acyclic)
           (sym (c.predecessors.ensures all linked c.args.rule) ∙ sym c.contains.ensures ∙ c.if-contains.false);
     }

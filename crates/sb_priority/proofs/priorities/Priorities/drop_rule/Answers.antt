@@ -7,6 +7,6 @@ pub returns-clause-pairs : goal.returns-clause-pairs
 returns-clause-pairs c pairs h =
     let inside : HasOrder (record { rules = c.self.inside.rules; before = c.self.inside.rows }) pairs = subst (λ (r : Ranks). HasOrder r pairs) (sym c.self.view_is) h in
     record {
-      pairs_are = λ a b. c.without-self-inside-2.ensures a b ∙ ap (λ t. t && (not (a == c.args.rule) && not (b == c.args.rule))) (inside.pairs_are a b) ∙ sym (has_pair-without c.args.rule pairs a b);
+      pairs_are = λ a b. c.store.ensures.pairs a b ∙ c.without-pairs.ensures a b ∙ ap (λ t. t && (not (a == c.args.rule) && not (b == c.args.rule))) (c.load.ensures a b ∙ inside.pairs_are a b) ∙ sym (has_pair-without c.args.rule pairs a b);
       acyclic = dropped_acyclic c.precedes_is_closure.ensures c.args.rule pairs h.acyclic;
     }
