@@ -27,3 +27,33 @@ no_ruleset (s ∷ sets) name e = by (same_name s.name name) e (no_ruleset sets n
     by : (b : Bool) → option_map (λ (x : Ruleset). x.rules) (cond b (Some s) (find (λ x. same_name x.name name) sets)) ≡ None → (members_of sets name ≡ None → has_name sets name ≡ false) → (b || has_name sets name) ≡ false
     by true f rest = absurd (none-some s.rules (sym f))
     by false f rest = rest f
+
+-- a number that no rule has isn't listed
+pub unlisted : (rules : List Rule) (id : ℕ) → numbered rules id ≡ None → has (map (λ (r : Rule). r.id) rules) id ≡ false
+unlisted rules id none = sym (some_numbered rules id) ∙ ap is_some none
+
+-- a rule that is named is listed
+pub named_listed : (rules : List Rule) (name : Name) (id : ℕ) → rule_named rules name ≡ Ok id → has (map (λ (r : Rule). r.id) rules) id ≡ true
+named_listed rules name id e = by (named rules name) refl e
+  where
+    by : (found : Option Rule) → named rules name ≡ found → some_or NoRule (option_map (λ (r : Rule). r.id) found) ≡ Ok id → has (map (λ (r : Rule). r.id) rules) id ≡ true
+    by None is h = absurd (cc)
+    by (Some r) is h = any_mapped rules ∙ ap (λ (k : ℕ). list_any (λ (q : Rule). nat_eq q.id k) rules) (sym (same_ok r.id id h)) ∙ named_there name rules r is
+      where
+        same_ok : (a b : ℕ) → some_or NoRule (Some a) ≡ Ok b → a ≡ b
+        same_ok a b e = cc
+
+        any_mapped : (rs : List Rule) → has (map (λ (q : Rule). q.id) rs) id ≡ list_any (λ (q : Rule). nat_eq q.id id) rs
+        any_mapped [] = refl
+        any_mapped (q ∷ rs) = ap (λ b. nat_eq q.id id || b) (any_mapped rs)
+
+-- so are all of a list
+pub all_there : (rules : List Rule) (names : List Name) (ids : List ℕ) → rules_named rules names ≡ Ok ids → AreThere rules ids
+all_there rules [] ids e id h = absurd (false≢true (ap (λ (l : List ℕ). has l id) (same_ids [] ids e) ∙ h))
+all_there rules (name ∷ names) ids e id h = by (rule_named rules name) refl (rules_named rules names) refl e
+  where
+    by : (first : Result ℕ Refusal) → rule_named rules name ≡ first → (rest : Result (List ℕ) Refusal) → rules_named rules names ≡ rest → and_then first (λ y. and_then rest (λ ys. Ok (y ∷ ys))) ≡ Ok ids →
+        has (map (λ (r : Rule). r.id) rules) id ≡ true
+    by (Err x) f rest g all = absurd (cc)
+    by (Ok y) f (Err x) g all = absurd (cc)
+    by (Ok y) f (Ok ys) g all = ?

@@ -6,3 +6,4 @@ pub mod RowLaws
 pub mod Kept
 pub mod ListLaws
 pub mod Earliest
+pub mod RowClosure

@@ -1,6 +1,6 @@
 -- Rules in the first places of an array, with the place of each.
-use Rattle.std.proofs.Common.{◌≡◌, ◌≢◌, ◌∙◌, ℕ, zero, suc, ◌+◌, ◌<◌, ◌≤◌, Bool, true, false, not, ◌||◌, ◌==◌, List, [], ◌∷◌, ◌++◌, length, take, filter, get_or, slice_set, nat_eq, refl, sym, ap, arith, eqb-true, eq-eqb, cond, inl, inr}
-use Rattle.std.proofs.lemmas.Bool.{false≢true, or_cases, eqb-false}
+use Rattle.std.proofs.Common.{◌≡◌, ◌≢◌, ◌∙◌, ℕ, zero, suc, ◌+◌, ◌<◌, Bool, true, false, ◌||◌, ◌==◌, List, [], ◌∷◌, ◌++◌, length, take, filter, get_or, slice_set, refl, sym, ap, arith, eqb-true, eq-eqb, cond, inl, inr, Some, slice_get, nat_lt}
+use Rattle.std.proofs.lemmas.Bool.{false≢true, or_cases, or_left, or_right, eqb-false, ltb-true, ltb-false}
 use Rattle.std.proofs.lemmas.List.{get_or-set_same, get_or-set_other, get_or-take, length-take, length-take-le}
 use Rattle.std.specs.List.{list_any}
 use Rattle.std.proofs.lemmas.List.Folds.{list_any-append}
@@ -80,3 +80,59 @@ not_kept keep xs kept x y is same none = (λ i. has (is i) (sym same i)) ∙ any
 -- a list with one rule more has that rule, too
 pub has_last : (xs : List ℕ) (x k : ℕ) → (has xs k || (k == x)) ≡ has (xs ++ x ∷ []) k
 has_last xs x k = sym (list_any-append (λ r. r == k) xs (x ∷ []) ∙ ap (λ b. has xs k || b) (or-false (x == k) ∙ same_turned x k))
+
+-- what stands in a list is in it, and stands at some place
+pub has_at : (rules : List ℕ) (k r : ℕ) → slice_get rules k ≡ Some r → has rules r ≡ true
+has_at [] k r is = absurd (cc)
+has_at (x ∷ rules) zero r is = or_left (x == r) (has rules r) (eq-eqb x r (some_same x r is))
+  where
+    some_same : (a b : ℕ) → Some a ≡ Some b → a ≡ b
+    some_same a b e = cc
+has_at (x ∷ rules) (suc k) r is = or_right (x == r) (has rules r) (has_at rules k r is)
+
+pub stands : (rules : List ℕ) (x : ℕ) → has rules x ≡ true → (k : ℕ) × (slice_get rules k ≡ Some x)
+stands [] x h = absurd (false≢true h)
+stands (r ∷ rules) x h =
+    elim (or_cases (r == x) (has rules x) h) [
+      | inl here ↦ (0, ap (λ y. Some y) (eqb-true r x here))
+      | inr there ↦ let w = stands rules x there in (suc w.0, w.1)
+    ]
+
+taken_at : (rules : List ℕ) (n k r : ℕ) → slice_get rules k ≡ Some r → k < n → has (take n rules) r ≡ true
+taken_at [] n k r is low = absurd (cc)
+taken_at (x ∷ rules) zero k r is low = absurd (omega arith)
+taken_at (x ∷ rules) (suc n) zero r is low = or_left (x == r) (has (take n rules) r) (eq-eqb x r (some_same x r is))
+  where
+    some_same : (a b : ℕ) → Some a ≡ Some b → a ≡ b
+    some_same a b e = cc
+taken_at (x ∷ rules) (suc n) (suc k) r is low = or_right (x == r) (has (take n rules) r) (taken_at rules n k r is (omega arith))
+
+read_at : (rules : List ℕ) (k r : ℕ) → slice_get rules k ≡ Some r → (k < length rules) × (get_or rules k 0 ≡ r)
+read_at [] k r is = absurd (cc)
+read_at (x ∷ rules) zero r is = (omega arith, some_same x r is)
+  where
+    some_same : (a b : ℕ) → Some a ≡ Some b → a ≡ b
+    some_same a b e = cc
+read_at (x ∷ rules) (suc k) r is = let w = read_at rules k r is in (omega (arith, w.0), w.1)
+
+-- different rules have one place each
+pub one_place : (rules : List ℕ) → ((k : ℕ) → k < length rules → has (take k rules) (get_or rules k 0) ≡ false) → (j k r : ℕ) → slice_get rules j ≡ Some r → slice_get rules k ≡ Some r → j ≡ k
+one_place rules differ j k r at_j at_k = by (nat_lt j k) (nat_lt k j) refl refl
+  where
+    never : (m n : ℕ) → slice_get rules m ≡ Some r → slice_get rules n ≡ Some r → m < n → ⊥
+    never m n at_m at_n low =
+        let read = read_at rules n r at_n in
+        false≢true (sym (differ n read.0) ∙ ap (has (take n rules)) read.1 ∙ taken_at rules n m r at_m low)
+
+    by : (less more : Bool) → nat_lt j k ≡ less → nat_lt k j ≡ more → j ≡ k
+    by true more e f = absurd (never j k at_j at_k (ltb-true j k e))
+    by false true e f = absurd (never k j at_k at_j (ltb-true k j f))
+    by false false e f = omega (arith, ltb-false j k e, ltb-false k j f)
+
+-- what is in a list's kept part is in the list
+pub kept_has : (keep : ℕ → Bool) (xs : List ℕ) (x : ℕ) → has (filter keep xs) x ≡ true → has xs x ≡ true
+kept_has keep xs x h = by (has xs x) refl
+  where
+    by : (is : Bool) → has xs x ≡ is → has xs x ≡ true
+    by true e = e
+    by false e = absurd (false≢true (sym (any_kept keep xs x e) ∙ h))

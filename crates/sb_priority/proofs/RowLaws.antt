@@ -1,5 +1,5 @@
 -- Steps of the loops over lists of rules and over rows.
-use Rattle.std.proofs.Common.{◌≡◌, ℕ, zero, suc, ◌+◌, ◌<◌, ◌≤◌, Bool, true, false, not, cond, ◌&&◌, ◌||◌, ◌==◌, nat_lt, List, [], ◌∷◌, ◌++◌, map, take, drop, length, get_or, find, Some, None, refl, sym, ap, ◌∙◌, arith, add-one, eqb-true, eq-eqb, ne_eqb, drop-cons, slice_set, replicate, ◌≢◌}
+use Rattle.std.proofs.Common.{◌≡◌, ℕ, zero, suc, ◌+◌, ◌<◌, ◌≤◌, Bool, true, false, not, ◌&&◌, ◌||◌, ◌==◌, nat_lt, List, [], ◌∷◌, ◌++◌, map, take, length, get_or, refl, sym, ap, ◌∙◌, arith, eqb-true, ne_eqb, slice_set, replicate, ◌≢◌}
 use Rattle.std.proofs.lemmas.Bool.{ltb-true, ltb-false, lt-ltb, eqb-false, false≢true}
 use Rattle.std.proofs.Math.ListN.{get_or-eq_default}
 use Rattle.std.proofs.lemmas.List.{get_or_read, get_or-set_same, get_or-set_other}
@@ -47,7 +47,7 @@ or_beyond b i true same e f h = refl
 or_beyond b i false true e f h = refl
 or_beyond b i false false e f h = absurd (eqb-false i b f (omega (arith, ltb-false b i e)))
 
-below_next : (b i : ℕ) → nat_lt b (i + 1) ≡ (nat_lt b i || (i == b))
+pub below_next : (b i : ℕ) → nat_lt b (i + 1) ≡ (nat_lt b i || (i == b))
 below_next b i =
     same_test (nat_lt b (i + 1)) (nat_lt b i || (i == b))
     (λ e. or_beyond b i (nat_lt b i) (i == b) refl refl (ltb-true b (i + 1) e))
@@ -90,33 +90,6 @@ all_rows_by rows n a b rest false h e =
 -- past the last row no rules are related
 pub all_rows : (rows : List (List Bool)) (n a b : ℕ) (rest : Bool) → length rows ≤ n → (nat_lt b n && (relates rows a b && rest)) ≡ (relates rows a b && rest)
 all_rows rows n a b rest h = all_rows_by rows n a b rest (nat_lt b n) h refl
-
--- ---- the first rule of a list
-
-pub ended : (f : ℕ → Bool) (xs : List ℕ) (i : ℕ) → length xs ≤ i → None ≡ find f (drop i xs)
-ended f [] zero h = refl
-ended f [] (suc i) h = refl
-ended f (x ∷ xs) zero h = absurd (omega arith)
-ended f (x ∷ xs) (suc i) h = ended f xs i (omega arith)
-
-pub passed : (f : ℕ → Bool) (xs : List ℕ) (i x : ℕ) → i < length xs → x ≡ get_or xs i x → f x ≡ false → find f (drop (i + 1) xs) ≡ find f (drop i xs)
-passed f xs i x h is out =
-    (λ j. find f (drop (add-one i j) xs))
-    ∙ sym (ap (λ b. cond b (Some x) (find f (drop (suc i) xs))) out)
-    ∙ (λ j. cond (f (read j)) (Some (read j)) (find f (drop (suc i) xs)))
-    ∙ sym (ap (λ (l : List ℕ). find f l) (drop-cons xs i 0 h))
-  where
-    read : x ≡ get_or xs i 0
-    read = get_or_read xs i x h is 0
-
-pub found_here : (f : ℕ → Bool) (xs : List ℕ) (i x : ℕ) → i < length xs → x ≡ get_or xs i x → f x ≡ true → Some x ≡ find f (drop i xs)
-found_here f xs i x h is in_ =
-    sym (ap (λ b. cond b (Some x) (find f (drop (suc i) xs))) in_)
-    ∙ (λ j. cond (f (read j)) (Some (read j)) (find f (drop (suc i) xs)))
-    ∙ sym (ap (λ (l : List ℕ). find f l) (drop-cons xs i 0 h))
-  where
-    read : x ≡ get_or xs i 0
-    read = get_or_read xs i x h is 0
 
 -- ---- a row without some rules
 
@@ -194,27 +167,6 @@ all_linked old new through n s long low linked kept a b = by (nat_lt b n) refl
         ∙ sym (or-false (relates old a b))
         ∙ (λ j. relates old a b || (sym (and-false (flag_at through a)) j))
         ∙ (λ j. relates old a b || (flag_at through a && (sym other j || sym none j)))
-
-or_self : (x : Bool) → (x || x) ≡ x
-or_self true = refl
-or_self false = refl
-
--- one rule more of a row is linked
-pub bit_next : (old now next : ℕ → ℕ → Bool) (row : ℕ → Bool) (i s f : ℕ) (wanted : Bool) → f ≡ i → wanted ≡ row f →
-    ((a b : ℕ) → now a b ≡ (old a b || (nat_lt a i && (row a && (s == b))))) → ((a b : ℕ) → next a b ≡ (now a b || (wanted && ((f == a) && (s == b))))) →
-    (a b : ℕ) → next a b ≡ (old a b || (nat_lt a (i + 1) && (row a && (s == b))))
-bit_next old now next row i s f wanted is want before step a b =
-    step a b
-    ∙ (λ j. before a b j || ((want ∙ ap row is) j && ((is j == a) && (s == b))))
-    ∙ bits (old a b) (nat_lt a i) (row a) (i == a) (s == b) (row i) (λ e. ap row (eqb-true i a e))
-    ∙ (λ j. old a b || (sym (below_next a i) j && (row a && (s == b))))
-  where
-    bits : (o lt fa e t fi : Bool) → (e ≡ true → fi ≡ fa) → ((o || (lt && (fa && t))) || (fi && (e && t))) ≡ (o || ((lt || e) && (fa && t)))
-    bits true lt fa e t fi h = refl
-    bits false true fa true t fi h = (λ j. (fa && t) || (h refl j && t)) ∙ or_self (fa && t)
-    bits false true fa false t fi h = ap (λ b. (fa && t) || b) (and-false fi) ∙ or-false (fa && t)
-    bits false false fa true t fi h = λ j. h refl j && t
-    bits false false fa false t fi h = and-false fi
 
 flag_at-past : (flags : List Bool) (k : ℕ) → length flags ≤ k → flag_at flags k ≡ false
 flag_at-past [] k h = refl

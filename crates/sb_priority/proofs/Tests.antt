@@ -1,5 +1,5 @@
 -- Facts on tests.
-use Rattle.std.proofs.Common.{◌≡◌, ◌==◌, ℕ, eqb-true, eq-eqb, Bool, true, false, ◌&&◌, ◌||◌, ◌⊎◌, refl, sym, inl, inr, ap, ◌∙◌, true≢false}
+use Rattle.std.proofs.Common.{◌≡◌, ◌==◌, ℕ, eqb-true, eq-eqb, Bool, true, false, refl, sym}
 
 pub same_test : (a b : Bool) → (a ≡ true → b ≡ true) → (b ≡ true → a ≡ true) → a ≡ b
 same_test true b f g = sym (f refl)

@@ -106,27 +106,20 @@ impl Pairs {
     fn link(&mut self, first: RuleId, second: RuleId)
         ensures { (a b : ℕ) → relates self.new a b ≡ (relates self.old a b || ((first == a) && (second == b))) }
     {
-        mark(&mut self.direct, first, second);
-        self.closure.link(first, second);
-    }
-
-    /// Adds one pair if it is wanted.
-    fn link_if(&mut self, first: RuleId, second: RuleId, wanted: bool)
-        ensures { (a b : ℕ) → relates self.new a b ≡ (relates self.old a b || (wanted && ((first == a) && (second == b)))) }
-    {
-        if wanted {
-            self.link(first, second);
-        }
+        self.link_row(RuleSet::empty().with(first), second);
     }
 
     /// Puts the rules of the set before the rule.
     fn link_row(&mut self, row: RuleSet, second: RuleId)
         ensures { (a b : ℕ) → relates self.new a b ≡ (relates self.old a b || (flag_at row a && (second == b))) }
     {
-        for number in 0..row.capacity() {
-            let first = RuleId::new(number as u8);
-            self.link_if(first, second, row.contains(first));
+        if row.is_empty() {
+            return;
         }
+        // for the proof: no rule of the row is past its capacity
+        let _capacity = row.capacity();
+        mark(&mut self.direct, row, second);
+        self.closure.link_row(row, second);
     }
 
     /// The pairs without those of the rule.
@@ -157,13 +150,13 @@ fn linked_without(rows: &[RuleSet], dropped: RuleId) -> Pairs
     kept
 }
 
-/// Marks the first rule in the row of the second.
-fn mark(rows: &mut [RuleSet], first: RuleId, second: RuleId)
+/// Marks the rules in the row of the second.
+fn mark(rows: &mut [RuleSet], first: RuleSet, second: RuleId)
     requires { length rows.old ≡ rule_limit }
-    ensures { (a b : ℕ) → relates rows.new a b ≡ (relates rows.old a b || ((first == a) && (second == b))) }
+    ensures { (a b : ℕ) → relates rows.new a b ≡ (relates rows.old a b || (flag_at first a && (second == b))) }
 {
     let _in_range = second.number();
-    rows[second.index()] = rows[second.index()].with(first);
+    rows[second.index()] = rows[second.index()].union(first);
 }
 
 /// The row of the second rule without the dropped one, or none if it is the dropped one's.

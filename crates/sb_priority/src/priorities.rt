@@ -145,6 +145,8 @@ impl Priorities {
     pub fn choose(&self, set: RuleSet) -> Option<RuleId>
         ensures { (pairs : List (ℕ × ℕ)) → HasOrder self.now pairs → result ≡ chosen pairs (ranked set self.now.rules) }
     {
+        // for the proof: each rule has one place
+        let _ = self.rules.as_slice();
         let ranked = self.rules.members().intersection(set);
         let mut first = None;
         let mut next = 0;

@@ -1,4 +1,4 @@
-use Rattle.std.proofs.Common.{◌≡◌, ◌<◌, ◌≤◌, ℕ, [], get_or, length, ◌&&◌, ◌||◌, ◌==◌}
+use Rattle.std.proofs.Common.{◌≡◌, ◌<◌, ◌≤◌, ℕ, [], get_or, ◌&&◌, ◌||◌, ◌==◌}
 use Rattle.sb_value.specs.Flags.{flag_at}
 use Rattle.sb_priority.specs.Closed.{relates}
 use Rattle.sb_priority.proofs.closure.link_rows.Given as goal

@@ -1,4 +1,4 @@
-use Rattle.std.proofs.Common.{◌≡◌, ◌≤◌, ◌∙◌, ap, arith, length, List, ℕ, not, ◌&&◌, ◌==◌}
+use Rattle.std.proofs.Common.{◌≤◌, ◌∙◌, ap, arith, length, List, ℕ, not, ◌&&◌, ◌==◌}
 use Rattle.std.proofs.lemmas.List.{take_all}
 use Rattle.std.specs.List.{list_any}
 use Rattle.sb_value.specs.Flags.{flag_at}

@@ -1,4 +1,4 @@
-use Rattle.std.proofs.Common.{◌≡◌, ◌<◌, ◌-◌, ℕ, List, ◌&&◌}
+use Rattle.std.proofs.Common.{◌-◌, ℕ, List, ◌&&◌}
 use Rattle.sb_value.specs.Flags.{flag_at}
 use Rattle.sb_priority.specs.Ranks.{HasOrder, ranked, is_free}
 use Rattle.sb_priority.proofs.Earliest.{IsEarliest}

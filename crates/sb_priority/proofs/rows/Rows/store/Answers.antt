@@ -1,4 +1,4 @@
-use Rattle.std.proofs.Common.{◌≡◌, ◌∙◌, ◌<◌, ℕ, true, length, ap, arith}
+use Rattle.std.proofs.Common.{◌≡◌, ◌<◌, ℕ, true, length, ap, arith}
 use Rattle.std.proofs.lemmas.List.{length-map}
 use Rattle.sb_priority.specs.Closed.{relates}
 use Rattle.sb_priority.specs.declared.rows.Row.{Row}
