@@ -1,16 +1,13 @@
 -- Rules in order of creation, and what the commands on rules do to them.
 use Rattle.std.specs.Prelude.{◌≡◌, ℕ, zero, suc, ◌+◌, ◌<◌, IsTrue, IsFalse, Bool, true, not, ◌&&◌, ◌==◌, nat_lt, if◌then◌else◌, List, [], ◌∷◌, ◌++◌, length, map, filter, find, Option, Some, None, option_map, unwrap_or, Result}
 use Rattle.std.specs.List.{list_any}
+use Rattle.sb_value.specs.Limits.{rule_limit}
 use Rattle.sb_value.specs.Name.{same_name}
 use Rattle.sb_value.specs.declared.refusal.Refusal.{Refusal}
 use Rattle.sb_value.specs.declared.refusal.Refusal.TheVariants.{NoRule, RuleExists, TooManyRules}
 use Rattle.sb_check.specs.Names.{some_or}
 use Rattle.sb_check.specs.RuleParts.{Parts, NewParts}
 use Rattle.sb_catalog.specs.declared.rule.Rule.{Rule}
-
--- the most rules, active or not
-abbrev pub rule_limit : ℕ
-rule_limit = 64
 
 -- the least number from k on that is not in the list, after n tries at most
 abbrev pub least_free_from : ℕ → ℕ → List ℕ → ℕ
@@ -39,6 +36,10 @@ rule_named rules name = some_or NoRule (option_map (λ r. r.id) (named rules nam
 -- the rule of that number
 abbrev pub numbered : List Rule → ℕ → Option Rule
 numbered rules id = find (λ r. r.id == id) rules
+
+-- each of the numbers is that of a rule
+abbrev pub AreThere : List Rule → List ℕ → Type 0
+AreThere rules ids = (id : ℕ) → IsTrue (list_any (λ k. k == id) ids) → IsTrue (list_any (λ k. k == id) (map (λ r. r.id) rules))
 
 -- whether there is a rule of that name
 abbrev pub has_name : List Rule → List ℕ → Bool

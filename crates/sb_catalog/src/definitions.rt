@@ -10,7 +10,7 @@ ghost use Rattle.sb_priority.specs.Ranks.{pairs_of};
 ghost use Rattle.sb_rulesets.specs.Members.{with_rules, without_rules};
 ghost use Rattle.sb_catalog.specs.Definitions as spec;
 ghost use Rattle.sb_catalog.specs.Definitions.{Alters, AreIndexed, AreOrdered, ChangesMembers, Creates, Drops, OtherTenantsStay, Pushes, SetsActive};
-ghost use Rattle.sb_catalog.specs.Rules.{free_rule, has_name, has_room, numbered, rule_named, is_active};
+ghost use Rattle.sb_catalog.specs.Rules.{AreThere, free_rule, has_name, has_room, numbered, rule_named, is_active};
 
 use crate::catalog::Catalog;
 use sb_check::{NewParts, RuleParts};
@@ -38,7 +38,7 @@ impl Definitions {
     {
         Definitions {
             rules: Catalog::new(alloc),
-            order: Priorities::new(),
+            order: Priorities::new(alloc),
             rulesets: Rulesets::new(alloc),
         }
     }
@@ -93,7 +93,7 @@ impl Definitions {
         }
     }
 
-    /// Puts a new rule behind the others, unless its pairs close a cycle.
+    /// Puts a new rule behind the others, unless its pairs close a cycle. Room in the order is had last: what follows takes no memory.
     fn push_rule(
         &mut self,
         rule: RuleId,
@@ -107,14 +107,22 @@ impl Definitions {
         requires new_name { IsFalse (has_name self.old.rules name) }
         requires room { IsTrue (has_room self.old.rules) }
         requires ordered { (pairs : List (ℕ × ℕ)) × AreOrdered self.old.order self.old.rules pairs }
+        requires others { AreThere self.old.rules before.now }
         ensures { (pairs : List (ℕ × ℕ)) → AreOrdered self.old.order self.old.rules pairs → Pushes self.old self.new pairs name (rule_parts parts) (pairs_of rule before.now after.now) result }
     {
+        if self.order.closes_cycle(rule, before, after) {
+            drop(parts);
+            return Err(Refusal::Cycle);
+        }
         match self.rules.create(name, parts) {
-            Ok(_) => match self.order.add(rule, before, after) {
-                Ok(()) => Ok(()),
+            Ok(_) => match self.order.reserve(rule) {
+                Ok(()) => {
+                    let _closes_none = self.order.add(rule, before, after);
+                    Ok(())
+                }
                 Err(_) => {
                     let _ = self.rules.drop_rule(&name);
-                    Err(Refusal::Cycle)
+                    Err(Refusal::NoMemory)
                 }
             },
             Err(refusal) => Err(refusal),
@@ -130,6 +138,7 @@ impl Definitions {
         parts: NewParts,
     ) -> Result<(), Refusal>
         requires named { rule_named self.old.rules text.now.name ≡ Ok rule }
+        requires ordered { (pairs : List (ℕ × ℕ)) × AreOrdered self.old.order self.old.rules pairs }
         ensures altered { (pairs : List (ℕ × ℕ)) → AreOrdered self.old.order self.old.rules pairs → Alters self.old self.new pairs rule (alteration text.now) (new_parts parts) result }
         ensures indexed { (index : List (List TableSets)) (tenant : ℕ) → AreIndexed index tenant self.old.rules → AreIndexed index tenant self.new.rules }
     {

@@ -113,10 +113,11 @@ fn add_columns(columns: &mut [RuleSet], rule: RuleId, named: Columns)
 
 /// Takes the rule from all columns.
 fn drop_from(columns: &mut [RuleSet], rule: RuleId)
+    requires { length columns.old ≡ 8 }
     ensures { (k r : ℕ) → flag_at (slice_index_or columns.new k []) r ≡ (flag_at (slice_index_or columns.old k []) r && not (r == rule)) }
 {
-    for rules in columns.iter_mut() {
-        *rules = rules.without(rule);
+    for place in 0..COLUMN_LIMIT {
+        columns[place] = columns[place].without(rule);
     }
 }
 

@@ -92,7 +92,5 @@ none_by : (set : List Bool) (b : Bool) → list_any (λ x. x) set ≡ b → true
 none_by set true e h = absurd (true≢false h)
 none_by set false e h = e
 
-pub none_ranked : (set : List Bool) → true ≡ has_none set → (rules : List ℕ) → ranked set rules ≡ []
-none_ranked set h [] = refl
-none_ranked set h (r ∷ rules) =
-    ap (λ (b : Bool). cond b (r ∷ ranked set rules) (ranked set rules)) (no_flag set r (none_by set (list_any (λ x. x) set) refl h)) ∙ none_ranked set h rules
+pub none_flagged : (set : List Bool) → true ≡ has_none set → (k : ℕ) → flag_at set k ≡ false
+none_flagged set h k = no_flag set k (none_by set (list_any (λ x. x) set) refl h)

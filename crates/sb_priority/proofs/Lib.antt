@@ -2,4 +2,8 @@ pub mod Flags
 pub mod Tests
 pub mod Paths
 pub mod Choice
-pub mod Rows
+pub mod RowLaws
+pub mod Kept
+pub mod ListLaws
+pub mod Earliest
+pub mod RowClosure

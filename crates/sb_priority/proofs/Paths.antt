@@ -85,7 +85,7 @@ leads r (x ∷ xs) a b h =
       | inr there ↦ leads r xs a b there
     ]
 
-trails : (r : ℕ) (xs : List ℕ) (a b : ℕ) → has_pair (map (λ x. (x, r)) xs) a b ≡ true → b ≡ r
+pub trails : (r : ℕ) (xs : List ℕ) (a b : ℕ) → has_pair (map (λ x. (x, r)) xs) a b ≡ true → b ≡ r
 trails r [] a b h = absurd (false≢true h)
 trails r (x ∷ xs) a b h =
     elim (or_cases ((x == a) && (r == b)) (has_pair (map (λ x. (x, r)) xs) a b) h) [

@@ -1,3 +1,4 @@
 pub mod Closed
 pub mod Members
 pub mod Ranks
+pub mod Rows

@@ -1,5 +1,5 @@
 -- An order of rules, and the pairs that it stands for.
-use Rattle.std.specs.Prelude.{◌≡◌, ℕ, Bool, true, false, not, ◌&&◌, ◌||◌, ◌==◌, List, ◌++◌, map, filter}
+use Rattle.std.specs.Prelude.{◌≡◌, ◌<◌, ℕ, Bool, IsTrue, length, true, false, not, ◌&&◌, ◌||◌, ◌==◌, List, ◌++◌, map, filter}
 use Rattle.std.specs.List.{list_any}
 use Rattle.sb_value.specs.Flags.{flag_at}
 use Rattle.sb_value.specs.Order.{precedes}
@@ -9,6 +9,22 @@ use Rattle.sb_priority.specs.Closed.{HasPairs}
 pub record Ranks : Type 0 where
   pub rules : List ℕ
   pub before : List (List Bool)
+
+-- whether the rule is in the order
+abbrev pub is_ranked : Ranks → ℕ → Bool
+is_ranked ranks rule = list_any (λ r. r == rule) ranks.rules
+
+-- all rules of the list are in the order
+abbrev pub AreRanked : Ranks → List ℕ → Type 0
+AreRanked ranks rules = (r : ℕ) → IsTrue (list_any (λ o. o == r) rules) → IsTrue (is_ranked ranks r)
+
+-- there is a row for the rule
+abbrev pub HasRow : Ranks → ℕ → Type 0
+HasRow ranks rule = rule < length ranks.before
+
+-- each rule of the order has a row
+abbrev pub HaveRows : List ℕ → List (List Bool) → Type 0
+HaveRows rules rows = (r : ℕ) → IsTrue (list_any (λ o. o == r) rules) → r < length rows
 
 -- no rule precedes itself
 abbrev pub IsAcyclic : List (ℕ × ℕ) → Type 0

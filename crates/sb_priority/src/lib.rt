@@ -5,5 +5,6 @@ mod closure;
 mod list;
 mod pairs;
 mod priorities;
+mod rows;
 
 pub use priorities::{Cycle, Priorities};

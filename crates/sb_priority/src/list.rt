@@ -1,15 +1,17 @@
 //! Rules in order of creation.
-ghost use Rattle.std.specs.Prelude.{◌≡◌, ℕ, ◌<◌, ◌≤◌, not, ◌==◌, if◌then◌else◌, [], ◌∷◌, ◌++◌, length, filter};
+ghost use Rattle.std.specs.Prelude.{◌≡◌, ℕ, ◌<◌, ◌≤◌, not, ◌==◌, if◌then◌else◌, [], ◌∷◌, ◌++◌, length, filter, slice_get, slice_index, take, Some, false};
 ghost use Rattle.std.specs.List.{list_any};
 ghost use Rattle.sb_value.specs.Flags.{flag_at};
+ghost use Rattle.sb_value.specs.Limits.{rule_limit};
 
 use sb_value::{RULE_LIMIT, RuleId, RuleSet};
 use std::marker::Model;
 
-/// A list of rules, and the set of the same rules.
+/// A list of different rules, the set of the same rules, and for each of them its place in the list.
 #[derive(Drop)]
 pub struct RuleList {
     rules: [RuleId; RULE_LIMIT],
+    places: [u8; RULE_LIMIT],
     count: usize,
     members: RuleSet,
 }
@@ -22,7 +24,7 @@ impl Model for RuleList {
 
     ghost view = { λ list. take list.count list.rules };
 
-    ghost invariant = { λ list. AreListed list.members list.rules list.count };
+    ghost invariant = { λ list. AreListed list.members list.rules list.places list.count };
 }
 
 impl RuleList {
@@ -32,6 +34,7 @@ impl RuleList {
     {
         RuleList {
             rules: [RuleId::new(0); RULE_LIMIT],
+            places: [0; RULE_LIMIT],
             count: 0,
             members: RuleSet::empty(),
         }
@@ -40,7 +43,8 @@ impl RuleList {
     /// The rules, the earliest created first.
     pub fn as_slice(&self) -> &[RuleId]
         ensures value { result.now ≡ self.now }
-        ensures bound { length result.now ≤ 64 }
+        ensures bound { length result.now ≤ rule_limit }
+        ensures different { (k : ℕ) → k < length self.now → list_any (λ r. r == slice_index self.now k) (take k self.now) ≡ false }
     {
         &self.rules[..self.count]
     }
@@ -52,19 +56,29 @@ impl RuleList {
         self.members
     }
 
+    /// The place of a rule that is in the list.
+    pub fn place(&self, rule: RuleId) -> usize
+        ensures { (k : ℕ) → slice_get self.now k ≡ Some rule → result ≡ k }
+    {
+        self.places[rule.index()] as usize
+    }
+
     /// Adds the rule as the last.
     pub fn push(&mut self, rule: RuleId)
-        requires { length self.old < 64 }
+        requires room { length self.old < rule_limit }
+        requires new { list_any (λ r. r == rule) self.old ≡ false }
         ensures { self.new ≡ self.old ++ rule ∷ [] }
     {
         self.rules[self.count] = rule;
+        self.places[rule.index()] = self.count as u8;
         self.count += 1;
         self.members = self.members.with(rule);
     }
 
     /// Adds the rule if it is wanted.
     fn push_if(&mut self, rule: RuleId, wanted: bool)
-        requires { length self.old < 64 }
+        requires room { length self.old < rule_limit }
+        requires new { list_any (λ r. r == rule) self.old ≡ false }
         ensures { self.new ≡ self.old ++ (if wanted then rule ∷ [] else []) }
     {
         if wanted {

@@ -1,12 +1,15 @@
 //! Pairs of rules, with their closure at hand.
 ghost use Rattle.std.specs.Prelude.{◌≡◌, ℕ, Bool, List, [], not, ◌&&◌, ◌||◌, ◌==◌, ◌++◌, map, length};
 ghost use Rattle.sb_value.specs.Flags.{flag_at};
+ghost use Rattle.sb_value.specs.Limits.{rule_limit};
 ghost use Rattle.sb_value.specs.Order.{precedes};
-ghost use Rattle.sb_priority.specs.Closed.{relates, HasPairs};
+ghost use Rattle.sb_priority.specs.Closed.{relates, HasPairs, AreClosed};
+ghost use Rattle.sb_priority.specs.Rows.{IsRowOf};
 ghost use Rattle.sb_priority.specs.Ranks.{is_between, pairs_of};
 ghost use Rattle.std.specs.List.{list_any};
 
 use crate::closure::Closure;
+use crate::rows::Row;
 use sb_value::{RULE_LIMIT, RuleId, RuleSet, precedes_is_closure};
 use std::marker::Model;
 
@@ -29,6 +32,31 @@ impl Model for Pairs {
 }
 
 impl Pairs {
+    /// The pairs of these rows, with their closure.
+    pub fn of(direct: [RuleSet; RULE_LIMIT], closure: Closure) -> Pairs
+        requires { AreClosed direct closure }
+        ensures { result ≡ direct }
+    {
+        Pairs { direct, closure }
+    }
+
+    /// The pairs are those of a list.
+    pub fn are_listed(&self)
+        ensures { (pairs : List (ℕ × ℕ)) × HasPairs self.now pairs }
+    {
+        let _ = &self.direct;
+    }
+
+    /// The row of the rule.
+    pub fn row(&self, rule: RuleId) -> Row
+        ensures { IsRowOf self.now rule result }
+    {
+        Row {
+            direct: self.direct[rule.index()],
+            before: self.predecessors(rule),
+        }
+    }
+
     /// No pairs.
     pub fn none() -> Pairs
         ensures { HasPairs result [] }
@@ -36,16 +64,6 @@ impl Pairs {
         Pairs {
             direct: [RuleSet::empty(); RULE_LIMIT],
             closure: Closure::new(),
-        }
-    }
-
-    /// The same pairs once more.
-    pub fn copied(&self) -> Pairs
-        ensures { result ≡ self.now }
-    {
-        Pairs {
-            direct: self.direct,
-            closure: self.closure,
         }
     }
 
@@ -88,27 +106,20 @@ impl Pairs {
     fn link(&mut self, first: RuleId, second: RuleId)
         ensures { (a b : ℕ) → relates self.new a b ≡ (relates self.old a b || ((first == a) && (second == b))) }
     {
-        mark(&mut self.direct, first, second);
-        self.closure.link(first, second);
-    }
-
-    /// Adds one pair if it is wanted.
-    fn link_if(&mut self, first: RuleId, second: RuleId, wanted: bool)
-        ensures { (a b : ℕ) → relates self.new a b ≡ (relates self.old a b || (wanted && ((first == a) && (second == b)))) }
-    {
-        if wanted {
-            self.link(first, second);
-        }
+        self.link_row(RuleSet::empty().with(first), second);
     }
 
     /// Puts the rules of the set before the rule.
     fn link_row(&mut self, row: RuleSet, second: RuleId)
         ensures { (a b : ℕ) → relates self.new a b ≡ (relates self.old a b || (flag_at row a && (second == b))) }
     {
-        for number in 0..row.capacity() {
-            let first = RuleId::new(number as u8);
-            self.link_if(first, second, row.contains(first));
+        if row.is_empty() {
+            return;
         }
+        // for the proof: no rule of the row is past its capacity
+        let _capacity = row.capacity();
+        mark(&mut self.direct, row, second);
+        self.closure.link_row(row, second);
     }
 
     /// The pairs without those of the rule.
@@ -128,7 +139,7 @@ impl Pairs {
 
 /// The pairs of the rows, linked afresh without those of the dropped rule.
 fn linked_without(rows: &[RuleSet], dropped: RuleId) -> Pairs
-    requires { length rows.now ≡ 64 }
+    requires { length rows.now ≡ rule_limit }
     ensures { (a b : ℕ) → relates result a b ≡ (relates rows.now a b && (not (a == dropped) && not (b == dropped))) }
 {
     let mut kept = Pairs::none();
@@ -139,13 +150,13 @@ fn linked_without(rows: &[RuleSet], dropped: RuleId) -> Pairs
     kept
 }
 
-/// Marks the first rule in the row of the second.
-fn mark(rows: &mut [RuleSet], first: RuleId, second: RuleId)
-    requires { length rows.old ≡ 64 }
-    ensures { (a b : ℕ) → relates rows.new a b ≡ (relates rows.old a b || ((first == a) && (second == b))) }
+/// Marks the rules in the row of the second.
+fn mark(rows: &mut [RuleSet], first: RuleSet, second: RuleId)
+    requires { length rows.old ≡ rule_limit }
+    ensures { (a b : ℕ) → relates rows.new a b ≡ (relates rows.old a b || (flag_at first a && (second == b))) }
 {
     let _in_range = second.number();
-    rows[second.index()] = rows[second.index()].with(first);
+    rows[second.index()] = rows[second.index()].union(first);
 }
 
 /// The row of the second rule without the dropped one, or none if it is the dropped one's.
@@ -161,7 +172,7 @@ fn row_without(row: RuleSet, second: RuleId, dropped: RuleId) -> RuleSet
 
 /// The pairs of the rows, linked afresh without those between the rule and the others.
 fn linked_apart(rows: &[RuleSet], rule: RuleId, others: &[RuleId]) -> Pairs
-    requires { length rows.now ≡ 64 }
+    requires { length rows.now ≡ rule_limit }
     ensures { (a b : ℕ) → relates result a b ≡ (relates rows.now a b && not (is_between rule others.now a b)) }
 {
     let mut kept = Pairs::none();

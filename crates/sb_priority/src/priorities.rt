@@ -1,12 +1,14 @@
 //! The order of the rules of one tenant.
-ghost use Rattle.std.specs.Prelude.{◌≡◌, ℕ, ◌<◌, not, ◌&&◌, ◌==◌, nat_lt, List, [], ◌∷◌, ◌++◌, filter, length, OnOk, OnErr};
+ghost use Rattle.std.specs.Prelude.{◌≡◌, ℕ, ◌<◌, not, ◌&&◌, ◌==◌, nat_lt, true, false, Some, slice_get, if◌then◌else◌, MatchOption, List, [], ◌∷◌, ◌++◌, filter, length, OnOk, OnErr};
 ghost use Rattle.sb_value.specs.Flags.{flag_at};
+ghost use Rattle.sb_value.specs.Limits.{rule_limit};
 ghost use Rattle.sb_value.specs.Order.{precedes, chosen};
-ghost use Rattle.sb_priority.specs.Ranks.{HasOrder, pairs_of, pairs_altered, Alters, AltersToCycle, Gains, Loses, ClosesCycle, ranked, is_free};
+ghost use Rattle.sb_priority.specs.Ranks.{HasOrder, HasRow, AreRanked, is_ranked, pairs_of, pairs_altered, Alters, AltersToCycle, Gains, Loses, ClosesCycle, ranked, is_free};
 
 use crate::list::RuleList;
-use crate::pairs::Pairs;
+use crate::rows::Rows;
 use sb_value::{RULE_LIMIT, RuleId, RuleSet, precedes_is_closure};
+use std::alloc::{AllocError, Global};
 use std::marker::Model;
 
 /// With the new pairs a rule would precede itself.
@@ -17,39 +19,63 @@ pub struct Cycle;
 #[derive(Drop)]
 pub struct Priorities {
     rules: RuleList,
-    pairs: Pairs,
+    rows: Rows,
 }
 
 impl Model for Priorities {
-    ghost use Rattle.sb_priority.specs.Ranks.{Ranks};
+    ghost use Rattle.sb_priority.specs.Ranks.{Ranks, HaveRows};
 
     ghost Value = { Ranks };
 
-    ghost view = { λ p. record { rules = p.rules; before = p.pairs } };
+    ghost view = { λ p. record { rules = p.rules; before = p.rows } };
+
+    ghost invariant = { λ p. HaveRows p.rules p.rows };
 }
 
 impl Priorities {
     /// No rules.
-    pub fn new() -> Priorities
+    pub fn new(alloc: Global) -> Priorities
         ensures rules { result.rules ≡ [] }
         ensures pairs { HasOrder result [] }
     {
         Priorities {
             rules: RuleList::new(),
-            pairs: Pairs::none(),
+            rows: Rows::new(alloc),
         }
     }
 
     /// Whether one more rule fits.
     pub fn has_room(&self) -> bool
-        ensures { result ≡ nat_lt (length self.now.rules) 64 }
+        ensures { result ≡ nat_lt (length self.now.rules) rule_limit }
     {
         self.rules.as_slice().len() < RULE_LIMIT
     }
 
+    /// Makes room for a rule of that number: after it, adding the rule takes no memory.
+    pub fn reserve(&mut self, rule: RuleId) -> Result<(), AllocError>
+        ensures room { OnOk result (HasRow self.new rule) }
+        ensures rules { self.new.rules ≡ self.old.rules }
+        ensures pairs { (pairs : List (ℕ × ℕ)) → HasOrder self.old pairs → HasOrder self.new pairs }
+        ensures unchanged { OnErr result (self.new ≡ self.old) }
+    {
+        self.rows.reserve(rule)
+    }
+
+    /// Whether the rule would precede itself if it preceded those of the first list and followed those of the second.
+    pub fn closes_cycle(&self, rule: RuleId, ahead_of: &[RuleId], behind: &[RuleId]) -> bool
+        ensures { (pairs : List (ℕ × ℕ)) → HasOrder self.now pairs → result ≡ precedes (pairs ++ pairs_of rule ahead_of.now behind.now) rule rule }
+    {
+        let mut pairs = self.rows.load();
+        pairs.add_rule(rule, ahead_of, behind);
+        pairs.predecessors(rule).contains(rule)
+    }
+
     /// Adds a rule that precedes those of the first list and follows those of the second.
     pub fn add(&mut self, rule: RuleId, ahead_of: &[RuleId], behind: &[RuleId]) -> Result<(), Cycle>
-        requires room { length self.old.rules < 64 }
+        requires room { length self.old.rules < rule_limit }
+        requires row { HasRow self.old rule }
+        requires new { is_ranked self.old rule ≡ false }
+        requires others { AreRanked self.old ahead_of.now }
         ensures last { OnOk result (self.new.rules ≡ self.old.rules ++ rule ∷ []) }
         ensures linked { OnOk result (Gains self.old self.new (pairs_of rule ahead_of.now behind.now)) }
         ensures cycle { OnErr result (ClosesCycle self.old rule (pairs_of rule ahead_of.now behind.now)) }
@@ -57,12 +83,13 @@ impl Priorities {
     {
         // for the proof: a cycle goes through the new rule
         precedes_is_closure();
-        let mut pairs = self.pairs.copied();
+        let mut pairs = self.rows.load();
+        pairs.are_listed();
         pairs.add_rule(rule, ahead_of, behind);
         if pairs.predecessors(rule).contains(rule) {
             return Err(Cycle);
         }
-        self.pairs = pairs;
+        self.rows.store(&pairs);
         self.rules.push(rule);
         Ok(())
     }
@@ -76,6 +103,8 @@ impl Priorities {
         behind: &[RuleId],
         apart: &[RuleId],
     ) -> Result<(), Cycle>
+        requires known { is_ranked self.old rule ≡ true }
+        requires others { AreRanked self.old ahead_of.now }
         ensures rules { self.new.rules ≡ self.old.rules }
         ensures altered { OnOk result (Alters self.old self.new (pairs_altered rule apart.now ahead_of.now behind.now)) }
         ensures cycle { OnErr result (AltersToCycle self.old rule (pairs_altered rule apart.now ahead_of.now behind.now)) }
@@ -83,12 +112,13 @@ impl Priorities {
     {
         // for the proof: a cycle goes through the rule whose pairs are new
         precedes_is_closure();
-        let mut altered = self.pairs.apart(rule, apart);
+        let mut altered = self.rows.load().apart(rule, apart);
+        altered.are_listed();
         altered.add_rule(rule, ahead_of, behind);
         if altered.predecessors(rule).contains(rule) {
             return Err(Cycle);
         }
-        self.pairs = altered;
+        self.rows.store(&altered);
         Ok(())
     }
 
@@ -100,36 +130,49 @@ impl Priorities {
         // for the proof: with fewer pairs nothing more precedes
         precedes_is_closure();
         self.rules = self.rules.without(rule);
-        self.pairs = self.pairs.without(rule);
+        let pairs = self.rows.load().without(rule);
+        self.rows.store(&pairs);
     }
 
     /// Whether the first rule precedes the second, by a pair or through other rules.
     pub fn precedes(&self, first: RuleId, second: RuleId) -> bool
         ensures { (pairs : List (ℕ × ℕ)) → HasOrder self.now pairs → result ≡ precedes pairs first second }
     {
-        self.pairs.predecessors(second).contains(first)
+        self.rows.predecessors(second).contains(first)
     }
 
     /// The earliest created rule of the set that no other rule of the set precedes.
     pub fn choose(&self, set: RuleSet) -> Option<RuleId>
         ensures { (pairs : List (ℕ × ℕ)) → HasOrder self.now pairs → result ≡ chosen pairs (ranked set self.now.rules) }
     {
-        if set.is_empty() {
-            return None;
-        }
-        for rule in self.rules.as_slice() {
-            if self.is_next(*rule, set) {
-                return Some(*rule);
+        // for the proof: each rule has one place
+        let _ = self.rules.as_slice();
+        let ranked = self.rules.members().intersection(set);
+        let mut first = None;
+        let mut next = 0;
+        while let Some(rule) = ranked.first_from(next) {
+            next = rule.index() + 1;
+            if self.is_free(rule, set) {
+                first = Some(self.earlier(first, rule));
             }
         }
-        None
+        first
     }
 
-    /// Whether the rule is in the set and no other rule of the set precedes it.
-    fn is_next(&self, rule: RuleId, set: RuleSet) -> bool
-        ensures { (pairs : List (ℕ × ℕ)) → HasOrder self.now pairs → result ≡ (flag_at set rule && is_free pairs (ranked set self.now.rules) rule) }
+    /// Of the two rules the one that was created earlier.
+    fn earlier(&self, first: Option<RuleId>, rule: RuleId) -> RuleId
+        ensures { (k : ℕ) → slice_get self.now.rules k ≡ Some rule → MatchOption first (result ≡ rule) (λ other. (j : ℕ) → slice_get self.now.rules j ≡ Some other → result ≡ (if nat_lt j k then other else rule)) }
     {
-        set.contains(rule) && self.is_free(rule, set)
+        match first {
+            Some(other) => {
+                if self.rules.place(other) < self.rules.place(rule) {
+                    other
+                } else {
+                    rule
+                }
+            }
+            None => rule,
+        }
     }
 
     /// Whether no other rule of the set precedes the rule.
@@ -137,6 +180,6 @@ impl Priorities {
         ensures { (pairs : List (ℕ × ℕ)) → HasOrder self.now pairs → result ≡ is_free pairs (ranked set self.now.rules) rule }
     {
         let others = self.rules.members().intersection(set);
-        !self.pairs.predecessors(rule).intersects(others)
+        !self.rows.predecessors(rule).intersects(others)
     }
 }

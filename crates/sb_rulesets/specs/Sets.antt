@@ -2,6 +2,7 @@
 use Rattle.std.specs.Prelude.{ℕ, Bool, not, false, nat_le, if◌then◌else◌, List, [], ◌∷◌, ◌++◌, length, map, filter, find, Option, Some, None, option_map, slice_set}
 use Rattle.std.specs.List.{list_any}
 use Rattle.sb_value.specs.Flags.{no_flags}
+use Rattle.sb_value.specs.Limits.{rule_limit}
 use Rattle.sb_value.specs.Name.{same_name}
 use Rattle.sb_value.specs.declared.refusal.Refusal.{Refusal}
 use Rattle.sb_value.specs.declared.refusal.Refusal.TheVariants.{RulesetExists, TooManyRulesets}
@@ -17,7 +18,7 @@ create_refusal sets name =
 
 -- a new ruleset is empty and the last
 abbrev pub created : List Ruleset → List ℕ → List Ruleset
-created sets name = sets ++ record { name = name; rules = no_flags 64 } ∷ []
+created sets name = sets ++ record { name = name; rules = no_flags rule_limit } ∷ []
 
 abbrev pub without_set : List Ruleset → List ℕ → List Ruleset
 without_set sets name = filter (λ s. not (same_name s.name name)) sets

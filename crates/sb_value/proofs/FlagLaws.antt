@@ -9,6 +9,7 @@ use Rattle.std.proofs.lemmas.Option.{slice_get_past}
 use Rattle.std.proofs.lemmas.Bool.{eqb-false, ltb-true, ltb-false}
 use Rattle.sb_value.specs.Flags.{flags_from, flags_of, word_of, no_flags, flag_at, has_none, union, intersection, share_place, IsFirstFrom}
 use Rattle.sb_value.specs.FlagsInverse.{word_of-flags_of}
+use Rattle.sb_value.specs.WordsInverse.{length-flags_of}
 
 -- ---- both sets, either set
 
@@ -139,7 +140,7 @@ pub has_none-flags_of : (n word : ℕ) → word < 2 ^ n → nat_eq word 0 ≡ ha
 has_none-flags_of n word h =
     ap (λ m. nat_eq m 0) (sym (word_of-flags_of n word h)) ∙ nat_eq-has_none (flags_of n word) (list_any (λ b. b) (flags_of n word)) refl
 
-any-intersection : (xs ys : List Bool) → list_any (λ b. b) (intersection xs ys) ≡ share_place xs ys
+pub any-intersection : (xs ys : List Bool) → list_any (λ b. b) (intersection xs ys) ≡ share_place xs ys
 any-intersection [] ys = refl
 any-intersection (x ∷ xs) [] = refl
 any-intersection (x ∷ xs) (y ∷ ys) = ap (λ b. (x && y) || b) (any-intersection xs ys)
@@ -168,15 +169,6 @@ flag_at-intersection (x ∷ xs) [] k = sym (and-false (flag_at (x ∷ xs) k))
 flag_at-intersection (x ∷ xs) (y ∷ ys) zero = refl
 flag_at-intersection (x ∷ xs) (y ∷ ys) (suc k) = flag_at-intersection xs ys k
 
-length-flags_from : (n i word : ℕ) → length (flags_from n i word) ≡ n
-unfolding flags_from
-length-flags_from zero i word = refl
-length-flags_from (suc n) i word = ap suc (length-flags_from n (suc i) word)
-
-pub length-flags_of : (n word : ℕ) → length (flags_of n word) ≡ n
-unfolding flags_of
-length-flags_of n word = length-flags_from n 0 word
-
 flag_at-here : (flags : List Bool) (i : ℕ) (b : Bool) → i < length flags → flag_at (slice_set flags i b) i ≡ b
 flag_at-here [] i b h = absurd (omega arith)
 flag_at-here (x ∷ flags) zero b h = refl
@@ -197,10 +189,10 @@ taken_by : (flags : List Bool) (i k : ℕ) (same : Bool) → i < length flags �
 taken_by flags i k true h e = ap (flag_at (slice_set flags i false)) (eqb-true k i e) ∙ flag_at-here flags i false h ∙ sym (and-false (flag_at flags k))
 taken_by flags i k false h e = flag_at-there flags i k false (eqb-false k i e) ∙ sym (and-true (flag_at flags k))
 
-flag_at-added : (flags : List Bool) (i k : ℕ) → i < length flags → flag_at (slice_set flags i true) k ≡ (flag_at flags k || nat_eq k i)
+pub flag_at-added : (flags : List Bool) (i k : ℕ) → i < length flags → flag_at (slice_set flags i true) k ≡ (flag_at flags k || nat_eq k i)
 flag_at-added flags i k h = added_by flags i k (nat_eq k i) h refl
 
-flag_at-taken : (flags : List Bool) (i k : ℕ) → i < length flags → flag_at (slice_set flags i false) k ≡ (flag_at flags k && not (nat_eq k i))
+pub flag_at-taken : (flags : List Bool) (i k : ℕ) → i < length flags → flag_at (slice_set flags i false) k ≡ (flag_at flags k && not (nat_eq k i))
 flag_at-taken flags i k h = taken_by flags i k (nat_eq k i) h refl
 
 -- one number more in the flags of a word
@@ -208,12 +200,6 @@ pub flag_at-with : (n word i : ℕ) (flags new : List Bool) → flags_of n word 
 flag_at-with n word i flags new is h e k =
     let long : i < length flags = omega (arith, h, length-flags_of n word, ap length is) in
     ap (λ (s : List Bool). flag_at s k) e ∙ flag_at-added flags i k long
-
--- one number less
-pub flag_at-without : (n word i : ℕ) (flags new : List Bool) → flags_of n word ≡ flags → i < n → new ≡ slice_set flags i false → (k : ℕ) → flag_at new k ≡ (flag_at flags k && not (nat_eq k i))
-flag_at-without n word i flags new is h e k =
-    let long : i < length flags = omega (arith, h, length-flags_of n word, ap length is) in
-    ap (λ (s : List Bool). flag_at s k) e ∙ flag_at-taken flags i k long
 
 -- ---- the first number of a set
 

@@ -4,6 +4,8 @@ pub mod NameInverse
 pub mod NameEquality
 pub mod Flags
 pub mod FlagsInverse
+pub mod Words
+pub mod WordsInverse
 pub mod Tree
 pub mod Values
 pub mod Tuples
@@ -16,3 +18,4 @@ pub mod Laws
 pub mod Candidates
 pub mod Order
 pub mod Locks
+pub mod Limits

@@ -1,5 +1,6 @@
 //! Small numbers that name tenants, sessions, tables and rules, each a type of its own.
 ghost use Rattle.std.specs.Prelude.{◌≡◌, ◌<◌};
+ghost use Rattle.sb_value.specs.Limits.{rule_limit};
 
 use std::marker::Model;
 
@@ -13,7 +14,7 @@ pub const SESSION_LIMIT: usize = 8;
 pub const TABLE_LIMIT: usize = 16;
 
 /// How many rules a tenant has at most.
-pub const RULE_LIMIT: usize = 64;
+pub const RULE_LIMIT: usize = 256;
 
 /// The number of a tenant, 0 to 255.
 #[derive(Clone, Copy, Debug, PartialEq, Eq)]
@@ -147,7 +148,7 @@ impl TableId {
     }
 }
 
-/// The number of a rule of a tenant, 0 to 63.
+/// The number of a rule of a tenant, 0 to 255.
 #[derive(Clone, Copy, Debug, PartialEq, Eq)]
 pub struct RuleId {
     number: u8,
@@ -155,12 +156,13 @@ pub struct RuleId {
 
 impl Model for RuleId {
     ghost use Rattle.std.specs.Prelude.{ℕ, ◌<◌};
+    ghost use Rattle.sb_value.specs.Limits.{rule_limit};
 
     ghost Value = { ℕ };
 
     ghost view = { λ id. id.number };
 
-    ghost invariant = { λ id. id.number < 64 };
+    ghost invariant = { λ id. id.number < rule_limit };
 
     ghost inverse = { λ n. record { number = n } };
 }
@@ -168,7 +170,7 @@ impl Model for RuleId {
 impl RuleId {
     /// The id of that number.
     pub const fn new(number: u8) -> RuleId
-        requires { number < 64 }
+        requires { number < rule_limit }
         ensures { result ≡ number }
     {
         RuleId { number }
@@ -177,7 +179,7 @@ impl RuleId {
     /// Its number.
     pub const fn number(self) -> u8
         ensures value { result ≡ self }
-        ensures in_range { result < 64 }
+        ensures in_range { result < rule_limit }
     {
         self.number
     }
@@ -185,7 +187,7 @@ impl RuleId {
     /// Its number as an index.
     pub const fn index(self) -> usize
         ensures value { result ≡ self }
-        ensures in_range { result < 64 }
+        ensures in_range { result < rule_limit }
     {
         self.number as usize
     }

@@ -2,7 +2,7 @@ use Rattle.std.proofs.Common.{◌≡◌, ◌≤◌, ◌∙◌, arith, length, []
 use Rattle.std.proofs.lemmas.List.{get_or_read}
 use Rattle.sb_value.specs.Flags.{flag_at}
 use Rattle.sb_priority.specs.Closed.{relates}
-use Rattle.sb_priority.proofs.Rows.{kept_more, all_rows}
+use Rattle.sb_priority.proofs.RowLaws.{kept_more, all_rows}
 use Rattle.sb_priority.proofs.pairs.linked_without.Goals as goal
 
 pub loop-number-preserved : goal.loop-number-preserved

@@ -1,6 +1,6 @@
-use Rattle.std.proofs.Common.{◌∙◌, ap, sym, not, ◌&&◌}
+use Rattle.std.proofs.Common.{◌∙◌, sym}
 use Rattle.sb_value.specs.Flags.{flag_at}
-use Rattle.sb_priority.proofs.Rows.{apart_own, apart_listed, apart_other}
+use Rattle.sb_priority.proofs.RowLaws.{apart_own, apart_listed, apart_other}
 use Rattle.sb_priority.proofs.pairs.row_apart.Goals as goal
 
 pub returns-then-eq : goal.returns-then-eq

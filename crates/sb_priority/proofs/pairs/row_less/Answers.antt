@@ -1,8 +1,8 @@
-use Rattle.std.proofs.Common.{◌≡◌, ◌≤◌, ◌∙◌, ap, arith, length, List, ℕ, not, ◌&&◌, ◌==◌}
+use Rattle.std.proofs.Common.{◌≤◌, ◌∙◌, ap, arith, length, List, ℕ, not, ◌&&◌, ◌==◌}
 use Rattle.std.proofs.lemmas.List.{take_all}
 use Rattle.std.specs.List.{list_any}
 use Rattle.sb_value.specs.Flags.{flag_at}
-use Rattle.sb_priority.proofs.Rows.{less_more}
+use Rattle.sb_priority.proofs.RowLaws.{less_more}
 use Rattle.sb_priority.proofs.pairs.row_less.Goals as goal
 
 pub loop-other-preserved : goal.loop-other-preserved

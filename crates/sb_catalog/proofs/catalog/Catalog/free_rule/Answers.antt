@@ -2,6 +2,7 @@ use Rattle.std.proofs.Common.{◌≡◌, ◌∙◌, ◌<◌, ℕ, true, false, a
 use Rattle.std.proofs.lemmas.Bool.{cases_eq, ltb-true}
 use Rattle.std.proofs.lemmas.List.{length-map}
 use Rattle.std.specs.Option.{option_copied}
+use Rattle.sb_value.specs.Limits.{rule_limit}
 use Rattle.sb_catalog.specs.declared.rule.Rule.{Rule}
 use Rattle.sb_catalog.specs.Rules.{numbered}
 use Rattle.sb_catalog.proofs.LeastFree.{has, least, lacks_next}
@@ -30,7 +31,7 @@ ends_free c =
           sym (some_numbered rules c.loop-number.number) ∙ ap (λ (k : ℕ). is_some (numbered rules k)) (sym w.new.ensures) ∙ ap is_some (sym w.rule.ensures)
           ∙ some_copied w.rule.result ∙ sym w.is_some.ensures ∙ w.if-is_some.false
       | else-loop-number-test w ↦
-          let room : length rules < 64 = ltb-true (length rules) 64 c.requires in
+          let room : length rules < rule_limit = ltb-true (length rules) rule_limit c.requires in
           lacks_next c.loop-number.number (map (λ (r : Rule). r.id) rules) (rw length-map (omega arith)) c.loop-number.invariant.1
     ]
 

@@ -1,6 +1,8 @@
-use Rattle.std.proofs.Common.{◌≡◌, ◌∙◌, ◌<◌, ℕ, not, cond, List, [], ◌∷◌, ◌++◌, map, length, Option, Some, None, Ok, IfOk, option_map, unwrap_or, refl, sym, ap, subst, inl, inr}
+use Rattle.std.proofs.Common.{◌≡◌, ◌∙◌, ◌<◌, ◌==◌, ℕ, not, cond, List, [], ◌∷◌, ◌++◌, map, length, Option, Some, None, Ok, IfOk, option_map, unwrap_or, refl, sym, ap, subst, inl, inr}
 use Rattle.std.proofs.lemmas.Bool.{ltb-true}
 use Rattle.std.proofs.lemmas.List.{length-map, map-append}
+use Rattle.std.specs.List.{list_any}
+use Rattle.sb_value.specs.Limits.{rule_limit}
 use Rattle.sb_value.specs.Order.{precedes}
 use Rattle.sb_value.specs.declared.refusal.Refusal.TheVariants.{NoRule, RuleExists, TooManyRules, Cycle, NoMemory}
 use Rattle.sb_check.specs.Names.{some_or, required}
@@ -9,28 +11,31 @@ use Rattle.sb_priority.specs.Ranks.{pairs_of}
 use Rattle.sb_catalog.specs.declared.rule.Rule.{Rule}
 use Rattle.sb_catalog.specs.Rules.{free_rule, numbered, rule_named, rule_of, without_rule}
 use Rattle.sb_catalog.proofs.Indexing.{named_last, without_last}
+use Rattle.sb_catalog.proofs.NewRules.{unlisted}
 use Rattle.sb_catalog.proofs.definitions.Definitions.push_rule.Goals as goal
 
--- the order lists as many rules as there are
+pub returns-then-closes_cycle : goal.returns-then-closes_cycle
+returns-then-closes_cycle c = λ pairs o.
+    let more : List (ℕ × ℕ) = pairs_of c.args.rule c.args.before.now c.args.after.now in (
+      inl (λ i. required (not ((ap (λ id. precedes (pairs ++ more) id id) (sym c.requires.number) ∙ sym (c.closes_cycle.ensures pairs o.order) ∙ c.if-closes_cycle.true) i)) Cycle (Ok more)),
+      refl,
+    )
+
+-- the order lists as many rules as there are, and not the new one
 pub add-requires : goal.add-requires
 add-requires c =
     let rules = c.args.self.now.rules in
-    let count = ap length c.requires.ordered.1.listed ∙ length-map rules (λ (r : Rule). r.id) in
-    record { room = subst (λ (n : ℕ). n < 64) (sym count) (ltb-true (length rules) 64 c.requires.room) }
+    let listed = c.reserve.ensures.rules ∙ c.requires.ordered.1.listed in
+    let count = ap length listed ∙ length-map rules (λ (r : Rule). r.id) in
+    record {
+      room = subst (λ (n : ℕ). n < rule_limit) (sym count) (ltb-true (length rules) rule_limit c.requires.room);
+      row = ?;
+      new = ap (λ (ids : List ℕ). list_any (λ k. k == c.args.rule) ids) listed ∙ unlisted rules c.args.rule c.requires.free;
+      others = λ r h. ap (λ (ids : List ℕ). list_any (λ k. k == r) ids) listed ∙ c.requires.others r h;
+    }
 
-pub returns-in-Ok-add : goal.returns-in-Ok-add
-returns-in-Ok-add c = λ pairs o.
-    let rules = c.args.self.now.rules in
-    let more : List (ℕ × ℕ) = pairs_of c.args.rule c.args.before.now c.args.after.now in
-    let linked = c.in-Ok-add.ensures.linked pairs o.order in (
-      (λ i. required (not ((ap (λ id. precedes (pairs ++ more) id id) (sym c.requires.number) ∙ linked.acyclic c.args.rule) i)) Cycle (Ok more)),
-      c.in-Ok.ensures.added,
-      record {
-        order = linked;
-        listed = c.in-Ok-add.ensures.last ∙ (λ i. o.listed i ++ c.requires.number i ∷ []) ∙ sym (map-append (λ (r : Rule). r.id) rules (rule_of (free_rule rules) c.args.name (rule_parts c.args.parts) ∷ [])) ∙ ap (map (λ (r : Rule). r.id)) (sym c.in-Ok.ensures.added);
-      },
-      refl,
-    )
+pub returns-in-Ok-reserve : goal.returns-in-Ok-reserve
+returns-in-Ok-reserve c = ?
 
 -- the rule that was made is found and dropped again
 dropped : (c : goal.After-drop_rule) → c.drop_rule.new.self ≡ c.args.self.now.rules
@@ -44,12 +49,11 @@ dropped c =
     ∙ ap (λ (l : List Rule). without_rule l rule.id) c.in-Ok.ensures.added
     ∙ without_last rules rule (ap (numbered rules) (sym c.requires.number) ∙ c.requires.free)
 
-pub returns-in-Err-add : goal.returns-in-Err-add
-returns-in-Err-add c = λ pairs o.
-    let more : List (ℕ × ℕ) = pairs_of c.args.rule c.args.before.now c.args.after.now in (
-      inl (λ i. required (not ((ap (λ id. precedes (pairs ++ more) id id) (sym c.requires.number) ∙ c.in-Err-add.ensures.cycle pairs o.order) i)) Cycle (Ok more)),
-      λ i. record { rules = dropped c i; order = c.in-Err-add.ensures.unchanged i; rulesets = c.args.self.now.rulesets },
-    )
+pub returns-in-Err-reserve : goal.returns-in-Err-reserve
+returns-in-Err-reserve c = λ pairs o. (
+  inr refl,
+  λ i. record { rules = dropped c i; order = c.in-Err-reserve.ensures.unchanged i; rulesets = c.args.self.now.rulesets },
+)
 
 -- its name is new and there is room, so memory lacks
 pub returns-in-Err : goal.returns-in-Err

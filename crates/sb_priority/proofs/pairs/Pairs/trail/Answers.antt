@@ -1,7 +1,7 @@
 use Rattle.std.proofs.Common.{◌∙◌, ap, ℕ, List, map, ◌++◌, arith, length, ◌≤◌}
 use Rattle.std.proofs.lemmas.List.{take_all}
 use Rattle.sb_priority.specs.Closed.{has_pair}
-use Rattle.sb_priority.proofs.Rows.{linked_more}
+use Rattle.sb_priority.proofs.RowLaws.{linked_more}
 use Rattle.sb_priority.proofs.pairs.Pairs.trail.Goals as goal
 
 pub loop-other-preserved : goal.loop-other-preserved

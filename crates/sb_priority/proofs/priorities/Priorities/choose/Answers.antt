@@ -1,42 +1,35 @@
-use Rattle.std.proofs.Common.{◌≡◌, ◌∙◌, ap, sym, ℕ, List, Bool, ◌&&◌, arith, length, get_or}
+use Rattle.std.proofs.Common.{◌≡◌, ◌<◌, ◌∙◌, ◌+◌, ℕ, Some, false, ◌&&◌, length, take, get_or, sym, subst}
 use Rattle.sb_value.specs.Flags.{flag_at}
 use Rattle.sb_priority.specs.Ranks.{Ranks, ranked, is_free}
-use Rattle.sb_value.specs.Order.{chosen}
-use Rattle.sb_priority.proofs.Choice.{find_filter, none_ranked}
-use Rattle.sb_priority.proofs.Rows.{passed, found_here, ended}
+use Rattle.sb_priority.proofs.Choice.{find_filter}
+use Rattle.sb_priority.proofs.ListLaws.{has, one_place}
+use Rattle.sb_priority.proofs.Earliest.{IsEarliest, AreRanked, one_free, none_free, all_seen}
 use Rattle.sb_priority.proofs.priorities.Priorities.choose.Goals as goal
 
--- the rule at hand is the first that passes
-pub returns-then-is_next : goal.returns-then-is_next
-returns-then-is_next c pairs h =
-    let rules : List ℕ = c.args.self.now.rules in
-    let same : c.as_slice-rule-items.result.now ≡ rules = c.as_slice-rule-items.ensures.value ∙ ap (λ (r : Ranks). r.rules) c.self.view_is in
-    let count : length c.as_slice-rule-items.result.now ≡ length rules = ap (λ (l : List ℕ). length l) same in
-    let free : ℕ → Bool = is_free pairs (ranked c.args.set rules) in
-    let is_next : ℕ → Bool = λ r. flag_at c.args.set r && free r in
-    found_here is_next rules c.loop-rule.rule-index c.rule-item.result (omega arith)
-    (c.rule-item.is ∙ ap (λ (l : List ℕ). get_or l c.loop-rule.rule-index c.rule-item.result) same) (sym (c.is_next.ensures pairs h) ∙ c.if-is_next.true)
-    ∙ c.loop-rule.invariant pairs h ∙ sym (find_filter free (λ r. flag_at c.args.set r) rules)
+pub loop-rule-preserved-then-is_free : goal.loop-rule-preserved-then-is_free
+loop-rule-preserved-then-is_free c pairs h =
+    let rules = c.args.self.now.rules in
+    let set = c.args.set in
+    let free = is_free pairs (ranked set rules) in
+    let are : AreRanked rules set c.intersection-ranked.result = λ k. c.intersection-ranked.ensures.members k ∙ (λ i. (c.members.ensures k ∙ (λ j. has (c.self.view_is j).rules k)) i && flag_at set k) in
+    subst (λ (n : ℕ). IsEarliest (λ r. flag_at set r && free r) rules (n + 1) (Some c.earlier.result)) (sym c.index-next.ensures.value)
+    (one_free rules set c.intersection-ranked.result free c.loop-rule.next c.in-Some.rule c.loop-rule.first c.earlier.result
+    (one_place rules (subst (λ (r : Ranks). (k : ℕ) → k < length r.rules → has (take k r.rules) (get_or r.rules k 0) ≡ false) c.self.view_is c.as_slice.ensures.different)) are c.in-Some.ensures
+    (sym (c.is_free.ensures pairs h) ∙ c.if-is_free.true) c.earlier.ensures (c.loop-rule.invariant pairs h))
 
--- a rule that isn't chosen is passed
 pub loop-rule-preserved : goal.loop-rule-preserved
 loop-rule-preserved c pairs h =
-    let rules : List ℕ = c.args.self.now.rules in
-    let same : c.as_slice-rule-items.result.now ≡ rules = c.as_slice-rule-items.ensures.value ∙ ap (λ (r : Ranks). r.rules) c.self.view_is in
-    let count : length c.as_slice-rule-items.result.now ≡ length rules = ap (λ (l : List ℕ). length l) same in
-    passed (λ r. flag_at c.args.set r && is_free pairs (ranked c.args.set rules) r) rules c.loop-rule.rule-index c.rule-item.result (omega arith)
-    (c.rule-item.is ∙ ap (λ (l : List ℕ). get_or l c.loop-rule.rule-index c.rule-item.result) same) (sym (c.is_next.ensures pairs h) ∙ c.if-is_next.false)
-    ∙ c.loop-rule.invariant pairs h
+    let rules = c.args.self.now.rules in
+    let set = c.args.set in
+    let free = is_free pairs (ranked set rules) in
+    let are : AreRanked rules set c.intersection-ranked.result = λ k. c.intersection-ranked.ensures.members k ∙ (λ i. (c.members.ensures k ∙ (λ j. has (c.self.view_is j).rules k)) i && flag_at set k) in
+    subst (λ (n : ℕ). IsEarliest (λ r. flag_at set r && free r) rules (n + 1) c.loop-rule.first) (sym c.index-next.ensures.value)
+    (none_free rules set c.intersection-ranked.result free c.loop-rule.next c.in-Some.rule c.loop-rule.first are c.in-Some.ensures (sym (c.is_free.ensures pairs h) ∙ c.if-is_free.false) (c.loop-rule.invariant pairs h))
 
 pub returns : goal.returns
 returns c pairs h =
-    let rules : List ℕ = c.args.self.now.rules in
-    let same : c.as_slice-rule-items.result.now ≡ rules = c.as_slice-rule-items.ensures.value ∙ ap (λ (r : Ranks). r.rules) c.self.view_is in
-    let count : length c.as_slice-rule-items.result.now ≡ length rules = ap (λ (l : List ℕ). length l) same in
-    let free : ℕ → Bool = is_free pairs (ranked c.args.set rules) in
-    ended (λ r. flag_at c.args.set r && free r) rules c.loop-rule.rule-index (omega arith)
-    ∙ c.loop-rule.invariant pairs h ∙ sym (find_filter free (λ r. flag_at c.args.set r) rules)
-
--- of no rules none is chosen
-pub returns-then-is_empty : goal.returns-then-is_empty
-returns-then-is_empty c pairs h = ap (chosen pairs) (sym (none_ranked c.args.set (sym c.if-is_empty.true ∙ c.is_empty.ensures) c.args.self.now.rules))
+    let rules = c.args.self.now.rules in
+    let set = c.args.set in
+    let free = is_free pairs (ranked set rules) in
+    let are : AreRanked rules set c.intersection-ranked.result = λ k. c.intersection-ranked.ensures.members k ∙ (λ i. (c.members.ensures k ∙ (λ j. has (c.self.view_is j).rules k)) i && flag_at set k) in
+    all_seen rules set c.intersection-ranked.result free c.loop-rule.next c.loop-rule.first are c.in_default.ensures (c.loop-rule.invariant pairs h) ∙ sym (find_filter free (flag_at set) rules)

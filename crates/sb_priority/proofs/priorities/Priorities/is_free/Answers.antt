@@ -8,7 +8,7 @@ use Rattle.sb_priority.proofs.priorities.Priorities.is_free.Goals as goal
 -- nothing precedes itself, so the row needs no exception
 pub returns : goal.returns
 returns c pairs h =
-    let inside : HasOrder (record { rules = c.self.inside.rules; before = c.self.inside.pairs }) pairs = subst (λ (r : Ranks). HasOrder r pairs) (sym c.self.view_is) h in
+    let inside : HasOrder (record { rules = c.self.inside.rules; before = c.self.inside.rows }) pairs = subst (λ (r : Ranks). HasOrder r pairs) (sym c.self.view_is) h in
     ap not
     (c.intersects.ensures
     ∙ meets_listed c.predecessors.result c.intersection-others.result c.args.set c.self.inside.rules (λ q. not (q == c.args.rule) && precedes pairs q c.args.rule)

@@ -4,6 +4,7 @@ use Rattle.std.proofs.lemmas.List.{map-append}
 use Rattle.indexmap.proofs.CallerLemmas.{insert_entry-new}
 use Rattle.sb_value.specs.Name.{same_name}
 use Rattle.sb_value.specs.Flags.{no_flags}
+use Rattle.sb_value.specs.Limits.{rule_limit}
 use Rattle.sb_rulesets.specs.Ruleset.{Ruleset}
 use Rattle.sb_rulesets.specs.Distinct.{AreDistinct}
 use Rattle.sb_rulesets.specs.Ruleset.{set_of}
@@ -31,7 +32,7 @@ invariant_of-self c =
     elim c.match-insert.branch [
       | in-Ok w ↦
           let put = ap (map set_of) (w.in-Ok.ensures.entries ∙ insert_entry-new same_name c.self.inside.sets c.args.name c.empty.result (new c)) ∙ one_more c in
-          subst AreDistinct (sym put) (distinct_appended sets (record { name = c.args.name; rules = no_flags 64 }) c.self.invariant
+          subst AreDistinct (sym put) (distinct_appended sets (record { name = c.args.name; rules = no_flags rule_limit }) c.self.invariant
           (ap (λ (l : List Ruleset). has_name l c.args.name) c.self.view_is ∙ sym c.has.ensures ∙ c.if-has.false))
       | in-Err w ↦ subst AreDistinct (sym (ap (map set_of) w.in-Err.ensures.err)) c.self.invariant
     ]

@@ -1,20 +1,37 @@
-use Rattle.std.proofs.Common.{◌∙◌, List, Bool, ap, sym, arith}
-use Rattle.sb_value.specs.Flags.{flag_at}
-use Rattle.sb_value.proofs.FlagLaws.{none-from, first-from, flag_at-beyond}
+use Rattle.std.proofs.Common.{◌≡◌, ◌∙◌, ℕ, List, Bool, sym, subst}
+use Rattle.sb_value.specs.Flags.{IsFirstFrom}
+use Rattle.sb_value.proofs.WordLaws.{NoneFrom, first_in_first, first_in_second, first_in_third, first_in_fourth, none_in_four}
 use Rattle.sb_value.proofs.rule_set.RuleSet.first_from.Goals as goal
 
-pub returns-then-number-ge-RULE_LIMIT : goal.returns-then-number-ge-RULE_LIMIT
-returns-then-number-ge-RULE_LIMIT c k from =
-    ap (λ (s : List Bool). flag_at s k) (sym c.self.view_is) ∙ flag_at-beyond 64 k c.self.inside.bits (omega (arith, from, c.if-number-ge-RULE_LIMIT.true))
+in_set : (flags set : List Bool) (n k at : ℕ) → flags ≡ set → k ≡ at → IsFirstFrom n flags at → IsFirstFrom n set k
+in_set flags set n k at view is first = subst (λ (s : List Bool). IsFirstFrom n s k) view (subst (λ (m : ℕ). IsFirstFrom n flags m) (sym is) first)
 
-pub returns-then-rest-eq0 : goal.returns-then-rest-eq0
-returns-then-rest-eq0 c k from =
-    ap (λ (s : List Bool). flag_at s k) (sym c.self.view_is) ∙ none-from c.self.inside.bits c.args.number c.if-rest-eq0.true k from
+pub returns-in-Some : goal.returns-in-Some
+returns-in-Some c =
+    in_set _ c.args.self c.args.number c.new.result _ c.self.view_is c.new.ensures
+    (first_in_first c.self.inside.words c.args.number c.in-Some.place c.self.invariant c.in-Some.ensures.0 c.in-Some.ensures.1)
 
-pub new-requires : goal.new-requires
-new-requires c = (first-from c.self.inside.bits c.args.number c.self.invariant (omega (arith, c.if-rest-eq0.false))).0
+pub returns-in-Some-first_in : goal.returns-in-Some-first_in
+returns-in-Some-first_in c =
+    in_set _ c.args.self c.args.number c.new-in-Some-first_in.result _ c.self.view_is c.new-in-Some-first_in.ensures
+    (first_in_second c.self.inside.words c.args.number c.saturating_sub-second.result c.in-Some-first_in.place c.self.invariant c.saturating_sub-second.ensures c.in_default.ensures c.in-Some-first_in.ensures.0 c.in-Some-first_in.ensures.1)
+
+pub returns-in-Some-first_in-2 : goal.returns-in-Some-first_in-2
+returns-in-Some-first_in-2 c =
+    in_set _ c.args.self c.args.number c.new-in-Some-first_in-2.result _ c.self.view_is c.new-in-Some-first_in-2.ensures
+    (first_in_third c.self.inside.words c.args.number c.saturating_sub-second.result c.saturating_sub-third.result c.in-Some-first_in-2.place c.self.invariant c.saturating_sub-second.ensures c.saturating_sub-third.ensures
+    c.in_default.ensures c.in_default-first_in.ensures c.in-Some-first_in-2.ensures.0 c.in-Some-first_in-2.ensures.1)
+
+pub returns-in-Some-first_in-3 : goal.returns-in-Some-first_in-3
+returns-in-Some-first_in-3 c =
+    in_set _ c.args.self c.args.number c.new-in-Some-first_in-3.result _ c.self.view_is c.new-in-Some-first_in-3.ensures
+    (first_in_fourth c.self.inside.words c.args.number c.saturating_sub-second.result c.saturating_sub-third.result c.saturating_sub-fourth.result c.in-Some-first_in-3.place c.self.invariant
+    c.saturating_sub-second.ensures c.saturating_sub-third.ensures c.saturating_sub-fourth.ensures
+    c.in_default.ensures c.in_default-first_in.ensures c.in_default-first_in-2.ensures c.in-Some-first_in-3.ensures.0 c.in-Some-first_in-3.ensures.1)
 
 pub returns : goal.returns
 returns c =
-    let first = first-from c.self.inside.bits c.args.number c.self.invariant (omega (arith, c.if-rest-eq0.false)) in
-    rw (c.new.ensures, sym c.self.view_is) first.1
+    subst (NoneFrom c.args.number) c.self.view_is
+    (none_in_four c.self.inside.words c.args.number c.saturating_sub-second.result c.saturating_sub-third.result c.saturating_sub-fourth.result c.self.invariant
+    c.saturating_sub-second.ensures c.saturating_sub-third.ensures c.saturating_sub-fourth.ensures
+    c.in_default.ensures c.in_default-first_in.ensures c.in_default-first_in-2.ensures c.in_default-first_in-3.ensures)

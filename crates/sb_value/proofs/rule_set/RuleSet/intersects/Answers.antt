@@ -1,10 +1,12 @@
-use Rattle.std.proofs.Common.{◌∙◌, arith, ◌<◌, ◌^◌, bit_and}
-use Rattle.std.proofs.lemmas.Nat.{and_le_l}
-use Rattle.sb_value.specs.Flags.{share_place}
-use Rattle.sb_value.proofs.FlagLaws.{share_place-flags_of}
+use Rattle.std.proofs.Common.{◌∙◌, ap, not}
+use Rattle.std.proofs.Math.Bool.{not-not}
+use Rattle.std.specs.List.{list_any}
+use Rattle.sb_value.specs.Flags.{has_none, intersection}
+use Rattle.sb_value.proofs.FlagLaws.{any-intersection}
 use Rattle.sb_value.proofs.rule_set.RuleSet.intersects.Goals as goal
 
 pub returns : goal.returns
 returns c =
-    let h : bit_and c.self.inside.bits c.other.inside.bits < 2 ^ 64 = omega (arith, and_le_l c.self.inside.bits c.other.inside.bits, c.self.invariant) in
-    share_place-flags_of 64 c.self.inside.bits c.other.inside.bits h ∙ (λ i. share_place (c.self.view_is i) (c.other.view_is i))
+    ap not (c.is_empty.ensures ∙ ap has_none c.intersection.ensures.value)
+    ∙ not-not (list_any (λ b. b) (intersection c.args.self c.args.other))
+    ∙ any-intersection c.args.self c.args.other

@@ -1,11 +1,20 @@
-use Rattle.std.proofs.Common.{◌∙◌, ◌<◌, arith, slice_set, false}
-use Rattle.sb_value.proofs.FlagLaws.{flags_of-without, flag_at-without}
+use Rattle.std.proofs.Common.{◌≡◌, ◌∙◌, ap, List, Bool, ℕ, length, slice_set, slice_index_or, false, arith, ◌<◌, ◌*◌, ◌/◌, ◌%◌, ◌^◌}
+use Rattle.std.proofs.lemmas.Nat.{and_le_l}
+use Rattle.std.specs.Int.{bit_not, w64}
+use Rattle.sb_value.specs.Flags.{flag_at}
+use Rattle.sb_value.proofs.FlagLaws.{flags_of-without, flag_at-taken}
+use Rattle.sb_value.proofs.WordLaws.{word_below, are_words-set, length-flags_in, flags_in-set}
 use Rattle.sb_value.proofs.rule_set.RuleSet.without.Goals as goal
+
+pub invariant_of-result : goal.invariant_of-result
+invariant_of-result c = are_words-set 4 c.self.inside.words (c.index-number.result / 64) _ c.self.invariant (let below = word_below 4 c.self.inside.words (c.index-number.result / 64) c.self.invariant in omega (arith, below, and_le_l (slice_index_or c.self.inside.words (c.index-number.result / 64) 0) (bit_not w64 (1 * 2 ^ (c.index-number.result % 64) % 2 ^ 64))))
 
 pub returns : goal.returns
 returns c =
-    let in_range : c.args.rule < 64 = omega (arith, c.number.ensures.value, c.number.ensures.in_range) in
+    let words = c.self.inside.words in
+    let k = c.index-number.result in
     let value =
-    flags_of-without c.number.result c.self.inside.bits c.number.ensures.in_range
-    ∙ (λ i. slice_set (c.self.view_is i) (c.number.ensures.value i) false) in
-    record { value = value; members = flag_at-without 64 c.self.inside.bits c.args.rule c.args.self _ c.self.view_is in_range value }
+    flags_in-set 4 words k _ false c.self.invariant (omega (arith, c.index-number.ensures.in_range)) (flags_of-without (k % 64) (slice_index_or words (k / 64) 0) (omega arith))
+    ∙ (λ i. slice_set (c.self.view_is i) (c.index-number.ensures.value i) false) in
+    let long : c.args.rule < length c.args.self = omega (arith, length-flags_in 4 words c.self.invariant, ap length c.self.view_is, c.index-number.ensures.value, c.index-number.ensures.in_range) in
+    record { value = value; members = λ j. ap (λ (s : List Bool). flag_at s j) value ∙ flag_at-taken c.args.self c.args.rule j long }
