@@ -13,7 +13,7 @@ ghost use Rattle.sb_catalog.specs.Definitions.{AreIndexed};
 ghost use Rattle.sb_process.specs.Represents.{Represents, who_in};
 ghost use Rattle.sb_process.specs.Setting.{Setting, Progress};
 ghost use Rattle.sb_process.specs.Statement.{with_changes_of};
-ghost use Rattle.sb_process.specs.Transactions.{OtherSessionsStay};
+ghost use Rattle.sb_marks.specs.Transactions.{OtherSessionsStay};
 
 use crate::database::Database;
 use crate::make::make;

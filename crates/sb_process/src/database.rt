@@ -5,10 +5,10 @@ ghost use Rattle.sb_value.specs.declared.lock.Mode.{Mode};
 ghost use Rattle.sb_rawlog.specs.Sessions.{changes_by, OthersStay};
 ghost use Rattle.sb_locks.specs.Held.{held};
 ghost use Rattle.sb_process.specs.Setting.{Setting, Progress};
-ghost use Rattle.sb_process.specs.Transactions.{mark_of, tested_of, is_candidate_of};
+ghost use Rattle.sb_marks.specs.Transactions.{mark_of, tested_of, is_candidate_of};
 
-use crate::transactions::Transactions;
 use sb_locks::Locks;
+use sb_marks::Transactions;
 use sb_rawlog::ChangeLog;
 use sb_tables::Tables;
 use sb_value::{SessionId, TenantId, Who};
@@ -36,7 +36,7 @@ impl Database {
             id,
             tables: Tables::new(alloc),
             locks: Locks::new(),
-            transactions: Transactions::new(),
+            transactions: Transactions::new(alloc),
         }
     }
 }

@@ -9,7 +9,7 @@ ghost use Rattle.sb_process.specs.Represents.{IsTakenBack, who_in};
 ghost use Rattle.sb_process.specs.Running.{ComesTo, Finds, is_done};
 ghost use Rattle.sb_process.specs.Setting.{Setting, Progress};
 ghost use Rattle.sb_process.specs.Statement.{RisesBy};
-ghost use Rattle.sb_process.specs.Transactions.{OtherSessionsStay, ArePast};
+ghost use Rattle.sb_marks.specs.Transactions.{OtherSessionsStay, ArePast};
 ghost use Rattle.sb_process.specs.Work.{AreActive, CanRun, IsWork, Processes};
 
 use crate::database::Database;

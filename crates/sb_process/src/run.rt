@@ -16,7 +16,7 @@ ghost use Rattle.sb_process.specs.Represents.{Represents, IsTransaction, who_in}
 ghost use Rattle.sb_process.specs.Request.{AreThere};
 ghost use Rattle.sb_process.specs.Setting.{Setting, Progress, seen_with};
 ghost use Rattle.sb_process.specs.Statement.{Runs, RisesBy};
-ghost use Rattle.sb_process.specs.Transactions.{OtherSessionsStay};
+ghost use Rattle.sb_marks.specs.Transactions.{OtherSessionsStay};
 ghost use Rattle.sb_process.specs.View.{seen_by};
 
 use crate::database::Database;

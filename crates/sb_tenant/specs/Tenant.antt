@@ -5,7 +5,7 @@ use Rattle.sb_rawlog.specs.Sessions.{records_by, OthersStay}
 use Rattle.sb_index.specs.TableSets.{TableSets}
 use Rattle.sb_catalog.specs.Definitions.{AreIndexed, OtherTenantsStay}
 use Rattle.sb_process.specs.Statement.{RisesBy}
-use Rattle.sb_process.specs.Transactions.{Kept}
+use Rattle.sb_marks.specs.Transactions.{Kept}
 use Rattle.sb_tenant.specs.declared.reply.Entry.{Entry}
 use Rattle.sb_tenant.specs.declared.reply.Answer.{Answer}
 use Rattle.sb_tenant.specs.Logged.{Agrees, who_of}

@@ -1,20 +1,29 @@
 -- What a tenant keeps of its sessions' transactions beside their changes.
-use Rattle.std.specs.Prelude.{◌≡◌, ◌≤◌, ℕ, Bool, false, ◌==◌, List, [], slice_index, slice_index_or}
+use Rattle.std.specs.Prelude.{◌≡◌, ◌≤◌, ℕ, Bool, false, ◌==◌, if◌then◌else◌, List, [], slice_index, slice_index_or}
 use Rattle.sb_value.specs.Flags.{flag_at}
+use Rattle.sb_marks.specs.declared.times.Times.{Times}
 
--- for each session two times for each rule, and a set of rules
+-- for each rule two times in each session; for each session the rules whose times count, and its candidates
 pub record Kept : Type 0 where
-  pub marks : List (List ℕ)
-  pub tested : List (List ℕ)
+  pub rows : List Times
+  pub marked : List (List Bool)
   pub candidates : List (List Bool)
+
+-- the times of a rule
+abbrev pub times_of : List Times → ℕ → Times
+times_of rows rule = slice_index_or rows rule (record { marks = []; tested = [] })
+
+-- whether a rule's times count in the session's transaction
+abbrev pub is_marked : Kept → ℕ → ℕ → Bool
+is_marked kept session rule = flag_at (slice_index_or kept.marked session []) rule
 
 -- the time of a rule's mark
 abbrev pub mark_of : Kept → ℕ → ℕ → ℕ
-mark_of kept session rule = slice_index (slice_index_or kept.marks session []) rule
+mark_of kept session rule = if is_marked kept session rule then slice_index (times_of kept.rows rule).marks session else 0
 
 -- the time up to which the changes since a rule's mark were found not to trigger it
 abbrev pub tested_of : Kept → ℕ → ℕ → ℕ
-tested_of kept session rule = slice_index (slice_index_or kept.tested session []) rule
+tested_of kept session rule = if is_marked kept session rule then slice_index (times_of kept.rows rule).tested session else 0
 
 -- a rule was tested no earlier than its mark was set, and before now
 abbrev pub ArePast : Kept → ℕ → ℕ → Type 0
