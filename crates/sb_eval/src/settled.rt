@@ -51,10 +51,7 @@ pub(crate) fn is_settled(c: &Condition, known: &Known<'_>) -> bool
 fn are_plain(list: &[Expression]) -> bool
     ensures { result ≡ list_all spec.is_plain list.now }
 {
-    match list.split_first() {
-        Some((first, rest)) => is_plain(first) && are_plain(rest),
-        None => true,
-    }
+    list.iter().all(|e| is_plain(e))
 }
 
 /// Whether the items are values that stand in a row.
