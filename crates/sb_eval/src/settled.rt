@@ -1,9 +1,12 @@
-//! Whether a condition can overflow.
+//! Whether a condition or a query can overflow.
 ghost use Rattle.std.specs.Prelude.{◌≡◌};
+ghost use Rattle.std.specs.List.{list_all};
 ghost use Rattle.sb_eval.specs.Settled as spec;
 
 use crate::known::Known;
-use sb_check::{Condition, ConditionNode, Expression, ExpressionNode, Operand, OperandNode};
+use sb_check::{
+    Condition, ConditionNode, Expression, ExpressionNode, Items, Operand, OperandNode, Query,
+};
 
 /// Whether an expression is a literal or a column.
 fn is_plain(e: &Expression) -> bool
@@ -42,4 +45,29 @@ pub(crate) fn is_settled(c: &Condition, known: &Known<'_>) -> bool
         ConditionNode::In(a, _) => is_plain(a) && known.values().is_some(),
         ConditionNode::Exists(_) => known.truth().is_some(),
     }
+}
+
+/// Whether each expression is a literal or a column.
+fn are_plain(list: &[Expression]) -> bool
+    ensures { result ≡ list_all spec.is_plain list.now }
+{
+    list.iter().all(|e| is_plain(e))
+}
+
+/// Whether the items are values that stand in a row.
+fn gives_plain_rows(items: &Items) -> bool
+    ensures { result ≡ spec.gives_plain_rows items.now }
+{
+    match items {
+        Items::All => true,
+        Items::Count | Items::Sum(_) => false,
+        Items::Each(list) => are_plain(list.as_slice()),
+    }
+}
+
+/// Whether a query can't overflow.
+pub(crate) fn is_query_settled(query: &Query, known: &Known<'_>) -> bool
+    ensures { result ≡ spec.query_settled query.now known.now }
+{
+    gives_plain_rows(&query.items) && is_settled(&query.condition, known)
 }
