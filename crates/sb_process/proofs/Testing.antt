@@ -1,5 +1,5 @@
 -- What a test of a rule stands on, as marks, times and changes move on.
-use Rattle.std.proofs.Common.{◌≡◌, ◌∙◌, ℕ, ◌≤◌, Bool, true, false, ◌&&◌, cond, nat_le, nat_lt, nat_eq, List, [], ◌∷◌, ◌++◌, filter, drop, Option, Some, None, refl, sym, ap, subst, arith, eqb-true}
+use Rattle.std.proofs.Common.{◌≡◌, ◌∙◌, ◌⊎◌, inl, inr, ℕ, ◌≤◌, Bool, true, false, ◌&&◌, cond, nat_le, nat_lt, nat_eq, List, [], ◌∷◌, ◌++◌, filter, drop, Option, Some, None, refl, sym, ap, subst, arith, eqb-true}
 use Rattle.std.proofs.lemmas.Bool.{le-ltb}
 use Rattle.std.proofs.lemmas.List.{append-nil}
 use Rattle.std.proofs.lemmas.List.Elements.{filter-append}
@@ -96,14 +96,19 @@ id-of (x ∷ rules) r rule e =
 
 -- ---- a rule that isn't hit is tested up to now
 
-module _ (who : Who) (old new : Kept) (rs : List Record) (clock : ℕ) (rules : List Rule) (left : ℕ) (marks : (r : ℕ) → mark_of new who.session r ≡ mark_of old who.session r)
-    (tested : (r : ℕ) → tested_of new who.session r ≡ cond (nat_eq r left) clock (tested_of old who.session r)) where
+module _ (who : Who) (old new : Kept) (rs : List Record) (clock : ℕ) (rules : List Rule) (left time : ℕ) (which : (time ≡ clock) ⊎ (time ≡ tested_of old who.session left)) (marks : (r : ℕ) → mark_of new who.session r ≡ mark_of old who.session r)
+    (tested : (r : ℕ) → tested_of new who.session r ≡ cond (nat_eq r left) time (tested_of old who.session r)) where
   pub past-left : ArePast old who.session clock → ArePast new who.session clock
-  past-left h r = by (nat_eq r left) (tested r)
+  past-left h r = by (nat_eq r left) refl (tested r)
     where
-      by : (b : Bool) → tested_of new who.session r ≡ cond b clock (tested_of old who.session r) → (mark_of new who.session r ≤ tested_of new who.session r) × (tested_of new who.session r ≤ clock)
-      by true e = (let a = (h r).0 in let b = (h r).1 in let m = marks r in omega arith, omega (arith, e))
-      by false e = (let a = (h r).0 in let m = marks r in omega arith, let b = (h r).1 in omega arith)
+      by : (b : Bool) → nat_eq r left ≡ b → tested_of new who.session r ≡ cond b time (tested_of old who.session r) → (mark_of new who.session r ≤ tested_of new who.session r) × (tested_of new who.session r ≤ clock)
+      by true is e = elim which [
+        | inl now ↦ (let a = (h r).0 in let b = (h r).1 in let m = marks r in omega (arith, e, now), omega (arith, e, now))
+        | inr same ↦
+            let q : tested_of new who.session r ≡ tested_of old who.session r = e ∙ same ∙ ap (λ x. tested_of old who.session x) (sym (eqb-true r left is)) in
+            (let a = (h r).0 in let m = marks r in omega (arith, q), let b = (h r).1 in omega (arith, q))
+      ]
+      by false is e = (let a = (h r).0 in let m = marks r in omega arith, let b = (h r).1 in omega arith)
 
   pub can-left : ((since : ℕ) → since ≤ clock → changes_between who since clock rs ≡ changes_since who since rs) → ArePast old who.session clock → CanTestAll who old rs rules → is_hit who old rs (numbered rules left) ≡ false → CanTestAll who new rs rules
   can-left now past can missed r = by (numbered rules r) refl (can r)
@@ -112,11 +117,16 @@ module _ (who : Who) (old new : Kept) (rs : List Record) (clock : ℕ) (rules : 
       by None e h = tt
       by (Some rule) e h = (subst (λ (t : ℕ). AreLives (changes_since who t rs)) (sym (marks rule.id)) h.0, at (nat_eq rule.id left) refl (tested rule.id))
         where
-          at : (b : Bool) → nat_eq rule.id left ≡ b → tested_of new who.session rule.id ≡ cond b clock (tested_of old who.session rule.id)
+          at : (b : Bool) → nat_eq rule.id left ≡ b → tested_of new who.session rule.id ≡ cond b time (tested_of old who.session rule.id)
               → is_triggered rule.triggers rule.table (changes_between who (mark_of new who.session rule.id) (tested_of new who.session rule.id) rs) ≡ false
-          at true is t =
+          at true is t = elim which [
+            | inl at_now ↦
               let number : r ≡ left = sym (id-of rules r rule e) ∙ eqb-true rule.id left is in
               let not_hit : is_hit who old rs (Some rule) ≡ false = ap (is_hit who old rs) (sym e ∙ ap (numbered rules) number) ∙ missed in
               let early : mark_of old who.session rule.id ≤ clock = (let a = (past rule.id).0 in let b = (past rule.id).1 in omega arith) in
-              ap (is_triggered rule.triggers rule.table) ((λ i. changes_between who (marks rule.id i) (t i) rs) ∙ now (mark_of old who.session rule.id) early) ∙ not_hit
+              ap (is_triggered rule.triggers rule.table) ((λ i. changes_between who (marks rule.id i) ((t ∙ at_now) i) rs) ∙ now (mark_of old who.session rule.id) early) ∙ not_hit
+            | inr same ↦
+              let q : tested_of new who.session rule.id ≡ tested_of old who.session rule.id = t ∙ same ∙ ap (λ x. tested_of old who.session x) (sym (eqb-true rule.id left is)) in
+              ap (is_triggered rule.triggers rule.table) (λ i. changes_between who (marks rule.id i) (q i) rs) ∙ h.1
+          ]
           at false is t = ap (is_triggered rule.triggers rule.table) (λ i. changes_between who (marks rule.id i) (t i) rs) ∙ h.1

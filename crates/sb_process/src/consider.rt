@@ -1,5 +1,5 @@
 //! One consideration of a rule.
-ghost use Rattle.std.specs.Prelude.{◌≡◌, ◌⊎◌, [], ◌∷◌, ◌-◌, ◌≤◌, ◌<◌, ◌+◌, ◌*◌, ◌^◌, ℕ, List, length, IfOk};
+ghost use Rattle.std.specs.Prelude.{◌≡◌, ◌⊎◌, [], ◌∷◌, ◌-◌, ◌≤◌, ◌<◌, ◌+◌, ◌*◌, ◌^◌, ℕ, List, length, IfOk, OnOk, OnErr};
 ghost use Rattle.sb_rawlog.specs.Sessions.{OthersStay};
 ghost use Rattle.sb_tables.specs.Held.{Held};
 ghost use Rattle.sb_process.specs.Consider as spec;
@@ -56,7 +56,9 @@ impl Database {
         let Ok(tables) = self.rule_tables(alloc, log, session, rule) else {
             return Err(Refusal::NoMemory);
         };
-        self.mark_now(log, session, rule);
+        let Ok(()) = self.mark_now(log, session, rule) else {
+            return Err(Refusal::NoMemory);
+        };
         match self.test(alloc, session, &tables, &rule.condition) {
             Ok(true) => {
                 self.run_actions(alloc, log, index, session, &tables, rule.actions.as_slice())
@@ -87,12 +89,19 @@ impl Database {
     }
 
     /// Sets a rule's mark at the end of the session's changes.
-    fn mark_now<L: ChangeLog>(&mut self, log: &L, session: SessionId, rule: &Rule)
-        ensures marked { (origin : List Held) (setting : Setting) (progress : Progress) → Represents origin self.old session (L.records log.now) (L.clock log.now) setting progress → Represents origin self.new session (L.records log.now) (L.clock log.now) setting (marked rule.now progress) }
+    fn mark_now<L: ChangeLog>(
+        &mut self,
+        log: &L,
+        session: SessionId,
+        rule: &Rule,
+    ) -> Result<(), AllocError>
+        ensures marked { OnOk result ((origin : List Held) (setting : Setting) (progress : Progress) → Represents origin self.old session (L.records log.now) (L.clock log.now) setting progress → Represents origin self.new session (L.records log.now) (L.clock log.now) setting (marked rule.now progress)) }
+        ensures unchanged { OnErr result (self.new ≡ self.old) }
         ensures sessions { OtherSessionsStay self.old.transactions self.new.transactions session }
         ensures only_marks { self.new ≡ record self.old { transactions = self.new.transactions } }
     {
-        self.transactions.set_mark(session, rule.id, log.now());
+        self.transactions.set_mark(session, rule.id, log.now())?;
+        Ok(())
     }
 
     /// Runs actions in order, up to a `rollback` or a refusal.

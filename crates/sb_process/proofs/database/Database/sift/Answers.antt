@@ -1,4 +1,4 @@
-use Rattle.std.proofs.Common.{◌≡◌, ◌∙◌, ◌+◌, ◌<◌, ℕ, Bool, true, false, ◌&&◌, cond, nat_eq, sym, ap, refl, subst, arith, eq-eqb}
+use Rattle.std.proofs.Common.{◌≡◌, ◌∙◌, ◌⊎◌, inl, inr, ◌+◌, ◌<◌, ℕ, Bool, true, false, ◌&&◌, cond, nat_eq, sym, ap, refl, subst, arith, eq-eqb}
 use Rattle.sb_value.specs.declared.id.Who.{Who}
 use Rattle.sb_value.specs.Flags.{flag_at}
 use Rattle.sb_catalog.specs.Rules.{numbered}
@@ -27,12 +27,13 @@ loop-rule-preserved-then-not-is_hit g c =
     let seen = ap (λ (w : Who). is_hit w old (g.L.ChangeLog.records c.args.log.now) (numbered c.args.catalog.now rule)) same
     ∙ hit-same who c.args.self.now.transactions old (g.L.ChangeLog.records c.args.log.now) (numbered c.args.catalog.now rule) inv.marks in
     let missed : hit rule ≡ false = sym seen ∙ sym c.is_hit.ensures ∙ c.if-not-is_hit.true in
-    let tested = λ (r : ℕ).
-    c.leave.ensures.tested session r ∙ (λ i. cond (own i && nat_eq r rule) (c.now-now.ensures.clock i) (tested_of old session r)) in
+    let told = c.leave.ensures.tested in
+    let which : (told.0 ≡ g.L.ChangeLog.clock c.args.log.now) ⊎ (told.0 ≡ tested_of old session rule) = elim told.1 [ | inl e ↦ inl (e ∙ c.now-now.ensures.clock) | inr e ↦ inr e ] in
+    let tested = λ (r : ℕ). told.2 session r ∙ (λ i. cond (own i && nat_eq r rule) told.0 (tested_of old session r)) in
     record {
       marks = λ s r. c.leave.ensures.marks s r ∙ inv.marks s r;
-      past = past-left who old c.leave.new.self (g.L.ChangeLog.records c.args.log.now) (g.L.ChangeLog.clock c.args.log.now) c.args.catalog.now rule (λ r. c.leave.ensures.marks session r) tested inv.past;
-      can = can-left who old c.leave.new.self (g.L.ChangeLog.records c.args.log.now) (g.L.ChangeLog.clock c.args.log.now) c.args.catalog.now rule (λ r. c.leave.ensures.marks session r) tested
+      past = past-left who old c.leave.new.self (g.L.ChangeLog.records c.args.log.now) (g.L.ChangeLog.clock c.args.log.now) c.args.catalog.now rule told.0 which (λ r. c.leave.ensures.marks session r) tested inv.past;
+      can = can-left who old c.leave.new.self (g.L.ChangeLog.records c.args.log.now) (g.L.ChangeLog.clock c.args.log.now) c.args.catalog.now rule told.0 which (λ r. c.leave.ensures.marks session r) tested
           (λ since le. between-now who since (g.L.ChangeLog.clock c.args.log.now) (g.L.ChangeLog.records c.args.log.now) (subst (Rising 0 (g.L.ChangeLog.records c.args.log.now)) c.now-now.ensures.clock c.now-now.ensures.rising)
           c.now-now.ensures.marks c.now-now.ensures.times le)
           inv.past inv.can (sym (ap (λ (w : Who). is_hit w old (g.L.ChangeLog.records c.args.log.now) (numbered c.args.catalog.now rule)) same) ∙ sym c.is_hit.ensures ∙ c.if-not-is_hit.true);
@@ -45,7 +46,7 @@ loop-rule-preserved-then-not-is_hit g c =
           ∙ left-stay hit rule flag kept (flag_at c.args.eligible) (nat_eq session session) own missed (is_candidate_of c.args.self.now.transactions session) inv.stay r it;
       sessions = λ s r other. (
         c.leave.ensures.marks s r ∙ (inv.sessions s r other).0,
-        c.leave.ensures.tested s r ∙ ap (λ (b : Bool). cond (b && nat_eq r rule) c.now-now.result (tested_of old s r)) other ∙ (inv.sessions s r other).1,
+        told.2 s r ∙ ap (λ (b : Bool). cond (b && nat_eq r rule) told.0 (tested_of old s r)) other ∙ (inv.sessions s r other).1,
         c.leave.ensures.candidates s r ∙ left-other (is_candidate_of old s r) (nat_eq s session) (nat_eq r rule) other ∙ (inv.sessions s r other).2,
       );
       same = ap (λ (d : Database). record d { transactions = c.leave.new.self }) inv.same;
