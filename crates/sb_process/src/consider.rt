@@ -8,7 +8,7 @@ ghost use Rattle.sb_process.specs.Represents.{Represents, who_in};
 ghost use Rattle.sb_process.specs.Running.{IsRunning, ComesTo, Acts, Ends, Goes};
 ghost use Rattle.sb_process.specs.Setting.{Setting, Progress, marked, rule_tables};
 ghost use Rattle.sb_process.specs.Statement.{RisesBy};
-ghost use Rattle.sb_marks.specs.Transactions.{OtherSessionsStay};
+ghost use Rattle.sb_process.specs.Transactions.{OtherSessionsStay};
 ghost use Rattle.sb_process.specs.Work.{AreActionsThere, IsConditionThere};
 
 use crate::database::Database;
@@ -96,9 +96,9 @@ impl Database {
         rule: &Rule,
     ) -> Result<(), AllocError>
         ensures marked { OnOk result ((origin : List Held) (setting : Setting) (progress : Progress) → Represents origin self.old session (L.records log.now) (L.clock log.now) setting progress → Represents origin self.new session (L.records log.now) (L.clock log.now) setting (marked rule.now progress)) }
+        ensures sessions { OnOk result (OtherSessionsStay self.old.transactions self.new.transactions session) }
+        ensures only_marks { OnOk result (self.new ≡ record self.old { transactions = self.new.transactions }) }
         ensures unchanged { OnErr result (self.new ≡ self.old) }
-        ensures sessions { OtherSessionsStay self.old.transactions self.new.transactions session }
-        ensures only_marks { self.new ≡ record self.old { transactions = self.new.transactions } }
     {
         self.transactions.set_mark(session, rule.id, log.now())?;
         Ok(())

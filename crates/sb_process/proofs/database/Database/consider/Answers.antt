@@ -23,14 +23,14 @@ run_actions-requires-clause-running g c =
     let w = c.requires.running in
     let records = g.L.ChangeLog.records c.args.log.now in
     let clock = g.L.ChangeLog.clock c.args.log.now in
-    let m = c.mark_now.ensures.marked w.0 w.1 w.2 w.3.transaction in
+    let m = c.in-Ok-mark_now.ensures.marked w.0 w.1 w.2 w.3.transaction in
     let come = c.test.ensures.under_way w.0 records clock w.1 (marked c.args.rule.now w.2) m in (
       w.0,
       w.1,
       come.0,
       record {
         transaction = (come.1).stands;
-        indexed = subst (λ id. AreIndexed c.args.index.now id (w.1).rules) (same-id c.args.self.now c.mark_now.new.self c.test.new.self c.mark_now.ensures.only_marks c.test.ensures.only_locks) w.3.indexed;
+        indexed = subst (λ id. AreIndexed c.args.index.now id (w.1).rules) (same-id c.args.self.now c.mark_now.new.self c.test.new.self c.in-Ok-mark_now.ensures.only_marks c.test.ensures.only_locks) w.3.indexed;
       },
     )
 
@@ -44,7 +44,7 @@ returns-in-Ok-true-clause-considered g c = λ origin setting progress w.
     let tested = test_condition setting tables rule.condition start in
     let S = λ (q : Progress). ComesTo origin mid session records clock setting start q in
     let R = λ (q : Progress). ComesTo origin new.self session later time setting progress q in
-    let answer = c.test.ensures.tested origin records clock setting start (c.mark_now.ensures.marked origin setting progress w.transaction) in
+    let answer = c.test.ensures.tested origin records clock setting start (c.in-Ok-mark_now.ensures.marked origin setting progress w.transaction) in
     let one = went setting tables rule S tested c.test.result answer true (c.in-Ok-true.is ∙ ap Ok c.in-Ok-true.field-0-test) in
     let Q = λ (q : Progress). ComesTo origin new.self session later time setting one.0 q in
     let last = ends-after R Q (run_actions setting tables rule.actions one.0) (run_actions setting tables c.as_slice.result.now one.0) c.run_actions.result
@@ -52,7 +52,7 @@ returns-in-Ok-true-clause-considered g c = λ origin setting progress w.
     (λ q h. comes-on origin session setting progress one.0 q mid new.self records later clock time (comes-marked origin session setting rule progress one.0 mid records clock one.1) h)
     (c.run_actions.ensures.ran origin setting one.0 (record {
       transaction = (one.1).stands;
-      indexed = subst (λ id. AreIndexed c.args.index.now id setting.rules) (same-id c.args.self.now c.mark_now.new.self mid c.mark_now.ensures.only_marks c.test.ensures.only_locks) w.indexed;
+      indexed = subst (λ id. AreIndexed c.args.index.now id setting.rules) (same-id c.args.self.now c.mark_now.new.self mid c.in-Ok-mark_now.ensures.only_marks c.test.ensures.only_locks) w.indexed;
     })) in
     subst (λ (x : Considered). Goes R x c.run_actions.result ⊎ (c.run_actions.result ≡ Err NoMemory))
     (ap (λ (t : Transition). considered setting t rule (test_condition setting t rule.condition start)) (c.in-Ok.ensures origin setting progress w.transaction))
@@ -63,10 +63,10 @@ returns-in-Ok-true-clause-under_way g c = λ origin setting progress w.
     let session = c.args.session in let rule = c.args.rule.now in
     let records = g.L.ChangeLog.records c.args.log.now in let clock = g.L.ChangeLog.clock c.args.log.now in
     let mid = c.test.new.self in let new = c.run_actions.new in
-    let one = c.test.ensures.under_way origin records clock setting (marked rule progress) (c.mark_now.ensures.marked origin setting progress w.transaction) in
+    let one = c.test.ensures.under_way origin records clock setting (marked rule progress) (c.in-Ok-mark_now.ensures.marked origin setting progress w.transaction) in
     let all = c.run_actions.ensures.under_way origin setting one.0 (record {
       transaction = (one.1).stands;
-      indexed = subst (λ id. AreIndexed c.args.index.now id setting.rules) (same-id c.args.self.now c.mark_now.new.self mid c.mark_now.ensures.only_marks c.test.ensures.only_locks) w.indexed;
+      indexed = subst (λ id. AreIndexed c.args.index.now id setting.rules) (same-id c.args.self.now c.mark_now.new.self mid c.in-Ok-mark_now.ensures.only_marks c.test.ensures.only_locks) w.indexed;
     }) in (
       all.0,
       comes-on origin session setting progress one.0 all.0 mid new.self records (g.L.ChangeLog.records new.log) clock (g.L.ChangeLog.clock new.log)
@@ -78,7 +78,7 @@ returns-in-Ok-true-clause-numbers g c = λ n h.
     let same = ap length c.as_slice.ensures in
     each-weaken (n + 4096 * length c.as_slice.result.now) (n + 32768) (entries c.run_actions.new.self.tables) (omega (arith, same, c.requires.few))
     (c.run_actions.ensures.numbers n
-    (subst (λ (ts : List Held). EachBelow n (entries ts)) (same-held c.args.self.now c.mark_now.new.self c.test.new.self c.mark_now.ensures.only_marks c.test.ensures.only_locks) h))
+    (subst (λ (ts : List Held). EachBelow n (entries ts)) (same-held c.args.self.now c.mark_now.new.self c.test.new.self c.in-Ok-mark_now.ensures.only_marks c.test.ensures.only_locks) h))
 
 pub returns-in-Ok-false-clause-considered : goal.returns-in-Ok-false-clause-considered
 returns-in-Ok-false-clause-considered g c = λ origin setting progress w.
@@ -89,7 +89,7 @@ returns-in-Ok-false-clause-considered g c = λ origin setting progress w.
     let S = λ (q : Progress). ComesTo origin c.test.new.self session records clock setting start q in
     let R = λ (q : Progress). ComesTo origin c.test.new.self session records clock setting progress q in
     let answer = tests-map S R (λ q h. comes-marked origin session setting rule progress q c.test.new.self records clock h) tested c.test.result
-    (c.test.ensures.tested origin records clock setting start (c.mark_now.ensures.marked origin setting progress w.transaction)) in
+    (c.test.ensures.tested origin records clock setting start (c.in-Ok-mark_now.ensures.marked origin setting progress w.transaction)) in
     let result : Result Consideration Refusal = Ok False in
     subst (λ (x : Considered). Goes R x result ⊎ (result ≡ Err NoMemory))
     (ap (λ (t : Transition). considered setting t rule (test_condition setting t rule.condition start)) (c.in-Ok.ensures origin setting progress w.transaction))
@@ -98,13 +98,13 @@ returns-in-Ok-false-clause-considered g c = λ origin setting progress w.
 pub returns-in-Ok-false-clause-under_way : goal.returns-in-Ok-false-clause-under_way
 returns-in-Ok-false-clause-under_way g c = λ origin setting progress w.
     let records = g.L.ChangeLog.records c.args.log.now in let clock = g.L.ChangeLog.clock c.args.log.now in
-    let one = c.test.ensures.under_way origin records clock setting (marked c.args.rule.now progress) (c.mark_now.ensures.marked origin setting progress w.transaction) in
+    let one = c.test.ensures.under_way origin records clock setting (marked c.args.rule.now progress) (c.in-Ok-mark_now.ensures.marked origin setting progress w.transaction) in
     (one.0, comes-marked origin c.args.session setting c.args.rule.now progress one.0 c.test.new.self records clock one.1)
 
 pub returns-in-Ok-false-clause-numbers : goal.returns-in-Ok-false-clause-numbers
 returns-in-Ok-false-clause-numbers g c = λ n h.
     each-weaken n (n + 32768) (entries c.test.new.self.tables) (omega arith)
-    (subst (λ (ts : List Held). EachBelow n (entries ts)) (same-held c.args.self.now c.mark_now.new.self c.test.new.self c.mark_now.ensures.only_marks c.test.ensures.only_locks) h)
+    (subst (λ (ts : List Held). EachBelow n (entries ts)) (same-held c.args.self.now c.mark_now.new.self c.test.new.self c.in-Ok-mark_now.ensures.only_marks c.test.ensures.only_locks) h)
 
 pub returns-clause-considered : goal.returns-clause-considered
 returns-clause-considered g c = λ origin setting progress w.
@@ -115,7 +115,7 @@ returns-clause-considered g c = λ origin setting progress w.
     let S = λ (q : Progress). ComesTo origin c.test.new.self session records clock setting start q in
     let R = λ (q : Progress). ComesTo origin c.test.new.self session records clock setting progress q in
     let answer = tests-map S R (λ q h. comes-marked origin session setting rule progress q c.test.new.self records clock h) tested c.test.result
-    (c.test.ensures.tested origin records clock setting start (c.mark_now.ensures.marked origin setting progress w.transaction)) in
+    (c.test.ensures.tested origin records clock setting start (c.in-Ok-mark_now.ensures.marked origin setting progress w.transaction)) in
     let result : Result Consideration Refusal = Err c.in-Err.refusal in
     subst (λ (x : Considered). Goes R x result ⊎ (result ≡ Err NoMemory))
     (ap (λ (t : Transition). considered setting t rule (test_condition setting t rule.condition start)) (c.in-Ok.ensures origin setting progress w.transaction))
@@ -124,10 +124,10 @@ returns-clause-considered g c = λ origin setting progress w.
 pub returns-clause-under_way : goal.returns-clause-under_way
 returns-clause-under_way g c = λ origin setting progress w.
     let records = g.L.ChangeLog.records c.args.log.now in let clock = g.L.ChangeLog.clock c.args.log.now in
-    let one = c.test.ensures.under_way origin records clock setting (marked c.args.rule.now progress) (c.mark_now.ensures.marked origin setting progress w.transaction) in
+    let one = c.test.ensures.under_way origin records clock setting (marked c.args.rule.now progress) (c.in-Ok-mark_now.ensures.marked origin setting progress w.transaction) in
     (one.0, comes-marked origin c.args.session setting c.args.rule.now progress one.0 c.test.new.self records clock one.1)
 
 pub returns-clause-numbers : goal.returns-clause-numbers
 returns-clause-numbers g c = λ n h.
     each-weaken n (n + 32768) (entries c.test.new.self.tables) (omega arith)
-    (subst (λ (ts : List Held). EachBelow n (entries ts)) (same-held c.args.self.now c.mark_now.new.self c.test.new.self c.mark_now.ensures.only_marks c.test.ensures.only_locks) h)
+    (subst (λ (ts : List Held). EachBelow n (entries ts)) (same-held c.args.self.now c.mark_now.new.self c.test.new.self c.in-Ok-mark_now.ensures.only_marks c.test.ensures.only_locks) h)
