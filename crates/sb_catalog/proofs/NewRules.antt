@@ -2,6 +2,7 @@
 use Rattle.std.proofs.Common.{◌≡◌, ◌∙◌, ℕ, Bool, true, false, ◌||◌, cond, nat_eq, List, [], ◌∷◌, map, find, Option, Some, None, is_some, option_map, Result, Ok, Err, inl, inr, refl, sym, ap, eqb-true}
 use Rattle.std.proofs.lemmas.Bool.{false≢true, or_cases}
 use Rattle.std.specs.List.{list_any}
+use Rattle.std.specs.Prelude.{OnOk, OnErr}
 use Rattle.std.proofs.lemmas.Option.{none-some}
 use Rattle.sb_value.specs.Name.{same_name}
 use Rattle.sb_rulesets.specs.Ruleset.{Ruleset}
@@ -70,3 +71,8 @@ all_there rules (name ∷ names) ids e id h = by (rule_named rules name) refl (r
           | inl here ↦ ap (has (map (λ (r : Rule). r.id) rules)) (sym (eqb-true y id here)) ∙ named_listed rules name y f
           | inr there ↦ others ys g there
         ]
+
+-- an answer that can't be an error
+pub agreed : {E : Type 0} (r : Result (Unit {0}) E) (A B : Type 0) → OnOk r A → OnErr r B → (B → ⊥) → A
+agreed (Ok u) A B a b no = a
+agreed (Err e) A B a b no = absurd (no b)

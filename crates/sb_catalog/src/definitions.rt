@@ -117,7 +117,8 @@ impl Definitions {
         match self.rules.create(name, parts) {
             Ok(_) => match self.order.reserve(rule) {
                 Ok(()) => {
-                    let _closes_none = self.order.add(rule, before, after);
+                    // Its pairs close no cycle, so it is added.
+                    let _ = self.order.add(rule, before, after);
                     Ok(())
                 }
                 Err(_) => {

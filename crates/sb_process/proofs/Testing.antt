@@ -121,12 +121,12 @@ module _ (who : Who) (old new : Kept) (rs : List Record) (clock : ℕ) (rules : 
               → is_triggered rule.triggers rule.table (changes_between who (mark_of new who.session rule.id) (tested_of new who.session rule.id) rs) ≡ false
           at true is t = elim which [
             | inl at_now ↦
-              let number : r ≡ left = sym (id-of rules r rule e) ∙ eqb-true rule.id left is in
-              let not_hit : is_hit who old rs (Some rule) ≡ false = ap (is_hit who old rs) (sym e ∙ ap (numbered rules) number) ∙ missed in
-              let early : mark_of old who.session rule.id ≤ clock = (let a = (past rule.id).0 in let b = (past rule.id).1 in omega arith) in
-              ap (is_triggered rule.triggers rule.table) ((λ i. changes_between who (marks rule.id i) ((t ∙ at_now) i) rs) ∙ now (mark_of old who.session rule.id) early) ∙ not_hit
+                let number : r ≡ left = sym (id-of rules r rule e) ∙ eqb-true rule.id left is in
+                let not_hit : is_hit who old rs (Some rule) ≡ false = ap (is_hit who old rs) (sym e ∙ ap (numbered rules) number) ∙ missed in
+                let early : mark_of old who.session rule.id ≤ clock = (let a = (past rule.id).0 in let b = (past rule.id).1 in omega arith) in
+                ap (is_triggered rule.triggers rule.table) ((λ i. changes_between who (marks rule.id i) ((t ∙ at_now) i) rs) ∙ now (mark_of old who.session rule.id) early) ∙ not_hit
             | inr same ↦
-              let q : tested_of new who.session rule.id ≡ tested_of old who.session rule.id = t ∙ same ∙ ap (λ x. tested_of old who.session x) (sym (eqb-true rule.id left is)) in
-              ap (is_triggered rule.triggers rule.table) (λ i. changes_between who (marks rule.id i) (q i) rs) ∙ h.1
+                let q : tested_of new who.session rule.id ≡ tested_of old who.session rule.id = t ∙ same ∙ ap (λ x. tested_of old who.session x) (sym (eqb-true rule.id left is)) in
+                ap (is_triggered rule.triggers rule.table) (λ i. changes_between who (marks rule.id i) (q i) rs) ∙ h.1
           ]
           at false is t = ap (is_triggered rule.triggers rule.table) (λ i. changes_between who (marks rule.id i) (t i) rs) ∙ h.1

@@ -26,7 +26,6 @@ pub use laws::transactions_share_tables;
 pub use process::Rules;
 use sb_value::{Refusal, RuleId, Verdict};
 use std::marker::Model;
-pub use transactions::Transactions;
 
 /// How rule processing ended.
 #[derive(Drop)]

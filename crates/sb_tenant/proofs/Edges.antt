@@ -12,10 +12,10 @@ use Rattle.sb_tenant.specs.declared.reply.Answer.{Answer}
 use Rattle.sb_tenant.specs.declared.reply.Entry.{Entry}
 use Rattle.sb_tenant.specs.declared.reply.Reply.TheVariants as reply
 use Rattle.sb_tenant.specs.State.{State, idle, opening, session_at, has_transaction, is_open, with_session}
+use Rattle.sb_tenant.specs.Limits.{trail_limit}
 use Rattle.sb_tenant.specs.Step.{step}
 use Rattle.sb_tenant.specs.Trail.{entry_of, state_of}
 use Rattle.sb_tenant.proofs.Script.{replies, replies_in_sessions, row, t, h, a, integer_column, named, number, source, a_of, show, insert, b, aliased, plus_one, start, empties_h, no}
-use Rattle.sb_tenant.specs.Limits.{trail_limit}
 
 -- ---- limits of the catalog
 
@@ -29,9 +29,6 @@ sixteen_tables = refl
 
 pub sixteen_rulesets : drop 17 (replies 1000 (open_session ∷ each_from 17 0 create_ruleset)) ≡ no refusal.TooManyRulesets ∷ []
 sixteen_rulesets = refl
-
-pub sixty_four_rules : drop 67 (replies 1000 (start ++ each_from 65 0 (λ name. empties_h name [] []))) ≡ no refusal.TooManyRules ∷ []
-sixty_four_rules = refl
 
 -- ---- locks in the order of mention
 

@@ -9,13 +9,16 @@ use std::test::Fail;
 #[test]
 fn precedence(rt: HostRuntime) -> Result<(), Fail> {
     let [first, middle, last] = [RuleId::new(63), RuleId::new(7), RuleId::new(0)];
-    let mut order = Priorities::new();
+    let mut order = Priorities::new(rt.alloc());
     mark();
     assert!(rt; order.has_room());
+    order.reserve(middle)?;
     assert_eq!(rt; order.add(middle, &[], &[]), Ok(()));
     assert!(rt; order.has_room());
+    order.reserve(first)?;
     assert_eq!(rt; order.add(first, &[middle], &[]), Ok(()));
     assert!(rt; order.has_room());
+    order.reserve(last)?;
     assert_eq!(rt; order.add(last, &[], &[middle]), Ok(()));
     assert!(rt; order.precedes(first, last) && !order.precedes(last, first));
     let both = RuleSet::empty().with(last).with(first);

@@ -1,4 +1,4 @@
-use Rattle.std.proofs.Common.{◌≡◌, ◌∙◌, ℕ, not, List, map, Ok, IfOk, refl, sym, ap, subst}
+use Rattle.std.proofs.Common.{◌≡◌, ◌∙◌, ◌==◌, ℕ, not, List, map, Ok, IfOk, refl, sym, ap, subst}
 use Rattle.std.specs.List.{list_any}
 use Rattle.sb_value.specs.declared.refusal.Refusal.TheVariants.{Cycle}
 use Rattle.sb_check.specs.Names.{and_then, required}
@@ -9,6 +9,7 @@ use Rattle.sb_catalog.specs.Definitions.{rules_named, uncycled}
 use Rattle.sb_catalog.specs.Rules.{set_parts, with_parts}
 use Rattle.sb_catalog.proofs.Active.{any-changed}
 use Rattle.sb_catalog.proofs.Indexing.{has, listed_changed}
+use Rattle.sb_catalog.proofs.NewRules.{all_there, named_listed}
 use Rattle.sb_catalog.proofs.definitions.Definitions.alter_rule.Goals.{After-drop-before-in-Ok-alter}
 use Rattle.sb_catalog.proofs.definitions.Definitions.alter_rule.Goals as goal
 
@@ -38,3 +39,14 @@ returns-in-Ok-alter-clause-altered c pairs o =
 pub returns-in-Ok-alter-clause-indexed : goal.returns-in-Ok-alter-clause-indexed
 returns-in-Ok-alter-clause-indexed c index tenant h table operation id =
     h table operation id ∙ sym (any-changed (has table operation id) (set_parts (new_parts c.args.parts)) (λ r. refl) c.args.self.now.rules c.args.rule) ∙ ap (list_any (has table operation id)) (sym (altered c))
+
+-- the rule and those that it names are in the order
+pub alter-requires : goal.alter-requires
+alter-requires c =
+    let rules = c.args.self.now.rules in
+    let listed = c.requires.ordered.1.listed in
+    record {
+      known = ap (λ (ids : List ℕ). list_any (λ k. k == c.args.rule) ids) listed ∙ named_listed rules c.args.text.now.name c.args.rule c.requires.named;
+      others = λ r h. ap (λ (ids : List ℕ). list_any (λ k. k == r) ids) listed
+          ∙ all_there rules c.as_slice.result.now c.as_slice-4.result.now (c.in-Ok.ensures ∙ ap Ok (sym c.as_slice-4.ensures.value)) r h;
+    }

@@ -7,7 +7,7 @@ use Rattle.sb_catalog.specs.declared.rule.Rule.{Rule}
 use Rattle.sb_catalog.specs.declared.definitions.Definitions.{Definitions}
 use Rattle.sb_catalog.specs.Rules.{rule_of}
 use Rattle.sb_catalog.proofs.Indexing.{has, added, one_more, same_number, undone}
-use Rattle.sb_catalog.proofs.NewRules.{pairs_known}
+use Rattle.sb_catalog.proofs.NewRules.{all_there, pairs_known}
 use Rattle.sb_catalog.proofs.definitions.Definitions.create_rule.Goals as goal
 
 pub returns-in-Ok-push_rule-clause-created : goal.returns-in-Ok-push_rule-clause-created
@@ -52,3 +52,6 @@ returns-clause-indexed c = λ h table operation id.
     ∙ (λ i. (c.in-Ok-add_rule.ensures.added c.args.tenant table operation id ∙ (λ j. h table operation id j || (same_number c.args.tenant j && ((nat_eq table c.args.parts.table && nat_eq id n) && names triggers operation)))) i && not (same_number c.args.tenant i && nat_eq id n))
     ∙ undone table operation id n rules (nat_eq table c.args.parts.table) (names triggers operation) c.free_rule-rule.ensures.free
     ∙ ap (λ (d : Definitions). list_any (has table operation id) d.rules) (sym p.1)
+
+pub push_rule-requires-clause-others : goal.push_rule-requires-clause-others
+push_rule-requires-clause-others c = all_there c.args.self.now.rules c.args.precedes.now c.as_slice.result.now (c.in-Ok.ensures ∙ ap Ok (sym c.as_slice.ensures.value))

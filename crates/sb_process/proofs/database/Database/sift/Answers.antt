@@ -28,7 +28,7 @@ loop-rule-preserved-then-not-is_hit g c =
     ∙ hit-same who c.args.self.now.transactions old (g.L.ChangeLog.records c.args.log.now) (numbered c.args.catalog.now rule) inv.marks in
     let missed : hit rule ≡ false = sym seen ∙ sym c.is_hit.ensures ∙ c.if-not-is_hit.true in
     let told = c.leave.ensures.tested in
-    let which : (told.0 ≡ g.L.ChangeLog.clock c.args.log.now) ⊎ (told.0 ≡ tested_of old session rule) = elim told.1 [ | inl e ↦ inl (e ∙ c.now-now.ensures.clock) | inr e ↦ inr e ] in
+    let which : (told.0 ≡ g.L.ChangeLog.clock c.args.log.now) ⊎ (told.0 ≡ tested_of old session rule) = elim told.1 [ inl e ↦ inl (e ∙ c.now-now.ensures.clock) | inr e ↦ inr e ] in
     let tested = λ (r : ℕ). told.2 session r ∙ (λ i. cond (own i && nat_eq r rule) told.0 (tested_of old session r)) in
     record {
       marks = λ s r. c.leave.ensures.marks s r ∙ inv.marks s r;
