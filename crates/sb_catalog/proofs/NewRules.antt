@@ -35,8 +35,8 @@ no_ruleset (s ∷ sets) name e = by (same_name s.name name) e (no_ruleset sets n
     by true f rest = absurd (none-some s.rules (sym f))
     by false f rest = rest f
 
-same_Ok : (xs ys : List ℕ) → Ok {E = Refusal} xs ≡ Ok ys → xs ≡ ys
-same_Ok xs ys e = cc
+same_Ok : (xs ys : List ℕ) (r : Result (List ℕ) Refusal) → r ≡ Ok xs → r ≡ Ok ys → xs ≡ ys
+same_Ok xs ys r e f = cc
 
 -- a number that no rule has isn't listed
 pub unlisted : (rules : List Rule) (id : ℕ) → numbered rules id ≡ None → has (map (λ (r : Rule). r.id) rules) id ≡ false
@@ -59,7 +59,7 @@ named_listed rules name id e = by (named rules name) refl e
 
 -- so are all of a list
 pub all_there : (rules : List Rule) (names : List Name) (ids : List ℕ) → rules_named rules names ≡ Ok ids → AreThere rules ids
-all_there rules [] ids e id h = absurd (false≢true (ap (λ (l : List ℕ). has l id) (same_Ok [] ids e) ∙ h))
+all_there rules [] ids e id h = absurd (false≢true (ap (λ (l : List ℕ). has l id) (same_Ok [] ids (Ok []) refl e) ∙ h))
 all_there rules (name ∷ names) ids e id h = by (rule_named rules name) refl (rules_named rules names) refl e (λ ys g. all_there rules names ys g id)
   where
     by : (first : Result ℕ Refusal) → rule_named rules name ≡ first → (rest : Result (List ℕ) Refusal) → rules_named rules names ≡ rest → and_then first (λ y. and_then rest (λ ys. Ok (y ∷ ys))) ≡ Ok ids →
@@ -67,12 +67,12 @@ all_there rules (name ∷ names) ids e id h = by (rule_named rules name) refl (r
     by (Err x) f rest g all others = absurd (cc)
     by (Ok y) f (Err x) g all others = absurd (cc)
     by (Ok y) f (Ok ys) g all others =
-        elim (or_cases (nat_eq y id) (has ys id) (ap (λ (l : List ℕ). has l id) (same_Ok (y ∷ ys) ids all) ∙ h)) [
+        elim (or_cases (nat_eq y id) (has ys id) (ap (λ (l : List ℕ). has l id) (same_Ok (y ∷ ys) ids (Ok (y ∷ ys)) refl all) ∙ h)) [
           | inl here ↦ ap (has (map (λ (r : Rule). r.id) rules)) (sym (eqb-true y id here)) ∙ named_listed rules name y f
           | inr there ↦ others ys g there
         ]
 
 -- an answer that can't be an error
 pub agreed : {E : Type 0} (r : Result (Unit {0}) E) (A B : Type 0) → OnOk r A → OnErr r B → (B → ⊥) → A
-agreed (Ok u) A B a b no = a
-agreed (Err e) A B a b no = absurd (no b)
+agreed (Ok u) A B a b never = a
+agreed (Err e) A B a b never = absurd (never b)

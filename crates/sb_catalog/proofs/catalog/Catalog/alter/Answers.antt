@@ -1,7 +1,6 @@
-use Rattle.std.proofs.Common.{◌≡◌, ◌∙◌, ℕ, ap, sym, refl, List, Some, map}
+use Rattle.std.proofs.Common.{◌≡◌, ◌∙◌, ap, sym, refl, List, Some, map}
 use Rattle.std.specs.Map.{values_of, lookup, set_value}
 use Rattle.sb_value.specs.Name.{same_name}
-use Rattle.sb_check.specs.RuleParts.{NewParts}
 use Rattle.sb_check.specs.RulePartsView.{new_parts}
 use Rattle.sb_catalog.specs.declared.rule.Rule.{Rule}
 use Rattle.sb_catalog.specs.Places.{under_name}
