@@ -8,7 +8,7 @@ ghost use Rattle.sb_process.specs.Represents.{Represents, who_in};
 ghost use Rattle.sb_process.specs.Running.{IsRunning, ComesTo, Acts, Ends, Goes};
 ghost use Rattle.sb_process.specs.Setting.{Setting, Progress, marked, rule_tables};
 ghost use Rattle.sb_process.specs.Statement.{RisesBy};
-ghost use Rattle.sb_process.specs.Transactions.{OtherSessionsStay};
+ghost use Rattle.sb_marks.specs.Transactions.{OtherSessionsStay};
 ghost use Rattle.sb_process.specs.Work.{AreActionsThere, IsConditionThere};
 
 use crate::database::Database;

@@ -5,6 +5,7 @@ use Rattle.sb_value.specs.declared.refusal.Refusal.TheVariants.{NoMemory}
 use Rattle.sb_check.specs.declared.tree.Action.{Action}
 use Rattle.sb_tables.specs.Held.{Held, entries}
 use Rattle.sb_process.specs.declared.consider.Consideration.{Consideration}
+use Rattle.sb_process.specs.declared.database.Database.{Database}
 use Rattle.sb_process.specs.declared.consider.Consideration.TheVariants.{False}
 use Rattle.sb_process.specs.Consider.{Considered, test_condition, run_actions}
 use Rattle.sb_process.specs.Made.{EachBelow}
@@ -131,3 +132,8 @@ pub returns-clause-numbers : goal.returns-clause-numbers
 returns-clause-numbers g c = λ n h.
     each-weaken n (n + 32768) (entries c.test.new.self.tables) (omega arith)
     (subst (λ (ts : List Held). EachBelow n (entries ts)) (same-held c.args.self.now c.mark_now.new.self c.test.new.self c.in-Ok-mark_now.ensures.only_marks c.test.ensures.only_locks) h)
+
+pub returns-in_default-mark_now-clause-numbers : goal.returns-in_default-mark_now-clause-numbers
+returns-in_default-mark_now-clause-numbers g c = λ n h.
+    each-weaken n (n + 32768) (entries c.mark_now.new.self.tables) (omega arith)
+    (subst (λ (d : Database). EachBelow n (entries d.tables)) (sym c.in_default-mark_now.ensures.unchanged) h)
