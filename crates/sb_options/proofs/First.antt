@@ -1,5 +1,5 @@
 -- The first part that isn't allowed.
-use Rattle.std.proofs.Common.{◌≡◌, ◌⊎◌, ℕ, List, [], ◌∷◌, ◌++◌, codes, Option, Some, None, inl, inr}
+use Rattle.std.proofs.Common.{ℕ, List, [], ◌∷◌, ◌++◌, Option, Some, None, inl, inr}
 use Rattle.std.specs.Prelude.{⊤}
 use Rattle.clap.specs.Words.{Text}
 use Rattle.sb_options.specs.Asking.{HasNumber, HostsBy, IsReplay, IsRun, IsServe, RunsBy}
@@ -8,7 +8,7 @@ use Rattle.sb_options.specs.Unfit.{IsFirstOf, IsUnfit, IsUnfitOption, LacksNumbe
 use Rattle.sb_options.specs.declared.request.Hosting.{Hosting}
 use Rattle.sb_options.specs.declared.request.Run.{Run}
 use Rattle.sb_options.specs.declared.unfit.Part.{Part}
-use Rattle.sb_options.specs.declared.unfit.Part.TheVariants.{Command, Tenants, Bound, Cells, Workers, Port, Connections, Idle, UntilInputEnds}
+use Rattle.sb_options.specs.declared.unfit.Part.TheVariants.{Tenants, Bound, Cells, Workers, Port, Connections, Idle, UntilInputEnds}
 use Rattle.sb_options.specs.declared.unfit.Unfit.{Unfit}
 use Rattle.sb_options.proofs.Once.{no_word}
 
