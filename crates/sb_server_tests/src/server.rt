@@ -1,8 +1,8 @@
 //! A server with a client over a socket.
 ghost use Rattle.std.specs.Prelude.{◌≡◌};
 
-use sb_host::{Host, Naming, Opened};
 use sb_connection::NoWatch;
+use sb_host::{Host, Naming, Opened};
 use sb_service::serve_on;
 use std::alloc::Global;
 use std::io::{Read, Write};
