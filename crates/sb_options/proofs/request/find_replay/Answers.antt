@@ -10,5 +10,7 @@ returns-in-Err-clause-unfit c =
 pub returns-in-Some-clause-unfit : goal.returns-in-Some-clause-unfit
 returns-in-Some-clause-unfit c =
     let t = texts_of c.args.given in
-    inr (λ x. x.2 c.requires,
-    first_behind t c.in-Some.unfit (run_parts ++ host_parts) server_parts (host_fits t c.in-Ok.hosting (replay_no_run t c.requires) c.in-Ok.ensures.asked) c.in-Some.ensures)
+    inr (
+      λ x. x.2 c.requires,
+      first_behind t c.in-Some.unfit (run_parts ++ host_parts) server_parts (host_fits t c.in-Ok.hosting (replay_no_run t c.requires) c.in-Ok.ensures.asked) c.in-Some.ensures,
+    )
