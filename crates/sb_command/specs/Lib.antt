@@ -1,2 +1,3 @@
 pub mod Does
 pub mod Faults
+pub mod Refusals

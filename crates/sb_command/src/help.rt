@@ -2,9 +2,6 @@
 
 pub(crate) const VERSION: &str = "starhost 0.1\n";
 
-/// A refusal of what clap takes.
-pub(crate) const NOT_ALLOWED: &str = "error: a word or a number isn't allowed";
-
 /// What stands behind the first words of a refusal.
 pub(crate) const ALLOWED: &str = "; allowed are: run, serve, replay, --tenants 1 to 256, \
 --bound 1 to 1000; of serve and replay --cells 1 to 16, --workers 1 to 16; of serve --port \

@@ -5,6 +5,7 @@ mod console;
 mod fault;
 mod help;
 mod program;
+mod refusing;
 mod telling;
 
 pub use console::Console;

@@ -13,24 +13,24 @@ ghost use Rattle.sb_options.specs.declared.request.Request.TheVariants as reques
 ghost use Rattle.sb_options.specs.declared.request.Run.{Run as ItsRun};
 ghost use Rattle.sb_options.specs.declared.request.Serving.{Serving as ItsServing};
 ghost use Rattle.sb_options.specs.Within.{AreRun, IsWithin};
-ghost use Rattle.sb_options.specs.Words.{AreRefused, AskFor, AskForHelp, AskForVersion};
+ghost use Rattle.sb_options.specs.Words.{AskFor, AskForHelp, AskForVersion, HasFault, HaveUnfit};
+ghost use Rattle.sb_options.specs.declared.unfit.Unfit.{Unfit as ItsUnfit};
+ghost use Rattle.sb_command.specs.Refusals.{refusal_text};
 
 use crate::console::Console;
 use crate::fault::tell_fault;
-use crate::help::{ALLOWED, HELP, NOT_ALLOWED, VERSION};
+use crate::help::{ALLOWED, HELP, VERSION};
+use crate::refusing::{refuse, refuse_part};
 use crate::telling::{SUCCESS, fault, tell_run};
-use clap::Error;
+use sb_options::{Asked, Request, Run, read_words, words_ask_once};
 use sb_service::{Fault, replay, serve};
 use sb_wire::{Sink, Source, StreamError, Summary, run_fresh, write_bytes};
-use sb_options::{Asked, Request, Run, read_words, words_ask_once};
 use std::alloc::Global;
 use std::convert::AsStr;
 use std::net::{Net, TcpListener, TcpStream};
 use std::rt::Clock;
 use std::sync::Wait;
 use std::thread::Threads;
-
-const BAD_WORDS: u8 = 2;
 
 /// Does what the program's words ask for, and gives its status.
 pub fn command<
@@ -58,7 +58,7 @@ pub fn command<
         × Appends (W.contents writer.old) (W.contents writer.new) text
         × Replays h.run.tenants h.run.bound input text) }
     // whatever the status: of a run how its stream went; of a server or a replay the fault that it ended with; help and the
-    // version, as they are asked for; words that are refused; and want of memory
+    // version, as they are asked for; words with a fault; the first part that isn't allowed, by its line; and want of memory
     ensures asked { ((r : ItsRun) × AskFor (map S.text words.now) (request.Run r)
         × (ended : _) × (summary : _) × (result ≡ status_of ended)
         × GoesFresh R.fails R.remaining W.refuses W.contents r.tenants r.bound reader.old reader.new
@@ -79,8 +79,11 @@ pub fn command<
         ⊎ (AskForVersion (map S.text words.now) × (reader.new ≡ reader.old)
         × Shows W.refuses W.contents E.refuses E.contents VERSION.now writer.old writer.new
         errors.old.sink errors.new.sink result)
-        ⊎ (AreRefused (map S.text words.now) × (result ≡ 2) × (reader.new ≡ reader.old)
+        ⊎ (HasFault (map S.text words.now) × (result ≡ 2) × (reader.new ≡ reader.old)
         × (writer.new ≡ writer.old))
+        ⊎ ((u : ItsUnfit) × HaveUnfit (map S.text words.now) u × (result ≡ 2)
+        × (reader.new ≡ reader.old) × (writer.new ≡ writer.old)
+        × Tells E.refuses E.contents errors.old.sink errors.new.sink (refusal_text ALLOWED.now u))
         ⊎ ((result ≡ 1) × (reader.new ≡ reader.old) × (writer.new ≡ writer.old)
         × Tells E.refuses E.contents errors.old.sink errors.new.sink
         (fault_line StreamError.NoMemory)) }
@@ -100,7 +103,7 @@ pub fn command<
         Ok(Asked::Help) => show(HELP, writer, &mut errors.sink),
         Ok(Asked::Version) => show(VERSION, writer, &mut errors.sink),
         Ok(Asked::Refused(error)) => refuse(alloc, &error, &mut errors.sink),
-        Ok(Asked::NotAllowed) => refuse_numbers(&mut errors.sink),
+        Ok(Asked::NotAllowed(unfit)) => refuse_part(alloc, unfit, &mut errors.sink),
         Err(_) => fault(StreamError::NoMemory, &mut errors.sink),
     }
 }
@@ -153,28 +156,4 @@ fn show<W: Sink, E: Sink>(text: &str, writer: &mut W, errors: &mut E) -> u8
         Ok(()) => SUCCESS,
         Err(error) => fault(error, errors),
     }
-}
-
-/// Writes the first line of an error, and what is allowed.
-fn refuse<E: Sink>(alloc: Global, error: &Error, errors: &mut E) -> u8
-    ensures { (result ≡ 2) ⊎ ((result ≡ 1)
-        × Tells E.refuses E.contents errors.old errors.new (fault_line StreamError.NoMemory)) }
-{
-    let Ok(text) = format!(in alloc; "{error}") else {
-        return fault(StreamError::NoMemory, errors);
-    };
-    if let Some(line) = text.as_str().lines().next() {
-        let _told = write_bytes(errors, line.as_bytes());
-    }
-    let _told = write_bytes(errors, ALLOWED.as_bytes());
-    BAD_WORDS
-}
-
-/// Says what is allowed where clap found no fault.
-fn refuse_numbers<E: Sink>(errors: &mut E) -> u8
-    ensures { result ≡ 2 }
-{
-    let _told = write_bytes(errors, NOT_ALLOWED.as_bytes());
-    let _told = write_bytes(errors, ALLOWED.as_bytes());
-    BAD_WORDS
 }

@@ -1,2 +1,3 @@
+mod First
 mod Found
 mod Once

@@ -64,7 +64,7 @@ word_length (Some t) = length t
 apart : (m n : ℕ) → m < n → m ≡ n → ⊥
 apart m n less e = absurd (omega arith)
 
-no_word : (o : Option Text) → (o ≡ None) ⊎ (o ≡ Some (codes "run")) → (o ≡ Some (codes "serve")) ⊎ (o ≡ Some (codes "replay")) → ⊥
+pub no_word : (o : Option Text) → (o ≡ None) ⊎ (o ≡ Some (codes "run")) → (o ≡ Some (codes "serve")) ⊎ (o ≡ Some (codes "replay")) → ⊥
 no_word o (inl a) (inl b) = apart 0 5 (omega arith) (ap word_length (sym a ∙ b))
 no_word o (inl a) (inr b) = apart 0 6 (omega arith) (ap word_length (sym a ∙ b))
 no_word o (inr a) (inl b) = apart 3 5 (omega arith) (ap word_length (sym a ∙ b))

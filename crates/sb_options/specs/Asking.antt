@@ -59,8 +59,18 @@ LacksServer t = (t.port ≡ None) × (t.connections ≡ None) × (t.idle ≡ Non
 abbrev pub LacksHost : Texts → Type 0
 LacksHost t = (t.cells ≡ None) × (t.workers ≡ None) × LacksServer t
 
--- these texts ask for a command with the options that it has; no command is `run`
+-- no command is `run`
+abbrev pub IsRun : Texts → Type 0
+IsRun t = (t.command ≡ None) ⊎ (t.command ≡ Some (codes "run"))
+
+abbrev pub IsServe : Texts → Type 0
+IsServe t = t.command ≡ Some (codes "serve")
+
+abbrev pub IsReplay : Texts → Type 0
+IsReplay t = t.command ≡ Some (codes "replay")
+
+-- these texts ask for a command with the options that it has
 abbrev pub AsksBy : Texts → Request → Type 0
-AsksBy t (run_request r) = ((t.command ≡ None) ⊎ (t.command ≡ Some (codes "run"))) × LacksHost t × RunsBy t r
-AsksBy t (Serve s) = (t.command ≡ Some (codes "serve")) × ServesBy t s
-AsksBy t (Replay h) = (t.command ≡ Some (codes "replay")) × LacksServer t × HostsBy t h
+AsksBy t (run_request r) = IsRun t × LacksHost t × RunsBy t r
+AsksBy t (Serve s) = IsServe t × ServesBy t s
+AsksBy t (Replay h) = IsReplay t × LacksServer t × HostsBy t h

@@ -1,4 +1,5 @@
 pub mod Texts
 pub mod Asking
+pub mod Unfit
 pub mod Words
 pub mod Within

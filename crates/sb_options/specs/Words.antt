@@ -1,12 +1,14 @@
 -- What the words of a command line ask for.
-use Rattle.std.specs.Prelude.{◌≡◌, ◌≢◌, ◌⊎◌, List, [], codes, true, Some}
+use Rattle.std.specs.Prelude.{◌≡◌, ◌≢◌, List, [], codes, true, Some}
 use Rattle.clap.specs.Words.{App, IsAmong, Row, Rule, Text, fault_of, first_of, matches_of, new_app, new_rule, with_rule}
 use Rattle.clap.specs.declared.builder.action.ArgAction.TheVariants.{SetTrue}
 use Rattle.clap.specs.declared.error.kind.ErrorKind.{ErrorKind}
 use Rattle.clap.specs.declared.error.kind.ErrorKind.TheVariants.{DisplayHelp, DisplayVersion}
 use Rattle.sb_options.specs.Asking.{AsksBy}
 use Rattle.sb_options.specs.Texts.{Texts}
+use Rattle.sb_options.specs.Unfit.{IsFirstUnfit}
 use Rattle.sb_options.specs.declared.request.Request.{Request}
+use Rattle.sb_options.specs.declared.unfit.Unfit.{Unfit}
 use Rattle.sb_options.specs.declared.words.Asked.{Asked}
 use Rattle.sb_options.specs.declared.words.Asked.TheVariants.{For, Help, Version, Refused, NotAllowed}
 
@@ -64,17 +66,17 @@ AskForVersion words = IsAmong DisplayVersion (fault_of starhost words)
 abbrev pub HasFault : List Text → Type 0
 HasFault words = (kind : ErrorKind) × IsAmong kind (fault_of starhost words) × (kind ≢ DisplayHelp) × (kind ≢ DisplayVersion)
 
--- there is a fault, or another command, or a number or an option that isn't allowed
-abbrev pub AreRefused : List Text → Type 0
-AreRefused words = HasFault words ⊎ ((fault_of starhost words ≡ []) × ((r : Request) → AskFor words r → ⊥))
+-- clap finds no fault in them, and this is the first part that isn't allowed
+abbrev pub HaveUnfit : List Text → Unfit → Type 0
+HaveUnfit words u = (fault_of starhost words ≡ []) × IsFirstUnfit (found_in (matches_of starhost words)) u
 
 -- it is what the words ask for
 abbrev pub IsAsked : List Text → Asked → Type 0
 IsAsked words (For r) = AskFor words r
 IsAsked words Help = AskForHelp words
 IsAsked words Version = AskForVersion words
-IsAsked words (Refused e) = AreRefused words
-IsAsked words NotAllowed = AreRefused words
+IsAsked words (Refused e) = HasFault words
+IsAsked words (NotAllowed u) = HaveUnfit words u
 
 -- words ask for one command at most
 abbrev pub AskOnce : Type 0
@@ -83,3 +85,7 @@ AskOnce = (words : List Text) (a b : Request) → AskFor words a → AskFor word
 -- words without a fault are no question, and with one no command
 abbrev pub AskForOneThing : Type 0
 AskForOneThing = (words : List Text) (a : Request) → AskFor words a → (kind : ErrorKind) → IsAmong kind (fault_of starhost words) → ⊥
+
+-- words of which a part isn't allowed ask for nothing
+abbrev pub UnfitAskForNothing : Type 0
+UnfitAskForNothing = (words : List Text) (u : Unfit) → HaveUnfit words u → (a : Request) → AskFor words a → ⊥

@@ -1,15 +1,13 @@
 //! What the texts of a command line ask for.
-ghost use Rattle.std.specs.Prelude.{IfSome, MatchOption, IsTrue, Some, None, codes, ◌↔◌, ◌≡◌, ◌⊎◌};
-ghost use Rattle.sb_options.specs.declared.request.Hosting.{Hosting as ItsHosting};
-ghost use Rattle.sb_options.specs.declared.request.Request.{Request as ItsRequest};
-ghost use Rattle.sb_options.specs.declared.request.Request.TheVariants as request;
-ghost use Rattle.sb_options.specs.declared.request.Run.{Run as ItsRun};
-ghost use Rattle.sb_options.specs.declared.request.Serving.{Serving as ItsServing};
-ghost use Rattle.sb_options.specs.Asking.{AsksBy, HostsBy, LacksHost, LacksServer, RunsBy, ServesBy, texts_of};
+ghost use Rattle.std.specs.Prelude.{IfErr, IfOk, MatchOption, IsTrue, ◌↔◌, [], ◌∷◌};
+ghost use Rattle.sb_options.specs.declared.unfit.Part.TheVariants as part;
+ghost use Rattle.sb_options.specs.Asking.{AsksBy, HostsBy, IsGiven, IsReplay, IsRun, IsServe, LacksHost, LacksServer, RunsBy, ServesBy, texts_of};
 ghost use Rattle.sb_options.specs.Texts.{text_of};
+ghost use Rattle.sb_options.specs.Unfit.{IsFirstOf, IsFirstUnfit};
 ghost use Rattle.sb_options.specs.Within.{AreHost, AreRun, AreServer, IsWithin};
 
 use crate::number::number;
+use crate::unfit::{Part, Unfit};
 
 const TENANTS: u32 = 16;
 
@@ -91,150 +89,186 @@ pub(crate) struct Given<'a> {
     pub(crate) until_input_ends: Option<&'a str>,
 }
 
-/// The command with its options that these texts ask for.
-pub(crate) fn requested(given: Given<'_>) -> Option<Request>
-    ensures asked { MatchOption result ((r : ItsRequest) → AsksBy (texts_of given.entry) r → ⊥)
-        (AsksBy (texts_of given.entry)) }
-    ensures within { IfSome result IsWithin }
+/// The command with its options that these texts ask for, or the first part that isn't allowed.
+pub(crate) fn requested<'a>(given: Given<'a>) -> Result<Request, Unfit<'a>>
+    ensures asked { IfOk result (AsksBy (texts_of given.entry)) }
+    ensures unfit { IfErr result (IsFirstUnfit (texts_of given.entry)) }
+    ensures within { IfOk result IsWithin }
 {
-    if let Some(run) = find_run(given) {
-        return Some(Request::Run(run));
-    }
-    if let Some(serving) = find_server(given) {
-        return Some(Request::Serve(serving));
-    }
-    match find_replay(given) {
-        Some(hosting) => Some(Request::Replay(hosting)),
-        None => None,
-    }
-}
-
-fn find_run(given: Given<'_>) -> Option<Run>
-    ensures asked { MatchOption result
-        ((r : ItsRun) → AsksBy (texts_of given.entry) (request.Run r) → ⊥)
-        (λ r. AsksBy (texts_of given.entry) (request.Run r)) }
-    ensures within { IfSome result AreRun }
-{
-    if !is_run(given.command) || !lacks_host(given) {
-        return None;
-    }
-    run_numbers(given)
-}
-
-fn find_server(given: Given<'_>) -> Option<Serving>
-    ensures asked { MatchOption result
-        ((s : ItsServing) → AsksBy (texts_of given.entry) (request.Serve s) → ⊥)
-        (λ s. AsksBy (texts_of given.entry) (request.Serve s)) }
-    ensures within { IfSome result AreServer }
-{
-    if !is_word(given.command, "serve") {
-        return None;
-    }
-    server_numbers(given)
-}
-
-fn find_replay(given: Given<'_>) -> Option<Hosting>
-    ensures asked { MatchOption result
-        ((h : ItsHosting) → AsksBy (texts_of given.entry) (request.Replay h) → ⊥)
-        (λ h. AsksBy (texts_of given.entry) (request.Replay h)) }
-    ensures within { IfSome result AreHost }
-{
-    if !is_word(given.command, "replay") || !lacks_server(given) {
-        return None;
-    }
-    host_numbers(given)
-}
-
-fn is_run(word: Option<&str>) -> bool
-    ensures { IsTrue result ↔ ((text_of word.entry ≡ None) ⊎ (text_of word.entry ≡ Some (codes "run"))) }
-{
-    match word {
-        Some(word) => word == "run",
-        None => true,
-    }
-}
-
-fn is_word(text: Option<&str>, word: &str) -> bool
-    ensures { IsTrue result ↔ (text_of text.entry ≡ Some word.now) }
-{
-    match text {
-        Some(text) => text == word,
-        None => false,
-    }
-}
-
-fn lacks_server(given: Given<'_>) -> bool
-    ensures { IsTrue result ↔ LacksServer (texts_of given.entry) }
-{
-    given.port.is_none()
-        && given.connections.is_none()
-        && given.idle.is_none()
-        && !is_word(given.until_input_ends, "true")
-}
-
-fn lacks_host(given: Given<'_>) -> bool
-    ensures { IsTrue result ↔ LacksHost (texts_of given.entry) }
-{
-    given.cells.is_none() && given.workers.is_none() && lacks_server(given)
-}
-
-fn run_numbers(given: Given<'_>) -> Option<Run>
-    ensures asked { MatchOption result ((r : ItsRun) → RunsBy (texts_of given.entry) r → ⊥)
-        (RunsBy (texts_of given.entry)) }
-    ensures within { IfSome result AreRun }
-{
-    let Some(tenants) = number(given.tenants, 1, MOST_TENANTS, TENANTS) else {
-        return None;
+    let Some(word) = given.command else {
+        return find_run(given);
     };
-    let Some(bound) = number(given.bound, 1, MOST_BOUND, BOUND) else {
-        return None;
-    };
-    Some(Run { tenants, bound })
+    if word == "run" {
+        return find_run(given);
+    }
+    if word == "serve" {
+        return find_server(given);
+    }
+    if word == "replay" {
+        return find_replay(given);
+    }
+    Err(Unfit {
+        part: Part::Command,
+        text: word,
+    })
 }
 
-fn host_numbers(given: Given<'_>) -> Option<Hosting>
-    ensures asked { MatchOption result ((h : ItsHosting) → HostsBy (texts_of given.entry) h → ⊥)
-        (HostsBy (texts_of given.entry)) }
-    ensures within { IfSome result AreHost }
+fn find_run<'a>(given: Given<'a>) -> Result<Request, Unfit<'a>>
+    requires { IsRun (texts_of given) }
+    ensures asked { IfOk result (AsksBy (texts_of given.entry)) }
+    ensures unfit { IfErr result (IsFirstUnfit (texts_of given.entry)) }
+    ensures within { IfOk result IsWithin }
 {
-    let Some(run) = run_numbers(given) else {
-        return None;
+    let run = match run_numbers(given) {
+        Ok(run) => run,
+        Err(unfit) => return Err(unfit),
     };
-    let Some(cells) = number(given.cells, 1, MOST_CELLS, CELLS) else {
-        return None;
+    match host_option(given) {
+        Some(unfit) => Err(unfit),
+        None => Ok(Request::Run(run)),
+    }
+}
+
+fn find_server<'a>(given: Given<'a>) -> Result<Request, Unfit<'a>>
+    requires { IsServe (texts_of given) }
+    ensures asked { IfOk result (AsksBy (texts_of given.entry)) }
+    ensures unfit { IfErr result (IsFirstUnfit (texts_of given.entry)) }
+    ensures within { IfOk result IsWithin }
+{
+    match server_numbers(given) {
+        Ok(serving) => Ok(Request::Serve(serving)),
+        Err(unfit) => Err(unfit),
+    }
+}
+
+fn find_replay<'a>(given: Given<'a>) -> Result<Request, Unfit<'a>>
+    requires { IsReplay (texts_of given) }
+    ensures asked { IfOk result (AsksBy (texts_of given.entry)) }
+    ensures unfit { IfErr result (IsFirstUnfit (texts_of given.entry)) }
+    ensures within { IfOk result IsWithin }
+{
+    let hosting = match host_numbers(given) {
+        Ok(hosting) => hosting,
+        Err(unfit) => return Err(unfit),
     };
-    let Some(workers) = number(given.workers, 1, MOST_WORKERS, WORKERS) else {
-        return None;
-    };
-    Some(Hosting {
+    match server_option(given) {
+        Some(unfit) => Err(unfit),
+        None => Ok(Request::Replay(hosting)),
+    }
+}
+
+/// The first option that is given of a host.
+fn host_option<'a>(given: Given<'a>) -> Option<Unfit<'a>>
+    requires { IsRun (texts_of given) }
+    ensures { MatchOption result (LacksHost (texts_of given.entry)) (λ u. IsFirstOf (texts_of given.entry) u
+        (part.Cells ∷ part.Workers ∷ part.Port ∷ part.Connections ∷ part.Idle ∷ part.UntilInputEnds ∷ [])) }
+{
+    if let Some(text) = given.cells {
+        return Some(Unfit {
+            part: Part::Cells,
+            text,
+        });
+    }
+    if let Some(text) = given.workers {
+        return Some(Unfit {
+            part: Part::Workers,
+            text,
+        });
+    }
+    server_option(given)
+}
+
+/// The first option that is given of a server.
+fn server_option<'a>(given: Given<'a>) -> Option<Unfit<'a>>
+    requires { IsServe (texts_of given) → ⊥ }
+    ensures { MatchOption result (LacksServer (texts_of given.entry)) (λ u. IsFirstOf (texts_of given.entry) u
+        (part.Port ∷ part.Connections ∷ part.Idle ∷ part.UntilInputEnds ∷ [])) }
+{
+    if let Some(text) = given.port {
+        return Some(Unfit {
+            part: Part::Port,
+            text,
+        });
+    }
+    if let Some(text) = given.connections {
+        return Some(Unfit {
+            part: Part::Connections,
+            text,
+        });
+    }
+    if let Some(text) = given.idle {
+        return Some(Unfit {
+            part: Part::Idle,
+            text,
+        });
+    }
+    match given.until_input_ends {
+        Some(text) if text == "true" => Some(Unfit {
+            part: Part::UntilInputEnds,
+            text,
+        }),
+        _ => None,
+    }
+}
+
+fn run_numbers<'a>(given: Given<'a>) -> Result<Run, Unfit<'a>>
+    ensures asked { IfOk result (RunsBy (texts_of given.entry)) }
+    ensures unfit { IfErr result (λ u. IsFirstOf (texts_of given.entry) u (part.Tenants ∷ part.Bound ∷ [])) }
+    ensures within { IfOk result AreRun }
+{
+    let tenants = number(Part::Tenants, given.tenants, 1, MOST_TENANTS, TENANTS)?;
+    let bound = number(Part::Bound, given.bound, 1, MOST_BOUND, BOUND)?;
+    Ok(Run { tenants, bound })
+}
+
+fn host_numbers<'a>(given: Given<'a>) -> Result<Hosting, Unfit<'a>>
+    requires { IsRun (texts_of given) → ⊥ }
+    ensures asked { IfOk result (HostsBy (texts_of given.entry)) }
+    ensures unfit { IfErr result (λ u. IsFirstOf (texts_of given.entry) u
+        (part.Tenants ∷ part.Bound ∷ part.Cells ∷ part.Workers ∷ [])) }
+    ensures within { IfOk result AreHost }
+{
+    let run = run_numbers(given)?;
+    let cells = number(Part::Cells, given.cells, 1, MOST_CELLS, CELLS)?;
+    let workers = number(Part::Workers, given.workers, 1, MOST_WORKERS, WORKERS)?;
+    Ok(Hosting {
         run,
         cells,
         workers,
     })
 }
 
-fn server_numbers(given: Given<'_>) -> Option<Serving>
-    ensures asked { MatchOption result ((s : ItsServing) → ServesBy (texts_of given.entry) s → ⊥)
-        (ServesBy (texts_of given.entry)) }
-    ensures within { IfSome result AreServer }
+fn server_numbers<'a>(given: Given<'a>) -> Result<Serving, Unfit<'a>>
+    requires { IsServe (texts_of given) }
+    ensures asked { IfOk result (ServesBy (texts_of given.entry)) }
+    ensures unfit { IfErr result (IsFirstUnfit (texts_of given.entry)) }
+    ensures within { IfOk result AreServer }
 {
-    let Some(hosting) = host_numbers(given) else {
-        return None;
-    };
-    let Some(port) = number(given.port, 0, MOST_PORTS, PORT) else {
-        return None;
-    };
-    let Some(connections) = number(given.connections, 0, MOST_CONNECTIONS, CONNECTIONS) else {
-        return None;
-    };
-    let Some(idle) = number(given.idle, 0, MOST_IDLE, IDLE) else {
-        return None;
-    };
-    Some(Serving {
+    let hosting = host_numbers(given)?;
+    let port = number(Part::Port, given.port, 0, MOST_PORTS, PORT)?;
+    let connections = number(
+        Part::Connections,
+        given.connections,
+        0,
+        MOST_CONNECTIONS,
+        CONNECTIONS,
+    )?;
+    let idle = number(Part::Idle, given.idle, 0, MOST_IDLE, IDLE)?;
+    Ok(Serving {
         hosting,
         port,
         connections,
         idle,
-        until_input_ends: is_word(given.until_input_ends, "true"),
+        until_input_ends: is_given(given.until_input_ends),
     })
+}
+
+/// Whether an option without a value is given.
+fn is_given(text: Option<&str>) -> bool
+    ensures { IsTrue result ↔ IsGiven (text_of text.entry) }
+{
+    match text {
+        Some(text) => text == "true",
+        None => false,
+    }
 }

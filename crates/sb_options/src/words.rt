@@ -6,6 +6,7 @@ ghost use Rattle.sb_options.specs.Within.{AreWithin};
 ghost use Rattle.sb_options.specs.Words.{IsAsked, flag_of, found_in, host_words, option_of, run_words, server_words, starhost};
 
 use crate::request::{Given, Request, requested};
+use crate::unfit::Unfit;
 use clap::error::ErrorKind;
 use clap::{Arg, ArgAction, Command, Error};
 use std::alloc::{AllocError, Global};
@@ -13,25 +14,25 @@ use std::convert::AsStr;
 
 /// What a command line asks for.
 #[derive(Drop)]
-pub enum Asked {
+pub enum Asked<'a> {
     For(Request),
     Help,
     Version,
     /// clap finds a fault in the words.
     Refused(Error),
-    /// A command, or an option or a number of a command, isn't one that there is.
-    NotAllowed,
+    /// The command isn't one that there is, or doesn't have an option, or a number isn't in its range.
+    NotAllowed(Unfit<'a>),
 }
 
 /// Reads the program's name and the words behind it.
-pub fn read_words<S: AsStr>(alloc: Global, words: &[S]) -> Result<Asked, AllocError>
+pub fn read_words<'a, S: AsStr>(alloc: Global, words: &'a [S]) -> Result<Asked<'a>, AllocError>
     ensures asked { IfOk result (IsAsked (map S.text words.now)) }
     ensures within { IfOk result AreWithin }
 {
     match texts_given(alloc, words) {
         Ok(given) => match requested(given) {
-            Some(request) => Ok(Asked::For(request)),
-            None => Ok(Asked::NotAllowed),
+            Ok(request) => Ok(Asked::For(request)),
+            Err(unfit) => Ok(Asked::NotAllowed(unfit)),
         },
         Err(error) => match error.kind() {
             ErrorKind::DisplayHelp => Ok(Asked::Help),

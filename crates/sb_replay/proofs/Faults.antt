@@ -20,7 +20,7 @@ not_written (Err e) Q M is refused tells = subst Q (sym is) (tells refused)
 pub unopened_unplayed : (tenants : ℕ) (e : ReplayError) → IsUnopened tenants e → IsUnplayed tenants e
 unopened_unplayed tenants ReadFault h = absurd h
 unopened_unplayed tenants WriteFault h = absurd h
-unopened_unplayed tenants (BadLine n) h = absurd h
+unopened_unplayed tenants (BadLine n why) h = absurd h
 unopened_unplayed tenants (Attach t s) h = h
 unopened_unplayed tenants (Finish e) h = absurd h
 unopened_unplayed tenants NoMemory h = h
@@ -28,7 +28,7 @@ unopened_unplayed tenants NoMemory h = h
 pub unclosed_unplayed : (tenants : ℕ) (e : ReplayError) → IsUnclosed e → IsUnplayed tenants e
 unclosed_unplayed tenants ReadFault h = absurd h
 unclosed_unplayed tenants WriteFault h = absurd h
-unclosed_unplayed tenants (BadLine n) h = absurd h
+unclosed_unplayed tenants (BadLine n why) h = absurd h
 unclosed_unplayed tenants (Attach t s) h = absurd h
 unclosed_unplayed tenants (Finish e) h = h
 unclosed_unplayed tenants NoMemory h = h
@@ -38,7 +38,7 @@ module _ {R W : Type 0} (fails : R → Type 0) (remaining : R → Option (List �
   pub unplayed_fails : (e : ReplayError) → IsUnplayed tenants e → Fails fails remaining refuses contents tenants bound reader reader' writer writer' e
   unplayed_fails ReadFault h = absurd h
   unplayed_fails WriteFault h = absurd h
-  unplayed_fails (BadLine n) h = absurd h
+  unplayed_fails (BadLine n why) h = absurd h
   unplayed_fails (Attach t s) h = (h, keeps)
   unplayed_fails (Finish e) h = (inr h, keeps)
   unplayed_fails NoMemory h = keeps
@@ -48,7 +48,7 @@ module _ {R W : Type 0} (fails : R → Type 0) (remaining : R → Option (List �
       → IsUnfinished tenants bound stubs sheets e → Fails fails remaining refuses contents tenants bound reader reader' writer writer' e
   unreported_fails rows sheets stubs ReadFault script attended h = absurd h
   unreported_fails rows sheets stubs WriteFault script attended h = absurd h
-  unreported_fails rows sheets stubs (BadLine n) script attended h = absurd h
+  unreported_fails rows sheets stubs (BadLine n why) script attended h = absurd h
   unreported_fails rows sheets stubs (Attach t s) script attended h = absurd h
   unreported_fails rows sheets stubs (Finish e) script attended h = (inl (rows, sheets, stubs, script, attended, h), keeps)
   unreported_fails rows sheets stubs NoMemory script attended h = keeps

@@ -130,7 +130,7 @@ unattached_as t s other = Attach t s
 -- what a fault in reading is told as
 abbrev pub unread_by : ScriptError → ReplayError
 unread_by script.ReadFault = ReadFault
-unread_by (script.BadLine n) = BadLine n
+unread_by (script.BadLine n why) = BadLine n why
 unread_by script.NoMemory = NoMemory
 
 -- Nothing is written but where the writer fails. Where the input isn't understood it tells what was read, and where the writer fails
@@ -140,8 +140,8 @@ module _ {R W : Type 0} (fails : R → Type 0) (remaining : R → Option (List �
   Fails reader reader' writer writer' ReadFault =
       (seen : List ℕ) × Consumes (remaining reader) (remaining reader') seen
       × (MayFail fails remaining reader' ⊎ (read_limit ≤ length seen)) × Keeps (contents writer) (contents writer')
-  Fails reader reader' writer writer' (BadLine n) =
-      (seen : List ℕ) × Consumes (remaining reader) (remaining reader') seen × IsBadLine tenants seen n × Keeps (contents writer) (contents writer')
+  Fails reader reader' writer writer' (BadLine n why) =
+      (seen : List ℕ) × Consumes (remaining reader) (remaining reader') seen × IsBadLine tenants seen n why × Keeps (contents writer) (contents writer')
   Fails reader reader' writer writer' (Attach t s) = IsUnattached tenants t s × Keeps (contents writer) (contents writer')
   Fails reader reader' writer writer' (Finish e) = FailsToFinish tenants bound (remaining reader) e × Keeps (contents writer) (contents writer')
   Fails reader reader' writer writer' NoMemory = Keeps (contents writer) (contents writer')

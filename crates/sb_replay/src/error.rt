@@ -5,6 +5,7 @@ ghost use Rattle.sb_replay.specs.Replay.{unattached_as, unread_by};
 use sb_host::{AttachError, FinishError};
 use sb_script::ScriptError;
 use sb_value::SessionId;
+use sb_wire::WireRefusal;
 
 /// Why a replay ended without its output.
 #[derive(Clone, Copy)]
@@ -13,8 +14,8 @@ pub enum ReplayError {
     ReadFault,
     /// The output's writer failed.
     WriteFault,
-    /// This line, counted from 1, is too long, isn't a command with two numbers, or names no session of the host.
-    BadLine { line: u64 },
+    /// This line, counted from 1, is no command for a session of the host: a stream would refuse it by this word.
+    BadLine { line: u64, why: WireRefusal },
     /// The session is open already, or its tenant's trail is full.
     Attach { tenant: u32, session: SessionId },
     /// The receipts of the sessions don't agree with the trails, or those of a session don't stand in its order.
@@ -28,7 +29,7 @@ pub(crate) fn unread(error: ScriptError) -> ReplayError
 {
     match error {
         ScriptError::ReadFault => ReplayError::ReadFault,
-        ScriptError::BadLine { line } => ReplayError::BadLine { line },
+        ScriptError::BadLine { line, why } => ReplayError::BadLine { line, why },
         ScriptError::NoMemory => ReplayError::NoMemory,
     }
 }

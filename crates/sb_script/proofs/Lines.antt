@@ -7,8 +7,9 @@ use Rattle.std.specs.Global.{Global}
 use Rattle.std.specs.Io.KnownBytes.{Consumes, IsAtEnd}
 use Rattle.sb_tenant.specs.Limits.{session_count}
 use Rattle.sb_wire.specs.Lines.{Addressed, Piece, pieces_of}
+use Rattle.sb_wire.specs.declared.refusal.WireRefusal.{WireRefusal}
 use Rattle.sb_wire.specs.Responses.{AnswersStream, AreAnswered, StopsBy}
-use Rattle.sb_script.specs.Input.{Asks, IsAsked, IsFirstBad, asked, command_for, commands_for, rank}
+use Rattle.sb_script.specs.Input.{Asks, IsAsked, IsBadAs, IsFirstBad, asked, command_for, commands_for, rank}
 use Rattle.sb_script.specs.Scripts.{FailsToRead, Gives, HoldsScript, IsFresh, Reads, ReadsBy, Script, State, TakesBy, commands_at, is_over}
 use Rattle.sb_script.specs.declared.error.ScriptError.{ScriptError}
 use Rattle.sb_script.specs.declared.script.Progress.{Progress}
@@ -30,7 +31,7 @@ module _ (tenants : ℕ) where
   Gathers ps s (Going n) =
       (asks : List Addressed) × Asks tenants ps asks × (n ≡ length ps)
       × ((t k : ℕ) → k < session_count → commands_at s.rows (rank t k) ≡ commands_for t k asks)
-  Gathers ps s (BadLine n) = IsFirstBad tenants ps n
+  Gathers ps s (BadLine n why) = IsFirstBad tenants ps n why
   Gathers ps s NoMemory = ⊤
 
   abbrev Has : List Piece → State → Type 0
@@ -43,13 +44,14 @@ module _ (tenants : ℕ) where
       map-append (asked tenants) ps (p ∷ []) ∙ ap (λ (l : List (Option Addressed)). l ++ asked tenants p ∷ []) are ∙ ap (λ (o : Option Addressed). map Some asks ++ o ∷ []) is
       ∙ sym (map-append Some asks (a ∷ []))
 
-  bad_more : (ps : List Piece) (p : Piece) (n : ℕ) → IsFirstBad tenants ps n → IsFirstBad tenants (ps ++ p ∷ []) n
-  bad_more ps p n b = record {
+  bad_more : (ps : List Piece) (p : Piece) (n : ℕ) (why : WireRefusal) → IsFirstBad tenants ps n why → IsFirstBad tenants (ps ++ p ∷ []) n why
+  bad_more ps p n why b = record {
     good = b.good;
     asks = b.asks;
     are_good = b.are_good;
     bad = b.bad;
     is_bad = b.is_bad;
+    reason = b.reason;
     behind = b.behind ++ p ∷ [];
     are = ap (λ (l : List Piece). l ++ p ∷ []) b.are ∙ append_assoc b.good (b.bad ∷ b.behind) (p ∷ []);
     number = b.number;
@@ -62,12 +64,13 @@ module _ (tenants : ℕ) where
     next ∙ ap (λ (k : ℕ). k + 1) count ∙ sym (length-append ps (p ∷ [])),
     λ t k within. adds t k within ∙ ap (λ (l : List (List ℕ)). l ++ command_for t k a) (rows t k within) ∙ flat_map_more (command_for t k) [] asks a,
   )
-  taken ps p old new n (BadLine m) same (asks, are, count, rows) (none, next) = record {
+  taken ps p old new n (BadLine m why) same (asks, are, count, rows) (none, reason, next) = record {
     good = ps;
     asks = asks;
     are_good = are;
     bad = p;
     is_bad = subst (λ (k : ℕ). asked k p ≡ None) same none;
+    reason = subst (λ (k : ℕ). IsBadAs k p why) same reason;
     behind = [];
     are = refl;
     number = next ∙ ap (λ (k : ℕ). k + 1) count;
@@ -76,7 +79,7 @@ module _ (tenants : ℕ) where
 
   one_more : (ps : List Piece) (p : Piece) (s : Script) (q : Progress) (new : State) → s.tenants ≡ tenants → Gathers ps s q → ReadsBy q s p new → Has (ps ++ p ∷ []) new
   one_more ps p s (Going n) new same holds (kept, takes) = (kept ∙ same, taken ps p s new.0 n new.1 same holds takes)
-  one_more ps p s (BadLine n) new same bad is = subst (λ (x : State). Has (ps ++ p ∷ []) x) (sym is) (same, bad_more ps p n bad)
+  one_more ps p s (BadLine n why) new same bad is = subst (λ (x : State). Has (ps ++ p ∷ []) x) (sym is) (same, bad_more ps p n why bad)
   one_more ps p s NoMemory new same holds is = subst (λ (x : State). Has (ps ++ p ∷ []) x) (sym is) (same, tt)
 
   -- ---- all lines
@@ -112,7 +115,7 @@ module _ (tenants : ℕ) where
           count = count_is;
           rows_are = λ t k _ within. ap (λ (l : List (List (List ℕ))). commands_at l (rank t k)) rows_is ∙ rows_are t k within;
         }
-    given (BadLine n) script seen r reads at_end same bad is = subst Given (sym is) (tt, tt, (seen, reads, (at_end, bad)))
+    given (BadLine n why) script seen r reads at_end same bad is = subst Given (sym is) (tt, tt, (seen, reads, (at_end, bad)))
     given NoMemory script seen r reads at_end same holds is = subst Given (sym is) (tt, tt, (seen, reads, tt))
 
     pub whole : (start end : State) (held holds : Option (List ℕ)) (x : Unit {0}) (r : Result (Vec (Vec (Vec ℕ Global) Global) Global) ScriptError) → Has [] start

@@ -1,7 +1,9 @@
 -- What an input asks of a host: each of its lines is a command for one of the host's sessions.
-use Rattle.std.specs.Prelude.{◌≡◌, ℕ, ◌+◌, ◌*◌, ◌==◌, ◌&&◌, nat_lt, if◌then◌else◌, List, [], ◌∷◌, ◌++◌, length, map, flat_map, Option, Some, None}
+use Rattle.std.specs.Prelude.{◌≡◌, ◌⊎◌, ◌<◌, ◌≤◌, ℕ, ◌+◌, ◌*◌, ◌==◌, ◌&&◌, nat_lt, if◌then◌else◌, List, [], ◌∷◌, ◌++◌, length, map, flat_map, Option, Some, None}
 use Rattle.sb_tenant.specs.Limits.{is_session, session_count}
 use Rattle.sb_wire.specs.Lines.{Addressed, Piece, line, too_long, addressed_of, pieces_of}
+use Rattle.sb_wire.specs.declared.refusal.WireRefusal.{WireRefusal}
+use Rattle.sb_wire.specs.declared.refusal.WireRefusal.TheVariants as wire
 
 -- the numbers and the command, where a host of so many tenants has the session
 abbrev pub asked_by : ℕ → Option Addressed → Option Addressed
@@ -20,19 +22,31 @@ Asks tenants pieces asks = map (asked tenants) pieces ≡ map Some asks
 abbrev pub IsAsked : ℕ → List ℕ → List Addressed → Type 0
 IsAsked tenants input asks = Asks tenants (pieces_of input) asks
 
--- of these lines that of the number n, counted from 1, is the first that asks for nothing
-pub record IsFirstBad (tenants : ℕ) (pieces : List Piece) (n : ℕ) : Type 0 where
+-- why a line asks for nothing: it has no numbers, or the host has no such tenant, or the tenant no such session
+abbrev pub IsBadBy : ℕ → Option Addressed → WireRefusal → Type 0
+IsBadBy tenants None why = why ≡ wire.BadLine
+IsBadBy tenants (Some a) why =
+    ((tenants ≤ a.tenant) × (why ≡ wire.NoTenant)) ⊎ ((a.tenant < tenants) × (session_count ≤ a.session) × (why ≡ wire.NoSession))
+
+-- or it is too long
+abbrev pub IsBadAs : ℕ → Piece → WireRefusal → Type 0
+IsBadAs tenants too_long why = why ≡ wire.TooLong
+IsBadAs tenants (line bytes) why = IsBadBy tenants (addressed_of bytes) why
+
+-- of these lines that of the number n, counted from 1, is the first that asks for nothing, and why
+pub record IsFirstBad (tenants : ℕ) (pieces : List Piece) (n : ℕ) (why : WireRefusal) : Type 0 where
   pub good : List Piece
   pub asks : List Addressed
   pub are_good : Asks tenants good asks
   pub bad : Piece
   pub is_bad : asked tenants bad ≡ None
+  pub reason : IsBadAs tenants bad why
   pub behind : List Piece
   pub are : pieces ≡ good ++ bad ∷ behind
   pub number : n ≡ length good + 1
 
-abbrev pub IsBadLine : ℕ → List ℕ → ℕ → Type 0
-IsBadLine tenants input n = IsFirstBad tenants (pieces_of input) n
+abbrev pub IsBadLine : ℕ → List ℕ → ℕ → WireRefusal → Type 0
+IsBadLine tenants input n why = IsFirstBad tenants (pieces_of input) n why
 
 -- ---- by session
 

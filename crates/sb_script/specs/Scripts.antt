@@ -5,7 +5,7 @@ use Rattle.std.specs.Io.KnownBytes.{IsAtEnd}
 use Rattle.sb_tenant.specs.Limits.{session_count}
 use Rattle.sb_wire.specs.Lines.{Addressed, Piece}
 use Rattle.sb_wire.specs.Stream.{MayFail, read_limit}
-use Rattle.sb_script.specs.Input.{IsAsked, IsBadLine, asked, command_for, commands_for, rank}
+use Rattle.sb_script.specs.Input.{IsAsked, IsBadAs, IsBadLine, asked, command_for, commands_for, rank}
 use Rattle.sb_script.specs.declared.error.ScriptError.{ScriptError}
 use Rattle.sb_script.specs.declared.error.ScriptError.TheVariants as fault
 use Rattle.sb_script.specs.declared.script.Progress.{Progress}
@@ -41,7 +41,7 @@ AddsCommand old a new =
 -- Behind so many lines one line more is a command for a session of the host, or isn't, or there was no memory.
 abbrev pub TakesBy : Script → ℕ → Piece → Progress → Script → Type 0
 TakesBy old lines p (Going n) new = (a : Addressed) × (asked old.tenants p ≡ Some a) × (n ≡ lines + 1) × AddsCommand old.rows a new.rows
-TakesBy old lines p (BadLine n) new = (asked old.tenants p ≡ None) × (n ≡ lines + 1)
+TakesBy old lines p (BadLine n why) new = (asked old.tenants p ≡ None) × IsBadAs old.tenants p why × (n ≡ lines + 1)
 TakesBy old lines p NoMemory new = ⊤
 
 abbrev pub Takes : Script → ℕ → Piece → Progress → Script → Type 0
@@ -54,7 +54,7 @@ State = Script × Progress
 -- a line is taken until one wasn't; no text answers it
 abbrev pub ReadsBy : Progress → Script → Piece → State → Type 0
 ReadsBy (Going n) s p new = Takes s n p new.1 new.0
-ReadsBy (BadLine n) s p new = new ≡ (s, BadLine n)
+ReadsBy (BadLine n why) s p new = new ≡ (s, BadLine n why)
 ReadsBy NoMemory s p new = new ≡ (s, NoMemory)
 
 abbrev pub Reads : State → Piece → List ℕ → State → Type 0
@@ -69,7 +69,7 @@ is_over state = false
 -- what is given of the lines
 abbrev pub Gives : Progress → Script → Result (Vec (Vec (Vec ℕ Global) Global) Global) ScriptError → Type 0
 Gives (Going n) s r = (rows : Vec (Vec (Vec ℕ Global) Global) Global) × (r ≡ Ok rows) × (length rows.items ≡ session_count * s.tenants) × (rows_of rows.items ≡ s.rows)
-Gives (BadLine n) s r = r ≡ Err (fault.BadLine n)
+Gives (BadLine n why) s r = r ≡ Err (fault.BadLine n why)
 Gives NoMemory s r = r ≡ Err fault.NoMemory
 
 -- each line of the input is a command for a session of the host, and stands in its row
@@ -82,5 +82,5 @@ pub record HoldsScript (tenants : ℕ) (input : List ℕ) (rows : List (Vec (Vec
 -- why an input isn't given, of which these bytes were read
 abbrev pub FailsToRead : {R : Type 0} → (R → Type 0) → (R → Option (List ℕ)) → ℕ → List ℕ → R → ScriptError → Type 0
 FailsToRead fails remaining tenants seen reader fault.ReadFault = MayFail fails remaining reader ⊎ (read_limit ≤ length seen)
-FailsToRead fails remaining tenants seen reader (fault.BadLine n) = IsAtEnd (remaining reader) × IsBadLine tenants seen n
+FailsToRead fails remaining tenants seen reader (fault.BadLine n why) = IsAtEnd (remaining reader) × IsBadLine tenants seen n why
 FailsToRead fails remaining tenants seen reader fault.NoMemory = ⊤

@@ -1,12 +1,12 @@
 //! The commands of the lines so far, by session.
-ghost use Rattle.std.specs.Prelude.{◌≡◌, ◌<◌, IfOk, OnOk, option_map};
+ghost use Rattle.std.specs.Prelude.{◌≡◌, ◌<◌, IfErr, IfOk, None, OnOk, Some};
 ghost use Rattle.sb_wire.specs.Seen.{addressed_seen, piece_seen};
-ghost use Rattle.sb_script.specs.Input.{asked};
+ghost use Rattle.sb_script.specs.Input.{IsBadAs, IsBadBy, asked, asked_by};
 ghost use Rattle.sb_script.specs.Scripts.{AddsCommand, Gives, IsFresh, ReadsBy, Takes};
 
 use crate::error::ScriptError;
 use sb_value::SESSION_LIMIT;
-use sb_wire::{Addressed, Piece};
+use sb_wire::{Addressed, Piece, WireRefusal};
 use std::alloc::{AllocError, Global};
 use std::marker::Model;
 
@@ -16,7 +16,7 @@ pub(crate) enum Progress {
     /// All so far, which are so many.
     Going { lines: u64 },
     /// Those before this one, which is no command for a session of the host.
-    BadLine { line: u64 },
+    BadLine { line: u64, why: WireRefusal },
     /// Those before one that found no memory.
     NoMemory,
 }
@@ -69,8 +69,9 @@ impl Script {
         let Some(line) = lines.checked_add(1) else {
             return Progress::NoMemory;
         };
-        let Some(addressed) = self.command(piece) else {
-            return Progress::BadLine { line };
+        let addressed = match self.command(piece) {
+            Ok(addressed) => addressed,
+            Err(why) => return Progress::BadLine { line, why },
         };
         match self.add(alloc, addressed) {
             Ok(()) => Progress::Going { lines: line },
@@ -79,18 +80,35 @@ impl Script {
     }
 
     /// The command of a line, if it is one for a session of the host.
-    fn command<'a>(&self, piece: Piece<'a>) -> Option<Addressed<'a>>
-        ensures { option_map addressed_seen result ≡ asked self.now.tenants (piece_seen piece.entry) }
+    fn command<'a>(&self, piece: Piece<'a>) -> Result<Addressed<'a>, WireRefusal>
+        ensures ok { IfOk result (λ a. asked self.now.tenants (piece_seen piece.entry) ≡ Some (addressed_seen a)) }
+        ensures within { IfOk result (λ a. (a.tenant < self.now.tenants) × (a.session < 8)) }
+        ensures err { IfErr result (λ why. (asked self.now.tenants (piece_seen piece.entry) ≡ None)
+            × IsBadAs self.now.tenants (piece_seen piece.entry) why) }
     {
         let Piece::Line(line) = piece else {
-            return None;
+            return Err(WireRefusal::TooLong);
         };
-        let addressed = Addressed::split(line)?;
-        if addressed.tenant < self.tenants && addressed.session < SESSION_LIMIT as u32 {
-            Some(addressed)
-        } else {
-            None
+        match Addressed::split(line) {
+            Some(addressed) => self.hosted(addressed),
+            None => Err(WireRefusal::BadLine),
         }
+    }
+
+    /// A command, if the host has its session.
+    fn hosted<'a>(&self, addressed: Addressed<'a>) -> Result<Addressed<'a>, WireRefusal>
+        ensures ok { IfOk result (λ a. asked_by self.now.tenants (Some (addressed_seen addressed.entry)) ≡ Some (addressed_seen a)) }
+        ensures within { IfOk result (λ a. (a.tenant < self.now.tenants) × (a.session < 8)) }
+        ensures err { IfErr result (λ why. (asked_by self.now.tenants (Some (addressed_seen addressed.entry)) ≡ None)
+            × IsBadBy self.now.tenants (Some (addressed_seen addressed.entry)) why) }
+    {
+        if addressed.tenant >= self.tenants {
+            return Err(WireRefusal::NoTenant);
+        }
+        if addressed.session >= SESSION_LIMIT as u32 {
+            return Err(WireRefusal::NoSession);
+        }
+        Ok(addressed)
     }
 
     /// Adds a command to those of its session.
@@ -111,7 +129,7 @@ impl Script {
     {
         match progress {
             Progress::Going { .. } => Ok(self.rows),
-            Progress::BadLine { line } => Err(ScriptError::BadLine { line }),
+            Progress::BadLine { line, why } => Err(ScriptError::BadLine { line, why }),
             Progress::NoMemory => Err(ScriptError::NoMemory),
         }
     }

@@ -1,4 +1,5 @@
 //! Where connections come in: the listener, and how many are taken.
+ghost use Rattle.std.specs.Prelude.{◌≡◌, IsTrue};
 
 use libc::net as system;
 use mio::Waker;
@@ -26,6 +27,8 @@ pub(crate) struct Entrance<'s> {
     used: AtomicU64,
     /// The last one couldn't be taken.
     has_fault: AtomicBool,
+    /// The port is closed.
+    is_closed: AtomicBool,
     wakers: Vec<Waker>,
 }
 
@@ -37,6 +40,7 @@ impl<'s> Entrance<'s> {
             held: AtomicU64::new(0),
             used: AtomicU64::new(0),
             has_fault: AtomicBool::new(false),
+            is_closed: AtomicBool::new(false),
             wakers,
         }
     }
@@ -47,12 +51,15 @@ impl<'s> Entrance<'s> {
     }
 
     /// Whether one more connection is to be taken.
-    pub(crate) fn is_open(&self) -> bool {
+    pub(crate) fn is_open(&self) -> bool
+        ensures { self.now.count ≡ 0 → IsTrue result }
+    {
         self.count == 0 || self.used.load(Ordering::SeqCst) < self.count
     }
 
     /// Takes no more connections: the port is closed, and all workers are told.
     pub(crate) fn close(&self) {
+        self.is_closed.store(true, Ordering::SeqCst);
         let _closed = system::shutdown(self.descriptor(), system::SHUT_RD);
         for waker in &self.wakers {
             let _told = waker.wake();
@@ -60,7 +67,9 @@ impl<'s> Entrance<'s> {
     }
 
     /// Whether there is a place for a connection, which is then held.
-    fn hold(&self) -> bool {
+    fn hold(&self) -> bool
+        ensures { self.now.count ≡ 0 → IsTrue result }
+    {
         if self.count == 0 || self.held.fetch_add(1, Ordering::SeqCst) < self.count {
             return true;
         }
@@ -173,11 +182,20 @@ impl<'s> Door<'s> {
                 None
             }
             Err(_) => {
-                self.pause(watch, now);
-                self.entrance.use_up();
+                self.fail(watch, now);
                 None
             }
         }
+    }
+
+    /// A connection couldn't be taken; or none was there, and the port is closed.
+    fn fail<V: Watch>(&mut self, watch: &V, now: Option<Instant>) {
+        if self.entrance.is_closed.load(Ordering::SeqCst) {
+            self.entrance.give_back();
+            return;
+        }
+        self.pause(watch, now);
+        self.entrance.use_up();
     }
 
     /// There are descriptors.

@@ -3,8 +3,8 @@ ghost use Rattle.sb_server.specs.Closed.{Leaves};
 
 use crate::told::Told;
 use mio::net::TcpStream;
-use sb_host::{Naming, Stub};
 use sb_connection::{Connection, Watch};
+use sb_host::{Naming, Stub};
 use sb_wire::StreamError;
 use std::io::{ErrorKind, Read, Write};
 use std::sync::Wait;

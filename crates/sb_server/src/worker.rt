@@ -12,8 +12,8 @@ use mio::event::Event as Ready;
 use mio::net::TcpStream;
 use mio::unix::SourceFd;
 use mio::{Events, Interest, Poll, Token};
-use sb_host::{Naming, Stub};
 use sb_connection::{Connection, Event, Watch};
+use sb_host::{Naming, Stub};
 use sb_wire::StreamError;
 use slab::Slab;
 use std::mem;
@@ -245,12 +245,12 @@ impl<'s, N: Naming, V: Watch, C: Clock> Worker<'s, N, V, C> {
     {
         let due = mem::replace(&mut self.due, Vec::new(self.serving.alloc));
         for key in due {
-            self.serve_one(rt, key);
+            self.serve_turn(rt, key);
         }
     }
 
     /// Gives a connection its turn.
-    fn serve_one<T: Wait>(&mut self, rt: &T, key: usize)
+    fn serve_turn<T: Wait>(&mut self, rt: &T, key: usize)
         ensures { GainsClosed self.old.stubs.items self.new.stubs.items }
     {
         let Some(mut visit) = self.visits.try_remove(key) else {

@@ -1,8 +1,8 @@
 //! Connections over memory, and what is told of connections.
 ghost use Rattle.std.specs.Prelude.{◌≡◌};
 
-use sb_host::{AttachError, Host, Naming, Opened};
 use sb_connection::{Event, Named, Served, serve_one};
+use sb_host::{AttachError, Host, Naming, Opened};
 use sb_wire::{StreamError, WireRefusal};
 use std::alloc::Global;
 use std::marker::Brand;

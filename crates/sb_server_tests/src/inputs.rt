@@ -2,6 +2,7 @@
 ghost use Rattle.std.specs.Prelude.{◌≡◌};
 
 use sb_script::{ScriptError, read_script};
+use sb_wire::WireRefusal;
 use std::test::*;
 
 #[test]
@@ -20,15 +21,19 @@ fn commands_stand_by_session(rt: HostRuntime) -> Result<(), Fail> {
 
 #[test]
 fn the_first_bad_line_is_told(rt: HostRuntime) -> Result<(), Fail> {
-    for (input, bad) in [
-        (b"0 0 begin\n1 0 begin\nx\n".as_slice(), 2),
-        (b"0 8 begin".as_slice(), 1),
-        (b"0 0 begin\n\n".as_slice(), 2),
+    for (input, bad, why) in [
+        (
+            b"0 0 begin\n1 0 begin\nx\n".as_slice(),
+            2,
+            WireRefusal::NoTenant,
+        ),
+        (b"0 8 begin", 1, WireRefusal::NoSession),
+        (b"0 0 begin\n\n", 2, WireRefusal::BadLine),
     ] {
         let mut reader = input;
         match read_script(rt.alloc(), &mut reader, 1) {
             Ok(_) => assert!(rt; false),
-            Err(error) => assert_eq!(rt; error, ScriptError::BadLine { line: bad }),
+            Err(error) => assert_eq!(rt; error, ScriptError::BadLine { line: bad, why }),
         }
     }
     Ok(())

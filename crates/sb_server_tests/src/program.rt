@@ -178,15 +178,23 @@ fn other_words_are_refused(rt: HostRuntime) -> Result<(), Fail> {
     for (words, why) in [
         (
             ["starhost", "--tenants", "257"].as_slice(),
-            "error: a word or a number isn't allowed",
+            "error: --tenants 257 isn't allowed",
         ),
         (
             &["starhost", "serves"],
-            "error: a word or a number isn't allowed",
+            "error: the word serves isn't allowed",
         ),
         (
             &["starhost", "run", "--cells", "2"],
-            "error: a word or a number isn't allowed",
+            "error: --cells 2 isn't allowed",
+        ),
+        (
+            &["starhost", "replay", "--workers", "x", "--cells", "0"],
+            "error: --cells 0 isn't allowed",
+        ),
+        (
+            &["starhost", "--until-input-ends"],
+            "error: --until-input-ends isn't allowed",
         ),
         (
             &["starhost", "run", "x"],

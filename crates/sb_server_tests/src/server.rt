@@ -1,13 +1,16 @@
 //! A server with a client over a socket.
 ghost use Rattle.std.specs.Prelude.{◌≡◌};
 
-use sb_host::{Host, Naming, Opened};
 use sb_connection::NoWatch;
-use sb_service::serve_on;
+use sb_host::{Host, Naming, Opened};
+use sb_server::Terms;
+use sb_service::{serve_by, serve_on};
 use std::alloc::Global;
-use std::io::{Read, Write};
+use std::fs::Files;
+use std::io::{self, Read, Write};
 use std::marker::Brand;
 use std::net::{Net, Shutdown, SocketAddr, TcpListener, TcpStream};
+use std::os::fd::IntoRawFd as _;
 use std::rt::Clock;
 use std::sync::Wait;
 use std::test::*;
@@ -99,6 +102,61 @@ fn a_session_is_free_after_its_client_left(rt: HostRuntime) -> Result<(), Fail> 
         Some((read, told)) => {
             assert_eq!(rt; read.as_slice(), b"ok\nok\nok\n".as_slice());
             assert_eq!(rt; told.as_slice(), b"trails 16 steps 6\n".as_slice());
+        }
+        None => assert!(rt; false),
+    }
+    Ok(())
+}
+
+/// What two clients read, one after the other. Behind them the program's input ends.
+fn read_both(
+    alloc: Global,
+    first: TcpStream,
+    second: TcpStream,
+    input: i32,
+) -> Option<(Vec<u8>, Vec<u8>)> {
+    let one = read_back(alloc, first, b"0 0\nend\n");
+    let two = read_back(alloc, second, b"0 1\nend\n");
+    let _ended = libc::close(input);
+    Some((one?, two?))
+}
+
+/// What the clients read of a server that serves any number of them, until the program's input ends.
+fn visited_by_two<
+    N: Naming + Send + Sync,
+    R: Net<Listener = TcpListener, Stream = TcpStream> + Threads + Wait + Clock + Files + Sync,
+>(rt: &R, alloc: Global, opened: Opened) -> Option<(Vec<u8>, Vec<u8>)>
+    requires table { N.table ≡ opened.table }
+    requires numbers { (N.tenants ≡ opened.tenants) × (N.cells ≡ opened.cells) × (N.bound ≡ opened.bound) }
+    requires ledger { (N.name ≡ opened.name) × (N.parts ≡ opened.parts) }
+{
+    let host = Host::<N>::new(alloc, opened).ok()?;
+    let listener = TcpListener::bind(rt, "127.0.0.1:0").ok()?;
+    let address = listener.local_addr().ok()?;
+    let first = TcpStream::connect(rt, address).ok()?;
+    let second = TcpStream::connect(rt, address).ok()?;
+    // the pipe has the lowest number that is free: that of the input
+    let _closed = libc::close(0);
+    let (_reader, writer) = io::pipe(rt).ok()?;
+    let input = writer.into_raw_fd();
+    let reading = thread::spawn(rt, move || read_both(alloc, first, second, input)).ok()?;
+    let terms = Terms {
+        connections: 0,
+        idle: None,
+        until_input_ends: true,
+    };
+    let mut told = Vec::new(alloc);
+    serve_by(rt, alloc, &listener, host, &NoWatch, 1, terms, &mut told).ok()?;
+    reading.join(rt)
+}
+
+#[test]
+fn any_number_is_served_until_the_input_ends(rt: HostRuntime) -> Result<(), Fail> {
+    let opened = Opened::new(rt.alloc(), 16, 4, 1000)?;
+    match visited_by_two::<Brand, _>(&rt, rt.alloc(), opened) {
+        Some((one, two)) => {
+            assert_eq!(rt; one.as_slice(), b"ok\nok\n".as_slice());
+            assert_eq!(rt; two.as_slice(), b"ok\nok\n".as_slice());
         }
         None => assert!(rt; false),
     }

@@ -17,7 +17,7 @@ unfinished_as finish.NoMemory = Stream stream.NoMemory
 abbrev pub unplayed_as : ReplayError → Fault
 unplayed_as replay.ReadFault = Stream stream.ReadFault
 unplayed_as replay.WriteFault = Stream stream.WriteFault
-unplayed_as (replay.BadLine n) = BadLine n
+unplayed_as (replay.BadLine n why) = BadLine n
 unplayed_as (replay.Attach t s) = CannotAttach t s
 unplayed_as (replay.Finish e) = unfinished_as e
 unplayed_as replay.NoMemory = Stream stream.NoMemory

@@ -6,6 +6,7 @@ use libc::types::pollfd;
 use log::sink::Console;
 use log::{Level, LevelFilter, Logged, log};
 use sb_connection::{Event, Watch};
+use sb_wire::WireRefusal;
 use std::fmt::Display;
 use std::io;
 use std::rt::Clock;
@@ -35,6 +36,11 @@ impl<'r, T: Eprint + Clock> Journal<'r, T> {
             Level::Error,
             &format_args!("can't listen at port {port}: {why}"),
         );
+    }
+
+    /// Tells why a replay refuses this line of its input.
+    pub(crate) fn tell_bad_line(&self, line: u64, why: WireRefusal) {
+        self.write(Level::Error, &format_args!("bad line {line}: {why:?}"));
     }
 
     /// Writes a line, if there is room, and before it how many were dropped.

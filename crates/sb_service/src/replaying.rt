@@ -8,19 +8,21 @@ ghost use Rattle.sb_service.specs.Faults.{unplayed_as};
 
 use crate::closing::fault_of;
 use crate::fault::Fault;
+use crate::journal::Journal;
 use sb_host::{Host, Naming, Opened};
+use sb_options::Hosting;
 use sb_replay::ReplayError;
 use sb_wire::{Sink, Source, StreamError};
-use sb_options::Hosting;
 use std::alloc::Global;
 use std::marker::Brand;
+use std::rt::Clock;
 use std::sync::Wait;
 use std::thread::Threads;
 
 const OUT_OF_MEMORY: Fault = Fault::Stream(StreamError::NoMemory);
 
 /// Calls the sessions that an input names on a host of its own, and writes what they were answered.
-pub fn replay<T: Threads + Wait + Sync, R: Source, W: Sink>(
+pub fn replay<T: Threads + Wait + Eprint + Clock + Sync, R: Source, W: Sink>(
     rt: &T,
     alloc: Global,
     hosting: Hosting,
@@ -44,7 +46,12 @@ pub fn replay<T: Threads + Wait + Sync, R: Source, W: Sink>(
 }
 
 /// Replays on a host of these parts.
-fn replay_host<N: Naming + Send + Sync, T: Threads + Wait + Sync, R: Source, W: Sink>(
+fn replay_host<
+    N: Naming + Send + Sync,
+    T: Threads + Wait + Eprint + Clock + Sync,
+    R: Source,
+    W: Sink,
+>(
     rt: &T,
     alloc: Global,
     opened: Opened,
@@ -68,7 +75,17 @@ fn replay_host<N: Naming + Send + Sync, T: Threads + Wait + Sync, R: Source, W: 
     };
     match sb_replay::replay(rt, alloc, reader, writer, host, workers) {
         Ok(()) => Ok(()),
-        Err(error) => Err(told(error)),
+        Err(error) => {
+            log_reason(rt, error);
+            Err(told(error))
+        }
+    }
+}
+
+/// Writes on standard error why a line is bad.
+fn log_reason<T: Eprint + Clock>(rt: &T, error: ReplayError) {
+    if let ReplayError::BadLine { line, why } = error {
+        Journal::new(rt).tell_bad_line(line, why);
     }
 }
 
@@ -79,7 +96,7 @@ fn told(error: ReplayError) -> Fault
     match error {
         ReplayError::ReadFault => Fault::Stream(StreamError::ReadFault),
         ReplayError::WriteFault => Fault::Stream(StreamError::WriteFault),
-        ReplayError::BadLine { line } => Fault::BadLine { line },
+        ReplayError::BadLine { line, .. } => Fault::BadLine { line },
         ReplayError::Attach { tenant, session } => Fault::CannotAttach {
             tenant,
             session: u32::from(session.number()),

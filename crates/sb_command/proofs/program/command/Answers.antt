@@ -74,11 +74,11 @@ returns-in-Ok-Version-clause-asked g c =
       c.show-in-Ok-Version.ensures,
     )))))
 
--- two words for what is said, or no memory for it
-module _ {A : Type 0} (asked : A) (n : ℕ) {R W Told : Type 0} (reader : R) (writer : W) where
-  refused : (n ≡ 2) ⊎ ((n ≡ 1) × Told) → (A × (n ≡ 2) × (reader ≡ reader) × (writer ≡ writer)) ⊎ ((n ≡ 1) × (reader ≡ reader) × (writer ≡ writer) × Told)
+-- why words are refused, or no memory for the line
+module _ {A B : Type 0} (asked : A) (n : ℕ) {R W Told : Type 0} (reader : R) (writer : W) where
+  refused : (n ≡ 2) ⊎ ((n ≡ 1) × Told) → (A × (n ≡ 2) × (reader ≡ reader) × (writer ≡ writer)) ⊎ (B ⊎ ((n ≡ 1) × (reader ≡ reader) × (writer ≡ writer) × Told))
   refused (inl two) = inl (asked, two, refl, refl)
-  refused (inr one) = inr (one.0, refl, refl, one.1)
+  refused (inr one) = inr (inr (one.0, refl, refl, one.1))
 
 pub returns-in-Ok-Refused-clause-asked : goal.returns-in-Ok-Refused-clause-asked
 returns-in-Ok-Refused-clause-asked g c =
@@ -88,12 +88,12 @@ returns-in-Ok-Refused-clause-asked g c =
 
 pub returns-in-Ok-NotAllowed-clause-asked : goal.returns-in-Ok-NotAllowed-clause-asked
 returns-in-Ok-NotAllowed-clause-asked g c =
-    inr (inr (inr (inr (inr (inl (
-      subst (IsAsked (map g.S.AsStr.text c.args.words.now)) c.in-Ok-NotAllowed.field-0-is c.in-Ok-NotAllowed.ensures.asked,
-      c.refuse_numbers.ensures,
-      refl,
-      refl,
-    ))))))
+    let unfit = c.in-Ok-NotAllowed.unfit in
+    let has = subst (IsAsked (map g.S.AsStr.text c.args.words.now)) c.in-Ok-NotAllowed.field-0-is c.in-Ok-NotAllowed.ensures.asked in
+    elim c.refuse_part.ensures [
+      | inl said ↦ inr (inr (inr (inr (inr (inr (inl (unfit, has, said.0, refl, refl, said.1)))))))
+      | inr short ↦ inr (inr (inr (inr (inr (inr (inr (short.0, refl, refl, short.1)))))))
+    ]
 
 pub returns-in-Err-clause-asked : goal.returns-in-Err-clause-asked
-returns-in-Err-clause-asked g c = inr (inr (inr (inr (inr (inr (c.fault.ensures.status, refl, refl, c.fault.ensures.tells))))))
+returns-in-Err-clause-asked g c = inr (inr (inr (inr (inr (inr (inr (c.fault.ensures.status, refl, refl, c.fault.ensures.tells)))))))

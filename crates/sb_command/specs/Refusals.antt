@@ -1,0 +1,22 @@
+-- The line of words that aren't allowed.
+use Rattle.std.specs.Prelude.{ℕ, List, [], ◌++◌, codes}
+use Rattle.clap.specs.Words.{Text}
+use Rattle.sb_options.specs.declared.unfit.Part.{Part}
+use Rattle.sb_options.specs.declared.unfit.Part.TheVariants.{Command, Tenants, Bound, Cells, Workers, Port, Connections, Idle, UntilInputEnds}
+use Rattle.sb_options.specs.declared.unfit.Unfit.{Unfit}
+
+-- a part, with the text that stands for it
+abbrev pub part_text : Part → Text → List ℕ
+part_text Command text = codes "the word " ++ text
+part_text Tenants text = codes "--tenants " ++ text
+part_text Bound text = codes "--bound " ++ text
+part_text Cells text = codes "--cells " ++ text
+part_text Workers text = codes "--workers " ++ text
+part_text Port text = codes "--port " ++ text
+part_text Connections text = codes "--connections " ++ text
+part_text Idle text = codes "--idle " ++ text
+part_text UntilInputEnds text = codes "--until-input-ends"
+
+-- a part that isn't allowed, and what is
+abbrev pub refusal_text : List ℕ → Unfit → List ℕ
+refusal_text allowed u = codes "error: " ++ part_text u.part u.text.now ++ codes " isn't allowed" ++ allowed
