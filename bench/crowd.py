@@ -327,7 +327,7 @@ def full_trail(program):
     server = Server(program, "--connections", "1")
     with server.connect() as stream:
         say(stream, b"9 0\n")
-        for _ in range(64):
+        for _ in range(1_024):
             say(stream, b"x\n" * 1100)
     told, log = server.end()
     warned = [line for line in log if "trail" in line]
