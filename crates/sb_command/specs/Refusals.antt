@@ -1,5 +1,5 @@
 -- The line of words that aren't allowed.
-use Rattle.std.specs.Prelude.{ℕ, List, [], ◌++◌, codes}
+use Rattle.std.specs.Prelude.{ℕ, List, ◌++◌, codes}
 use Rattle.clap.specs.Words.{Text}
 use Rattle.sb_options.specs.declared.unfit.Part.{Part}
 use Rattle.sb_options.specs.declared.unfit.Part.TheVariants.{Command, Tenants, Bound, Cells, Workers, Port, Connections, Idle, UntilInputEnds}

@@ -90,10 +90,9 @@ pub returns-in-Ok-NotAllowed-clause-asked : goal.returns-in-Ok-NotAllowed-clause
 returns-in-Ok-NotAllowed-clause-asked g c =
     let unfit = c.in-Ok-NotAllowed.unfit in
     let has = subst (IsAsked (map g.S.AsStr.text c.args.words.now)) c.in-Ok-NotAllowed.field-0-is c.in-Ok-NotAllowed.ensures.asked in
-    elim c.refuse_part.ensures [
-      | inl said ↦ inr (inr (inr (inr (inr (inr (inl (unfit, has, said.0, refl, refl, said.1)))))))
-      | inr short ↦ inr (inr (inr (inr (inr (inr (inr (short.0, refl, refl, short.1)))))))
-    ]
+    inr (inr (inr (inr (inr (inr (
+    elim c.refuse_part.ensures [ inl said ↦ inl (unfit, has, said.0, refl, refl, said.1) | inr short ↦ inr (short.0, refl, refl, short.1) ]
+    ))))))
 
 pub returns-in-Err-clause-asked : goal.returns-in-Err-clause-asked
 returns-in-Err-clause-asked g c = inr (inr (inr (inr (inr (inr (inr (c.fault.ensures.status, refl, refl, c.fault.ensures.tells)))))))
