@@ -193,6 +193,9 @@ fn hosts_are_finished(rt: HostRuntime) -> Result<(), Fail> {
         Some((3, 0, true))
     );
     let one = Opened::new(rt.alloc(), 1, 1, 1000)?;
-    assert_eq!(rt; filled::<Brand, _>(&rt, rt.alloc(), one), Some((0, 1_048_577)));
+    assert_eq!(rt;
+        filled::<Brand, _>(&rt, rt.alloc(), one),
+        Some((0, 1_048_577))
+    );
     Ok(())
 }

@@ -3,9 +3,9 @@ ghost use Rattle.std.specs.Prelude.{◌≡◌};
 
 use sb_host::{Gate, Host, Naming, Opened, Session, Stub};
 use sb_pool::{Done, Job, Pool};
-use sb_workers::{Work, run};
 use sb_tenant::{Answer, Reply};
 use sb_value::{SessionId, Value};
+use sb_workers::{Work, run};
 use std::alloc::Global;
 use std::marker::Brand;
 use std::sync::Wait;

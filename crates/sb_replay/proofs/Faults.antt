@@ -1,13 +1,15 @@
 -- Why an input isn't replayed.
 use Rattle.std.proofs.Common.{◌≡◌, ℕ, List, Option, Result, Ok, Err, IfErr, IfSome, OnErr, Vec, inl, inr, sym, subst}
 use Rattle.std.specs.Global.{Global}
-use Rattle.std.specs.Io.KnownBytes.{Keeps}
+use Rattle.std.specs.Io.KnownBytes.{Consumes, Keeps}
 use Rattle.sb_host.specs.declared.stub.Stub.{Stub}
 use Rattle.sb_replay.specs.declared.error.ReplayError.{ReplayError}
 use Rattle.sb_replay.specs.declared.error.ReplayError.TheVariants.{ReadFault, WriteFault, BadLine, Attach, Finish, NoMemory}
-use Rattle.sb_script.specs.Scripts.{HoldsScript}
+use Rattle.sb_script.specs.Scripts.{FailsToRead, HoldsScript}
+use Rattle.sb_script.specs.declared.error.ScriptError.{ScriptError}
+use Rattle.sb_script.specs.declared.error.ScriptError.TheVariants as script
 use Rattle.sb_replay.specs.Parts.{AreAttended}
-use Rattle.sb_replay.specs.Replay.{Fails, IsUnclosed, IsUnfinished, IsUnopened, IsUnplayed}
+use Rattle.sb_replay.specs.Replay.{Fails, IsUnclosed, IsUnfinished, IsUnopened, IsUnplayed, unread_by}
 use Rattle.sb_replay.specs.Sheets.{Sheet}
 
 -- where writing says no more than that it failed
@@ -35,6 +37,13 @@ unclosed_unplayed tenants NoMemory h = h
 
 module _ {R W : Type 0} (fails : R → Type 0) (remaining : R → Option (List ℕ)) (refuses : W → Type 0) (contents : W → Option (List ℕ)) (tenants bound : ℕ)
     (reader reader' : R) (writer writer' : W) (keeps : Keeps (contents writer) (contents writer')) where
+  -- why the input couldn't be read
+  pub unread_fails : (e : ScriptError) (seen : List ℕ) → Consumes (remaining reader) (remaining reader') seen
+      → FailsToRead fails remaining tenants seen reader' e → Fails fails remaining refuses contents tenants bound reader reader' writer writer' (unread_by e)
+  unread_fails script.ReadFault seen took h = (seen, took, h, keeps)
+  unread_fails (script.BadLine n why) seen took h = (seen, took, h.1, keeps)
+  unread_fails script.NoMemory seen took h = keeps
+
   pub unplayed_fails : (e : ReplayError) → IsUnplayed tenants e → Fails fails remaining refuses contents tenants bound reader reader' writer writer' e
   unplayed_fails ReadFault h = absurd h
   unplayed_fails WriteFault h = absurd h

@@ -1,9 +1,11 @@
 use Rattle.std.proofs.Common.{◌≡◌, ℕ, List, ◌++◌, IfSome, sym, ap, ◌∙◌, subst, append-nil}
 use Rattle.std.specs.Io.KnownBytes.{Appends}
 use Rattle.std.proofs.lemmas.Result.{on_ok_weaker}
-use Rattle.sb_script.specs.Scripts.{HoldsScript}
+use Rattle.sb_script.specs.Scripts.{FailsToRead, HoldsScript}
 use Rattle.std.proofs.KnownBytes.{Keeps-refl}
-use Rattle.sb_replay.proofs.Faults.{not_written, unplayed_fails, unreported_fails}
+use Rattle.sb_replay.proofs.Faults.{not_written, unplayed_fails, unread_fails, unreported_fails}
+use Rattle.sb_replay.specs.Replay.{Fails}
+use Rattle.sb_replay.specs.declared.error.ReplayError.{ReplayError}
 use Rattle.sb_replay.proofs.Whole.{and_appends, replays_known}
 use Rattle.sb_replay.proofs.replaying.replay.Goals as goal
 
@@ -48,3 +50,11 @@ returns-in-Err-finish-clause-err g c =
     let script = subst (λ (n : ℕ). IfSome input (λ bytes. HoldsScript n bytes c.in-Ok.rows.items)) c.tenants.ensures c.in-Ok.ensures.ok in
     unreported_fails g.R.Source.fails g.R.Read.remaining g.W.Sink.refuses g.W.Write.contents c.args.host g.N.Naming.bound c.args.reader.now c.read_script.new.reader c.args.writer.now c.args.writer.now
     (Keeps-refl (g.W.Write.contents c.args.writer.now)) c.in-Ok.rows.items closed.sheets.items closed.stubs.items c.in-Err-finish.error script c.in-Ok-play_all.ensures.ok c.in-Err-finish.ensures.err
+
+pub returns-in-Err-clause-err : goal.returns-in-Err-clause-err
+returns-in-Err-clause-err g c =
+    let why = c.in-Err.ensures.err in
+    subst (λ (e : ReplayError). Fails g.R.Source.fails g.R.Read.remaining g.W.Sink.refuses g.W.Write.contents c.args.host g.N.Naming.bound c.args.reader.now c.read_script.new.reader c.args.writer.now c.args.writer.now e) (sym c.unread.ensures)
+    (unread_fails g.R.Source.fails g.R.Read.remaining g.W.Sink.refuses g.W.Write.contents c.args.host g.N.Naming.bound c.args.reader.now c.read_script.new.reader c.args.writer.now c.args.writer.now
+    (Keeps-refl (g.W.Write.contents c.args.writer.now)) c.in-Err.error why.0 why.1
+    (subst (λ (n : ℕ). FailsToRead g.R.Source.fails g.R.Read.remaining n why.0 c.read_script.new.reader c.in-Err.error) c.tenants.ensures why.2))
