@@ -75,28 +75,21 @@ fn replay_host<
     };
     match sb_replay::replay(rt, alloc, reader, writer, host, workers) {
         Ok(()) => Ok(()),
-        Err(error) => {
-            log_reason(rt, error);
-            Err(told(error))
-        }
+        Err(error) => Err(told(rt, error)),
     }
 }
 
-/// Writes on standard error why a line is bad.
-fn log_reason<T: Eprint + Clock>(rt: &T, error: ReplayError) {
-    if let ReplayError::BadLine { line, why } = error {
-        Journal::new(rt).tell_bad_line(line, why);
-    }
-}
-
-/// What a replay that didn't go well is told as.
-fn told(error: ReplayError) -> Fault
+/// What a replay that didn't go well is told as. Why a line is bad is written in the log.
+fn told<T: Eprint + Clock>(rt: &T, error: ReplayError) -> Fault
     ensures { result ≡ unplayed_as error }
 {
     match error {
         ReplayError::ReadFault => Fault::Stream(StreamError::ReadFault),
         ReplayError::WriteFault => Fault::Stream(StreamError::WriteFault),
-        ReplayError::BadLine { line, .. } => Fault::BadLine { line },
+        ReplayError::BadLine { line, why } => {
+            Journal::new(rt).tell_bad_line(line, why);
+            Fault::BadLine { line }
+        }
         ReplayError::Attach { tenant, session } => Fault::CannotAttach {
             tenant,
             session: u32::from(session.number()),
