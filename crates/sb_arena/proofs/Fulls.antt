@@ -1,8 +1,6 @@
 -- Rows of places that are all full, or all empty.
-use Rattle.std.proofs.lemmas.Bool.{cases_lt}
-use Rattle.std.proofs.Common.{◌≡◌, ℕ, zero, suc, ◌+◌, ◌-◌, ◌<◌, ◌≤◌, List, [], ◌∷◌, ◌++◌, map, length, take, drop, replicate, get_or, set, Option, Some, None, slice_get, refl, sym, ap, ◌∙◌, arith, ◌⊎◌, inl, inr, ext_get_or, length-append, get_or-drop}
-use Rattle.std.proofs.lemmas.List.{length-map, length-replicate, map-append, get_or_append_left, get_or-append_right}
-use Rattle.std.proofs.lemmas.Option.{slice_get-get_or}
+use Rattle.std.proofs.Common.{◌≡◌, ℕ, zero, suc, ◌<◌, List, [], ◌∷◌, map, length, replicate, get_or, set, Option, Some, None, slice_get, refl, sym, ap, ◌∙◌, arith, ext_get_or}
+use Rattle.std.proofs.lemmas.List.{length-map, length-replicate}
 use Rattle.sb_arena.specs.Places.{somes, IsFilled, AreFull}
 
 module _ {X : Type 0} where
@@ -20,10 +18,6 @@ module _ {X : Type 0} where
   get-map [] i = refl
   get-map (x ∷ xs) zero = refl
   get-map (x ∷ xs) (suc i) = get-map xs i
-
-  -- the value at an index
-  pub full_at : (cs : List (Option X)) (i : ℕ) (d : X) → AreFull cs → i < length cs → get_or cs i None ≡ Some (get_or (somes cs) i d)
-  full_at cs i d f lt = ap (λ l. get_or l i None) f ∙ get-map (somes cs) i ∙ slice_get-get_or (somes cs) i d (omega (arith, length-somes cs f))
 
   set-map : (xs : List X) (i : ℕ) (v : X) → set (map Some xs) i (Some v) ≡ map Some (set xs i v)
   set-map [] i v = refl
@@ -58,35 +52,9 @@ module _ {X : Type 0} where
   get-nones (suc n) zero = refl
   get-nones (suc n) (suc i) = get-nones n i
 
-  pub all_none : (cs : List (Option X)) (n : ℕ) → length cs ≡ n → ((k : ℕ) → k < n → get_or cs k None ≡ None) → cs ≡ replicate n None
-  all_none cs n len h = ext_get_or None cs (replicate n None) (len ∙ sym (length-replicate n None)) (λ i lt. h i (omega arith) ∙ sym (get-nones n i))
+  pub all_alike : (cs : List (Option X)) (n : ℕ) (v : Option X) → length cs ≡ n → ((k : ℕ) → k < n → get_or cs k None ≡ v) → cs ≡ replicate n v
+  all_alike cs n v len h = ext_get_or None cs (replicate n v) (len ∙ sym (length-replicate n v)) (λ i lt. h i (omega arith) ∙ sym (get-replicate n i v None (omega arith)))
 
-  -- a list that begins with another and goes on with one value
-  pub front_and : (cs ds : List (Option X)) (n : ℕ) (v : Option X) → length cs ≡ length ds + n → ((k : ℕ) → k < length ds → get_or cs k None ≡ get_or ds k None)
-      → ((k : ℕ) → length ds ≤ k → k < length cs → get_or cs k None ≡ v) → cs ≡ ds ++ replicate n v
-  front_and cs ds n v len front back =
-      ext_get_or None cs (ds ++ replicate n v) (len ∙ sym (length-append ds (replicate n v) ∙ ap (λ m. length ds + m) (length-replicate n v))) (λ i lt. elim (cases_lt i (length ds)) [
-        | inl h ↦ front i h ∙ sym (get_or_append_left ds (replicate n v) None i h)
-        | inr h ↦ back i h lt ∙ sym (get_or-append_right ds (replicate n v) (length ds) i None refl h ∙ get-replicate n (i - length ds) v None (omega arith))
-      ])
-
-  pub empty_past : (cs : List (Option X)) (start m : ℕ) → drop start cs ≡ replicate m None → (k : ℕ) → start ≤ k → get_or cs k None ≡ None
-  empty_past cs start m e k le =
-      let back : start + (k - start) ≡ k = omega arith in
-      ap (λ j. get_or cs j None) (sym back) ∙ sym (get_or-drop start cs (k - start) None) ∙ ap (λ l. get_or l (k - start) None) e ∙ get-nones m (k - start)
-
-  pub drop_front : (xs : List (Option X)) (n : ℕ) (ys : List (Option X)) → n ≡ length xs → drop n (xs ++ ys) ≡ ys
-  drop_front [] n ys e = ap (λ k. drop k ys) e
-  drop_front (x ∷ xs) n ys e = ap (λ k. drop k (x ∷ xs ++ ys)) e ∙ drop_front xs (length xs) ys refl
-
-  pub take_front : (xs : List (Option X)) (n : ℕ) (ys : List (Option X)) → n ≡ length xs → take n (xs ++ ys) ≡ xs
-  take_front [] n ys e = ap (λ k. take k ys) e
-  take_front (x ∷ xs) n ys e = ap (λ k. take k (x ∷ xs ++ ys)) e ∙ ap (λ l. x ∷ l) (take_front xs (length xs) ys refl)
-
-  map-replicate : (n : ℕ) (v : X) → replicate n (Some v) ≡ map Some (replicate n v)
+  pub map-replicate : (n : ℕ) (v : X) → replicate n (Some v) ≡ map Some (replicate n v)
   map-replicate zero v = refl
   map-replicate (suc n) v = ap (λ l. Some v ∷ l) (map-replicate n v)
-
-  -- full places, and further ones of one value
-  pub grown : (cs ds : List (Option X)) (n : ℕ) (v : X) → AreFull cs → ds ≡ cs ++ replicate n (Some v) → ds ≡ map Some (somes cs ++ replicate n v)
-  grown cs ds n v f e = e ∙ ap (λ l. l ++ replicate n (Some v)) f ∙ ap (λ l. map Some (somes cs) ++ l) (map-replicate n v) ∙ sym (map-append Some (somes cs) (replicate n v))

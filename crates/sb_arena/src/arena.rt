@@ -1,57 +1,47 @@
-//! Places with numbers, each free or with a value, over one block of raw memory.
-ghost use Rattle.std.specs.Prelude.{◌≡◌, ℕ, ◌-◌, ◌<◌, ◌≤◌, ◌++◌, List, [], Option, Some, None, length, map, get_or, replicate, slice_set, option_copied, OnOk, OnErr, IfOk};
+//! Places with numbers, each free or with a value, over blocks of raw memory.
+ghost use Rattle.std.specs.Prelude.{◌≡◌, ◌-◌, ◌<◌, ◌++◌, [], Option, Some, None, length, get_or, replicate, slice_set, take, option_copied, OnOk, OnErr};
 
-use crate::cells::{Cells, Deed, Start, allocate, free};
-use crate::moves::{clear, fill, move_all};
-use std::alloc::{AllocError, Allocator, Global};
+use crate::block::Block;
+use std::alloc::{AllocError, Global};
 use std::marker::Model;
-use std::mem::replace;
-use std_alloc::room::may_hold;
 
-/// A block, what it holds and the right to free it.
-struct Block<T, A: Allocator> {
-    start: Start<Option<T>>,
-    cells: Cells<Option<T>>,
-    deed: Deed<Option<T>, A>,
-}
+/// How many places a block has. One is got, or given back, in well under a millisecond.
+pub const BLOCK_PLACES: usize = 4_096;
 
-/// Places with numbers, each free or with a value.
-pub struct Arena<T, A: Allocator = Global> {
-    block: Block<T, A>,
+/// Places with numbers, each free or with a value. None is moved, however many there are.
+#[derive(Drop)]
+pub struct Arena<T> {
+    blocks: Vec<Block<T, Global>>,
     places: usize,
-    alloc: A,
+    alloc: Global,
 }
 
-impl<T, A: Allocator> Model for Arena<T, A> {
-    ghost use Rattle.std.specs.Prelude.{◌≡◌, List, Option, length};
+impl<T> Model for Arena<T> {
+    ghost use Rattle.std.specs.Prelude.{List, Option};
+    ghost use Rattle.std.specs.List.{flat_map};
     ghost use Rattle.std.specs.Coded.{coded_list, coded_option};
 
     ghost Value = { List (Option T) };
 
     ghost coded = { coded_list (coded_option T.code) };
 
-    ghost use Rattle.sb_arena.specs.Blocks.{IsArena};
-    ghost use Rattle.sb_arena.specs.Places.{somes};
+    ghost use Rattle.sb_arena.specs.Blocks.{AreBlocks};
 
-    ghost view = { λ a. somes a.block.cells.slots };
+    ghost view = { λ a. flat_map (λ b. b) a.blocks.items };
 
-    ghost invariant = { λ a. IsArena a.block a.places a.alloc };
+    ghost invariant = { λ a. AreBlocks a.blocks.items a.places };
 }
 
-impl<T, A: Allocator> Arena<T, A> {
+impl<T> Arena<T> {
     /// An arena without places.
-    pub fn new(alloc: A) -> Result<Self, AllocError>
-        ensures { IfOk result (λ a. a ≡ []) }
+    pub fn new(alloc: Global) -> Self
+        ensures { result ≡ [] }
     {
-        if !may_hold::<Option<T>>(0) {
-            return Err(AllocError);
-        }
-        let (start, cells, deed) = allocate(&alloc, 0)?;
-        Ok(Arena {
-            block: Block { start, cells, deed },
+        Arena {
+            blocks: Vec::new(alloc),
             places: 0,
             alloc,
-        })
+        }
     }
 
     /// The number of places.
@@ -66,7 +56,7 @@ impl<T, A: Allocator> Arena<T, A> {
         requires { place < length self.now }
         ensures { option_copied result ≡ get_or self.now place None }
     {
-        self.block.cells.get(self.block.start, place).as_ref()
+        self.blocks[place / BLOCK_PLACES].get(place % BLOCK_PLACES)
     }
 
     /// Puts the value into a free place.
@@ -75,10 +65,7 @@ impl<T, A: Allocator> Arena<T, A> {
         requires free { get_or self.old place None ≡ None }
         ensures { self.new ≡ slice_set self.old place (Some value) }
     {
-        match self.block.cells.read(self.block.start, place) {
-            Some(_) => unreachable!(),
-            None => self.block.cells.write(self.block.start, place, Some(value)),
-        }
+        self.blocks[place / BLOCK_PLACES].put(place % BLOCK_PLACES, value);
     }
 
     /// Takes the value out of the place, which is free then.
@@ -87,56 +74,33 @@ impl<T, A: Allocator> Arena<T, A> {
         ensures value { get_or self.old place None ≡ Some result }
         ensures places { self.new ≡ slice_set self.old place None }
     {
-        let Some(value) = self.block.cells.read(self.block.start, place) else {
-            unreachable!()
-        };
-        self.block.cells.write(self.block.start, place, None);
-        value
+        self.blocks[place / BLOCK_PLACES].take(place % BLOCK_PLACES)
     }
 
-    /// Adds free places, up to `places` in all.
-    pub fn grow(&mut self, places: usize) -> Result<(), AllocError>
-        requires { length self.old ≤ places }
-        ensures ok { OnOk result (self.new ≡ self.old ++ replicate (places - length self.old) None) }
+    /// Adds a block of free places.
+    pub fn grow(&mut self) -> Result<(), AllocError>
+        ensures ok { OnOk result (self.new ≡ self.old ++ replicate 4096 None) }
         ensures err { OnErr result (self.new ≡ self.old) }
     {
-        if !may_hold::<Option<T>>(places) {
+        let Some(places) = self.places.checked_add(BLOCK_PLACES) else {
             return Err(AllocError);
-        }
-        let (start, mut cells, deed) = allocate(&self.alloc, places)?;
-        let len = self.places;
-        move_all(
-            &mut self.block.cells,
-            self.block.start,
-            &mut cells,
-            start,
-            len,
-        );
-        fill(&mut cells, start, len, places);
-        let Block {
-            start: old_start,
-            cells: old_cells,
-            deed: old_deed,
-        } = replace(&mut self.block, Block { start, cells, deed });
-        free(&self.alloc, old_start, len, old_cells, old_deed);
+        };
+        self.blocks.reserve(1)?;
+        let block = Block::new(self.alloc, BLOCK_PLACES)?;
+        self.blocks.push_reserved(block);
         self.places = places;
         Ok(())
     }
 }
 
-impl<T: Drop, A: Allocator> Drop for Arena<T, A> {
-    fn drop(self) {
-        let Arena {
-            block,
-            places,
-            alloc,
-        } = self;
-        let Block {
-            start,
-            mut cells,
-            deed,
-        } = block;
-        clear(&mut cells, start, places);
-        free(&alloc, start, places, cells, deed);
+impl<T: Drop> Arena<T> {
+    /// Gives the last block back to the system, if there is one, with what is in it.
+    pub fn shrink(&mut self)
+        ensures { self.new ≡ take (length self.old - 4096) self.old }
+    {
+        if let Some(last) = self.blocks.pop() {
+            self.places -= BLOCK_PLACES;
+            drop(last);
+        }
     }
 }

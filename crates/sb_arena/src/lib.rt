@@ -2,7 +2,8 @@
 #![tactic(auto)]
 
 mod arena;
+mod block;
 mod cells;
 mod moves;
 
-pub use arena::Arena;
+pub use arena::{Arena, BLOCK_PLACES};

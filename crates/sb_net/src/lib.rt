@@ -2,6 +2,7 @@
 #![tactic(auto)]
 
 mod effect;
+mod scope;
 mod span;
 mod transition;
 mod triggers;

@@ -2,8 +2,7 @@
 ghost use Rattle.std.specs.Prelude.{◌≡◌, [], MatchOption};
 ghost use Rattle.sb_value.specs.NetEffect.{history};
 ghost use Rattle.sb_rawlog.specs.Sessions.{changes_since};
-ghost use Rattle.sb_rawlog.specs.Steps.{TupleOlder};
-ghost use Rattle.sb_net.specs.Spans.{IsSpan, IsOldest, EndsAt};
+ghost use Rattle.sb_net.specs.Spans.{IsSpan, IsOldest, GoesBack};
 
 use sb_rawlog::{ChangeLog, Spot};
 use sb_value::{Change, TableId, Who};
@@ -54,7 +53,7 @@ fn oldest<L: ChangeLog>(log: &L, spot: Spot) -> Spot
 /// An older change of the walk that the spot is on, as far back as one step leads.
 fn older<L: ChangeLog>(log: &L, spot: Spot) -> Option<Spot>
     requires { L.stands log.now spot }
-    ensures { MatchOption result (EndsAt (L.records log.now) spot) (TupleOlder (L.stands log.now) (L.records log.now) spot) }
+    ensures { GoesBack (L.stands log.now) (L.records log.now) spot result }
 {
     // for the proof: the spot's change is there
     let here = spot;

@@ -1,13 +1,13 @@
 //! A rule's transition tables.
 ghost use Rattle.std.specs.Prelude.{◌≡◌, ◌++◌, map, IfOk, OnOk};
 ghost use Rattle.sb_value.specs.NetEffect.{net_effect, tuples_of, transition_tables};
-ghost use Rattle.sb_rawlog.specs.Changes.{is_op};
-ghost use Rattle.sb_rawlog.specs.Records.{walk};
 ghost use Rattle.sb_rawlog.specs.Sessions.{changes_since};
+ghost use Rattle.sb_net.specs.Scopes.{changes_in, walk_in};
 ghost use Rattle.sb_net.specs.Seen.{seen};
 ghost use Rattle.sb_net.specs.Tables.{with_net};
 
 use crate::effect::{NetOf, net};
+use crate::scope::Scope;
 use sb_rawlog::ChangeLog;
 use sb_value::{Kind, Row, RowList, TableId, Transition, Triggers, Value, Who};
 use std::alloc::{AllocError, Global};
@@ -16,34 +16,26 @@ use std::alloc::{AllocError, Global};
 fn push_tuples<L: ChangeLog>(
     tuples: &mut Vec<u64>,
     log: &L,
-    who: &Who,
-    table: TableId,
+    scope: &Scope,
     kind: Kind,
-    since: u64,
 ) -> Result<(), AllocError>
-    ensures { let found = walk (is_op who.now table kind) since (L.records log.now) in
+    ensures { let found = walk_in scope.now kind (L.records log.now) in
         OnOk result (tuples.new.items ≡ tuples.old.items ++ map (λ r. r.1.tuple) found) }
 {
-    for (_, change) in log.by_op(*who, table, kind, since) {
+    for (_, change) in log.by_op(scope.who, scope.table, kind, scope.since) {
         tuples.push(change.tuple)?;
     }
     Ok(())
 }
 
 /// The numbers of the tuples of the table that the session has changed, rising.
-fn tuples_of<L: ChangeLog>(
-    alloc: Global,
-    log: &L,
-    who: &Who,
-    table: TableId,
-    since: u64,
-) -> Result<Vec<u64>, AllocError>
-    ensures { IfOk result (λ v. v.items ≡ tuples_of (changes_since who.now since (L.records log.now)) table) }
+fn tuples_of<L: ChangeLog>(alloc: Global, log: &L, scope: &Scope) -> Result<Vec<u64>, AllocError>
+    ensures { IfOk result (λ v. v.items ≡ tuples_of (changes_in scope.now (L.records log.now)) scope.now.table) }
 {
     let mut tuples = Vec::new(alloc);
-    push_tuples(&mut tuples, log, who, table, Kind::Inserted, since)?;
-    push_tuples(&mut tuples, log, who, table, Kind::Deleted, since)?;
-    push_tuples(&mut tuples, log, who, table, Kind::Updated, since)?;
+    push_tuples(&mut tuples, log, scope, Kind::Inserted)?;
+    push_tuples(&mut tuples, log, scope, Kind::Deleted)?;
+    push_tuples(&mut tuples, log, scope, Kind::Updated)?;
     tuples.sort_unstable();
     tuples.dedup();
     Ok(tuples)
@@ -88,15 +80,13 @@ fn push_tuple<L: ChangeLog>(
     tables: &mut Transition,
     triggers: &Triggers,
     log: &L,
-    who: &Who,
-    table: TableId,
+    scope: &Scope,
     tuple: u64,
-    since: u64,
 ) -> Result<(), AllocError>
-    ensures { let changes = changes_since who.now since (L.records log.now) in
-        OnOk result (tables.new ≡ with_net triggers.now tables.old (net_effect changes table tuple)) }
+    ensures { let changes = changes_in scope.now (L.records log.now) in
+        OnOk result (tables.new ≡ with_net triggers.now tables.old (net_effect changes scope.now.table tuple)) }
 {
-    match net(log, *who, table, tuple, since) {
+    match net(log, scope.who, scope.table, tuple, scope.since) {
         Some(net) => push_net(alloc, tables, triggers, &net),
         None => Ok(()),
     }
@@ -114,7 +104,8 @@ pub fn transition_tables<L: ChangeLog>(
     ensures { let changes = changes_since who since (L.records log.now) in
         IfOk result (λ tables. tables ≡ transition_tables triggers table changes) }
 {
-    let tuples = tuples_of(alloc, log, &who, table, since)?;
+    let scope = Scope { who, table, since };
+    let tuples = tuples_of(alloc, log, &scope)?;
     let mut tables = Transition {
         inserted: RowList::new(alloc),
         deleted: RowList::new(alloc),
@@ -122,16 +113,7 @@ pub fn transition_tables<L: ChangeLog>(
         new_updated: RowList::new(alloc),
     };
     for tuple in &tuples {
-        push_tuple(
-            alloc,
-            &mut tables,
-            &triggers,
-            log,
-            &who,
-            table,
-            *tuple,
-            since,
-        )?;
+        push_tuple(alloc, &mut tables, &triggers, log, &scope, *tuple)?;
     }
     Ok(tables)
 }

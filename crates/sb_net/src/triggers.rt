@@ -6,7 +6,9 @@ ghost use Rattle.sb_rawlog.specs.Changes.{is_op};
 ghost use Rattle.sb_rawlog.specs.Records.{walk};
 ghost use Rattle.sb_rawlog.specs.Sessions.{changes_since, changes_between};
 ghost use Rattle.sb_net.specs.Hits.{is_hit, names_kind, any_hit, any_tuple};
+ghost use Rattle.sb_net.specs.Scopes.{changes_in, walk_in};
 
+use crate::scope::Scope;
 use crate::span::{Span, span_of};
 use sb_rawlog::ChangeLog;
 use sb_value::{
@@ -41,17 +43,10 @@ fn is_operation(changes: &Span<'_>, triggers: &Triggers) -> bool
 }
 
 /// Whether the net effect on the tuple is one of the operations.
-fn is_hit<L: ChangeLog>(
-    log: &L,
-    who: &Who,
-    table: TableId,
-    tuple: u64,
-    triggers: &Triggers,
-    since: u64,
-) -> bool
-    ensures { result ≡ is_hit triggers.now table (changes_since who.now since (L.records log.now)) tuple }
+fn is_hit<L: ChangeLog>(log: &L, scope: &Scope, tuple: u64, triggers: &Triggers) -> bool
+    ensures { result ≡ is_hit triggers.now scope.now.table (changes_in scope.now (L.records log.now)) tuple }
 {
-    match span_of(log, *who, table, tuple, since) {
+    match span_of(log, scope.who, scope.table, tuple, scope.since) {
         Some(changes) => is_operation(&changes, triggers),
         None => false,
     }
@@ -79,28 +74,24 @@ fn counts(triggers: &Triggers, kind: Kind, change: &Change) -> bool
     }
 }
 
-/// Whether a change of the kind that is no older than `tested` counts, and the net effect on its tuple since `since`
-/// is an operation. A change that doesn't count costs one step of the walk.
+/// Whether a change of the kind that is no older than `tested` counts, and the net effect on its tuple is an operation.
+/// A change that doesn't count costs one step of the walk.
 fn any_hit<L: ChangeLog>(
     log: &L,
-    who: &Who,
-    table: TableId,
+    scope: &Scope,
     kind: Kind,
     triggers: &Triggers,
-    since: u64,
     tested: u64,
 ) -> bool
-    ensures { let changes = changes_since who.now since (L.records log.now) in
+    ensures { let who = scope.now.who in let table = scope.now.table in let rs = L.records log.now in
         result ≡ (names_kind triggers.now kind
-        && any_hit triggers.now table kind changes (walk (is_op who.now table kind) tested (L.records log.now))) }
+        && any_hit triggers.now table kind (changes_in scope.now rs) (walk (is_op who table kind) tested rs)) }
 {
     if !names_kind(triggers, kind) {
         return false;
     }
-    for (_, change) in log.by_op(*who, table, kind, tested) {
-        if counts(triggers, kind, change)
-            && is_hit(log, who, table, change.tuple, triggers, since)
-        {
+    for (_, change) in log.by_op(scope.who, scope.table, kind, tested) {
+        if counts(triggers, kind, change) && is_hit(log, scope, change.tuple, triggers) {
             return true;
         }
     }
@@ -108,7 +99,8 @@ fn any_hit<L: ChangeLog>(
 }
 
 /// Whether the session's changes that are no older than `since` trigger a rule on the table, where those of them
-/// that are older than `tested` don't. What it costs are the changes since then: of other tuples the net effects are what they were.
+/// that are older than `tested` don't. What it costs are the changes since then: of other tuples the net effects are
+/// what they were.
 pub fn is_triggered_anew<L: ChangeLog>(
     log: &L,
     who: Who,
@@ -119,43 +111,38 @@ pub fn is_triggered_anew<L: ChangeLog>(
 ) -> bool
     requires times { since ≤ tested }
     requires lives { AreLives (changes_since who since (L.records log.now)) }
-    requires untriggered { IsFalse (is_triggered triggers table (changes_between who since tested (L.records log.now))) }
+    requires untriggered { let older = changes_between who since tested (L.records log.now) in
+        IsFalse (is_triggered triggers table older) }
     ensures { result ≡ is_triggered triggers table (changes_since who since (L.records log.now)) }
 {
     // for the proof: later times cut the changes, and new ones alone can trigger the rule
     let _now = log.now();
     new_changes_trigger();
-    if any_hit(log, &who, table, Kind::Inserted, &triggers, since, tested) {
+    let scope = Scope { who, table, since };
+    if any_hit(log, &scope, Kind::Inserted, &triggers, tested) {
         return true;
     }
-    if any_hit(log, &who, table, Kind::Deleted, &triggers, since, tested) {
+    if any_hit(log, &scope, Kind::Deleted, &triggers, tested) {
         return true;
     }
-    any_hit(log, &who, table, Kind::Updated, &triggers, since, tested)
+    any_hit(log, &scope, Kind::Updated, &triggers, tested)
 }
 
-/// Whether a change of the kind that is no older than `since` is of a tuple whose net effect is an operation.
-fn any_tuple<L: ChangeLog>(
-    log: &L,
-    who: &Who,
-    table: TableId,
-    kind: Kind,
-    triggers: &Triggers,
-    since: u64,
-) -> bool
-    ensures { let changes = changes_since who.now since (L.records log.now) in
-        result ≡ any_tuple triggers.now table changes (walk (is_op who.now table kind) since (L.records log.now)) }
+/// Whether a change of the kind is of a tuple whose net effect is an operation.
+fn any_tuple<L: ChangeLog>(log: &L, scope: &Scope, kind: Kind, triggers: &Triggers) -> bool
+    ensures { let rs = L.records log.now in
+        result ≡ any_tuple triggers.now scope.now.table (changes_in scope.now rs) (walk_in scope.now kind rs) }
 {
-    for (_, change) in log.by_op(*who, table, kind, since) {
-        if is_hit(log, who, table, change.tuple, triggers, since) {
+    for (_, change) in log.by_op(scope.who, scope.table, kind, scope.since) {
+        if is_hit(log, scope, change.tuple, triggers) {
             return true;
         }
     }
     false
 }
 
-/// Whether the session's changes that are no older than `since` trigger a rule on the table, whatever changes these are. It looks at the
-/// net effect of each change's tuple.
+/// Whether the session's changes that are no older than `since` trigger a rule on the table, whatever changes these
+/// are. It looks at the net effect of each change's tuple.
 pub fn is_triggered<L: ChangeLog>(
     log: &L,
     who: Who,
@@ -165,11 +152,12 @@ pub fn is_triggered<L: ChangeLog>(
 ) -> bool
     ensures { result ≡ is_triggered triggers table (changes_since who since (L.records log.now)) }
 {
-    if any_tuple(log, &who, table, Kind::Inserted, &triggers, since) {
+    let scope = Scope { who, table, since };
+    if any_tuple(log, &scope, Kind::Inserted, &triggers) {
         return true;
     }
-    if any_tuple(log, &who, table, Kind::Deleted, &triggers, since) {
+    if any_tuple(log, &scope, Kind::Deleted, &triggers) {
         return true;
     }
-    any_tuple(log, &who, table, Kind::Updated, &triggers, since)
+    any_tuple(log, &scope, Kind::Updated, &triggers)
 }

@@ -1,10 +1,8 @@
 -- A spot that passes several of a tuple's changes at once.
 use Rattle.std.proofs.Common.{◌≡◌, ℕ, ◌<◌, ◌≤◌, Bool, true, false, cond, ◌&&◌, ◌==◌, nat_le, nat_lt, List, [], ◌∷◌, ◌++◌, reverse, get_or, Option, Some, None, refl, sym, ap, ◌∙◌, subst, arith, eqb-true}
-use Rattle.std.specs.List.{filter}
 use Rattle.std.proofs.lemmas.Bool.{and_parts, lt-ltb, le-leb}
 use Rattle.std.proofs.lemmas.List.Elements.{filter-append}
 use Rattle.sb_value.specs.NetEffect.{is_of}
-use Rattle.sb_value.specs.declared.id.Who.{Who}
 use Rattle.sb_value.specs.declared.change.Change.{Change}
 use Rattle.sb_rawlog.specs.declared.node.Node.{Node}
 use Rattle.sb_rawlog.specs.declared.spot.Spot.{Spot}
@@ -13,7 +11,7 @@ use Rattle.sb_rawlog.specs.Places.{HoldsLog}
 use Rattle.sb_rawlog.specs.Raw.{Stands, records_of}
 use Rattle.sb_rawlog.specs.Records.{Record, Rising, selected, walk, before, change_at}
 use Rattle.sb_rawlog.specs.Search.{spot_for}
-use Rattle.sb_rawlog.specs.Steps.{todo_from, tuple_todo, TupleOlder}
+use Rattle.sb_rawlog.specs.Steps.{todo_from, TupleOlder}
 use Rattle.sb_rawlog.proofs.Rises.{before-split, same_record}
 use Rattle.sb_rawlog.proofs.Seen.{turned, rising-before, before-before}
 use Rattle.sb_rawlog.proofs.Sessions.{author_is}

@@ -54,7 +54,7 @@ module _ (n : ℕ) (positive : 0 < n) where
     log = subst (λ k. IsLog (bucket k) [] heads [] 0) (sym (count n)) empty_log;
   }
 
-pub empty : (n : ℕ) → 0 < n → (a : Inside) → a.used ≡ 0 → a.clock ≡ 0 → a.room ≡ 0 → a.arena ≡ [] → a.ops.items ≡ replicate n None → a.tuples.items ≡ replicate n None → a.sessions.items ≡ replicate 2048 None → a.free.items ≡ [] → IsRaw a
+pub empty : (n : ℕ) → 0 < n → (a : Inside) → a.used ≡ 0 → a.clock ≡ 0 → a.room ≡ 0 → a.arena ≡ [] → a.heads.ops.items ≡ replicate n None → a.heads.tuples.items ≡ replicate n None → a.heads.sessions.items ≡ replicate 2048 None → a.free.items ≡ [] → IsRaw a
 empty n positive a used clock room arena ops tuples sessions free = record {
   order = [];
   holds = subst (λ (z : List (Option (Node Change)) × (List (Option ℕ) × (List (Option ℕ) × (List (Option ℕ) × ℕ)))). HoldsLog z.0 z.1.0 z.1.1.0 z.1.1.1.0 [] z.1.1.1.1)

@@ -8,7 +8,7 @@ use Rattle.sb_value.specs.declared.id.Who.{Who}
 use Rattle.sb_value.specs.declared.change.Change.{Change}
 use Rattle.sb_rawlog.specs.Changes.{is_by}
 use Rattle.sb_rawlog.specs.Records.{Record, Rising, selected, before}
-use Rattle.sb_rawlog.specs.Sessions.{records_by, changes, changes_since, mark_at, changes_between, MarksCut, TimesCut}
+use Rattle.sb_rawlog.specs.Sessions.{records_by, changes, changes_since, mark_at, MarksCut, TimesCut}
 use Rattle.sb_rawlog.proofs.Rises.{rising-filter, before-none, before-all}
 use Rattle.sb_rawlog.proofs.Sessions.{filter-swap}
 

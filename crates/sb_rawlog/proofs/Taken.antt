@@ -1,6 +1,6 @@
--- What a log in places is after a change is taken out, or one is added.
+-- What a log in places is after a change is taken out, one is added, or only the number of its places is another.
 use Rattle.std.proofs.lemmas.Bool.{cases_eq}
-use Rattle.std.proofs.Common.{◌≡◌, ◌≢◌, ℕ, ◌+◌, ◌<◌, Bool, true, false, ◌==◌, ◌⊎◌, inl, inr, List, [], ◌∷◌, ◌++◌, reverse, length, get_or, set, Option, Some, None, refl, sym, ap, ◌∙◌, subst, arith, eq-eqb, eqb-true, length-set, get_or-set_other}
+use Rattle.std.proofs.Common.{◌≡◌, ◌≢◌, ℕ, ◌+◌, ◌<◌, inl, inr, List, [], ◌∷◌, ◌++◌, reverse, length, get_or, set, Option, Some, None, refl, sym, ap, ◌∙◌, subst, arith, length-set, get_or-set_other}
 use Rattle.sb_value.specs.declared.id.Who.{Who}
 use Rattle.sb_value.specs.declared.change.Change.{Change}
 use Rattle.sb_rawlog.specs.declared.node.Which.{Which}
@@ -9,13 +9,13 @@ use Rattle.sb_rawlog.specs.declared.node.Node.{Node}
 use Rattle.sb_rawlog.specs.declared.node.Back.{Back}
 use Rattle.sb_rawlog.specs.Links.{Member, taken_out, link_of}
 use Rattle.sb_rawlog.specs.Logs.{entries, entry_in, shown, IsLog}
-use Rattle.sb_rawlog.proofs.Logs.{added}
+use Rattle.sb_rawlog.proofs.Logs.{added, same_log}
 use Rattle.sb_rawlog.proofs.Orders.{length-taken}
 use Rattle.sb_rawlog.specs.declared.key.Key.TheVariants.{Session as SessionKey}
 use Rattle.sb_rawlog.specs.declared.spot.Spot.{Spot}
 use Rattle.sb_rawlog.specs.Buckets.{bucket, by_which}
 use Rattle.sb_rawlog.specs.Changes.{is_by}
-use Rattle.sb_rawlog.specs.Places.{HoldsLog, TakesOut, node_for}
+use Rattle.sb_rawlog.specs.Places.{HoldSame, HoldsLog, TakesOut, node_for}
 use Rattle.sb_rawlog.specs.Raw.{Raw, records_of, Stands}
 use Rattle.sb_rawlog.specs.Records.{without, change_at}
 use Rattle.sb_rawlog.specs.Search.{Hit}
@@ -128,3 +128,24 @@ module _ (cs : List (Option (Node Change))) (ops tuples sessions : List (Option 
       let n = standing cs ops tuples sessions order clock room holds s st in
       let ne : s.place ≢ place = λ e. let a = n.1.0 in let b : get_or cs s.place None ≡ None = ap (λ q. get_or cs q None) e ∙ free in cc in
       stands_still before_that added_one s (get-shown after s.place ∙ ap entry_in (get_or-set_other cs place s.place (Some node) None ne) ∙ sym (get-shown cs s.place)) st
+
+-- ---- the places hold the same, however many there are
+
+module _ (cs ds : List (Option (Node Change))) (ops tuples sessions : List (Option ℕ)) (order : List ℕ) (clock room room' : ℕ) (same : HoldSame cs ds) (holds : HoldsLog cs ops tuples sessions order clock) where
+  abbrev places_before : Raw
+  places_before = record { places = shown cs; clock = clock; room = room }
+
+  abbrev places_after : Raw
+  places_after = record { places = shown ds; clock = clock; room = room' }
+
+  kept : IsLog (bucket (length ops)) ds (by_which ops tuples sessions) order clock × (entries ds order ≡ entries cs order)
+  kept = same_log (bucket (length ops)) cs ds (by_which ops tuples sessions) order clock same holds.log
+
+  pub kept_holds : HoldsLog ds ops tuples sessions order clock
+  kept_holds = record { buckets = holds.buckets; as_many = holds.as_many; of_sessions = holds.of_sessions; log = kept.0 }
+
+  pub kept_records : records_of places_after ≡ records_of places_before
+  kept_records = seen_is ds ops tuples sessions order clock room' kept_holds ∙ ap reverse kept.1 ∙ sym (seen_is cs ops tuples sessions order clock room holds)
+
+  pub kept_spots : SpotsStay (Stands places_before) (Stands places_after) (records_of places_after)
+  kept_spots s c st here = stands_still places_before places_after s (get-shown ds s.place ∙ ap entry_in (same s.place) ∙ sym (get-shown cs s.place)) st

@@ -3,6 +3,7 @@ pub mod Records
 pub mod Sessions
 pub mod Keys
 pub mod Found
+pub mod Heads
 pub mod Steps
 pub mod Buckets
 pub mod Search

@@ -3,7 +3,7 @@ use Rattle.std.specs.Prelude.{◌≡◌, ◌≢◌, ℕ, ◌≤◌, ◌&&◌, na
 use Rattle.std.specs.List.{filter}
 use Rattle.sb_value.specs.declared.id.Who.{Who}
 use Rattle.sb_value.specs.declared.change.Change.{Change}
-use Rattle.sb_rawlog.specs.Changes.{is_by}
+use Rattle.sb_rawlog.specs.Changes.{author, is_by}
 use Rattle.sb_rawlog.specs.Records.{Record, selected, before}
 
 -- a session's records, oldest first
@@ -40,6 +40,10 @@ TimesCut rs = (who : Who) (since until : ℕ) → since ≤ until → changes_si
 -- the records of every other session are as before
 abbrev pub OthersStay : Who → List Record → List Record → Type 0
 OthersStay who old new = (other : Who) → other ≢ who → records_by other new ≡ records_by other old
+
+-- the change comes behind what its session had
+abbrev pub AddsLast : Change → List Record → List Record → Type 0
+AddsLast c old new = changes_by (author c) new ≡ changes_by (author c) old ++ c ∷ []
 
 -- the change is the last of what the session had, and the others of them are left
 abbrev pub TakesLast : Who → List Record → List Record → Option Change → Type 0

@@ -97,6 +97,13 @@ abbrev pub Gives : List Record → Option (ℕ × Bor Change) → List Record �
 Gives todo None rest = (todo ≡ []) × (rest ≡ [])
 Gives todo (Some item) rest = todo ≡ (item.0, item.1.now) ∷ rest
 
+-- a walk goes from one spot to the next, and gives what it passes
+abbrev pub OpGives : List Record → Option Spot → Option (ℕ × Bor Change) → Option Spot → Type 0
+OpGives rs at item next = Gives (op_todo rs at) item (op_todo rs next)
+
+abbrev pub TupleGives : List Record → Option Spot → Option (ℕ × Bor Change) → Option Spot → Type 0
+TupleGives rs at item next = Gives (tuple_todo rs at) item (tuple_todo rs next)
+
 -- the spot of an older change of the walk that the spot is on: what is left at it comes last of what is left at the spot
 pub record TupleOlder (ok : Spot → Type 0) (rs : List Record) (at s : Spot) : Type 0 where
   pub stands : ok s

@@ -1,7 +1,8 @@
 //! Steps of a walk along a tuple's changes that pass several at once.
-ghost use Rattle.std.specs.Prelude.{◌≡◌, ℕ, List, None, get_or, length, IfSome, Some};
-ghost use Rattle.sb_rawlog.specs.Places.{HoldsLog};
+ghost use Rattle.std.specs.Prelude.{◌≡◌, None, get_or, IfSome, Some};
+ghost use Rattle.sb_rawlog.specs.Heads.{HoldSome};
 
+use crate::heads::Heads;
 use crate::key::Key;
 use crate::node::{Back, Node};
 use crate::search::search;
@@ -36,8 +37,9 @@ fn back_at<T>(arena: &Arena<Node<T>>, place: usize) -> (usize, usize) {
     }
 }
 
-/// What the change behind the tuple's newest one so far notes. Two steps back of one length become one that is as long as both, so
-/// that a change's older ones are few steps away, however many they are (E. W. Myers, "An applicative random-access stack", 1983).
+/// What the change behind the tuple's newest one so far notes. Two steps back of one length become one that is as long
+/// as both, so that a change's older ones are few steps away, however many they are (E. W. Myers, "An applicative
+/// random-access stack", 1983).
 fn back_behind<T>(arena: &Arena<Node<T>>, newest: usize) -> Back {
     let (depth, middle) = back_at(arena, newest);
     let (middle_depth, far) = back_at(arena, middle);
@@ -51,14 +53,8 @@ fn back_behind<T>(arena: &Arena<Node<T>>, newest: usize) -> Back {
 }
 
 /// What a change that comes next notes. An insert is its tuple's first change.
-pub(crate) fn back_for(
-    arena: &Arena<Node<Change>>,
-    ops: &Vec<Option<usize>>,
-    tuples: &Vec<Option<usize>>,
-    sessions: &Vec<Option<usize>>,
-    change: &Change,
-) -> Back
-    requires { (order : List ℕ) × (clock : ℕ) × HoldsLog arena.now ops.now.items tuples.now.items sessions.now.items order clock }
+pub(crate) fn back_for(arena: &Arena<Node<Change>>, heads: &Heads, change: &Change) -> Back
+    requires { HoldSome arena.now heads.now }
 {
     if matches!(change.kind, Kind::Inserted) {
         return Back::none();
@@ -68,8 +64,7 @@ pub(crate) fn back_for(
         session: change.session,
     };
     let key = Key::Tuple(who, change.table, change.tuple);
-    let head = key.head(ops, tuples, sessions);
-    match search(arena, head, 0, &key) {
+    match search(arena, heads.first(&key), 0, &key) {
         Some(newest) => back_behind(arena, newest.place),
         None => Back::none(),
     }

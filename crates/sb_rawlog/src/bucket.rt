@@ -1,8 +1,10 @@
 //! Which list of which bucket a change is in.
-ghost use Rattle.std.specs.Prelude.{◌≡◌, ℕ, ◌<◌, List, Option, None, length, get_or};
+ghost use Rattle.std.specs.Prelude.{◌≡◌, ◌<◌, length};
 ghost use Rattle.sb_rawlog.specs.declared.node.Which.TheVariants.{Op, Tuple, Session};
-ghost use Rattle.sb_rawlog.specs.Buckets.{group, mixed, kind_number, session_number, bucket, key_bucket, list_of, by_which};
+ghost use Rattle.sb_rawlog.specs.Buckets.{group, mixed, kind_number, session_number, bucket, list_of};
+ghost use Rattle.sb_rawlog.specs.Heads.{first_of};
 
+use crate::heads::Heads;
 use crate::key::Key;
 use crate::node::Which;
 use sb_value::{Change, Kind, SessionId, TableId, TenantId};
@@ -81,29 +83,26 @@ impl Key {
             Key::Session(_) => Which::Session,
         }
     }
+}
 
+impl Heads {
     /// Where the list of the key's bucket begins.
-    pub(crate) fn head(
-        &self,
-        ops: &[Option<usize>],
-        tuples: &[Option<usize>],
-        sessions: &[Option<usize>],
-    ) -> Option<usize>
-        requires ops { 0 < length ops.now }
-        requires tuples { length tuples.now ≡ length ops.now }
-        requires sessions { length sessions.now ≡ 2048 }
-        ensures { result ≡ get_or (by_which ops.now tuples.now sessions.now (list_of self.now)) (key_bucket (length ops.now) self.now) None }
+    pub(crate) fn first(&self, key: &Key) -> Option<usize>
+        requires ops { 0 < length self.now.ops.items }
+        requires tuples { length self.now.tuples.items ≡ length self.now.ops.items }
+        requires sessions { length self.now.sessions.items ≡ 2048 }
+        ensures { result ≡ first_of self.now key.now }
     {
-        match self {
+        match key {
             Key::Op(who, table, kind) => {
                 let mixed = mixed(group(who.tenant, who.session, *table), kind_number(*kind));
-                ops[(mixed % ops.len() as u64) as usize]
+                self.ops[(mixed % self.ops.len() as u64) as usize]
             }
             Key::Tuple(who, table, tuple) => {
                 let mixed = mixed(group(who.tenant, who.session, *table), *tuple);
-                tuples[(mixed % ops.len() as u64) as usize]
+                self.tuples[(mixed % self.ops.len() as u64) as usize]
             }
-            Key::Session(who) => sessions[session_number(who.tenant, who.session)],
+            Key::Session(who) => self.sessions[session_number(who.tenant, who.session)],
         }
     }
 }

@@ -5,6 +5,7 @@
 mod back;
 mod bucket;
 mod find;
+mod heads;
 mod key;
 mod lists;
 mod log;

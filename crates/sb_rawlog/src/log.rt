@@ -1,9 +1,9 @@
 //! What every log of changes promises.
-ghost use Rattle.std.specs.Prelude.{◌≡◌, ℕ, ◌+◌, ◌-◌, ◌<◌, ◌^◌, List, [], ◌∷◌, ◌++◌, Some, max, length, OnOk, OnErr, IfSome, option_copied};
+ghost use Rattle.std.specs.Prelude.{◌≡◌, ℕ, ◌+◌, ◌-◌, ◌<◌, ◌^◌, List, [], ◌∷◌, ◌++◌, Some, length, OnOk, OnErr, IfSome, option_copied};
 ghost use Rattle.sb_rawlog.specs.Changes.{author, is_op, is_tuple};
 ghost use Rattle.sb_rawlog.specs.declared.spot.Spot.{Spot};
 ghost use Rattle.sb_rawlog.specs.Records.{Record, Rising, walk, others, change_at};
-ghost use Rattle.sb_rawlog.specs.Sessions.{changes_by, MarksCut, TimesCut, OthersStay, TakesLast};
+ghost use Rattle.sb_rawlog.specs.Sessions.{changes_by, AddsLast, MarksCut, TimesCut, OthersStay, TakesLast};
 ghost use Rattle.sb_rawlog.specs.Steps.{OpFirst, OpNext, TupleFirst, TupleNext, TupleBack, SpotsStay, IsNewest, TakesNewest, op_todo, tuple_todo};
 
 use crate::spot::Spot;
@@ -25,9 +25,9 @@ pub trait ChangeLog {
     /// The spot was given by this log, and its record is still there.
     ghost stands: { Self → Spot → Type 0 };
 
-    /// Makes room for `n` changes.
+    /// Makes room for `n` changes. What room there was for more is given up.
     fn reserve(&mut self, n: usize) -> Result<(), AllocError>
-        ensures ok { OnOk result (room self.new ≡ max n (room self.old)) }
+        ensures ok { OnOk result (room self.new ≡ n) }
         ensures err { OnErr result (room self.new ≡ room self.old) }
         ensures records { records self.new ≡ records self.old }
         ensures clock { clock self.new ≡ clock self.old }
@@ -47,7 +47,7 @@ pub trait ChangeLog {
         ensures spots { SpotsStay (stands self.old) (stands self.new) (records self.new) }
 
         // What that means for the sessions.
-        ensures own { changes_by (author change) (records self.new) ≡ changes_by (author change) (records self.old) ++ change ∷ [] }
+        ensures own { AddsLast change (records self.old) (records self.new) }
         ensures others { OthersStay (author change) (records self.old) (records self.new) };
 
     /// The time of the next change.
@@ -122,7 +122,8 @@ pub trait ChangeLog {
         Self: Sized,
         ensures log { result.log.now ≡ self.now }
         ensures can { IfSome result.next (stands self.now) }
-        ensures items { op_todo (records self.now) result.next ≡ walk (is_op who table kind) since (records self.now) }
+        ensures items { let rs = records self.now in
+            op_todo rs result.next ≡ walk (is_op who table kind) since rs }
     {
         ByOp {
             log: self,
@@ -136,7 +137,8 @@ pub trait ChangeLog {
         Self: Sized,
         ensures log { result.log.now ≡ self.now }
         ensures can { IfSome result.next (stands self.now) }
-        ensures items { tuple_todo (records self.now) result.next ≡ walk (is_tuple who table tuple) since (records self.now) }
+        ensures items { let rs = records self.now in
+            tuple_todo rs result.next ≡ walk (is_tuple who table tuple) since rs }
     {
         ByTuple {
             log: self,

@@ -47,10 +47,8 @@ impl ChangeLog for PlainLog {
     ghost stands = { λ l s. (c : Change) × (change_at s.time l.items.items ≡ Some c) };
 
     fn reserve(&mut self, n: usize) -> Result<(), AllocError> {
-        if n > self.room {
-            self.items.reserve(n)?;
-            self.room = n;
-        }
+        self.items.reserve(n)?;
+        self.room = n;
         Ok(())
     }
 

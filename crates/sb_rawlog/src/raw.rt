@@ -7,11 +7,12 @@ ghost use Rattle.sb_rawlog.specs.Raw.{records_of, Stands};
 
 use crate::back::{back_for, node_at};
 use crate::bucket::SESSIONS;
+use crate::heads::Heads;
 use crate::key::Key;
 use crate::lists::link;
 use crate::log::ChangeLog;
 use crate::node::{Node, Which};
-use crate::places::{claim, enter, make_places, take_out};
+use crate::places::{claim, enter, fit_places, give_back, take_out};
 use crate::search::{search, spot_for};
 use crate::spot::Spot;
 use sb_arena::Arena;
@@ -23,9 +24,7 @@ use std::marker::Model;
 #[derive(Drop)]
 pub struct RawLog {
     arena: Arena<Node<Change>>,
-    ops: Vec<Option<usize>>,
-    tuples: Vec<Option<usize>>,
-    sessions: Vec<Option<usize>>,
+    heads: Heads,
     free: Vec<usize>,
     used: usize,
     clock: u64,
@@ -53,10 +52,12 @@ impl RawLog {
         ensures spare { IfOk result (λ l. ⟦<RawLog as ChangeLog>⟧.room l ≡ 0) }
     {
         Ok(RawLog {
-            arena: Arena::new(alloc)?,
-            ops: Vec::from_elem(alloc, None, buckets)?,
-            tuples: Vec::from_elem(alloc, None, buckets)?,
-            sessions: Vec::from_elem(alloc, None, SESSIONS)?,
+            arena: Arena::new(alloc),
+            heads: Heads {
+                ops: Vec::from_elem(alloc, None, buckets)?,
+                tuples: Vec::from_elem(alloc, None, buckets)?,
+                sessions: Vec::from_elem(alloc, None, SESSIONS)?,
+            },
             free: Vec::new(alloc),
             used: 0,
             clock: 0,
@@ -75,18 +76,12 @@ impl RawLog {
         ensures all_others { others who (records_of self.new) ≡ others who (records_of self.old) }
     {
         let key = Key::Session(who);
-        let head = key.head(&self.ops, &self.tuples, &self.sessions);
+        let head = self.heads.first(&key);
         let Some(spot) = search(&self.arena, head, 0, &key) else {
             return None;
         };
-        let change = take_out(
-            &mut self.arena,
-            &mut self.ops,
-            &mut self.tuples,
-            &mut self.sessions,
-            spot.place,
-        );
-        self.free.push_reserved(spot.place);
+        let change = take_out(&mut self.arena, &mut self.heads, spot.place);
+        give_back(&mut self.free, &mut self.used, spot.place);
         self.room += 1;
         Some(change)
     }
@@ -102,10 +97,8 @@ impl ChangeLog for RawLog {
     ghost stands = { Stands };
 
     fn reserve(&mut self, n: usize) -> Result<(), AllocError> {
-        if n > self.room {
-            make_places(&mut self.arena, &mut self.free, self.used, n)?;
-            self.room = n;
-        }
+        fit_places(&mut self.arena, &mut self.free, &mut self.used, n)?;
+        self.room = n;
         Ok(())
     }
 
@@ -114,19 +107,11 @@ impl ChangeLog for RawLog {
     }
 
     fn append(&mut self, change: Change) {
-        let back = back_for(
-            &self.arena,
-            &self.ops,
-            &self.tuples,
-            &self.sessions,
-            &change,
-        );
+        let back = back_for(&self.arena, &self.heads, &change);
         let place = claim(&mut self.free, &mut self.used);
         enter(
             &mut self.arena,
-            &mut self.ops,
-            &mut self.tuples,
-            &mut self.sessions,
+            &mut self.heads,
             place,
             self.clock,
             back,
@@ -146,7 +131,7 @@ impl ChangeLog for RawLog {
 
     fn op_first(&self, who: Who, table: TableId, kind: Kind, since: u64) -> Option<Spot> {
         let key = Key::Op(who, table, kind);
-        let head = key.head(&self.ops, &self.tuples, &self.sessions);
+        let head = self.heads.first(&key);
         search(&self.arena, head, since, &key)
     }
 
@@ -158,7 +143,7 @@ impl ChangeLog for RawLog {
 
     fn tuple_first(&self, who: Who, table: TableId, tuple: u64, since: u64) -> Option<Spot> {
         let key = Key::Tuple(who, table, tuple);
-        let head = key.head(&self.ops, &self.tuples, &self.sessions);
+        let head = self.heads.first(&key);
         search(&self.arena, head, since, &key)
     }
 
@@ -194,7 +179,7 @@ impl ChangeLog for RawLog {
 
     fn newest(&self, who: Who) -> Option<&Change> {
         let key = Key::Session(who);
-        let head = key.head(&self.ops, &self.tuples, &self.sessions);
+        let head = self.heads.first(&key);
         let Some(spot) = search(&self.arena, head, 0, &key) else {
             return None;
         };

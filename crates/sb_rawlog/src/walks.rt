@@ -1,7 +1,7 @@
 //! Walks over a log as iterators.
 ghost use Rattle.std.specs.Prelude.{◌≡◌, length, IfSome};
 ghost use Rattle.std.specs.Iterator.{at_most};
-ghost use Rattle.sb_rawlog.specs.Steps.{op_todo, tuple_todo, Gives};
+ghost use Rattle.sb_rawlog.specs.Steps.{op_todo, tuple_todo, OpGives, TupleGives};
 
 use crate::log::ChangeLog;
 use crate::spot::Spot;
@@ -19,7 +19,7 @@ impl<'a, L: ChangeLog> Iterator for ByOp<'a, L> {
 
     ghost can_next = { λ s. IfSome s.next (L.stands s.log.now) };
 
-    ghost next_gives = { λ s r t. (t.log.now ≡ s.log.now) × Gives (op_todo (L.records s.log.now) s.next) r (op_todo (L.records s.log.now) t.next) };
+    ghost next_gives = { λ s r t. (t.log.now ≡ s.log.now) × OpGives (L.records s.log.now) s.next r t.next };
 
     ghost remaining = { λ s. at_most (length (op_todo (L.records s.log.now) s.next)) };
 
@@ -45,7 +45,7 @@ impl<'a, L: ChangeLog> Iterator for ByTuple<'a, L> {
 
     ghost can_next = { λ s. IfSome s.next (L.stands s.log.now) };
 
-    ghost next_gives = { λ s r t. (t.log.now ≡ s.log.now) × Gives (tuple_todo (L.records s.log.now) s.next) r (tuple_todo (L.records s.log.now) t.next) };
+    ghost next_gives = { λ s r t. (t.log.now ≡ s.log.now) × TupleGives (L.records s.log.now) s.next r t.next };
 
     ghost remaining = { λ s. at_most (length (tuple_todo (L.records s.log.now) s.next)) };
 

@@ -1,14 +1,13 @@
 use Rattle.std.proofs.Common.{◌≡◌, ◌≤◌, ◌<◌, ◌-◌, ℕ, length, get_or, Some, None}
 use Rattle.sb_arena.proofs.moves.fill.Given as goal
 
--- the places from the start up to the index have been filled
+-- the places below the index have been filled
 abbrev pub invariant-loop-i : goal.invariant-loop-i
 invariant-loop-i g l = record {
-  within : (l.from ≤ l.i) × (l.i ≤ l.count);
+  within : l.i ≤ l.count;
   at : l.cells.at ≡ l.fn.cells.at;
   len : length l.cells.slots ≡ l.count;
-  below : (k : ℕ) → k < l.from → get_or l.cells.slots k None ≡ get_or l.fn.cells.slots k None;
-  full : (k : ℕ) → l.from ≤ k → k < l.i → get_or l.cells.slots k None ≡ Some None;
+  full : (k : ℕ) → k < l.i → get_or l.cells.slots k None ≡ Some None;
   empty : (k : ℕ) → l.i ≤ k → get_or l.cells.slots k None ≡ None;
 }
 

@@ -11,5 +11,5 @@ invariant-loop-change g l =
     record {
       log : l.change-iterator.log.now ≡ l.log;
       told : l.tuples.items ++ map (λ (r : Record). r.1.tuple) (op_todo rs l.change-iterator.next)
-          ≡ l.initial.tuples.items ++ map (λ (r : Record). r.1.tuple) (walk (is_op l.who l.fn.table l.fn.kind) l.fn.since rs);
+          ≡ l.initial.tuples.items ++ map (λ (r : Record). r.1.tuple) (walk (is_op l.scope.who l.scope.table l.fn.kind) l.scope.since rs);
     }

@@ -8,5 +8,5 @@ pub returns : goal.returns
 returns g c =
     let sorted = c.sort_unstable.new.self.items in
     dedup_is eqb sorted c.dedup.new.self.items c.dedup.ensures.filtered
-    ∙ sorted_tuples c.args.who.now c.args.table c.args.since (g.L.ChangeLog.records c.args.log.now) c.push_tuples-3.new.tuples.items sorted
+    ∙ sorted_tuples c.args.scope.now.who c.args.scope.now.table c.args.scope.now.since (g.L.ChangeLog.records c.args.log.now) c.push_tuples-3.new.tuples.items sorted
     (pushed _ _ _ _ _ _ _ c.new-tuples.ensures.items c.in_ok-push_tuples.ensures c.in_ok-push_tuples-2.ensures c.in_ok-push_tuples-3.ensures) c.sort_unstable.ensures.permutation c.sort_unstable.ensures.sorted

@@ -10,8 +10,8 @@ use Rattle.sb_net.proofs.triggers.any_hit.Given as goal
 abbrev pub invariant-loop-change : goal.invariant-loop-change
 invariant-loop-change g l =
     let rs = g.L.ChangeLog.records l.log in
-    let changes = changes_since l.who l.since rs in
+    let changes = changes_since l.scope.who l.scope.since rs in
     record {
       log : l.change-iterator.log.now ≡ l.log;
-      left : any_hit l.triggers l.table l.fn.kind changes (walk (is_op l.who l.table l.fn.kind) l.fn.tested rs) ≡ any_hit l.triggers l.table l.fn.kind changes (op_todo rs l.change-iterator.next);
+      left : any_hit l.triggers l.scope.table l.fn.kind changes (walk (is_op l.scope.who l.scope.table l.fn.kind) l.fn.tested rs) ≡ any_hit l.triggers l.scope.table l.fn.kind changes (op_todo rs l.change-iterator.next);
     }

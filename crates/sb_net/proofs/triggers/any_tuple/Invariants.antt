@@ -10,8 +10,8 @@ use Rattle.sb_net.proofs.triggers.any_tuple.Given as goal
 abbrev pub invariant-loop-change : goal.invariant-loop-change
 invariant-loop-change g l =
     let rs = g.L.ChangeLog.records l.log in
-    let changes = changes_since l.who l.since rs in
+    let changes = changes_since l.scope.who l.scope.since rs in
     record {
       log : l.change-iterator.log.now ≡ l.log;
-      left : any_tuple l.triggers l.table changes (walk (is_op l.who l.table l.fn.kind) l.since rs) ≡ any_tuple l.triggers l.table changes (op_todo rs l.change-iterator.next);
+      left : any_tuple l.triggers l.scope.table changes (walk (is_op l.scope.who l.scope.table l.fn.kind) l.scope.since rs) ≡ any_tuple l.triggers l.scope.table changes (op_todo rs l.change-iterator.next);
     }

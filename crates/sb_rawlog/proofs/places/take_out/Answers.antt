@@ -15,16 +15,16 @@ unreachable-requires c = let r = c.requires in
 
 pub unlink-requires : goal.unlink-requires
 unlink-requires c =
-    let r = c.requires in let was = c.args.arena.now in let ops = c.args.ops.now.items in let tuples = c.args.tuples.now.items in let sessions = c.args.sessions.now.items in let p = c.args.place in let n = c.in-Some.node.now in
-    let long : vec_len c.args.ops.now ≡ length ops = omega arith in
+    let r = c.requires in let was = c.args.arena.now in let ops = c.args.heads.now.ops.items in let tuples = c.args.heads.now.tuples.items in let sessions = c.args.heads.now.sessions.items in let p = c.args.place in let n = c.in-Some.node.now in
+    let long : vec_len c.args.heads.now.ops ≡ length ops = omega arith in
     let io : c.op_bucket-op.result ≡ bucket (length ops) Op n.item = c.op_bucket-op.ensures ∙ ap (λ k. bucket k Op n.item) (c.len.ensures ∙ long) in
     let e1 = read_head ops c.op_bucket-op.result (bucket (length ops) Op n.item) c.index.result.now c.index.ensures io (r.1.1.0.log.buckets Op n.item) in
     asks1 was ops tuples sessions r.0 r.1.0 p r.1.1.0 r.1.1.1 n (sym c.in-Some.ensures) c.index.result.now e1
 
 pub unlink-requires-2 : goal.unlink-requires-2
 unlink-requires-2 c =
-    let r = c.requires in let was = c.args.arena.now in let ops = c.args.ops.now.items in let tuples = c.args.tuples.now.items in let sessions = c.args.sessions.now.items in let p = c.args.place in let n = c.in-Some.node.now in
-    let long : vec_len c.args.ops.now ≡ length ops = omega arith in
+    let r = c.requires in let was = c.args.arena.now in let ops = c.args.heads.now.ops.items in let tuples = c.args.heads.now.tuples.items in let sessions = c.args.heads.now.sessions.items in let p = c.args.place in let n = c.in-Some.node.now in
+    let long : vec_len c.args.heads.now.ops ≡ length ops = omega arith in
     let io : c.op_bucket-op.result ≡ bucket (length ops) Op n.item = c.op_bucket-op.ensures ∙ ap (λ k. bucket k Op n.item) (c.len.ensures ∙ long) in
     let e1 = read_head ops c.op_bucket-op.result (bucket (length ops) Op n.item) c.index.result.now c.index.ensures io (r.1.1.0.log.buckets Op n.item) in
     let it : c.tuple_bucket-tuple.result ≡ bucket (length ops) Tuple n.item = c.tuple_bucket-tuple.ensures ∙ ap (λ k. bucket k Tuple n.item) (c.len-2.ensures ∙ long) in
@@ -33,8 +33,8 @@ unlink-requires-2 c =
 
 pub unlink-requires-3 : goal.unlink-requires-3
 unlink-requires-3 c =
-    let r = c.requires in let was = c.args.arena.now in let ops = c.args.ops.now.items in let tuples = c.args.tuples.now.items in let sessions = c.args.sessions.now.items in let p = c.args.place in let n = c.in-Some.node.now in
-    let long : vec_len c.args.ops.now ≡ length ops = omega arith in
+    let r = c.requires in let was = c.args.arena.now in let ops = c.args.heads.now.ops.items in let tuples = c.args.heads.now.tuples.items in let sessions = c.args.heads.now.sessions.items in let p = c.args.place in let n = c.in-Some.node.now in
+    let long : vec_len c.args.heads.now.ops ≡ length ops = omega arith in
     let io : c.op_bucket-op.result ≡ bucket (length ops) Op n.item = c.op_bucket-op.ensures ∙ ap (λ k. bucket k Op n.item) (c.len.ensures ∙ long) in
     let e1 = read_head ops c.op_bucket-op.result (bucket (length ops) Op n.item) c.index.result.now c.index.ensures io (r.1.1.0.log.buckets Op n.item) in
     let it : c.tuple_bucket-tuple.result ≡ bucket (length ops) Tuple n.item = c.tuple_bucket-tuple.ensures ∙ ap (λ k. bucket k Tuple n.item) (c.len-2.ensures ∙ long) in
@@ -45,8 +45,8 @@ unlink-requires-3 c =
 
 pub take-item-requires : goal.take-item-requires
 take-item-requires c =
-    let r = c.requires in let was = c.args.arena.now in let ops = c.args.ops.now.items in let tuples = c.args.tuples.now.items in let sessions = c.args.sessions.now.items in let p = c.args.place in let n = c.in-Some.node.now in
-    let long : vec_len c.args.ops.now ≡ length ops = omega arith in
+    let r = c.requires in let was = c.args.arena.now in let ops = c.args.heads.now.ops.items in let tuples = c.args.heads.now.tuples.items in let sessions = c.args.heads.now.sessions.items in let p = c.args.place in let n = c.in-Some.node.now in
+    let long : vec_len c.args.heads.now.ops ≡ length ops = omega arith in
     let io : c.op_bucket-op.result ≡ bucket (length ops) Op n.item = c.op_bucket-op.ensures ∙ ap (λ k. bucket k Op n.item) (c.len.ensures ∙ long) in
     let e1 = read_head ops c.op_bucket-op.result (bucket (length ops) Op n.item) c.index.result.now c.index.ensures io (r.1.1.0.log.buckets Op n.item) in
     let it : c.tuple_bucket-tuple.result ≡ bucket (length ops) Tuple n.item = c.tuple_bucket-tuple.ensures ∙ ap (λ k. bucket k Tuple n.item) (c.len-2.ensures ∙ long) in
@@ -57,8 +57,8 @@ take-item-requires c =
 
 pub returns : goal.returns
 returns c = λ order clock holds there.
-    let was = c.args.arena.now in let ops = c.args.ops.now.items in let tuples = c.args.tuples.now.items in let sessions = c.args.sessions.now.items in let p = c.args.place in let n = c.in-Some.node.now in
-    let long : vec_len c.args.ops.now ≡ length ops = omega arith in
+    let was = c.args.arena.now in let ops = c.args.heads.now.ops.items in let tuples = c.args.heads.now.tuples.items in let sessions = c.args.heads.now.sessions.items in let p = c.args.place in let n = c.in-Some.node.now in
+    let long : vec_len c.args.heads.now.ops ≡ length ops = omega arith in
     let io : c.op_bucket-op.result ≡ bucket (length ops) Op n.item = c.op_bucket-op.ensures ∙ ap (λ k. bucket k Op n.item) (c.len.ensures ∙ long) in
     let e1 = read_head ops c.op_bucket-op.result (bucket (length ops) Op n.item) c.index.result.now c.index.ensures io (holds.log.buckets Op n.item) in
     let it : c.tuple_bucket-tuple.result ≡ bucket (length ops) Tuple n.item = c.tuple_bucket-tuple.ensures ∙ ap (λ k. bucket k Tuple n.item) (c.len-2.ensures ∙ long) in

@@ -1,22 +1,31 @@
-use Rattle.std.proofs.Common.{Some, arith, sym, ◌∙◌, ap, length, length-set, set}
-use Rattle.sb_arena.specs.Places.{somes}
-use Rattle.sb_arena.proofs.Fulls.{filled_in, length-somes, replaced, full_map, somes-map}
+use Rattle.std.proofs.Common.{◌<◌, ◌*◌, Some, None, arith, ◌∙◌, ap, length, length-set, get_or, set}
+use Rattle.sb_arena.proofs.Joined.{joined, block_in, place_in, read, written, kept}
 use Rattle.sb_arena.proofs.arena.Arena.put.Goals as goal
 
-pub read-requires : goal.read-requires
-read-requires g c = let b = c.self.inside.block in let inv = c.self.invariant in
-    (sym inv.block.0, filled_in b.cells.slots c.args.place inv.full (omega (arith, length-somes b.cells.slots inv.full, c.requires.within, ap length c.self.view_is)))
+pub index_mut-requires : goal.index_mut-requires
+index_mut-requires g c = let bs = c.self.inside.blocks.items in
+    let within : c.args.place < length (joined bs) = omega (arith, c.requires.within, ap length c.self.view_is) in
+    omega (arith, block_in 4096 (omega arith) bs c.self.invariant.whole c.args.place within)
+
+pub put-requires-clause-within : goal.put-requires-clause-within
+put-requires-clause-within g c = let bs = c.self.inside.blocks.items in
+    let within : c.args.place < length (joined bs) = omega (arith, c.requires.within, ap length c.self.view_is) in
+    place_in 4096 (omega arith) bs c.self.invariant.whole c.args.place within c.index_mut.result.now c.index_mut.ensures.value
+
+pub put-requires-clause-free : goal.put-requires-clause-free
+put-requires-clause-free g c = let bs = c.self.inside.blocks.items in
+    let within : c.args.place < length (joined bs) = omega (arith, c.requires.within, ap length c.self.view_is) in
+    read 4096 (omega arith) bs c.self.invariant.whole c.args.place within c.index_mut.result.now c.index_mut.ensures.value None ∙ ap (λ l. get_or l c.args.place None) c.self.view_is ∙ c.requires.free
 
 pub invariant_of-self : goal.invariant_of-self
-invariant_of-self g c = let b = c.self.inside.block in let inv = c.self.invariant in
-    let is = replaced b.cells.slots c.read.new.self.slots c.write.new.self.slots c.args.place (Some c.args.value) inv.full c.read.ensures.slots.1 c.write.ensures.1 in
+invariant_of-self g c = let bs = c.self.inside.blocks.items in
+    let within : c.args.place < length (joined bs) = omega (arith, c.requires.within, ap length c.self.view_is) in
     record {
-      block = (c.write.ensures.0 ∙ c.read.ensures.slots.0 ∙ inv.block.0, inv.block.1, inv.block.2, inv.block.3);
-      count = ap length c.write.ensures.1 ∙ length-set _ _ _ ∙ ap length c.read.ensures.slots.1 ∙ length-set _ _ _ ∙ inv.count;
-      full = full_map c.write.new.self.slots _ is;
+      whole = kept 4096 (omega arith) bs c.self.invariant.whole c.args.place within c.index_mut.result.now c.index_mut.ensures.value c.put.new.self (Some c.args.value) c.put.ensures;
+      count = ap (λ k. k * 4096) (length-set bs _ _) ∙ c.self.invariant.count;
     }
 
 pub returns : goal.returns
-returns g c = let b = c.self.inside.block in let inv = c.self.invariant in
-    let is = replaced b.cells.slots c.read.new.self.slots c.write.new.self.slots c.args.place (Some c.args.value) inv.full c.read.ensures.slots.1 c.write.ensures.1 in
-    ap somes is ∙ somes-map _ ∙ ap (λ l. set l c.args.place (Some c.args.value)) c.self.view_is
+returns g c = let bs = c.self.inside.blocks.items in
+    let within : c.args.place < length (joined bs) = omega (arith, c.requires.within, ap length c.self.view_is) in
+    written 4096 (omega arith) bs c.self.invariant.whole c.args.place within c.index_mut.result.now c.index_mut.ensures.value c.put.new.self (Some c.args.value) c.put.ensures ∙ ap (λ l. set l c.args.place (Some c.args.value)) c.self.view_is

@@ -1,28 +1,51 @@
-use Rattle.std.proofs.Common.{ℕ, List, None, reverse, length, get_or, sym, ap, ◌∙◌, subst, arith}
-use Rattle.sb_rawlog.proofs.Logs.{same_log}
-use Rattle.sb_rawlog.specs.Buckets.{bucket, by_which}
-use Rattle.sb_rawlog.specs.Places.{AreFree, HoldsLog}
-use Rattle.sb_rawlog.specs.Raw.{records_of}
-use Rattle.sb_rawlog.proofs.Free.{free_grown, get-grown}
-use Rattle.sb_rawlog.proofs.Steps.{seen_is}
+use Rattle.std.proofs.Common.{ap, ◌∙◌, subst, arith}
+use Rattle.sb_rawlog.specs.Logs.{shown}
+use Rattle.sb_rawlog.specs.Raw.{Raw, Stands, records_of}
+use Rattle.sb_rawlog.specs.Steps.{SpotsStay}
+use Rattle.sb_rawlog.proofs.Free.{none_in_use}
+use Rattle.sb_rawlog.proofs.Taken.{kept_holds, kept_records, kept_spots}
 use Rattle.sb_rawlog.proofs.raw.RawLogChangeLog.reserve.Goals as goal
 
-pub invariant_of-self-then-n-self : goal.invariant_of-self-then-n-self
-invariant_of-self-then-n-self c = let a = c.self.inside in let inv = c.self.invariant in let ds = c.make_places.new.arena in let ok = c.in_ok-make_places.ensures.ok in
-    let grown = same_log (bucket (length a.ops.items)) a.arena ds (by_which a.ops.items a.tuples.items a.sessions.items) inv.order a.clock (λ q. ap (λ l. get_or l q None) ok.1 ∙ get-grown a.arena ok.0 q) inv.holds.log in
-    let holds : HoldsLog ds a.ops.items a.tuples.items a.sessions.items inv.order a.clock = record { buckets = inv.holds.buckets; as_many = inv.holds.as_many; of_sessions = inv.holds.of_sessions; log = grown.0 } in
-    let items = c.make_places.ensures.free in let many = ap length items in
-    record {
-      order = inv.order;
-      holds = holds;
-      free = subst (λ (l : List ℕ). AreFree l a.used ds) (sym items) (free_grown a.free.items a.used a.arena ds ok.0 ok.1 inv.free);
-      counted = omega (arith, inv.counted);
-      roomy = c.make_places.ensures.roomy;
-      spare = (let n = ok.2 in omega arith);
-    }
+pub fit_places-requires-clause-fewer : goal.fit_places-requires-clause-fewer
+fit_places-requires-clause-fewer c = omega (arith, c.self.invariant.counted)
 
-pub returns-in_ok-make_places-clause-records : goal.returns-in_ok-make_places-clause-records
-returns-in_ok-make_places-clause-records c = let a = c.self.inside in let inv = c.self.invariant in let ds = c.make_places.new.arena in let ok = c.in_ok-make_places.ensures.ok in
-    let grown = same_log (bucket (length a.ops.items)) a.arena ds (by_which a.ops.items a.tuples.items a.sessions.items) inv.order a.clock (λ q. ap (λ l. get_or l q None) ok.1 ∙ get-grown a.arena ok.0 q) inv.holds.log in
-    let holds : HoldsLog ds a.ops.items a.tuples.items a.sessions.items inv.order a.clock = record { buckets = inv.holds.buckets; as_many = inv.holds.as_many; of_sessions = inv.holds.of_sessions; log = grown.0 } in
-    seen_is ds a.ops.items a.tuples.items a.sessions.items inv.order a.clock c.args.n holds ∙ ap reverse grown.1 ∙ sym (seen_is a.arena a.ops.items a.tuples.items a.sessions.items inv.order a.clock a.room inv.holds) ∙ ap records_of c.self.view_is
+pub fit_places-requires-clause-empty : goal.fit_places-requires-clause-empty
+fit_places-requires-clause-empty c = let inv = c.self.invariant in λ e. none_in_use inv.order c.self.inside.arena inv.holds.log.all (omega (arith, inv.counted, e))
+
+pub invariant_of-self-2 : goal.invariant_of-self-2
+invariant_of-self-2 c = let a = c.self.inside in let inv = c.self.invariant in let fit = c.fit_places.ensures in record {
+  order = inv.order;
+  holds = kept_holds a.arena c.fit_places.new.arena a.heads.ops.items a.heads.tuples.items a.heads.sessions.items inv.order a.clock a.room c.args.n fit.same inv.holds;
+  free = fit.free;
+  counted = omega (arith, inv.counted, fit.in_use);
+  roomy = fit.roomy;
+  spare = (let n = c.in_ok-fit_places.ensures.ok in omega (arith, n, fit.free.within));
+}
+
+pub invariant_of-self : goal.invariant_of-self
+invariant_of-self c = let a = c.self.inside in let inv = c.self.invariant in let fit = c.fit_places.ensures in record {
+  order = inv.order;
+  holds = kept_holds a.arena c.fit_places.new.arena a.heads.ops.items a.heads.tuples.items a.heads.sessions.items inv.order a.clock a.room a.room fit.same inv.holds;
+  free = fit.free;
+  counted = omega (arith, inv.counted, fit.in_use);
+  roomy = fit.roomy;
+  spare = (let n = c.in_err-fit_places.ensures.err in omega (arith, n, inv.spare, inv.free.within, fit.free.within));
+}
+
+pub returns-in_err-fit_places-clause-records : goal.returns-in_err-fit_places-clause-records
+returns-in_err-fit_places-clause-records c = let a = c.self.inside in let inv = c.self.invariant in
+    kept_records a.arena c.fit_places.new.arena a.heads.ops.items a.heads.tuples.items a.heads.sessions.items inv.order a.clock a.room a.room c.fit_places.ensures.same inv.holds ∙ ap records_of c.self.view_is
+
+pub returns-in_err-fit_places-clause-spots : goal.returns-in_err-fit_places-clause-spots
+returns-in_err-fit_places-clause-spots c = let a = c.self.inside in let inv = c.self.invariant in
+    subst (λ (v : Raw). let w : Raw = record { places = shown c.fit_places.new.arena; clock = a.clock; room = a.room } in SpotsStay (Stands v) (Stands w) (records_of w)) c.self.view_is
+    (kept_spots a.arena c.fit_places.new.arena a.heads.ops.items a.heads.tuples.items a.heads.sessions.items inv.order a.clock a.room a.room c.fit_places.ensures.same inv.holds)
+
+pub returns-clause-records : goal.returns-clause-records
+returns-clause-records c = let a = c.self.inside in let inv = c.self.invariant in
+    kept_records a.arena c.fit_places.new.arena a.heads.ops.items a.heads.tuples.items a.heads.sessions.items inv.order a.clock a.room c.args.n c.fit_places.ensures.same inv.holds ∙ ap records_of c.self.view_is
+
+pub returns-clause-spots : goal.returns-clause-spots
+returns-clause-spots c = let a = c.self.inside in let inv = c.self.invariant in
+    subst (λ (v : Raw). let w : Raw = record { places = shown c.fit_places.new.arena; clock = a.clock; room = c.args.n } in SpotsStay (Stands v) (Stands w) (records_of w)) c.self.view_is
+    (kept_spots a.arena c.fit_places.new.arena a.heads.ops.items a.heads.tuples.items a.heads.sessions.items inv.order a.clock a.room c.args.n c.fit_places.ensures.same inv.holds)
