@@ -198,15 +198,17 @@ fn text(alloc: Global, tokens: &mut Cursor<'_>) -> Result<Value, Fault>
         return Err(Fault::Refused);
     };
     if let Some(bytes) = bare(alloc, quoted)? {
+        let text = Text::new(alloc, bytes)?;
         tokens.skip();
-        return Ok(Value::Text(Text::new(bytes)));
+        return Ok(Value::Text(text));
     }
     let bytes = halved(alloc, quoted)?;
     if bytes.len() > TEXT_LIMIT || !all_printable(bytes.as_slice()) {
         return Err(Fault::Refused);
     }
+    let text = Text::new(alloc, bytes)?;
     tokens.skip();
-    Ok(Value::Text(Text::new(bytes)))
+    Ok(Value::Text(text))
 }
 
 /// An integer, with or without a sign, or a text in quotes.

@@ -66,7 +66,8 @@ fn tuples(alloc: Global, tokens: &mut Cursor<'_>) -> Result<Tuples, Fault>
         tuple(alloc, tokens, &mut all)?;
         all.close()?;
     }
-    Ok(all.finish())
+    let tuples = all.finish(alloc)?;
+    Ok(tuples)
 }
 
 #[tactic(auto, unfolding(crate::specs::Reading::inserts_rows))]

@@ -31,6 +31,10 @@ share_place [] ys = false
 share_place (x ∷ xs) [] = false
 share_place (x ∷ xs) (y ∷ ys) = (x && y) || share_place xs ys
 
+-- no number of the set is n or more
+abbrev pub HasNoneFrom : ℕ → List Bool → Type 0
+HasNoneFrom n flags = (k : ℕ) → n ≤ k → flag_at flags k ≡ false
+
 -- the least number of the set that isn't below n
 pub record IsFirstFrom (n : ℕ) (flags : List Bool) (k : ℕ) : Type 0 where
   pub from : n ≤ k
@@ -49,3 +53,7 @@ flags_of n word = flags_from n 0 word
 unfoldable pub word_of : List Bool → ℕ
 word_of [] = 0
 word_of (b ∷ bs) = (if b then 1 else 0) + 2 * word_of bs
+
+-- the least bit of a word that is set and isn't below n
+abbrev pub IsBitFrom : ℕ → ℕ → ℕ → Type 0
+IsBitFrom n word k = (k < 64) × IsFirstFrom n (flags_of 64 word) k

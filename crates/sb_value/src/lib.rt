@@ -33,5 +33,5 @@ pub use net::{Net, Transition, Triggers};
 pub use refusal::{Refusal, Verdict};
 pub use row::{Row, RowList};
 pub use rule_set::RuleSet;
-pub use tuples::{OpenTuples, TupleIter, TupleRows, Tuples};
+pub use tuples::{OpenTuples, TupleIter, Tuples};
 pub use value::{ColumnDefinition, ColumnType, TEXT_LIMIT, Text, Value};

@@ -56,7 +56,7 @@ fn text(alloc: Global, quoted: &[u8]) -> Result<Value, LiteralError>
     match unquoted(alloc, quoted)? {
         None => Err(LiteralError::BadType),
         Some(bytes) if bytes.len() > TEXT_LIMIT => Err(LiteralError::TextTooLong),
-        Some(bytes) => Ok(Value::Text(Text::new(bytes))),
+        Some(bytes) => Ok(Value::Text(Text::new(alloc, bytes)?)),
     }
 }
 

@@ -1,6 +1,6 @@
 //! Sets of rules.
 ghost use Rattle.std.specs.Prelude.{◌≡◌, ◌<◌, ◌≤◌, ◌-◌, ◌==◌, ◌&&◌, ◌||◌, ℕ, not, slice_set, length, true, false, MatchOption};
-ghost use Rattle.sb_value.specs.Flags.{no_flags, flag_at, flags_of, union, intersection, has_none, share_place, IsFirstFrom};
+ghost use Rattle.sb_value.specs.Flags.{no_flags, flag_at, flags_of, union, intersection, has_none, share_place, HasNoneFrom, IsBitFrom, IsFirstFrom};
 ghost use Rattle.sb_value.specs.Limits.{rule_limit};
 
 use crate::id::{RULE_LIMIT, RuleId};
@@ -125,7 +125,7 @@ impl RuleSet {
 
     /// The first rule whose number is the given one or more.
     pub fn first_from(self, number: usize) -> Option<RuleId>
-        ensures { MatchOption result ((k : ℕ) → number ≤ k → flag_at self k ≡ false) (λ rule. IsFirstFrom number self rule) }
+        ensures { MatchOption result (HasNoneFrom number self) (IsFirstFrom number self) }
     {
         let [a, b, c, d] = self.words;
         let second = number.saturating_sub(WORD_SIZE);
@@ -149,7 +149,7 @@ impl RuleSet {
 
 /// The first place of the word that is the given one or more.
 fn first_in(word: u64, place: usize) -> Option<u8>
-    ensures { MatchOption result ((k : ℕ) → place ≤ k → flag_at (flags_of 64 word) k ≡ false) (λ first. (first < 64) × IsFirstFrom place (flags_of 64 word) first) }
+    ensures { MatchOption result (HasNoneFrom place (flags_of 64 word)) (IsBitFrom place word) }
 {
     if place >= WORD_SIZE {
         return None;

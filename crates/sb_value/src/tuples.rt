@@ -1,34 +1,39 @@
 //! The rows of an insert as they are written: of any widths, with all their values in one list.
-ghost use Rattle.std.specs.Prelude.{◌≡◌, ◌+◌, ◌≤◌, [], ◌∷◌, ◌++◌, length, take, drop, slice_get, IfOk, IfSome, OnOk, OnErr, None};
-ghost use Rattle.std.specs.Vec.Iter.{into_iter_items};
+ghost use Rattle.std.specs.Prelude.{◌≡◌, [], ◌∷◌, ◌++◌, length, drop, IfOk, IfSome, OnOk, OnErr, None};
 
-use crate::row::Row;
 use crate::value::Value;
 use smallvec::SmallVec;
 use std::alloc::{AllocError, Global};
 use std::marker::Model;
-use std::vec::IntoIter;
+use std::sync::Arc;
 
 /// How many values each tuple has, in order. Up to two stand inline.
 type Widths = SmallVec<usize, 2>;
 
-/// Lists of values, in order.
+/// Values, and how they are cut into tuples.
 #[derive(Drop)]
-pub struct Tuples {
+struct Written {
     values: Vec<Value>,
     widths: Widths,
 }
 
+/// Lists of values, in order. Its copies share them.
+#[derive(Drop)]
+pub struct Tuples {
+    written: Arc<Written>,
+}
+
 impl Model for Tuples {
     ghost use Rattle.std.specs.Prelude.{List, length, ◌≤◌};
+    ghost use Rattle.std.specs.Arc.{arc_value};
     ghost use Rattle.sb_value.specs.Tuples.{cut, total};
     ghost use Rattle.sb_value.specs.declared.value.Value.{Value as Item};
 
     ghost Value = { List (List Item) };
 
-    ghost view = { λ t. cut t.widths.items t.values.items };
+    ghost view = { λ t. cut (arc_value t.written).widths.items (arc_value t.written).values.items };
 
-    ghost invariant = { λ t. total t.widths.items ≤ length t.values.items };
+    ghost invariant = { λ t. total (arc_value t.written).widths.items ≤ length (arc_value t.written).values.items };
 }
 
 impl Tuples {
@@ -37,7 +42,7 @@ impl Tuples {
     pub fn len(&self) -> usize
         ensures { result ≡ length self.now }
     {
-        self.widths.len()
+        self.written.widths.len()
     }
 
     /// The tuples one by one.
@@ -45,8 +50,8 @@ impl Tuples {
         ensures { result ≡ self.now }
     {
         TupleIter {
-            values: self.values.as_slice(),
-            widths: self.widths.as_slice(),
+            values: self.written.values.as_slice(),
+            widths: self.written.widths.as_slice(),
         }
     }
 
@@ -54,23 +59,9 @@ impl Tuples {
     pub fn clone(&self) -> Result<Tuples, AllocError>
         ensures { IfOk result (λ copy. copy ≡ self.now) }
     {
-        let mut values = Vec::with_capacity(*self.values.allocator(), self.values.len())?;
-        for value in &self.values {
-            values.push(value.clone()?)?;
-        }
-        let widths = SmallVec::from_slice(*self.widths.allocator(), self.widths.as_slice())?;
-        Ok(Tuples { values, widths })
-    }
-
-    /// Rows of the tuples, which are made one by one.
-    pub fn into_rows(self) -> TupleRows
-        ensures { result ≡ self }
-    {
-        TupleRows {
-            values: self.values.into_iter(),
-            widths: self.widths,
-            at: 0,
-        }
+        Ok(Tuples {
+            written: self.written.clone()?,
+        })
     }
 }
 
@@ -105,83 +96,6 @@ impl<'a> TupleIter<'a> {
         self.values = values;
         self.widths = widths;
         Some(tuple)
-    }
-}
-
-/// Tuples that are still to come, as rows.
-#[derive(Drop)]
-pub struct TupleRows {
-    values: IntoIter<Value>,
-    widths: Widths,
-    at: usize,
-}
-
-impl Model for TupleRows {
-    ghost use Rattle.std.specs.Prelude.{List, length, drop, ◌≤◌};
-    ghost use Rattle.std.specs.Vec.Iter.{into_iter_items};
-    ghost use Rattle.sb_value.specs.Tuples.{cut, total};
-    ghost use Rattle.sb_value.specs.declared.value.Value.{Value as Item};
-
-    ghost Value = { List (List Item) };
-
-    ghost view = { λ t. cut (drop t.at t.widths.items) (into_iter_items t.values) };
-
-    ghost invariant = { λ t. total (drop t.at t.widths.items) ≤ length (into_iter_items t.values) };
-}
-
-impl TupleRows {
-    /// A row of the next tuple's values. Where memory runs out, the tuple is lost.
-    #[tactic(auto, using(crate::proofs::TupleLaws::cut_next, crate::proofs::TupleLaws::total_next, crate::proofs::TupleLaws::cut_end))]
-    pub fn next(&mut self, alloc: Global) -> Result<Option<Row>, AllocError>
-        ensures taken { IfOk result (λ one. IfSome one (λ row. self.old ≡ row ∷ self.new)) }
-        ensures end { IfOk result (λ one. one ≡ None → self.old ≡ []) }
-        ensures rest { self.new ≡ drop 1 self.old }
-    {
-        let Some(width) = width_at(self.widths.as_slice(), self.at) else {
-            return Ok(None);
-        };
-        self.at += 1;
-        Ok(Some(row_of(alloc, &mut self.values, width)?))
-    }
-}
-
-fn width_at(widths: &[usize], at: usize) -> Option<usize>
-    ensures { result ≡ slice_get widths.now at }
-{
-    match widths.get(at) {
-        Some(width) => Some(*width),
-        None => None,
-    }
-}
-
-/// A row of so many values. They are taken even where memory runs out.
-fn row_of(alloc: Global, values: &mut IntoIter<Value>, width: usize) -> Result<Row, AllocError>
-    requires { width ≤ length (into_iter_items values.old) }
-    ensures row { IfOk result (λ row. row ≡ take width (into_iter_items values.old)) }
-    ensures left { into_iter_items values.new ≡ drop width (into_iter_items values.old) }
-{
-    let mut row = Row::new(alloc);
-    for at in 0..width {
-        let Some(value) = values.next() else {
-            unreachable!();
-        };
-        if let Err(error) = row.push(value) {
-            skip(values, width - at - 1);
-            return Err(error);
-        }
-    }
-    Ok(row)
-}
-
-/// Lets go of so many values.
-fn skip(values: &mut IntoIter<Value>, count: usize)
-    requires { count ≤ length (into_iter_items values.old) }
-    ensures { into_iter_items values.new ≡ drop count (into_iter_items values.old) }
-{
-    for _ in 0..count {
-        let Some(_) = values.next() else {
-            unreachable!();
-        };
     }
 }
 
@@ -237,13 +151,16 @@ impl OpenTuples {
         Ok(())
     }
 
-    /// The closed tuples.
-    pub fn finish(self) -> Tuples
-        ensures { result ≡ self.closed }
+    /// The closed tuples, to be shared.
+    pub fn finish(self, alloc: Global) -> Result<Tuples, AllocError>
+        ensures { IfOk result (λ tuples. tuples ≡ self.closed) }
     {
-        Tuples {
+        let written = Written {
             values: self.values,
             widths: self.widths,
-        }
+        };
+        Ok(Tuples {
+            written: Arc::new(alloc, written)?,
+        })
     }
 }

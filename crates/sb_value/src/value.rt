@@ -4,39 +4,43 @@ ghost use Rattle.std.specs.List.{AllPass};
 ghost use Rattle.sb_value.specs.Printable.{is_printable};
 
 use crate::name::Name;
-use std::alloc::AllocError;
+use std::alloc::{AllocError, Global};
 use std::cmp::Ordering;
 use std::marker::Model;
+use std::sync::Arc;
 
 /// The most bytes that a text value has.
 pub const TEXT_LIMIT: usize = 255;
 
-/// The bytes of a text value: at most 255, all printable ASCII.
+/// The bytes of a text value: at most 255, all printable ASCII. Its copies share them.
 #[derive(Drop)]
 pub struct Text {
-    bytes: Vec<u8>,
+    bytes: Arc<Vec<u8>>,
 }
 
 impl Model for Text {
     ghost use Rattle.std.specs.Prelude.{List, ℕ, length, ◌≤◌};
+    ghost use Rattle.std.specs.Arc.{arc_value};
     ghost use Rattle.std.specs.List.{AllPass};
     ghost use Rattle.sb_value.specs.Printable.{is_printable};
 
     ghost Value = { List ℕ };
 
-    ghost view = { λ t. t.bytes.items };
+    ghost view = { λ t. (arc_value t.bytes).items };
 
-    ghost invariant = { λ t. (length t.bytes.items ≤ 255) × AllPass is_printable t.bytes.items };
+    ghost invariant = { λ t. (length (arc_value t.bytes).items ≤ 255) × AllPass is_printable (arc_value t.bytes).items };
 }
 
 impl Text {
     /// The text of these bytes.
-    pub fn new(bytes: Vec<u8>) -> Text
+    pub fn new(alloc: Global, bytes: Vec<u8>) -> Result<Text, AllocError>
         requires short { length bytes.items ≤ 255 }
         requires printable { AllPass is_printable bytes.items }
-        ensures { result ≡ bytes.items }
+        ensures { IfOk result (λ text. text ≡ bytes.items) }
     {
-        Text { bytes }
+        Ok(Text {
+            bytes: Arc::new(alloc, bytes)?,
+        })
     }
 
     /// Its bytes.

@@ -16,10 +16,10 @@ text_is ts rest new quoted value e is le ok past = rw (e, ← is, le-leb _ _ le,
 pub returns-in-Some-2 : goal.returns-in-Some-2
 returns-in-Some-2 c =
     let b = rw c.in-Some-2.is at c.in_ok-bytes.ensures in
-    let new = c.new.ensures in
+    let new = c.in_ok-text.ensures in
     (text_is _ _ _ c.in-Some.quoted.now _ c.in-Some.ensures (new ∙ b.0) (omega (arith, b.1, ap (length {A = _}) new)) (ap (list_all is_printable) new ∙ b.2) c.skip.ensures.value, c.skip.ensures.shorter)
 
 pub returns : goal.returns
 returns c =
-    let new = c.new-2.ensures in
+    let new = c.in_ok-text-2.ensures in
     (text_is _ _ _ c.in-Some.quoted.now _ c.in-Some.ensures (new ∙ c.in_ok-bytes-2.ensures) (omega (arith, c.if-len-gt-TEXT_LIMIT.false, c.in_ok-bytes-2.bytes.ok.0, ap (length {A = _}) new)) (ap (list_all is_printable) new ∙ ap (list_all is_printable) (sym c.as_slice.ensures.value) ∙ sym c.all_printable.ensures ∙ c.if-not-all_printable.false) c.skip-2.ensures.value, c.skip-2.ensures.shorter)

@@ -22,4 +22,4 @@ more-preserved c =
     }
 
 pub returns : goal.returns
-returns c = rw c.finish.ensures (goes_on-end (pushes Comma) tuple _ _ _ c.more.tokens _ c.more.invariant.turns refl (pushes_no Comma c.more.tokens c.sees.result c.sees.ensures c.more-test.false))
+returns c = rw c.in_ok-tuples.ensures (goes_on-end (pushes Comma) tuple _ _ _ c.more.tokens _ c.more.invariant.turns refl (pushes_no Comma c.more.tokens c.sees.result c.sees.ensures c.more-test.false))
