@@ -1,9 +1,8 @@
 //! The index of all tenants.
-ghost use Rattle.std.specs.Prelude.{◌≡◌, ◌<◌, ℕ, Bool, List, [], false, not, ◌&&◌, ◌||◌, ◌==◌, length, OnOk, OnErr};
+ghost use Rattle.std.specs.Prelude.{◌≡◌, ◌<◌, ℕ, Bool, List, [], false, length, OnOk, OnErr};
 ghost use Rattle.sb_value.specs.Flags.{flag_at};
-ghost use Rattle.sb_value.specs.Laws.{kind_triggers};
-ghost use Rattle.sb_index.specs.Operation.{Operation, names};
-ghost use Rattle.sb_index.specs.Stands.{stands, triggers_of};
+ghost use Rattle.sb_index.specs.Operation.{Operation};
+ghost use Rattle.sb_index.specs.Stands.{HasRules, stands, triggers_by, with_rule, without_rule};
 
 use crate::tenant::TenantRules;
 use sb_value::{Change, RuleId, RuleSet, TableId, TenantId, Triggers};
@@ -45,8 +44,8 @@ impl RuleIndex {
         table: TableId,
         triggers: Triggers,
     ) -> Result<(), AllocError>
-        ensures added { OnOk result ((n t : ℕ) (o : Operation) (r : ℕ) → stands self.new n t o r ≡ (stands self.old n t o r || ((n == tenant) && (((t == table) && (r == rule)) && names triggers o)))) }
-        ensures unchanged { OnErr result ((n t : ℕ) (o : Operation) (r : ℕ) → stands self.new n t o r ≡ stands self.old n t o r) }
+        ensures added { OnOk result (HasRules self.new (with_rule self.old tenant table rule triggers)) }
+        ensures unchanged { OnErr result (HasRules self.new (stands self.old)) }
     {
         self.reserve(tenant)?;
         let rules = &mut self.tenants[tenant.index()];
@@ -55,7 +54,7 @@ impl RuleIndex {
 
     /// Takes the tenant's rule away.
     pub fn drop_rule(&mut self, tenant: TenantId, rule: RuleId)
-        ensures { (n t : ℕ) (o : Operation) (r : ℕ) → stands self.new n t o r ≡ (stands self.old n t o r && not ((n == tenant) && (r == rule))) }
+        ensures { HasRules self.new (without_rule self.old tenant rule) }
     {
         if tenant.index() < self.tenants.len() {
             let rules = &mut self.tenants[tenant.index()];
@@ -65,7 +64,7 @@ impl RuleIndex {
 
     /// The rules of the change's tenant that the change may trigger.
     pub fn candidates(&self, change: &Change) -> RuleSet
-        ensures { (r : ℕ) → flag_at result r ≡ kind_triggers change.now.kind (triggers_of self.now change.now.tenant change.now.table r) change.now }
+        ensures { (r : ℕ) → flag_at result r ≡ triggers_by self.now change.now r }
     {
         match self.tenants.get(change.tenant.index()) {
             Some(rules) => rules.candidates(change),

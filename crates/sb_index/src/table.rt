@@ -3,8 +3,8 @@ ghost use Rattle.std.specs.Prelude.{◌≡◌, ℕ, Bool, List, [], false, not, 
 ghost use Rattle.sb_value.specs.Flags.{flag_at, share_place};
 ghost use Rattle.sb_value.specs.Laws.{kind_triggers};
 ghost use Rattle.sb_value.specs.NetEffect.{is_operation, update_between};
-ghost use Rattle.sb_index.specs.Operation.{Operation, names, places};
-ghost use Rattle.sb_index.specs.Stands.{in_table, triggers_in, column_flags};
+ghost use Rattle.sb_index.specs.Operation.{Operation, places};
+ghost use Rattle.sb_index.specs.Stands.{in_column, in_table, triggers_in, column_flags, with_columns, with_table_rule};
 
 use sb_value::{Change, Columns, Kind, RuleId, RuleSet, Triggers, Value, differing, same_row};
 use std::marker::Model;
@@ -46,7 +46,7 @@ impl TableRules {
 
     /// Adds the rule under each of its operations.
     pub fn add(&mut self, rule: RuleId, triggers: Triggers)
-        ensures { (o : Operation) (r : ℕ) → in_table self.new o r ≡ (in_table self.old o r || ((r == rule) && names triggers o)) }
+        ensures { (o : Operation) (r : ℕ) → in_table self.new o r ≡ with_table_rule self.old rule triggers o r }
     {
         self.inserted = with_if(self.inserted, rule, triggers.inserted);
         self.deleted = with_if(self.deleted, rule, triggers.deleted);
@@ -104,7 +104,7 @@ fn union_if(rules: RuleSet, others: RuleSet, wanted: bool) -> RuleSet
 /// Adds the rule at the named columns.
 fn add_columns(columns: &mut [RuleSet], rule: RuleId, named: Columns)
     requires { length columns.old ≡ 8 }
-    ensures { (k r : ℕ) → flag_at (slice_index_or columns.new k []) r ≡ (flag_at (slice_index_or columns.old k []) r || ((r == rule) && (nat_lt k 8 && flag_at named k))) }
+    ensures { (k r : ℕ) → in_column columns.new k r ≡ with_columns columns.old rule named k r }
 {
     for place in 0..COLUMN_LIMIT {
         columns[place] = with_if(columns[place], rule, named.contains(place as u8));
@@ -114,7 +114,7 @@ fn add_columns(columns: &mut [RuleSet], rule: RuleId, named: Columns)
 /// Takes the rule from all columns.
 fn drop_from(columns: &mut [RuleSet], rule: RuleId)
     requires { length columns.old ≡ 8 }
-    ensures { (k r : ℕ) → flag_at (slice_index_or columns.new k []) r ≡ (flag_at (slice_index_or columns.old k []) r && not (r == rule)) }
+    ensures { (k r : ℕ) → in_column columns.new k r ≡ (in_column columns.old k r && not (r == rule)) }
 {
     for place in 0..COLUMN_LIMIT {
         columns[place] = columns[place].without(rule);

@@ -1,9 +1,8 @@
 //! The rules of one tenant, by table.
 ghost use Rattle.std.specs.Prelude.{◌≡◌, ◌<◌, ℕ, Bool, List, [], not, ◌&&◌, ◌||◌, ◌==◌, length, slice_index_or, OnOk, OnErr};
 ghost use Rattle.sb_value.specs.Flags.{flag_at};
-ghost use Rattle.sb_value.specs.Laws.{kind_triggers};
-ghost use Rattle.sb_index.specs.Operation.{Operation, names};
-ghost use Rattle.sb_index.specs.Stands.{in_tenant, triggers_in, no_table};
+ghost use Rattle.sb_index.specs.Operation.{Operation};
+ghost use Rattle.sb_index.specs.Stands.{HaveRules, in_tenant, triggers_here, with_tenant_rule, without_tenant_rule};
 
 use crate::table::TableRules;
 use sb_value::{Change, RuleId, RuleSet, TableId, Triggers};
@@ -42,8 +41,8 @@ impl TenantRules {
         table: TableId,
         triggers: Triggers,
     ) -> Result<(), AllocError>
-        ensures added { OnOk result ((t : ℕ) (o : Operation) (r : ℕ) → in_tenant self.new t o r ≡ (in_tenant self.old t o r || (((t == table) && (r == rule)) && names triggers o))) }
-        ensures unchanged { OnErr result ((t : ℕ) (o : Operation) (r : ℕ) → in_tenant self.new t o r ≡ in_tenant self.old t o r) }
+        ensures added { OnOk result (HaveRules self.new (with_tenant_rule self.old table rule triggers)) }
+        ensures unchanged { OnErr result (HaveRules self.new (in_tenant self.old)) }
     {
         self.reserve(table)?;
         let rules = &mut self.tables[table.index()];
@@ -53,7 +52,7 @@ impl TenantRules {
 
     /// Takes the rule from all tables.
     pub fn drop_rule(&mut self, rule: RuleId)
-        ensures { (t : ℕ) (o : Operation) (r : ℕ) → in_tenant self.new t o r ≡ (in_tenant self.old t o r && not (r == rule)) }
+        ensures { HaveRules self.new (without_tenant_rule self.old rule) }
     {
         for table in self.tables.iter_mut() {
             table.drop_rule(rule);
@@ -62,7 +61,7 @@ impl TenantRules {
 
     /// The rules that the change may trigger.
     pub fn candidates(&self, change: &Change) -> RuleSet
-        ensures { (r : ℕ) → flag_at result r ≡ kind_triggers change.now.kind (triggers_in (slice_index_or self.now change.now.table no_table) r) change.now }
+        ensures { (r : ℕ) → flag_at result r ≡ triggers_here self.now change.now r }
     {
         match self.tables.get(change.table.index()) {
             Some(table) => table.candidates(change),

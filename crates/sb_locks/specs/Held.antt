@@ -1,7 +1,8 @@
 -- The holders of a tenant's tables, as words with a bit for each session.
-use Rattle.std.specs.Prelude.{ℕ, Bool, ◌==◌, List, slice_index}
+use Rattle.std.specs.Prelude.{◌≡◌, ℕ, Bool, ◌&&◌, ◌||◌, ◌==◌, List, slice_index}
 use Rattle.std.specs.Int.{bit_at}
-use Rattle.sb_value.specs.Locks.{Locks}
+use Rattle.sb_value.specs.Locks.{Locks, same_mode}
+use Rattle.sb_value.specs.declared.lock.Mode.{Mode}
 use Rattle.sb_value.specs.declared.lock.Mode.TheVariants.{Read, Write}
 
 -- a word for each table
@@ -17,3 +18,15 @@ has holders session = bit_at holders session == 1
 abbrev pub held : Holders → Locks
 held locks session table Read = has (slice_index locks.readers table) session
 held locks session table Write = has (slice_index locks.writers table) session
+
+-- the same locks are held
+abbrev pub Agree : Locks → Locks → Type 0
+Agree one other = (s t : ℕ) (m : Mode) → one s t m ≡ other s t m
+
+-- the locks with one more
+abbrev pub with_lock : Locks → ℕ → ℕ → Mode → Locks
+with_lock locks session table mode s t m = locks s t m || ((s == session) && ((table == t) && same_mode mode m))
+
+-- whether the session is one of the table's holders
+abbrev pub holds : List ℕ → ℕ → ℕ → Bool
+holds tables session table = has (slice_index tables table) session

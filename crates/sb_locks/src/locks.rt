@@ -1,8 +1,8 @@
 //! The locks that are held, and requests for more.
 ghost use Rattle.std.specs.Prelude.{◌≡◌, ℕ, Bool, not, ◌&&◌, ◌||◌, ◌==◌, Option, length, slice_index, OnOk, IfErr, OnErr};
-ghost use Rattle.sb_value.specs.Locks.{no_locks, same_mode, conflicts, first_conflict, with_locks, released};
+ghost use Rattle.sb_value.specs.Locks.{no_locks, conflicts, first_conflict, with_locks, released};
 ghost use Rattle.sb_value.specs.declared.lock.Mode.{Mode};
-ghost use Rattle.sb_locks.specs.Held.{has, held};
+ghost use Rattle.sb_locks.specs.Held.{Agree, has, held, holds, with_lock};
 
 use sb_value::{Mode, SessionId, TABLE_LIMIT, TableId};
 use std::marker::Model;
@@ -42,7 +42,7 @@ impl Locks {
     /// Takes all locks of the list, in order of mention, or none.
     pub fn request(&mut self, session: SessionId, request: &[(TableId, Mode)]) -> Result<(), Locked>
         ensures granted { OnOk result (first_conflict (held self.old) session request.now ≡ None) }
-        ensures taken { OnOk result ((s t : ℕ) (m : Mode) → held self.new s t m ≡ with_locks (held self.old) session request.now s t m) }
+        ensures taken { OnOk result (Agree (held self.new) (with_locks (held self.old) session request.now)) }
         ensures refused { IfErr result (λ e. first_conflict (held self.old) session request.now ≡ Some e.table) }
         ensures unchanged { OnErr result (self.new ≡ self.old) }
     {
@@ -100,7 +100,7 @@ impl Locks {
 
     /// Adds one lock.
     fn take(&mut self, session: SessionId, table: TableId, mode: Mode)
-        ensures { (s t : ℕ) (m : Mode) → held self.new s t m ≡ (held self.old s t m || ((s == session) && ((table == t) && same_mode mode m))) }
+        ensures { Agree (held self.new) (with_lock (held self.old) session table mode) }
     {
         match mode {
             Mode::Read => join(&mut self.readers, table, session),
@@ -112,7 +112,7 @@ impl Locks {
 /// Adds the session to the holders of the table.
 fn join(tables: &mut [u8], table: TableId, session: SessionId)
     requires { length tables.old ≡ 16 }
-    ensures { (s t : ℕ) → has (slice_index tables.new t) s ≡ (has (slice_index tables.old t) s || ((s == session) && (table == t))) }
+    ensures { (s t : ℕ) → holds tables.new s t ≡ (holds tables.old s t || ((s == session) && (table == t))) }
 {
     tables[table.index()] |= 1 << session.number();
 }

@@ -1,5 +1,5 @@
 -- An order of rules, and the pairs that it stands for.
-use Rattle.std.specs.Prelude.{◌≡◌, ◌<◌, ℕ, Bool, IsTrue, length, true, false, not, ◌&&◌, ◌||◌, ◌==◌, List, ◌++◌, map, filter}
+use Rattle.std.specs.Prelude.{◌≡◌, ◌<◌, ℕ, Bool, IsTrue, length, true, false, not, ◌&&◌, ◌||◌, ◌==◌, nat_lt, if◌then◌else◌, List, ◌++◌, map, filter, Option, Some, MatchOption, slice_get}
 use Rattle.std.specs.List.{list_any}
 use Rattle.sb_value.specs.Flags.{flag_at}
 use Rattle.sb_value.specs.Order.{precedes}
@@ -67,6 +67,10 @@ Loses old new rule = (pairs : List (ℕ × ℕ)) → HasOrder old pairs → HasO
 abbrev pub ClosesCycle : Ranks → ℕ → List (ℕ × ℕ) → Type 0
 ClosesCycle old rule more = (pairs : List (ℕ × ℕ)) → HasOrder old pairs → precedes (pairs ++ more) rule rule ≡ true
 
+-- the answer is whether with these pairs more the rule precedes itself
+abbrev pub DecidesCycle : Ranks → ℕ → List (ℕ × ℕ) → Bool → Type 0
+DecidesCycle ranks rule more answer = (pairs : List (ℕ × ℕ)) → HasOrder ranks pairs → answer ≡ precedes (pairs ++ more) rule rule
+
 -- the new order has the old one's pairs, altered so
 abbrev pub Alters : Ranks → Ranks → (List (ℕ × ℕ) → List (ℕ × ℕ)) → Type 0
 Alters old new altered = (pairs : List (ℕ × ℕ)) → HasOrder old pairs → HasOrder new (altered pairs)
@@ -82,3 +86,13 @@ ranked set rules = filter (λ r. flag_at set r) rules
 -- no other rule of the list precedes the rule
 abbrev pub is_free : List (ℕ × ℕ) → List ℕ → ℕ → Bool
 is_free pairs set r = not (list_any (λ q. not (q == r) && precedes pairs q r) set)
+
+-- the answer is whether no other rule of the set precedes the rule
+abbrev pub DecidesFree : Ranks → List Bool → ℕ → Bool → Type 0
+DecidesFree ranks set rule answer = (pairs : List (ℕ × ℕ)) → HasOrder ranks pairs → answer ≡ is_free pairs (ranked set ranks.rules) rule
+
+-- of the rule and the other one, if there is one, the one that stands first
+abbrev pub IsEarlier : List ℕ → Option ℕ → ℕ → ℕ → Type 0
+IsEarlier rules first rule earlier =
+    (k : ℕ) → slice_get rules k ≡ Some rule →
+    MatchOption first (earlier ≡ rule) (λ other. (j : ℕ) → slice_get rules j ≡ Some other → earlier ≡ (if nat_lt j k then other else rule))

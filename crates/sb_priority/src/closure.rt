@@ -2,7 +2,7 @@
 ghost use Rattle.std.specs.Prelude.{◌≡◌, ℕ, Bool, List, [], ◌++◌, ◌&&◌, ◌||◌, ◌==◌, slice_index_or, length};
 ghost use Rattle.sb_value.specs.Flags.{flag_at};
 ghost use Rattle.sb_value.specs.Limits.{rule_limit};
-ghost use Rattle.sb_priority.specs.Closed.{relates, IsClosure, row_pairs, is_led};
+ghost use Rattle.sb_priority.specs.Closed.{relates, relates_through, row_pairs, row_through, is_led, with_led, ClosesMore, IsClosure};
 
 use sb_value::{RULE_LIMIT, RuleId, RuleSet};
 use std::marker::Model;
@@ -50,7 +50,7 @@ impl Closure {
     /// Closes the pairs with those that put the rules of the row before one rule: what reaches one of the row precedes what that
     /// rule reaches.
     pub fn link_row(&mut self, row: RuleSet, second: RuleId)
-        ensures { (pairs : List (ℕ × ℕ)) → IsClosure self.old pairs → IsClosure self.new (row_pairs (flag_at row) second rule_limit ++ pairs) }
+        ensures { ClosesMore self.old self.new (row_pairs (flag_at row) second rule_limit) }
     {
         let through = self.through(row);
         link_rows(&mut self.before, through, second);
@@ -70,7 +70,7 @@ impl Closure {
 
 /// The rules with one more, and what precedes it, if the row has it.
 fn led_too(through: RuleSet, row: RuleSet, rule: RuleId, before: RuleSet) -> RuleSet
-    ensures { (a : ℕ) → flag_at result a ≡ (flag_at through a || (flag_at row rule && ((a == rule) || flag_at before a))) }
+    ensures { (a : ℕ) → flag_at result a ≡ with_led through row rule before a }
 {
     if row.contains(rule) {
         through.union(before).with(rule)
@@ -82,7 +82,7 @@ fn led_too(through: RuleSet, row: RuleSet, rule: RuleId, before: RuleSet) -> Rul
 /// Adds the rules to each row that has the second rule or is its own.
 fn link_rows(rows: &mut [RuleSet], through: RuleSet, second: RuleId)
     requires { length rows.old ≡ rule_limit }
-    ensures { (a b : ℕ) → relates rows.new a b ≡ (relates rows.old a b || (flag_at through a && ((second == b) || relates rows.old second b))) }
+    ensures { (a b : ℕ) → relates rows.new a b ≡ relates_through rows.old through second a b }
 {
     let _in_range = second.number();
     for number in 0..RULE_LIMIT {
@@ -92,7 +92,7 @@ fn link_rows(rows: &mut [RuleSet], through: RuleSet, second: RuleId)
 
 /// The row of that number, with the rules if it has the second rule or is its own.
 fn linked(row: RuleSet, number: usize, through: RuleSet, second: RuleId) -> RuleSet
-    ensures { (a : ℕ) → flag_at result a ≡ (flag_at row a || (flag_at through a && ((second == number) || flag_at row second))) }
+    ensures { (a : ℕ) → flag_at result a ≡ row_through row number through second a }
 {
     if reaches(row, number, second) {
         row.union(through)

@@ -3,6 +3,7 @@ ghost use Rattle.std.specs.Prelude.{◌≡◌, ℕ, ◌<◌, ◌≤◌, not, ◌
 ghost use Rattle.std.specs.List.{list_any};
 ghost use Rattle.sb_value.specs.Flags.{flag_at};
 ghost use Rattle.sb_value.specs.Limits.{rule_limit};
+ghost use Rattle.sb_priority.specs.Members.{AreDifferent};
 
 use sb_value::{RULE_LIMIT, RuleId, RuleSet};
 use std::marker::Model;
@@ -44,7 +45,7 @@ impl RuleList {
     pub fn as_slice(&self) -> &[RuleId]
         ensures value { result.now ≡ self.now }
         ensures bound { length result.now ≤ rule_limit }
-        ensures different { (k : ℕ) → k < length self.now → list_any (λ r. r == slice_index self.now k) (take k self.now) ≡ false }
+        ensures different { AreDifferent self.now }
     {
         &self.rules[..self.count]
     }

@@ -3,7 +3,7 @@ ghost use Rattle.std.specs.Prelude.{◌≡◌, ℕ, Bool, List, [], not, ◌&&�
 ghost use Rattle.sb_value.specs.Flags.{flag_at};
 ghost use Rattle.sb_value.specs.Limits.{rule_limit};
 ghost use Rattle.sb_value.specs.Order.{precedes};
-ghost use Rattle.sb_priority.specs.Closed.{relates, HasPairs, AreClosed};
+ghost use Rattle.sb_priority.specs.Closed.{relates, AreClosed, ArePredecessors, GainsPairs, HasPairs};
 ghost use Rattle.sb_priority.specs.Rows.{IsRowOf};
 ghost use Rattle.sb_priority.specs.Ranks.{is_between, pairs_of};
 ghost use Rattle.std.specs.List.{list_any};
@@ -69,7 +69,7 @@ impl Pairs {
 
     /// The rules that precede the rule.
     pub fn predecessors(&self, rule: RuleId) -> RuleSet
-        ensures { (pairs : List (ℕ × ℕ)) → HasPairs self.now pairs → (a : ℕ) → flag_at result a ≡ precedes pairs a rule }
+        ensures { ArePredecessors result self.now rule }
     {
         // for the proof: the test of precedence is the closure of the pairs
         precedes_is_closure();
@@ -78,7 +78,7 @@ impl Pairs {
 
     /// Adds the pairs of a new rule.
     pub fn add_rule(&mut self, rule: RuleId, ahead_of: &[RuleId], behind: &[RuleId])
-        ensures { (pairs : List (ℕ × ℕ)) → HasPairs self.old pairs → HasPairs self.new (pairs ++ pairs_of rule ahead_of.now behind.now) }
+        ensures { GainsPairs self.old self.new (pairs_of rule ahead_of.now behind.now) }
     {
         self.lead(rule, ahead_of);
         self.trail(rule, behind);
@@ -86,7 +86,7 @@ impl Pairs {
 
     /// Puts the rule before the others.
     fn lead(&mut self, rule: RuleId, others: &[RuleId])
-        ensures { (pairs : List (ℕ × ℕ)) → HasPairs self.old pairs → HasPairs self.new (pairs ++ map (λ o. (rule, o)) others.now) }
+        ensures { GainsPairs self.old self.new (map (λ o. (rule, o)) others.now) }
     {
         for other in others {
             self.link(rule, *other);
@@ -95,7 +95,7 @@ impl Pairs {
 
     /// Puts the rule behind the others.
     fn trail(&mut self, rule: RuleId, others: &[RuleId])
-        ensures { (pairs : List (ℕ × ℕ)) → HasPairs self.old pairs → HasPairs self.new (pairs ++ map (λ o. (o, rule)) others.now) }
+        ensures { GainsPairs self.old self.new (map (λ o. (o, rule)) others.now) }
     {
         for other in others {
             self.link(*other, rule);

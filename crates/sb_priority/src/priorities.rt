@@ -3,7 +3,8 @@ ghost use Rattle.std.specs.Prelude.{◌≡◌, ℕ, ◌<◌, not, ◌&&◌, ◌=
 ghost use Rattle.sb_value.specs.Flags.{flag_at};
 ghost use Rattle.sb_value.specs.Limits.{rule_limit};
 ghost use Rattle.sb_value.specs.Order.{precedes, chosen};
-ghost use Rattle.sb_priority.specs.Ranks.{HasOrder, HasRow, AreRanked, is_ranked, pairs_of, pairs_altered, Alters, AltersToCycle, Gains, Loses, ClosesCycle, ranked, is_free};
+ghost use Rattle.sb_priority.specs.Ranks.{HasOrder, HasRow, AreRanked, is_ranked, pairs_of, pairs_altered as altered};
+ghost use Rattle.sb_priority.specs.Ranks.{Alters, AltersToCycle, Gains, Loses, ClosesCycle, DecidesCycle, DecidesFree, IsEarlier, ranked};
 
 use crate::list::RuleList;
 use crate::rows::Rows;
@@ -63,7 +64,7 @@ impl Priorities {
 
     /// Whether the rule would precede itself if it preceded those of the first list and followed those of the second.
     pub fn closes_cycle(&self, rule: RuleId, ahead_of: &[RuleId], behind: &[RuleId]) -> bool
-        ensures { (pairs : List (ℕ × ℕ)) → HasOrder self.now pairs → result ≡ precedes (pairs ++ pairs_of rule ahead_of.now behind.now) rule rule }
+        ensures { DecidesCycle self.now rule (pairs_of rule ahead_of.now behind.now) result }
     {
         let mut pairs = self.rows.load();
         pairs.add_rule(rule, ahead_of, behind);
@@ -106,8 +107,8 @@ impl Priorities {
         requires known { is_ranked self.old rule ≡ true }
         requires others { AreRanked self.old ahead_of.now }
         ensures rules { self.new.rules ≡ self.old.rules }
-        ensures altered { OnOk result (Alters self.old self.new (pairs_altered rule apart.now ahead_of.now behind.now)) }
-        ensures cycle { OnErr result (AltersToCycle self.old rule (pairs_altered rule apart.now ahead_of.now behind.now)) }
+        ensures altered { OnOk result (Alters self.old self.new (altered rule apart.now ahead_of.now behind.now)) }
+        ensures cycle { OnErr result (AltersToCycle self.old rule (altered rule apart.now ahead_of.now behind.now)) }
         ensures unchanged { OnErr result (self.new ≡ self.old) }
     {
         // for the proof: a cycle goes through the rule whose pairs are new
@@ -161,7 +162,7 @@ impl Priorities {
 
     /// Of the two rules the one that was created earlier.
     fn earlier(&self, first: Option<RuleId>, rule: RuleId) -> RuleId
-        ensures { (k : ℕ) → slice_get self.now.rules k ≡ Some rule → MatchOption first (result ≡ rule) (λ other. (j : ℕ) → slice_get self.now.rules j ≡ Some other → result ≡ (if nat_lt j k then other else rule)) }
+        ensures { IsEarlier self.now.rules first rule result }
     {
         match first {
             Some(other) => {
@@ -177,7 +178,7 @@ impl Priorities {
 
     /// Whether no other rule of the set precedes the rule.
     fn is_free(&self, rule: RuleId, set: RuleSet) -> bool
-        ensures { (pairs : List (ℕ × ℕ)) → HasOrder self.now pairs → result ≡ is_free pairs (ranked set self.now.rules) rule }
+        ensures { DecidesFree self.now set rule result }
     {
         let others = self.rules.members().intersection(set);
         !self.rows.predecessors(rule).intersects(others)

@@ -3,7 +3,7 @@ ghost use Rattle.std.specs.Prelude.{◌≡◌, ℕ, ◌<◌, ◌≤◌, true, Li
 ghost use Rattle.sb_value.specs.Flags.{flag_at};
 ghost use Rattle.sb_value.specs.Limits.{rule_limit};
 ghost use Rattle.sb_value.specs.Order.{precedes};
-ghost use Rattle.sb_priority.specs.Closed.{relates, HasPairs};
+ghost use Rattle.sb_priority.specs.Closed.{relates, ArePredecessors, HasPairs};
 ghost use Rattle.sb_priority.specs.Rows.{row_at, direct_of, before_of, AreKept, IsRowOf};
 
 use crate::closure::Closure;
@@ -65,7 +65,7 @@ impl Rows {
 
     /// The rules that precede the rule.
     pub fn predecessors(&self, rule: RuleId) -> RuleSet
-        ensures { (pairs : List (ℕ × ℕ)) → HasPairs self.now pairs → (a : ℕ) → flag_at result a ≡ precedes pairs a rule }
+        ensures { ArePredecessors result self.now rule }
     {
         // for the proof: the test of precedence is the closure of the pairs
         precedes_is_closure();

@@ -1,5 +1,5 @@
 -- Names with numbers, and a slot for each number.
-use Rattle.std.specs.Prelude.{◌≡◌, ℕ, ◌==◌, List, [], slice_get, unwrap_or, Option, None, is_some}
+use Rattle.std.specs.Prelude.{◌≡◌, ℕ, ◌==◌, if◌then◌else◌, List, [], slice_get, unwrap_or, Option, Some, None, is_some}
 use Rattle.std.specs.List.{list_any}
 use Rattle.sb_tables.specs.Stored.{Stored}
 use Rattle.sb_tables.specs.Held.{Held, no_rows}
@@ -7,6 +7,10 @@ use Rattle.sb_tables.specs.Held.{Held, no_rows}
 -- what the slot of a number holds
 abbrev pub slot_at : List (Option Stored) → ℕ → Option Stored
 slot_at slots id = unwrap_or (slice_get slots id) None
+
+-- with a table in a slot
+abbrev pub with_slot : List (Option Stored) → ℕ → Stored → ℕ → Option Stored
+with_slot slots id stored k = if k == id then Some stored else slot_at slots k
 
 -- the table of a name and a number
 abbrev pub held_in : List (Option Stored) → List ℕ × ℕ → Held

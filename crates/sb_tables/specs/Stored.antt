@@ -1,5 +1,5 @@
 -- A table in memory.
-use Rattle.std.specs.Prelude.{ℕ, ◌+◌, ◌==◌, nat_lt, not, if◌then◌else◌, List, [], ◌∷◌, ◌++◌, map, filter, IsTrue}
+use Rattle.std.specs.Prelude.{◌≡◌, ℕ, ◌+◌, ◌==◌, nat_lt, not, if◌then◌else◌, List, [], ◌∷◌, ◌++◌, map, filter, IsTrue}
 use Rattle.std.specs.List.{list_any}
 use Rattle.sb_value.specs.declared.value.Value.{Value}
 use Rattle.sb_value.specs.Table.{Table, IsTable}
@@ -42,3 +42,7 @@ put tuple row (r ∷ rs) = if r.0 == tuple then (tuple, row) ∷ rs else (if nat
 
 abbrev pub with_row_put : ℕ → List Value → Table → Table
 with_row_put tuple row table = record table { rows = put tuple row table.rows }
+
+-- what is left of a table without its last row
+abbrev pub IsWithoutLast : Table → Table → Type 0
+IsWithoutLast whole left = (before : Table) (row : List Value) → with_row row before ≡ whole → left ≡ before

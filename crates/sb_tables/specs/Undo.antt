@@ -1,6 +1,7 @@
 -- Undoing the newest change of a table.
 use Rattle.std.specs.Prelude.{◌≡◌, ℕ, ◌+◌, List, [], ◌∷◌, ◌++◌}
 use Rattle.sb_value.specs.Table.{Table, IsTable, fits_kind, after_change}
+use Rattle.sb_tables.specs.Held.{Held, stored_at, with_stored}
 use Rattle.sb_tables.specs.Stored.{Stored}
 use Rattle.sb_value.specs.declared.change.Change.{Change}
 use Rattle.sb_value.specs.declared.change.Kind.{Kind}
@@ -37,3 +38,7 @@ pub record Undoes (c : Change) (now before : Stored) : Type 0 where
   pub table : (one : Table) → IsBefore c now.table one → before.table ≡ one
   pub places : now.places ≡ places_after c.kind c.tuple before.places
   pub room : before.room ≡ room_before c.kind now.room
+
+-- the tables once a change is undone, which was the newest of its table
+abbrev pub AreUndone : Change → List Held → List Held → Type 0
+AreUndone c now before = (stored : Stored) × Undoes c (stored_at now c.table) stored × (before ≡ with_stored c.table stored now)

@@ -4,7 +4,7 @@ ghost use Rattle.std.specs.Borrow.{Lends, sem};
 ghost use Rattle.sb_tables.specs.contracts.slots.Slots.{the_row};
 ghost use Rattle.sb_tables.specs.contracts.table.Table as table;
 ghost use Rattle.std.specs.Option.{option_copied};
-ghost use Rattle.sb_tables.specs.Filled.{slot_at};
+ghost use Rattle.sb_tables.specs.Filled.{slot_at, with_slot};
 
 use crate::table::Table;
 use sb_value::TableId;
@@ -73,7 +73,7 @@ impl Slots {
     /// Puts a table under a number, which is at most the first behind all slots.
     pub(crate) fn fill(&mut self, id: TableId, table: Table) -> Result<(), AllocError>
         requires { id ≤ length self.old }
-        ensures filled { OnOk result ((k : ℕ) → slot_at self.new k ≡ (if k == id then Some table else slot_at self.old k)) }
+        ensures filled { OnOk result ((k : ℕ) → slot_at self.new k ≡ with_slot self.old id table k) }
         ensures unchanged { OnErr result (self.new ≡ self.old) }
     {
         let number = id.index();

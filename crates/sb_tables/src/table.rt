@@ -41,7 +41,9 @@ impl Model for Table {
 }
 
 impl Table {
-    ghost use Rattle.sb_tables.specs.Stored.{Stored, IsStored, with_row, without_row, with_row_at, with_row_put, numbers_of};
+    ghost use Rattle.sb_tables.specs.Held.{inserted};
+    ghost use Rattle.sb_tables.specs.Stored.{Stored, IsStored, IsWithoutLast, with_row, without_row, with_row_at, with_row_put};
+    ghost use Rattle.sb_tables.specs.Stored.{numbers_of};
     ghost use Rattle.sb_value.specs.declared.value.Value.{Value as Item};
     ghost use Rattle.sb_tables.specs.Undo.{IsBefore, IsNewest, places_after, room_before};
 
@@ -131,7 +133,7 @@ impl Table {
         requires room { 0 < self.old.room }
         requires numbers { self.old.table.next < 2 ^ 64 - 1 }
         ensures full { IsErr result ↔ (4096 ≤ length self.old.table.rows) }
-        ensures ok { IfOk result (λ tuple. (tuple ≡ self.old.table.next) × (self.new ≡ record { table = with_row row self.old.table; places = self.old.places ++ tuple ∷ []; room = self.old.room - 1 })) }
+        ensures ok { IfOk result (λ tuple. (tuple ≡ self.old.table.next) × (self.new ≡ inserted row self.old)) }
         ensures err { OnErr result (self.new ≡ self.old) }
     {
         if self.slots.len() - self.deleted >= ROW_LIMIT {
@@ -198,7 +200,7 @@ impl Table {
     /// Drops the row that was inserted last. Its place is reserved again.
     fn drop_last(&mut self)
         requires { (before : Definition) × (row : List Item) × (with_row row before ≡ self.old.table) }
-        ensures table { (before : Definition) (row : List Item) → with_row row before ≡ self.old.table → self.new.table ≡ before }
+        ensures table { IsWithoutLast self.old.table self.new.table }
         ensures places { self.old.places ≡ self.new.places ++ self.new.table.next ∷ [] }
         ensures room { self.new.room ≡ self.old.room + 1 }
     {

@@ -4,11 +4,10 @@ ghost use Rattle.std.specs.Borrow.{Lends, sem};
 ghost use Rattle.std.specs.Option.{option_copied};
 ghost use Rattle.sb_tables.specs.contracts.table.Table as table;
 ghost use Rattle.sb_tables.specs.contracts.tables.Tables.{the_row};
-ghost use Rattle.sb_tables.specs.Stored.{Stored};
 ghost use Rattle.sb_value.specs.Table.{Table as Definition, row_at};
 ghost use Rattle.sb_tables.specs.Held as spec;
 ghost use Rattle.sb_tables.specs.Held.{named, numbered, has_name, has_number, stored_at, NamesAgreeWithNumbers, with_table, without_table, with_stored, reserved, inserted, deleted, replaced, settled};
-ghost use Rattle.sb_tables.specs.Undo.{IsNewest, Undoes};
+ghost use Rattle.sb_tables.specs.Undo.{AreUndone, IsNewest};
 
 use crate::slots::Slots;
 use crate::table::{Table, TooManyRows};
@@ -182,7 +181,7 @@ impl Tables {
         requires there { IsTrue (has_number self.old change.table) }
         requires newest { IsNewest change (stored_at self.old change.table).table }
         requires kept { Contains (stored_at self.old change.table).places change.tuple }
-        ensures { (before : Stored) × Undoes change (stored_at self.old change.table) before × (self.new ≡ with_stored change.table before self.old) }
+        ensures { AreUndone change self.old self.new }
     {
         self.get_mut(change.table).undo(change);
     }
