@@ -5,3 +5,4 @@ pub mod Indexing
 pub mod InOrder
 pub mod NewRules
 pub mod Active
+pub mod Sought

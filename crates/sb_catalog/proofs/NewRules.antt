@@ -35,6 +35,15 @@ no_ruleset (s ∷ sets) name e = by (same_name s.name name) e (no_ruleset sets n
     by true f rest = absurd (none-some s.rules (sym f))
     by false f rest = rest f
 
+-- one with members is there
+pub a_ruleset : (sets : List Ruleset) (name : Name) (members : List Bool) → members_of sets name ≡ Some members → has_name sets name ≡ true
+a_ruleset [] name members e = absurd (none-some members e)
+a_ruleset (s ∷ sets) name members e = by (same_name s.name name) e (a_ruleset sets name members)
+  where
+    by : (b : Bool) → option_map (λ (x : Ruleset). x.rules) (cond b (Some s) (find (λ x. same_name x.name name) sets)) ≡ Some members → (members_of sets name ≡ Some members → has_name sets name ≡ true) → (b || has_name sets name) ≡ true
+    by true f rest = refl
+    by false f rest = rest f
+
 same_Ok : (xs ys : List ℕ) (r : Result (List ℕ) Refusal) → r ≡ Ok xs → r ≡ Ok ys → xs ≡ ys
 same_Ok xs ys r e f = cc
 

@@ -1,11 +1,11 @@
 -- What the commands on rules and rulesets define: rules, their pairs of precedence, rulesets.
-use Rattle.std.specs.Prelude.{◌≡◌, ◌⊎◌, ℕ, Bool, not, ◌&&◌, ◌==◌, List, [], ◌++◌, map, unwrap_or, Result, Ok, Err, IsFalse}
+use Rattle.std.specs.Prelude.{◌≡◌, ◌⊎◌, ℕ, Bool, not, ◌&&◌, ◌==◌, List, [], ◌++◌, map, Option, unwrap_or, MatchOption, Result, Ok, Err, IsFalse}
 use Rattle.std.specs.List.{list_any}
 use Rattle.sb_value.specs.declared.refusal.Refusal.{Refusal}
-use Rattle.sb_value.specs.declared.refusal.Refusal.TheVariants.{TooManyRules, Cycle, NoRuleset, NoMemory}
+use Rattle.sb_value.specs.declared.refusal.Refusal.TheVariants.{NoRule, TooManyRules, Cycle, NoRuleset, NoMemory}
 use Rattle.sb_value.specs.Flags.{flag_at}
 use Rattle.sb_value.specs.Order.{precedes}
-use Rattle.sb_syntax.specs.Tree.{Name, AlterationText}
+use Rattle.sb_syntax.specs.Tree.{Name, AlterationText, RuleText}
 use Rattle.sb_check.specs.Names.{and_then, in_order, required}
 use Rattle.sb_check.specs.RuleParts.{Parts, NewParts}
 use Rattle.sb_index.specs.Operation.{Operation, names}
@@ -17,7 +17,7 @@ use Rattle.sb_rulesets.specs.Sets.{has_name, members_of, changed}
 use Rattle.sb_rulesets.specs.Sets as rulesets
 use Rattle.sb_catalog.specs.declared.rule.Rule.{Rule}
 use Rattle.sb_catalog.specs.declared.definitions.Definitions.{Definitions}
-use Rattle.sb_catalog.specs.Rules.{rule_named, free_rule, has_room, created, without_rule, with_active, with_parts}
+use Rattle.sb_catalog.specs.Rules.{rule_named, is_active, free_rule, has_room, created, without_rule, with_active, with_parts}
 
 -- ---- names
 
@@ -29,9 +29,28 @@ rules_named rules names = in_order (rule_named rules) names
 abbrev pub members_named : List Ruleset → List Rule → Name → List Name → Result (List ℕ) Refusal
 members_named sets rules set names = required (has_name sets set) NoRuleset (rules_named rules names)
 
+-- the same of definitions
+abbrev pub members : Definitions → Name → List Name → Result (List ℕ) Refusal
+members d set names = members_named d.rulesets d.rules set names
+
 -- whether the rule is in the ruleset of that name
 abbrev pub is_member : List Ruleset → Name → ℕ → Bool
 is_member sets set id = flag_at (unwrap_or (members_of sets set) []) id
+
+-- the set has the active rules of the ruleset
+abbrev pub AreActiveIn : Definitions → Name → List Bool → Type 0
+AreActiveIn d set rules = (id : ℕ) → flag_at rules id ≡ (is_active d.rules id && is_member d.rulesets set id)
+
+abbrev pub GivesActiveMembers : Definitions → Name → Option (List Bool) → Type 0
+GivesActiveMembers d set result = MatchOption result (IsFalse (has_name d.rulesets set)) (AreActiveIn d set)
+
+-- the set has the rule of that name alone, if it is active
+abbrev pub HasActiveRule : Definitions → Name → List Bool → Type 0
+HasActiveRule d name rules =
+    (r : ℕ) × (rule_named d.rules name ≡ Ok r) × ((id : ℕ) → flag_at rules id ≡ ((id == r) && is_active d.rules id))
+
+abbrev pub GivesActiveRule : Definitions → Name → Option (List Bool) → Type 0
+GivesActiveRule d name result = MatchOption result (rule_named d.rules name ≡ Err NoRule) (HasActiveRule d name)
 
 -- ---- a new rule
 
@@ -66,11 +85,20 @@ altered_pairs rules pairs id r =
 abbrev pub AreIndexed : List (List TableSets) → ℕ → List Rule → Type 0
 AreIndexed index tenant rules =
     (table : ℕ) (operation : Operation) (id : ℕ) →
-    stands index tenant table operation id ≡ list_any (λ rule. rule.active && ((rule.table == table) && ((rule.id == id) && names rule.triggers operation))) rules
+    stands index tenant table operation id
+    ≡ list_any (λ rule.
+    rule.active && ((rule.table == table) && ((rule.id == id) && names rule.triggers operation))) rules
+
+-- where one list of rules is indexed, so is the other
+abbrev pub StayIndexed : List Rule → List Rule → Type 0
+StayIndexed old new =
+    (index : List (List TableSets)) (tenant : ℕ) → AreIndexed index tenant old → AreIndexed index tenant new
 
 -- what the index has of other tenants stays
 abbrev pub OtherTenantsStay : ℕ → List (List TableSets) → List (List TableSets) → Type 0
-OtherTenantsStay tenant old new = (n table : ℕ) (operation : Operation) (id : ℕ) → IsFalse (n == tenant) → stands new n table operation id ≡ stands old n table operation id
+OtherTenantsStay tenant old new =
+    (n table : ℕ) (operation : Operation) (id : ℕ) → IsFalse (n == tenant) →
+    stands new n table operation id ≡ stands old n table operation id
 
 -- the order is that of the rules, by these pairs
 pub record AreOrdered (ranks : Ranks) (rules : List Rule) (pairs : List (ℕ × ℕ)) : Type 0 where
@@ -79,31 +107,55 @@ pub record AreOrdered (ranks : Ranks) (rules : List Rule) (pairs : List (ℕ × 
 
 -- ---- what the commands leave
 
+-- done, or refused
+abbrev pub Outcome : Type 0
+Outcome = Result (Unit {0}) Refusal
+
 -- a new rule is the last and active, with its pairs; or it is refused, and nothing changes
-abbrev pub Creates : Definitions → Definitions → List (ℕ × ℕ) → Name → Parts → List Name → List Name → Result (Unit {0}) Refusal → Type 0
+abbrev pub Creates : Definitions → Definitions → List (ℕ × ℕ) → Name → Parts → List Name → List Name → Outcome → Type 0
 Creates old new pairs name parts precedes follows (Ok u) =
     (more : List (ℕ × ℕ)) × (new_pairs old.rules pairs precedes follows ≡ Ok more)
-    × (new.rules ≡ created old.rules name parts) × AreOrdered new.order new.rules (pairs ++ more) × (new.rulesets ≡ old.rulesets)
+    × (new.rules ≡ created old.rules name parts)
+    × AreOrdered new.order new.rules (pairs ++ more) × (new.rulesets ≡ old.rulesets)
 Creates old new pairs name parts precedes follows (Err e) =
     ((new_pairs old.rules pairs precedes follows ≡ Err e) ⊎ (e ≡ NoMemory)) × (new ≡ old)
 
 -- the same for pairs that are known
-abbrev pub Pushes : Definitions → Definitions → List (ℕ × ℕ) → Name → Parts → List (ℕ × ℕ) → Result (Unit {0}) Refusal → Type 0
+abbrev pub Pushes : Definitions → Definitions → List (ℕ × ℕ) → Name → Parts → List (ℕ × ℕ) → Outcome → Type 0
 Pushes old new pairs name parts more (Ok u) =
-    (acyclic old.rules pairs more ≡ Ok more) × (new.rules ≡ created old.rules name parts) × AreOrdered new.order new.rules (pairs ++ more) × (new.rulesets ≡ old.rulesets)
+    (acyclic old.rules pairs more ≡ Ok more)
+    × (new.rules ≡ created old.rules name parts)
+    × AreOrdered new.order new.rules (pairs ++ more) × (new.rulesets ≡ old.rulesets)
 Pushes old new pairs name parts more (Err e) = ((acyclic old.rules pairs more ≡ Err e) ⊎ (e ≡ NoMemory)) × (new ≡ old)
 
+-- both, by whatever pairs order the rules
+
+abbrev pub CreatesInOrder : Definitions → Definitions → RuleText → Parts → Outcome → Type 0
+CreatesInOrder old new r parts result =
+    (pairs : List (ℕ × ℕ)) → AreOrdered old.order old.rules pairs →
+    Creates old new pairs r.name parts r.precedes r.follows result
+
+abbrev pub PushesInOrder : Definitions → Definitions → Name → Parts → List (ℕ × ℕ) → Outcome → Type 0
+PushesInOrder old new name parts more result =
+    (pairs : List (ℕ × ℕ)) → AreOrdered old.order old.rules pairs → Pushes old new pairs name parts more result
+
 -- a rule has its new parts and pairs, and keeps its place; or it is refused, and nothing changes
-abbrev pub Alters : Definitions → Definitions → List (ℕ × ℕ) → ℕ → AlterationText → NewParts → Result (Unit {0}) Refusal → Type 0
+abbrev pub Alters : Definitions → Definitions → List (ℕ × ℕ) → ℕ → AlterationText → NewParts → Outcome → Type 0
 Alters old new pairs id r parts (Ok u) =
     (all : List (ℕ × ℕ)) × (altered_pairs old.rules pairs id r ≡ Ok all)
     × (new.rules ≡ with_parts old.rules id parts) × AreOrdered new.order new.rules all × (new.rulesets ≡ old.rulesets)
 Alters old new pairs id r parts (Err e) = ((altered_pairs old.rules pairs id r ≡ Err e) ⊎ (e ≡ NoMemory)) × (new ≡ old)
 
+-- the same, by whatever pairs order the rules
+abbrev pub AltersInOrder : Definitions → Definitions → ℕ → AlterationText → NewParts → Outcome → Type 0
+AltersInOrder old new id r parts result =
+    (pairs : List (ℕ × ℕ)) → AreOrdered old.order old.rules pairs → Alters old new pairs id r parts result
+
 -- a rule goes with its pairs and its memberships
 pub record Drops (old new : Definitions) (id : ℕ) : Type 0 where
   pub rules : new.rules ≡ without_rule old.rules id
-  pub order : (pairs : List (ℕ × ℕ)) → AreOrdered old.order old.rules pairs → AreOrdered new.order new.rules (pairs_without id pairs)
+  pub order :
+      (pairs : List (ℕ × ℕ)) → AreOrdered old.order old.rules pairs → AreOrdered new.order new.rules (pairs_without id pairs)
   pub rulesets : new.rulesets ≡ rulesets.without_rule old.rulesets id
 
 -- a rule is made active or not
@@ -113,6 +165,9 @@ pub record SetsActive (old new : Definitions) (id : ℕ) (active : Bool) : Type 
   pub rulesets : new.rulesets ≡ old.rulesets
 
 -- the members of a ruleset change by these rules, and nothing else does; or it is refused, and nothing changes
-abbrev pub ChangesMembers : (List Bool → List ℕ → List Bool) → Definitions → Definitions → Name → Result (List ℕ) Refusal → Result (Unit {0}) Refusal → Type 0
-ChangesMembers change old new set meant (Ok u) = (ids : List ℕ) × (meant ≡ Ok ids) × (new ≡ record old { rulesets = changed (λ members. change members ids) old.rulesets set })
+abbrev pub ChangesMembers :
+    (List Bool → List ℕ → List Bool) → Definitions → Definitions → Name → Result (List ℕ) Refusal → Outcome → Type 0
+ChangesMembers change old new set meant (Ok u) =
+    (ids : List ℕ) × (meant ≡ Ok ids)
+    × (new ≡ record old { rulesets = changed (λ members. change members ids) old.rulesets set })
 ChangesMembers change old new set meant (Err e) = ((meant ≡ Err e) ⊎ (e ≡ NoMemory)) × (new ≡ old)

@@ -39,7 +39,8 @@ numbered rules id = find (λ r. r.id == id) rules
 
 -- each of the numbers is that of a rule
 abbrev pub AreThere : List Rule → List ℕ → Type 0
-AreThere rules ids = (id : ℕ) → IsTrue (list_any (λ k. k == id) ids) → IsTrue (list_any (λ k. k == id) (map (λ r. r.id) rules))
+AreThere rules ids =
+    (id : ℕ) → IsTrue (list_any (λ k. k == id) ids) → IsTrue (list_any (λ k. k == id) (map (λ r. r.id) rules))
 
 -- whether there is a rule of that name
 abbrev pub has_name : List Rule → List ℕ → Bool
@@ -78,7 +79,8 @@ rule_of id name parts = record {
 
 -- why a rule of that name is not made, the name first
 abbrev pub create_refusal : List Rule → List ℕ → Option Refusal
-create_refusal rules name = if has_name rules name then Some RuleExists else (if has_room rules then None else Some TooManyRules)
+create_refusal rules name =
+    if has_name rules name then Some RuleExists else (if has_room rules then None else Some TooManyRules)
 
 -- a new rule has the least free number and is the last
 abbrev pub created : List Rule → List ℕ → Parts → List Rule
@@ -94,7 +96,8 @@ change_numbered id change rule = if rule.id == id then change rule else rule
 
 -- a rule with its new parts, as far as they are written
 abbrev pub set_parts : NewParts → Rule → Rule
-set_parts parts rule = record rule { condition = written_or parts.0 rule.condition; actions = unwrap_or parts.1 rule.actions }
+set_parts parts rule =
+    record rule { condition = written_or parts.0 rule.condition; actions = unwrap_or parts.1 rule.actions }
 
 -- the rules with new parts for one of them, which keeps its place
 abbrev pub with_parts : List Rule → ℕ → NewParts → List Rule

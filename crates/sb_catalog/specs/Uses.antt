@@ -28,7 +28,8 @@ abbrev pub statement_names : ℕ → Statement → Bool
 statement_names id (InsertRows t rows) = t == id
 statement_names id (InsertQuery t q) = (t == id) || has_source id (query_sources q)
 statement_names id (Delete t c) = (t == id) || has_source id (sources_of c)
-statement_names id (Update t assignments c) = (t == id) || (has_source id (assignment_sources assignments) || has_source id (sources_of c))
+statement_names id (Update t assignments c) =
+    (t == id) || (has_source id (assignment_sources assignments) || has_source id (sources_of c))
 
 -- the same of an action
 abbrev pub action_names : ℕ → Action → Bool
@@ -42,7 +43,8 @@ condition_names id (Some q) = has_source id (query_sources q)
 
 -- whether a rule is on the table or names it
 abbrev pub rule_names : ℕ → Rule → Bool
-rule_names id rule = (rule.table == id) || (condition_names id rule.condition || list_any (action_names id) rule.actions)
+rule_names id rule =
+    (rule.table == id) || (condition_names id rule.condition || list_any (action_names id) rule.actions)
 
 -- whether a rule, active or not, is on the table or names it
 abbrev pub is_used : List Rule → ℕ → Bool

@@ -1,15 +1,14 @@
 //! The rules with their order, and the rulesets: what commands on them do, in step with the index.
-ghost use Rattle.std.specs.Prelude.{◌≡◌, ℕ, List, [], ◌&&◌, ◌==◌, true, false, None, Ok, Err, IsTrue, IsFalse, IfOk, OnErr, MatchOption};
+ghost use Rattle.std.specs.Prelude.{◌≡◌, ℕ, List, [], true, false, None, Ok, Err, IsTrue, IsFalse, IfOk, OnSome, OnErr};
 ghost use Rattle.sb_value.specs.Flags.{flag_at};
 ghost use Rattle.sb_check.specs.Answer.{Answers};
 ghost use Rattle.sb_check.specs.RulePartsView.{new_parts, rule_parts};
-ghost use Rattle.sb_syntax.specs.Views.{alteration};
-ghost use Rattle.sb_index.specs.TableSets.{TableSets};
+ghost use Rattle.sb_syntax.specs.Views.{alteration, rule};
 ghost use Rattle.sb_rulesets.specs.Sets.{has_name as has_ruleset};
 ghost use Rattle.sb_priority.specs.Ranks.{pairs_of};
 ghost use Rattle.sb_rulesets.specs.Members.{with_rules, without_rules};
 ghost use Rattle.sb_catalog.specs.Definitions as spec;
-ghost use Rattle.sb_catalog.specs.Definitions.{Alters, AreIndexed, AreOrdered, ChangesMembers, Creates, Drops, OtherTenantsStay, Pushes, SetsActive};
+ghost use Rattle.sb_catalog.specs.Definitions.{AltersInOrder, AreIndexed, AreOrdered, ChangesMembers, CreatesInOrder, Drops, GivesActiveMembers, GivesActiveRule, OtherTenantsStay, PushesInOrder, SetsActive, StayIndexed, members};
 ghost use Rattle.sb_catalog.specs.Rules.{AreThere, free_rule, has_name, has_room, numbered, rule_named, is_active};
 
 use crate::catalog::Catalog;
@@ -17,7 +16,7 @@ use sb_check::{NewParts, RuleParts};
 use sb_index::RuleIndex;
 use sb_priority::Priorities;
 use sb_rulesets::Rulesets;
-use sb_syntax::AlterationText;
+use sb_syntax::{AlterationText, RuleText};
 use sb_value::{Name, Refusal, RuleId, RuleSet, TenantId};
 use std::alloc::Global;
 
@@ -43,32 +42,30 @@ impl Definitions {
         }
     }
 
-    /// Adds an active rule that precedes those of the one list and follows those of the other.
+    /// Adds an active rule of these parts, with the name and the pairs of its text.
     /// Room in the index is had before the rules change.
     pub fn create_rule(
         &mut self,
         alloc: Global,
         index: &mut RuleIndex,
         tenant: TenantId,
-        name: Name,
+        text: &RuleText,
         parts: RuleParts,
-        precedes: &[Name],
-        follows: &[Name],
     ) -> Result<(), Refusal>
-        requires new_name { IsFalse (has_name self.old.rules name) }
+        requires new_name { IsFalse (has_name self.old.rules text.now.name) }
         requires ordered { (pairs : List (ℕ × ℕ)) × AreOrdered self.old.order self.old.rules pairs }
-        ensures created { (pairs : List (ℕ × ℕ)) → AreOrdered self.old.order self.old.rules pairs → Creates self.old self.new pairs name (rule_parts parts) precedes.now follows.now result }
+        ensures created { CreatesInOrder self.old self.new (rule text.now) (rule_parts parts) result }
         ensures indexed { AreIndexed index.old tenant self.old.rules → AreIndexed index.new tenant self.new.rules }
         ensures others { OtherTenantsStay tenant index.old index.new }
     {
-        let before = match self.numbers(alloc, precedes) {
+        let before = match self.numbers(alloc, text.precedes.as_slice()) {
             Ok(before) => before,
             Err(refusal) => {
                 drop(parts);
                 return Err(refusal);
             }
         };
-        let after = match self.numbers(alloc, follows) {
+        let after = match self.numbers(alloc, text.follows.as_slice()) {
             Ok(after) => after,
             Err(refusal) => {
                 drop(parts);
@@ -84,7 +81,7 @@ impl Definitions {
             drop(parts);
             return Err(Refusal::NoMemory);
         };
-        match self.push_rule(rule, name, parts, before.as_slice(), after.as_slice()) {
+        match self.push_rule(rule, text.name, parts, before.as_slice(), after.as_slice()) {
             Ok(()) => Ok(()),
             Err(refusal) => {
                 index.drop_rule(tenant, rule);
@@ -108,7 +105,7 @@ impl Definitions {
         requires room { IsTrue (has_room self.old.rules) }
         requires ordered { (pairs : List (ℕ × ℕ)) × AreOrdered self.old.order self.old.rules pairs }
         requires others { AreThere self.old.rules before.now }
-        ensures { (pairs : List (ℕ × ℕ)) → AreOrdered self.old.order self.old.rules pairs → Pushes self.old self.new pairs name (rule_parts parts) (pairs_of rule before.now after.now) result }
+        ensures { PushesInOrder self.old self.new name (rule_parts parts) (pairs_of rule before.now after.now) result }
     {
         if self.order.closes_cycle(rule, before, after) {
             drop(parts);
@@ -140,8 +137,8 @@ impl Definitions {
     ) -> Result<(), Refusal>
         requires named { rule_named self.old.rules text.now.name ≡ Ok rule }
         requires ordered { (pairs : List (ℕ × ℕ)) × AreOrdered self.old.order self.old.rules pairs }
-        ensures altered { (pairs : List (ℕ × ℕ)) → AreOrdered self.old.order self.old.rules pairs → Alters self.old self.new pairs rule (alteration text.now) (new_parts parts) result }
-        ensures indexed { (index : List (List TableSets)) (tenant : ℕ) → AreIndexed index tenant self.old.rules → AreIndexed index tenant self.new.rules }
+        ensures altered { AltersInOrder self.old self.new rule (alteration text.now) (new_parts parts) result }
+        ensures indexed { StayIndexed self.old.rules self.new.rules }
     {
         let before = match self.numbers(alloc, text.precedes.as_slice()) {
             Ok(before) => before,
@@ -265,7 +262,7 @@ impl Definitions {
 
     /// Puts the rules of these names into the ruleset.
     pub fn add_rules(&mut self, alloc: Global, set: &Name, names: &[Name]) -> Result<(), Refusal>
-        ensures { ChangesMembers with_rules self.old self.new set.now (spec.members_named self.old.rulesets self.old.rules set.now names.now) result }
+        ensures { ChangesMembers with_rules self.old self.new set.now (members self.old set.now names.now) result }
     {
         let members = match self.members(alloc, set, names) {
             Ok(members) => members,
@@ -276,7 +273,7 @@ impl Definitions {
 
     /// Takes the rules of these names out of the ruleset.
     pub fn del_rules(&mut self, alloc: Global, set: &Name, names: &[Name]) -> Result<(), Refusal>
-        ensures { ChangesMembers without_rules self.old self.new set.now (spec.members_named self.old.rulesets self.old.rules set.now names.now) result }
+        ensures { ChangesMembers without_rules self.old self.new set.now (members self.old set.now names.now) result }
     {
         let members = match self.members(alloc, set, names) {
             Ok(members) => members,
@@ -287,7 +284,7 @@ impl Definitions {
 
     /// The numbers of rules that are named beside a ruleset.
     fn members(&self, alloc: Global, set: &Name, names: &[Name]) -> Result<Vec<RuleId>, Refusal>
-        ensures { Answers (λ ids. ids.items) (spec.members_named self.now.rulesets self.now.rules set.now names.now) result }
+        ensures { Answers (λ ids. ids.items) (members self.now set.now names.now) result }
     {
         if !self.rulesets.has(set) {
             return Err(Refusal::NoRuleset);
@@ -304,7 +301,8 @@ impl Definitions {
 
     /// The active rules of a ruleset.
     pub fn active_members(&self, set: &Name) -> Option<RuleSet>
-        ensures { MatchOption result (IsFalse (has_ruleset self.now.rulesets set.now)) (λ rules. (id : ℕ) → flag_at rules id ≡ (is_active self.now.rules id && spec.is_member self.now.rulesets set.now id)) }
+        ensures known { OnSome result (IsTrue (has_ruleset self.now.rulesets set.now)) }
+        ensures members { GivesActiveMembers self.now set.now result }
     {
         match self.rulesets.members(set) {
             Some(members) => Some(self.active().intersection(members)),
@@ -314,7 +312,7 @@ impl Definitions {
 
     /// The rule of that name alone, if it is active.
     pub fn active_rule(&self, name: &Name) -> Option<RuleSet>
-        ensures { MatchOption result (rule_named self.now.rules name.now ≡ Err Refusal.NoRule) (λ rules. (r : ℕ) × (rule_named self.now.rules name.now ≡ Ok r) × ((id : ℕ) → flag_at rules id ≡ ((id == r) && is_active self.now.rules id))) }
+        ensures { GivesActiveRule self.now name.now result }
     {
         match self.rules.find(name) {
             Some(rule) => Some(RuleSet::empty().with(rule.id).intersection(self.active())),

@@ -1,15 +1,32 @@
 //! Whether statements and queries name a table.
-ghost use Rattle.std.specs.Prelude.{◌≡◌};
+ghost use Rattle.std.specs.Prelude.{◌≡◌, ◌||◌};
 ghost use Rattle.std.specs.List.{list_any};
-ghost use Rattle.sb_check.specs.Mentions.{sources_of, operand_sources, query_sources, assignment_sources};
+ghost use Rattle.sb_check.specs.Mentions.{mentioned, query_sources};
 ghost use Rattle.sb_catalog.specs.Uses as spec;
 ghost use Rattle.sb_catalog.specs.Uses.{has_source};
 
 use crate::rule::Rule;
-use sb_check::{
-    Action, Assignment, Condition, ConditionNode, Operand, OperandNode, Query, Source, Statement,
-};
+use sb_check::{Action, Query, Source, Statement, Visitor, visit_query, visit_statement};
 use sb_value::TableId;
+use std::convert::Infallible;
+
+/// A search for a table among the sources that are shown.
+#[derive(Drop)]
+struct Search {
+    table: TableId,
+    is_found: bool,
+}
+
+impl Visitor for Search {
+    type Stop = Infallible;
+
+    ghost after = { λ s source. record s { is_found = s.is_found || spec.is_table s.table source } };
+
+    fn visit(&mut self, source: Source) -> Result<(), Infallible> {
+        self.is_found = self.is_found || is_table(self.table, source);
+        Ok(())
+    }
+}
 
 /// Whether a rule is on the table or names it.
 pub(crate) fn rule_names(table: TableId, rule: &Rule) -> bool
@@ -44,70 +61,35 @@ fn action_names(table: TableId, action: &Action) -> bool
     }
 }
 
+#[tactic(auto, using(crate::proofs::Sought::named_by))]
 fn statement_names(table: TableId, statement: &Statement) -> bool
     ensures { result ≡ spec.statement_names table statement.now }
 {
-    match statement {
-        Statement::InsertRows(target, _) => *target == table,
-        Statement::InsertQuery(target, query) => *target == table || query_names(table, query),
-        Statement::Delete(target, condition) => {
-            *target == table || condition_names(table, condition)
-        }
-        Statement::Update(target, assignments, condition) => {
-            *target == table
-                || assignments_name(table, assignments.as_slice())
-                || condition_names(table, condition)
-        }
-    }
+    statement.target() == table || mentions(table, statement)
 }
 
-fn assignments_name(table: TableId, assignments: &[Assignment]) -> bool
-    ensures { result ≡ has_source table (assignment_sources assignments.now) }
+#[tactic(auto, using(crate::proofs::Sought::sought))]
+fn mentions(table: TableId, statement: &Statement) -> bool
+    ensures { result ≡ has_source table (mentioned statement.now) }
 {
-    match assignments {
-        [] => false,
-        [first, rest @ ..] => {
-            operand_names(table, &first.operand) || assignments_name(table, rest)
-        }
-    }
+    let mut search = Search {
+        table,
+        is_found: false,
+    };
+    let Ok(()) = visit_statement(statement, &mut search);
+    search.is_found
 }
 
-#[cycle(mentions)]
-fn condition_names(table: TableId, condition: &Condition) -> bool
-    ensures { result ≡ has_source table (sources_of condition.now) }
-{
-    match &condition.node {
-        ConditionNode::Always => false,
-        ConditionNode::Disjunction(a, b) => condition_names(table, a) || condition_names(table, b),
-        ConditionNode::Conjunction(a, b) => condition_names(table, a) || condition_names(table, b),
-        ConditionNode::Negation(a) => condition_names(table, a),
-        ConditionNode::Compare(_, _, b) => operand_names(table, b),
-        ConditionNode::In(_, query) => query_names(table, query),
-        ConditionNode::Exists(query) => query_names(table, query),
-    }
-}
-
-#[cycle(mentions)]
-fn operand_names(table: TableId, operand: &Operand) -> bool
-    ensures { result ≡ has_source table (operand_sources operand.now) }
-{
-    match &operand.node {
-        OperandNode::Expression(_) => false,
-        OperandNode::ScalarSubquery(query) => query_names(table, query),
-    }
-}
-
-#[cycle(mentions)]
+#[tactic(auto, using(crate::proofs::Sought::sought))]
 fn query_names(table: TableId, query: &Query) -> bool
     ensures { result ≡ has_source table (query_sources query.now) }
 {
-    sources_name(table, query.sources.as_slice()) || condition_names(table, &query.condition)
-}
-
-fn sources_name(table: TableId, sources: &[Source]) -> bool
-    ensures { result ≡ has_source table sources.now }
-{
-    sources.iter().any(|source| is_table(table, *source))
+    let mut search = Search {
+        table,
+        is_found: false,
+    };
+    let Ok(()) = visit_query(query, &mut search);
+    search.is_found
 }
 
 fn is_table(table: TableId, source: Source) -> bool

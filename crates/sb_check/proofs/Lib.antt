@@ -12,3 +12,4 @@ mod SourceTypes
 mod Presence
 mod Seeing
 mod SameName
+mod Shown

@@ -43,3 +43,7 @@ abbrev pub IsRefused : {X : Type 0} → Refusal → Result X Fault → Type 0
 IsRefused e (Ok x) = ⊥
 IsRefused e (Err (Refused r)) = refusal_of r ≡ e
 IsRefused e (Err NoMemory) = ⊥
+
+-- what the walk refuses is refused so, even where memory would run out
+abbrev pub IsRefusedFirst : {A X : Type 0} → Result A Refusal → Result X Fault → Type 0
+IsRefusedFirst walk result = (e : Refusal) → walk ≡ Err e → IsRefused e result

@@ -56,8 +56,10 @@ expression_from (node n a b) = binary (expression_from a) (arithmetic_at n) (exp
 pub expression_from-tree_of : (e : Expression) → expression_from (tree_of e) ≡ e
 expression_from-tree_of (literal v) = refl
 expression_from-tree_of (column c) = refl
-expression_from-tree_of (binary a op b) = λ i. binary (expression_from-tree_of a i) (arithmetic_at-number_of op i) (expression_from-tree_of b i)
+expression_from-tree_of (binary a op b) =
+    λ i. binary (expression_from-tree_of a i) (arithmetic_at-number_of op i) (expression_from-tree_of b i)
 
 abbrev pub coded_expression : Coded Expression
 coded_expression =
-    code_by (Tree (Value ⊎ Column)) (coded_tree (coded⊎ value.the_row.coded column_place.the_row.coded)) tree_of expression_from expression_from-tree_of
+    code_by (Tree (Value ⊎ Column)) (coded_tree (coded⊎ value.the_row.coded column_place.the_row.coded))
+    tree_of expression_from expression_from-tree_of

@@ -6,6 +6,7 @@ use Rattle.sb_value.specs.declared.value.ColumnType.TheVariants.{Int}
 use Rattle.sb_value.specs.declared.value.ColumnDefinition.{ColumnDefinition}
 use Rattle.sb_value.specs.declared.net.Triggers.{Triggers}
 use Rattle.sb_syntax.specs.declared.tree.TableReference.{TableReference}
+use Rattle.sb_syntax.specs.Tree as text
 use Rattle.sb_check.specs.Expression.{Expression, literal, column, binary}
 use Rattle.sb_check.specs.Condition.{Condition, always, disjunction, conjunction, negation, compare, is_in, exists, Operand, expression, scalar_subquery, Query, select}
 use Rattle.sb_check.specs.declared.tree.Column.{Column}
@@ -18,7 +19,7 @@ use Rattle.sb_check.specs.declared.tree.Statement.{Statement}
 use Rattle.sb_check.specs.declared.tree.Statement.TheVariants.{InsertRows, InsertQuery, Delete, Update}
 use Rattle.sb_check.specs.declared.tree.Action.{Action}
 use Rattle.sb_check.specs.declared.tree.Action.TheVariants as action
-use Rattle.sb_check.specs.Resolved.{Resolved, plain, new_table, table, rule, query, change}
+use Rattle.sb_check.specs.Resolved.{Resolved, plain, new_table, table, rule, query, change, walk_names}
 use Rattle.sb_check.specs.RuleParts.{Parts, in_rule}
 use Rattle.sb_check.specs.Walk.{Schema, type_of, walk_table}
 
@@ -78,7 +79,8 @@ module _ (types_of : Source → List ColumnType) where
     -- a query gives columns of these types
     pub QueryFits : Types → Query → List ColumnType → Type 0
     QueryFits types (select items sources c) ts =
-        Lists (map types_of sources ∷ types) (map types_of sources) items ts × ConditionFits (map types_of sources ∷ types) c
+        Lists (map types_of sources ∷ types) (map types_of sources) items ts
+        × ConditionFits (map types_of sources ∷ types) c
 
   -- what the condition and the operands of a delete or an update see: one row of the table
   abbrev pub row_types : ℕ → Types
@@ -93,7 +95,8 @@ module _ (types_of : Source → List ColumnType) where
   abbrev pub AssignmentsFit : ℕ → List Assignment → Type 0
   AssignmentsFit id [] = Unit {0}
   AssignmentsFit id (a ∷ rest) =
-      ((t : ColumnType) × (slice_get (types_of (Table id)) a.place ≡ Some t) × OperandFits (row_types id) a.operand t) × AssignmentsFit id rest
+      ((t : ColumnType) × (slice_get (types_of (Table id)) a.place ≡ Some t) × OperandFits (row_types id) a.operand t)
+      × AssignmentsFit id rest
 
   abbrev pub StatementFits : Statement → Type 0
   StatementFits (InsertRows id rows) = RowsFit id rows
@@ -114,7 +117,8 @@ module _ (types_of : Source → List ColumnType) where
 -- the columns of each source that may be named have these types; there are such types where numbers tell columns
 abbrev pub AreTypesOf : Schema → (Source → List ColumnType) → Type 0
 AreTypesOf schema types_of =
-    (table : TableReference) (s : Source × List ColumnDefinition) → walk_table schema table ≡ Ok s → types_of s.0 ≡ map (λ c. c.of) s.1
+    (table : TableReference) (s : Source × List ColumnDefinition) → walk_table schema table ≡ Ok s →
+    types_of s.0 ≡ map (λ c. c.of) s.1
 
 -- there are such types
 abbrev pub HasTypes : Schema → Type 0
@@ -129,7 +133,8 @@ abbrev pub PartsFit : Schema → Parts → Type 0
 PartsFit schema parts =
     (columns : List ColumnDefinition)
     × ((types_of : Source → List ColumnType) → AreTypesOf (in_rule schema columns parts.1) types_of
-    → (types_of (Table parts.0) ≡ map (λ c. c.of) columns) × RuleConditionFits types_of parts.2 × ActionsFit types_of parts.3)
+    → (types_of (Table parts.0) ≡ map (λ c. c.of) columns)
+    × RuleConditionFits types_of parts.2 × ActionsFit types_of parts.3)
 
 -- a resolved command fits the tables, whatever their columns' types
 unfoldable pub Fits : Schema → Resolved → Type 0
@@ -137,5 +142,14 @@ Fits schema plain = Unit {0}
 Fits schema new_table = Unit {0}
 Fits schema (table id) = Unit {0}
 Fits schema (rule parts) = PartsFit schema parts
-Fits schema (query q) = (types_of : Source → List ColumnType) → AreTypesOf schema types_of → (ts : List ColumnType) × QueryFits types_of [] q ts
-Fits schema (change s) = (types_of : Source → List ColumnType) → AreTypesOf schema types_of → StatementFits types_of s
+Fits schema (query q) =
+    (types_of : Source → List ColumnType) → AreTypesOf schema types_of →
+    (ts : List ColumnType) × QueryFits types_of [] q ts
+Fits schema (change s) =
+    (types_of : Source → List ColumnType) → AreTypesOf schema types_of → StatementFits types_of s
+
+-- each command that is resolved fits the tables
+abbrev pub ResolvedCommandsFit : Type 0
+ResolvedCommandsFit =
+    (names : Schema) (command : text.Command) (outcome : Resolved) → walk_names names command ≡ Ok outcome →
+    Fits names outcome

@@ -1,5 +1,5 @@
 -- What a schema lends of its tables and of the rule.
-use Rattle.std.specs.Prelude.{◌≡◌, ℕ, List, find, Some, Result, Ok, Err}
+use Rattle.std.specs.Prelude.{◌≡◌, ℕ, List, find, Option, Some, option_map, Result, Ok, Err}
 use Rattle.sb_value.specs.declared.value.ColumnDefinition.{ColumnDefinition}
 use Rattle.sb_value.specs.declared.net.Triggers.{Triggers}
 use Rattle.sb_value.specs.Name.{same_name}
@@ -20,13 +20,19 @@ SeenTable = ℕ × List ℕ × List ColumnDefinition
 abbrev pub table_seen : Entry → SeenTable
 table_seen e = (e.id, e.name, e.table.columns)
 
+-- what is seen of the table of a name
+abbrev pub seen_named : List Entry → List ℕ → Option SeenTable
+seen_named tables name = option_map table_seen (find (λ e. same_name e.name name) tables)
+
 -- a table as it is lent
 abbrev pub table_lent : TableEntry → SeenTable
 table_lent t = (t.id, t.name, t.columns.now)
 
 -- a table's number tells its columns, whatever name it was found by
 abbrev pub NumbersTellColumns : List Entry → Type 0
-NumbersTellColumns tables = (name : List ℕ) (e : Entry) → find (λ t. same_name t.name name) tables ≡ Some e → (table_at tables e.id).columns ≡ e.table.columns
+NumbersTellColumns tables =
+    (name : List ℕ) (e : Entry) → find (λ t. same_name t.name name) tables ≡ Some e →
+    (table_at tables e.id).columns ≡ e.table.columns
 
 -- a rule as it is lent
 abbrev pub rule_lent : RuleEntry → List ColumnDefinition × Triggers

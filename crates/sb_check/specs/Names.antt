@@ -99,7 +99,8 @@ source_named i (v ∷ vs) table = if same_table v.name table then Some (i, v.col
 -- the column of that name in one source
 abbrev pub column_of_source : ℕ → ℕ × List ColumnDefinition → Name → Result (Column × ColumnType) Refusal
 column_of_source depth s name =
-    and_then (some_or refusal.NoColumn (column_in s.1 name)) (λ c. Ok (record { depth = depth; source = s.0; place = c.0 }, c.1))
+    and_then (some_or refusal.NoColumn (column_in s.1 name)) (λ c.
+    Ok (record { depth = depth; source = s.0; place = c.0 }, c.1))
 
 -- a qualified name: of the innermost place with a source of that visible name
 abbrev pub qualified_column : ℕ → Scope → TableReference → Name → Result (Column × ColumnType) Refusal

@@ -1,6 +1,7 @@
 -- The scopes of the program as the walk's.
 use Rattle.std.specs.Prelude.{List, [], ◌∷◌, Option, Some, None, Result, Ok, Err}
 use Rattle.sb_value.specs.declared.value.ColumnType.{ColumnType}
+use Rattle.sb_value.specs.declared.value.ColumnType.TheVariants.{Int}
 use Rattle.sb_value.specs.declared.refusal.Refusal.{Refusal}
 use Rattle.sb_value.specs.declared.refusal.Refusal.TheVariants as refusal
 use Rattle.sb_check.specs.declared.tree.Column.{Column}
@@ -41,6 +42,10 @@ typed_part t = (t.tree.value, t.of)
 -- expressions with their types
 abbrev pub typed_list : TypedList → List Expression × List ColumnType
 typed_list t = (t.trees, t.types)
+
+-- items whose only column is of integers
+abbrev pub of_integer : Items → Items × List ColumnType
+of_integer i = (i, Int ∷ [])
 
 -- items with the types of their columns
 abbrev pub listed : Listed → Items × List ColumnType

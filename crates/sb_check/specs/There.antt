@@ -1,11 +1,14 @@
 -- What a resolved command names is there: each table that it has as a target or a source is one of the tables.
-use Rattle.std.specs.Prelude.{◌≡◌, ℕ, List, [], ◌∷◌, ◌++◌, length, Option, None, Some, IsTrue}
+use Rattle.std.specs.Prelude.{◌≡◌, ℕ, List, [], ◌∷◌, ◌++◌, length, Option, None, Some, Ok, IsTrue}
+use Rattle.sb_value.specs.declared.net.Triggers.{Triggers}
+use Rattle.sb_value.specs.declared.value.ColumnDefinition.{ColumnDefinition}
 use Rattle.sb_value.specs.Table.{Entry, has_table}
 use Rattle.sb_syntax.specs.Tree.{RuleText, AlterationText}
 use Rattle.sb_syntax.specs.Tree as text
 use Rattle.sb_check.specs.Condition.{Query}
 use Rattle.sb_check.specs.Mentions.{sources_of, query_sources, assignment_sources}
-use Rattle.sb_check.specs.RuleParts.{Parts, NewParts}
+use Rattle.sb_check.specs.RuleParts.{Parts, NewParts, walk_alteration, walk_parts}
+use Rattle.sb_check.specs.Walk.{Schema, Walked, walk_query, walk_statement}
 use Rattle.sb_check.specs.declared.tree.Source.{Source}
 use Rattle.sb_check.specs.declared.tree.Source.TheVariants.{Table, Inserted, Deleted, OldUpdated, NewUpdated}
 use Rattle.sb_check.specs.declared.tree.Statement.{Statement}
@@ -64,3 +67,25 @@ module _ (tables : List Entry) where
   pub record AreNewPartsThere (r : AlterationText) (parts : NewParts) : Type 0 where
     pub condition : IsConditionThere parts.0
     pub actions : AreNewActionsThere r.actions parts.1
+
+-- ---- what is resolved is there
+
+abbrev pub ResolvedQueriesAreThere : Type 0
+ResolvedQueriesAreThere =
+    (names : Schema) (q : text.Query) (w : Walked) → walk_query names q [] ≡ Ok w →
+    AreThere names.tables (query_sources w.0)
+
+abbrev pub ResolvedStatementsAreThere : Type 0
+ResolvedStatementsAreThere =
+    (names : Schema) (c : text.Statement) (s : Statement) → walk_statement names c ≡ Ok s →
+    IsStatementThere names.tables s
+
+abbrev pub ResolvedRulesAreThere : Type 0
+ResolvedRulesAreThere =
+    (names : Schema) (r : RuleText) (parts : Parts) → walk_parts names r ≡ Ok parts →
+    ArePartsThere names.tables r parts
+
+abbrev pub ResolvedAlterationsAreThere : Type 0
+ResolvedAlterationsAreThere =
+    (names : Schema) (columns : List ColumnDefinition) (triggers : Triggers) (r : AlterationText) (parts : NewParts) →
+    walk_alteration names columns triggers r ≡ Ok parts → AreNewPartsThere names.tables r parts

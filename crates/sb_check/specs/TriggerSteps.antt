@@ -12,14 +12,16 @@ use Rattle.sb_check.specs.Triggers.{place_named}
 -- the set with the places of columns
 abbrev pub with_names : List ColumnDefinition → List Bool → List Name → Result (List Bool) Refusal
 with_names columns set [] = Ok set
-with_names columns set (n ∷ ns) = and_then (place_named columns n) (λ place. with_names columns (with_place set place) ns)
+with_names columns set (n ∷ ns) =
+    and_then (place_named columns n) (λ place. with_names columns (with_place set place) ns)
 
 -- the triggers with one more
 abbrev pub with_trigger : List ColumnDefinition → Triggers → Trigger → Result Triggers Refusal
 with_trigger columns t on_insert = Ok (record t { inserted = true })
 with_trigger columns t on_delete = Ok (record t { deleted = true })
 with_trigger columns t on_update = Ok (record t { updated = true })
-with_trigger columns t (on_update_of names) = and_then (with_names columns t.columns names) (λ set. Ok (record t { columns = set }))
+with_trigger columns t (on_update_of names) =
+    and_then (with_names columns t.columns names) (λ set. Ok (record t { columns = set }))
 
 -- the triggers with others in order
 abbrev pub with_triggers : List ColumnDefinition → Triggers → List Trigger → Result Triggers Refusal

@@ -46,13 +46,23 @@ abbrev pub type_of : Value → ColumnType
 type_of (value.Int z) = Int
 type_of (value.Text t) = Text
 
+-- a walked expression, with its type
+abbrev pub Typed : Type 0
+Typed = Expression × ColumnType
+
+-- both sides are integers
+abbrev pub joined : Arithmetic → Typed → Typed → Result Typed Refusal
+joined op x y = required (same_type x.1 Int && same_type y.1 Int) refusal.BadType (Ok (binary x.0 op y.0, Int))
+
 -- both sides are walked, and then are integers
-abbrev pub of_integers : Arithmetic → Result (Expression × ColumnType) Refusal → Result (Expression × ColumnType) Refusal → Result (Expression × ColumnType) Refusal
+abbrev pub of_integers : Arithmetic → Result Typed Refusal → Result Typed Refusal → Result Typed Refusal
 of_integers op a b =
-    and_then a (λ x. and_then b (λ y. required (same_type x.1 Int && same_type y.1 Int) refusal.BadType (Ok (binary x.0 op y.0, Int))))
+    and_then a (λ x.
+    and_then b (λ y.
+    joined op x y))
 
 -- an expression from left to right, with its type
-abbrev pub walk_expression : Scope → text.Expression → Result (Expression × ColumnType) Refusal
+abbrev pub walk_expression : Scope → text.Expression → Result Typed Refusal
 walk_expression scope (text.literal v) = Ok (literal v, type_of v)
 walk_expression scope (text.column c) = and_then (column_named scope c) (λ p. Ok (column p.0, p.1))
 walk_expression scope (text.binary a op b) = of_integers op (walk_expression scope a) (walk_expression scope b)
@@ -103,12 +113,14 @@ abbrev pub walk_items : Scope → List Visible → text.Items → Result (Items 
 walk_items scope sources text.all = Ok (items.All, flat_map (λ v. map (λ c. c.of) v.columns) sources)
 walk_items scope sources text.count = Ok (items.Count, Int ∷ [])
 walk_items scope sources (text.sum_of e) =
-    and_then (walk_expression scope e) (λ x. required (same_type x.1 Int) refusal.BadType (Ok (items.Sum x.0, Int ∷ [])))
+    and_then (walk_expression scope e) (λ x.
+    required (same_type x.1 Int) refusal.BadType (Ok (items.Sum x.0, Int ∷ [])))
 walk_items scope sources (text.each_of es) =
     and_then (in_order (walk_expression scope) es) (λ xs. Ok (items.Each (map (λ x. x.0) xs), map (λ x. x.1) xs))
 
 -- the sources, the items, and the condition, whose walk is given
-abbrev pub walk_select : Schema → text.Items → List SourceReference → (Scope → Result Condition Refusal) → Scope → Result Walked Refusal
+abbrev pub walk_select :
+    Schema → text.Items → List SourceReference → (Scope → Result Condition Refusal) → Scope → Result Walked Refusal
 walk_select schema its sources filter scope =
     and_then (walk_sources schema [] sources) (λ ss.
     let seen = map (λ s. s.1) ss in
@@ -152,18 +164,31 @@ module _ (schema : Schema) where
   abbrev mutual
     -- a condition from left to right
     pub walk_condition : text.Condition → Scope → Result Condition Refusal
-    walk_condition (text.disjunction a b) scope = and_then (walk_condition a scope) (λ x. and_then (walk_condition b scope) (λ y. Ok (disjunction x y)))
-    walk_condition (text.conjunction a b) scope = and_then (walk_condition a scope) (λ x. and_then (walk_condition b scope) (λ y. Ok (conjunction x y)))
+    walk_condition (text.disjunction a b) scope =
+        and_then (walk_condition a scope) (λ x.
+        and_then (walk_condition b scope) (λ y.
+        Ok (disjunction x y)))
+    walk_condition (text.conjunction a b) scope =
+        and_then (walk_condition a scope) (λ x.
+        and_then (walk_condition b scope) (λ y.
+        Ok (conjunction x y)))
     walk_condition (text.negation a) scope = and_then (walk_condition a scope) (λ x. Ok (negation x))
     walk_condition (text.compare a op b) scope =
-        and_then (walk_expression scope a) (λ x. and_then (walk_operand b scope) (λ y. required (same_type x.1 y.1) refusal.BadType (Ok (compare x.0 op y.0))))
+        and_then (walk_expression scope a) (λ x.
+        and_then (walk_operand b scope) (λ y.
+        required (same_type x.1 y.1) refusal.BadType (Ok (compare x.0 op y.0))))
     walk_condition (text.is_in a has_not q) scope =
-        and_then (walk_expression scope a) (λ x. and_then (walk_query q scope) (λ w. and_then (in_type x.1 w.1) (λ _. Ok (with_not has_not (is_in x.0 w.0)))))
+        and_then (walk_expression scope a) (λ x.
+        and_then (walk_query q scope) (λ w.
+        and_then (in_type x.1 w.1) (λ _.
+        Ok (with_not has_not (is_in x.0 w.0)))))
     walk_condition (text.exists q) scope = and_then (walk_query q scope) (λ w. Ok (exists w.0))
 
     pub walk_operand : text.Operand → Scope → Result (Operand × ColumnType) Refusal
     walk_operand (text.expression e) scope = and_then (walk_expression scope e) (λ x. Ok (expression x.0, x.1))
-    walk_operand (text.scalar_subquery q) scope = and_then (walk_query q scope) (λ w. required (has_aggregate q) refusal.WrongCount (Ok (scalar_subquery w.0, Int)))
+    walk_operand (text.scalar_subquery q) scope =
+        and_then (walk_query q scope) (λ w.
+        required (has_aggregate q) refusal.WrongCount (Ok (scalar_subquery w.0, Int)))
 
     pub walk_filter : text.Filter → Scope → Result Condition Refusal
     walk_filter text.everything scope = Ok always
@@ -171,6 +196,10 @@ module _ (schema : Schema) where
 
     pub walk_query : text.Query → Scope → Result Walked Refusal
     walk_query (text.select its sources filter) scope = walk_select schema its sources (walk_filter filter) scope
+
+  -- a query that stands alone
+  abbrev pub walk_alone : text.Query → Result Query Refusal
+  walk_alone q = and_then (walk_query q []) (λ w. Ok w.0)
 
   -- ---- statements
 
@@ -191,14 +220,23 @@ module _ (schema : Schema) where
   -- a statement: its table, and then its rows, its query, or its assignments and its condition
   abbrev pub walk_statement : text.Statement → Result Statement Refusal
   walk_statement (text.insert_rows name rows) =
-      and_then (table_named schema name) (λ e. and_then (in_order (λ row. fitting (map type_of row) e.table.columns) rows) (λ _. Ok (InsertRows e.id rows)))
+      and_then (table_named schema name) (λ e.
+      and_then (in_order (λ row. fitting (map type_of row) e.table.columns) rows) (λ _.
+      Ok (InsertRows e.id rows)))
   walk_statement (text.insert_query name q) =
-      and_then (table_named schema name) (λ e. and_then (walk_query q []) (λ w. and_then (fitting w.1 e.table.columns) (λ _. Ok (InsertQuery e.id w.0))))
+      and_then (table_named schema name) (λ e.
+      and_then (walk_query q []) (λ w.
+      and_then (fitting w.1 e.table.columns) (λ _.
+      Ok (InsertQuery e.id w.0))))
   walk_statement (text.delete name filter) =
-      and_then (table_named schema name) (λ e. and_then (walk_filter filter (visible_table e)) (λ c. Ok (Delete e.id c)))
+      and_then (table_named schema name) (λ e.
+      and_then (walk_filter filter (visible_table e)) (λ c.
+      Ok (Delete e.id c)))
   walk_statement (text.update name assignments filter) =
-      and_then (table_named schema name) (λ e. and_then (walk_assignments e [] assignments) (λ places.
-      and_then (walk_filter filter (visible_table e)) (λ c. Ok (Update e.id places c))))
+      and_then (table_named schema name) (λ e.
+      and_then (walk_assignments e [] assignments) (λ places.
+      and_then (walk_filter filter (visible_table e)) (λ c.
+      Ok (Update e.id places c))))
 
   -- an action of a rule
   abbrev pub walk_action : text.Action → Result Action Refusal

@@ -5,7 +5,7 @@ ghost use Rattle.sb_value.specs.Name.{same_name};
 ghost use Rattle.sb_check.specs.Answer.{Answers};
 ghost use Rattle.sb_check.specs.Fits.{Fits, HasTypesInRules};
 ghost use Rattle.sb_check.specs.Resolved.{named_twice, new_table, resolved, walk_names};
-ghost use Rattle.sb_syntax.specs.Tree as tree;
+ghost use Rattle.sb_syntax.specs.Tree.{create_table, drop_table};
 ghost use Rattle.sb_syntax.specs.Views as view;
 
 use crate::parts::{resolve_query, resolve_rule, resolve_statement};
@@ -80,7 +80,7 @@ pub fn resolve_new_table<S: Schema>(
     columns: &[ColumnDefinition],
     schema: &S,
 ) -> Result<(), Refusal>
-    ensures { Answers (λ u. new_table) (walk_names (S.names schema.now) (tree.create_table name.now columns.now)) result }
+    ensures { Answers (λ u. new_table) (walk_names (S.names schema.now) (create_table name.now columns.now)) result }
 {
     if has_table(schema, name) {
         return Err(Refusal::TableExists);
@@ -102,7 +102,7 @@ fn has_table<S: Schema>(schema: &S, name: &Name) -> bool
 }
 
 fn old_table<S: Schema>(name: &Name, schema: &S) -> Result<Resolved, Refusal>
-    ensures { Answers resolved (walk_names (S.names schema.now) (tree.drop_table name.now)) result }
+    ensures { Answers resolved (walk_names (S.names schema.now) (drop_table name.now)) result }
 {
     match schema.table(name) {
         Some(table) => Ok(Resolved::Table(table.id)),

@@ -1,13 +1,11 @@
 //! Expressions, walked from left to right.
-ghost use Rattle.std.specs.Prelude.{◌≡◌, ◌&&◌, Ok, IfOk};
+ghost use Rattle.std.specs.Prelude.{◌≡◌, Ok, IfOk};
 ghost use Rattle.sb_check.specs.Answer.{Gives};
 ghost use Rattle.sb_check.specs.Expression as tree;
-ghost use Rattle.sb_check.specs.Names.{required, same_type};
 ghost use Rattle.sb_check.specs.Scopes.{scope_of, found, typed, typed_part};
 ghost use Rattle.sb_check.specs.Walk as spec;
 ghost use Rattle.sb_syntax.specs.Tree as text;
 ghost use Rattle.sb_syntax.specs.Views as view;
-ghost use Rattle.sb_value.specs.declared.refusal.Refusal.TheVariants.{BadType};
 ghost use Rattle.sb_value.specs.declared.value.ColumnType.TheVariants.{Int};
 
 use crate::fault::{Fault, Reason};
@@ -83,7 +81,7 @@ fn column(name: &ColumnReference, scope: &Scope<'_, '_>) -> Result<Typed, Fault>
 /// Both sides are integers.
 #[inline(always)]
 fn joined(left: TypedPart, op: Arithmetic, right: TypedPart) -> Result<Typed, Fault>
-    ensures { Gives typed (required (same_type left.of Int && same_type right.of Int) BadType (Ok (tree.binary left.tree.value op right.tree.value, Int))) result }
+    ensures { Gives typed (spec.joined op (typed_part left) (typed_part right)) result }
 {
     if !same_type(left.of, ColumnType::Int) || !same_type(right.of, ColumnType::Int) {
         return Err(Fault::Refused(Reason::BadType));

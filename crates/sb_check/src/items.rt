@@ -1,13 +1,11 @@
 //! What a query lists, and the types of its columns.
 ghost use Rattle.std.specs.Prelude.{◌≡◌, [], ◌∷◌, ◌++◌, map, flat_map, OnOk, IfOk};
-ghost use Rattle.sb_value.specs.declared.value.ColumnType.TheVariants.{Int};
 ghost use Rattle.sb_syntax.specs.Tree.{sum_of};
 ghost use Rattle.sb_check.specs.Answer.{Gives};
-ghost use Rattle.sb_check.specs.InOrder.{unzipped};
-ghost use Rattle.sb_check.specs.Scopes.{scope_of, typed_list, listed};
+ghost use Rattle.sb_check.specs.InOrder.{walk_each};
+ghost use Rattle.sb_check.specs.Scopes.{scope_of, typed_list, listed, of_integer};
 ghost use Rattle.sb_check.specs.Walk as spec;
 ghost use Rattle.sb_syntax.specs.Views as view;
-ghost use Rattle.sb_check.specs.Names.{in_order};
 
 use crate::expression::expression;
 use crate::fault::{Fault, Reason};
@@ -65,7 +63,7 @@ fn each(
     expressions: &[sb_syntax::Expression],
     scope: &Scope<'_, '_>,
 ) -> Result<TypedList, Fault>
-    ensures { Gives typed_list (unzipped (in_order (spec.walk_expression (scope_of scope.now)) (map view.expression expressions.now))) result }
+    ensures { Gives typed_list (walk_each (scope_of scope.now) (map view.expression expressions.now)) result }
 {
     let mut trees = ExpressionList::with_capacity(alloc, expressions.len())?;
     let mut types = Types::new(alloc);
@@ -79,7 +77,7 @@ fn each(
 
 /// The sum of one expression.
 fn sum(alloc: Global, e: &sb_syntax::Expression, scope: &Scope<'_, '_>) -> Result<Items, Fault>
-    ensures { Gives (λ i. (i, Int ∷ [])) (spec.walk_items (scope_of scope.now) [] (sum_of (view.expression e.now))) result }
+    ensures { Gives of_integer (spec.walk_items (scope_of scope.now) [] (sum_of (view.expression e.now))) result }
 {
     let one = expression(alloc, e, scope)?;
     if !same_type(one.of, ColumnType::Int) {

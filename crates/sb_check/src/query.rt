@@ -1,16 +1,14 @@
 //! Conditions, operands and queries, walked from left to right.
-ghost use Rattle.std.specs.Prelude.{◌≡◌, ◌∷◌, IfOk, List, Ok, []};
+ghost use Rattle.std.specs.Prelude.{◌≡◌, IfOk};
 ghost use Rattle.sb_check.specs.Answer.{Gives};
 ghost use Rattle.sb_check.specs.Condition as tree;
 ghost use Rattle.sb_check.specs.Parts as parts;
-ghost use Rattle.sb_check.specs.Names.{and_then};
-ghost use Rattle.sb_check.specs.Scopes.{listed, scope_of};
-ghost use Rattle.sb_check.specs.Walked.{operand_typed, walked};
+ghost use Rattle.sb_check.specs.Scopes.{scope_of};
+ghost use Rattle.sb_check.specs.Walked.{GivesCondition, GivesOperand, GivesOverSources, compared, walked};
 ghost use Rattle.sb_check.specs.Walk as spec;
-ghost use Rattle.sb_check.specs.declared.tree.Items.{Items as Shown};
-ghost use Rattle.sb_value.specs.declared.value.ColumnType.{ColumnType as Kind};
-ghost use Rattle.sb_syntax.specs.Tree as text;
+ghost use Rattle.sb_syntax.specs.Tree.{compare, exists, is_in};
 ghost use Rattle.sb_syntax.specs.Views as view;
+ghost use Rattle.sb_syntax.specs.Views.{condition, expression, filter, operand, query};
 
 use crate::expression::expression;
 use crate::fault::{Fault, Reason};
@@ -140,7 +138,7 @@ fn compared<'s, S: Schema>(
     schema: &'s S,
     scope: &Scope<'_, 's>,
 ) -> Result<Box<Condition>, Fault>
-    ensures { Gives (λ c. c.value) (parts.condition_walk (S.names schema.now) (text.compare (view.expression a.now) op (text.expression (view.expression b.now))) (scope_of scope.now)) result }
+    ensures { GivesCondition (S.names schema.now) (compared (expression a.now) op (expression b.now)) scope.now result }
 {
     let left = expression(alloc, a, scope)?;
     let right = expression(alloc, b, scope)?;
@@ -161,7 +159,7 @@ fn compared_with<'s, S: Schema>(
     schema: &'s S,
     scope: &Scope<'_, 's>,
 ) -> Result<Box<Condition>, Fault>
-    ensures { Gives (λ c. c.value) (parts.condition_walk (S.names schema.now) (text.compare (view.expression a.now) op (view.operand b.now)) (scope_of scope.now)) result }
+    ensures { GivesCondition (S.names schema.now) (compare (expression a.now) op (operand b.now)) scope.now result }
 {
     let left = expression(alloc, a, scope)?;
     let right = operand(alloc, b, schema, scope)?;
@@ -182,7 +180,7 @@ fn is_in<'s, S: Schema>(
     schema: &'s S,
     scope: &Scope<'_, 's>,
 ) -> Result<Box<Condition>, Fault>
-    ensures { Gives (λ c. c.value) (parts.condition_walk (S.names schema.now) (text.is_in (view.expression a.now) has_not (view.query q.now)) (scope_of scope.now)) result }
+    ensures { GivesCondition (S.names schema.now) (is_in (expression a.now) has_not (query q.now)) scope.now result }
 {
     let left = expression(alloc, a, scope)?;
     let right = query(alloc, q, schema, scope)?;
@@ -198,7 +196,7 @@ fn exists<'s, S: Schema>(
     schema: &'s S,
     scope: &Scope<'_, 's>,
 ) -> Result<Box<Condition>, Fault>
-    ensures { Gives (λ c. c.value) (parts.condition_walk (S.names schema.now) (text.exists (view.query q.now)) (scope_of scope.now)) result }
+    ensures { GivesCondition (S.names schema.now) (exists (query q.now)) scope.now result }
 {
     let inner = query(alloc, q, schema, scope)?;
     let node = ConditionNode::Exists(inner.tree);
@@ -212,7 +210,7 @@ pub(crate) fn condition<'s, S: Schema>(
     schema: &'s S,
     scope: &Scope<'_, 's>,
 ) -> Result<Box<Condition>, Fault>
-    ensures { Gives (λ c. c.value) (parts.condition_walk (S.names schema.now) (view.condition c.now) (scope_of scope.now)) result }
+    ensures { GivesCondition (S.names schema.now) (condition c.now) scope.now result }
 {
     match c {
         sb_syntax::Condition::Disjunction(a, b) => {
@@ -249,7 +247,7 @@ pub(crate) fn operand<'s, S: Schema>(
     schema: &'s S,
     scope: &Scope<'_, 's>,
 ) -> Result<TypedOperand, Fault>
-    ensures { Gives operand_typed (parts.operand_walk (S.names schema.now) (view.operand o.now) (scope_of scope.now)) result }
+    ensures { GivesOperand (S.names schema.now) (operand o.now) scope.now result }
 {
     match o {
         sb_syntax::Operand::Expression(e) => {
@@ -280,7 +278,7 @@ pub(crate) fn filter<'s, S: Schema>(
     schema: &'s S,
     scope: &Scope<'_, 's>,
 ) -> Result<Condition, Fault>
-    ensures { Gives (λ c. c) (parts.filter_walk (S.names schema.now) (view.filter f.now) (scope_of scope.now)) result }
+    ensures { Gives (λ c. c) (parts.filter_walk (S.names schema.now) (filter f.now) (scope_of scope.now)) result }
 {
     match f {
         Some(c) => Ok(Box::into_inner(condition(alloc, c, schema, scope)?)),
@@ -319,7 +317,7 @@ fn over_sources<'s, S: Schema>(
     schema: &'s S,
     scope: &Scope<'_, 's>,
 ) -> Result<(Listed, Condition), Fault>
-    ensures { Gives {A = (Shown × List Kind) × tree.Condition} (λ p. (listed p.0, p.1)) (and_then (spec.walk_items (sources.now ∷ scope_of scope.now) sources.now (view.items q.now.items)) (λ i. and_then (parts.filter_walk (S.names schema.now) (view.filter q.now.filter) (sources.now ∷ scope_of scope.now)) (λ c. Ok (i, c)))) result }
+    ensures { GivesOverSources (S.names schema.now) (query q.now) sources.now scope.now result }
 {
     let inner = Scope::Within(sources, &*scope);
     let listed = items(alloc, &q.items, sources, &inner)?;
@@ -334,7 +332,7 @@ pub(crate) fn query<'s, S: Schema>(
     schema: &'s S,
     scope: &Scope<'_, 's>,
 ) -> Result<Walked, Fault>
-    ensures { Gives walked (parts.query_walk (S.names schema.now) (view.query q.now) (scope_of scope.now)) result }
+    ensures { Gives walked (parts.query_walk (S.names schema.now) (query q.now) (scope_of scope.now)) result }
 {
     let mut seen = Seen::new(alloc);
     see(&mut seen, schema, q.sources.as_slice())?;

@@ -1,11 +1,10 @@
 //! The parts of a rule that name tables and columns.
-ghost use Rattle.std.specs.Prelude.{◌≡◌, Err, map, option_map};
-ghost use Rattle.sb_check.specs.Answer.{Gives, IsRefused};
-ghost use Rattle.sb_check.specs.RulePartsView.{new_parts, rule_parts};
+ghost use Rattle.std.specs.Prelude.{map, option_map};
+ghost use Rattle.sb_check.specs.Answer.{Gives, IsRefusedFirst};
+ghost use Rattle.sb_check.specs.RulePartsView.{new_parts, parts_at, rule_parts, written_actions};
 ghost use Rattle.sb_check.specs.RuleParts as spec;
 ghost use Rattle.sb_check.specs.Triggers.{walk_triggers};
 ghost use Rattle.sb_syntax.specs.Views as view;
-ghost use Rattle.sb_value.specs.declared.refusal.Refusal.{Refusal};
 
 use crate::action::actions;
 use crate::fault::Fault;
@@ -66,8 +65,8 @@ fn parts_on<'s, S: Schema>(
     rule: &RuleText,
     schema: &'s S,
 ) -> Result<RuleParts, Fault>
-    ensures value { Gives rule_parts (spec.parts_on (S.names schema.now) table.now.id table.now.columns.now (view.rule rule.now)) result }
-    ensures triggers { (e : Refusal) → walk_triggers table.now.columns.now (map view.trigger rule.now.triggers.items) ≡ Err e → IsRefused e result }
+    ensures value { Gives rule_parts (parts_at (S.names schema.now) table.now (view.rule rule.now)) result }
+    ensures triggers { IsRefusedFirst (walk_triggers table.now.columns.now (view.rule rule.now).triggers) result }
 {
     let walked = match triggers(table.columns, rule.triggers.as_slice()) {
         Ok(walked) => walked,
@@ -100,7 +99,7 @@ pub(crate) fn rule<'s, S: Schema>(
     schema: &'s S,
 ) -> Result<RuleParts, Fault>
     ensures value { Gives rule_parts (spec.parts (S.names schema.now) (view.rule text.now)) result }
-    ensures head { (e : Refusal) → spec.walk_head (S.names schema.now) (view.rule text.now) ≡ Err e → IsRefused e result }
+    ensures head { IsRefusedFirst (spec.walk_head (S.names schema.now) (view.rule text.now)) result }
 {
     match table_named(schema, &text.table) {
         Ok(table) => parts_on(alloc, &table, text, schema),
@@ -121,7 +120,7 @@ fn written_actions<'s, S: Schema>(
     list: &Option<Vec<sb_syntax::Action>>,
     schema: &'s S,
 ) -> Result<Option<Actions>, Fault>
-    ensures { Gives (λ a. a) (spec.written_actions (S.names schema.now) (option_map (λ all. map view.action all.items) list.now)) result }
+    ensures { Gives (λ a. a) (written_actions (S.names schema.now) list.now) result }
 {
     match list {
         None => Ok(None),

@@ -1,7 +1,6 @@
 //! What a command may name: the tables, and in a rule its table's columns and its triggers.
-ghost use Rattle.std.specs.Prelude.{◌≡◌, find, option_map};
-ghost use Rattle.sb_value.specs.Name.{same_name};
-ghost use Rattle.sb_check.specs.Lent.{NumbersTellColumns, rule_lent, table_lent, table_seen};
+ghost use Rattle.std.specs.Prelude.{◌≡◌, option_map};
+ghost use Rattle.sb_check.specs.Lent.{NumbersTellColumns, rule_lent, seen_named, table_lent};
 ghost use Rattle.sb_check.specs.Walk.{Schema as Names};
 
 use sb_value::{ColumnDefinition, Name, TableId, Triggers};
@@ -28,7 +27,7 @@ pub trait Schema {
 
     /// The table of that name.
     fn table(&self, name: &Name) -> Option<TableEntry<'_>>
-        ensures { option_map table_lent result ≡ option_map table_seen (find (λ e. same_name e.name name.now) (names self.now).tables) };
+        ensures { option_map table_lent result ≡ seen_named (names self.now).tables name.now };
 
     /// The rule that the command is part of.
     fn rule(&self) -> Option<RuleEntry<'_>>

@@ -1,10 +1,10 @@
 //! The sources of a query.
-ghost use Rattle.std.specs.Prelude.{◌≡◌, [], ◌∷◌, ◌++◌, map, OnOk};
+ghost use Rattle.std.specs.Prelude.{◌≡◌, [], map, OnOk};
 ghost use Rattle.std.specs.List.{list_any};
 ghost use Rattle.sb_check.specs.Answer.{Gives};
 ghost use Rattle.sb_check.specs.Lent.{LendsTable, source_lent};
 ghost use Rattle.sb_check.specs.Names as names;
-ghost use Rattle.sb_check.specs.Sources.{has_trigger, seen_sources};
+ghost use Rattle.sb_check.specs.Sources.{has_trigger, seen_sources, with_source};
 ghost use Rattle.sb_check.specs.Walk as spec;
 
 use crate::fault::{Fault, Reason};
@@ -53,7 +53,7 @@ impl<'a> Seen<'a> {
         name: TableReference,
         columns: &'a [ColumnDefinition],
     ) -> Result<(), AllocError>
-        ensures { OnOk result (self.new ≡ (self.old.0 ++ source ∷ [], self.old.1 ++ record { name = name; columns = columns.now } ∷ [])) }
+        ensures { OnOk result (self.new ≡ with_source self.old source (record { name = name; columns = columns.now })) }
     {
         self.sources.push(source)?;
         self.visible.push(Visible { name, columns })?;

@@ -1,9 +1,9 @@
 //! Statements that change a table.
-ghost use Rattle.std.specs.Prelude.{◌≡◌, ◌==◌, [], true, map, option_map, length};
-ghost use Rattle.sb_check.specs.Parts as parts;
+ghost use Rattle.std.specs.Prelude.{◌≡◌, ◌==◌, true, map, length};
 ghost use Rattle.std.specs.List.{list_any};
 ghost use Rattle.sb_check.specs.Answer.{Gives};
 ghost use Rattle.sb_check.specs.Statements as statements;
+ghost use Rattle.sb_check.specs.Statements.{update_in, written_filter};
 ghost use Rattle.sb_check.specs.Scopes.{scope_of};
 ghost use Rattle.sb_check.specs.Walk as spec;
 ghost use Rattle.sb_syntax.specs.Views as view;
@@ -71,7 +71,7 @@ fn insert_query<'s, S: Schema>(
     q: &sb_syntax::Query,
     schema: &'s S,
 ) -> Result<Statement, Fault>
-    ensures { Gives (λ s. s) (statements.query_into (S.names schema.now) table.now.id table.now.columns.now (view.query q.now)) result }
+    ensures { Gives (λ s. s) (statements.insert_into (S.names schema.now) table.now (view.query q.now)) result }
 {
     let outermost: Scope<'s, 's> = Scope::Outermost;
     let walked = query(alloc, q, schema, &outermost)?;
@@ -87,7 +87,7 @@ fn table_filter<'s, S: Schema>(
     f: &Option<Box<sb_syntax::Condition>>,
     schema: &'s S,
 ) -> Result<Condition, Fault>
-    ensures { Gives (λ c. c) (parts.filter_walk (S.names schema.now) (view.filter (option_map (λ a. a.value) f.now)) (statements.table_scope table.now.name table.now.columns.now)) result }
+    ensures { Gives (λ c. c) (statements.filter_over (S.names schema.now) table.now (written_filter f.now)) result }
 {
     let visible = [Visible {
         name: TableReference::Named(table.name),
@@ -108,7 +108,7 @@ fn delete<'s, S: Schema>(
     f: &Option<Box<sb_syntax::Condition>>,
     schema: &'s S,
 ) -> Result<Statement, Fault>
-    ensures { Gives (λ s. s) (statements.delete_of (S.names schema.now) table.now.id table.now.name table.now.columns.now (view.filter (option_map (λ a. a.value) f.now))) result }
+    ensures { Gives (λ s. s) (statements.delete_from (S.names schema.now) table.now (written_filter f.now)) result }
 {
     let condition = table_filter(alloc, table, f, schema)?;
     Ok(Statement::Delete(table.id, condition))
@@ -136,7 +136,7 @@ fn each_assignment<'s, S: Schema>(
     scope: &Scope<'_, 's>,
 ) -> Result<Assignments, Fault>
     requires { scope_of scope.now ≡ statements.table_scope table.now.name table.now.columns.now }
-    ensures { Gives (λ a. a) (statements.assignments_walk (S.names schema.now) table.now.name table.now.columns.now [] (map view.assignment list.now)) result }
+    ensures { Gives (λ a. a) (statements.assignments_of (S.names schema.now) table.now list.now) result }
 {
     let mut done = Assignments::new(alloc);
     for assignment in list {
@@ -169,7 +169,7 @@ fn assignments<'s, S: Schema>(
     list: &[sb_syntax::Assignment],
     schema: &'s S,
 ) -> Result<Assignments, Fault>
-    ensures { Gives (λ a. a) (statements.assignments_walk (S.names schema.now) table.now.name table.now.columns.now [] (map view.assignment list.now)) result }
+    ensures { Gives (λ a. a) (statements.assignments_of (S.names schema.now) table.now list.now) result }
 {
     let visible = [Visible {
         name: TableReference::Named(table.name),
@@ -188,7 +188,7 @@ fn update<'s, S: Schema>(
     f: &Option<Box<sb_syntax::Condition>>,
     schema: &'s S,
 ) -> Result<Statement, Fault>
-    ensures { Gives (λ s. s) (statements.update_of (S.names schema.now) table.now.id table.now.name table.now.columns.now (map view.assignment list.now) (view.filter (option_map (λ a. a.value) f.now))) result }
+    ensures { Gives (λ s. s) (update_in (S.names schema.now) table.now list.now (written_filter f.now)) result }
 {
     let places = assignments(alloc, table, list, schema)?;
     let condition = table_filter(alloc, table, f, schema)?;

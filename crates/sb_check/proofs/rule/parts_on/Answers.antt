@@ -1,4 +1,4 @@
-use Rattle.std.proofs.Common.{◌≡◌, ◌∙◌, ap, sym, map, Ok, Err}
+use Rattle.std.proofs.Common.{◌∙◌, ap, sym, map}
 use Rattle.sb_syntax.specs.Views as view
 use Rattle.sb_check.specs.Answer.{refusal_of}
 use Rattle.sb_check.specs.RuleParts.{rule_triggers}

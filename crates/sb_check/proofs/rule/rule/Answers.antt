@@ -1,8 +1,7 @@
-use Rattle.std.proofs.Common.{◌≡◌, ◌∙◌, ap, sym, map, Ok, Err}
-use Rattle.std.specs.Prelude.{Result, List}
+use Rattle.std.proofs.Common.{◌≡◌, ◌∙◌, ap, sym, Err}
+use Rattle.std.specs.Prelude.{Result}
 use Rattle.sb_value.specs.declared.net.Triggers.{Triggers}
 use Rattle.sb_value.specs.declared.refusal.Refusal.{Refusal}
-use Rattle.sb_value.specs.declared.value.ColumnDefinition.{ColumnDefinition}
 use Rattle.sb_value.specs.Table.{Entry}
 use Rattle.sb_syntax.specs.Views as view
 use Rattle.sb_check.specs.Answer.{IsRefused, refusal_of}
@@ -13,7 +12,6 @@ use Rattle.sb_check.specs.Walk.{table_named}
 use Rattle.sb_check.specs.declared.fault.Fault.{Fault}
 use Rattle.sb_check.specs.declared.fault.Fault.TheVariants.{Refused, NoMemory}
 use Rattle.sb_check.specs.declared.rule.RuleParts.{RuleParts}
-use Rattle.sb_check.specs.declared.schema.TableEntry.{TableEntry}
 use Rattle.sb_check.proofs.Results.{same_refusal}
 use Rattle.sb_check.proofs.rule.rule.Goals as goal
 

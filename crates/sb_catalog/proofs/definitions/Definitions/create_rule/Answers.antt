@@ -5,6 +5,7 @@ use Rattle.sb_index.specs.Operation.{names}
 use Rattle.sb_priority.specs.Ranks.{pairs_of}
 use Rattle.sb_catalog.specs.declared.rule.Rule.{Rule}
 use Rattle.sb_catalog.specs.declared.definitions.Definitions.{Definitions}
+use Rattle.sb_catalog.specs.Definitions.{rules_named}
 use Rattle.sb_catalog.specs.Rules.{rule_of}
 use Rattle.sb_catalog.proofs.Indexing.{has, added, one_more, same_number, undone}
 use Rattle.sb_catalog.proofs.NewRules.{all_there, pairs_known}
@@ -14,9 +15,9 @@ pub returns-in-Ok-push_rule-clause-created : goal.returns-in-Ok-push_rule-clause
 returns-in-Ok-push_rule-clause-created c = λ pairs o.
     let p = c.in-Ok-push_rule.ensures pairs o in
     let rules = c.args.self.now.rules in (
-      pairs_of c.free_rule-rule.result c.as_slice.result.now c.as_slice-2.result.now,
-      pairs_known rules pairs c.args.precedes.now c.args.follows.now c.as_slice.result.now c.as_slice-2.result.now c.free_rule-rule.result
-          (c.in-Ok.ensures ∙ ap Ok (sym c.as_slice.ensures.value)) (c.in-Ok-numbers.ensures ∙ ap Ok (sym c.as_slice-2.ensures.value)) (sym c.has_room.ensures ∙ c.if-not-has_room.false) c.free_rule-rule.ensures.least
+      pairs_of c.free_rule-rule.result c.as_slice-3.result.now c.as_slice-4.result.now,
+      pairs_known rules pairs c.args.text.now.precedes.items c.args.text.now.follows.items c.as_slice-3.result.now c.as_slice-4.result.now c.free_rule-rule.result
+          (ap (rules_named rules) (sym c.as_slice.ensures.value) ∙ c.in-Ok.ensures ∙ ap Ok (sym c.as_slice-3.ensures.value)) (ap (rules_named rules) (sym c.as_slice-2.ensures.value) ∙ c.in-Ok-numbers.ensures ∙ ap Ok (sym c.as_slice-4.ensures.value)) (sym c.has_room.ensures ∙ c.if-not-has_room.false) c.free_rule-rule.ensures.least
           ∙ p.0,
       p.1,
       p.2,
@@ -26,20 +27,20 @@ returns-in-Ok-push_rule-clause-created c = λ pairs o.
 pub returns-in-Ok-push_rule-clause-indexed : goal.returns-in-Ok-push_rule-clause-indexed
 returns-in-Ok-push_rule-clause-indexed c = λ h table operation id.
     let rules = c.args.self.now.rules in
-    let rule : Rule = rule_of c.free_rule-rule.result c.args.name (rule_parts c.args.parts) in
+    let rule : Rule = rule_of c.free_rule-rule.result c.args.text.now.name (rule_parts c.args.parts) in
     let p = c.in-Ok-push_rule.ensures c.requires.ordered.0 c.requires.ordered.1 in
     c.in-Ok-add_rule.ensures.added c.args.tenant table operation id
     ∙ (λ i. h table operation id i || (same_number c.args.tenant i && added table operation id rule i))
     ∙ sym (one_more table operation id rules rule)
-    ∙ ap (λ (n : ℕ). list_any (has table operation id) (rules ++ rule_of n c.args.name (rule_parts c.args.parts) ∷ [])) c.free_rule-rule.ensures.least
+    ∙ ap (λ (n : ℕ). list_any (has table operation id) (rules ++ rule_of n c.args.text.now.name (rule_parts c.args.parts) ∷ [])) c.free_rule-rule.ensures.least
     ∙ ap (list_any (has table operation id)) (sym p.1)
 
 pub returns-clause-created : goal.returns-clause-created
 returns-clause-created c = λ pairs o.
     let p = c.in-Err-push_rule.ensures pairs o in
     let rules = c.args.self.now.rules in
-    let known = pairs_known rules pairs c.args.precedes.now c.args.follows.now c.as_slice.result.now c.as_slice-2.result.now c.free_rule-rule.result
-    (c.in-Ok.ensures ∙ ap Ok (sym c.as_slice.ensures.value)) (c.in-Ok-numbers.ensures ∙ ap Ok (sym c.as_slice-2.ensures.value)) (sym c.has_room.ensures ∙ c.if-not-has_room.false) c.free_rule-rule.ensures.least in
+    let known = pairs_known rules pairs c.args.text.now.precedes.items c.args.text.now.follows.items c.as_slice-3.result.now c.as_slice-4.result.now c.free_rule-rule.result
+    (ap (rules_named rules) (sym c.as_slice.ensures.value) ∙ c.in-Ok.ensures ∙ ap Ok (sym c.as_slice-3.ensures.value)) (ap (rules_named rules) (sym c.as_slice-2.ensures.value) ∙ c.in-Ok-numbers.ensures ∙ ap Ok (sym c.as_slice-4.ensures.value)) (sym c.has_room.ensures ∙ c.if-not-has_room.false) c.free_rule-rule.ensures.least in
     (elim p.0 [ inl e ↦ inl (known ∙ e) | inr e ↦ inr e ], p.1)
 
 pub returns-clause-indexed : goal.returns-clause-indexed
@@ -54,4 +55,6 @@ returns-clause-indexed c = λ h table operation id.
     ∙ ap (λ (d : Definitions). list_any (has table operation id) d.rules) (sym p.1)
 
 pub push_rule-requires-clause-others : goal.push_rule-requires-clause-others
-push_rule-requires-clause-others c = all_there c.args.self.now.rules c.args.precedes.now c.as_slice.result.now (c.in-Ok.ensures ∙ ap Ok (sym c.as_slice.ensures.value))
+push_rule-requires-clause-others c =
+    let rules = c.args.self.now.rules in
+    all_there rules c.args.text.now.precedes.items c.as_slice-3.result.now (ap (rules_named rules) (sym c.as_slice.ensures.value) ∙ c.in-Ok.ensures ∙ ap Ok (sym c.as_slice-3.ensures.value))

@@ -1,0 +1,6 @@
+use Rattle.std.proofs.Common.{◌≡◌, drop, fold}
+use Rattle.sb_check.proofs.visit.visit_sources.Given as goal
+
+-- the sources that are left are shown next
+abbrev pub invariant-loop-source : goal.invariant-loop-source
+invariant-loop-source g l = fold g.V.Visitor.after l.fn.visitor l.sources ≡ fold g.V.Visitor.after l.visitor (drop l.source-index l.sources)
