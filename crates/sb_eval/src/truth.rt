@@ -65,14 +65,19 @@ pub(crate) fn compared<'r>(
     plain_value(a, scope).compares(comparison, settled_value(b, known, scope))
 }
 
-/// Whether a side of a condition that overflows nowhere is true. A comparison is made at once.
+/// Whether a condition that overflows nowhere is true. Of one comparison, and of none, it is said at once.
 #[cycle(truth)]
 #[inline(always)]
-fn is_side_true<'r>(c: &'r Condition, known: &Known<'r>, scope: &Scope<'_, 'r>) -> bool
+pub(crate) fn is_true_inlined<'r>(
+    c: &'r Condition,
+    known: &Known<'r>,
+    scope: &Scope<'_, 'r>,
+) -> bool
     requires { spec.is_settled c.now known.now ≡ true }
     ensures { spec.IsTruth c.now known.now (scope_of scope.now) result }
 {
     match &c.node {
+        ConditionNode::Always => true,
         ConditionNode::Compare(a, comparison, b) => compared(a, *comparison, b, known, scope),
         _ => is_true(c, known, scope),
     }
@@ -97,9 +102,9 @@ pub(crate) fn is_true<'r>(c: &'r Condition, known: &Known<'r>, scope: &Scope<'_,
 {
     match &c.node {
         ConditionNode::Always => true,
-        ConditionNode::Disjunction(a, b) => is_side_true(b, known.right(), scope)
+        ConditionNode::Disjunction(a, b) => is_true_inlined(b, known.right(), scope)
             || is_true(a, known.left(), scope),
-        ConditionNode::Conjunction(a, b) => is_side_true(b, known.right(), scope)
+        ConditionNode::Conjunction(a, b) => is_true_inlined(b, known.right(), scope)
             && is_true(a, known.left(), scope),
         ConditionNode::Negation(a) => is_false(a, known, scope),
         ConditionNode::Compare(a, comparison, b) => compared(a, *comparison, b, known, scope),
