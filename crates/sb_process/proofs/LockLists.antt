@@ -1,12 +1,10 @@
 -- Lists of locks, one after another.
-use Rattle.std.proofs.Common.{◌≡◌, ◌∙◌, ℕ, List, [], ◌∷◌, ◌++◌, map, Option, Some, None, refl, sym, ap, append_assoc, ◌≤◌, length, get_or, drop, take, ◌-◌, arith, Result, Ok, Err, OnOk}
-use Rattle.std.specs.declared.alloc.AllocError.{AllocError}
+use Rattle.std.proofs.Common.{◌≡◌, ◌∙◌, ℕ, List, [], ◌∷◌, ◌++◌, map, Option, Some, None, refl, sym, ap, append_assoc, fold, ◌≤◌, length, get_or, drop, take, ◌-◌, arith}
+use Rattle.std.proofs.lemmas.List.{append-nil}
 use Rattle.std.specs.List.{cons_option}
 use Rattle.std.specs.Prelude.{filter_map}
 use Rattle.sb_value.specs.declared.lock.Mode.{Mode}
 use Rattle.sb_check.specs.declared.tree.Source.{Source}
-use Rattle.sb_check.specs.declared.tree.Assignment.{Assignment}
-use Rattle.sb_check.specs.Mentions.{operand_sources, assignment_sources}
 use Rattle.sb_eval.specs.Statement.{read_of, write_of, statement_locks}
 use Rattle.sb_value.specs.declared.lock.Mode.TheVariants.{Write}
 use Rattle.sb_check.specs.declared.tree.Statement.{Statement}
@@ -24,13 +22,17 @@ pub reads-append : (xs ys : List Source) → reads (xs ++ ys) ≡ reads xs ++ re
 reads-append [] ys = refl
 reads-append (x ∷ xs) ys = ap (cons_option (read_of x)) (reads-append xs ys) ∙ cons-append (read_of x) (reads xs) (reads ys)
 
--- what is added in two steps
-pub joined : (i a b : List (ℕ × Mode)) (x y : List Source) → a ≡ i ++ reads x → b ≡ a ++ reads y → b ≡ i ++ reads (x ++ y)
-joined i a b x y p q = q ∙ ap (λ l. l ++ reads y) p ∙ append_assoc i (reads x) (reads y) ∙ ap (λ l. i ++ l) (sym (reads-append x y))
+abbrev after : List (ℕ × Mode) → Source → List (ℕ × Mode)
+after so_far source = so_far ++ reads (source ∷ [])
 
-pub joined_assignment : (i a b : List (ℕ × Mode)) (first : Assignment) (rest : List Assignment) → a ≡ i ++ reads (operand_sources first.operand) → b ≡ a ++ reads (assignment_sources rest) →
-    b ≡ i ++ reads (assignment_sources (first ∷ rest))
-joined_assignment i a b first rest p q = joined i a b (operand_sources first.operand) (assignment_sources rest) p q
+-- the sources that are shown are read after the reads so far
+read-after : (i : List (ℕ × Mode)) (sources : List Source) → fold after i sources ≡ i ++ reads sources
+read-after i [] = sym (append-nil i)
+read-after i (s ∷ rest) = read-after (after i s) rest ∙ append_assoc i (reads (s ∷ [])) (reads rest) ∙ ap (λ l. i ++ l) (sym (reads-append (s ∷ []) rest))
+
+-- the reads of all sources that are shown
+pub shown : (sources : List Source) (l : List (ℕ × Mode)) → l ≡ fold after [] sources → l ≡ reads sources
+shown sources l e = e ∙ read-after [] sources
 
 -- the locks of a statement are the write of its target and what it mentions
 pub locks_of : (s : Statement) (l : List (ℕ × Mode)) → l ≡ (target s, Write) ∷ map (write_of (target s)) (reads (mentioned s)) → l ≡ statement_locks s
@@ -49,9 +51,3 @@ whole [] x some e = absurd (omega arith)
 whole (y ∷ ys) x some e =
     let n : length (y ∷ ys) - 1 ≡ length ys = omega arith in
     λ i. sym e i ∷ sym (ap (λ (k : ℕ). take k ys) n ∙ take_all ys) i
-
-pub joined_ok : (r : Result (Unit {0}) AllocError) (i a b : List (ℕ × Mode)) (xs : List Assignment) (x : Assignment) → 1 ≤ length xs → x ≡ get_or xs 0 x →
-    a ≡ i ++ reads (operand_sources x.operand) → OnOk r (b ≡ a ++ reads (assignment_sources (take (length xs - 1) (drop 1 xs)))) → OnOk r (b ≡ i ++ reads (assignment_sources xs))
-joined_ok (Ok u) i a b xs x some e p q =
-    joined_assignment i a b x (take (length xs - 1) (drop 1 xs)) p q ∙ ap (λ l. i ++ reads (assignment_sources l)) (sym (whole xs x some e))
-joined_ok (Err f) i a b xs x some e p q = tt

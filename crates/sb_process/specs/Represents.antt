@@ -63,6 +63,12 @@ is_written locks session table = nat_lt table 16 && locks session table Write
 abbrev pub IsTransaction : Database → ℕ → List Record → ℕ → Type 0
 IsTransaction database session records clock = (origin : List Held) × (setting : Setting) × (progress : Progress) × Represents origin database session records clock setting progress
 
+-- so much is said of each transaction of the session that they hold
+abbrev pub EachTransaction : Database → ℕ → List Record → ℕ → (List Held → Setting → Progress → Type 0) → Type 0
+EachTransaction database session records clock Says =
+    (origin : List Held) (setting : Setting) (progress : Progress) → Represents origin database session records clock setting progress
+    → Says origin setting progress
+
 -- ---- the ends of a transaction
 
 -- the session has no changes; the tables are those that stand without them, and its locks are released

@@ -27,6 +27,17 @@ pub record IsRunning (origin : List Held) (database : Database) (session : ℕ) 
   pub transaction : Represents origin database session records clock setting progress
   pub indexed : AreIndexed index database.id setting.rules
 
+-- some transaction is running
+abbrev pub IsUnderWay : Database → ℕ → List Record → ℕ → List (List TableSets) → Type 0
+IsUnderWay database session records clock index =
+    (origin : List Held) × (setting : Setting) × (progress : Progress) × IsRunning origin database session records clock index setting progress
+
+-- so much is said of each transaction that is running
+abbrev pub EachRunning : Database → ℕ → List Record → ℕ → List (List TableSets) → (List Held → Setting → Progress → Type 0) → Type 0
+EachRunning database session records clock index Says =
+    (origin : List Held) (setting : Setting) (progress : Progress) → IsRunning origin database session records clock index setting progress
+    → Says origin setting progress
+
 -- the transaction has come to this; a release leaves the same locks as before
 pub record ComesTo (origin : List Held) (new : Database) (session : ℕ) (records : List Record) (clock : ℕ) (setting : Setting) (progress after : Progress) : Type 0 where
   pub stands : Represents origin new session records clock setting after

@@ -12,6 +12,7 @@ use Rattle.sb_rawlog.specs.Records.{Record}
 use Rattle.sb_catalog.specs.declared.rule.Rule.{Rule}
 use Rattle.sb_process.specs.declared.database.Database.{Database}
 use Rattle.sb_process.specs.declared.Outcome.{Outcome}
+use Rattle.sb_process.specs.declared.process.Rules.{Rules}
 use Rattle.sb_catalog.specs.Definitions.{AreIndexed, AreOrdered}
 use Rattle.sb_process.specs.Represents.{Represents, IsTakenBack}
 use Rattle.sb_process.specs.Request.{AreThere}
@@ -47,6 +48,19 @@ pub record IsWork (origin : List Held) (database : Database) (session : ℕ) (re
   pub rules : setting.rules ≡ catalog
   pub indexed : AreIndexed index database.id catalog
   pub ordered : AreOrdered order catalog setting.pairs
+
+-- there is some, with these rules
+abbrev pub IsAtWork : Database → ℕ → List Record → ℕ → Rules → Type 0
+IsAtWork database session records clock rules =
+    (origin : List Held) × (setting : Setting) × (progress : Progress)
+    × IsWork origin database session records clock rules.index.now rules.catalog.now rules.order.now setting progress
+
+-- so much is said of each
+abbrev pub EachWork : Database → ℕ → List Record → ℕ → Rules → (List Held → Setting → Progress → Type 0) → Type 0
+EachWork database session records clock rules Says =
+    (origin : List Held) (setting : Setting) (progress : Progress)
+    → IsWork origin database session records clock rules.index.now rules.catalog.now rules.order.now setting progress
+    → Says origin setting progress
 
 -- ---- what it leaves
 

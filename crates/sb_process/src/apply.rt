@@ -1,19 +1,17 @@
 //! Changes made one after another, for which all memory is there.
-ghost use Rattle.std.specs.Prelude.{◌≡◌, ℕ, ◌+◌, ◌-◌, ◌<◌, ◌≤◌, ◌^◌, List, [], ◌∷◌, ◌++◌, length, IsTrue};
+ghost use Rattle.std.specs.Prelude.{◌≡◌, ℕ, ◌+◌, ◌-◌, ◌<◌, ◌≤◌, ◌^◌, [], ◌∷◌, ◌++◌, length, IsTrue};
 ghost use Rattle.sb_value.specs.declared.lock.Mode.TheVariants as mode;
 ghost use Rattle.sb_value.specs.Table.{fits_kind};
 ghost use Rattle.sb_rawlog.specs.Changes.{author};
 ghost use Rattle.sb_rawlog.specs.Sessions.{OthersStay};
-ghost use Rattle.sb_tables.specs.Held.{Held, has_number, stored_at};
+ghost use Rattle.sb_tables.specs.Held.{has_number, stored_at};
 ghost use Rattle.sb_locks.specs.Held.{held};
 ghost use Rattle.sb_process.specs.Made.{NumbersBelow};
 ghost use Rattle.sb_process.specs.Make.{HasPlaceFor, Makes};
 ghost use Rattle.sb_process.specs.Ready.{AreCopied, CanApply, changes_in};
-ghost use Rattle.sb_catalog.specs.Definitions.{AreIndexed};
 ghost use Rattle.sb_process.specs.Represents.{Represents, who_in};
-ghost use Rattle.sb_process.specs.Setting.{Setting, Progress};
-ghost use Rattle.sb_process.specs.Statement.{with_changes_of};
 ghost use Rattle.sb_marks.specs.Transactions.{OtherSessionsStay};
+ghost use Rattle.sb_process.specs.Running.{EachRunning};
 
 use crate::database::Database;
 use crate::make::make;
@@ -37,12 +35,15 @@ impl Database {
         requires locked { IsTrue (held self.old.locks session target mode.Write) }
         requires room { length list.items ≤ L.room log.old }
         requires clock { L.clock log.old + length list.items < 2 ^ 64 }
-        ensures all { (origin : List Held) (setting : Setting) (progress : Progress) → Represents origin self.old session (L.records log.old) (L.clock log.old) setting progress → AreIndexed index.now self.old.id setting.rules → Represents origin self.new session (L.records log.new) (L.clock log.new) setting (record progress { changes = progress.changes ++ changes_in list.items }) }
+        ensures all { EachRunning self.old session (L.records log.old) (L.clock log.old) index.now
+            (λ origin setting progress. Represents origin self.new session (L.records log.new) (L.clock log.new) setting
+            (record progress { changes = progress.changes ++ changes_in list.items })) }
         ensures id { self.new.id ≡ self.old.id }
         ensures sessions { OtherSessionsStay self.old.transactions self.new.transactions session }
         ensures others { OthersStay (who_in self.old session) (L.records log.old) (L.records log.new) }
         ensures clock { L.clock log.new ≡ L.clock log.old + length list.items }
-        ensures numbers { (n : ℕ) → NumbersBelow n self.old.tables → NumbersBelow (n + length list.items) self.new.tables }
+        ensures numbers { (n : ℕ) → NumbersBelow n self.old.tables
+            → NumbersBelow (n + length list.items) self.new.tables }
     {
         for ready in list {
             self.apply_one(log, index, session, ready);
@@ -65,7 +66,9 @@ impl Database {
         requires locked { IsTrue (held self.old.locks session ready.change.table mode.Write) }
         requires room { 0 < L.room log.old }
         requires clock { L.clock log.old < 2 ^ 64 - 1 }
-        ensures one { (origin : List Held) (setting : Setting) (progress : Progress) → Represents origin self.old session (L.records log.old) (L.clock log.old) setting progress → AreIndexed index.now self.old.id setting.rules → Represents origin self.new session (L.records log.new) (L.clock log.new) setting (record progress { changes = progress.changes ++ ready.change ∷ [] }) }
+        ensures one { EachRunning self.old session (L.records log.old) (L.clock log.old) index.now
+            (λ origin setting progress. Represents origin self.new session (L.records log.new) (L.clock log.new) setting
+            (record progress { changes = progress.changes ++ ready.change ∷ [] })) }
         ensures makes { Makes ready.change self.old.tables self.new.tables }
         ensures id { self.new.id ≡ self.old.id }
         ensures locks { self.new.locks ≡ self.old.locks }

@@ -1,15 +1,15 @@
 //! The rules that a session's changes have triggered, and the one that is considered next.
-ghost use Rattle.std.specs.Prelude.{◌≡◌, ℕ, List};
+ghost use Rattle.std.specs.Prelude.{◌≡◌, List};
 ghost use Rattle.std.specs.Option.{option_copied};
 ghost use Rattle.sb_value.specs.Flags.{flag_at};
 ghost use Rattle.sb_catalog.specs.Rules.{numbered};
 ghost use Rattle.sb_tables.specs.Held.{Held};
-ghost use Rattle.sb_process.specs.Represents.{Represents, who_in};
+ghost use Rattle.sb_process.specs.Represents.{EachTransaction, Represents, who_in};
 ghost use Rattle.sb_process.specs.Setting as spec;
 ghost use Rattle.sb_process.specs.Setting.{Setting, Progress};
 ghost use Rattle.sb_marks.specs.Transactions.{ArePast, OtherSessionsStay};
 ghost use Rattle.sb_process.specs.Triggered.{AreSifted, CanTest, CanTestAll, HasCandidates, is_hit};
-ghost use Rattle.sb_process.specs.Work.{AreActive, IsWork};
+ghost use Rattle.sb_process.specs.Work.{EachWork, IsAtWork, AreActive, IsWork};
 
 use crate::database::Database;
 use crate::process::Rules;
@@ -28,10 +28,13 @@ impl Database {
         session: SessionId,
         eligible: RuleSet,
     ) -> Option<&'a Rule>
-        requires work { (origin : List Held) × (setting : Setting) × (progress : Progress) × IsWork origin self.old session (L.records log.now) (L.clock log.now) rules.now.index.now rules.now.catalog.now rules.now.order.now setting progress }
+        requires work { IsAtWork self.old session (L.records log.now) (L.clock log.now) rules.now }
         requires active { AreActive (flag_at eligible) rules.now.catalog.now }
-        ensures next { (origin : List Held) (setting : Setting) (progress : Progress) → IsWork origin self.old session (L.records log.now) (L.clock log.now) rules.now.index.now rules.now.catalog.now rules.now.order.now setting progress → option_copied result ≡ spec.next_rule setting (flag_at eligible) progress }
-        ensures work { (origin : List Held) (setting : Setting) (progress : Progress) → IsWork origin self.old session (L.records log.now) (L.clock log.now) rules.now.index.now rules.now.catalog.now rules.now.order.now setting progress → IsWork origin self.new session (L.records log.now) (L.clock log.now) rules.now.index.now rules.now.catalog.now rules.now.order.now setting progress }
+        ensures next { EachWork self.old session (L.records log.now) (L.clock log.now) rules.now
+            (λ origin setting progress. option_copied result ≡ spec.next_rule setting (flag_at eligible) progress) }
+        ensures work { EachWork self.old session (L.records log.now) (L.clock log.now) rules.now
+            (λ origin setting progress. IsWork origin self.new session (L.records log.now) (L.clock log.now)
+            rules.now.index.now rules.now.catalog.now rules.now.order.now setting progress) }
         ensures sessions { OtherSessionsStay self.old.transactions self.new.transactions session }
         ensures only_candidates { self.new ≡ record self.old { transactions = self.new.transactions } }
     {
@@ -50,21 +53,29 @@ impl Database {
         session: SessionId,
         eligible: RuleSet,
     ) -> RuleSet
-        requires transaction { (origin : List Held) × (setting : Setting) × (progress : Progress) × Represents origin self.old session (L.records log.now) (L.clock log.now) setting progress × (setting.rules ≡ catalog.now) }
+        requires transaction { (origin : List Held) × (setting : Setting) × (progress : Progress)
+            × Represents origin self.old session (L.records log.now) (L.clock log.now) setting progress
+            × (setting.rules ≡ catalog.now) }
         requires active { AreActive (flag_at eligible) catalog.now }
-        ensures set { (origin : List Held) (setting : Setting) (progress : Progress) → Represents origin self.old session (L.records log.now) (L.clock log.now) setting progress → setting.rules ≡ catalog.now → HasCandidates result (flag_at eligible) progress catalog.now }
-        ensures stands { (origin : List Held) (setting : Setting) (progress : Progress) → Represents origin self.old session (L.records log.now) (L.clock log.now) setting progress → setting.rules ≡ catalog.now → Represents origin self.new session (L.records log.now) (L.clock log.now) setting progress }
+        ensures set { EachTransaction self.old session (L.records log.now) (L.clock log.now)
+            (λ origin setting progress.
+            setting.rules ≡ catalog.now → HasCandidates result (flag_at eligible) progress catalog.now) }
+        ensures stands { EachTransaction self.old session (L.records log.now) (L.clock log.now)
+            (λ origin setting progress. setting.rules ≡ catalog.now
+            → Represents origin self.new session (L.records log.now) (L.clock log.now) setting progress) }
         ensures sessions { OtherSessionsStay self.old.transactions self.new.transactions session }
         ensures only_candidates { self.new ≡ record self.old { transactions = self.new.transactions } }
     {
-        // for the proof: a time marks the changes that are older, a rule's number is its own, and a tuple's changes are its life
+        // for the proof: a time marks the changes that are older, a rule's number is its own, and a tuple's changes
+        // are its life
         let _now = log.now();
         let _rules = catalog.rules();
         proper_lists_have_lives();
         self.sift(log, catalog, session, eligible)
     }
 
-    /// The eligible candidates that are triggered. One that isn't leaves the candidates, and a later change puts it back.
+    /// The eligible candidates that are triggered. One that isn't leaves the candidates, and a later change puts it
+    /// back.
     fn sift<L: ChangeLog>(
         &mut self,
         log: &L,
@@ -74,7 +85,8 @@ impl Database {
     ) -> RuleSet
         requires past { ArePast self.old.transactions session (L.clock log.now) }
         requires can { CanTestAll (who_in self.old session) self.old.transactions (L.records log.now) catalog.now }
-        ensures sifted { AreSifted (who_in self.old session) (L.records log.now) (L.clock log.now) catalog.now eligible self.old.transactions self.new.transactions result }
+        ensures sifted { AreSifted (who_in self.old session) (L.records log.now) (L.clock log.now) catalog.now eligible
+            self.old.transactions self.new.transactions result }
         ensures sessions { OtherSessionsStay self.old.transactions self.new.transactions session }
         ensures only_candidates { self.new ≡ record self.old { transactions = self.new.transactions } }
     {
@@ -100,8 +112,10 @@ impl Database {
         rule: RuleId,
     ) -> bool
         requires past { ArePast self.now.transactions session (L.clock log.now) }
-        requires can { CanTest (who_in self.now session) self.now.transactions (L.records log.now) (numbered catalog.now rule) }
-        ensures { result ≡ is_hit (who_in self.now session) self.now.transactions (L.records log.now) (numbered catalog.now rule) }
+        requires can { CanTest (who_in self.now session) self.now.transactions (L.records log.now)
+            (numbered catalog.now rule) }
+        ensures { result ≡ is_hit (who_in self.now session) self.now.transactions (L.records log.now)
+            (numbered catalog.now rule) }
     {
         let Some(rule) = catalog.rule(rule) else {
             return false;

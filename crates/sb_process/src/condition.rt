@@ -2,19 +2,18 @@
 ghost use Rattle.std.specs.Prelude.{◌≡◌, ◌⊎◌, ℕ, List};
 ghost use Rattle.sb_eval.specs.Statement as statement;
 ghost use Rattle.sb_rawlog.specs.Records.{Record};
-ghost use Rattle.sb_tables.specs.Held.{Held};
 ghost use Rattle.sb_process.specs.Consider.{test_condition};
-ghost use Rattle.sb_process.specs.Represents.{Represents, who_in};
+ghost use Rattle.sb_process.specs.Represents.{EachTransaction, who_in};
 ghost use Rattle.sb_process.specs.Request.{AreThere, IsAnswer};
 ghost use Rattle.sb_process.specs.Running.{ComesTo, Tests, truth};
-ghost use Rattle.sb_process.specs.Setting.{Setting, Progress};
+ghost use Rattle.sb_process.specs.Setting.{Progress};
 ghost use Rattle.sb_process.specs.View.{seen_by};
 ghost use Rattle.sb_process.specs.Work.{IsConditionThere};
 
 use crate::database::Database;
 use crate::lock_list::query_locks;
+use crate::refusal::refusal_for;
 use crate::request::request;
-use crate::statement::refusal_for;
 use sb_check::Query;
 use sb_eval::holds;
 use sb_value::{Refusal, SessionId, Transition};
@@ -30,8 +29,12 @@ impl Database {
         condition: &Option<Query>,
     ) -> Result<bool, Refusal>
         requires { IsConditionThere self.old.tables condition.now }
-        ensures tested { (origin : List Held) (records : List Record) (clock : ℕ) (setting : Setting) (progress : Progress) → Represents origin self.old session records clock setting progress → Tests (ComesTo origin self.new session records clock setting progress) (test_condition setting tables.now condition.now progress) result ⊎ (result ≡ Err Refusal.NoMemory) }
-        ensures under_way { (origin : List Held) (records : List Record) (clock : ℕ) (setting : Setting) (progress : Progress) → Represents origin self.old session records clock setting progress → (after : Progress) × ComesTo origin self.new session records clock setting progress after }
+        ensures tested { (records : List Record) (clock : ℕ) → EachTransaction self.old session records clock
+            (λ origin setting progress. Tests (ComesTo origin self.new session records clock setting progress)
+            (test_condition setting tables.now condition.now progress) result ⊎ (result ≡ Err Refusal.NoMemory)) }
+        ensures under_way { (records : List Record) (clock : ℕ) → EachTransaction self.old session records clock
+            (λ origin setting progress. (after : Progress)
+            × ComesTo origin self.new session records clock setting progress after) }
         ensures only_locks { self.new ≡ record self.old { locks = self.new.locks } }
     {
         match condition {
@@ -48,8 +51,12 @@ impl Database {
         query: &Query,
     ) -> Result<bool, Refusal>
         requires { AreThere self.old.tables (statement.query_locks query.now) }
-        ensures tested { (origin : List Held) (records : List Record) (clock : ℕ) (setting : Setting) (progress : Progress) → Represents origin self.old session records clock setting progress → Tests (ComesTo origin self.new session records clock setting progress) (test_condition setting tables.now (Some query.now) progress) result ⊎ (result ≡ Err Refusal.NoMemory) }
-        ensures under_way { (origin : List Held) (records : List Record) (clock : ℕ) (setting : Setting) (progress : Progress) → Represents origin self.old session records clock setting progress → (after : Progress) × ComesTo origin self.new session records clock setting progress after }
+        ensures tested { (records : List Record) (clock : ℕ) → EachTransaction self.old session records clock
+            (λ origin setting progress. Tests (ComesTo origin self.new session records clock setting progress)
+            (test_condition setting tables.now (Some query.now) progress) result ⊎ (result ≡ Err Refusal.NoMemory)) }
+        ensures under_way { (records : List Record) (clock : ℕ) → EachTransaction self.old session records clock
+            (λ origin setting progress. (after : Progress)
+            × ComesTo origin self.new session records clock setting progress after) }
         ensures only_locks { self.new ≡ record self.old { locks = self.new.locks } }
     {
         let Ok(list) = query_locks(alloc, query) else {
@@ -69,7 +76,8 @@ impl Database {
         tables: &Transition,
         query: &Query,
     ) -> Result<bool, Refusal>
-        ensures { IsAnswer (truth (statement.condition_rows (seen_by self.now.tables tables.now (who_in self.now session)) query.now)) result }
+        ensures { IsAnswer (truth (statement.condition_rows
+            (seen_by self.now.tables tables.now (who_in self.now session)) query.now)) result }
     {
         let view = self.view(session, tables);
         match holds(alloc, query, &view) {

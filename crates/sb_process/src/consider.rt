@@ -1,12 +1,11 @@
 //! One consideration of a rule.
-ghost use Rattle.std.specs.Prelude.{◌≡◌, ◌⊎◌, [], ◌∷◌, ◌-◌, ◌≤◌, ◌<◌, ◌+◌, ◌*◌, ◌^◌, ℕ, List, length, IfOk, OnOk, OnErr};
+ghost use Rattle.std.specs.Prelude.{◌≡◌, ◌⊎◌, [], ◌∷◌, ◌-◌, ◌≤◌, ◌<◌, ◌+◌, ◌*◌, ◌^◌, ℕ, length, IfOk, OnOk, OnErr};
 ghost use Rattle.sb_rawlog.specs.Sessions.{OthersStay};
-ghost use Rattle.sb_tables.specs.Held.{Held};
 ghost use Rattle.sb_process.specs.Consider as spec;
 ghost use Rattle.sb_process.specs.Made.{NumbersBelow};
-ghost use Rattle.sb_process.specs.Represents.{Represents, who_in};
-ghost use Rattle.sb_process.specs.Running.{IsRunning, ComesTo, Acts, Ends, Goes};
-ghost use Rattle.sb_process.specs.Setting.{Setting, Progress, marked, rule_tables};
+ghost use Rattle.sb_process.specs.Represents.{EachTransaction, Represents, who_in};
+ghost use Rattle.sb_process.specs.Running.{EachRunning, IsUnderWay, ComesTo, Acts, Ends, Goes};
+ghost use Rattle.sb_process.specs.Setting.{Progress, marked, rule_tables};
 ghost use Rattle.sb_process.specs.Statement.{RisesBy};
 ghost use Rattle.sb_marks.specs.Transactions.{OtherSessionsStay};
 ghost use Rattle.sb_process.specs.Work.{AreActionsThere, IsConditionThere};
@@ -39,14 +38,19 @@ impl Database {
         session: SessionId,
         rule: &Rule,
     ) -> Result<Consideration, Refusal>
-        requires running { (origin : List Held) × (setting : Setting) × (progress : Progress) × IsRunning origin self.old session (L.records log.old) (L.clock log.old) index.now setting progress }
+        requires running { IsUnderWay self.old session (L.records log.old) (L.clock log.old) index.now }
         requires condition { IsConditionThere self.old.tables rule.now.condition }
         requires actions { AreActionsThere self.old.tables rule.now.actions }
         requires few { length rule.now.actions ≤ 8 }
         requires times { L.clock log.old + 32768 < 2 ^ 64 }
         requires numbers { (n : ℕ) × (n + 32768 < 2 ^ 64) × NumbersBelow n self.old.tables }
-        ensures considered { (origin : List Held) (setting : Setting) (progress : Progress) → IsRunning origin self.old session (L.records log.old) (L.clock log.old) index.now setting progress → Goes (ComesTo origin self.new session (L.records log.new) (L.clock log.new) setting progress) (spec.consider setting rule.now progress) result ⊎ (result ≡ Err Refusal.NoMemory) }
-        ensures under_way { (origin : List Held) (setting : Setting) (progress : Progress) → IsRunning origin self.old session (L.records log.old) (L.clock log.old) index.now setting progress → (after : Progress) × ComesTo origin self.new session (L.records log.new) (L.clock log.new) setting progress after }
+        ensures considered { EachRunning self.old session (L.records log.old) (L.clock log.old) index.now
+            (λ origin setting progress.
+            Goes (ComesTo origin self.new session (L.records log.new) (L.clock log.new) setting progress)
+            (spec.consider setting rule.now progress) result ⊎ (result ≡ Err Refusal.NoMemory)) }
+        ensures under_way { EachRunning self.old session (L.records log.old) (L.clock log.old) index.now
+            (λ origin setting progress. (after : Progress)
+            × ComesTo origin self.new session (L.records log.new) (L.clock log.new) setting progress after) }
         ensures id { self.new.id ≡ self.old.id }
         ensures sessions { OtherSessionsStay self.old.transactions self.new.transactions session }
         ensures others { OthersStay (who_in self.old session) (L.records log.old) (L.records log.new) }
@@ -76,7 +80,8 @@ impl Database {
         session: SessionId,
         rule: &Rule,
     ) -> Result<Transition, AllocError>
-        ensures { (origin : List Held) (setting : Setting) (progress : Progress) → Represents origin self.now session (L.records log.now) (L.clock log.now) setting progress → IfOk result (λ tables. tables ≡ rule_tables progress rule.now) }
+        ensures { EachTransaction self.now session (L.records log.now) (L.clock log.now)
+            (λ origin setting progress. IfOk result (λ tables. tables ≡ rule_tables progress rule.now)) }
     {
         // for the proof: a time marks the changes that are older
         let _now = log.now();
@@ -95,7 +100,10 @@ impl Database {
         session: SessionId,
         rule: &Rule,
     ) -> Result<(), AllocError>
-        ensures marked { OnOk result ((origin : List Held) (setting : Setting) (progress : Progress) → Represents origin self.old session (L.records log.now) (L.clock log.now) setting progress → Represents origin self.new session (L.records log.now) (L.clock log.now) setting (marked rule.now progress)) }
+        ensures marked { OnOk result (EachTransaction self.old session (L.records log.now) (L.clock log.now)
+            (λ origin setting progress.
+            Represents origin self.new session (L.records log.now) (L.clock log.now) setting
+            (marked rule.now progress))) }
         ensures sessions { OnOk result (OtherSessionsStay self.old.transactions self.new.transactions session) }
         ensures only_marks { OnOk result (self.new ≡ record self.old { transactions = self.new.transactions }) }
         ensures unchanged { OnErr result (self.new ≡ self.old) }
@@ -114,17 +122,23 @@ impl Database {
         tables: &Transition,
         actions: &[Action],
     ) -> Result<Consideration, Refusal>
-        requires running { (origin : List Held) × (setting : Setting) × (progress : Progress) × IsRunning origin self.old session (L.records log.old) (L.clock log.old) index.now setting progress }
+        requires running { IsUnderWay self.old session (L.records log.old) (L.clock log.old) index.now }
         requires actions { AreActionsThere self.old.tables actions.now }
         requires times { L.clock log.old + 4096 * length actions.now < 2 ^ 64 }
         requires numbers { (n : ℕ) × (n + 4096 * length actions.now < 2 ^ 64) × NumbersBelow n self.old.tables }
-        ensures ran { (origin : List Held) (setting : Setting) (progress : Progress) → IsRunning origin self.old session (L.records log.old) (L.clock log.old) index.now setting progress → Ends (ComesTo origin self.new session (L.records log.new) (L.clock log.new) setting progress) (spec.run_actions setting tables.now actions.now progress) result ⊎ (result ≡ Err Refusal.NoMemory) }
-        ensures under_way { (origin : List Held) (setting : Setting) (progress : Progress) → IsRunning origin self.old session (L.records log.old) (L.clock log.old) index.now setting progress → (after : Progress) × ComesTo origin self.new session (L.records log.new) (L.clock log.new) setting progress after }
+        ensures ran { EachRunning self.old session (L.records log.old) (L.clock log.old) index.now
+            (λ origin setting progress.
+            Ends (ComesTo origin self.new session (L.records log.new) (L.clock log.new) setting progress)
+            (spec.run_actions setting tables.now actions.now progress) result ⊎ (result ≡ Err Refusal.NoMemory)) }
+        ensures under_way { EachRunning self.old session (L.records log.old) (L.clock log.old) index.now
+            (λ origin setting progress. (after : Progress)
+            × ComesTo origin self.new session (L.records log.new) (L.clock log.new) setting progress after) }
         ensures id { self.new.id ≡ self.old.id }
         ensures sessions { OtherSessionsStay self.old.transactions self.new.transactions session }
         ensures others { OthersStay (who_in self.old session) (L.records log.old) (L.records log.new) }
         ensures times { RisesBy (4096 * length actions.now) (L.clock log.old) (L.clock log.new) }
-        ensures numbers { (n : ℕ) → NumbersBelow n self.old.tables → NumbersBelow (n + 4096 * length actions.now) self.new.tables }
+        ensures numbers { (n : ℕ) → NumbersBelow n self.old.tables
+            → NumbersBelow (n + 4096 * length actions.now) self.new.tables }
     {
         match actions {
             [] => Ok(Consideration::True),
@@ -148,12 +162,17 @@ impl Database {
         tables: &Transition,
         action: &Action,
     ) -> Result<bool, Refusal>
-        requires running { (origin : List Held) × (setting : Setting) × (progress : Progress) × IsRunning origin self.old session (L.records log.old) (L.clock log.old) index.now setting progress }
+        requires running { IsUnderWay self.old session (L.records log.old) (L.clock log.old) index.now }
         requires action { AreActionsThere self.old.tables (action.now ∷ []) }
         requires times { L.clock log.old + 4096 < 2 ^ 64 }
         requires numbers { NumbersBelow (2 ^ 64 - 4097) self.old.tables }
-        ensures ran { (origin : List Held) (setting : Setting) (progress : Progress) → IsRunning origin self.old session (L.records log.old) (L.clock log.old) index.now setting progress → Acts (ComesTo origin self.new session (L.records log.new) (L.clock log.new) setting progress) (spec.run_actions setting tables.now (action.now ∷ []) progress) result ⊎ (result ≡ Err Refusal.NoMemory) }
-        ensures under_way { (origin : List Held) (setting : Setting) (progress : Progress) → IsRunning origin self.old session (L.records log.old) (L.clock log.old) index.now setting progress → (after : Progress) × ComesTo origin self.new session (L.records log.new) (L.clock log.new) setting progress after }
+        ensures ran { EachRunning self.old session (L.records log.old) (L.clock log.old) index.now
+            (λ origin setting progress.
+            Acts (ComesTo origin self.new session (L.records log.new) (L.clock log.new) setting progress)
+            (spec.run_actions setting tables.now (action.now ∷ []) progress) result ⊎ (result ≡ Err Refusal.NoMemory)) }
+        ensures under_way { EachRunning self.old session (L.records log.old) (L.clock log.old) index.now
+            (λ origin setting progress. (after : Progress)
+            × ComesTo origin self.new session (L.records log.new) (L.clock log.new) setting progress after) }
         ensures id { self.new.id ≡ self.old.id }
         ensures sessions { OtherSessionsStay self.old.transactions self.new.transactions session }
         ensures others { OthersStay (who_in self.old session) (L.records log.old) (L.records log.new) }

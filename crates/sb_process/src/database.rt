@@ -2,10 +2,8 @@
 ghost use Rattle.std.specs.Prelude.{◌≡◌, ℕ, []};
 ghost use Rattle.sb_value.specs.Locks.{no_locks};
 ghost use Rattle.sb_value.specs.declared.lock.Mode.{Mode};
-ghost use Rattle.sb_rawlog.specs.Sessions.{changes_by, OthersStay};
 ghost use Rattle.sb_locks.specs.Held.{held};
-ghost use Rattle.sb_process.specs.Setting.{Setting, Progress};
-ghost use Rattle.sb_marks.specs.Transactions.{mark_of, tested_of, is_candidate_of};
+ghost use Rattle.sb_marks.specs.Transactions.{mark_of, tested_of};
 
 use sb_locks::Locks;
 use sb_marks::Transactions;

@@ -4,8 +4,8 @@
 ghost use Rattle.std.specs.Prelude.{◌≡◌};
 
 mod apply;
-mod bounds;
 mod candidates;
+mod change;
 mod condition;
 mod consider;
 mod database;
@@ -15,15 +15,16 @@ mod make;
 mod note;
 mod process;
 mod ready;
+mod refusal;
 mod request;
-mod run;
-mod statement;
+mod select;
+mod transaction;
 mod undo;
 mod view;
 
 pub use database::Database;
 pub use laws::transactions_share_tables;
-pub use process::Rules;
+pub use process::{AssertionPoint, Rules};
 use sb_value::{Refusal, RuleId, Verdict};
 use std::marker::Model;
 

@@ -16,7 +16,8 @@ pub(crate) fn make(tables: &mut Tables, change: &Change, copy: Option<Row>)
     requires copied { copy ≡ change.now.new }
     requires place { HasPlaceFor change.now.kind (stored_at tables.old change.now.table) }
     ensures one { Makes change.now tables.old tables.new }
-    ensures more { (origin : List Held) (changes : List Definition) → AreMade origin changes tables.old → AreMade origin (changes ++ change.now ∷ []) tables.new }
+    ensures more { (origin : List Held) (changes : List Definition) →
+        AreMade origin changes tables.old → AreMade origin (changes ++ change.now ∷ []) tables.new }
 {
     // for the proof: tables with changes made are sound
     changes_keep_places();

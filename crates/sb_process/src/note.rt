@@ -1,12 +1,11 @@
 //! A consideration with its verdict in the trace.
-ghost use Rattle.std.specs.Prelude.{◌≡◌, ◌≢◌, ◌≤◌, ◌<◌, ◌+◌, ◌^◌, ◌++◌, ◌∷◌, [], ℕ, List, length, IfOk, OnOk, OnErr, vec_len, vec_capacity};
+ghost use Rattle.std.specs.Prelude.{◌≡◌, ◌≢◌, ◌≤◌, ◌<◌, ◌+◌, ◌^◌, ◌++◌, ◌∷◌, [], ℕ, length, IfOk, OnOk, OnErr, vec_len, vec_capacity};
 ghost use Rattle.sb_rawlog.specs.Sessions.{OthersStay};
-ghost use Rattle.sb_tables.specs.Held.{Held};
 ghost use Rattle.sb_process.specs.Consider as spec;
 ghost use Rattle.sb_process.specs.Made.{NumbersBelow};
 ghost use Rattle.sb_process.specs.Represents.{who_in};
-ghost use Rattle.sb_process.specs.Running.{IsRunning, ComesTo, Notes, outcome_noted, verdict_noted};
-ghost use Rattle.sb_process.specs.Setting.{Setting, Progress};
+ghost use Rattle.sb_process.specs.Running.{EachRunning, IsUnderWay, ComesTo, Notes, outcome_noted, verdict_noted};
+ghost use Rattle.sb_process.specs.Setting.{Progress};
 ghost use Rattle.sb_process.specs.Statement.{RisesBy};
 ghost use Rattle.sb_marks.specs.Transactions.{OtherSessionsStay};
 ghost use Rattle.sb_process.specs.Work.{AreActionsThere, IsConditionThere};
@@ -31,14 +30,19 @@ impl Database {
         rule: &Rule,
         trace: &mut Vec<(RuleId, Verdict)>,
     ) -> Result<Option<Outcome>, AllocError>
-        requires running { (origin : List Held) × (setting : Setting) × (progress : Progress) × IsRunning origin self.old session (L.records log.old) (L.clock log.old) index.now setting progress }
+        requires running { IsUnderWay self.old session (L.records log.old) (L.clock log.old) index.now }
         requires condition { IsConditionThere self.old.tables rule.now.condition }
         requires actions { AreActionsThere self.old.tables rule.now.actions }
         requires few { length rule.now.actions ≤ 8 }
         requires times { L.clock log.old + 32768 < 2 ^ 64 }
         requires numbers { (n : ℕ) × (n + 32768 < 2 ^ 64) × NumbersBelow n self.old.tables }
-        ensures noted { (origin : List Held) (setting : Setting) (progress : Progress) → IsRunning origin self.old session (L.records log.old) (L.clock log.old) index.now setting progress → IfOk result (λ o. Notes (ComesTo origin self.new session (L.records log.new) (L.clock log.new) setting progress) rule.now.id progress (spec.consider setting rule.now progress) trace.old.items trace.new.items o) }
-        ensures under_way { (origin : List Held) (setting : Setting) (progress : Progress) → IsRunning origin self.old session (L.records log.old) (L.clock log.old) index.now setting progress → (after : Progress) × ComesTo origin self.new session (L.records log.new) (L.clock log.new) setting progress after }
+        ensures noted { EachRunning self.old session (L.records log.old) (L.clock log.old) index.now
+            (λ origin setting progress. IfOk result (λ o.
+            Notes (ComesTo origin self.new session (L.records log.new) (L.clock log.new) setting progress)
+            rule.now.id progress (spec.consider setting rule.now progress) trace.old.items trace.new.items o)) }
+        ensures under_way { EachRunning self.old session (L.records log.old) (L.clock log.old) index.now
+            (λ origin setting progress. (after : Progress)
+            × ComesTo origin self.new session (L.records log.new) (L.clock log.new) setting progress after) }
         ensures id { self.new.id ≡ self.old.id }
         ensures sessions { OtherSessionsStay self.old.transactions self.new.transactions session }
         ensures others { OthersStay (who_in self.old session) (L.records log.old) (L.records log.new) }
@@ -67,29 +71,21 @@ fn note(
 {
     match considered {
         Ok(Consideration::False) => {
-            push_reserved(trace, rule, Verdict::False);
+            trace.push_reserved((rule, Verdict::False));
             Ok(None)
         }
         Ok(Consideration::True) => {
-            push_reserved(trace, rule, Verdict::True);
+            trace.push_reserved((rule, Verdict::True));
             Ok(None)
         }
         Ok(Consideration::RolledBack) => {
-            push_reserved(trace, rule, Verdict::True);
+            trace.push_reserved((rule, Verdict::True));
             Ok(Some(Outcome::ByRule(rule)))
         }
         Err(Refusal::NoMemory) => Err(AllocError),
         Err(refusal) => {
-            push_reserved(trace, rule, Verdict::Error);
+            trace.push_reserved((rule, Verdict::Error));
             Ok(Some(Outcome::ByError(rule, refusal)))
         }
     }
-}
-
-fn push_reserved(trace: &mut Vec<(RuleId, Verdict)>, rule: RuleId, verdict: Verdict)
-    requires { vec_len trace.old < vec_capacity trace.old }
-    ensures { trace.new.items ≡ trace.old.items ++ (rule, verdict) ∷ [] }
-{
-    // The place is there.
-    let _ = trace.push((rule, verdict));
 }

@@ -1,16 +1,15 @@
 //! Processing of eligible rules.
-ghost use Rattle.std.specs.Prelude.{◌≡◌, ℕ, ◌+◌, ◌*◌, ◌<◌, ◌≤◌, ◌^◌, List, IfOk, OnErr};
+ghost use Rattle.std.specs.Prelude.{◌≡◌, ℕ, ◌+◌, ◌*◌, ◌<◌, ◌^◌, IfOk, OnErr};
 ghost use Rattle.sb_value.specs.Flags.{flag_at};
 ghost use Rattle.sb_rawlog.specs.Sessions.{OthersStay};
-ghost use Rattle.sb_tables.specs.Held.{Held};
 ghost use Rattle.sb_process.specs.Made.{NumbersBelow};
 ghost use Rattle.sb_process.specs.Process as spec;
 ghost use Rattle.sb_process.specs.Represents.{IsTakenBack, who_in};
 ghost use Rattle.sb_process.specs.Running.{ComesTo, Finds, is_done};
-ghost use Rattle.sb_process.specs.Setting.{Setting, Progress};
+ghost use Rattle.sb_process.specs.Setting.{Progress};
 ghost use Rattle.sb_process.specs.Statement.{RisesBy};
 ghost use Rattle.sb_marks.specs.Transactions.{OtherSessionsStay, ArePast};
-ghost use Rattle.sb_process.specs.Work.{AreActive, CanRun, IsWork, Processes};
+ghost use Rattle.sb_process.specs.Work.{EachWork, IsAtWork, AreActive, CanRun, Processes};
 
 use crate::database::Database;
 use crate::{Outcome, Processed, Trace};
@@ -29,6 +28,15 @@ pub struct Rules<'a> {
     pub order: &'a Priorities,
 }
 
+/// An assertion point of a session: the rules that are eligible there, and how many may be considered.
+#[derive(Drop)]
+pub struct AssertionPoint {
+    pub session: SessionId,
+    pub eligible: RuleSet,
+    /// The consideration limit.
+    pub bound: u32,
+}
+
 impl Outcome {
     /// Whether no rule is left.
     pub fn is_done(&self) -> bool
@@ -44,33 +52,38 @@ impl Outcome {
 }
 
 impl Database {
-    /// Considers eligible rules that are triggered, one after another, up to the consideration limit `bound`.
+    /// Considers eligible rules that are triggered, one after another, up to the consideration limit.
     /// After every outcome but `Done`, and where memory runs out, the transaction is taken back.
     pub fn process<L: ChangeLog>(
         &mut self,
         alloc: Global,
         log: &mut L,
         rules: &Rules<'_>,
-        session: SessionId,
-        eligible: RuleSet,
-        bound: u32,
+        point: &AssertionPoint,
     ) -> Result<Processed, AllocError>
-        requires work { (origin : List Held) × (setting : Setting) × (progress : Progress) × IsWork origin self.old session (L.records log.old) (L.clock log.old) rules.now.index.now rules.now.catalog.now rules.now.order.now setting progress }
+        requires work { IsAtWork self.old point.now.session (L.records log.old) (L.clock log.old) rules.now }
         requires rules { CanRun self.old.tables rules.now.catalog.now }
-        requires active { AreActive (flag_at eligible) rules.now.catalog.now }
+        requires active { AreActive (flag_at point.now.eligible) rules.now.catalog.now }
         requires times { L.clock log.old < 2 ^ 63 }
         requires numbers { NumbersBelow (2 ^ 63) self.old.tables }
-        ensures processed { (origin : List Held) (setting : Setting) (progress : Progress) → IsWork origin self.old session (L.records log.old) (L.clock log.old) rules.now.index.now rules.now.catalog.now rules.now.order.now setting progress → IfOk result (λ p. Processes origin self.old self.new session p.outcome p.trace (L.records log.new) (L.clock log.new) setting progress (spec.process bound setting (flag_at eligible) progress)) }
-        ensures no_memory { (origin : List Held) (setting : Setting) (progress : Progress) → IsWork origin self.old session (L.records log.old) (L.clock log.old) rules.now.index.now rules.now.catalog.now rules.now.order.now setting progress → OnErr result (IsTakenBack origin self.old self.new session (L.records log.new) setting progress) }
+        ensures processed { EachWork self.old point.now.session (L.records log.old) (L.clock log.old) rules.now
+            (λ origin setting progress. IfOk result (λ p.
+            Processes origin self.old self.new point.now.session p.outcome p.trace (L.records log.new) (L.clock log.new)
+            setting progress (spec.process point.now.bound setting (flag_at point.now.eligible) progress))) }
+        ensures no_memory { EachWork self.old point.now.session (L.records log.old) (L.clock log.old) rules.now
+            (λ origin setting progress.
+            OnErr result
+            (IsTakenBack origin self.old self.new point.now.session (L.records log.new) setting progress)) }
         ensures id { self.new.id ≡ self.old.id }
-        ensures sessions { OtherSessionsStay self.old.transactions self.new.transactions session }
-        ensures others { OthersStay (who_in self.old session) (L.records log.old) (L.records log.new) }
-        ensures times { RisesBy (32768 * bound) (L.clock log.old) (L.clock log.new) }
-        ensures numbers { (n : ℕ) → NumbersBelow n self.old.tables → NumbersBelow (n + 32768 * bound) self.new.tables }
-        ensures past { ArePast self.new.transactions session (L.clock log.new) }
+        ensures sessions { OtherSessionsStay self.old.transactions self.new.transactions point.now.session }
+        ensures others { OthersStay (who_in self.old point.now.session) (L.records log.old) (L.records log.new) }
+        ensures times { RisesBy (32768 * point.now.bound) (L.clock log.old) (L.clock log.new) }
+        ensures numbers { (n : ℕ) → NumbersBelow n self.old.tables
+            → NumbersBelow (n + 32768 * point.now.bound) self.new.tables }
+        ensures past { ArePast self.new.transactions point.now.session (L.clock log.new) }
     {
         let mut list = Vec::new(alloc);
-        match self.consider_all(alloc, log, rules, session, eligible, bound, &mut list) {
+        match self.consider_all(alloc, log, rules, point, &mut list) {
             Ok(outcome) => {
                 if outcome.is_done() {
                     return Ok(Processed {
@@ -78,14 +91,14 @@ impl Database {
                         trace: Trace { list },
                     });
                 }
-                self.rollback(log, session);
+                self.rollback(log, point.session);
                 Ok(Processed {
                     outcome,
                     trace: Trace { list },
                 })
             }
             Err(error) => {
-                self.rollback(log, session);
+                self.rollback(log, point.session);
                 Err(error)
             }
         }
@@ -97,35 +110,40 @@ impl Database {
         alloc: Global,
         log: &mut L,
         rules: &Rules<'_>,
-        session: SessionId,
-        eligible: RuleSet,
-        bound: u32,
+        point: &AssertionPoint,
         trace: &mut Vec<(RuleId, Verdict)>,
     ) -> Result<Outcome, AllocError>
-        requires work { (origin : List Held) × (setting : Setting) × (progress : Progress) × IsWork origin self.old session (L.records log.old) (L.clock log.old) rules.now.index.now rules.now.catalog.now rules.now.order.now setting progress }
+        requires work { IsAtWork self.old point.now.session (L.records log.old) (L.clock log.old) rules.now }
         requires rules { CanRun self.old.tables rules.now.catalog.now }
-        requires active { AreActive (flag_at eligible) rules.now.catalog.now }
+        requires active { AreActive (flag_at point.now.eligible) rules.now.catalog.now }
         requires times { L.clock log.old < 2 ^ 63 }
         requires numbers { NumbersBelow (2 ^ 63) self.old.tables }
-        ensures processed { (origin : List Held) (setting : Setting) (progress : Progress) → IsWork origin self.old session (L.records log.old) (L.clock log.old) rules.now.index.now rules.now.catalog.now rules.now.order.now setting progress → IfOk result (λ o. Finds (ComesTo origin self.new session (L.records log.new) (L.clock log.new) setting progress) (spec.process bound setting (flag_at eligible) progress) trace.old.items trace.new.items o) }
-        ensures under_way { (origin : List Held) (setting : Setting) (progress : Progress) → IsWork origin self.old session (L.records log.old) (L.clock log.old) rules.now.index.now rules.now.catalog.now rules.now.order.now setting progress → (after : Progress) × ComesTo origin self.new session (L.records log.new) (L.clock log.new) setting progress after }
+        ensures processed { EachWork self.old point.now.session (L.records log.old) (L.clock log.old) rules.now
+            (λ origin setting progress. IfOk result (λ o.
+            Finds (ComesTo origin self.new point.now.session (L.records log.new) (L.clock log.new) setting progress)
+            (spec.process point.now.bound setting (flag_at point.now.eligible) progress)
+            trace.old.items trace.new.items o)) }
+        ensures under_way { EachWork self.old point.now.session (L.records log.old) (L.clock log.old) rules.now
+            (λ origin setting progress. (after : Progress)
+            × ComesTo origin self.new point.now.session (L.records log.new) (L.clock log.new) setting progress after) }
         ensures id { self.new.id ≡ self.old.id }
-        ensures sessions { OtherSessionsStay self.old.transactions self.new.transactions session }
-        ensures others { OthersStay (who_in self.old session) (L.records log.old) (L.records log.new) }
-        ensures times { RisesBy (32768 * bound) (L.clock log.old) (L.clock log.new) }
-        ensures numbers { (n : ℕ) → NumbersBelow n self.old.tables → NumbersBelow (n + 32768 * bound) self.new.tables }
+        ensures sessions { OtherSessionsStay self.old.transactions self.new.transactions point.now.session }
+        ensures others { OthersStay (who_in self.old point.now.session) (L.records log.old) (L.records log.new) }
+        ensures times { RisesBy (32768 * point.now.bound) (L.clock log.old) (L.clock log.new) }
+        ensures numbers { (n : ℕ) → NumbersBelow n self.old.tables
+            → NumbersBelow (n + 32768 * point.now.bound) self.new.tables }
     {
-        for _turn in 0..bound {
-            let Some(rule) = self.next_rule(log, rules, session, eligible) else {
+        for _turn in 0..point.bound {
+            let Some(rule) = self.next_rule(log, rules, point.session, point.eligible) else {
                 return Ok(Outcome::Done);
             };
-            match self.consider_noted(alloc, log, rules.index, session, rule, trace) {
+            match self.consider_noted(alloc, log, rules.index, point.session, rule, trace) {
                 Ok(None) => {}
                 Ok(Some(outcome)) => return Ok(outcome),
                 Err(error) => return Err(error),
             }
         }
-        match self.next_rule(log, rules, session, eligible) {
+        match self.next_rule(log, rules, point.session, point.eligible) {
             Some(_) => Ok(Outcome::ByLimit),
             None => Ok(Outcome::Done),
         }

@@ -18,8 +18,10 @@ pub(crate) fn request(
 ) -> Result<(), Refusal>
     requires { AreThere tables.now list.now }
     ensures granted { OnOk result (first_conflict (held locks.old) session list.now ≡ None) }
-    ensures taken { OnOk result ((s t : ℕ) (m : Mode) → held locks.new s t m ≡ with_locks (held locks.old) session list.now s t m) }
-    ensures refused { IfErr result (λ e. (table : ℕ) × (first_conflict (held locks.old) session list.now ≡ Some table) × IsLocked tables.now table e) }
+    ensures taken { OnOk result ((s t : ℕ) (m : Mode) →
+        held locks.new s t m ≡ with_locks (held locks.old) session list.now s t m) }
+    ensures refused { IfErr result (λ e. (table : ℕ)
+        × (first_conflict (held locks.old) session list.now ≡ Some table) × IsLocked tables.now table e) }
     ensures unchanged { OnErr result (locks.new ≡ locks.old) }
 {
     match locks.request(session, list) {

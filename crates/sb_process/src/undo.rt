@@ -1,7 +1,6 @@
 //! Rollback.
 ghost use Rattle.std.specs.Prelude.{◌≡◌, ℕ, List, []};
-ghost use Rattle.sb_process.specs.Represents.{Represents, IsTransaction, IsTakenBack, who_in};
-ghost use Rattle.sb_process.specs.Setting.{Setting, Progress};
+ghost use Rattle.sb_process.specs.Represents.{EachTransaction, IsTransaction, IsTakenBack, who_in};
 ghost use Rattle.sb_rawlog.specs.Sessions.{changes_by, OthersStay};
 ghost use Rattle.sb_tables.specs.Held.{Held};
 ghost use Rattle.sb_process.specs.Made.{AreMade, NumbersBelow};
@@ -15,7 +14,9 @@ impl Database {
     /// Takes all changes of the session's transaction back, and releases its locks.
     pub fn rollback<L: ChangeLog>(&mut self, log: &mut L, session: SessionId)
         requires { IsTransaction self.old session (L.records log.old) (L.clock log.old) }
-        ensures back { (origin : List Held) (setting : Setting) (progress : Progress) → Represents origin self.old session (L.records log.old) (L.clock log.old) setting progress → IsTakenBack origin self.old self.new session (L.records log.new) setting progress }
+        ensures back { EachTransaction self.old session (L.records log.old) (L.clock log.old)
+            (λ origin setting progress.
+            IsTakenBack origin self.old self.new session (L.records log.new) setting progress) }
         ensures numbers { (n : ℕ) → NumbersBelow n self.old.tables → NumbersBelow n self.new.tables }
         ensures others { OthersStay (who_in self.old session) (L.records log.old) (L.records log.new) }
         ensures clock { L.clock log.new ≡ L.clock log.old }
@@ -33,7 +34,8 @@ impl Database {
 /// Undoes the session's changes, the newest first.
 pub(crate) fn undo_all<L: ChangeLog>(tables: &mut Tables, log: &mut L, who: &Who)
     requires { (origin : List Held) × AreMade origin (changes_by who.now (L.records log.old)) tables.old }
-    ensures tables { (origin : List Held) → AreMade origin (changes_by who.now (L.records log.old)) tables.old → AreMade origin [] tables.new }
+    ensures tables { (origin : List Held) →
+        AreMade origin (changes_by who.now (L.records log.old)) tables.old → AreMade origin [] tables.new }
     ensures none { changes_by who.now (L.records log.new) ≡ [] }
     ensures others { OthersStay who.now (L.records log.old) (L.records log.new) }
     ensures clock { L.clock log.new ≡ L.clock log.old }

@@ -1,14 +1,18 @@
 //! What a statement sees.
 ghost use Rattle.std.specs.Prelude.{◌≡◌, length};
+ghost use Rattle.sb_eval.specs.Seen as seen;
 ghost use Rattle.sb_eval.specs.Seen.{Seen};
+ghost use Rattle.sb_process.specs.Represents.{who_in};
 ghost use Rattle.sb_process.specs.View.{rows_listed};
 ghost use Rattle.sb_tables.specs.Held.{entries};
 ghost use Rattle.sb_value.specs.Table.{table_at, values};
 
+use crate::database::Database;
 use sb_check::Source;
 use sb_eval::{SourceRows, Sources};
 use sb_tables::{Rows, Tables};
-use sb_value::{Row, TableId, Transition, Who};
+use sb_value::{Row, RowList, SessionId, TableId, Transition, Who};
+use std::alloc::Global;
 
 /// The tables as they are now, the transition tables of a rule or none, and the session.
 #[derive(Drop)]
@@ -16,6 +20,36 @@ pub(crate) struct View<'a> {
     pub(crate) tables: &'a Tables,
     pub(crate) transition: &'a Transition,
     pub(crate) who: Who,
+}
+
+impl Database {
+    /// What a statement of the session sees, with these transition tables.
+    pub(crate) fn view<'a>(&'a self, session: SessionId, transition: &'a Transition) -> View<'a>
+        ensures tables { result.tables.now ≡ self.now.tables }
+        ensures transition { result.transition.now ≡ transition.now }
+        ensures who { result.who ≡ who_in self.now session }
+    {
+        View {
+            tables: &self.tables,
+            transition,
+            who: Who {
+                tenant: self.id,
+                session,
+            },
+        }
+    }
+}
+
+/// No transition tables.
+pub(crate) fn no_transition(alloc: Global) -> Transition
+    ensures { result ≡ seen.no_transition }
+{
+    Transition {
+        inserted: RowList::new(alloc),
+        deleted: RowList::new(alloc),
+        old_updated: RowList::new(alloc),
+        new_updated: RowList::new(alloc),
+    }
 }
 
 impl<'a> Sources for View<'a> {

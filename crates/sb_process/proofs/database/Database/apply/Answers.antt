@@ -26,9 +26,9 @@ loop-ready-init g c =
       made = (
         [],
         ap changes_in same,
-        λ origin setting progress r indexed.
+        λ origin setting progress w.
             subst (λ (cs : List Change). Represents origin c.args.self.now c.args.session (g.L.ChangeLog.records c.args.log.now) (g.L.ChangeLog.clock c.args.log.now) setting (record progress { changes = cs }))
-            (sym (append-nil progress.changes)) r,
+            (sym (append-nil progress.changes)) w.transaction,
       );
       id = refl;
       sessions = λ s r other. (refl, refl, refl);
@@ -64,12 +64,12 @@ loop-ready-preserved g c =
       made = (
         v.made.0 ++ x.change ∷ [],
         append_assoc v.made.0 (x.change ∷ []) (changes_in left) ∙ ap (λ (l : List Ready). v.made.0 ++ changes_in l) (sym split) ∙ v.made.1,
-        λ origin setting progress r indexed.
+        λ origin setting progress w.
             subst
             (λ (cs : List Change). Represents origin c.apply_one.new.self c.args.session (g.L.ChangeLog.records c.apply_one.new.log) (g.L.ChangeLog.clock c.apply_one.new.log) setting (record progress { changes = cs }))
             (append_assoc progress.changes v.made.0 (x.change ∷ []))
-            (c.apply_one.ensures.one origin setting (record progress { changes = progress.changes ++ v.made.0 }) (v.made.2 origin setting progress r indexed)
-            (subst (λ (id : ℕ). AreIndexed c.args.index.now id setting.rules) (sym v.id) indexed)),
+            (c.apply_one.ensures.one origin setting (record progress { changes = progress.changes ++ v.made.0 })
+            (record { transaction = v.made.2 origin setting progress w; indexed = subst (λ (id : ℕ). AreIndexed c.args.index.now id setting.rules) (sym v.id) w.indexed })),
       );
       id = same ∙ v.id;
       sessions = λ s r other. let a = c.apply_one.ensures.sessions s r other in let b = v.sessions s r other in (a.0 ∙ b.0, a.1 ∙ b.1, a.2 ∙ b.2);
@@ -81,13 +81,13 @@ loop-ready-preserved g c =
     }
 
 pub returns-clause-all : goal.returns-clause-all
-returns-clause-all g c = λ origin setting progress r indexed.
+returns-clause-all g c = λ origin setting progress w.
     let v = c.loop-ready.invariant in
     let none : into_iter_items c.loop-ready.ready-iterator ≡ [] = none_left (into_iter_items c.loop-ready.ready-iterator) (sym v.len ∙ c.in-None.ensures.steps.0) in
     let whole : v.made.0 ≡ changes_in c.args.list.items = sym (append-nil v.made.0) ∙ ap (λ (l : List Ready). v.made.0 ++ changes_in l) (sym none) ∙ v.made.1 in
     subst
     (λ (cs : List Change). Represents origin c.loop-ready.self c.args.session (g.L.ChangeLog.records c.loop-ready.log) (g.L.ChangeLog.clock c.loop-ready.log) setting (record progress { changes = progress.changes ++ cs }))
-    whole (v.made.2 origin setting progress r indexed)
+    whole (v.made.2 origin setting progress w)
 
 pub returns-clause-numbers : goal.returns-clause-numbers
 returns-clause-numbers g c = λ n b.

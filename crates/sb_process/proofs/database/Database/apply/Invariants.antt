@@ -3,14 +3,12 @@ use Rattle.std.specs.Vec.Iter.{into_iter_items, into_iter_len}
 use Rattle.sb_value.specs.declared.change.Change.{Change}
 use Rattle.sb_value.specs.declared.lock.Mode.TheVariants.{Write}
 use Rattle.sb_rawlog.specs.Sessions.{OthersStay}
-use Rattle.sb_tables.specs.Held.{Held}
 use Rattle.sb_locks.specs.Held.{held}
 use Rattle.sb_process.specs.declared.ready.Ready.{Ready}
 use Rattle.sb_process.specs.Made.{NumbersBelow}
 use Rattle.sb_process.specs.Ready.{AreCopied, CanApply, changes_in}
-use Rattle.sb_catalog.specs.Definitions.{AreIndexed}
 use Rattle.sb_process.specs.Represents.{Represents, who_in}
-use Rattle.sb_process.specs.Setting.{Setting, Progress}
+use Rattle.sb_process.specs.Running.{EachRunning}
 use Rattle.sb_marks.specs.Transactions.{OtherSessionsStay}
 use Rattle.sb_process.proofs.database.Database.apply.Given as goal
 
@@ -25,9 +23,8 @@ invariant-loop-ready g l =
       locked : held l.self.locks l.session l.fn.target Write ≡ true;
       room : length left ≤ g.L.ChangeLog.room l.log;
       clock : g.L.ChangeLog.clock l.log + length left ≡ g.L.ChangeLog.clock l.initial.log + length l.fn.list.items;
-      made : (done : List Change) × (done ++ changes_in left ≡ changes_in l.fn.list.items) × ((origin : List Held) (setting : Setting) (progress : Progress) →
-          Represents origin l.initial.self l.session (g.L.ChangeLog.records l.initial.log) (g.L.ChangeLog.clock l.initial.log) setting progress →
-          AreIndexed l.index l.initial.self.id setting.rules →
+      made : (done : List Change) × (done ++ changes_in left ≡ changes_in l.fn.list.items) ×
+          EachRunning l.initial.self l.session (g.L.ChangeLog.records l.initial.log) (g.L.ChangeLog.clock l.initial.log) l.index (λ origin setting progress.
           Represents origin l.self l.session (g.L.ChangeLog.records l.log) (g.L.ChangeLog.clock l.log) setting (record progress { changes = progress.changes ++ done }));
       id : l.self.id ≡ l.initial.self.id;
       sessions : OtherSessionsStay l.initial.self.transactions l.self.transactions l.session;

@@ -9,7 +9,7 @@ pub run-requires-clause-numbers : goal.run-requires-clause-numbers
 run-requires-clause-numbers g c = each-weaken (2 ^ 63) (2 ^ 64 - 4097) (entries c.args.self.now.tables) (omega arith) c.requires.numbers
 
 pub returns-clause-changed : goal.returns-clause-changed
-returns-clause-changed g c = λ origin setting progress r indexed.
+returns-clause-changed g c = λ origin setting progress w.
     subst
     (λ (t : Transition). Runs origin c.run.new.self c.args.session t c.args.statement.now c.run.result (g.L.ChangeLog.records c.run.new.log) (g.L.ChangeLog.clock c.run.new.log) setting progress)
-    c.no_transition-none.ensures (c.run.ensures.ran origin setting progress r indexed)
+    c.no_transition-none.ensures (c.run.ensures.ran origin setting progress w)

@@ -25,7 +25,7 @@ run_actions-requires-clause-running g c =
     let records = g.L.ChangeLog.records c.args.log.now in
     let clock = g.L.ChangeLog.clock c.args.log.now in
     let m = c.in-Ok-mark_now.ensures.marked w.0 w.1 w.2 w.3.transaction in
-    let come = c.test.ensures.under_way w.0 records clock w.1 (marked c.args.rule.now w.2) m in (
+    let come = c.test.ensures.under_way records clock w.0 w.1 (marked c.args.rule.now w.2) m in (
       w.0,
       w.1,
       come.0,
@@ -45,7 +45,7 @@ returns-in-Ok-true-clause-considered g c = λ origin setting progress w.
     let tested = test_condition setting tables rule.condition start in
     let S = λ (q : Progress). ComesTo origin mid session records clock setting start q in
     let R = λ (q : Progress). ComesTo origin new.self session later time setting progress q in
-    let answer = c.test.ensures.tested origin records clock setting start (c.in-Ok-mark_now.ensures.marked origin setting progress w.transaction) in
+    let answer = c.test.ensures.tested records clock origin setting start (c.in-Ok-mark_now.ensures.marked origin setting progress w.transaction) in
     let one = went setting tables rule S tested c.test.result answer true (c.in-Ok-true.is ∙ ap Ok c.in-Ok-true.field-0-test) in
     let Q = λ (q : Progress). ComesTo origin new.self session later time setting one.0 q in
     let last = ends-after R Q (run_actions setting tables rule.actions one.0) (run_actions setting tables c.as_slice.result.now one.0) c.run_actions.result
@@ -64,7 +64,7 @@ returns-in-Ok-true-clause-under_way g c = λ origin setting progress w.
     let session = c.args.session in let rule = c.args.rule.now in
     let records = g.L.ChangeLog.records c.args.log.now in let clock = g.L.ChangeLog.clock c.args.log.now in
     let mid = c.test.new.self in let new = c.run_actions.new in
-    let one = c.test.ensures.under_way origin records clock setting (marked rule progress) (c.in-Ok-mark_now.ensures.marked origin setting progress w.transaction) in
+    let one = c.test.ensures.under_way records clock origin setting (marked rule progress) (c.in-Ok-mark_now.ensures.marked origin setting progress w.transaction) in
     let all = c.run_actions.ensures.under_way origin setting one.0 (record {
       transaction = (one.1).stands;
       indexed = subst (λ id. AreIndexed c.args.index.now id setting.rules) (same-id c.args.self.now c.mark_now.new.self mid c.in-Ok-mark_now.ensures.only_marks c.test.ensures.only_locks) w.indexed;
@@ -90,7 +90,7 @@ returns-in-Ok-false-clause-considered g c = λ origin setting progress w.
     let S = λ (q : Progress). ComesTo origin c.test.new.self session records clock setting start q in
     let R = λ (q : Progress). ComesTo origin c.test.new.self session records clock setting progress q in
     let answer = tests-map S R (λ q h. comes-marked origin session setting rule progress q c.test.new.self records clock h) tested c.test.result
-    (c.test.ensures.tested origin records clock setting start (c.in-Ok-mark_now.ensures.marked origin setting progress w.transaction)) in
+    (c.test.ensures.tested records clock origin setting start (c.in-Ok-mark_now.ensures.marked origin setting progress w.transaction)) in
     let result : Result Consideration Refusal = Ok False in
     subst (λ (x : Considered). Goes R x result ⊎ (result ≡ Err NoMemory))
     (ap (λ (t : Transition). considered setting t rule (test_condition setting t rule.condition start)) (c.in-Ok.ensures origin setting progress w.transaction))
@@ -99,7 +99,7 @@ returns-in-Ok-false-clause-considered g c = λ origin setting progress w.
 pub returns-in-Ok-false-clause-under_way : goal.returns-in-Ok-false-clause-under_way
 returns-in-Ok-false-clause-under_way g c = λ origin setting progress w.
     let records = g.L.ChangeLog.records c.args.log.now in let clock = g.L.ChangeLog.clock c.args.log.now in
-    let one = c.test.ensures.under_way origin records clock setting (marked c.args.rule.now progress) (c.in-Ok-mark_now.ensures.marked origin setting progress w.transaction) in
+    let one = c.test.ensures.under_way records clock origin setting (marked c.args.rule.now progress) (c.in-Ok-mark_now.ensures.marked origin setting progress w.transaction) in
     (one.0, comes-marked origin c.args.session setting c.args.rule.now progress one.0 c.test.new.self records clock one.1)
 
 pub returns-in-Ok-false-clause-numbers : goal.returns-in-Ok-false-clause-numbers
@@ -116,7 +116,7 @@ returns-clause-considered g c = λ origin setting progress w.
     let S = λ (q : Progress). ComesTo origin c.test.new.self session records clock setting start q in
     let R = λ (q : Progress). ComesTo origin c.test.new.self session records clock setting progress q in
     let answer = tests-map S R (λ q h. comes-marked origin session setting rule progress q c.test.new.self records clock h) tested c.test.result
-    (c.test.ensures.tested origin records clock setting start (c.in-Ok-mark_now.ensures.marked origin setting progress w.transaction)) in
+    (c.test.ensures.tested records clock origin setting start (c.in-Ok-mark_now.ensures.marked origin setting progress w.transaction)) in
     let result : Result Consideration Refusal = Err c.in-Err.refusal in
     subst (λ (x : Considered). Goes R x result ⊎ (result ≡ Err NoMemory))
     (ap (λ (t : Transition). considered setting t rule (test_condition setting t rule.condition start)) (c.in-Ok.ensures origin setting progress w.transaction))
@@ -125,7 +125,7 @@ returns-clause-considered g c = λ origin setting progress w.
 pub returns-clause-under_way : goal.returns-clause-under_way
 returns-clause-under_way g c = λ origin setting progress w.
     let records = g.L.ChangeLog.records c.args.log.now in let clock = g.L.ChangeLog.clock c.args.log.now in
-    let one = c.test.ensures.under_way origin records clock setting (marked c.args.rule.now progress) (c.in-Ok-mark_now.ensures.marked origin setting progress w.transaction) in
+    let one = c.test.ensures.under_way records clock origin setting (marked c.args.rule.now progress) (c.in-Ok-mark_now.ensures.marked origin setting progress w.transaction) in
     (one.0, comes-marked origin c.args.session setting c.args.rule.now progress one.0 c.test.new.self records clock one.1)
 
 pub returns-clause-numbers : goal.returns-clause-numbers

@@ -1,4 +1,4 @@
-use Rattle.std.proofs.Common.{◌≡◌, ◌∙◌, suc, ◌+◌, ◌*◌, ◌-◌, Option, sym, ap, subst, arith}
+use Rattle.std.proofs.Common.{◌≡◌, ◌∙◌, suc, ◌+◌, ◌*◌, ◌-◌, ◌<◌, Option, sym, ap, subst, arith, rules}
 use Rattle.std.specs.Option.{option_copied}
 use Rattle.sb_value.specs.Flags.{flag_at}
 use Rattle.sb_catalog.specs.declared.rule.Rule.{Rule}
@@ -18,8 +18,8 @@ use Rattle.sb_process.proofs.database.Database.consider_all.Goals as goal
 
 pub returns-in_default-clause-processed : goal.returns-in_default-clause-processed
 returns-in_default-clause-processed g c = λ origin setting progress w.
-    let session = c.args.session in let index = c.args.rules.now.index.now in let catalog = c.args.rules.now.catalog.now in let order = c.args.rules.now.order.now in
-    let eligible = flag_at c.args.eligible in let bound = c.args.bound in let turn = c.loop-turn._turn in
+    let session = c.args.point.now.session in let index = c.args.rules.now.index.now in let catalog = c.args.rules.now.catalog.now in let order = c.args.rules.now.order.now in
+    let eligible = flag_at c.args.point.now.eligible in let bound = c.args.point.now.bound in let turn = c.loop-turn._turn in
     let start = c.args.self.now in let records = g.L.ChangeLog.records c.args.log.now in let clock = g.L.ChangeLog.clock c.args.log.now in
     let now = c.loop-turn.self in let later = g.L.ChangeLog.records c.loop-turn.log in let time = g.L.ChangeLog.clock c.loop-turn.log in
     let looked = c.next_rule.new.self in
@@ -33,8 +33,8 @@ returns-in_default-clause-processed g c = λ origin setting progress w.
 
 pub returns-in_default-clause-under_way : goal.returns-in_default-clause-under_way
 returns-in_default-clause-under_way g c = λ origin setting progress w.
-    let session = c.args.session in let index = c.args.rules.now.index.now in let catalog = c.args.rules.now.catalog.now in let order = c.args.rules.now.order.now in
-    let eligible = flag_at c.args.eligible in let bound = c.args.bound in let turn = c.loop-turn._turn in
+    let session = c.args.point.now.session in let index = c.args.rules.now.index.now in let catalog = c.args.rules.now.catalog.now in let order = c.args.rules.now.order.now in
+    let eligible = flag_at c.args.point.now.eligible in let bound = c.args.point.now.bound in let turn = c.loop-turn._turn in
     let start = c.args.self.now in let records = g.L.ChangeLog.records c.args.log.now in let clock = g.L.ChangeLog.clock c.args.log.now in
     let now = c.loop-turn.self in let later = g.L.ChangeLog.records c.loop-turn.log in let time = g.L.ChangeLog.clock c.loop-turn.log in
     let looked = c.next_rule.new.self in
@@ -49,7 +49,7 @@ returns-in_default-clause-under_way g c = λ origin setting progress w.
 pub returns-in_default-clause-numbers : goal.returns-in_default-clause-numbers
 returns-in_default-clause-numbers g c = λ n h.
     let turn = c.loop-turn._turn in
-    each-weaken (n + 32768 * turn) (n + 32768 * c.args.bound) (entries c.next_rule.new.self.tables) (omega (arith, c.loop-turn-test.true))
+    each-weaken (n + 32768 * turn) (n + 32768 * c.args.point.now.bound) (entries c.next_rule.new.self.tables) (omega (arith, c.loop-turn-test.true))
     (subst (λ (d : Database). EachBelow (n + 32768 * turn) (entries d.tables)) (sym c.next_rule.ensures.only_candidates) (c.loop-turn.invariant.numbers n h))
 
 -- ---- a rule is considered
@@ -57,8 +57,8 @@ returns-in_default-clause-numbers g c = λ n h.
 pub consider_noted-requires-clause-running : goal.consider_noted-requires-clause-running
 consider_noted-requires-clause-running g c =
     let some = c.requires.work in
-    let session = c.args.session in let index = c.args.rules.now.index.now in let catalog = c.args.rules.now.catalog.now in let order = c.args.rules.now.order.now in
-    let eligible = flag_at c.args.eligible in let bound = c.args.bound in let turn = c.loop-turn._turn in
+    let session = c.args.point.now.session in let index = c.args.rules.now.index.now in let catalog = c.args.rules.now.catalog.now in let order = c.args.rules.now.order.now in
+    let eligible = flag_at c.args.point.now.eligible in let bound = c.args.point.now.bound in let turn = c.loop-turn._turn in
     let start = c.args.self.now in let records = g.L.ChangeLog.records c.args.log.now in let clock = g.L.ChangeLog.clock c.args.log.now in
     let now = c.loop-turn.self in let later = g.L.ChangeLog.records c.loop-turn.log in let time = g.L.ChangeLog.clock c.loop-turn.log in
     let looked = c.next_rule.new.self in
@@ -73,8 +73,8 @@ consider_noted-requires-clause-running g c =
 pub consider_noted-requires-clause-condition : goal.consider_noted-requires-clause-condition
 consider_noted-requires-clause-condition g c =
     let some = c.requires.work in
-    let session = c.args.session in let index = c.args.rules.now.index.now in let catalog = c.args.rules.now.catalog.now in let order = c.args.rules.now.order.now in
-    let eligible = flag_at c.args.eligible in let bound = c.args.bound in let turn = c.loop-turn._turn in
+    let session = c.args.point.now.session in let index = c.args.rules.now.index.now in let catalog = c.args.rules.now.catalog.now in let order = c.args.rules.now.order.now in
+    let eligible = flag_at c.args.point.now.eligible in let bound = c.args.point.now.bound in let turn = c.loop-turn._turn in
     let start = c.args.self.now in let records = g.L.ChangeLog.records c.args.log.now in let clock = g.L.ChangeLog.clock c.args.log.now in
     let now = c.loop-turn.self in let later = g.L.ChangeLog.records c.loop-turn.log in let time = g.L.ChangeLog.clock c.loop-turn.log in
     let looked = c.next_rule.new.self in
@@ -90,8 +90,8 @@ consider_noted-requires-clause-condition g c =
 pub consider_noted-requires-clause-actions : goal.consider_noted-requires-clause-actions
 consider_noted-requires-clause-actions g c =
     let some = c.requires.work in
-    let session = c.args.session in let index = c.args.rules.now.index.now in let catalog = c.args.rules.now.catalog.now in let order = c.args.rules.now.order.now in
-    let eligible = flag_at c.args.eligible in let bound = c.args.bound in let turn = c.loop-turn._turn in
+    let session = c.args.point.now.session in let index = c.args.rules.now.index.now in let catalog = c.args.rules.now.catalog.now in let order = c.args.rules.now.order.now in
+    let eligible = flag_at c.args.point.now.eligible in let bound = c.args.point.now.bound in let turn = c.loop-turn._turn in
     let start = c.args.self.now in let records = g.L.ChangeLog.records c.args.log.now in let clock = g.L.ChangeLog.clock c.args.log.now in
     let now = c.loop-turn.self in let later = g.L.ChangeLog.records c.loop-turn.log in let time = g.L.ChangeLog.clock c.loop-turn.log in
     let looked = c.next_rule.new.self in
@@ -107,8 +107,8 @@ consider_noted-requires-clause-actions g c =
 pub consider_noted-requires-clause-few : goal.consider_noted-requires-clause-few
 consider_noted-requires-clause-few g c =
     let some = c.requires.work in
-    let session = c.args.session in let index = c.args.rules.now.index.now in let catalog = c.args.rules.now.catalog.now in let order = c.args.rules.now.order.now in
-    let eligible = flag_at c.args.eligible in let bound = c.args.bound in let turn = c.loop-turn._turn in
+    let session = c.args.point.now.session in let index = c.args.rules.now.index.now in let catalog = c.args.rules.now.catalog.now in let order = c.args.rules.now.order.now in
+    let eligible = flag_at c.args.point.now.eligible in let bound = c.args.point.now.bound in let turn = c.loop-turn._turn in
     let start = c.args.self.now in let records = g.L.ChangeLog.records c.args.log.now in let clock = g.L.ChangeLog.clock c.args.log.now in
     let now = c.loop-turn.self in let later = g.L.ChangeLog.records c.loop-turn.log in let time = g.L.ChangeLog.clock c.loop-turn.log in
     let looked = c.next_rule.new.self in
@@ -123,16 +123,17 @@ consider_noted-requires-clause-few g c =
 
 pub consider_noted-requires-clause-numbers : goal.consider_noted-requires-clause-numbers
 consider_noted-requires-clause-numbers g c =
+    let fits : c.args.point.now.bound < 4294967296 = search rules in
     let n = 9223372036854775808 + 32768 * c.loop-turn._turn in (
       n,
-      omega (arith, c.loop-turn-test.true, c.ranges.bound.fits),
+      omega (arith, c.loop-turn-test.true, fits),
       subst (λ (d : Database). EachBelow n (entries d.tables)) (sym c.next_rule.ensures.only_candidates) (c.loop-turn.invariant.numbers 9223372036854775808 c.requires.numbers),
     )
 
 pub returns-in-Ok-Some-clause-processed : goal.returns-in-Ok-Some-clause-processed
 returns-in-Ok-Some-clause-processed g c = λ origin setting progress w.
-    let session = c.args.session in let index = c.args.rules.now.index.now in let catalog = c.args.rules.now.catalog.now in let order = c.args.rules.now.order.now in
-    let eligible = flag_at c.args.eligible in let bound = c.args.bound in let turn = c.loop-turn._turn in
+    let session = c.args.point.now.session in let index = c.args.rules.now.index.now in let catalog = c.args.rules.now.catalog.now in let order = c.args.rules.now.order.now in
+    let eligible = flag_at c.args.point.now.eligible in let bound = c.args.point.now.bound in let turn = c.loop-turn._turn in
     let start = c.args.self.now in let records = g.L.ChangeLog.records c.args.log.now in let clock = g.L.ChangeLog.clock c.args.log.now in
     let now = c.loop-turn.self in let later = g.L.ChangeLog.records c.loop-turn.log in let time = g.L.ChangeLog.clock c.loop-turn.log in
     let looked = c.next_rule.new.self in
@@ -154,8 +155,8 @@ returns-in-Ok-Some-clause-processed g c = λ origin setting progress w.
 
 pub returns-in-Ok-Some-clause-under_way : goal.returns-in-Ok-Some-clause-under_way
 returns-in-Ok-Some-clause-under_way g c = λ origin setting progress w.
-    let session = c.args.session in let index = c.args.rules.now.index.now in let catalog = c.args.rules.now.catalog.now in let order = c.args.rules.now.order.now in
-    let eligible = flag_at c.args.eligible in let bound = c.args.bound in let turn = c.loop-turn._turn in
+    let session = c.args.point.now.session in let index = c.args.rules.now.index.now in let catalog = c.args.rules.now.catalog.now in let order = c.args.rules.now.order.now in
+    let eligible = flag_at c.args.point.now.eligible in let bound = c.args.point.now.bound in let turn = c.loop-turn._turn in
     let start = c.args.self.now in let records = g.L.ChangeLog.records c.args.log.now in let clock = g.L.ChangeLog.clock c.args.log.now in
     let now = c.loop-turn.self in let later = g.L.ChangeLog.records c.loop-turn.log in let time = g.L.ChangeLog.clock c.loop-turn.log in
     let looked = c.next_rule.new.self in
@@ -172,14 +173,14 @@ returns-in-Ok-Some-clause-under_way g c = λ origin setting progress w.
 pub returns-in-Ok-Some-clause-numbers : goal.returns-in-Ok-Some-clause-numbers
 returns-in-Ok-Some-clause-numbers g c = λ n h.
     let turn = c.loop-turn._turn in
-    each-weaken (n + 32768 * turn + 32768) (n + 32768 * c.args.bound) (entries c.consider_noted.new.self.tables) (omega (arith, c.loop-turn-test.true))
+    each-weaken (n + 32768 * turn + 32768) (n + 32768 * c.args.point.now.bound) (entries c.consider_noted.new.self.tables) (omega (arith, c.loop-turn-test.true))
     (c.consider_noted.ensures.numbers (n + 32768 * turn)
     (subst (λ (d : Database). EachBelow (n + 32768 * turn) (entries d.tables)) (sym c.next_rule.ensures.only_candidates) (c.loop-turn.invariant.numbers n h)))
 
 pub returns-in-Err-clause-under_way : goal.returns-in-Err-clause-under_way
 returns-in-Err-clause-under_way g c = λ origin setting progress w.
-    let session = c.args.session in let index = c.args.rules.now.index.now in let catalog = c.args.rules.now.catalog.now in let order = c.args.rules.now.order.now in
-    let eligible = flag_at c.args.eligible in let bound = c.args.bound in let turn = c.loop-turn._turn in
+    let session = c.args.point.now.session in let index = c.args.rules.now.index.now in let catalog = c.args.rules.now.catalog.now in let order = c.args.rules.now.order.now in
+    let eligible = flag_at c.args.point.now.eligible in let bound = c.args.point.now.bound in let turn = c.loop-turn._turn in
     let start = c.args.self.now in let records = g.L.ChangeLog.records c.args.log.now in let clock = g.L.ChangeLog.clock c.args.log.now in
     let now = c.loop-turn.self in let later = g.L.ChangeLog.records c.loop-turn.log in let time = g.L.ChangeLog.clock c.loop-turn.log in
     let looked = c.next_rule.new.self in
@@ -196,7 +197,7 @@ returns-in-Err-clause-under_way g c = λ origin setting progress w.
 pub returns-in-Err-clause-numbers : goal.returns-in-Err-clause-numbers
 returns-in-Err-clause-numbers g c = λ n h.
     let turn = c.loop-turn._turn in
-    each-weaken (n + 32768 * turn + 32768) (n + 32768 * c.args.bound) (entries c.consider_noted.new.self.tables) (omega (arith, c.loop-turn-test.true))
+    each-weaken (n + 32768 * turn + 32768) (n + 32768 * c.args.point.now.bound) (entries c.consider_noted.new.self.tables) (omega (arith, c.loop-turn-test.true))
     (c.consider_noted.ensures.numbers (n + 32768 * turn)
     (subst (λ (d : Database). EachBelow (n + 32768 * turn) (entries d.tables)) (sym c.next_rule.ensures.only_candidates) (c.loop-turn.invariant.numbers n h)))
 
@@ -206,8 +207,8 @@ loop-turn-preserved g c =
     let same = ap (λ (d : Database). d.id) c.next_rule.ensures.only_candidates ∙ inv.id in
     record {
       reached = λ origin setting progress w.
-          let session = c.args.session in let index = c.args.rules.now.index.now in let catalog = c.args.rules.now.catalog.now in let order = c.args.rules.now.order.now in
-          let eligible = flag_at c.args.eligible in let bound = c.args.bound in let turn = c.loop-turn._turn in
+          let session = c.args.point.now.session in let index = c.args.rules.now.index.now in let catalog = c.args.rules.now.catalog.now in let order = c.args.rules.now.order.now in
+          let eligible = flag_at c.args.point.now.eligible in let bound = c.args.point.now.bound in let turn = c.loop-turn._turn in
           let start = c.args.self.now in let records = g.L.ChangeLog.records c.args.log.now in let clock = g.L.ChangeLog.clock c.args.log.now in
           let now = c.loop-turn.self in let later = g.L.ChangeLog.records c.loop-turn.log in let time = g.L.ChangeLog.clock c.loop-turn.log in
           let looked = c.next_rule.new.self in
@@ -227,9 +228,9 @@ loop-turn-preserved g c =
           (c.consider_noted.ensures.noted origin setting r.after (running-of origin session index catalog order setting r.after looked later time w1)) in
           reaches-more setting eligible progress bound (bound - turn) c.args.trace.now.items c.loop-turn.trace.items M r rule e (bound - (turn + 1)) more new.trace.items R c.in-Ok-None.field-0 notes S (λ q h. comes-on origin session setting progress r.after q looked new.self later last time end k h) c.in-Ok-None.field-0-is;
       id = c.consider_noted.ensures.id ∙ same;
-      sessions = sessions-on c.args.self.now.transactions c.next_rule.new.self.transactions c.consider_noted.new.self.transactions c.args.session
-          (sessions-on c.args.self.now.transactions c.loop-turn.self.transactions c.next_rule.new.self.transactions c.args.session inv.sessions c.next_rule.ensures.sessions) c.consider_noted.ensures.sessions;
-      others = others-on c.args.session c.args.self.now c.next_rule.new.self (g.L.ChangeLog.records c.args.log.now) (g.L.ChangeLog.records c.loop-turn.log) (g.L.ChangeLog.records c.consider_noted.new.log) same
+      sessions = sessions-on c.args.self.now.transactions c.next_rule.new.self.transactions c.consider_noted.new.self.transactions c.args.point.now.session
+          (sessions-on c.args.self.now.transactions c.loop-turn.self.transactions c.next_rule.new.self.transactions c.args.point.now.session inv.sessions c.next_rule.ensures.sessions) c.consider_noted.ensures.sessions;
+      others = others-on c.args.point.now.session c.args.self.now c.next_rule.new.self (g.L.ChangeLog.records c.args.log.now) (g.L.ChangeLog.records c.loop-turn.log) (g.L.ChangeLog.records c.consider_noted.new.log) same
           inv.others c.consider_noted.ensures.others;
       times = let a = inv.times in let b = c.consider_noted.ensures.times in (omega (arith, a.0, b.0), omega (arith, a.1, b.1));
       numbers = λ n h. each-weaken (n + 32768 * c.loop-turn._turn + 32768) (n + 32768 * (c.loop-turn._turn + 1)) (entries c.consider_noted.new.self.tables) (omega arith)
@@ -241,8 +242,8 @@ loop-turn-preserved g c =
 
 pub returns-in-Some-next_rule-clause-processed : goal.returns-in-Some-next_rule-clause-processed
 returns-in-Some-next_rule-clause-processed g c = λ origin setting progress w.
-    let session = c.args.session in let index = c.args.rules.now.index.now in let catalog = c.args.rules.now.catalog.now in let order = c.args.rules.now.order.now in
-    let eligible = flag_at c.args.eligible in let bound = c.args.bound in let turn = c.loop-turn._turn in
+    let session = c.args.point.now.session in let index = c.args.rules.now.index.now in let catalog = c.args.rules.now.catalog.now in let order = c.args.rules.now.order.now in
+    let eligible = flag_at c.args.point.now.eligible in let bound = c.args.point.now.bound in let turn = c.loop-turn._turn in
     let start = c.args.self.now in let records = g.L.ChangeLog.records c.args.log.now in let clock = g.L.ChangeLog.clock c.args.log.now in
     let now = c.loop-turn.self in let later = g.L.ChangeLog.records c.loop-turn.log in let time = g.L.ChangeLog.clock c.loop-turn.log in
     let looked = c.next_rule-2.new.self in
@@ -257,8 +258,8 @@ returns-in-Some-next_rule-clause-processed g c = λ origin setting progress w.
 
 pub returns-in-None-clause-processed : goal.returns-in-None-clause-processed
 returns-in-None-clause-processed g c = λ origin setting progress w.
-    let session = c.args.session in let index = c.args.rules.now.index.now in let catalog = c.args.rules.now.catalog.now in let order = c.args.rules.now.order.now in
-    let eligible = flag_at c.args.eligible in let bound = c.args.bound in let turn = c.loop-turn._turn in
+    let session = c.args.point.now.session in let index = c.args.rules.now.index.now in let catalog = c.args.rules.now.catalog.now in let order = c.args.rules.now.order.now in
+    let eligible = flag_at c.args.point.now.eligible in let bound = c.args.point.now.bound in let turn = c.loop-turn._turn in
     let start = c.args.self.now in let records = g.L.ChangeLog.records c.args.log.now in let clock = g.L.ChangeLog.clock c.args.log.now in
     let now = c.loop-turn.self in let later = g.L.ChangeLog.records c.loop-turn.log in let time = g.L.ChangeLog.clock c.loop-turn.log in
     let looked = c.next_rule-2.new.self in
@@ -272,8 +273,8 @@ returns-in-None-clause-processed g c = λ origin setting progress w.
 
 pub returns-in-Some-next_rule-clause-under_way : goal.returns-in-Some-next_rule-clause-under_way
 returns-in-Some-next_rule-clause-under_way g c = λ origin setting progress w.
-    let session = c.args.session in let index = c.args.rules.now.index.now in let catalog = c.args.rules.now.catalog.now in let order = c.args.rules.now.order.now in
-    let eligible = flag_at c.args.eligible in let bound = c.args.bound in let turn = c.loop-turn._turn in
+    let session = c.args.point.now.session in let index = c.args.rules.now.index.now in let catalog = c.args.rules.now.catalog.now in let order = c.args.rules.now.order.now in
+    let eligible = flag_at c.args.point.now.eligible in let bound = c.args.point.now.bound in let turn = c.loop-turn._turn in
     let start = c.args.self.now in let records = g.L.ChangeLog.records c.args.log.now in let clock = g.L.ChangeLog.clock c.args.log.now in
     let now = c.loop-turn.self in let later = g.L.ChangeLog.records c.loop-turn.log in let time = g.L.ChangeLog.clock c.loop-turn.log in
     let looked = c.next_rule-2.new.self in
@@ -288,13 +289,13 @@ returns-in-Some-next_rule-clause-under_way g c = λ origin setting progress w.
 pub returns-in-Some-next_rule-clause-numbers : goal.returns-in-Some-next_rule-clause-numbers
 returns-in-Some-next_rule-clause-numbers g c = λ n h.
     let turn = c.loop-turn._turn in
-    each-weaken (n + 32768 * turn) (n + 32768 * c.args.bound) (entries c.next_rule-2.new.self.tables) (omega (arith, c.loop-turn.auto._turn-end))
+    each-weaken (n + 32768 * turn) (n + 32768 * c.args.point.now.bound) (entries c.next_rule-2.new.self.tables) (omega (arith, c.loop-turn.auto._turn-end))
     (subst (λ (d : Database). EachBelow (n + 32768 * turn) (entries d.tables)) (sym c.next_rule-2.ensures.only_candidates) (c.loop-turn.invariant.numbers n h))
 
 pub returns-in-None-clause-under_way : goal.returns-in-None-clause-under_way
 returns-in-None-clause-under_way g c = λ origin setting progress w.
-    let session = c.args.session in let index = c.args.rules.now.index.now in let catalog = c.args.rules.now.catalog.now in let order = c.args.rules.now.order.now in
-    let eligible = flag_at c.args.eligible in let bound = c.args.bound in let turn = c.loop-turn._turn in
+    let session = c.args.point.now.session in let index = c.args.rules.now.index.now in let catalog = c.args.rules.now.catalog.now in let order = c.args.rules.now.order.now in
+    let eligible = flag_at c.args.point.now.eligible in let bound = c.args.point.now.bound in let turn = c.loop-turn._turn in
     let start = c.args.self.now in let records = g.L.ChangeLog.records c.args.log.now in let clock = g.L.ChangeLog.clock c.args.log.now in
     let now = c.loop-turn.self in let later = g.L.ChangeLog.records c.loop-turn.log in let time = g.L.ChangeLog.clock c.loop-turn.log in
     let looked = c.next_rule-2.new.self in
@@ -309,7 +310,7 @@ returns-in-None-clause-under_way g c = λ origin setting progress w.
 pub returns-in-None-clause-numbers : goal.returns-in-None-clause-numbers
 returns-in-None-clause-numbers g c = λ n h.
     let turn = c.loop-turn._turn in
-    each-weaken (n + 32768 * turn) (n + 32768 * c.args.bound) (entries c.next_rule-2.new.self.tables) (omega (arith, c.loop-turn.auto._turn-end))
+    each-weaken (n + 32768 * turn) (n + 32768 * c.args.point.now.bound) (entries c.next_rule-2.new.self.tables) (omega (arith, c.loop-turn.auto._turn-end))
     (subst (λ (d : Database). EachBelow (n + 32768 * turn) (entries d.tables)) (sym c.next_rule-2.ensures.only_candidates) (c.loop-turn.invariant.numbers n h))
 
 -- ---- the work of each turn
@@ -320,7 +321,7 @@ next_rule-requires-clause-work g c =
       w.0,
       w.1,
       r.after,
-      work-after w.0 c.args.session c.args.rules.now.index.now c.args.rules.now.catalog.now c.args.rules.now.order.now w.1 w.2 c.args.self.now (g.L.ChangeLog.records c.args.log.now) (g.L.ChangeLog.clock c.args.log.now) w.3
+      work-after w.0 c.args.point.now.session c.args.rules.now.index.now c.args.rules.now.catalog.now c.args.rules.now.order.now w.1 w.2 c.args.self.now (g.L.ChangeLog.records c.args.log.now) (g.L.ChangeLog.clock c.args.log.now) w.3
           c.loop-turn.self (g.L.ChangeLog.records c.loop-turn.log) (g.L.ChangeLog.clock c.loop-turn.log) r.after r.comes_to c.loop-turn.invariant.id,
     )
 
@@ -330,6 +331,6 @@ next_rule-requires-2-clause-work g c =
       w.0,
       w.1,
       r.after,
-      work-after w.0 c.args.session c.args.rules.now.index.now c.args.rules.now.catalog.now c.args.rules.now.order.now w.1 w.2 c.args.self.now (g.L.ChangeLog.records c.args.log.now) (g.L.ChangeLog.clock c.args.log.now) w.3
+      work-after w.0 c.args.point.now.session c.args.rules.now.index.now c.args.rules.now.catalog.now c.args.rules.now.order.now w.1 w.2 c.args.self.now (g.L.ChangeLog.records c.args.log.now) (g.L.ChangeLog.clock c.args.log.now) w.3
           c.loop-turn.self (g.L.ChangeLog.records c.loop-turn.log) (g.L.ChangeLog.clock c.loop-turn.log) r.after r.comes_to c.loop-turn.invariant.id,
     )

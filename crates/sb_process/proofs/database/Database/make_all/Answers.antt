@@ -18,11 +18,11 @@ apply-requires-clause-can g c =
 
 -- the changes are made of the tables with room for them
 pub returns-in-Ok-clause-made : goal.returns-in-Ok-clause-made
-returns-in-Ok-clause-made g c = λ origin setting progress r indexed.
+returns-in-Ok-clause-made g c = λ origin setting progress w.
     let d : Database = record c.args.self.now { tables = c.prepare.new.tables } in
     let ready = with_room c.args.self.now c.prepare.new.tables c.args.session (g.L.ChangeLog.records c.args.log.now) (g.L.ChangeLog.records c.prepare.new.log) (g.L.ChangeLog.clock c.args.log.now)
-    (g.L.ChangeLog.clock c.prepare.new.log) setting progress origin r c.prepare.ensures.same c.prepare.ensures.records c.prepare.ensures.clock in
-    let all = c.apply.ensures.all origin setting progress ready indexed in
+    (g.L.ChangeLog.clock c.prepare.new.log) setting progress origin w.transaction c.prepare.ensures.same c.prepare.ensures.records c.prepare.ensures.clock in
+    let all = c.apply.ensures.all origin setting progress (record { transaction = ready; indexed = w.indexed }) in
     inl (
       ap Ok (c.len-count.ensures ∙ c.args.changes.ok.0),
       subst
@@ -37,11 +37,11 @@ returns-in-Ok-clause-numbers g c = λ n b.
     (c.apply.ensures.numbers n (numbers_same n c.args.self.now.tables c.prepare.new.tables (sym c.prepare.ensures.same) b))
 
 pub returns-in-Err-clause-made : goal.returns-in-Err-clause-made
-returns-in-Err-clause-made g c = λ origin setting progress r indexed.
+returns-in-Err-clause-made g c = λ origin setting progress w.
     inr (
       refl,
       with_room c.args.self.now c.prepare.new.tables c.args.session (g.L.ChangeLog.records c.args.log.now) (g.L.ChangeLog.records c.prepare.new.log) (g.L.ChangeLog.clock c.args.log.now)
-          (g.L.ChangeLog.clock c.prepare.new.log) setting progress origin r c.prepare.ensures.same c.prepare.ensures.records c.prepare.ensures.clock,
+          (g.L.ChangeLog.clock c.prepare.new.log) setting progress origin w.transaction c.prepare.ensures.same c.prepare.ensures.records c.prepare.ensures.clock,
     )
 
 pub returns-in-Err-clause-numbers : goal.returns-in-Err-clause-numbers

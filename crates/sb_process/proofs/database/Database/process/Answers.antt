@@ -10,23 +10,23 @@ use Rattle.sb_process.proofs.database.Database.process.Goals as goal
 pub returns-then-is_done-clause-processed : goal.returns-then-is_done-clause-processed
 returns-then-is_done-clause-processed g c = λ origin setting progress w.
     let mid = c.consider_all.new in let later = g.L.ChangeLog.records mid.log in let time = g.L.ChangeLog.clock mid.log in
-    let S = λ (q : Progress). ComesTo origin mid.self c.args.session later time setting progress q in
-    let meant = process c.args.bound setting (flag_at c.args.eligible) progress in
+    let S = λ (q : Progress). ComesTo origin mid.self c.args.point.now.session later time setting progress q in
+    let meant = process c.args.point.now.bound setting (flag_at c.args.point.now.eligible) progress in
     let found = if-ok (λ (o : Outcome). Finds S meant c.new-list.result.items mid.trace.items o) c.consider_all.result c.in-Ok.outcome c.in-Ok.is (c.consider_all.ensures.processed origin setting progress w) in
-    processes-done origin c.args.self.now mid.self c.args.session later time setting progress S meant mid.trace.items c.new-list.result.items c.in-Ok.outcome c.new-list.ensures.items (λ q k. k.stands)
+    processes-done origin c.args.self.now mid.self c.args.point.now.session later time setting progress S meant mid.trace.items c.new-list.result.items c.in-Ok.outcome c.new-list.ensures.items (λ q k. k.stands)
     (sym c.is_done.ensures ∙ c.if-is_done.true) found
 
 pub returns-else-is_done-clause-processed : goal.returns-else-is_done-clause-processed
 returns-else-is_done-clause-processed g c = λ origin setting progress w.
     let mid = c.consider_all.new in let later = g.L.ChangeLog.records mid.log in let time = g.L.ChangeLog.clock mid.log in
     let new = c.rollback.new in let last = g.L.ChangeLog.records new.log in let end = g.L.ChangeLog.clock new.log in
-    let S = λ (q : Progress). ComesTo origin mid.self c.args.session later time setting progress q in
-    let meant = process c.args.bound setting (flag_at c.args.eligible) progress in
+    let S = λ (q : Progress). ComesTo origin mid.self c.args.point.now.session later time setting progress q in
+    let meant = process c.args.point.now.bound setting (flag_at c.args.point.now.eligible) progress in
     let found = if-ok (λ (o : Outcome). Finds S meant c.new-list.result.items mid.trace.items o) c.consider_all.result c.in-Ok.outcome c.in-Ok.is (c.consider_all.ensures.processed origin setting progress w) in
     let come = c.consider_all.ensures.under_way origin setting progress w in
-    processes-back origin c.args.self.now new.self c.args.session last end setting progress S meant mid.trace.items c.new-list.result.items c.in-Ok.outcome c.new-list.ensures.items
+    processes-back origin c.args.self.now new.self c.args.point.now.session last end setting progress S meant mid.trace.items c.new-list.result.items c.in-Ok.outcome c.new-list.ensures.items
     (sym c.is_done.ensures ∙ c.if-is_done.false)
-    (taken-back origin c.args.self.now new.self c.args.session last end setting progress mid.self later time come.0 come.1 c.consider_all.ensures.id c.consider_all.ensures.sessions
+    (taken-back origin c.args.self.now new.self c.args.point.now.session last end setting progress mid.self later time come.0 come.1 c.consider_all.ensures.id c.consider_all.ensures.sessions
     (c.rollback.ensures.back origin setting come.0 (come.1).stands)) found
 
 pub returns-in-Err-clause-no_memory : goal.returns-in-Err-clause-no_memory
@@ -34,7 +34,7 @@ returns-in-Err-clause-no_memory g c = λ origin setting progress w.
     let mid = c.consider_all.new in let later = g.L.ChangeLog.records mid.log in let time = g.L.ChangeLog.clock mid.log in
     let new = c.rollback-in-Err.new in let last = g.L.ChangeLog.records new.log in let end = g.L.ChangeLog.clock new.log in
     let come = c.consider_all.ensures.under_way origin setting progress w in
-    taken-back origin c.args.self.now new.self c.args.session last end setting progress mid.self later time come.0 come.1 c.consider_all.ensures.id c.consider_all.ensures.sessions
+    taken-back origin c.args.self.now new.self c.args.point.now.session last end setting progress mid.self later time come.0 come.1 c.consider_all.ensures.id c.consider_all.ensures.sessions
     (c.rollback-in-Err.ensures.back origin setting come.0 (come.1).stands)
 
 pub rollback-requires : goal.rollback-requires
@@ -55,11 +55,11 @@ pub returns-else-is_done-clause-sessions : goal.returns-else-is_done-clause-sess
 returns-else-is_done-clause-sessions g c =
     let w = c.requires.work in
     let come = c.consider_all.ensures.under_way w.0 w.1 w.2 w.3 in
-    sessions-on c.args.self.now.transactions c.consider_all.new.self.transactions c.rollback.new.self.transactions c.args.session c.consider_all.ensures.sessions
+    sessions-on c.args.self.now.transactions c.consider_all.new.self.transactions c.rollback.new.self.transactions c.args.point.now.session c.consider_all.ensures.sessions
     (c.rollback.ensures.back w.0 w.1 come.0 (come.1).stands).sessions
 
 pub returns-else-is_done-clause-numbers : goal.returns-else-is_done-clause-numbers
-returns-else-is_done-clause-numbers g c = λ n h. c.rollback.ensures.numbers (n + 32768 * c.args.bound) (c.consider_all.ensures.numbers n h)
+returns-else-is_done-clause-numbers g c = λ n h. c.rollback.ensures.numbers (n + 32768 * c.args.point.now.bound) (c.consider_all.ensures.numbers n h)
 
 pub returns-in-Err-clause-id : goal.returns-in-Err-clause-id
 returns-in-Err-clause-id g c =
@@ -71,11 +71,11 @@ pub returns-in-Err-clause-sessions : goal.returns-in-Err-clause-sessions
 returns-in-Err-clause-sessions g c =
     let w = c.requires.work in
     let come = c.consider_all.ensures.under_way w.0 w.1 w.2 w.3 in
-    sessions-on c.args.self.now.transactions c.consider_all.new.self.transactions c.rollback-in-Err.new.self.transactions c.args.session c.consider_all.ensures.sessions
+    sessions-on c.args.self.now.transactions c.consider_all.new.self.transactions c.rollback-in-Err.new.self.transactions c.args.point.now.session c.consider_all.ensures.sessions
     (c.rollback-in-Err.ensures.back w.0 w.1 come.0 (come.1).stands).sessions
 
 pub returns-in-Err-clause-numbers : goal.returns-in-Err-clause-numbers
-returns-in-Err-clause-numbers g c = λ n h. c.rollback-in-Err.ensures.numbers (n + 32768 * c.args.bound) (c.consider_all.ensures.numbers n h)
+returns-in-Err-clause-numbers g c = λ n h. c.rollback-in-Err.ensures.numbers (n + 32768 * c.args.point.now.bound) (c.consider_all.ensures.numbers n h)
 
 pub returns-then-is_done-clause-past : goal.returns-then-is_done-clause-past
 returns-then-is_done-clause-past g c = λ rule.

@@ -41,7 +41,8 @@ run_granted-requires-clause-locked g c =
 
 -- with the locks taken, what is meant is what the changes of the statement are
 pub returns-in-Ok-request-clause-ran : goal.returns-in-Ok-request-clause-ran
-returns-in-Ok-request-clause-ran g c = λ origin setting progress r indexed.
+returns-in-Ok-request-clause-ran g c = λ origin setting progress w.
+    let r = w.transaction in
     let d : Database = c.args.self.now in
     let records = g.L.ChangeLog.records c.args.log.now in
     let clock : ℕ = g.L.ChangeLog.clock c.args.log.now in
@@ -53,14 +54,15 @@ returns-in-Ok-request-clause-ran g c = λ origin setting progress r indexed.
     let meant = granted_answer setting progress list (λ p. statement_changes (seen_with setting c.args.tables.now p) c.args.statement.now) none in
     let after = after_granted setting progress list none in
     let stands = λ (q : Progress). Represents origin c.run_granted.new.self c.args.session (g.L.ChangeLog.records c.run_granted.new.log) (g.L.ChangeLog.clock c.run_granted.new.log) setting q in
-    elim (c.run_granted.ensures.ran origin setting p (with_more d c.args.session records clock setting progress origin r c.request.new.locks list taken) indexed) [
+    elim (c.run_granted.ensures.ran origin setting p (record { transaction = with_more d c.args.session records clock setting progress origin r c.request.new.locks list taken; indexed = w.indexed })) [
       | inl done ↦ inl (done.0 ∙ ap counted (sym meant), subst stands (λ i. with_changes_of (sym meant i) (sym after i)) done.1)
       | inr out ↦ inr (out.0, inl (subst stands (sym after) out.1))
     ]
 
 -- a table conflicts, and nothing has changed
 pub returns-clause-ran : goal.returns-clause-ran
-returns-clause-ran g c = λ origin setting progress r indexed.
+returns-clause-ran g c = λ origin setting progress w.
+    let r = w.transaction in
     let d : Database = c.args.self.now in
     let records = g.L.ChangeLog.records c.args.log.now in
     let clock : ℕ = g.L.ChangeLog.clock c.args.log.now in

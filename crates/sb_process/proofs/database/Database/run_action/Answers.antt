@@ -21,7 +21,7 @@ returns-in-Ok-clause-ran g c = λ origin setting progress w.
     let result : Result Bool Refusal = Ok true in
     subst (λ (a : Action). Acts S (run_actions setting c.args.tables.now (a ∷ []) progress) result ⊎ (result ≡ Err NoMemory)) (sym c.in-Change.is)
     (change-ran origin session setting progress c.args.self.now (g.L.ChangeLog.records old) (g.L.ChangeLog.clock old) w.transaction c.run.new.self (g.L.ChangeLog.records new)
-    (g.L.ChangeLog.clock new) c.args.tables.now c.in-Change.statement c.run.result c.in-Ok.field-0 c.in-Ok.is (c.run.ensures.ran origin setting progress w.transaction w.indexed))
+    (g.L.ChangeLog.clock new) c.args.tables.now c.in-Change.statement c.run.result c.in-Ok.field-0 c.in-Ok.is (c.run.ensures.ran origin setting progress w))
 
 pub returns-in-Err-clause-ran : goal.returns-in-Err-clause-ran
 returns-in-Err-clause-ran g c = λ origin setting progress w.
@@ -31,16 +31,16 @@ returns-in-Err-clause-ran g c = λ origin setting progress w.
     let result : Result Bool Refusal = Err c.in-Err.refusal in
     subst (λ (a : Action). Acts S (run_actions setting c.args.tables.now (a ∷ []) progress) result ⊎ (result ≡ Err NoMemory)) (sym c.in-Change.is)
     (change-refused origin session setting progress c.args.self.now (g.L.ChangeLog.records old) (g.L.ChangeLog.clock old) w.transaction c.run.new.self (g.L.ChangeLog.records new)
-    (g.L.ChangeLog.clock new) c.args.tables.now c.in-Change.statement c.run.result c.in-Err.refusal c.in-Err.is (c.run.ensures.ran origin setting progress w.transaction w.indexed))
+    (g.L.ChangeLog.clock new) c.args.tables.now c.in-Change.statement c.run.result c.in-Err.refusal c.in-Err.is (c.run.ensures.ran origin setting progress w))
 
 pub returns-in-Ok-clause-under_way : goal.returns-in-Ok-clause-under_way
 returns-in-Ok-clause-under_way g c = λ origin setting progress w.
     let old = c.args.log.now in let new = c.run.new.log in
     runs-under_way origin c.args.session setting progress c.args.self.now (g.L.ChangeLog.records old) (g.L.ChangeLog.clock old) w.transaction c.run.new.self (g.L.ChangeLog.records new)
-    (g.L.ChangeLog.clock new) c.args.tables.now c.in-Change.statement c.run.result (c.run.ensures.ran origin setting progress w.transaction w.indexed)
+    (g.L.ChangeLog.clock new) c.args.tables.now c.in-Change.statement c.run.result (c.run.ensures.ran origin setting progress w)
 
 pub returns-in-Err-clause-under_way : goal.returns-in-Err-clause-under_way
 returns-in-Err-clause-under_way g c = λ origin setting progress w.
     let old = c.args.log.now in let new = c.run.new.log in
     runs-under_way origin c.args.session setting progress c.args.self.now (g.L.ChangeLog.records old) (g.L.ChangeLog.clock old) w.transaction c.run.new.self (g.L.ChangeLog.records new)
-    (g.L.ChangeLog.clock new) c.args.tables.now c.in-Change.statement c.run.result (c.run.ensures.ran origin setting progress w.transaction w.indexed)
+    (g.L.ChangeLog.clock new) c.args.tables.now c.in-Change.statement c.run.result (c.run.ensures.ran origin setting progress w)

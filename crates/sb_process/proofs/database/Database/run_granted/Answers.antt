@@ -35,21 +35,21 @@ make_all-requires-clause-makeable g c =
     (number-entries c.args.self.now.tables t ∙ c.requires.there) (tables_are c.args.self.now.tables t sound.1) c.in-Ok.ensures.ok)
 
 pub returns-in-Ok-clause-ran : goal.returns-in-Ok-clause-ran
-returns-in-Ok-clause-ran g c = λ origin setting progress r indexed.
-    let seen = same_seen c.args.self.now c.args.session (g.L.ChangeLog.records c.args.log.now) (g.L.ChangeLog.clock c.args.log.now) setting progress origin r c.args.tables.now progress refl in
+returns-in-Ok-clause-ran g c = λ origin setting progress w.
+    let seen = same_seen c.args.self.now c.args.session (g.L.ChangeLog.records c.args.log.now) (g.L.ChangeLog.clock c.args.log.now) setting progress origin w.transaction c.args.tables.now progress refl in
     subst
     (λ (meant : Result (List Change) Refusal). Changes origin c.make_all.new.self c.args.session meant c.make_all.result (g.L.ChangeLog.records c.make_all.new.log) (g.L.ChangeLog.clock c.make_all.new.log) setting progress)
-    (sym (ap (λ s. statement_changes s c.args.statement.now) seen ∙ c.in-Ok.ensures.ok)) (c.make_all.ensures.made origin setting progress r indexed)
+    (sym (ap (λ s. statement_changes s c.args.statement.now) seen ∙ c.in-Ok.ensures.ok)) (c.make_all.ensures.made origin setting progress w)
 
 pub returns-in-Err-clause-ran : goal.returns-in-Err-clause-ran
-returns-in-Err-clause-ran g c = λ origin setting progress r indexed.
-    let seen = same_seen c.args.self.now c.args.session (g.L.ChangeLog.records c.args.log.now) (g.L.ChangeLog.clock c.args.log.now) setting progress origin r c.args.tables.now progress refl in
+returns-in-Err-clause-ran g c = λ origin setting progress w.
+    let seen = same_seen c.args.self.now c.args.session (g.L.ChangeLog.records c.args.log.now) (g.L.ChangeLog.clock c.args.log.now) setting progress origin w.transaction c.args.tables.now progress refl in
     elim c.in-Err.ensures.err [
       | inl e ↦ subst
           (λ (meant : Result (List Change) Refusal).
           Changes origin c.args.self.now c.args.session meant (Err c.in-Err.refusal) (g.L.ChangeLog.records c.args.log.now) (g.L.ChangeLog.clock c.args.log.now) setting progress)
-          (sym (ap (λ s. statement_changes s c.args.statement.now) seen ∙ e)) (inl (refl, r))
-      | inr e ↦ inr (ap Err e, r)
+          (sym (ap (λ s. statement_changes s c.args.statement.now) seen ∙ e)) (inl (refl, w.transaction))
+      | inr e ↦ inr (ap Err e, w.transaction)
     ]
 
 pub returns-in-Err-clause-numbers : goal.returns-in-Err-clause-numbers

@@ -11,7 +11,7 @@ use Rattle.sb_process.proofs.Requests.{same_conflict, same_refusal, same_seen, w
 use Rattle.sb_process.proofs.database.Database.select.Goals as goal
 
 pub returns-clause-selected : goal.returns-clause-selected
-returns-clause-selected c = λ origin records clock setting progress r.
+returns-clause-selected c = λ records clock origin setting progress r.
     let d = c.args.self.now in
     let list : List (ℕ × Mode) = query_locks c.args.query.now in
     let no = c.in-Err.ensures.refused in
@@ -25,7 +25,7 @@ returns-clause-selected c = λ origin records clock setting progress r.
     }
 
 pub returns-in-Ok-request-clause-selected : goal.returns-in-Ok-request-clause-selected
-returns-in-Ok-request-clause-selected c = λ origin records clock setting progress r.
+returns-in-Ok-request-clause-selected c = λ records clock origin setting progress r.
     let d = c.args.self.now in
     let list : List (ℕ × Mode) = query_locks c.args.query.now in
     let listed = c.as_slice.ensures.value ∙ c.in-Ok.ensures in

@@ -14,7 +14,7 @@ use Rattle.sb_process.proofs.database.Database.test_query.Goals as goal
 
 -- with the locks of the query
 pub returns-in-Ok-request-clause-under_way : goal.returns-in-Ok-request-clause-under_way
-returns-in-Ok-request-clause-under_way c = λ origin records clock setting progress r.
+returns-in-Ok-request-clause-under_way c = λ records clock origin setting progress r.
     let d = c.args.self.now in
     let list : List (ℕ × Mode) = query_locks c.args.query.now in
     let listed = c.as_slice.ensures.value ∙ c.in-Ok.ensures in
@@ -28,7 +28,7 @@ returns-in-Ok-request-clause-under_way c = λ origin records clock setting progr
     )
 
 pub returns-in-Ok-request-clause-tested : goal.returns-in-Ok-request-clause-tested
-returns-in-Ok-request-clause-tested c = λ origin records clock setting progress r.
+returns-in-Ok-request-clause-tested c = λ records clock origin setting progress r.
     let d = c.args.self.now in
     let list : List (ℕ × Mode) = query_locks c.args.query.now in
     let listed = c.as_slice.ensures.value ∙ c.in-Ok.ensures in
@@ -47,7 +47,7 @@ returns-in-Ok-request-clause-tested c = λ origin records clock setting progress
     (tests-rows S p _ c.has_row.result here c.has_row.ensures)
 
 pub returns-clause-tested : goal.returns-clause-tested
-returns-clause-tested c = λ origin records clock setting progress r.
+returns-clause-tested c = λ records clock origin setting progress r.
     let d = c.args.self.now in
     let list : List (ℕ × Mode) = query_locks c.args.query.now in
     let no = c.in-Err.ensures.refused in

@@ -1,5 +1,5 @@
 //! Statements that change tables.
-ghost use Rattle.std.specs.Prelude.{◌≡◌, ◌⊎◌, ℕ, ◌+◌, ◌-◌, ◌<◌, ◌^◌, List, IsTrue, IfOk, IfErr, Ok, Err};
+ghost use Rattle.std.specs.Prelude.{◌≡◌, ◌⊎◌, ℕ, ◌+◌, ◌-◌, ◌<◌, ◌^◌, IsTrue, IfOk, IfErr, Ok, Err};
 ghost use Rattle.sb_value.specs.declared.lock.Mode.TheVariants as mode;
 ghost use Rattle.sb_value.specs.declared.refusal.Refusal.TheVariants as variant;
 ghost use Rattle.sb_eval.specs.Laws.{AreMakeable};
@@ -8,22 +8,23 @@ ghost use Rattle.sb_eval.specs.Statement as spec;
 ghost use Rattle.sb_eval.specs.Target.{target};
 ghost use Rattle.sb_rawlog.specs.Sessions.{OthersStay};
 ghost use Rattle.sb_locks.specs.Held.{held};
-ghost use Rattle.sb_tables.specs.Held.{Held, entries, has_number};
+ghost use Rattle.sb_tables.specs.Held.{entries, has_number};
 ghost use Rattle.sb_process.specs.Made.{AreNumbered, AreStored, NumbersBelow};
 ghost use Rattle.sb_process.specs.Ready.{Changes};
-ghost use Rattle.sb_catalog.specs.Definitions.{AreIndexed};
-ghost use Rattle.sb_process.specs.Represents.{Represents, IsTransaction, who_in};
+ghost use Rattle.sb_process.specs.Represents.{IsTransaction, who_in};
 ghost use Rattle.sb_process.specs.Request.{AreThere};
-ghost use Rattle.sb_process.specs.Setting.{Setting, Progress, seen_with};
+ghost use Rattle.sb_process.specs.Setting.{seen_with};
 ghost use Rattle.sb_process.specs.Statement.{Runs, RisesBy};
 ghost use Rattle.sb_marks.specs.Transactions.{OtherSessionsStay};
 ghost use Rattle.sb_process.specs.View.{seen_by};
+ghost use Rattle.sb_process.specs.Running.{EachRunning};
 
 use crate::database::Database;
 use crate::lock_list::{statement_locks, target_of};
 use crate::ready::prepare;
+use crate::refusal::refusal_for;
 use crate::request::request;
-use crate::statement::{no_transition, refusal_for};
+use crate::view::no_transition;
 use sb_check::Statement;
 use sb_eval::{changes, changes_are_proper};
 use sb_index::RuleIndex;
@@ -47,7 +48,10 @@ impl Database {
         requires there { AreThere self.old.tables (spec.statement_locks statement.now) }
         requires times { L.clock log.old < 2 ^ 63 }
         requires numbers { NumbersBelow (2 ^ 63) self.old.tables }
-        ensures changed { (origin : List Held) (setting : Setting) (progress : Progress) → Represents origin self.old session (L.records log.old) (L.clock log.old) setting progress → AreIndexed index.now self.old.id setting.rules → Runs origin self.new session no_transition statement.now result (L.records log.new) (L.clock log.new) setting progress }
+        ensures changed { EachRunning self.old session (L.records log.old) (L.clock log.old) index.now
+            (λ origin setting progress.
+            Runs origin self.new session no_transition statement.now result
+            (L.records log.new) (L.clock log.new) setting progress) }
         ensures id { self.new.id ≡ self.old.id }
         ensures sessions { OtherSessionsStay self.old.transactions self.new.transactions session }
         ensures others { OthersStay (who_in self.old session) (L.records log.old) (L.records log.new) }
@@ -72,7 +76,10 @@ impl Database {
         requires there { AreThere self.old.tables (spec.statement_locks statement.now) }
         requires times { L.clock log.old + 4096 < 2 ^ 64 }
         requires numbers { NumbersBelow (2 ^ 64 - 4097) self.old.tables }
-        ensures ran { (origin : List Held) (setting : Setting) (progress : Progress) → Represents origin self.old session (L.records log.old) (L.clock log.old) setting progress → AreIndexed index.now self.old.id setting.rules → Runs origin self.new session tables.now statement.now result (L.records log.new) (L.clock log.new) setting progress }
+        ensures ran { EachRunning self.old session (L.records log.old) (L.clock log.old) index.now
+            (λ origin setting progress.
+            Runs origin self.new session tables.now statement.now result
+            (L.records log.new) (L.clock log.new) setting progress) }
         ensures id { self.new.id ≡ self.old.id }
         ensures sessions { OtherSessionsStay self.old.transactions self.new.transactions session }
         ensures others { OthersStay (who_in self.old session) (L.records log.old) (L.records log.new) }
@@ -103,7 +110,10 @@ impl Database {
         requires locked { IsTrue (held self.old.locks session (target statement.now) mode.Write) }
         requires times { L.clock log.old + 4096 < 2 ^ 64 }
         requires numbers { NumbersBelow (2 ^ 64 - 4097) self.old.tables }
-        ensures ran { (origin : List Held) (setting : Setting) (progress : Progress) → Represents origin self.old session (L.records log.old) (L.clock log.old) setting progress → AreIndexed index.now self.old.id setting.rules → Changes origin self.new session (spec.statement_changes (seen_with setting tables.now progress) statement.now) result (L.records log.new) (L.clock log.new) setting progress }
+        ensures ran { EachRunning self.old session (L.records log.old) (L.clock log.old) index.now
+            (λ origin setting progress.
+            Changes origin self.new session
+            (spec.statement_changes (seen_with setting tables.now progress) statement.now) result (L.records log.new) (L.clock log.new) setting progress) }
         ensures id { self.new.id ≡ self.old.id }
         ensures sessions { OtherSessionsStay self.old.transactions self.new.transactions session }
         ensures others { OthersStay (who_in self.old session) (L.records log.old) (L.records log.new) }
@@ -129,8 +139,12 @@ impl Database {
         tables: &Transition,
         statement: &Statement,
     ) -> Result<Vec<Change>, Refusal>
-        ensures ok { IfOk result (λ changes. spec.statement_changes (seen_by self.now.tables tables.now (who_in self.now session)) statement.now ≡ Ok changes.items) }
-        ensures err { IfErr result (λ refusal. (spec.statement_changes (seen_by self.now.tables tables.now (who_in self.now session)) statement.now ≡ Err refusal) ⊎ (refusal ≡ variant.NoMemory)) }
+        ensures ok { IfOk result (λ changes.
+            spec.statement_changes (seen_by self.now.tables tables.now (who_in self.now session)) statement.now
+            ≡ Ok changes.items) }
+        ensures err { IfErr result (λ refusal.
+            (spec.statement_changes (seen_by self.now.tables tables.now (who_in self.now session)) statement.now
+            ≡ Err refusal) ⊎ (refusal ≡ variant.NoMemory)) }
     {
         let view = self.view(session, tables);
         match changes(alloc, statement, &view) {
@@ -156,7 +170,10 @@ impl Database {
         requires locked { IsTrue (held self.old.locks session target mode.Write) }
         requires times { L.clock log.old + 4096 < 2 ^ 64 }
         requires numbers { NumbersBelow (2 ^ 64 - 4097) self.old.tables }
-        ensures made { (origin : List Held) (setting : Setting) (progress : Progress) → Represents origin self.old session (L.records log.old) (L.clock log.old) setting progress → AreIndexed index.now self.old.id setting.rules → Changes origin self.new session (Ok changes.items) result (L.records log.new) (L.clock log.new) setting progress }
+        ensures made { EachRunning self.old session (L.records log.old) (L.clock log.old) index.now
+            (λ origin setting progress.
+            Changes origin self.new session (Ok changes.items) result
+            (L.records log.new) (L.clock log.new) setting progress) }
         ensures id { self.new.id ≡ self.old.id }
         ensures sessions { OtherSessionsStay self.old.transactions self.new.transactions session }
         ensures others { OthersStay (who_in self.old session) (L.records log.old) (L.records log.new) }

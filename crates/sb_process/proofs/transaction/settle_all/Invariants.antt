@@ -4,7 +4,7 @@ use Rattle.sb_locks.specs.Held.{held}
 use Rattle.sb_process.specs.Made.{AreNumbered}
 use Rattle.sb_process.specs.Sharing.{settled_where}
 use Rattle.sb_process.proofs.Settled.{up_to}
-use Rattle.sb_process.proofs.bounds.settle_all.Given as goal
+use Rattle.sb_process.proofs.transaction.settle_all.Given as goal
 
 -- the tables so far are settled
 abbrev pub invariant-loop-number : goal.invariant-loop-number

@@ -4,10 +4,10 @@ ghost use Rattle.sb_rawlog.specs.Sessions.{OthersStay};
 ghost use Rattle.sb_locks.specs.Held.{held};
 ghost use Rattle.sb_tables.specs.Held.{Held};
 ghost use Rattle.sb_process.specs.Made.{AreNumbered, NumbersBelow};
-ghost use Rattle.sb_process.specs.Represents.{Represents, IsTransaction, IsKept, IsIdle, begun, is_written, who_in};
+ghost use Rattle.sb_process.specs.Represents.{EachTransaction, Represents, IsTransaction, IsKept, IsIdle, begun, is_written, who_in};
 ghost use Rattle.sb_marks.specs.Transactions.{OtherSessionsStay};
 ghost use Rattle.sb_rawlog.specs.Records.{Record};
-ghost use Rattle.sb_process.specs.Setting.{Setting, Progress};
+ghost use Rattle.sb_process.specs.Setting.{Setting};
 ghost use Rattle.sb_process.specs.Sharing.{settled_where};
 
 use crate::database::Database;
@@ -19,7 +19,9 @@ use sb_value::{Mode, SessionId, TABLE_LIMIT, TableId, Who};
 impl Database {
     /// Begins a transaction of the session.
     pub fn begin(&mut self, session: SessionId)
-        ensures begun { (origin : List Held) (records : List Record) (clock : ℕ) (setting : Setting) → IsIdle origin self.old session records setting → Represents origin self.new session records clock setting (begun (held self.old.locks)) }
+        ensures begun { (origin : List Held) (records : List Record) (clock : ℕ) (setting : Setting) →
+            IsIdle origin self.old session records setting →
+            Represents origin self.new session records clock setting (begun (held self.old.locks)) }
         ensures id { self.new.id ≡ self.old.id }
         ensures tables { self.new.tables ≡ self.old.tables }
         ensures sessions { OtherSessionsStay self.old.transactions self.new.transactions session }
@@ -30,7 +32,8 @@ impl Database {
     /// Keeps all changes of the session's transaction, and releases its locks.
     pub fn commit<L: ChangeLog>(&mut self, log: &mut L, session: SessionId)
         requires { IsTransaction self.old session (L.records log.old) (L.clock log.old) }
-        ensures kept { (origin : List Held) (setting : Setting) (progress : Progress) → Represents origin self.old session (L.records log.old) (L.clock log.old) setting progress → IsKept self.old self.new session (L.records log.new) setting progress }
+        ensures kept { EachTransaction self.old session (L.records log.old) (L.clock log.old)
+            (λ origin setting progress. IsKept self.old self.new session (L.records log.new) setting progress) }
         ensures numbers { (n : ℕ) → NumbersBelow n self.old.tables → NumbersBelow n self.new.tables }
         ensures others { OthersStay (who_in self.old session) (L.records log.old) (L.records log.new) }
         ensures clock { L.clock log.new ≡ L.clock log.old }

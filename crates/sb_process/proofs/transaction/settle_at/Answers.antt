@@ -1,7 +1,7 @@
 use Rattle.std.proofs.Common.{◌∙◌, sym}
 use Rattle.sb_process.proofs.Settling.{there}
 use Rattle.sb_process.proofs.Settled.{none-settled, one-settled}
-use Rattle.sb_process.proofs.bounds.settle_at.Goals as goal
+use Rattle.sb_process.proofs.transaction.settle_at.Goals as goal
 
 pub settle-requires : goal.settle-requires
 settle-requires c = there c.args.tables.now c.args.table c.get.result c.is_some.result c.get.ensures c.is_some.ensures ∙ c.if-is_some.true

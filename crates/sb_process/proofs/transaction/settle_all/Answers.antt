@@ -6,8 +6,8 @@ use Rattle.sb_process.specs.Made.{AreNumbered}
 use Rattle.sb_process.specs.Sharing.{settled_where}
 use Rattle.sb_process.proofs.Sharing.{numbered-settled}
 use Rattle.sb_process.proofs.Settled.{up_to, none-yet, skip-next, take-next}
-use Rattle.sb_process.proofs.bounds.settle_all.Goals as goal
-use Rattle.sb_process.proofs.bounds.settle_all.Goals.{then-is_held, else-is_held}
+use Rattle.sb_process.proofs.transaction.settle_all.Goals as goal
+use Rattle.sb_process.proofs.transaction.settle_all.Goals.{then-is_held, else-is_held}
 
 pub loop-number-init : goal.loop-number-init
 loop-number-init c = λ n. none-yet (λ t. held c.args.locks.now c.args.session t Write) c.args.tables.now

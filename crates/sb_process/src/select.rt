@@ -1,0 +1,56 @@
+//! Queries of a session.
+ghost use Rattle.std.specs.Prelude.{◌≡◌, ℕ, List};
+ghost use Rattle.sb_eval.specs.Seen as seen;
+ghost use Rattle.sb_eval.specs.Statement as spec;
+ghost use Rattle.sb_rawlog.specs.Records.{Record};
+ghost use Rattle.sb_process.specs.Represents.{EachTransaction, who_in};
+ghost use Rattle.sb_process.specs.Request.{AreThere, IsAnswer, Selects};
+ghost use Rattle.sb_process.specs.View.{seen_by};
+
+use crate::database::Database;
+use crate::lock_list::query_locks;
+use crate::refusal::refusal_for;
+use crate::request::request;
+use crate::view::no_transition;
+use sb_check::Query;
+use sb_eval::select_rows;
+use sb_rows::SharedRows;
+use sb_value::{Refusal, SessionId};
+use std::alloc::Global;
+
+impl Database {
+    /// The rows of a query, once all its locks are taken.
+    pub fn select(
+        &mut self,
+        alloc: Global,
+        session: SessionId,
+        query: &Query,
+    ) -> Result<SharedRows, Refusal>
+        requires { AreThere self.old.tables (spec.query_locks query.now) }
+        ensures selected { (records : List Record) (clock : ℕ) → EachTransaction self.old session records clock
+            (λ origin setting progress.
+            Selects origin self.new session query.now result records clock setting progress) }
+        ensures only_locks { self.new ≡ record self.old { locks = self.new.locks } }
+    {
+        let Ok(list) = query_locks(alloc, query) else {
+            return Err(Refusal::NoMemory);
+        };
+        match request(&mut self.locks, &self.tables, session, list.as_slice()) {
+            Ok(()) => self.rows(alloc, session, query),
+            Err(refusal) => Err(refusal),
+        }
+    }
+
+    /// The rows of a query over the tables as they are, without transition tables.
+    fn rows(&self, alloc: Global, session: SessionId, query: &Query) -> Result<SharedRows, Refusal>
+        ensures { IsAnswer (spec.select_rows
+            (seen_by self.now.tables seen.no_transition (who_in self.now session)) query.now) result }
+    {
+        let none = no_transition(alloc);
+        let view = self.view(session, &none);
+        match select_rows(alloc, query, &view) {
+            Ok(rows) => Ok(rows),
+            Err(error) => Err(refusal_for(error)),
+        }
+    }
+}
