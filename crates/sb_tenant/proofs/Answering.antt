@@ -199,13 +199,6 @@ done_performs new records clock index state s meant result got none is (inl h) =
 done_performs new records clock index state s meant result got none is (inr h) =
     inr (is ∙ ap told h.0, subst (λ (x : State). StandFor new records clock index x) (sym (abort_idle state s none)) h.1)
 
--- a refusal is the reply, and nothing changes
-pub refused_performs : (store : Store) (records : List Record) (clock : ℕ) (index : List (List TableSets)) (state : State) (s : ℕ) (e : Refusal) → (e ≡ refusal.NoMemory → ⊥) → (meant : State × Reply) (got : Reply)
-    → got ≡ reply.No e → StandFor store records clock index state → (meant ≡ (state, reply.No e)) ⊎ (e ≡ refusal.NoMemory) → Performs store records clock index state s meant got
-refused_performs store records clock index state s e other meant got is h (inl m) =
-    subst (λ (x : State × Reply). Performs store records clock index state s x got) (sym m) (inl (is, h))
-refused_performs store records clock index state s e other meant got is h (inr m) = absurd (other m)
-
 -- ---- a command, by what its session refuses
 
 -- the session's refusal by the phases in memory

@@ -18,29 +18,6 @@ has_its_name (t ∷ tables) name h e = by (same_name t.name name) refl e (has_it
     by true p e rest = ap (λ (x : Held). x.name) (sym (same_Some t h e)) ∙ same_name_is t.name name p
     by false p e rest = rest e
 
-seen_by : (name : List ℕ) (found : Option Held) (id : ℕ) (s : Stored) (columns : List ColumnDefinition) → ((h : Held) → found ≡ Some h → h.name ≡ name)
-    → Some id ≡ option_map (λ (h : Held). h.id) found → Some s ≡ option_map (λ (h : Held). h.stored) found → columns ≡ s.table.columns
-    → Some (id, name, columns) ≡ option_map table_seen (option_map entry_of found)
-seen_by name None id s columns named_so e f c = absurd (cc e)
-seen_by name (Some h) id s columns named_so e f c =
-    λ i. Some (same_Some id h.id e i, sym (named_so h refl) i, (c ∙ ap (λ (x : Stored). x.table.columns) (same_Some s h.stored f)) i)
-
--- a table that is there
-pub seen_there : (tables : List Held) (name : List ℕ) (id : ℕ) (s : Stored) (columns : List ColumnDefinition)
-    → Some id ≡ option_map (λ (h : Held). h.id) (named tables name) → Some s ≡ option_map (λ (h : Held). h.stored) (named tables name) → columns ≡ s.table.columns
-    → Some (id, name, columns) ≡ option_map table_seen (find (λ (e : Entry). same_name e.name name) (entries tables))
-seen_there tables name id s columns e f c =
-    seen_by name (named tables name) id s columns (has_its_name tables name) e f c ∙ ap (option_map table_seen) (sym (find_entry tables name))
-
-nothing_by : (found : Option Held) → None ≡ option_map (λ (h : Held). h.id) found → None ≡ option_map table_seen (option_map entry_of found)
-nothing_by None e = refl
-nothing_by (Some h) e = absurd (cc e)
-
--- no table
-pub nothing_there : (tables : List Held) (name : List ℕ) → None ≡ option_map (λ (h : Held). h.id) (named tables name)
-    → None ≡ option_map table_seen (find (λ (e : Entry). same_name e.name name) (entries tables))
-nothing_there tables name e = nothing_by (named tables name) e ∙ ap (option_map table_seen) (sym (find_entry tables name))
-
 -- ---- what a number tells
 
 stored_table : (tables : List Held) (id : ℕ) → table_at (entries tables) id ≡ (stored_at tables id).table
@@ -61,3 +38,28 @@ told_by tables (Some h) e agree is =
 
 pub numbers_tell : (tables : List Held) → NamesAgreeWithNumbers tables → NumbersTellColumns (entries tables)
 numbers_tell tables agree name e is = told_by tables (named tables name) e (agree name) (sym (find_entry tables name) ∙ is)
+
+-- ---- a table that is there, or none
+
+seen_by : (tables : List Entry) (name : List ℕ) (found : Option Held) (id : ℕ) (columns : List ColumnDefinition) → ((h : Held) → found ≡ Some h → h.name ≡ name)
+    → ((e : Entry) → option_map entry_of found ≡ Some e → (table_at tables e.id).columns ≡ e.table.columns)
+    → Some id ≡ option_map (λ (h : Held). h.id) found → columns ≡ (table_at tables id).columns → Some (id, name, columns) ≡ option_map table_seen (option_map entry_of found)
+seen_by tables name None id columns named_so tells e c = absurd (cc e)
+seen_by tables name (Some h) id columns named_so tells e c =
+    let same : id ≡ h.id = same_Some id h.id e in
+    λ i. Some (same i, sym (named_so h refl) i, (c ∙ ap (λ (n : ℕ). (table_at tables n).columns) same ∙ tells (entry_of h) refl) i)
+
+pub seen_there : (tables : List Held) (name : List ℕ) (id : ℕ) (columns : List ColumnDefinition) → NamesAgreeWithNumbers tables
+    → Some id ≡ option_map (λ (h : Held). h.id) (named tables name) → columns ≡ (table_at (entries tables) id).columns
+    → Some (id, name, columns) ≡ option_map table_seen (find (λ (e : Entry). same_name e.name name) (entries tables))
+seen_there tables name id columns agree e c =
+    seen_by (entries tables) name (named tables name) id columns (has_its_name tables name) (λ t is. numbers_tell tables agree name t (find_entry tables name ∙ is)) e c
+    ∙ ap (option_map table_seen) (sym (find_entry tables name))
+
+nothing_by : (found : Option Held) → None ≡ option_map (λ (h : Held). h.id) found → None ≡ option_map table_seen (option_map entry_of found)
+nothing_by None e = refl
+nothing_by (Some h) e = absurd (cc e)
+
+pub nothing_there : (tables : List Held) (name : List ℕ) → None ≡ option_map (λ (h : Held). h.id) (named tables name)
+    → None ≡ option_map table_seen (find (λ (e : Entry). same_name e.name name) (entries tables))
+nothing_there tables name e = nothing_by (named tables name) e ∙ ap (option_map table_seen) (sym (find_entry tables name))

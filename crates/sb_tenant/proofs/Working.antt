@@ -22,7 +22,7 @@ use Rattle.sb_process.specs.Made.{held_after, tables_after, tables_after_all}
 use Rattle.sb_tenant.specs.declared.reply.Reply.{Reply}
 use Rattle.sb_tenant.specs.declared.reply.Reply.TheVariants as reply
 use Rattle.sb_tenant.specs.declared.store.Store.{Store}
-use Rattle.sb_tenant.specs.Represents.{StandFor, Performs, all_changes}
+use Rattle.sb_tenant.specs.Represents.{StandFor, Performs, Refuses, all_changes}
 use Rattle.sb_tenant.specs.Resolved.{Resolved, query, change}
 use Rattle.sb_tenant.specs.State.{State}
 use Rattle.sb_tenant.specs.Step.{outcome_of}
@@ -123,10 +123,11 @@ performs_as new records clock index state tenant bound s w v got e h =
     subst (λ (r : Result Resolved Refusal). Performs new records clock index state s (outcome_of tenant bound state s None r) got) (sym e) h
 
 -- what the walk refuses is answered so, and nothing changes
-pub refusal_meant : (tenant bound s : ℕ) (state : State) (w : Result Resolved Refusal) (e : Refusal) → (w ≡ Err e) ⊎ (e ≡ refusal.NoMemory)
-    → (outcome_of tenant bound state s None w ≡ (state, reply.No e)) ⊎ (e ≡ refusal.NoMemory)
-refusal_meant tenant bound s state w e (inl h) = inl (ap (λ (r : Result Resolved Refusal). outcome_of tenant bound state s None r) h)
-refusal_meant tenant bound s state w e (inr m) = inr m
+pub refusal_meant : (stands : State → Type 0) (tenant bound s : ℕ) (state : State) → stands state → (w : Result Resolved Refusal) (e : Refusal) → (w ≡ Err e) ⊎ (e ≡ refusal.NoMemory)
+    → Refuses stands (outcome_of tenant bound state s None w) e
+refusal_meant stands tenant bound s state st w e (inl h) =
+    subst (λ (r : Result Resolved Refusal). Refuses stands (outcome_of tenant bound state s None r) e) (sym h) (inl (refl, st))
+refusal_meant stands tenant bound s state st w e (inr m) = inr m
 
 -- the same of a part of the walk
 pub part_refused : {A B : Type 0} (part : Result A Refusal) (w : Result B Refusal) (e : Refusal) → (part ≡ Err e → w ≡ Err e) → (part ≡ Err e) ⊎ (e ≡ refusal.NoMemory) → (w ≡ Err e) ⊎ (e ≡ refusal.NoMemory)

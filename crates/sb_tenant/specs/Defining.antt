@@ -68,6 +68,10 @@ pub record Defines (old new : Store) (before after : List (List TableSets)) (com
   pub numbers : (n : ℕ) → NumbersBelow n old.database.tables → NumbersBelow (n + 2) new.database.tables
   pub others : OtherTenantsStay old.database.id before after
 
+-- it is done, and leaves the index as it is
+abbrev pub DefinesAlone : Store → Store → Command → Result (Unit {0}) Refusal → Type 0
+DefinesAlone old new command result = (index : List (List TableSets)) → Defines old new index index command result
+
 -- memory and the index stand for some state
 abbrev pub Stands : Store → List (List TableSets) → Type 0
 Stands store index = (records : List Record) × (clock : ℕ) × (state : State) × StandFor store records clock index state

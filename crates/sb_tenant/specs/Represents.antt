@@ -66,6 +66,14 @@ abbrev pub StandFor : Store → List Record → ℕ → List (List TableSets) �
 StandFor store records clock index state =
     ((origin : List Held) × Holds origin store state) × Agrees store.database.id state store.database.transactions records clock index
 
+-- for some state, with some index
+abbrev pub StandForSome : Store → List Record → ℕ → Type 0
+StandForSome store records clock = (index : List (List TableSets)) × (state : State) × StandFor store records clock index state
+
+-- so much is said of each state that they stand for
+abbrev pub EachState : Store → List Record → ℕ → List (List TableSets) → (State → Type 0) → Type 0
+EachState store records clock index Says = (state : State) → StandFor store records clock index state → Says state
+
 -- ---- what a call leaves
 
 -- the reply is the one that is meant, and what stands is what is meant; or memory ran out, and the session's transaction is taken back

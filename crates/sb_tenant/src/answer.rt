@@ -1,19 +1,16 @@
 //! The answer to a line.
-ghost use Rattle.std.specs.Prelude.{◌≡◌, ◌⊎◌, ◌<◌, ◌≤◌, ◌^◌, ℕ, List, None};
+ghost use Rattle.std.specs.Prelude.{◌≡◌, ◌<◌, ◌≤◌, ◌^◌, List, None};
 ghost use Rattle.sb_catalog.specs.Definitions.{OtherTenantsStay};
 ghost use Rattle.sb_index.specs.TableSets.{TableSets};
 ghost use Rattle.sb_process.specs.Made.{NumbersBelow};
 ghost use Rattle.sb_syntax.specs.Views.{command as tree_of};
 ghost use Rattle.sb_tenant.specs.declared.phase.Phase.TheVariants as phase;
-ghost use Rattle.sb_tenant.specs.declared.reply.Reply.{Reply as Answer};
 ghost use Rattle.sb_tenant.specs.declared.reply.Reply.TheVariants as told;
-ghost use Rattle.sb_tenant.specs.Defining.{HasFewActions, IsAtRest};
-ghost use Rattle.sb_tenant.specs.Represents.{Leaves, Performs, StandFor, phase_at};
-ghost use Rattle.sb_tenant.specs.Resolved.{defines};
+ghost use Rattle.sb_tenant.specs.Defining.{HasFewActions};
+ghost use Rattle.sb_tenant.specs.Represents.{EachState, StandForSome, Leaves, Performs, Refuses, StandAside, StandFor};
 ghost use Rattle.sb_tenant.specs.State.{State};
-ghost use Rattle.sb_tenant.specs.Step.{outcome_of, reply_to, reply_to_command};
+ghost use Rattle.sb_tenant.specs.Step.{reply_to, reply_to_command};
 ghost use Rattle.sb_tenant.specs.Trail.{aborted};
-ghost use Rattle.sb_tenant.specs.Walk.{class_of as class_meant, walk};
 
 use crate::class::{Class, class_of};
 use crate::reply::Reply;
@@ -60,9 +57,12 @@ impl Store {
         requires bound { bound ≤ 1000 }
         requires times { L.clock log.old < 2 ^ 63 }
         requires numbers { NumbersBelow (2 ^ 63) self.old.database.tables }
-        ensures answered { (state : State) → StandFor self.old (L.records log.old) (L.clock log.old) index.old state → Performs self.new (L.records log.new) (L.clock log.new) index.new state session (reply_to self.old.database.id bound state session line.now) result.0 }
+        ensures answered { EachState self.old (L.records log.old) (L.clock log.old) index.old
+            (λ state. Performs self.new (L.records log.new) (L.clock log.new) index.new state session
+            (reply_to self.old.database.id bound state session line.now) result.0) }
         ensures twice { result.1 ≡ result.0 }
-        ensures leaves { Leaves 32768000 self.old self.new session (L.records log.old) (L.records log.new) (L.clock log.old) (L.clock log.new) }
+        ensures leaves { Leaves 32768000 self.old self.new session
+            (L.records log.old) (L.records log.new) (L.clock log.old) (L.clock log.new) }
         ensures others { OtherTenantsStay self.old.database.id index.old index.new }
     {
         match parse(alloc, line) {
@@ -74,26 +74,33 @@ impl Store {
 
     /// Gives a line up for want of memory: the session's transaction is taken back.
     pub(crate) fn run_out<L: ChangeLog>(&mut self, log: &mut L, session: SessionId) -> Replies
-        requires { (index : List (List TableSets)) × (state : State) × StandFor self.old (L.records log.old) (L.clock log.old) index state }
-        ensures aborted { (index : List (List TableSets)) (state : State) → StandFor self.old (L.records log.old) (L.clock log.old) index state → StandFor self.new (L.records log.new) (L.clock log.new) index (aborted state session) }
+        requires { StandForSome self.old (L.records log.old) (L.clock log.old) }
+        ensures aborted { (index : List (List TableSets)) →
+            EachState self.old (L.records log.old) (L.clock log.old) index
+            (λ state. StandFor self.new (L.records log.new) (L.clock log.new) index (aborted state session)) }
         ensures replies { result ≡ (told.No Refusal.NoMemory, told.No Refusal.NoMemory) }
-        ensures leaves { Leaves 0 self.old self.new session (L.records log.old) (L.records log.new) (L.clock log.old) (L.clock log.new) }
+        ensures leaves { Leaves 0 self.old self.new session
+            (L.records log.old) (L.records log.new) (L.clock log.old) (L.clock log.new) }
     {
         self.abort(log, session);
         refused(Refusal::NoMemory)
     }
 
     /// Answers with a refusal. For want of memory the session's transaction is taken back.
-    pub(crate) fn decline<L: ChangeLog>(
+    pub(crate) fn refuse<L: ChangeLog>(
         &mut self,
         log: &mut L,
         session: SessionId,
         refusal: Refusal,
     ) -> Replies
-        requires { (index : List (List TableSets)) × (state : State) × StandFor self.old (L.records log.old) (L.clock log.old) index state }
-        ensures performed { (index : List (List TableSets)) (state : State) (meant : State × Answer) → StandFor self.old (L.records log.old) (L.clock log.old) index state → (meant ≡ (state, told.No refusal)) ⊎ (refusal ≡ Refusal.NoMemory) → Performs self.new (L.records log.new) (L.clock log.new) index state session meant result.0 }
+        requires { StandForSome self.old (L.records log.old) (L.clock log.old) }
+        ensures refused { (index : List (List TableSets)) (before : State) (meant : State × Reply) →
+            StandAside self.old (L.records log.old) (L.clock log.old) index before session →
+            Refuses (StandFor self.old (L.records log.old) (L.clock log.old) index) meant refusal →
+            Performs self.new (L.records log.new) (L.clock log.new) index before session meant result.0 }
         ensures twice { result.1 ≡ result.0 }
-        ensures leaves { Leaves 0 self.old self.new session (L.records log.old) (L.records log.new) (L.clock log.old) (L.clock log.new) }
+        ensures leaves { Leaves 0 self.old self.new session
+            (L.records log.old) (L.records log.new) (L.clock log.old) (L.clock log.new) }
     {
         match refusal {
             Refusal::NoMemory => self.run_out(log, session),
@@ -116,9 +123,12 @@ impl Store {
         requires times { L.clock log.old < 2 ^ 63 }
         requires numbers { NumbersBelow (2 ^ 63) self.old.database.tables }
         requires few { HasFewActions (tree_of command) }
-        ensures answered { (state : State) → StandFor self.old (L.records log.old) (L.clock log.old) index.old state → Performs self.new (L.records log.new) (L.clock log.new) index.new state session (reply_to_command self.old.database.id bound state session (tree_of command)) result.0 }
+        ensures answered { EachState self.old (L.records log.old) (L.clock log.old) index.old
+            (λ state. Performs self.new (L.records log.new) (L.clock log.new) index.new state session
+            (reply_to_command self.old.database.id bound state session (tree_of command)) result.0) }
         ensures twice { result.1 ≡ result.0 }
-        ensures leaves { Leaves 32768000 self.old self.new session (L.records log.old) (L.records log.new) (L.clock log.old) (L.clock log.new) }
+        ensures leaves { Leaves 32768000 self.old self.new session
+            (L.records log.old) (L.records log.new) (L.clock log.old) (L.clock log.new) }
         ensures others { OtherTenantsStay self.old.database.id index.old index.new }
     {
         // for the proof: the session is one of the eight

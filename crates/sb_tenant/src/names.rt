@@ -1,10 +1,11 @@
 //! The tables of a tenant as the walk of a command looks them up.
 ghost use Rattle.std.specs.Prelude.{◌≡◌};
 ghost use Rattle.sb_tables.specs.Held.{entries};
+ghost use Rattle.sb_value.specs.Table.{table_at};
 
 use sb_check::{RuleEntry, Schema, TableEntry};
 use sb_tables::Tables;
-use sb_value::Name;
+use sb_value::{ColumnDefinition, Name, TableId};
 
 /// The tables by their names, outside of rules.
 #[derive(Drop)]
@@ -18,15 +19,14 @@ impl<'a> Schema for Names<'a> {
     ghost names = { λ n. record { tables = entries n.tables.now; rule = None } };
 
     fn table(&self, name: &Name) -> Option<TableEntry<'_>> {
+        // for the proof: a number tells the columns that its name tells
+        self.tables.names_agree();
         match self.tables.find(name) {
-            Some(id) => match self.tables.by_name(name) {
-                Some(table) => Some(TableEntry {
-                    id,
-                    name: *name,
-                    columns: table.columns(),
-                }),
-                None => None,
-            },
+            Some(id) => Some(TableEntry {
+                id,
+                name: *name,
+                columns: columns_of(self.tables, id),
+            }),
             None => None,
         }
     }
@@ -37,5 +37,15 @@ impl<'a> Schema for Names<'a> {
 
     fn tells_columns(&self) {
         self.tables.names_agree();
+    }
+}
+
+/// The columns of the table of that number.
+pub(crate) fn columns_of(tables: &Tables, id: TableId) -> &[ColumnDefinition]
+    ensures { result.now ≡ (table_at (entries tables.now) id).columns }
+{
+    match tables.get(id) {
+        Some(table) => table.columns(),
+        None => &[],
     }
 }

@@ -9,7 +9,7 @@ ghost use Rattle.sb_process.specs.Setting.{Progress};
 ghost use Rattle.sb_process.specs.declared.Outcome.{Outcome};
 ghost use Rattle.sb_process.specs.Process.{stands_after};
 ghost use Rattle.sb_tenant.specs.Perform.{perform, process_at, stands_as, stays};
-ghost use Rattle.sb_tenant.specs.Represents.{Finds, Leaves, Performs, StandAside, StandFor, phase_at};
+ghost use Rattle.sb_tenant.specs.Represents.{EachState, StandForSome, Finds, Leaves, Performs, StandAside, StandFor, phase_at};
 ghost use Rattle.sb_tenant.specs.Resolved.{commit as commit_command};
 ghost use Rattle.sb_tenant.specs.State.{State, committed};
 ghost use Rattle.sb_tenant.specs.declared.phase.Phase.TheVariants as phase;
@@ -18,7 +18,7 @@ use crate::phase::Phase;
 use crate::store::{Replies, Store};
 use crate::told::told;
 use sb_index::RuleIndex;
-use sb_process::{Processed, Rules, transactions_share_tables};
+use sb_process::{AssertionPoint, Processed, Rules, transactions_share_tables};
 use sb_rawlog::ChangeLog;
 use sb_value::{RuleSet, SessionId};
 use std::alloc::{AllocError, Global};
@@ -40,11 +40,20 @@ impl Store {
         requires bound { bound ≤ 1000 }
         requires times { L.clock log.old < 2 ^ 63 }
         requires numbers { NumbersBelow (2 ^ 63) self.old.database.tables }
-        ensures performed { (state : State) (chosen : ℕ → Bool) → StandFor self.old (L.records log.old) (L.clock log.old) index.now state → ((id : ℕ) → flag_at eligible id ≡ chosen id) → Performs self.new (L.records log.new) (L.clock log.new) index.now state session (process_at self.old.database.id bound state session chosen stays) result.0 }
+        ensures performed { EachState self.old (L.records log.old) (L.clock log.old) index.now
+            (λ state. (chosen : ℕ → Bool) → ((id : ℕ) → flag_at eligible id ≡ chosen id) →
+            Performs self.new (L.records log.new) (L.clock log.new) index.now state session
+            (process_at self.old.database.id bound state session chosen stays) result.0) }
         ensures twice { result.1 ≡ result.0 }
-        ensures leaves { Leaves 32768000 self.old self.new session (L.records log.old) (L.records log.new) (L.clock log.old) (L.clock log.new) }
+        ensures leaves { Leaves 32768000 self.old self.new session
+            (L.records log.old) (L.records log.new) (L.clock log.old) (L.clock log.new) }
     {
-        match self.run(alloc, log, index, session, eligible, bound) {
+        let point = AssertionPoint {
+            session,
+            eligible,
+            bound,
+        };
+        match self.run(alloc, log, index, &point) {
             Ok(processed) => match told(alloc, &self.definitions.rules, &processed) {
                 Ok(replies) => replies,
                 Err(_) => self.run_out(log, session),
@@ -67,12 +76,20 @@ impl Store {
         requires bound { bound ≤ 1000 }
         requires times { L.clock log.old < 2 ^ 63 }
         requires numbers { NumbersBelow (2 ^ 63) self.old.database.tables }
-        ensures performed { (state : State) → StandFor self.old (L.records log.old) (L.clock log.old) index.now state → Performs self.new (L.records log.new) (L.clock log.new) index.now state session (perform self.old.database.id bound state session commit_command) result.0 }
+        ensures performed { EachState self.old (L.records log.old) (L.clock log.old) index.now
+            (λ state. Performs self.new (L.records log.new) (L.clock log.new) index.now state session
+            (perform self.old.database.id bound state session commit_command) result.0) }
         ensures twice { result.1 ≡ result.0 }
-        ensures leaves { Leaves 32768000 self.old self.new session (L.records log.old) (L.records log.new) (L.clock log.old) (L.clock log.new) }
+        ensures leaves { Leaves 32768000 self.old self.new session
+            (L.records log.old) (L.records log.new) (L.clock log.old) (L.clock log.new) }
     {
         let eligible = self.definitions.active();
-        match self.run(alloc, log, index, session, eligible, bound) {
+        let point = AssertionPoint {
+            session,
+            eligible,
+            bound,
+        };
+        match self.run(alloc, log, index, &point) {
             Ok(processed) => match told(alloc, &self.definitions.rules, &processed) {
                 Ok(replies) => {
                     self.finish(log, session, processed.outcome.is_done());
@@ -90,43 +107,46 @@ impl Store {
         alloc: Global,
         log: &mut L,
         index: &RuleIndex,
-        session: SessionId,
-        eligible: RuleSet,
-        bound: u32,
+        point: &AssertionPoint,
     ) -> Result<Processed, AllocError>
         requires stand { (state : State) × StandFor self.old (L.records log.old) (L.clock log.old) index.now state }
-        requires active { phase_at self.old.phases session ≡ phase.Active }
-        requires rules { (id : ℕ) → IsTrue (flag_at eligible id) → IsTrue (is_active self.old.definitions.rules id) }
+        requires active { phase_at self.old.phases point.now.session ≡ phase.Active }
+        requires rules { (id : ℕ) → IsTrue (flag_at point.now.eligible id)
+            → IsTrue (is_active self.old.definitions.rules id) }
         requires times { L.clock log.old < 2 ^ 63 }
         requires numbers { NumbersBelow (2 ^ 63) self.old.database.tables }
-        ensures found { (state : State) (chosen : ℕ → Bool) → StandFor self.old (L.records log.old) (L.clock log.old) index.now state → ((id : ℕ) → flag_at eligible id ≡ chosen id) → IfOk result (λ p. Finds self.old.database.id self.new (L.records log.new) (L.clock log.new) index.now state session bound chosen p) }
-        ensures aside { (state : State) → StandFor self.old (L.records log.old) (L.clock log.old) index.now state → StandAside self.new (L.records log.new) (L.clock log.new) index.now state session }
-        ensures under_way { IfOk result (λ p. is_done p.outcome ≡ true → phase_at self.new.phases session ≡ phase.Active) }
+        ensures found { EachState self.old (L.records log.old) (L.clock log.old) index.now
+            (λ state. (chosen : ℕ → Bool) → ((id : ℕ) → flag_at point.now.eligible id ≡ chosen id) →
+            IfOk result (λ p. Finds self.old.database.id self.new (L.records log.new) (L.clock log.new) index.now state
+            point.now.session point.now.bound chosen p)) }
+        ensures aside { EachState self.old (L.records log.old) (L.clock log.old) index.now
+            (λ state. StandAside self.new (L.records log.new) (L.clock log.new) index.now state point.now.session) }
+        ensures under_way { IfOk result (λ p. is_done p.outcome ≡ true
+            → phase_at self.new.phases point.now.session ≡ phase.Active) }
         ensures definitions { self.new.definitions ≡ self.old.definitions }
-        ensures leaves { Leaves (32768 * bound) self.old self.new session (L.records log.old) (L.records log.new) (L.clock log.old) (L.clock log.new) }
+        ensures leaves { Leaves (32768 * point.now.bound) self.old self.new point.now.session
+            (L.records log.old) (L.records log.new) (L.clock log.old) (L.clock log.new) }
     {
-        // for the proof: the transactions may be taken in any order; a session's number is below 8, and a rule's its own
+        // for the proof: the transactions may be taken in any order; a session's number is below 8, and a rule's its
+        // own
         transactions_share_tables();
-        let _number = session.number();
+        let _number = point.session.number();
         let _rules = self.definitions.rules.rules();
         let rules = Rules {
             catalog: &self.definitions.rules,
             index,
             order: &self.definitions.order,
         };
-        match self
-            .database
-            .process(alloc, log, &rules, session, eligible, bound)
-        {
+        match self.database.process(alloc, log, &rules, point) {
             Ok(processed) => {
                 if processed.outcome.is_done() {
                     return Ok(processed);
                 }
-                self.phases.set(session, Phase::Idle);
+                self.phases.set(point.session, Phase::Idle);
                 Ok(processed)
             }
             Err(error) => {
-                self.phases.set(session, Phase::Idle);
+                self.phases.set(point.session, Phase::Idle);
                 Err(error)
             }
         }
@@ -134,10 +154,16 @@ impl Store {
 
     /// Keeps what the transaction has changed, where no rule is left.
     fn finish<L: ChangeLog>(&mut self, log: &mut L, session: SessionId, done: bool)
-        requires stand { (index : List (List TableSets)) × (state : State) × StandFor self.old (L.records log.old) (L.clock log.old) index state }
+        requires stand { StandForSome self.old (L.records log.old) (L.clock log.old) }
         requires active { done ≡ true → phase_at self.old.phases session ≡ phase.Active }
-        ensures finished { (index : List (List TableSets)) (state : State) (outcome : Outcome) (progress : Progress) → is_done outcome ≡ done → StandFor self.old (L.records log.old) (L.clock log.old) index (stands_as state session stays (stands_after outcome progress)) → StandFor self.new (L.records log.new) (L.clock log.new) index (stands_as state session (λ now. committed now session) (stands_after outcome progress)) }
-        ensures leaves { Leaves 0 self.old self.new session (L.records log.old) (L.records log.new) (L.clock log.old) (L.clock log.new) }
+        ensures finished { (index : List (List TableSets)) (state : State) (outcome : Outcome) (progress : Progress) →
+            is_done outcome ≡ done →
+            StandFor self.old (L.records log.old) (L.clock log.old) index
+            (stands_as state session stays (stands_after outcome progress)) →
+            StandFor self.new (L.records log.new) (L.clock log.new) index
+            (stands_as state session (λ now. committed now session) (stands_after outcome progress)) }
+        ensures leaves { Leaves 0 self.old self.new session
+            (L.records log.old) (L.records log.new) (L.clock log.old) (L.clock log.new) }
     {
         if done {
             self.keep(log, session);
@@ -146,10 +172,12 @@ impl Store {
 
     /// Keeps what the transaction has changed.
     fn keep<L: ChangeLog>(&mut self, log: &mut L, session: SessionId)
-        requires stand { (index : List (List TableSets)) × (state : State) × StandFor self.old (L.records log.old) (L.clock log.old) index state }
+        requires stand { StandForSome self.old (L.records log.old) (L.clock log.old) }
         requires active { phase_at self.old.phases session ≡ phase.Active }
-        ensures kept { (index : List (List TableSets)) (state : State) → StandFor self.old (L.records log.old) (L.clock log.old) index state → StandFor self.new (L.records log.new) (L.clock log.new) index (committed state session) }
-        ensures leaves { Leaves 0 self.old self.new session (L.records log.old) (L.records log.new) (L.clock log.old) (L.clock log.new) }
+        ensures kept { (index : List (List TableSets)) → EachState self.old (L.records log.old) (L.clock log.old) index
+            (λ state. StandFor self.new (L.records log.new) (L.clock log.new) index (committed state session)) }
+        ensures leaves { Leaves 0 self.old self.new session
+            (L.records log.old) (L.records log.new) (L.clock log.old) (L.clock log.new) }
     {
         // for the proof: the transactions may be taken in any order; a session's number is below 8
         transactions_share_tables();

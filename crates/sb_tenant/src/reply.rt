@@ -1,5 +1,5 @@
 //! Replies, answers and the entries of a trail.
-ghost use Rattle.std.specs.Prelude.{◌≡◌, ◌++◌, ◌∷◌, [], IfOk, OnOk, OnErr};
+ghost use Rattle.std.specs.Prelude.{◌≡◌, IfOk};
 
 use sb_rows::SharedRows;
 use sb_value::{Name, Refusal, SessionId, Verdict};
@@ -52,45 +52,60 @@ impl Line {
     }
 }
 
-/// The considered rules by name, with their verdicts, in order.
+/// The considered rules by name, with their verdicts, in order. Its copies share them; where no rule was considered
+/// there is nothing to share.
 #[derive(Drop)]
 pub struct NamedTrace {
-    list: Vec<(Name, Verdict)>,
+    list: Option<Arc<Vec<(Name, Verdict)>>>,
 }
 
 impl Model for NamedTrace {
-    ghost use Rattle.std.specs.Prelude.{List, ℕ};
+    ghost use Rattle.std.specs.Prelude.{List, ℕ, [], option_map, unwrap_or};
+    ghost use Rattle.std.specs.Arc.{arc_value};
+    ghost use Rattle.std.specs.Vec.{vec_items};
     ghost use Rattle.sb_value.specs.declared.refusal.Verdict.{Verdict};
 
     ghost Value = { List (List ℕ × Verdict) };
 
-    ghost view = { λ t. t.list.items };
+    ghost view = { λ t. unwrap_or (option_map (λ list. vec_items (arc_value list)) t.list) [] };
 }
 
 impl NamedTrace {
-    /// No rule was considered.
-    pub fn empty(alloc: Global) -> NamedTrace
-        ensures { result ≡ [] }
+    /// These considerations, to be shared.
+    pub fn new(alloc: Global, list: Vec<(Name, Verdict)>) -> Result<NamedTrace, AllocError>
+        ensures { IfOk result (λ trace. trace ≡ list.items) }
     {
-        NamedTrace {
-            list: Vec::new(alloc),
+        if list.is_empty() {
+            return Ok(NamedTrace { list: None });
         }
-    }
-
-    /// Adds the next consideration.
-    pub fn push(&mut self, name: Name, verdict: Verdict) -> Result<(), AllocError>
-        ensures ok { OnOk result (self.new ≡ self.old ++ (name, verdict) ∷ []) }
-        ensures err { OnErr result (self.new ≡ self.old) }
-    {
-        self.list.push((name, verdict))?;
-        Ok(())
+        Ok(NamedTrace {
+            list: Some(Arc::new(alloc, list)?),
+        })
     }
 
     /// The considerations in order.
     pub fn as_slice(&self) -> &[(Name, Verdict)]
         ensures { result.now ≡ self.now }
     {
-        self.list.as_slice()
+        match &self.list {
+            Some(list) => {
+                let list: &Vec<(Name, Verdict)> = list;
+                list.as_slice()
+            }
+            None => &[],
+        }
+    }
+
+    /// The same considerations, once more.
+    pub fn share(&self) -> Result<NamedTrace, AllocError>
+        ensures { IfOk result (λ shared. shared ≡ self.now) }
+    {
+        match &self.list {
+            Some(list) => Ok(NamedTrace {
+                list: Some(list.clone()?),
+            }),
+            None => Ok(NamedTrace { list: None }),
+        }
     }
 }
 

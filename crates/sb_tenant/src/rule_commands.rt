@@ -1,13 +1,11 @@
 //! The commands that define rules.
-ghost use Rattle.std.specs.Prelude.{◌≡◌, ◌≤◌, List, [], length, unwrap_or};
+ghost use Rattle.std.specs.Prelude.{◌≤◌, List, [], length, unwrap_or};
 ghost use Rattle.sb_index.specs.TableSets.{TableSets};
 ghost use Rattle.sb_syntax.specs.Tree as text;
 ghost use Rattle.sb_syntax.specs.Views.{alteration as alteration_text, rule as rule_text};
-ghost use Rattle.sb_tables.specs.Held.{entries};
-ghost use Rattle.sb_tenant.specs.Defining.{Defines, IsAtRest, Stands};
-ghost use Rattle.sb_value.specs.Table.{table_at};
+ghost use Rattle.sb_tenant.specs.Defining.{DefinesAlone, Defines, IsAtRest, Stands};
 
-use crate::names::Names;
+use crate::names::{Names, columns_of};
 use crate::store::Store;
 use sb_check::{RuleEntry, resolve_alteration, resolve_rule, resolved_tables_are_there};
 use sb_index::RuleIndex;
@@ -41,15 +39,8 @@ impl Store {
             Ok(parts) => parts,
             Err(refusal) => return Err(refusal),
         };
-        self.definitions.create_rule(
-            alloc,
-            index,
-            self.database.id,
-            rule.name,
-            parts,
-            rule.precedes.as_slice(),
-            rule.follows.as_slice(),
-        )
+        self.definitions
+            .create_rule(alloc, index, self.database.id, rule, parts)
     }
 
     /// Gives a rule new parts and new pairs; it keeps its place.
@@ -57,7 +48,7 @@ impl Store {
         requires rest { IsAtRest self.old.phases }
         requires stand { (index : List (List TableSets)) × Stands self.old index }
         requires few { length (unwrap_or (alteration_text rule.now).actions []) ≤ 8 }
-        ensures { (index : List (List TableSets)) → Defines self.old self.new index index (text.alter_rule (alteration_text rule.now)) result }
+        ensures { DefinesAlone self.old self.new (text.alter_rule (alteration_text rule.now)) result }
     {
         let Some(found) = self.definitions.rules.find(&rule.name) else {
             return Err(Refusal::NoRule);
@@ -118,15 +109,5 @@ impl Store {
             Ok(_) => Ok(()),
             Err(refusal) => Err(refusal),
         }
-    }
-}
-
-/// The columns of the table of that number.
-fn columns_of(tables: &Tables, id: TableId) -> &[ColumnDefinition]
-    ensures { result.now ≡ (table_at (entries tables.now) id).columns }
-{
-    match tables.get(id) {
-        Some(table) => table.columns(),
-        None => &[],
     }
 }

@@ -1,8 +1,6 @@
 //! The commands that define rulesets.
-ghost use Rattle.std.specs.Prelude.{List};
-ghost use Rattle.sb_index.specs.TableSets.{TableSets};
 ghost use Rattle.sb_syntax.specs.Tree as text;
-ghost use Rattle.sb_tenant.specs.Defining.{Defines, IsAtRest};
+ghost use Rattle.sb_tenant.specs.Defining.{DefinesAlone, IsAtRest};
 
 use crate::store::Store;
 use sb_value::{Name, Refusal};
@@ -12,7 +10,7 @@ impl Store {
     /// Adds an empty ruleset, the last.
     pub(crate) fn create_ruleset(&mut self, name: Name) -> Result<(), Refusal>
         requires { IsAtRest self.old.phases }
-        ensures { (index : List (List TableSets)) → Defines self.old self.new index index (text.create_ruleset name) result }
+        ensures { DefinesAlone self.old self.new (text.create_ruleset name) result }
     {
         self.definitions.rulesets.create(name)
     }
@@ -20,7 +18,7 @@ impl Store {
     /// Drops a ruleset; its rules stay.
     pub(crate) fn drop_ruleset(&mut self, name: &Name) -> Result<(), Refusal>
         requires { IsAtRest self.old.phases }
-        ensures { (index : List (List TableSets)) → Defines self.old self.new index index (text.drop_ruleset name.now) result }
+        ensures { DefinesAlone self.old self.new (text.drop_ruleset name.now) result }
     {
         self.definitions.rulesets.drop_set(name)
     }
@@ -33,7 +31,7 @@ impl Store {
         rules: &[Name],
     ) -> Result<(), Refusal>
         requires { IsAtRest self.old.phases }
-        ensures { (index : List (List TableSets)) → Defines self.old self.new index index (text.add_rules name.now rules.now) result }
+        ensures { DefinesAlone self.old self.new (text.add_rules name.now rules.now) result }
     {
         self.definitions.add_rules(alloc, name, rules)
     }
@@ -46,7 +44,7 @@ impl Store {
         rules: &[Name],
     ) -> Result<(), Refusal>
         requires { IsAtRest self.old.phases }
-        ensures { (index : List (List TableSets)) → Defines self.old self.new index index (text.del_rules name.now rules.now) result }
+        ensures { DefinesAlone self.old self.new (text.del_rules name.now rules.now) result }
     {
         self.definitions.del_rules(alloc, name, rules)
     }

@@ -6,7 +6,7 @@ ghost use Rattle.sb_process.specs.Made.{NumbersBelow};
 ghost use Rattle.sb_process.specs.Request.{AreThere};
 ghost use Rattle.sb_rawlog.specs.Records.{Record};
 ghost use Rattle.sb_tenant.specs.Perform.{perform};
-ghost use Rattle.sb_tenant.specs.Represents.{Comes, Leaves, Performs, StandAside, StandFor, phase_at};
+ghost use Rattle.sb_tenant.specs.Represents.{EachState, StandForSome, Comes, Leaves, Performs, StandAside, StandFor, phase_at};
 ghost use Rattle.sb_tenant.specs.Resolved.{query as query_of, change as change_of};
 ghost use Rattle.sb_tenant.specs.State.{State};
 ghost use Rattle.sb_tenant.specs.declared.phase.Phase.TheVariants as phase;
@@ -30,12 +30,17 @@ impl Store {
         session: SessionId,
         query: &Query,
     ) -> Replies
-        requires stand { (index : List (List TableSets)) × (state : State) × StandFor self.old (L.records log.old) (L.clock log.old) index state }
+        requires stand { StandForSome self.old (L.records log.old) (L.clock log.old) }
         requires active { phase_at self.old.phases session ≡ phase.Active }
         requires there { AreThere self.old.database.tables (locks.query_locks query.now) }
-        ensures performed { (index : List (List TableSets)) (state : State) (bound : ℕ) → StandFor self.old (L.records log.old) (L.clock log.old) index state → Performs self.new (L.records log.new) (L.clock log.new) index state session (perform self.old.database.id bound state session (query_of query.now)) result.0 }
+        ensures performed { (index : List (List TableSets)) →
+            EachState self.old (L.records log.old) (L.clock log.old) index
+            (λ state. (bound : ℕ) →
+            Performs self.new (L.records log.new) (L.clock log.new) index state session
+            (perform self.old.database.id bound state session (query_of query.now)) result.0) }
         ensures twice { result.1 ≡ result.0 }
-        ensures leaves { Leaves 0 self.old self.new session (L.records log.old) (L.records log.new) (L.clock log.old) (L.clock log.new) }
+        ensures leaves { Leaves 0 self.old self.new session
+            (L.records log.old) (L.records log.new) (L.clock log.old) (L.clock log.new) }
     {
         match self.rows(alloc, session, query) {
             Ok(rows) => match shared(rows) {
@@ -55,8 +60,14 @@ impl Store {
     ) -> Result<SharedRows, Refusal>
         requires active { phase_at self.old.phases session ≡ phase.Active }
         requires there { AreThere self.old.database.tables (locks.query_locks query.now) }
-        ensures comes { (records : List Record) (clock : ℕ) (index : List (List TableSets)) (state : State) (bound : ℕ) → StandFor self.old records clock index state → Comes Reply.Rows (StandFor self.new records clock index) (perform self.old.database.id bound state session (query_of query.now)) result }
-        ensures aside { (records : List Record) (clock : ℕ) (index : List (List TableSets)) (state : State) → StandFor self.old records clock index state → StandAside self.new records clock index state session }
+        ensures comes { (records : List Record) (clock : ℕ) (index : List (List TableSets)) →
+            EachState self.old records clock index
+            (λ state. (bound : ℕ) →
+            Comes Reply.Rows (StandFor self.new records clock index)
+            (perform self.old.database.id bound state session (query_of query.now)) result) }
+        ensures aside { (records : List Record) (clock : ℕ) (index : List (List TableSets)) →
+            EachState self.old records clock index
+            (λ state. StandAside self.new records clock index state session) }
         ensures id { self.new.database.id ≡ self.old.database.id }
         ensures tables { self.new.database.tables ≡ self.old.database.tables }
     {
@@ -80,9 +91,13 @@ impl Store {
         requires there { AreThere self.old.database.tables (locks.statement_locks statement.now) }
         requires times { L.clock log.old < 2 ^ 63 }
         requires numbers { NumbersBelow (2 ^ 63) self.old.database.tables }
-        ensures performed { (state : State) (bound : ℕ) → StandFor self.old (L.records log.old) (L.clock log.old) index.now state → Performs self.new (L.records log.new) (L.clock log.new) index.now state session (perform self.old.database.id bound state session (change_of statement.now)) result.0 }
+        ensures performed { EachState self.old (L.records log.old) (L.clock log.old) index.now
+            (λ state. (bound : ℕ) →
+            Performs self.new (L.records log.new) (L.clock log.new) index.now state session
+            (perform self.old.database.id bound state session (change_of statement.now)) result.0) }
         ensures twice { result.1 ≡ result.0 }
-        ensures leaves { Leaves 4096 self.old self.new session (L.records log.old) (L.records log.new) (L.clock log.old) (L.clock log.new) }
+        ensures leaves { Leaves 4096 self.old self.new session
+            (L.records log.old) (L.records log.new) (L.clock log.old) (L.clock log.new) }
     {
         match self.count(alloc, log, index, session, statement) {
             Ok(count) => (Reply::Count(count as u64), Reply::Count(count as u64)),
@@ -104,9 +119,14 @@ impl Store {
         requires there { AreThere self.old.database.tables (locks.statement_locks statement.now) }
         requires times { L.clock log.old < 2 ^ 63 }
         requires numbers { NumbersBelow (2 ^ 63) self.old.database.tables }
-        ensures comes { (state : State) (bound : ℕ) → StandFor self.old (L.records log.old) (L.clock log.old) index.now state → Comes Reply.Count (StandFor self.new (L.records log.new) (L.clock log.new) index.now) (perform self.old.database.id bound state session (change_of statement.now)) result }
-        ensures aside { (state : State) → StandFor self.old (L.records log.old) (L.clock log.old) index.now state → StandAside self.new (L.records log.new) (L.clock log.new) index.now state session }
-        ensures leaves { Leaves 4096 self.old self.new session (L.records log.old) (L.records log.new) (L.clock log.old) (L.clock log.new) }
+        ensures comes { EachState self.old (L.records log.old) (L.clock log.old) index.now
+            (λ state. (bound : ℕ) →
+            Comes Reply.Count (StandFor self.new (L.records log.new) (L.clock log.new) index.now)
+            (perform self.old.database.id bound state session (change_of statement.now)) result) }
+        ensures aside { EachState self.old (L.records log.old) (L.clock log.old) index.now
+            (λ state. StandAside self.new (L.records log.new) (L.clock log.new) index.now state session) }
+        ensures leaves { Leaves 4096 self.old self.new session
+            (L.records log.old) (L.records log.new) (L.clock log.old) (L.clock log.new) }
     {
         // for the proof: the transactions may be taken in any order; a session's number is below 8
         transactions_share_tables();

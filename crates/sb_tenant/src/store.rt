@@ -5,17 +5,16 @@ ghost use Rattle.sb_rawlog.specs.Records.{Record};
 ghost use Rattle.sb_value.specs.Locks.{released};
 ghost use Rattle.sb_tables.specs.Held.{Held};
 ghost use Rattle.sb_marks.specs.Transactions.{mark_of, tested_of};
-ghost use Rattle.sb_tenant.specs.Represents.{Holds, Leaves, Performs, Refuses, StandAside, StandFor, phase_at};
+ghost use Rattle.sb_tenant.specs.Represents.{EachState, StandForSome, Holds, Leaves, StandFor, phase_at};
 ghost use Rattle.sb_tenant.specs.State.{State, opening, closed, idle, active, with_session, rolled_back};
 ghost use Rattle.sb_tenant.specs.Trail.{aborted};
 
-use crate::answer::refused;
 use crate::phase::{Phase, Phases};
 use crate::reply::Reply;
 use sb_catalog::Definitions;
 use sb_process::{Database, transactions_share_tables};
 use sb_rawlog::ChangeLog;
-use sb_value::{Refusal, SessionId, TenantId};
+use sb_value::{SessionId, TenantId};
 use std::alloc::Global;
 
 /// The tables with their locks and transactions, the rules, and how far the sessions are.
@@ -48,8 +47,11 @@ impl Store {
     /// Opens a session.
     pub(crate) fn open(&mut self, session: SessionId)
         requires { phase_at self.old.phases session ≡ Phase.Closed }
-        ensures opened { (records : List Record) (clock : ℕ) (index : List (List TableSets)) (state : State) → StandFor self.old records clock index state → StandFor self.new records clock index (with_session state session idle) }
-        ensures holds { (origin : List Held) (state : State) → Holds origin self.old state → Holds origin self.new (with_session state session idle) }
+        ensures opened { (records : List Record) (clock : ℕ) (index : List (List TableSets)) →
+            EachState self.old records clock index
+            (λ state. StandFor self.new records clock index (with_session state session idle)) }
+        ensures holds { (origin : List Held) (state : State) →
+            Holds origin self.old state → Holds origin self.new (with_session state session idle) }
         ensures database { self.new.database ≡ self.old.database }
     {
         // for the proof: the transactions may be taken in any order; a session's number is below 8
@@ -60,9 +62,12 @@ impl Store {
 
     /// Ends a session, and takes its transaction back.
     pub(crate) fn end<L: ChangeLog>(&mut self, log: &mut L, session: SessionId)
-        requires { (index : List (List TableSets)) × (state : State) × StandFor self.old (L.records log.old) (L.clock log.old) index state }
-        ensures ended { (index : List (List TableSets)) (state : State) → StandFor self.old (L.records log.old) (L.clock log.old) index state → StandFor self.new (L.records log.new) (L.clock log.new) index (with_session (rolled_back state session) session closed) }
-        ensures leaves { Leaves 0 self.old self.new session (L.records log.old) (L.records log.new) (L.clock log.old) (L.clock log.new) }
+        requires { StandForSome self.old (L.records log.old) (L.clock log.old) }
+        ensures ended { (index : List (List TableSets)) → EachState self.old (L.records log.old) (L.clock log.old) index
+            (λ state. StandFor self.new (L.records log.new) (L.clock log.new) index
+            (with_session (rolled_back state session) session closed)) }
+        ensures leaves { Leaves 0 self.old self.new session
+            (L.records log.old) (L.records log.new) (L.clock log.old) (L.clock log.new) }
     {
         self.abort(log, session);
         self.close(session);
@@ -71,7 +76,10 @@ impl Store {
     /// Closes a session that has no transaction. It has no locks any more.
     fn close(&mut self, session: SessionId)
         requires { phase_at self.old.phases session ≢ Phase.Active }
-        ensures closed { (records : List Record) (clock : ℕ) (index : List (List TableSets)) (state : State) → StandFor self.old records clock index state → StandFor self.new records clock index (record (with_session state session closed) { locks = released state.locks session }) }
+        ensures closed { (records : List Record) (clock : ℕ) (index : List (List TableSets)) →
+            EachState self.old records clock index
+            (λ state. StandFor self.new records clock index (record
+            (with_session state session closed) { locks = released state.locks session })) }
         ensures id { self.new.database.id ≡ self.old.database.id }
         ensures tables { self.new.database.tables ≡ self.old.database.tables }
     {
@@ -85,7 +93,9 @@ impl Store {
     /// Begins a transaction.
     pub(crate) fn begin(&mut self, session: SessionId)
         requires { phase_at self.old.phases session ≡ Phase.Idle }
-        ensures begun { (records : List Record) (clock : ℕ) (index : List (List TableSets)) (state : State) → StandFor self.old records clock index state → StandFor self.new records clock index (with_session state session (active [] (λ id. 0))) }
+        ensures begun { (records : List Record) (clock : ℕ) (index : List (List TableSets)) →
+            EachState self.old records clock index
+            (λ state. StandFor self.new records clock index (with_session state session (active [] (λ id. 0)))) }
         ensures tables { self.new.database.tables ≡ self.old.database.tables }
         ensures id { self.new.database.id ≡ self.old.database.id }
     {
@@ -98,10 +108,13 @@ impl Store {
 
     /// Takes a session's transaction back.
     pub(crate) fn roll_back<L: ChangeLog>(&mut self, log: &mut L, session: SessionId)
-        requires stand { (index : List (List TableSets)) × (state : State) × StandFor self.old (L.records log.old) (L.clock log.old) index state }
+        requires stand { StandForSome self.old (L.records log.old) (L.clock log.old) }
         requires active { phase_at self.old.phases session ≡ Phase.Active }
-        ensures rolled_back { (index : List (List TableSets)) (state : State) → StandFor self.old (L.records log.old) (L.clock log.old) index state → StandFor self.new (L.records log.new) (L.clock log.new) index (rolled_back state session) }
-        ensures leaves { Leaves 0 self.old self.new session (L.records log.old) (L.records log.new) (L.clock log.old) (L.clock log.new) }
+        ensures rolled_back { (index : List (List TableSets)) →
+            EachState self.old (L.records log.old) (L.clock log.old) index
+            (λ state. StandFor self.new (L.records log.new) (L.clock log.new) index (rolled_back state session)) }
+        ensures leaves { Leaves 0 self.old self.new session
+            (L.records log.old) (L.records log.new) (L.clock log.old) (L.clock log.new) }
         ensures idle { phase_at self.new.phases session ≡ Phase.Idle }
     {
         // for the proof: the transactions may be taken in any order; a session's number is below 8
@@ -113,9 +126,12 @@ impl Store {
 
     /// Takes a session's transaction back, if it has one.
     pub(crate) fn abort<L: ChangeLog>(&mut self, log: &mut L, session: SessionId)
-        requires { (index : List (List TableSets)) × (state : State) × StandFor self.old (L.records log.old) (L.clock log.old) index state }
-        ensures aborted { (index : List (List TableSets)) (state : State) → StandFor self.old (L.records log.old) (L.clock log.old) index state → StandFor self.new (L.records log.new) (L.clock log.new) index (aborted state session) }
-        ensures leaves { Leaves 0 self.old self.new session (L.records log.old) (L.records log.new) (L.clock log.old) (L.clock log.new) }
+        requires { StandForSome self.old (L.records log.old) (L.clock log.old) }
+        ensures aborted { (index : List (List TableSets)) →
+            EachState self.old (L.records log.old) (L.clock log.old) index
+            (λ state. StandFor self.new (L.records log.new) (L.clock log.new) index (aborted state session)) }
+        ensures leaves { Leaves 0 self.old self.new session
+            (L.records log.old) (L.records log.new) (L.clock log.old) (L.clock log.new) }
         ensures none { phase_at self.new.phases session ≢ Phase.Active }
     {
         // for the proof: a session's number is below 8
@@ -124,24 +140,6 @@ impl Store {
             Phase::Active => self.roll_back(log, session),
             Phase::Idle => {}
             Phase::Closed => {}
-        }
-    }
-
-    /// Answers a refusal, or that memory ran out.
-    pub(crate) fn refuse<L: ChangeLog>(
-        &mut self,
-        log: &mut L,
-        session: SessionId,
-        refusal: Refusal,
-    ) -> Replies
-        requires { (index : List (List TableSets)) × (state : State) × StandFor self.old (L.records log.old) (L.clock log.old) index state }
-        ensures refused { (index : List (List TableSets)) (before : State) (meant : State × Reply) → StandAside self.old (L.records log.old) (L.clock log.old) index before session → Refuses (StandFor self.old (L.records log.old) (L.clock log.old) index) meant refusal → Performs self.new (L.records log.new) (L.clock log.new) index before session meant result.0 }
-        ensures twice { result.1 ≡ result.0 }
-        ensures leaves { Leaves 0 self.old self.new session (L.records log.old) (L.records log.new) (L.clock log.old) (L.clock log.new) }
-    {
-        match refusal {
-            Refusal::NoMemory => self.run_out(log, session),
-            other => refused(other),
         }
     }
 }

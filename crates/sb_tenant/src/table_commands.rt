@@ -1,8 +1,6 @@
 //! The commands that define tables.
-ghost use Rattle.std.specs.Prelude.{List};
-ghost use Rattle.sb_index.specs.TableSets.{TableSets};
 ghost use Rattle.sb_syntax.specs.Tree as text;
-ghost use Rattle.sb_tenant.specs.Defining.{Defines, IsAtRest};
+ghost use Rattle.sb_tenant.specs.Defining.{DefinesAlone, IsAtRest};
 
 use crate::names::Names;
 use crate::store::Store;
@@ -18,7 +16,7 @@ impl Store {
         columns: Vec<ColumnDefinition>,
     ) -> Result<(), Refusal>
         requires { IsAtRest self.old.phases }
-        ensures { (index : List (List TableSets)) → Defines self.old self.new index index (text.create_table name columns.items) result }
+        ensures { DefinesAlone self.old self.new (text.create_table name columns.items) result }
     {
         let names = Names {
             tables: &self.database.tables,
@@ -41,7 +39,7 @@ impl Store {
     /// Drops a table that no rule uses, with its rows.
     pub(crate) fn drop_table(&mut self, name: &Name) -> Result<(), Refusal>
         requires { IsAtRest self.old.phases }
-        ensures { (index : List (List TableSets)) → Defines self.old self.new index index (text.drop_table name.now) result }
+        ensures { DefinesAlone self.old self.new (text.drop_table name.now) result }
     {
         let Some(id) = self.database.tables.find(name) else {
             return Err(Refusal::NoTable);

@@ -57,12 +57,13 @@ impl Model for Tenant {
 }
 
 impl Tenant {
-    /// A tenant without tables and rules, its sessions closed. `bound` is its consideration limit: the most rules that are
-    /// considered at an assertion point.
+    /// A tenant without tables and rules, its sessions closed. `bound` is its consideration limit: the most rules that
+    /// are considered at an assertion point.
     pub fn new(alloc: Global, id: TenantId, bound: u32) -> Tenant
         requires { bound ≤ 1000 }
         ensures is_new { IsNew id bound result }
-        ensures in_step { (records : List Record) (clock : ℕ) (index : List (List TableSets)) → HoldNothing id records index → InStep result records clock index }
+        ensures in_step { (records : List Record) (clock : ℕ) (index : List (List TableSets)) →
+            HoldNothing id records index → InStep result records clock index }
     {
         Tenant {
             bound,
@@ -140,7 +141,8 @@ impl Tenant {
         ensures ok { IfOk result (λ answer. AnswersLine self.old session line.now answer self.new) }
         ensures err { OnErr result (LeavesLine self.old session line.now self.new) }
         ensures legal { IsLegal self.new }
-        ensures in_step { StaysInStep (rise_of result) self.old self.new session (L.records log.old) (L.records log.new) (L.clock log.old) (L.clock log.new) index.old index.new }
+        ensures in_step { StaysInStep (rise_of result) self.old self.new session
+            (L.records log.old) (L.records log.new) (L.clock log.old) (L.clock log.new) index.old index.new }
         ensures unused { OnErr result ((log.new ≡ log.old) × (index.new ≡ index.old)) }
     {
         // for the proof: the trail is legal
@@ -165,7 +167,8 @@ impl Tenant {
             MakesStep self.old session (codes "open") answer self.new × (answer.reply ≡ told.Ok)) }
         ensures err { OnErr result (self.new ≡ self.old) }
         ensures legal { IsLegal self.new }
-        ensures in_step { (records : List Record) (clock : ℕ) (index : List (List TableSets)) → InStep self.old records clock index → InStep self.new records clock index }
+        ensures in_step { (records : List Record) (clock : ℕ) (index : List (List TableSets)) →
+            InStep self.old records clock index → InStep self.new records clock index }
     {
         in_range(session);
         let line = make_ready(
@@ -190,12 +193,16 @@ impl Tenant {
 
     /// Makes the step `end`. It needs no memory.
     pub fn end<L: ChangeLog>(&mut self, log: &mut L, session: SessionId) -> Answer
-        requires in_step { (index : List (List TableSets)) × InStep self.old (L.records log.old) (L.clock log.old) index }
+        requires in_step { (index : List (List TableSets))
+            × InStep self.old (L.records log.old) (L.clock log.old) index }
         requires open { session_is_open (session_at (state self.old) session) ≡ true }
         ensures made { MakesStep self.old session (codes "end") result self.new }
         ensures done { result.reply ≡ told.Ok }
         ensures legal { IsLegal self.new }
-        ensures in_step { (index : List (List TableSets)) → InStep self.old (L.records log.old) (L.clock log.old) index → StaysInStep 0 self.old self.new session (L.records log.old) (L.records log.new) (L.clock log.old) (L.clock log.new) index index }
+        ensures in_step { (index : List (List TableSets)) →
+            InStep self.old (L.records log.old) (L.clock log.old) index →
+            StaysInStep 0 self.old self.new session
+            (L.records log.old) (L.records log.new) (L.clock log.old) (L.clock log.new) index index }
     {
         in_range(session);
         let line = self.end_lines.take();
@@ -236,7 +243,8 @@ impl Tenant {
         ensures ok { IfOk result (λ answer. MakesStep self.old session line.now answer self.new) }
         ensures err { OnErr result (LeavesLine self.old session line.now self.new) }
         ensures legal { IsLegal self.new }
-        ensures in_step { StaysInStep (rise_of result) self.old self.new session (L.records log.old) (L.records log.new) (L.clock log.old) (L.clock log.new) index.old index.new }
+        ensures in_step { StaysInStep (rise_of result) self.old self.new session
+            (L.records log.old) (L.records log.new) (L.clock log.old) (L.clock log.new) index.old index.new }
         ensures unused { OnErr result ((log.new ≡ log.old) × (index.new ≡ index.old)) }
     {
         in_range(session);

@@ -1,8 +1,7 @@
 //! The reply of an assertion point, with the rules' names.
 ghost use Rattle.std.specs.Prelude.{◌≡◌, IfOk};
 ghost use Rattle.sb_tenant.specs.Perform.{named, reply_of};
-ghost use Rattle.sb_tenant.specs.Catalog.{rule_name};
-ghost use Rattle.sb_tenant.specs.State as state;
+ghost use Rattle.sb_tenant.specs.Catalog.{EachCatalog, rule_name};
 
 use crate::reply::{NamedTrace, Reply};
 use crate::store::Replies;
@@ -11,24 +10,31 @@ use sb_process::{Outcome, Processed};
 use sb_value::{Name, RuleId, Verdict};
 use std::alloc::{AllocError, Global};
 
-/// The reply, twice.
+/// The reply, twice. Both share the trace.
 pub(crate) fn told(
     alloc: Global,
     rules: &Catalog,
     processed: &Processed,
 ) -> Result<Replies, AllocError>
-    ensures told { (catalog : state.Catalog) → catalog.rules ≡ rules.now → IfOk result (λ r. r.0 ≡ reply_of catalog processed.now.outcome (named catalog processed.now.trace)) }
+    ensures told { EachCatalog rules.now (λ catalog. IfOk result (λ r.
+        r.0 ≡ reply_of catalog processed.now.outcome (named catalog processed.now.trace))) }
     ensures twice { IfOk result (λ r. r.1 ≡ r.0) }
 {
-    let reply = told_once(alloc, rules, processed)?;
-    let copy = told_once(alloc, rules, processed)?;
+    let trace = named(alloc, rules, processed.trace.as_slice())?;
+    let shared = trace.share()?;
+    let reply = with_trace(rules, processed, trace)?;
+    let copy = with_trace(rules, processed, shared)?;
     Ok((reply, copy))
 }
 
-fn told_once(alloc: Global, rules: &Catalog, processed: &Processed) -> Result<Reply, AllocError>
-    ensures { (catalog : state.Catalog) → catalog.rules ≡ rules.now → IfOk result (λ r. r ≡ reply_of catalog processed.now.outcome (named catalog processed.now.trace)) }
+/// The reply with this trace.
+fn with_trace(
+    rules: &Catalog,
+    processed: &Processed,
+    trace: NamedTrace,
+) -> Result<Reply, AllocError>
+    ensures { EachCatalog rules.now (λ catalog. IfOk result (λ r. r ≡ reply_of catalog processed.now.outcome trace)) }
 {
-    let trace = named(alloc, rules, processed.trace.as_slice())?;
     match processed.outcome {
         Outcome::Done => Ok(Reply::Done(trace)),
         Outcome::ByRule(rule) => Ok(Reply::ByRule(name_of(rules, rule)?, trace)),
@@ -45,18 +51,18 @@ fn named(
     rules: &Catalog,
     verdicts: &[(RuleId, Verdict)],
 ) -> Result<NamedTrace, AllocError>
-    ensures { (catalog : state.Catalog) → catalog.rules ≡ rules.now → IfOk result (λ trace. trace ≡ named catalog verdicts.now) }
+    ensures { EachCatalog rules.now (λ catalog. IfOk result (λ trace. trace ≡ named catalog verdicts.now)) }
 {
-    let mut trace = NamedTrace::empty(alloc);
+    let mut list = Vec::with_capacity(alloc, verdicts.len())?;
     for (rule, verdict) in verdicts {
-        trace.push(name_of(rules, *rule)?, *verdict)?;
+        list.push((name_of(rules, *rule)?, *verdict))?;
     }
-    Ok(trace)
+    NamedTrace::new(alloc, list)
 }
 
 /// The name of a rule. One that isn't there can't occur, and is answered as want of memory.
 fn name_of(rules: &Catalog, rule: RuleId) -> Result<Name, AllocError>
-    ensures { (catalog : state.Catalog) → catalog.rules ≡ rules.now → IfOk result (λ name. name ≡ rule_name catalog rule) }
+    ensures { EachCatalog rules.now (λ catalog. IfOk result (λ name. name ≡ rule_name catalog rule)) }
 {
     match rules.rule(rule) {
         Some(rule) => Ok(rule.name),

@@ -5,7 +5,7 @@ ghost use Rattle.sb_process.specs.Made.{NumbersBelow};
 ghost use Rattle.sb_syntax.specs.Tree as text;
 ghost use Rattle.sb_syntax.specs.Views as view;
 ghost use Rattle.sb_tenant.specs.declared.phase.Phase.TheVariants as phase;
-ghost use Rattle.sb_tenant.specs.Represents.{Leaves, Performs, StandFor, phase_at};
+ghost use Rattle.sb_tenant.specs.Represents.{EachState, StandForSome, Leaves, Performs, StandFor, phase_at};
 ghost use Rattle.sb_tenant.specs.Resolved.{works};
 ghost use Rattle.sb_tenant.specs.State.{State};
 ghost use Rattle.sb_tenant.specs.Step.{outcome_of};
@@ -38,9 +38,13 @@ impl Store {
         requires bound { bound ≤ 1000 }
         requires times { L.clock log.old < 2 ^ 63 }
         requires numbers { NumbersBelow (2 ^ 63) self.old.database.tables }
-        ensures performed { (state : State) → StandFor self.old (L.records log.old) (L.clock log.old) index.now state → Performs self.new (L.records log.new) (L.clock log.new) index.now state session (outcome_of self.old.database.id bound state session None (walk state.catalog (view.command command))) result.0 }
+        ensures performed { EachState self.old (L.records log.old) (L.clock log.old) index.now
+            (λ state. Performs self.new (L.records log.new) (L.clock log.new) index.now state session
+            (outcome_of self.old.database.id bound state session None
+            (walk state.catalog (view.command command))) result.0) }
         ensures twice { result.1 ≡ result.0 }
-        ensures leaves { Leaves 32768000 self.old self.new session (L.records log.old) (L.records log.new) (L.clock log.old) (L.clock log.new) }
+        ensures leaves { Leaves 32768000 self.old self.new session
+            (L.records log.old) (L.records log.new) (L.clock log.old) (L.clock log.new) }
     {
         match command {
             Command::Commit => self.commit(alloc, log, index, session, bound),
@@ -52,15 +56,10 @@ impl Store {
                 let eligible = self.definitions.active();
                 self.process(alloc, log, index, session, eligible, bound)
             }
-            Command::ProcessRuleset(name) => {
-                if !self.definitions.rulesets.has(&name) {
-                    return refused(Refusal::NoRuleset);
-                }
-                match self.definitions.active_members(&name) {
-                    Some(eligible) => self.process(alloc, log, index, session, eligible, bound),
-                    None => refused(Refusal::NoRuleset),
-                }
-            }
+            Command::ProcessRuleset(name) => match self.definitions.active_members(&name) {
+                Some(eligible) => self.process(alloc, log, index, session, eligible, bound),
+                None => refused(Refusal::NoRuleset),
+            },
             Command::ProcessRule(name) => match self.definitions.active_rule(&name) {
                 Some(eligible) => self.process(alloc, log, index, session, eligible, bound),
                 None => refused(Refusal::NoRule),
@@ -79,11 +78,17 @@ impl Store {
         session: SessionId,
         query: &Query,
     ) -> Replies
-        requires stand { (index : List (List TableSets)) × (state : State) × StandFor self.old (L.records log.old) (L.clock log.old) index state }
+        requires stand { StandForSome self.old (L.records log.old) (L.clock log.old) }
         requires active { phase_at self.old.phases session ≡ phase.Active }
-        ensures performed { (index : List (List TableSets)) (state : State) (bound : ℕ) → StandFor self.old (L.records log.old) (L.clock log.old) index state → Performs self.new (L.records log.new) (L.clock log.new) index state session (outcome_of self.old.database.id bound state session None (walk state.catalog (text.query (view.query query.now)))) result.0 }
+        ensures performed { (index : List (List TableSets)) →
+            EachState self.old (L.records log.old) (L.clock log.old) index
+            (λ state. (bound : ℕ) →
+            Performs self.new (L.records log.new) (L.clock log.new) index state session
+            (outcome_of self.old.database.id bound state session None
+            (walk state.catalog (text.query (view.query query.now)))) result.0) }
         ensures twice { result.1 ≡ result.0 }
-        ensures leaves { Leaves 0 self.old self.new session (L.records log.old) (L.records log.new) (L.clock log.old) (L.clock log.new) }
+        ensures leaves { Leaves 0 self.old self.new session
+            (L.records log.old) (L.records log.new) (L.clock log.old) (L.clock log.new) }
     {
         // for the proof: what is resolved is there, and is the same over committed tables and over those in memory
         resolved_tables_are_there();
@@ -97,7 +102,7 @@ impl Store {
                 drop(resolved);
                 replies
             }
-            Err(refusal) => self.decline(log, session, refusal),
+            Err(refusal) => self.refuse(log, session, refusal),
         }
     }
 
@@ -114,9 +119,14 @@ impl Store {
         requires active { phase_at self.old.phases session ≡ phase.Active }
         requires times { L.clock log.old < 2 ^ 63 }
         requires numbers { NumbersBelow (2 ^ 63) self.old.database.tables }
-        ensures performed { (state : State) (bound : ℕ) → StandFor self.old (L.records log.old) (L.clock log.old) index.now state → Performs self.new (L.records log.new) (L.clock log.new) index.now state session (outcome_of self.old.database.id bound state session None (walk state.catalog (text.change (view.statement change.now)))) result.0 }
+        ensures performed { EachState self.old (L.records log.old) (L.clock log.old) index.now
+            (λ state. (bound : ℕ) →
+            Performs self.new (L.records log.new) (L.clock log.new) index.now state session
+            (outcome_of self.old.database.id bound state session None
+            (walk state.catalog (text.change (view.statement change.now)))) result.0) }
         ensures twice { result.1 ≡ result.0 }
-        ensures leaves { Leaves 4096 self.old self.new session (L.records log.old) (L.records log.new) (L.clock log.old) (L.clock log.new) }
+        ensures leaves { Leaves 4096 self.old self.new session
+            (L.records log.old) (L.records log.new) (L.clock log.old) (L.clock log.new) }
     {
         // for the proof: what is resolved is there, and is the same over committed tables and over those in memory
         resolved_tables_are_there();
@@ -130,7 +140,7 @@ impl Store {
                 drop(statement);
                 replies
             }
-            Err(refusal) => self.decline(log, session, refusal),
+            Err(refusal) => self.refuse(log, session, refusal),
         }
     }
 }

@@ -8,11 +8,11 @@ pub refuse-requires : goal.refuse-requires
 refuse-requires g c = let w = c.count.ensures.aside c.requires.stand.0 c.requires.stand.1 in (c.args.index.now, w.0, w.1)
 
 pub returns-in-Ok-clause-performed : goal.returns-in-Ok-clause-performed
-returns-in-Ok-clause-performed g c = λ state bound st. let comes = c.in-Ok.ensures.comes state bound st in inl (sym comes.0, comes.1)
+returns-in-Ok-clause-performed g c = λ state st bound. let comes = c.in-Ok.ensures.comes state st bound in inl (sym comes.0, comes.1)
 
 pub returns-in-Err-clause-performed : goal.returns-in-Err-clause-performed
-returns-in-Err-clause-performed g c = λ state bound st.
-    c.refuse.ensures.refused c.args.index.now state (perform c.args.self.now.database.id bound state c.args.session (change c.args.statement.now)) (c.count.ensures.aside state st) (c.in-Err.ensures.comes state bound st)
+returns-in-Err-clause-performed g c = λ state st bound.
+    c.refuse.ensures.refused c.args.index.now state (perform c.args.self.now.database.id bound state c.args.session (change c.args.statement.now)) (c.count.ensures.aside state st) (c.in-Err.ensures.comes state st bound)
 
 pub returns-in-Err-clause-leaves : goal.returns-in-Err-clause-leaves
 returns-in-Err-clause-leaves g c =

@@ -25,7 +25,7 @@ finish-requires-clause-active g c = λ e. c.in-Ok.ensures.under_way (sym c.is_do
 pub returns-in-Ok-told-clause-performed : goal.returns-in-Ok-told-clause-performed
 returns-in-Ok-told-clause-performed g c = λ state st.
     let old : Store = c.args.self.now in let s = c.args.session in
-    let found = c.in-Ok.ensures.found state (is_active state.catalog.rules) st (λ id. c.active-eligible.ensures id ∙ ap (λ (rules : List Rule). is_active rules id) st.0.1.rules) in
+    let found = c.in-Ok.ensures.found state st (is_active state.catalog.rules) (λ id. c.active-eligible.ensures id ∙ ap (λ (rules : List Rule). is_active rules id) st.0.1.rules) in
     let tells = c.in-Ok-told.ensures.told state.catalog (sym st.0.1.rules ∙ sym (ap (λ (d : Definitions). d.rules) c.run.ensures.definitions)) in
     let meant = process c.args.bound (setting_of old.database.id state s) (is_active state.catalog.rules) (progress_of state s) in
     inl (

@@ -17,7 +17,7 @@ change-requires-clause-transaction g c =
     )
 
 pub returns-clause-comes : goal.returns-clause-comes
-returns-clause-comes g c = λ state bound st.
+returns-clause-comes g c = λ state st bound.
     let old : Store = c.args.self.now in let s = c.args.session in let is = number-below s c.number-number.result c.number-number.ensures.value c.number-number.ensures.in_range in
     let new : Store = record old { database = c.change.new.self } in
     let earlier = g.L.ChangeLog.records c.args.log.now in let clock = g.L.ChangeLog.clock c.args.log.now in
@@ -33,7 +33,7 @@ returns-clause-comes g c = λ state bound st.
     } in
     counts laws s is old new earlier after clock later c.args.index.now state st.0.0 st.0.1 st.1 call c.requires.active c.requires.active bound c.args.statement.now c.change.result
     (c.change.ensures.changed (base_of st.0.0 state s) (setting_of old.database.id state s) (progress_of state s)
-    (one-session laws st.0.0 old state st.0.1 s is earlier clock c.args.index.now st.1) st.1.indexed)
+    (record { transaction = one-session laws st.0.0 old state st.0.1 s is earlier clock c.args.index.now st.1; indexed = st.1.indexed }))
 
 pub returns-clause-aside : goal.returns-clause-aside
 returns-clause-aside g c = λ state st.
@@ -52,4 +52,4 @@ returns-clause-aside g c = λ state st.
     } in
     counts-aside laws s is old new earlier after clock later c.args.index.now state st.0.0 st.0.1 st.1 call c.requires.active c.requires.active c.args.statement.now c.change.result
     (c.change.ensures.changed (base_of st.0.0 state s) (setting_of old.database.id state s) (progress_of state s)
-    (one-session laws st.0.0 old state st.0.1 s is earlier clock c.args.index.now st.1) st.1.indexed)
+    (record { transaction = one-session laws st.0.0 old state st.0.1 s is earlier clock c.args.index.now st.1; indexed = st.1.indexed }))

@@ -1,4 +1,4 @@
-use Rattle.std.proofs.Common.{◌≡◌, ◌∙◌, ◌⊎◌, ◌≤◌, List, length, sym, subst}
+use Rattle.std.proofs.Common.{◌≡◌, ◌∙◌, ◌⊎◌, ◌≤◌, length, sym, subst}
 use Rattle.std.specs.Prelude.{Ok, Err}
 use Rattle.std.proofs.lemmas.List.{length-map}
 use Rattle.sb_value.specs.declared.refusal.Refusal.TheVariants as refusal
@@ -7,7 +7,6 @@ use Rattle.sb_syntax.specs.Views as view
 use Rattle.sb_check.specs.RuleParts.{walk_parts}
 use Rattle.sb_check.specs.RulePartsView.{rule_parts}
 use Rattle.sb_tables.specs.Held.{entries}
-use Rattle.sb_catalog.specs.Definitions.{Creates}
 use Rattle.sb_tenant.proofs.Defining.{refused_here}
 use Rattle.sb_tenant.proofs.RuleCommands.{some_order, rule_exists, parts_refused, rule_made}
 use Rattle.sb_tenant.proofs.TableCommands.{outside}
@@ -35,6 +34,4 @@ returns c =
     let few : length r.actions ≤ 8 = subst (λ n. n ≤ 8) (sym (length-map c.args.rule.now.actions.items view.action)) c.requires.few in
     rule_made old c.args.index.now c.create_rule.new.index r c.requires.rest (sym c.has.ensures ∙ c.if-has.false) parts walked c.create_rule.new.self c.create_rule.ensures.others c.create_rule.ensures.indexed
     (c.resolved_tables_are_there.ensures.rules (outside (entries old.database.tables)) r parts walked) few (some_order old c.args.index.now c.requires.stand) c.create_rule.result
-    (λ pairs ordered.
-    subst (λ (ns : List text.Name). Creates old.definitions c.create_rule.new.self pairs r.name parts ns r.follows c.create_rule.result) c.as_slice.ensures.value
-    (subst (λ (ns : List text.Name). Creates old.definitions c.create_rule.new.self pairs r.name parts c.as_slice.result.now ns c.create_rule.result) c.as_slice-2.ensures.value (c.create_rule.ensures.created pairs ordered)))
+    c.create_rule.ensures.created

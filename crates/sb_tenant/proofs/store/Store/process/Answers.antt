@@ -8,8 +8,8 @@ use Rattle.sb_tenant.specs.Represents.{StandFor}
 use Rattle.sb_tenant.proofs.store.Store.process.Goals as goal
 
 pub returns-in-Ok-told-clause-performed : goal.returns-in-Ok-told-clause-performed
-returns-in-Ok-told-clause-performed g c = λ state chosen st flags.
-    let found = c.in-Ok.ensures.found state chosen st flags in
+returns-in-Ok-told-clause-performed g c = λ state st chosen flags.
+    let found = c.in-Ok.ensures.found state st chosen flags in
     let tells = c.in-Ok-told.ensures.told state.catalog (sym st.0.1.rules ∙ sym (ap (λ (d : Definitions). d.rules) c.run.ensures.definitions)) in
     inl (tells ∙ (λ i. reply_of state.catalog (found.outcome i) (named state.catalog (found.trace i))), found.stands)
 
@@ -23,10 +23,10 @@ returns-in-Ok-told-clause-leaves g c =
     left
 
 pub returns-in-Ok-clause-performed : goal.returns-in-Ok-clause-performed
-returns-in-Ok-clause-performed g c = λ state chosen st flags. let a = c.run.ensures.aside state st in inr (ap (λ (r : Reply × Reply). r.0) c.run_out.ensures.replies, subst (StandFor c.run_out.new.self (g.L.ChangeLog.records c.run_out.new.log) (g.L.ChangeLog.clock c.run_out.new.log) c.args.index.now) a.2 (c.run_out.ensures.aborted c.args.index.now a.0 a.1))
+returns-in-Ok-clause-performed g c = λ state st chosen flags. let a = c.run.ensures.aside state st in inr (ap (λ (r : Reply × Reply). r.0) c.run_out.ensures.replies, subst (StandFor c.run_out.new.self (g.L.ChangeLog.records c.run_out.new.log) (g.L.ChangeLog.clock c.run_out.new.log) c.args.index.now) a.2 (c.run_out.ensures.aborted c.args.index.now a.0 a.1))
 
 pub returns-clause-performed : goal.returns-clause-performed
-returns-clause-performed g c = λ state chosen st flags. let a = c.run.ensures.aside state st in inr (ap (λ (r : Reply × Reply). r.0) c.run_out-in-Err.ensures.replies, subst (StandFor c.run_out-in-Err.new.self (g.L.ChangeLog.records c.run_out-in-Err.new.log) (g.L.ChangeLog.clock c.run_out-in-Err.new.log) c.args.index.now) a.2 (c.run_out-in-Err.ensures.aborted c.args.index.now a.0 a.1))
+returns-clause-performed g c = λ state st chosen flags. let a = c.run.ensures.aside state st in inr (ap (λ (r : Reply × Reply). r.0) c.run_out-in-Err.ensures.replies, subst (StandFor c.run_out-in-Err.new.self (g.L.ChangeLog.records c.run_out-in-Err.new.log) (g.L.ChangeLog.clock c.run_out-in-Err.new.log) c.args.index.now) a.2 (c.run_out-in-Err.ensures.aborted c.args.index.now a.0 a.1))
 
 pub run_out-requires : goal.run_out-requires
 run_out-requires g c = let w = c.run.ensures.aside c.requires.stand.0 c.requires.stand.1 in (c.args.index.now, w.0, w.1)

@@ -16,7 +16,7 @@ use Rattle.sb_tenant.proofs.store.Store.run.Goals as goal
 
 pub process-requires-clause-work : goal.process-requires-clause-work
 process-requires-clause-work g c =
-    let old : Store = c.args.self.now in let s = c.args.session in let is = number-below s c.number-number.result c.number-number.ensures.value c.number-number.ensures.in_range in
+    let old : Store = c.args.self.now in let s = c.args.point.now.session in let is = number-below s c.number-number.result c.number-number.ensures.value c.number-number.ensures.in_range in
     let state = c.requires.stand.0 in let st = c.requires.stand.1 in (
       base_of st.0.0 state s,
       setting_of old.database.id state s,
@@ -28,18 +28,18 @@ pub process-requires-clause-rules : goal.process-requires-clause-rules
 process-requires-clause-rules g c = let h = c.requires.stand.1.0.1 in subst (CanRun c.args.self.now.database.tables) (sym h.rules) h.runnable
 
 pub process-requires-clause-active : goal.process-requires-clause-active
-process-requires-clause-active g c = are-active (flag_at c.args.eligible) c.args.self.now.definitions.rules c.rules-rules.ensures.numbered c.requires.rules
+process-requires-clause-active g c = are-active (flag_at c.args.point.now.eligible) c.args.self.now.definitions.rules c.rules-rules.ensures.numbered c.requires.rules
 
 pub returns-then-is_done-clause-found : goal.returns-then-is_done-clause-found
-returns-then-is_done-clause-found g c = λ state chosen st flags.
-    let old : Store = c.args.self.now in let s = c.args.session in let is = number-below s c.number-number.result c.number-number.ensures.value c.number-number.ensures.in_range in
+returns-then-is_done-clause-found g c = λ state st chosen flags.
+    let old : Store = c.args.self.now in let s = c.args.point.now.session in let is = number-below s c.number-number.result c.number-number.ensures.value c.number-number.ensures.in_range in
     let earlier = g.L.ChangeLog.records c.args.log.now in let clock = g.L.ChangeLog.clock c.args.log.now in let index = c.args.index.now in
     let after = g.L.ChangeLog.records c.process.new.log in let later = g.L.ChangeLog.clock c.process.new.log in
-    let laws = c.transactions_share_tables.ensures in let eligible = flag_at c.args.eligible in
+    let laws = c.transactions_share_tables.ensures in let eligible = flag_at c.args.point.now.eligible in
     let setting = setting_of old.database.id state s in let progress = progress_of state s in
     let work = work-of laws st.0.0 old state st.0.1 s is earlier clock index st.1 in
-    let taken = process-takes setting state.locks c.args.bound eligible progress (taken-none s state.locks st.0.1.exclusive) in
-    let meant = process c.args.bound setting eligible progress in
+    let taken = process-takes setting state.locks c.args.point.now.bound eligible progress (taken-none s state.locks st.0.1.exclusive) in
+    let meant = process c.args.point.now.bound setting eligible progress in
     let new : Store = record old { database = c.process.new.self } in
     let call : IsCallOf s old new earlier after clock later = record {
       id = c.process.ensures.id;
@@ -53,18 +53,18 @@ returns-then-is_done-clause-found g c = λ state chosen st flags.
     let stood = done-stands laws s is old new earlier after clock later index state st.0.0 st.0.1 st.1 call c.requires.active meant.outcome meant.progress taken
     (sym (ap is_done k.outcome) ∙ sym c.is_done.ensures ∙ c.if-is_done.true) c.requires.active k.stands in
     let same : eligible ≡ chosen = λ i id. flags id i in
-    subst (λ (f : ℕ → Bool). Finds old.database.id new after later index state s c.args.bound f c.in-Ok.processed) same (record { outcome = k.outcome; trace = k.trace; stands = stood.0 })
+    subst (λ (f : ℕ → Bool). Finds old.database.id new after later index state s c.args.point.now.bound f c.in-Ok.processed) same (record { outcome = k.outcome; trace = k.trace; stands = stood.0 })
 
 pub returns-then-is_done-clause-aside : goal.returns-then-is_done-clause-aside
 returns-then-is_done-clause-aside g c = λ state st.
-    let old : Store = c.args.self.now in let s = c.args.session in let is = number-below s c.number-number.result c.number-number.ensures.value c.number-number.ensures.in_range in
+    let old : Store = c.args.self.now in let s = c.args.point.now.session in let is = number-below s c.number-number.result c.number-number.ensures.value c.number-number.ensures.in_range in
     let earlier = g.L.ChangeLog.records c.args.log.now in let clock = g.L.ChangeLog.clock c.args.log.now in let index = c.args.index.now in
     let after = g.L.ChangeLog.records c.process.new.log in let later = g.L.ChangeLog.clock c.process.new.log in
-    let laws = c.transactions_share_tables.ensures in let eligible = flag_at c.args.eligible in
+    let laws = c.transactions_share_tables.ensures in let eligible = flag_at c.args.point.now.eligible in
     let setting = setting_of old.database.id state s in let progress = progress_of state s in
     let work = work-of laws st.0.0 old state st.0.1 s is earlier clock index st.1 in
-    let taken = process-takes setting state.locks c.args.bound eligible progress (taken-none s state.locks st.0.1.exclusive) in
-    let meant = process c.args.bound setting eligible progress in
+    let taken = process-takes setting state.locks c.args.point.now.bound eligible progress (taken-none s state.locks st.0.1.exclusive) in
+    let meant = process c.args.point.now.bound setting eligible progress in
     let new : Store = record old { database = c.process.new.self } in
     let call : IsCallOf s old new earlier after clock later = record {
       id = c.process.ensures.id;
@@ -80,15 +80,15 @@ returns-then-is_done-clause-aside g c = λ state st.
     stood.1
 
 pub returns-else-is_done-clause-found : goal.returns-else-is_done-clause-found
-returns-else-is_done-clause-found g c = λ state chosen st flags.
-    let old : Store = c.args.self.now in let s = c.args.session in let is = number-below s c.number-number.result c.number-number.ensures.value c.number-number.ensures.in_range in
+returns-else-is_done-clause-found g c = λ state st chosen flags.
+    let old : Store = c.args.self.now in let s = c.args.point.now.session in let is = number-below s c.number-number.result c.number-number.ensures.value c.number-number.ensures.in_range in
     let earlier = g.L.ChangeLog.records c.args.log.now in let clock = g.L.ChangeLog.clock c.args.log.now in let index = c.args.index.now in
     let after = g.L.ChangeLog.records c.process.new.log in let later = g.L.ChangeLog.clock c.process.new.log in
-    let laws = c.transactions_share_tables.ensures in let eligible = flag_at c.args.eligible in
+    let laws = c.transactions_share_tables.ensures in let eligible = flag_at c.args.point.now.eligible in
     let setting = setting_of old.database.id state s in let progress = progress_of state s in
     let work = work-of laws st.0.0 old state st.0.1 s is earlier clock index st.1 in
-    let taken = process-takes setting state.locks c.args.bound eligible progress (taken-none s state.locks st.0.1.exclusive) in
-    let meant = process c.args.bound setting eligible progress in
+    let taken = process-takes setting state.locks c.args.point.now.bound eligible progress (taken-none s state.locks st.0.1.exclusive) in
+    let meant = process c.args.point.now.bound setting eligible progress in
     let new : Store = record old { database = c.process.new.self; phases = c.set.new.self } in
     let call : IsCallOf s old new earlier after clock later = record {
       id = c.process.ensures.id;
@@ -102,18 +102,18 @@ returns-else-is_done-clause-found g c = λ state chosen st flags.
     let stood = back-stands laws s is old new earlier after clock later index state st.0.0 st.0.1 st.1 call c.requires.active meant.outcome meant.progress taken
     (sym (ap is_done k.outcome) ∙ sym c.is_done.ensures ∙ c.if-is_done.false) (set-own old.phases new.phases s Idle c.set.ensures) c.process.ensures.past k.stands in
     let same : eligible ≡ chosen = λ i id. flags id i in
-    subst (λ (f : ℕ → Bool). Finds old.database.id new after later index state s c.args.bound f c.in-Ok.processed) same (record { outcome = k.outcome; trace = k.trace; stands = stood.0 })
+    subst (λ (f : ℕ → Bool). Finds old.database.id new after later index state s c.args.point.now.bound f c.in-Ok.processed) same (record { outcome = k.outcome; trace = k.trace; stands = stood.0 })
 
 pub returns-else-is_done-clause-aside : goal.returns-else-is_done-clause-aside
 returns-else-is_done-clause-aside g c = λ state st.
-    let old : Store = c.args.self.now in let s = c.args.session in let is = number-below s c.number-number.result c.number-number.ensures.value c.number-number.ensures.in_range in
+    let old : Store = c.args.self.now in let s = c.args.point.now.session in let is = number-below s c.number-number.result c.number-number.ensures.value c.number-number.ensures.in_range in
     let earlier = g.L.ChangeLog.records c.args.log.now in let clock = g.L.ChangeLog.clock c.args.log.now in let index = c.args.index.now in
     let after = g.L.ChangeLog.records c.process.new.log in let later = g.L.ChangeLog.clock c.process.new.log in
-    let laws = c.transactions_share_tables.ensures in let eligible = flag_at c.args.eligible in
+    let laws = c.transactions_share_tables.ensures in let eligible = flag_at c.args.point.now.eligible in
     let setting = setting_of old.database.id state s in let progress = progress_of state s in
     let work = work-of laws st.0.0 old state st.0.1 s is earlier clock index st.1 in
-    let taken = process-takes setting state.locks c.args.bound eligible progress (taken-none s state.locks st.0.1.exclusive) in
-    let meant = process c.args.bound setting eligible progress in
+    let taken = process-takes setting state.locks c.args.point.now.bound eligible progress (taken-none s state.locks st.0.1.exclusive) in
+    let meant = process c.args.point.now.bound setting eligible progress in
     let new : Store = record old { database = c.process.new.self; phases = c.set.new.self } in
     let call : IsCallOf s old new earlier after clock later = record {
       id = c.process.ensures.id;
@@ -130,10 +130,10 @@ returns-else-is_done-clause-aside g c = λ state st.
 
 pub returns-in-Err-clause-aside : goal.returns-in-Err-clause-aside
 returns-in-Err-clause-aside g c = λ state st.
-    let old : Store = c.args.self.now in let s = c.args.session in let is = number-below s c.number-number.result c.number-number.ensures.value c.number-number.ensures.in_range in
+    let old : Store = c.args.self.now in let s = c.args.point.now.session in let is = number-below s c.number-number.result c.number-number.ensures.value c.number-number.ensures.in_range in
     let earlier = g.L.ChangeLog.records c.args.log.now in let clock = g.L.ChangeLog.clock c.args.log.now in let index = c.args.index.now in
     let after = g.L.ChangeLog.records c.process.new.log in let later = g.L.ChangeLog.clock c.process.new.log in
-    let laws = c.transactions_share_tables.ensures in let eligible = flag_at c.args.eligible in
+    let laws = c.transactions_share_tables.ensures in let eligible = flag_at c.args.point.now.eligible in
     let setting = setting_of old.database.id state s in let progress = progress_of state s in
     let work = work-of laws st.0.0 old state st.0.1 s is earlier clock index st.1 in
     let new : Store = record old { database = c.process.new.self; phases = c.set-in-Err.new.self } in

@@ -17,18 +17,18 @@ refuse-requires g c =
     let w = c.rows.ensures.aside (g.L.ChangeLog.records c.args.log.now) (g.L.ChangeLog.clock c.args.log.now) index c.requires.stand.1 c.requires.stand.2 in (index, w.0, w.1)
 
 pub returns-in-Ok-shared-clause-performed : goal.returns-in-Ok-shared-clause-performed
-returns-in-Ok-shared-clause-performed g c = λ index state bound st.
-    let comes = c.in-Ok.ensures.comes (g.L.ChangeLog.records c.args.log.now) (g.L.ChangeLog.clock c.args.log.now) index state bound st in inl (c.in-Ok-shared.ensures.rows ∙ sym comes.0, comes.1)
+returns-in-Ok-shared-clause-performed g c = λ index state st bound.
+    let comes = c.in-Ok.ensures.comes (g.L.ChangeLog.records c.args.log.now) (g.L.ChangeLog.clock c.args.log.now) index state st bound in inl (c.in-Ok-shared.ensures.rows ∙ sym comes.0, comes.1)
 
 pub returns-in-Err-shared-clause-performed : goal.returns-in-Err-shared-clause-performed
-returns-in-Err-shared-clause-performed g c = λ index state bound st.
+returns-in-Err-shared-clause-performed g c = λ index state st bound.
     let a = c.rows.ensures.aside (g.L.ChangeLog.records c.args.log.now) (g.L.ChangeLog.clock c.args.log.now) index state st in inr (ap (λ (r : Reply × Reply). r.0) c.run_out.ensures.replies, subst (StandFor c.run_out.new.self (g.L.ChangeLog.records c.run_out.new.log) (g.L.ChangeLog.clock c.run_out.new.log) index) a.2 (c.run_out.ensures.aborted index a.0 a.1))
 
 pub returns-in-Err-clause-performed : goal.returns-in-Err-clause-performed
-returns-in-Err-clause-performed g c = λ index state bound st.
+returns-in-Err-clause-performed g c = λ index state st bound.
     let earlier = g.L.ChangeLog.records c.args.log.now in let clock = g.L.ChangeLog.clock c.args.log.now in
     c.refuse.ensures.refused index state (perform c.args.self.now.database.id bound state c.args.session (query c.args.query.now)) (c.rows.ensures.aside earlier clock index state st)
-    (c.in-Err.ensures.comes earlier clock index state bound st)
+    (c.in-Err.ensures.comes earlier clock index state st bound)
 
 pub returns-in-Err-shared-clause-leaves : goal.returns-in-Err-shared-clause-leaves
 returns-in-Err-shared-clause-leaves g c =

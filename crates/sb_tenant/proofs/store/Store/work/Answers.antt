@@ -1,4 +1,4 @@
-use Rattle.std.proofs.Common.{◌≡◌, ◌∙◌, ℕ, List, true, ◌&&◌, nat_eq, ap, sym, subst, inl, arith, rules}
+use Rattle.std.proofs.Common.{◌≡◌, ◌∙◌, ℕ, List, ◌&&◌, nat_eq, ap, sym, subst, inl, arith}
 use Rattle.std.specs.Prelude.{None, Result, Ok, Err}
 use Rattle.sb_value.specs.Flags.{flag_at}
 use Rattle.sb_value.specs.declared.refusal.Refusal.{Refusal}
@@ -37,12 +37,12 @@ returns-in-Rollback-clause-leaves g c =
 pub returns-in-ProcessRules-clause-performed : goal.returns-in-ProcessRules-clause-performed
 returns-in-ProcessRules-clause-performed g c = λ state h.
     performs_command c.process.new.self (g.L.ChangeLog.records c.process.new.log) (g.L.ChangeLog.clock c.process.new.log) c.args.index.now state c.args.self.now.database.id c.args.bound c.args.session (view.command c.args.command) text.process_rules c.process.result.0 (ap view.command c.in-ProcessRules.is)
-    (c.process.ensures.performed state (is_active state.catalog.rules) h (λ id. c.active-eligible.ensures id ∙ ap (λ (rs : List Rule). is_active rs id) h.0.1.rules))
+    (c.process.ensures.performed state h (is_active state.catalog.rules) (λ id. c.active-eligible.ensures id ∙ ap (λ (rs : List Rule). is_active rs id) h.0.1.rules))
 
 pub returns-in-Query-clause-performed : goal.returns-in-Query-clause-performed
 returns-in-Query-clause-performed g c = λ state h.
     performs_command c.query.new.self (g.L.ChangeLog.records c.query.new.log) (g.L.ChangeLog.clock c.query.new.log) c.args.index.now state c.args.self.now.database.id c.args.bound c.args.session (view.command c.args.command) (text.query (view.query c.in-Query.query.value)) c.query.result.0 (ap view.command c.in-Query.is)
-    (subst (λ q. Performs c.query.new.self (g.L.ChangeLog.records c.query.new.log) (g.L.ChangeLog.clock c.query.new.log) c.args.index.now state c.args.session (outcome_of c.args.self.now.database.id c.args.bound state c.args.session None (walk state.catalog (text.query (view.query q)))) c.query.result.0) c.deref.ensures (c.query.ensures.performed c.args.index.now state c.args.bound h))
+    (subst (λ q. Performs c.query.new.self (g.L.ChangeLog.records c.query.new.log) (g.L.ChangeLog.clock c.query.new.log) c.args.index.now state c.args.session (outcome_of c.args.self.now.database.id c.args.bound state c.args.session None (walk state.catalog (text.query (view.query q)))) c.query.result.0) c.deref.ensures (c.query.ensures.performed c.args.index.now state h c.args.bound))
 
 pub returns-in-Query-clause-leaves : goal.returns-in-Query-clause-leaves
 returns-in-Query-clause-leaves g c =
@@ -51,24 +51,23 @@ returns-in-Query-clause-leaves g c =
 pub returns-in-Change-clause-performed : goal.returns-in-Change-clause-performed
 returns-in-Change-clause-performed g c = λ state h.
     performs_command c.write.new.self (g.L.ChangeLog.records c.write.new.log) (g.L.ChangeLog.clock c.write.new.log) c.args.index.now state c.args.self.now.database.id c.args.bound c.args.session (view.command c.args.command) (text.change (view.statement c.in-Change.change)) c.write.result.0 (ap view.command c.in-Change.is)
-    (c.write.ensures.performed state c.args.bound h)
+    (c.write.ensures.performed state h c.args.bound)
 
 pub returns-in-Change-clause-leaves : goal.returns-in-Change-clause-leaves
 returns-in-Change-clause-leaves g c =
     leaves_more 4096 32768000 c.args.self.now c.write.new.self c.args.session (g.L.ChangeLog.records c.args.log.now) (g.L.ChangeLog.records c.write.new.log) (g.L.ChangeLog.clock c.args.log.now) (g.L.ChangeLog.clock c.write.new.log) (omega arith) c.write.ensures.leaves
 
-pub returns-then-not-has-clause-leaves : goal.returns-then-not-has-clause-leaves
-returns-then-not-has-clause-leaves g c = leaves_all 32768000 c.args.self.now c.args.session (g.L.ChangeLog.records c.args.log.now) (g.L.ChangeLog.clock c.args.log.now)
+pub returns-in-None-clause-leaves : goal.returns-in-None-clause-leaves
+returns-in-None-clause-leaves g c = leaves_all 32768000 c.args.self.now c.args.session (g.L.ChangeLog.records c.args.log.now) (g.L.ChangeLog.clock c.args.log.now)
 
 pub returns-in-Some-clause-performed : goal.returns-in-Some-clause-performed
 returns-in-Some-clause-performed g c = λ state h.
     let name = c.in-ProcessRuleset.name in
-    let there : c.has.result ≡ true = search rules in
     performs_command c.process-in-Some.new.self (g.L.ChangeLog.records c.process-in-Some.new.log) (g.L.ChangeLog.clock c.process-in-Some.new.log) c.args.index.now state c.args.self.now.database.id c.args.bound c.args.session (view.command c.args.command) (text.process_ruleset name) c.process-in-Some.result.0 (ap view.command c.in-ProcessRuleset.is)
     (performs_as c.process-in-Some.new.self (g.L.ChangeLog.records c.process-in-Some.new.log) (g.L.ChangeLog.clock c.process-in-Some.new.log) c.args.index.now state c.args.self.now.database.id c.args.bound c.args.session (walk state.catalog (text.process_ruleset name)) (Ok (process_ruleset name)) c.process-in-Some.result.0
-    (ap (λ b. required b refusal.NoRuleset (Ok (process_ruleset name))) (ap (λ (sets : List Ruleset). has_name sets name) (sym h.0.1.rulesets) ∙ sym c.has.ensures ∙ there))
-    (c.process-in-Some.ensures.performed state (λ id. is_active state.catalog.rules id && is_member state.catalog.rulesets name id) h
-    (λ id. c.in-Some.ensures id ∙ (λ i. is_active (h.0.1.rules i) id && is_member (h.0.1.rulesets i) name id))))
+    (ap (λ b. required b refusal.NoRuleset (Ok (process_ruleset name))) (ap (λ (sets : List Ruleset). has_name sets name) (sym h.0.1.rulesets) ∙ c.in-Some.ensures.known))
+    (c.process-in-Some.ensures.performed state h (λ id. is_active state.catalog.rules id && is_member state.catalog.rulesets name id)
+    (λ id. c.in-Some.ensures.members id ∙ (λ i. is_active (h.0.1.rules i) id && is_member (h.0.1.rulesets i) name id))))
 
 pub returns-in-Some-active_rule-clause-performed : goal.returns-in-Some-active_rule-clause-performed
 returns-in-Some-active_rule-clause-performed g c = λ state h.
@@ -78,7 +77,7 @@ returns-in-Some-active_rule-clause-performed g c = λ state h.
     (ap view.command c.in-ProcessRule.is)
     (performs_as c.process-in-Some-active_rule.new.self (g.L.ChangeLog.records c.process-in-Some-active_rule.new.log) (g.L.ChangeLog.clock c.process-in-Some-active_rule.new.log) c.args.index.now state c.args.self.now.database.id c.args.bound c.args.session (walk state.catalog (text.process_rule name)) (Ok (process_rule found.0)) c.process-in-Some-active_rule.result.0
     (ap (λ (o : Result ℕ Refusal). and_then o (λ id. Ok (process_rule id))) (ap (λ (rs : List Rule). rule_named rs name) (sym h.0.1.rules) ∙ found.1))
-    (c.process-in-Some-active_rule.ensures.performed state (λ id. nat_eq id found.0 && is_active state.catalog.rules id) h
+    (c.process-in-Some-active_rule.ensures.performed state h (λ id. nat_eq id found.0 && is_active state.catalog.rules id)
     (λ id. found.2 id ∙ ap (λ (rs : List Rule). nat_eq id found.0 && is_active rs id) h.0.1.rules)))
 
 pub returns-in-None-active_rule-clause-performed : goal.returns-in-None-active_rule-clause-performed

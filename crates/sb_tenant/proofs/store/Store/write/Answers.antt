@@ -1,10 +1,11 @@
-use Rattle.std.proofs.Common.{◌≡◌, ◌⊎◌, arith}
+use Rattle.std.proofs.Common.{◌≡◌, ◌⊎◌, arith, refl}
 use Rattle.std.specs.Prelude.{Ok, Err}
 use Rattle.sb_value.specs.declared.refusal.Refusal.TheVariants as refusal
 use Rattle.sb_syntax.specs.Tree as text
 use Rattle.sb_syntax.specs.Views as view
 use Rattle.sb_check.specs.Walk.{walk_statement}
 use Rattle.sb_tables.specs.Held.{entries}
+use Rattle.sb_tenant.specs.Represents.{StandFor}
 use Rattle.sb_tenant.specs.Resolved.{change}
 use Rattle.sb_tenant.specs.Walk.{walk}
 use Rattle.sb_tenant.proofs.Answering.{leaves_more}
@@ -19,25 +20,25 @@ change-replies-requires-clause-there g c =
     (c.resolved_tables_are_there.ensures.statements (outside (entries c.args.self.now.database.tables)) (view.statement c.args.change.now) c.in-Ok.statement c.in-Ok.ensures)
 
 pub returns-in-Ok-clause-performed : goal.returns-in-Ok-clause-performed
-returns-in-Ok-clause-performed g c = λ state bound h.
+returns-in-Ok-clause-performed g c = λ state h bound.
     let old = c.args.self.now in
     let q = view.statement c.args.change.now in
     performs_as c.change-replies.new.self (g.L.ChangeLog.records c.change-replies.new.log) (g.L.ChangeLog.clock c.change-replies.new.log) c.args.index.now state old.database.id bound c.args.session (walk state.catalog (text.change q))
     (Ok (change c.in-Ok.statement)) c.change-replies.result.0
     (change_walked old (g.L.ChangeLog.records c.args.log.now) (g.L.ChangeLog.clock c.args.log.now) c.args.index.now state h c.walks_see_columns.ensures.statements q (Ok c.in-Ok.statement) c.in-Ok.ensures)
-    (c.change-replies.ensures.performed state bound h)
+    (c.change-replies.ensures.performed state h bound)
 
 pub returns-in-Err-clause-performed : goal.returns-in-Err-clause-performed
-returns-in-Err-clause-performed g c = λ state bound h.
+returns-in-Err-clause-performed g c = λ state h bound.
     let old = c.args.self.now in
     let q = view.statement c.args.change.now in
     let why : (walk_statement (outside (entries old.database.tables)) q ≡ Err c.in-Err.refusal) ⊎ (c.in-Err.refusal ≡ refusal.NoMemory) = c.in-Err.ensures in
-    c.decline.ensures.performed c.args.index.now state _ h
-    (refusal_meant old.database.id bound c.args.session state (walk state.catalog (text.change q)) c.in-Err.refusal
+    c.refuse.ensures.refused c.args.index.now state _ (state, h, refl)
+    (refusal_meant (StandFor old (g.L.ChangeLog.records c.args.log.now) (g.L.ChangeLog.clock c.args.log.now) c.args.index.now) old.database.id bound c.args.session state h (walk state.catalog (text.change q)) c.in-Err.refusal
     (part_refused (walk_statement (outside (entries old.database.tables)) q) (walk state.catalog (text.change q)) c.in-Err.refusal
     (change_walked old (g.L.ChangeLog.records c.args.log.now) (g.L.ChangeLog.clock c.args.log.now) c.args.index.now state h c.walks_see_columns.ensures.statements q (Err c.in-Err.refusal)) why))
 
 pub returns-in-Err-clause-leaves : goal.returns-in-Err-clause-leaves
 returns-in-Err-clause-leaves g c =
-    leaves_more 0 4096 c.args.self.now c.decline.new.self c.args.session (g.L.ChangeLog.records c.args.log.now) (g.L.ChangeLog.records c.decline.new.log) (g.L.ChangeLog.clock c.args.log.now) (g.L.ChangeLog.clock c.decline.new.log)
-    (omega arith) c.decline.ensures.leaves
+    leaves_more 0 4096 c.args.self.now c.refuse.new.self c.args.session (g.L.ChangeLog.records c.args.log.now) (g.L.ChangeLog.records c.refuse.new.log) (g.L.ChangeLog.clock c.args.log.now) (g.L.ChangeLog.clock c.refuse.new.log)
+    (omega arith) c.refuse.ensures.leaves
