@@ -3,21 +3,16 @@ use Rattle.std.specs.Prelude.{◌≡◌, ◌⊎◌, ◌++◌, ℕ, Bool, true, f
 use Rattle.std.specs.Io.KnownBytes.{Appends, Keeps}
 use Rattle.sb_cell.specs.Tenants.{IsNew, Cell as ItsCell}
 use Rattle.sb_wire.specs.Counts.{IsSummary, Summarizes, summary_line}
+use Rattle.sb_wire.specs.Faults.{fault_line}
 use Rattle.sb_wire.specs.Stream.{EndsBy, MayFail, OnWriteFault, Streams}
 use Rattle.sb_wire.specs.declared.fault.StreamError.{StreamError}
-use Rattle.sb_wire.specs.declared.fault.StreamError.TheVariants.{ReadFault, WriteFault, NoMemory}
+use Rattle.sb_wire.specs.declared.fault.StreamError.TheVariants.{WriteFault, NoMemory}
 use Rattle.sb_wire.specs.declared.summary.Summary.{Summary}
 
 -- success, and a fault
 abbrev pub status_of : Result (Unit {0}) StreamError → ℕ
 status_of (Ok value) = 0
 status_of (Err error) = 1
-
--- the line of a fault
-abbrev pub fault_line : StreamError → List ℕ
-fault_line ReadFault = codes "fault: read failed\n"
-fault_line WriteFault = codes "fault: write failed\n"
-fault_line NoMemory = codes "fault: out of memory\n"
 
 -- nothing is told of a success
 abbrev pub line_of : Result (Unit {0}) StreamError → List ℕ

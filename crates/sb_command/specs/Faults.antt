@@ -1,6 +1,7 @@
 -- The lines of faults.
 use Rattle.std.specs.Prelude.{ℕ, ◌≡◌, ◌⊎◌, List, ◌++◌, Option, Result, Ok, Err, codes, decimal}
-use Rattle.sb_command.specs.Does.{Tells, fault_line}
+use Rattle.sb_command.specs.Does.{Tells}
+use Rattle.sb_wire.specs.Faults.{fault_line}
 use Rattle.sb_wire.specs.declared.fault.StreamError.TheVariants.{NoMemory}
 use Rattle.sb_service.specs.declared.fault.Fault.{Fault}
 use Rattle.sb_service.specs.declared.fault.Fault.TheVariants.{Stream, CannotListen, BadLine, CannotAttach, TrailMissing, TrailMismatch}

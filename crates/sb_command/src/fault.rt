@@ -29,9 +29,7 @@ fn line_of(alloc: Global, why: Fault) -> Result<Vec<u8>, AllocError>
 {
     let mut line = Vec::new(alloc);
     match why {
-        Fault::Stream(StreamError::ReadFault) => line.extend_from_slice(b"fault: read failed\n")?,
-        Fault::Stream(StreamError::WriteFault) => line.extend_from_slice(b"fault: write failed\n")?,
-        Fault::Stream(StreamError::NoMemory) => line.extend_from_slice(b"fault: out of memory\n")?,
+        Fault::Stream(error) => line.extend_from_slice(error.line())?,
         Fault::CannotListen => line.extend_from_slice(b"fault: cannot listen\n")?,
         Fault::BadLine { line: number } => {
             push_labelled(&mut line, b"fault: bad line ", number)?;

@@ -2,7 +2,8 @@
 ghost use Rattle.std.specs.Prelude.{◌≡◌, ◌≤◌, ◌⊎◌, List, ℕ, IfErr, IfSome, length, map};
 ghost use Rattle.std.specs.Io.KnownBytes.{Appends};
 ghost use Rattle.sb_wire.specs.Stream.{AnswersFresh};
-ghost use Rattle.sb_command.specs.Does.{GoesFresh, Shows, Tells, TellsRun, fault_line, status_of};
+ghost use Rattle.sb_command.specs.Does.{GoesFresh, Shows, Tells, TellsRun, status_of};
+ghost use Rattle.sb_wire.specs.Faults.{fault_line};
 ghost use Rattle.sb_command.specs.Faults.{TellsEnd};
 ghost use Rattle.sb_replay.specs.Replay.{Fails, Replays};
 ghost use Rattle.sb_replay.specs.declared.error.ReplayError.{ReplayError as ItsError};

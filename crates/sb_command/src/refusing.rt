@@ -1,6 +1,7 @@
 //! The lines that tell why words are refused.
 ghost use Rattle.std.specs.Prelude.{◌≡◌, ◌⊎◌, ◌++◌, IfOk, OnOk};
-ghost use Rattle.sb_command.specs.Does.{Tells, fault_line};
+ghost use Rattle.sb_command.specs.Does.{Tells};
+ghost use Rattle.sb_wire.specs.Faults.{fault_line};
 ghost use Rattle.sb_command.specs.Refusals.{part_text, refusal_text};
 
 use crate::help::ALLOWED;

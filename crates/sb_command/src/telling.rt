@@ -2,7 +2,8 @@
 ghost use Rattle.std.specs.Prelude.{◌≡◌, ◌++◌, [], List, ℕ, OnOk, OnErr};
 ghost use Rattle.std.specs.Io.KnownBytes.{Appends};
 ghost use Rattle.sb_wire.specs.Stream.{MayFail};
-ghost use Rattle.sb_command.specs.Does.{IsSummaryLine, Tells, TellsRun, fault_line, line_of, status_of};
+ghost use Rattle.sb_command.specs.Does.{IsSummaryLine, Tells, TellsRun, line_of, status_of};
+ghost use Rattle.sb_wire.specs.Faults.{fault_line};
 
 use crate::console::Console;
 use sb_wire::{Sink, StreamError, Summary, write_bytes, write_summary};
@@ -80,11 +81,6 @@ pub(crate) fn fault<E: Sink>(error: StreamError, errors: &mut E) -> u8
     ensures status { result ≡ 1 }
     ensures tells { Tells E.refuses E.contents errors.old errors.new (fault_line error) }
 {
-    let line: &[u8] = match error {
-        StreamError::ReadFault => b"fault: read failed\n",
-        StreamError::WriteFault => b"fault: write failed\n",
-        StreamError::NoMemory => b"fault: out of memory\n",
-    };
-    let _told = write_bytes(errors, line);
+    let _told = write_bytes(errors, error.line());
     FAULT
 }

@@ -71,7 +71,7 @@ fn check(trail: &[Entry], session: SessionId, receipts: &mut Vec<Receipt>) -> Fo
 }
 
 /// The number of the step that a receipt is of.
-fn step_number(receipt: &Receipt) -> u32
+pub fn step_number(receipt: &Receipt) -> u32
     ensures { result ≡ step_of receipt.now }
 {
     match receipt.answer.number {

@@ -13,6 +13,7 @@ mod opening;
 mod session;
 mod stub;
 
+pub use comparing::step_number;
 pub use finish::{FinishError, Report};
 pub use gate::{Gate, NoGate};
 pub use host::Host;

@@ -1,7 +1,7 @@
 //! All sessions played to their end.
 ghost use Rattle.std.specs.Prelude.{◌≡◌, ◌*◌, ◌<◌, ◌≤◌, ◌++◌, ◌∷◌, [], length, IfErr, IfOk, MatchBool, OnOk};
 ghost use Rattle.std.specs.List.{All};
-ghost use Rattle.sb_host.specs.Finish.{IsInOrder, step_of};
+ghost use Rattle.sb_host.specs.Finish.{IsInOrder};
 ghost use Rattle.sb_replay.specs.Lists.{AllCut};
 ghost use Rattle.sb_replay.specs.Parts.{AreAttended, Closes, ClosesOne, PlaysOut};
 ghost use Rattle.sb_replay.specs.Replay.{IsUnclosed, IsUnplayed};
@@ -10,7 +10,7 @@ use crate::error::ReplayError;
 use crate::part::{Part, attach_all};
 use crate::round::play;
 use crate::sheet::Sheet;
-use sb_host::{FinishError, Host, Naming, Receipt, Stub};
+use sb_host::{FinishError, Host, Naming, Receipt, Stub, step_number};
 use std::alloc::Global;
 use std::sync::Wait;
 use std::thread::Threads;
@@ -81,16 +81,6 @@ fn are_in_order(receipts: &[Receipt]) -> bool
     ensures { MatchBool result (IsInOrder receipts.now) (IsInOrder receipts.now → ⊥) }
 {
     receipts.is_sorted_by_key(|receipt| step_number(receipt))
-}
-
-/// The number of the step that a receipt is of.
-fn step_number(receipt: &Receipt) -> u32
-    ensures { result ≡ step_of receipt.now }
-{
-    match receipt.answer.number {
-        Some(number) => number,
-        None => 0,
-    }
 }
 
 /// The larger of the two.

@@ -10,7 +10,7 @@ use crate::finishing::finish;
 use sb_host::laws::steps_fix_the_order;
 use sb_host::{Host, Naming};
 use sb_script::read_script;
-use sb_wire::{Sink, Source, write_bytes};
+use sb_wire::{Sink, Source, write_and_flush};
 use std::alloc::Global;
 use std::sync::Wait;
 use std::thread::Threads;
@@ -55,10 +55,7 @@ fn write_out<W: Sink>(writer: &mut W, text: &[u8]) -> Result<(), ReplayError>
     ensures refused { OnErr result (MayFail W.refuses W.contents writer.new) }
     ensures fault { IfErr result (λ e. e ≡ ReplayError.WriteFault) }
 {
-    if write_bytes(writer, text).is_err() {
-        return Err(ReplayError::WriteFault);
-    }
-    match writer.flush_all() {
+    match write_and_flush(writer, text) {
         Ok(()) => Ok(()),
         Err(_) => Err(ReplayError::WriteFault),
     }

@@ -148,15 +148,14 @@ pub fn fresh_cell(alloc: Global, header: &Header) -> Result<Cell, ScriptFault> {
 
 /// Adds the fault that ended a stream.
 pub fn push_end(ended: Result<(), StreamError>, out: &mut Vec<u8>) -> Result<(), ScriptFault> {
-    let fault: &[u8] = match ended {
+    let error = match ended {
         Ok(()) => return Ok(()),
-        Err(StreamError::ReadFault) => b"fault: read failed\n",
-        Err(StreamError::WriteFault) => b"fault: write failed\n",
         Err(StreamError::NoMemory) => return Err(ScriptFault::NoMemory),
+        Err(error) => error,
     };
     if !out.is_empty() && !out.ends_with(b"\n".as_slice()) {
         out.push(b'\n')?;
     }
-    out.extend_from_slice(fault)?;
+    out.extend_from_slice(error.line())?;
     Ok(())
 }

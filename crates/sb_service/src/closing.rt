@@ -7,9 +7,8 @@ ghost use Rattle.sb_service.specs.Faults.{unfinished_as};
 ghost use Rattle.sb_service.specs.Totals.{TellsTrails};
 
 use crate::fault::Fault;
-use crate::lines::write_line;
 use sb_host::{FinishError, Host, Naming, Report, Stub};
-use sb_wire::{Sink, StreamError, write_totals};
+use sb_wire::{Sink, StreamError, write_and_flush, write_totals};
 use std::alloc::{AllocError, Global};
 
 /// The line that tells of the trails.
@@ -59,7 +58,7 @@ pub(crate) fn finish<N: Naming, W: Sink>(
     let Ok(line) = totals(alloc, &report) else {
         return Err(Fault::Stream(StreamError::NoMemory));
     };
-    match write_line(writer, line.as_slice()) {
+    match write_and_flush(writer, line.as_slice()) {
         Ok(()) => Ok(()),
         Err(error) => Err(Fault::Stream(error)),
     }

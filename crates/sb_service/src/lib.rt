@@ -5,7 +5,6 @@
 mod closing;
 mod fault;
 mod journal;
-mod lines;
 mod listening;
 mod replaying;
 mod server;

@@ -5,8 +5,7 @@ ghost use Rattle.sb_service.specs.Totals.{listening_line};
 
 use crate::fault::Fault;
 use crate::journal::Journal;
-use crate::lines::write_line;
-use sb_wire::{Sink, StreamError, push_labelled};
+use sb_wire::{Sink, StreamError, push_labelled, write_and_flush};
 use std::alloc::Global;
 use std::net::{Net, SocketAddr, TcpListener, TcpStream};
 use std::rt::Clock;
@@ -49,5 +48,5 @@ fn tell_port<W: Sink>(alloc: Global, port: u16, writer: &mut W) -> Result<(), St
     if line.push(b'\n').is_err() {
         return Err(StreamError::NoMemory);
     }
-    write_line(writer, line.as_slice())
+    write_and_flush(writer, line.as_slice())
 }

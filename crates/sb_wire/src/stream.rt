@@ -196,10 +196,22 @@ fn write_out<W: Sink>(writer: &mut W, out: &mut Vec<u8>) -> Result<(), StreamErr
     ensures refused { OnErr result (MayFail W.refuses W.contents writer.new) }
     ensures fault { IfErr result (λ e. e ≡ StreamError.WriteFault) }
 {
-    write_bytes(writer, out.as_slice())?;
-    flush(writer)?;
+    write_and_flush(writer, out.as_slice())?;
     out.clear();
     Ok(())
+}
+
+/// Writes these bytes, and flushes them. What is interrupted is tried again.
+pub fn write_and_flush<W: Sink>(writer: &mut W, bytes: &[u8]) -> Result<(), StreamError>
+    ensures writes { (written left : List ℕ) × (bytes.now ≡ written ++ left)
+        × Appends (W.contents writer.old) (W.contents writer.new) written
+        × OnOk result (left ≡ []) }
+    ensures all { OnOk result (Appends (W.contents writer.old) (W.contents writer.new) bytes.now) }
+    ensures refused { OnErr result (MayFail W.refuses W.contents writer.new) }
+    ensures fault { IfErr result (λ e. e ≡ StreamError.WriteFault) }
+{
+    write_bytes(writer, bytes)?;
+    flush(writer)
 }
 
 /// Writes these bytes.
