@@ -1,4 +1,4 @@
--- What holds of the fields of a block, and of an arena's.
+-- Machine: what holds of the fields of a block, and of an arena's.
 use Rattle.std.specs.Prelude.{◌≡◌, ℕ, ◌*◌, List, Option, length, All}
 use Rattle.sb_arena.specs.Places.{AreFull}
 use Rattle.sb_arena.specs.declared.block.Block.TheInside.{Inside}

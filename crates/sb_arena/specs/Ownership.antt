@@ -1,4 +1,4 @@
--- What a row of cells owns and lends, at values of the row R of types.
+-- Machine: what a row of cells owns and lends, at values of the row R of types.
 use Rattle.std.specs.Prelude.{ℕ, ◌+◌, ◌*◌, ◌^◌, List, [], ◌∷◌, length, Option, Some, None}
 use Rattle.std.specs.Mem.{type_size}
 use base.Fraction.{full_share}

@@ -1,4 +1,4 @@
--- What the commands on rules and rulesets define: rules, their pairs of precedence, rulesets.
+-- Promise: what the commands on rules and rulesets define: rules, their pairs of precedence, rulesets.
 use Rattle.std.specs.Prelude.{◌≡◌, ◌⊎◌, ℕ, Bool, not, ◌&&◌, ◌==◌, List, [], ◌++◌, map, Option, unwrap_or, MatchOption, Result, Ok, Err, IsFalse}
 use Rattle.std.specs.List.{list_any}
 use Rattle.sb_value.specs.declared.refusal.Refusal.{Refusal}

@@ -1,4 +1,4 @@
--- Where the rules stand: under their names in order of creation, with a place for each number.
+-- Machine: where the rules stand: under their names in order of creation, with a place for each number.
 use Rattle.std.specs.Prelude.{◌≡◌, ℕ, Bool, ◌+◌, ◌-◌, nat_lt, if◌then◌else◌, List, [], ◌∷◌, map, slice_get, unwrap_or, Some}
 use Rattle.std.specs.Map.{values_of}
 use Rattle.sb_value.specs.Flags.{flag_at}

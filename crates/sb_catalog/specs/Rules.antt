@@ -1,4 +1,4 @@
--- Rules in order of creation, and what the commands on rules do to them.
+-- Promise: rules in order of creation, and what the commands on rules do to them.
 use Rattle.std.specs.Prelude.{◌≡◌, ℕ, zero, suc, ◌+◌, ◌<◌, IsTrue, IsFalse, Bool, true, not, ◌&&◌, ◌==◌, nat_lt, if◌then◌else◌, List, [], ◌∷◌, ◌++◌, length, map, filter, find, Option, Some, None, option_map, unwrap_or, Result}
 use Rattle.std.specs.List.{list_any}
 use Rattle.sb_value.specs.Limits.{rule_limit}

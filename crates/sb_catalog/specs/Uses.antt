@@ -1,4 +1,4 @@
--- Which rules use a table: they are on it, or name it as a source or a target in their condition or actions.
+-- Promise: which rules use a table: they are on it, or name it as a source or a target in their condition or actions.
 use Rattle.std.specs.Prelude.{ℕ, Bool, false, ◌||◌, ◌==◌, List, Option, Some, None}
 use Rattle.std.specs.List.{list_any}
 use Rattle.sb_check.specs.Condition.{Query}

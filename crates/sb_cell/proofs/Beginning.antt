@@ -8,7 +8,8 @@ use Rattle.sb_rawlog.specs.Sessions.{records_by}
 use Rattle.sb_index.specs.Operation.{Operation}
 use Rattle.sb_index.specs.Stands.{stands}
 use Rattle.sb_tenant.specs.declared.reply.Entry.{Entry}
-use Rattle.sb_tenant.specs.Tenant.{Tenant, HoldNothing}
+use Rattle.sb_tenant.specs.Tenant.{Tenant}
+use Rattle.sb_tenant.specs.Lending.{HoldNothing}
 use Rattle.sb_tenant.specs.Trail.{IsTrail}
 use Rattle.sb_cell.specs.Hosting.{AreFresh, IsAt, IsFresh, IsHosted}
 use Rattle.sb_cell.specs.Tenants.{Cell, IsNew, hosts, tenant_at, trail_of, trails}

@@ -18,7 +18,8 @@ use Rattle.sb_tenant.specs.declared.reply.Entry.{Entry}
 use Rattle.sb_value.specs.Name.{same_name}
 use Rattle.sb_tenant.specs.Limits.{entry_limit, is_session, trail_limit}
 use Rattle.sb_tenant.specs.Logged.{who_of}
-use Rattle.sb_tenant.specs.Tenant.{Tenant, IsLegal, InStep, StaysInStep, AnswersLine, LeavesLine, MakesStep, rise_of_number, state}
+use Rattle.sb_tenant.specs.Tenant.{Tenant, IsLegal, AnswersLine, LeavesLine, MakesStep, state}
+use Rattle.sb_tenant.specs.Lending.{InStep, StaysInStep, rise_of_number}
 use Rattle.sb_tenant.specs.State.{session_at, is_open}
 use Rattle.sb_tenant.specs.Step.{is_end_of_open}
 use Rattle.sb_tenant.specs.Tenant as tenant

@@ -1,4 +1,4 @@
--- What one event may be answered, and a tenant's own events.
+-- Promise: what one event may be answered, and a tenant's own events.
 use Rattle.std.specs.Prelude.{true, false, ◌≡◌, ℕ, Bool, ◌&&◌, ◌==◌, if◌then◌else◌, List, [], ◌∷◌, zip, filter_map, Option, Some, None, Result, Ok, Err, IsFalse}
 use Rattle.sb_tenant.specs.declared.reply.Answer.{Answer}
 use Rattle.sb_tenant.specs.declared.reply.Entry.{Entry}

@@ -1,4 +1,4 @@
--- Each tenant's answers and trail are those of a tenant that is alone.
+-- Promise: each tenant's answers and trail are those of a tenant that is alone.
 use Rattle.std.specs.Prelude.{◌≡◌, ℕ, Bool, List, [], ◌∷◌, map, length, Result, Ok, Err, IsTrue}
 use Rattle.sb_value.specs.declared.refusal.Refusal.TheVariants.{NoMemory}
 use Rattle.sb_tenant.specs.declared.reply.Answer.{Answer}

@@ -1,4 +1,4 @@
--- What holds of a cell at any time.
+-- Machine: what holds of a cell at any time.
 use Rattle.std.specs.Prelude.{◌≡◌, ℕ, ◌+◌, ◌*◌, ◌<◌, ◌≤◌, ◌&&◌, List, [], length, sum_by, slice_get, Some, IsFalse}
 use Rattle.sb_value.specs.declared.id.Who.{Who}
 use Rattle.sb_rawlog.specs.Records.{Record}
@@ -6,7 +6,8 @@ use Rattle.sb_rawlog.specs.Sessions.{records_by}
 use Rattle.sb_index.specs.TableSets.{TableSets}
 use Rattle.sb_catalog.specs.Definitions.{AreIndexed}
 use Rattle.sb_tenant.specs.Limits.{is_session}
-use Rattle.sb_tenant.specs.Tenant.{Tenant, IsLegal, InStep, IsNew, HoldNothing}
+use Rattle.sb_tenant.specs.Tenant.{Tenant, IsLegal, IsNew}
+use Rattle.sb_tenant.specs.Lending.{InStep, HoldNothing}
 use Rattle.sb_cell.specs.Tenants.{Cell, hosts}
 
 -- the tenant has its place's number, and the log and the index hold what it has

@@ -1,4 +1,4 @@
--- What the log and the index of a cell hold.
+-- Machine: what the log and the index of a cell hold.
 use Rattle.std.specs.Prelude.{◌≡◌, ℕ, if◌then◌else◌, List, [], Some}
 use Rattle.sb_value.specs.declared.change.Change.{Change}
 use Rattle.sb_value.specs.declared.id.Who.{Who}
@@ -6,7 +6,8 @@ use Rattle.sb_rawlog.specs.Sessions.{changes_by}
 use Rattle.sb_catalog.specs.Definitions.{AreIndexed}
 use Rattle.sb_tenant.specs.Limits.{is_session}
 use Rattle.sb_tenant.specs.State.{session_at, changes_of}
-use Rattle.sb_tenant.specs.Tenant.{Tenant, InStep}
+use Rattle.sb_tenant.specs.Tenant.{Tenant}
+use Rattle.sb_tenant.specs.Lending.{InStep}
 use Rattle.sb_cell.specs.Tenants.{Cell, tenant_at, states}
 
 -- the changes of someone's open transaction; nobody but the sessions of the cell's tenants has one

@@ -1,4 +1,4 @@
--- A cell as its users see it: its tenants with their trails, the log and the index that they share.
+-- Promise: a cell as its users see it: its tenants with their trails, the log and the index that they share.
 use Rattle.std.specs.Prelude.{true, false, ◌≡◌, ℕ, ◌/◌, ◌%◌, Bool, ◌&&◌, ◌==◌, nat_lt, if◌then◌else◌, List, [], length, slice_get, Option, Some, None, Result, Err, IsFalse}
 use Rattle.sb_rawlog.specs.Records.{Record}
 use Rattle.sb_index.specs.TableSets.{TableSets}

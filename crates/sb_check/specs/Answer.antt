@@ -1,4 +1,4 @@
--- What a call answers, against what the walk gives.
+-- Machine: what a call answers, against what the walk gives.
 use Rattle.std.specs.Prelude.{◌≡◌, Result, Ok, Err, ◌⊎◌}
 use Rattle.sb_value.specs.declared.refusal.Refusal.{Refusal}
 use Rattle.sb_value.specs.declared.refusal.Refusal.TheVariants as refusal

@@ -1,4 +1,4 @@
--- Expressions with their names resolved.
+-- Promise: expressions with their names resolved.
 use Rattle.std.specs.Prelude.{◌≡◌, ℕ, ◌+◌, max, zero, suc, refl, ◌⊎◌}
 use Rattle.std.proofs.Common.{inl, inr}
 use Rattle.std.specs.Coded.{Coded, code_by, coded⊎}

@@ -1,4 +1,4 @@
--- What an expression of the program stands for: its parts are seen as trees already.
+-- Promise: what an expression of the program stands for: its parts are seen as trees already.
 use Rattle.sb_check.specs.Expression.{Expression, literal, column, binary}
 use Rattle.sb_check.specs.declared.tree.ExpressionNode.{ExpressionNode}
 use Rattle.sb_check.specs.declared.tree.ExpressionNode.TheVariants.{Literal, Column, Binary}

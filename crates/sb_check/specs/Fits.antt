@@ -1,4 +1,4 @@
--- What a resolved tree promises to what evaluates it: each column is one of its sources', arithmetic and `sum` take integers, and both sides of a comparison, of `in`, of an assignment and of an insert have one type.
+-- Promise: what a resolved tree promises to what evaluates it: each column is one of its sources', arithmetic and `sum` take integers, and both sides of a comparison, of `in`, of an assignment and of an insert have one type.
 use Rattle.std.specs.Prelude.{◌≡◌, ℕ, List, [], ◌∷◌, map, flat_map, slice_get, unwrap_or, Option, None, Some, Ok}
 use Rattle.sb_value.specs.declared.value.Value.{Value}
 use Rattle.sb_value.specs.declared.value.ColumnType.{ColumnType}

@@ -1,4 +1,4 @@
--- Parts in order, whose answers are pairs.
+-- Machine: parts in order, whose answers are pairs.
 use Rattle.std.specs.Prelude.{List, map, Result, Ok}
 use Rattle.sb_value.specs.declared.refusal.Refusal.{Refusal}
 use Rattle.sb_value.specs.declared.value.ColumnType.{ColumnType}

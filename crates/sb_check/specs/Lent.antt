@@ -1,4 +1,4 @@
--- What a schema lends of its tables and of the rule.
+-- Machine: what a schema lends of its tables and of the rule.
 use Rattle.std.specs.Prelude.{◌≡◌, ℕ, List, find, Option, Some, option_map, Result, Ok, Err}
 use Rattle.sb_value.specs.declared.value.ColumnDefinition.{ColumnDefinition}
 use Rattle.sb_value.specs.declared.net.Triggers.{Triggers}

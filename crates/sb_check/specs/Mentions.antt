@@ -1,4 +1,4 @@
--- The sources that conditions, operands, queries and statements mention, in the order of the text, and a statement's target.
+-- Promise: the sources that conditions, operands, queries and statements mention, in the order of the text, and a statement's target.
 use Rattle.std.specs.Prelude.{ℕ, List, [], ◌∷◌, ◌++◌}
 use Rattle.sb_check.specs.Condition.{Condition, always, disjunction, conjunction, negation, compare, is_in, exists, Operand, expression, scalar_subquery, Query, select}
 use Rattle.sb_check.specs.declared.tree.Source.{Source}

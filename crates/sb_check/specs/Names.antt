@@ -1,4 +1,4 @@
--- Names, types and columns.
+-- Promise: names, types and columns.
 use Rattle.std.specs.Prelude.{ℕ, ◌+◌, Bool, true, false, if◌then◌else◌, List, [], ◌∷◌, Option, Some, None, Result, Ok, Err}
 use Rattle.sb_value.specs.Name.{same_name}
 use Rattle.sb_value.specs.declared.value.ColumnType.{ColumnType}

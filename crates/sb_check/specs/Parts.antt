@@ -1,4 +1,4 @@
--- The walks of conditions, operands and queries under names that proofs don't open by themselves.
+-- Promise: the walks of conditions, operands and queries under names that proofs don't open by themselves.
 use Rattle.std.specs.Prelude.{Result}
 use Rattle.sb_value.specs.declared.refusal.Refusal.{Refusal}
 use Rattle.sb_value.specs.declared.value.ColumnType.{ColumnType}

@@ -1,4 +1,4 @@
--- A whole command with its names and types, as far as the tables tell them.
+-- Promise: a whole command with its names and types, as far as the tables tell them.
 use Rattle.std.specs.Prelude.{ℕ, Bool, false, not, ◌||◌, List, [], ◌∷◌, Result, Ok}
 use Rattle.std.specs.List.{list_any}
 use Rattle.sb_value.specs.declared.value.ColumnDefinition.{ColumnDefinition}

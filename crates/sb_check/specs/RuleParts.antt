@@ -1,4 +1,4 @@
--- The names and types of a rule's text: its table, its triggers, its condition and its actions.
+-- Promise: the names and types of a rule's text: its table, its triggers, its condition and its actions.
 use Rattle.std.specs.Prelude.{ℕ, List, [], Option, None, Some, Result, Ok}
 use Rattle.sb_value.specs.declared.value.ColumnDefinition.{ColumnDefinition}
 use Rattle.sb_value.specs.declared.net.Triggers.{Triggers}

@@ -1,4 +1,4 @@
--- The parts of a rule in the program as the walk's.
+-- Promise: the parts of a rule in the program as the walk's.
 use Rattle.std.specs.Prelude.{List, map, Option, option_map, Result, Vec}
 use Rattle.std.specs.Global.{Global}
 use Rattle.sb_value.specs.declared.refusal.Refusal.{Refusal}

@@ -1,4 +1,4 @@
--- What the walk sees of the tables.
+-- Machine: what the walk sees of the tables.
 use Rattle.std.specs.Prelude.{◌≡◌, map}
 use Rattle.sb_check.specs.Lent.{table_seen}
 use Rattle.sb_check.specs.Names.{Scope}

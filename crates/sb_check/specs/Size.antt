@@ -1,4 +1,4 @@
--- How many steps the walk of a condition, an operand or a query takes at most, one call in another.
+-- Machine: how many steps the walk of a condition, an operand or a query takes at most, one call in another.
 use Rattle.std.specs.Prelude.{ℕ, ◌+◌}
 use Rattle.sb_syntax.specs.Tree.{Condition, disjunction, conjunction, negation, compare, is_in, exists, Operand, expression, scalar_subquery, Filter, everything, those, Query, select}
 

@@ -1,4 +1,4 @@
--- The sources of a query, apart from what it sees of them.
+-- Machine: the sources of a query, apart from what it sees of them.
 use Rattle.std.specs.Prelude.{Bool, false, List, [], ◌∷◌, ◌++◌, map, Result, Ok}
 use Rattle.sb_value.specs.declared.net.Triggers.{Triggers}
 use Rattle.sb_value.specs.declared.refusal.Refusal.{Refusal}

@@ -1,4 +1,4 @@
--- The walk of a statement once its table is found, which asks of the table its id, its name and its columns.
+-- Machine: the walk of a statement once its table is found, which asks of the table its id, its name and its columns.
 use Rattle.std.specs.Prelude.{ℕ, Bool, true, Box, List, [], ◌∷◌, map, Option, option_map, Result, Ok}
 use Rattle.std.specs.Global.{Global}
 use Rattle.sb_value.specs.declared.refusal.Refusal.{Refusal}

@@ -1,4 +1,4 @@
--- What a resolved command names is there: each table that it has as a target or a source is one of the tables.
+-- Machine: what a resolved command names is there: each table that it has as a target or a source is one of the tables.
 use Rattle.std.specs.Prelude.{◌≡◌, ℕ, List, [], ◌∷◌, ◌++◌, length, Option, None, Some, Ok, IsTrue}
 use Rattle.sb_value.specs.declared.net.Triggers.{Triggers}
 use Rattle.sb_value.specs.declared.value.ColumnDefinition.{ColumnDefinition}

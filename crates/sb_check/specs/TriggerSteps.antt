@@ -1,4 +1,4 @@
--- The walk of a rule's triggers, one at a time.
+-- Machine: the walk of a rule's triggers, one at a time.
 use Rattle.std.specs.Prelude.{Bool, true, false, List, [], ◌∷◌, Result, Ok}
 use Rattle.sb_value.specs.declared.value.ColumnDefinition.{ColumnDefinition}
 use Rattle.sb_value.specs.declared.refusal.Refusal.{Refusal}

@@ -1,4 +1,4 @@
--- The walk of a rule's triggers.
+-- Promise: the walk of a rule's triggers.
 use Rattle.std.specs.Prelude.{ℕ, Bool, true, false, List, [], ◌∷◌, ◌++◌, option_map, Result, Ok}
 use Rattle.std.specs.List.{list_any}
 use Rattle.sb_value.specs.declared.value.ColumnDefinition.{ColumnDefinition}

@@ -1,4 +1,4 @@
--- The walk of queries and statements: the first refusal, or the form with its names resolved.
+-- Promise: the walk of queries and statements: the first refusal, or the form with its names resolved.
 use Rattle.std.specs.Prelude.{ℕ, Bool, true, false, not, ◌&&◌, ◌||◌, ◌==◌, List, [], ◌∷◌, map, flat_map, length, find, Option, Some, None, Result, Ok, Err}
 use Rattle.std.specs.List.{list_any}
 use Rattle.sb_value.specs.declared.value.Value.{Value}

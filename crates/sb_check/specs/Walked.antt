@@ -1,4 +1,4 @@
--- Walked conditions, operands and queries of the program as the walk's.
+-- Machine: walked conditions, operands and queries of the program as the walk's.
 use Rattle.std.specs.Prelude.{Box, List, ◌∷◌, Result, Ok}
 use Rattle.std.specs.Global.{Global}
 use Rattle.sb_value.specs.declared.refusal.Refusal.{Refusal}

@@ -1,4 +1,4 @@
--- What the program does, and what it tells on standard error.
+-- Promise: what the program does, and what it tells on standard error.
 use Rattle.std.specs.Prelude.{◌≡◌, ◌⊎◌, ◌++◌, ℕ, Bool, true, false, List, [], Option, Result, Ok, Err, codes}
 use Rattle.std.specs.Io.KnownBytes.{Appends, Keeps}
 use Rattle.sb_cell.specs.Tenants.{IsNew, Cell as ItsCell}

@@ -1,4 +1,4 @@
--- The lines of faults.
+-- Promise: the lines of faults.
 use Rattle.std.specs.Prelude.{ℕ, ◌≡◌, ◌⊎◌, List, ◌++◌, Option, Result, Ok, Err, codes, decimal}
 use Rattle.sb_command.specs.Does.{Tells}
 use Rattle.sb_wire.specs.Faults.{fault_line}

@@ -1,4 +1,4 @@
--- The line of words that aren't allowed.
+-- Promise: the line of words that aren't allowed.
 use Rattle.std.specs.Prelude.{ℕ, List, ◌++◌, codes}
 use Rattle.clap.specs.Words.{Text}
 use Rattle.sb_options.specs.declared.unfit.Part.{Part}

@@ -1,4 +1,4 @@
--- A connection: its first line names a session, and the lines behind that are its calls.
+-- Promise: a connection: its first line names a session, and the lines behind that are its calls.
 use Rattle.std.specs.Prelude.{◌≡◌, ◌<◌, ℕ, Bool, true, false, List, [], ◌∷◌, ◌++◌, map, flat_map, codes, Option, Some, None, option_and_then, option_map, Err}
 use Rattle.std.specs.Io.KnownBytes.{Appends, Consumes}
 use Rattle.sb_value.specs.declared.refusal.Refusal.TheVariants as refusal

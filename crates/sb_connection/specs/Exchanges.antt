@@ -1,4 +1,4 @@
--- The lines that a session is called with, what answers each, and the receipts that these give.
+-- Promise: the lines that a session is called with, what answers each, and the receipts that these give.
 use Rattle.std.specs.Prelude.{◌≡◌, ⊤, ℕ, Bool, true, false, List, [], ◌∷◌, ◌++◌, flat_map, codes}
 use Rattle.std.specs.List.{list_any}
 use Rattle.sb_tenant.specs.declared.reply.Answer.{Answer}

@@ -1,4 +1,4 @@
--- What a connection has received and handed out, however both were cut, and which lines it has answered.
+-- Machine: what a connection has received and handed out, however both were cut, and which lines it has answered.
 use Rattle.std.specs.Prelude.{◌≡◌, ◌⊎◌, ℕ, Bool, true, false, List, [], ◌++◌, take, drop, Option}
 use Rattle.sb_wire.specs.Lines.{Piece, complete_pieces, last_piece, open_line, piece_of}
 use Rattle.sb_host.specs.declared.stub.Stub.{Stub}

@@ -1,4 +1,4 @@
--- What holds of a connection between its steps.
+-- Machine: what holds of a connection between its steps.
 use Rattle.std.specs.Prelude.{◌≡◌, ℕ, Bool, true, false, List, [], ◌++◌, Option, None}
 use Rattle.sb_wire.specs.Lines.{Piece, last_piece, line, open_line, piece_of}
 use Rattle.sb_wire.specs.Responses.{AreAnswered}

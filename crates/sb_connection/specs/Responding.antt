@@ -1,4 +1,4 @@
--- How a connection answers one line.
+-- Machine: how a connection answers one line.
 use Rattle.std.specs.Prelude.{◌≡◌, ℕ, Bool, true, List, [], ◌∷◌, Option, Some, None, Ok, Err}
 use Rattle.sb_wire.specs.Lines.{Piece, line, too_long}
 use Rattle.sb_wire.specs.Output.{ended_lines}

@@ -1,4 +1,4 @@
--- Where a connection stands.
+-- Machine: where a connection stands.
 use Rattle.std.specs.Prelude.{Bool, true, false}
 use Rattle.sb_connection.specs.declared.state.State.{State}
 use Rattle.sb_connection.specs.declared.state.State.TheVariants.{Open}

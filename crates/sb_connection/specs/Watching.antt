@@ -1,4 +1,4 @@
--- What is told of connections.
+-- Machine: what is told of connections.
 use Rattle.std.specs.Prelude.{Bool, true, false}
 use Rattle.sb_connection.specs.declared.watch.Event.{Event}
 use Rattle.sb_connection.specs.declared.watch.Event.TheVariants.{Came, Attached, Closed, Left}

@@ -12,7 +12,7 @@ use Rattle.sb_tenant.specs.Trail.{after_entry, replayed, state_of}
 use Rattle.sb_tenant.specs.TrailLaws.{OthersStay}
 use Rattle.sb_cell.specs.Hosting.{entry_count}
 use Rattle.sb_cell.specs.Tenants.{Cell, IsSame, hosts, tenant_at, trail_of, trails}
-use Rattle.sb_desk.specs.Kept.{open_in}
+use Rattle.sb_desk.specs.Desks.{open_in}
 
 -- ---- one entry more
 

@@ -15,7 +15,8 @@ use Rattle.sb_cell.specs.declared.StepError.TheVariants.{NoTenant, NoSession, No
 use Rattle.sb_cell.specs.Events.{IsTurn}
 use Rattle.sb_cell.specs.Hosting.{entry_count}
 use Rattle.sb_cell.specs.Tenants.{AnswersBy, AnswersEvent, Cell, hosts, trails, states}
-use Rattle.sb_desk.specs.Kept.{IsDesk, Place, SeatAt, open_in}
+use Rattle.sb_desk.specs.Kept.{IsDesk, Place, SeatAt}
+use Rattle.sb_desk.specs.Desks.{open_in}
 use Rattle.sb_desk.specs.Receipts.{closes, is_end}
 use Rattle.sb_desk.specs.Seats.{IsSeat, SessionSeat, number_of}
 use Rattle.sb_desk.proofs.CellSteps.{beside, entries_by}

@@ -10,7 +10,8 @@ use Rattle.sb_tenant.specs.State.{session_at, is_open}
 use Rattle.sb_tenant.specs.Trail.{state_of}
 use Rattle.sb_cell.specs.Hosting.{entry_count}
 use Rattle.sb_cell.specs.Tenants.{Cell, IsNew, hosts, trail_of}
-use Rattle.sb_desk.specs.Kept.{AreDealt, IsDesk, Place, SeatAt, open_in}
+use Rattle.sb_desk.specs.Kept.{AreDealt, IsDesk, Place, SeatAt}
+use Rattle.sb_desk.specs.Desks.{open_in}
 use Rattle.sb_desk.specs.Seats.{SessionSeat, number_of}
 use Rattle.sb_desk.proofs.CellSteps.{at_place}
 

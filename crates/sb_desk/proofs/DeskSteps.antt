@@ -3,7 +3,8 @@ use Rattle.std.proofs.Common.{◌≡◌, ℕ, ◌+◌, ◌*◌, ◌/◌, ◌%◌
 use Rattle.std.proofs.lemmas.List.{get_or-set_same, get_or-set_other}
 use native.Mathlib.Decide.{ℕ_discrete}
 use Rattle.sb_cell.specs.Tenants.{Cell, IsSame, hosts, tenant_at, trails}
-use Rattle.sb_desk.specs.Kept.{IsDesk, Place, SeatAt, open_in}
+use Rattle.sb_desk.specs.Kept.{IsDesk, Place, SeatAt}
+use Rattle.sb_desk.specs.Desks.{open_in}
 use Rattle.sb_desk.specs.Seats.{SessionSeat, number_of}
 use Rattle.sb_desk.proofs.CellSteps.{same_hosts, other_open, entries_by, number_is}
 

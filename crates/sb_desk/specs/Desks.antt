@@ -1,16 +1,20 @@
--- What the three calls of a desk do: each is one step of the desk's cell, and the session gets exactly its answer.
+-- Promise: what the three calls of a desk do: each is one step of the desk's cell, and the session gets exactly its answer.
 use Rattle.std.specs.Prelude.{ℕ, ◌≡◌, true, false, nat_le, List, codes, Some, ◌⊎◌, Ok, Err}
 use Rattle.sb_tenant.specs.declared.reply.Answer.{Answer}
 use Rattle.sb_tenant.specs.declared.reply.Reply.TheVariants as told
 use Rattle.sb_tenant.specs.Limits.{trail_limit}
+use Rattle.sb_tenant.specs.State.{session_at, is_open}
 use Rattle.sb_cell.specs.declared.StepError.TheVariants as step
 use Rattle.sb_cell.specs.Tenants.{Cell, AnswersEvent, states}
 use Rattle.sb_desk.specs.declared.desk.AttachError.{AttachError}
 use Rattle.sb_desk.specs.declared.desk.AttachError.TheVariants as refused
 use Rattle.sb_desk.specs.declared.desk.CallError.{CallError}
 use Rattle.sb_desk.specs.declared.desk.CallError.TheVariants as call
-use Rattle.sb_desk.specs.Kept.{open_in}
 use Rattle.sb_desk.specs.Receipts.{Receipts, after, after_end, newcomer, numbered}
+
+-- the session of a tenant is open
+abbrev pub open_in : Cell → ℕ → ℕ → Bool
+open_in c t s = is_open (session_at (states c t) s)
 
 -- ---- a line
 

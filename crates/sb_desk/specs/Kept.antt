@@ -1,13 +1,13 @@
--- What holds of a session's receipts and of a desk at any time.
+-- Machine: what holds of a session's receipts and of a desk at any time.
 use Rattle.std.specs.Prelude.{ℕ, ◌+◌, ◌*◌, ◌/◌, ◌^◌, ◌≤◌, ◌<◌, ◌≡◌, ◌==◌, ◌&&◌, ◌%◌, nat_lt, Bool, true, false, List, length, slice_index_or, codes, Option, Some, None, IsTrue}
 use Rattle.atomic_table.specs.Seated.{TableId}
-use Rattle.sb_tenant.specs.State.{session_at, is_open}
 use Rattle.sb_cell.specs.Hosting.{entry_count}
-use Rattle.sb_cell.specs.Tenants.{Cell, hosts, states}
+use Rattle.sb_cell.specs.Tenants.{Cell, hosts}
 use Rattle.sb_desk.specs.declared.receipts.Newest.{Newest}
 use Rattle.sb_desk.specs.declared.receipts.Newest.TheVariants as newest
 use Rattle.sb_desk.specs.declared.receipts.Opening.{Opening}
 use Rattle.sb_desk.specs.declared.receipts.Receipt.{Receipt}
+use Rattle.sb_desk.specs.Desks.{open_in}
 use Rattle.sb_desk.specs.Seats.{SessionSeat, IsSeat, number_of}
 
 -- ---- receipts
@@ -50,10 +50,6 @@ SeatAt z n true (Some s) = ⊥
 SeatAt z n true None = Unit {0}
 SeatAt z n false (Some s) = IsSeat z n s
 SeatAt z n false None = ⊥
-
--- the session of a tenant is open
-abbrev pub open_in : Cell → ℕ → ℕ → Bool
-open_in c t s = is_open (session_at (states c t) s)
 
 -- its seat, among those of a desk
 abbrev pub seat_of : ℕ → List (Option SessionSeat) → ℕ → ℕ → Option SessionSeat

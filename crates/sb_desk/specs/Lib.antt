@@ -1,4 +1,4 @@
 pub mod Seats
 pub mod Receipts
-pub mod Kept
 pub mod Desks
+pub mod Kept

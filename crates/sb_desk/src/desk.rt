@@ -2,8 +2,8 @@
 //! closed sessions.
 ghost use Rattle.std.specs.Prelude.{◌≡◌, ◌+◌, ◌-◌, ◌*◌, ◌/◌, ◌<◌, ◌≤◌, ◌%◌, ◌^◌, ◌==◌, ◌&&◌, nat_lt, ℕ, [], ◌∷◌, length, true, false, Some, None, Ok, IsSome, IfOk, IfErr, OnErr, OnOk, codes};
 ghost use Rattle.sb_cell.specs.Tenants.{IsNew, hosts};
-ghost use Rattle.sb_desk.specs.Desks.{Admits, Enters, Leaves, Refuses, RefusesRightly};
-ghost use Rattle.sb_desk.specs.Kept.{AreDealt, open_in};
+ghost use Rattle.sb_desk.specs.Desks.{open_in, Admits, Enters, Leaves, Refuses, RefusesRightly};
+ghost use Rattle.sb_desk.specs.Kept.{AreDealt};
 
 use crate::naming::Naming;
 use crate::receipts::{Receipts, Room};

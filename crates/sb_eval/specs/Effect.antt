@@ -1,4 +1,4 @@
--- What a statement does to each row for which its condition is true.
+-- Machine: what a statement does to each row for which its condition is true.
 use Rattle.std.specs.Prelude.{ℕ, Bool, if◌then◌else◌, List, [], ◌∷◌, ◌++◌, Option, Some, option_map}
 use Rattle.sb_value.specs.declared.value.Value.{Value}
 use Rattle.sb_value.specs.declared.change.Change.{Change}

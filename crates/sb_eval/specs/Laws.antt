@@ -1,4 +1,4 @@
--- A law of statements: their changes can be made one after another.
+-- Promise: a law of statements: their changes can be made one after another.
 use Rattle.std.specs.Prelude.{◌≡◌, ◌≤◌, ◌<◌, ◌+◌, ℕ, List, [], ◌∷◌, length, IsTrue, Ok}
 use Rattle.sb_value.specs.declared.change.Change.{Change}
 use Rattle.sb_value.specs.declared.change.Kind.{Kind}

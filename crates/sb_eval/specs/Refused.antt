@@ -1,4 +1,4 @@
--- What a call answers, against the rows or the changes that are meant, or the refusal.
+-- Machine: what a call answers, against the rows or the changes that are meant, or the refusal.
 use Rattle.std.specs.Prelude.{◌≡◌, Result, Ok, Err}
 use Rattle.sb_value.specs.declared.refusal.Refusal.{Refusal}
 use Rattle.sb_value.specs.declared.refusal.Refusal.TheVariants as refusal

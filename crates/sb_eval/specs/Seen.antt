@@ -1,4 +1,4 @@
--- What a statement sees.
+-- Promise: what a statement sees.
 use Rattle.std.specs.Prelude.{List, []}
 use Rattle.sb_value.specs.declared.value.Value.{Value}
 use Rattle.sb_value.specs.declared.net.Transition.{Transition}

@@ -1,4 +1,4 @@
--- The meaning of a statement: its locks, then TooBig, Overflow or TooManyRows, in this order, or its rows or its changes.
+-- Promise: the meaning of a statement: its locks, then TooBig, Overflow or TooManyRows, in this order, or its rows or its changes.
 use Rattle.std.specs.Prelude.{ℕ, ◌+◌, ◌*◌, ◌^◌, Bool, ◌==◌, nat_lt, if◌then◌else◌, List, [], ◌∷◌, ◌++◌, map, filter_map, length, sum, slice_set, Option, Some, None, option_map, option_and_then, Result, Ok, Err}
 use Rattle.sb_value.specs.declared.value.Value.{Value}
 use Rattle.sb_value.specs.declared.change.Change.{Change}

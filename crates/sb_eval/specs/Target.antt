@@ -1,2 +1,2 @@
--- The table that a statement changes, and what it reads.
+-- Promise: the table that a statement changes, and what it reads.
 pub use Rattle.sb_check.specs.Mentions.{target, mentioned}

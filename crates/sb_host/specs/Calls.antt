@@ -1,4 +1,4 @@
--- What a session knows of its calls. The cell's part of the step is the contract of a desk's calls.
+-- Promise: what a session knows of its calls. The cell's part of the step is the contract of a desk's calls.
 use Rattle.std.specs.Prelude.{ℕ, ◌≡◌, ◌↔◌, ◌<◌, ◌≤◌, Bool, true, false, List, Option, Some, None, Result, Ok, Err}
 use Rattle.sb_value.specs.declared.refusal.Refusal.TheVariants.{TrailFull}
 use Rattle.sb_tenant.specs.declared.reply.Answer.{Answer}

@@ -1,4 +1,4 @@
--- The parts of the closing check.
+-- Machine: the parts of the closing check.
 use Rattle.std.specs.Prelude.{ℕ, ◌==◌, if◌then◌else◌, ◌∷◌, ◌/◌, ◌%◌, ◌≡◌, ◌<◌, ◌≤◌, Bool, MatchBool, List, [], length, take, Option, Some, None, Result, Ok, Err, Vec}
 use Rattle.std.specs.Global.{Global}
 use Rattle.std.specs.List.Sorted.{IsPermutation}

@@ -1,4 +1,4 @@
--- What the closing check compares, and what it answers.
+-- Promise: what the closing check compares, and what it answers.
 use Rattle.std.specs.Prelude.{ℕ, zero, suc, true, ◌+◌, ◌*◌, ◌≡◌, ◌<◌, ◌≤◌, ◌==◌, ◌&&◌, if◌then◌else◌, List, [], ◌∷◌, ◌++◌, length, Option, Some, None, Result, Ok, Err, Vec}
 use Rattle.std.specs.Global.{Global}
 use Rattle.std.specs.List.Sorted.{IsNonDecreasingBy, IsPermutation}

@@ -1,4 +1,4 @@
--- What a session is after a call that lends its answer.
+-- Machine: what a session is after a call that lends its answer.
 use Rattle.std.specs.Prelude.{ℕ, ◌≡◌, List, Result, Ok, Err}
 use denote.Ref.{Bor}
 use Rattle.sb_tenant.specs.declared.reply.Answer.{Answer}

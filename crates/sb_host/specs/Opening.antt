@@ -1,4 +1,4 @@
--- The parts of a host that has no name yet.
+-- Machine: the parts of a host that has no name yet.
 use Rattle.std.specs.Prelude.{ℕ, ◌+◌, ◌-◌, ◌*◌, List}
 use Rattle.atomic_table.specs.Seated.{TableId}
 use Rattle.sb_desk.specs.Seats.{from}

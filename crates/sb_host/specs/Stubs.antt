@@ -1,4 +1,4 @@
--- What a closed session leaves.
+-- Promise: what a closed session leaves.
 use Rattle.std.specs.Prelude.{ℕ, ◌≡◌, true, false, codes, [], ◌∷◌, ◌++◌}
 use Rattle.sb_tenant.specs.declared.reply.Reply.TheVariants as told
 use Rattle.sb_desk.specs.Receipts.{numbered, receipt}

@@ -1,4 +1,4 @@
--- What triggers a rule: an insert, a delete, an update of any column or an update of one column.
+-- Promise: what triggers a rule: an insert, a delete, an update of any column or an update of one column.
 use Rattle.std.specs.Prelude.{ℕ, Bool, ◌&&◌, nat_lt, List, [], ◌∷◌}
 use Rattle.sb_value.specs.Flags.{flag_at}
 use Rattle.sb_value.specs.declared.net.Triggers.{Triggers}

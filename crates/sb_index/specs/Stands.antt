@@ -1,4 +1,4 @@
--- Which rules stand in an index: under which tenant, table and operation.
+-- Promise: which rules stand in an index: under which tenant, table and operation.
 use Rattle.std.specs.Prelude.{◌≡◌, ℕ, Bool, not, ◌&&◌, ◌||◌, ◌==◌, nat_lt, List, [], map, slice_index_or}
 use Rattle.sb_value.specs.Flags.{flag_at}
 use Rattle.sb_value.specs.Laws.{kind_triggers}

@@ -1,4 +1,4 @@
--- The rules of one table, as sets.
+-- Promise: the rules of one table, as sets.
 use Rattle.std.specs.Prelude.{Bool, List}
 
 -- those that an insert triggers, a delete, an update of any column, and an update of each column

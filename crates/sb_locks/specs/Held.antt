@@ -1,4 +1,4 @@
--- The holders of a tenant's tables, as words with a bit for each session.
+-- Machine: the holders of a tenant's tables, as words with a bit for each session.
 use Rattle.std.specs.Prelude.{◌≡◌, ℕ, Bool, ◌&&◌, ◌||◌, ◌==◌, List, slice_index}
 use Rattle.std.specs.Int.{bit_at}
 use Rattle.sb_value.specs.Locks.{Locks, same_mode}

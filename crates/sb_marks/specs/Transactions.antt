@@ -1,4 +1,4 @@
--- What a tenant keeps of its sessions' transactions beside their changes.
+-- Promise: what a tenant keeps of its sessions' transactions beside their changes.
 use Rattle.std.specs.Prelude.{◌≡◌, ◌≤◌, ℕ, Bool, false, ◌==◌, if◌then◌else◌, List, [], slice_index, slice_index_or}
 use Rattle.sb_value.specs.Flags.{flag_at}
 use Rattle.sb_marks.specs.declared.times.Times.{Times}

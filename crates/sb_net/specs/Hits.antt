@@ -1,4 +1,4 @@
--- Which tuples trigger a rule.
+-- Machine: which tuples trigger a rule.
 use Rattle.std.specs.Prelude.{ℕ, Bool, ◌&&◌, List}
 use Rattle.std.specs.List.{list_any}
 use Rattle.sb_value.specs.Laws.{kind_triggers}

@@ -1,4 +1,4 @@
--- The changes that a scope names.
+-- Machine: the changes that a scope names.
 use Rattle.std.specs.Prelude.{List}
 use Rattle.sb_value.specs.declared.change.Change.{Change}
 use Rattle.sb_value.specs.declared.change.Kind.{Kind}

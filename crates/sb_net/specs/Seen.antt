@@ -1,4 +1,4 @@
--- A net effect with borrowed rows, as a contract sees it.
+-- Machine: a net effect with borrowed rows, as a contract sees it.
 use Rattle.sb_value.specs.declared.net.Net.{Net}
 use Rattle.sb_value.specs.declared.net.Net.TheVariants as net
 use Rattle.sb_net.specs.declared.effect.NetOf.{NetOf}

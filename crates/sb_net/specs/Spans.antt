@@ -1,4 +1,4 @@
--- The first and the last of a list of changes, and where a walk ends.
+-- Machine: the first and the last of a list of changes, and where a walk ends.
 use Rattle.std.specs.Prelude.{◌≡◌, List, [], ◌∷◌, ◌++◌, Option, Some, MatchOption}
 use Rattle.sb_value.specs.NetEffect.{last_of}
 use Rattle.sb_value.specs.declared.change.Change.{Change}

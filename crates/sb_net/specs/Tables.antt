@@ -1,4 +1,4 @@
--- A rule's transition tables, net effect by net effect.
+-- Machine: a rule's transition tables, net effect by net effect.
 use Rattle.std.specs.Prelude.{List, ◌++◌, filter_map, option_to_list, Option}
 use Rattle.sb_value.specs.NetEffect.{inserted_row, deleted_row, old_updated_row, new_updated_row}
 use Rattle.sb_value.specs.declared.net.Net.{Net}

@@ -1,4 +1,4 @@
--- The texts of a command line.
+-- Promise: the texts of a command line.
 use Rattle.std.specs.Prelude.{Option, option_map}
 use Rattle.std.specs.Borrow.{Bor}
 use Rattle.clap.specs.Words.{Text}

@@ -1,4 +1,4 @@
--- Which part of a command line isn't allowed.
+-- Promise: which part of a command line isn't allowed.
 use Rattle.std.specs.Prelude.{◌≡◌, ◌≢◌, ◌⊎◌, ℕ, List, [], ◌∷◌, Option, Some, None}
 use Rattle.clap.specs.Words.{Text}
 use Rattle.sb_options.specs.Asking.{IsGiven, IsNumber, IsReplay, IsRun, IsServe}

@@ -1,4 +1,4 @@
--- The ranges of what is asked for.
+-- Promise: the ranges of what is asked for.
 use Rattle.std.specs.Prelude.{◌≤◌, ⊤}
 use Rattle.sb_options.specs.declared.request.Hosting.{Hosting}
 use Rattle.sb_options.specs.declared.request.Request.{Request}

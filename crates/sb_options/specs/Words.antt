@@ -1,4 +1,4 @@
--- What the words of a command line ask for.
+-- Machine: what the words of a command line ask for.
 use Rattle.std.specs.Prelude.{◌≡◌, ◌≢◌, List, [], codes, true, Some}
 use Rattle.clap.specs.Words.{App, IsAmong, Row, Rule, Text, fault_of, first_of, matches_of, new_app, new_rule, with_rule}
 use Rattle.clap.specs.declared.builder.action.ArgAction.TheVariants.{SetTrue}

@@ -1,4 +1,4 @@
--- What a pool does with a job: one call of its session.
+-- Machine: what a pool does with a job: one call of its session.
 use Rattle.std.specs.Prelude.{ℕ, List, Result, Ok, Err}
 use Rattle.sb_tenant.specs.declared.reply.Answer.{Answer}
 use Rattle.sb_desk.specs.declared.desk.CallError.{CallError}

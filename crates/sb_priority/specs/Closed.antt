@@ -1,4 +1,4 @@
--- Pairs of rules and their transitive closure, as rows of flags.
+-- Promise: pairs of rules and their transitive closure, as rows of flags.
 use Rattle.std.specs.Prelude.{◌≡◌, ℕ, zero, suc, Bool, false, ◌&&◌, ◌||◌, ◌==◌, if◌then◌else◌, List, [], ◌∷◌, ◌++◌, slice_index_or}
 use Rattle.std.specs.List.{list_any}
 use Rattle.sb_value.specs.Flags.{flag_at}

@@ -1,4 +1,4 @@
--- Rules in order of creation, kept as the first places of an array beside the set of them and the place of each.
+-- Machine: rules in order of creation, kept as the first places of an array beside the set of them and the place of each.
 use Rattle.std.specs.Prelude.{◌≡◌, ◌≤◌, ◌<◌, ℕ, Bool, false, ◌==◌, List, length, take, slice_index}
 use Rattle.std.specs.List.{list_any}
 use Rattle.sb_value.specs.Flags.{flag_at}

@@ -1,4 +1,4 @@
--- An order of rules, and the pairs that it stands for.
+-- Promise: an order of rules, and the pairs that it stands for.
 use Rattle.std.specs.Prelude.{◌≡◌, ◌<◌, ℕ, Bool, IsTrue, length, true, false, not, ◌&&◌, ◌||◌, ◌==◌, nat_lt, if◌then◌else◌, List, ◌++◌, map, filter, Option, Some, MatchOption, slice_get}
 use Rattle.std.specs.List.{list_any}
 use Rattle.sb_value.specs.Flags.{flag_at}

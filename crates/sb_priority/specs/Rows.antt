@@ -1,4 +1,4 @@
--- Rows of pairs and of ways of pairs, one for each rule.
+-- Machine: rows of pairs and of ways of pairs, one for each rule.
 use Rattle.std.specs.Prelude.{◌≡◌, ◌≤◌, ℕ, Bool, List, [], map, length, slice_index_or}
 use Rattle.sb_value.specs.Flags.{flag_at}
 use Rattle.sb_value.specs.Limits.{rule_limit}

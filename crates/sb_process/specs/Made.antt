@@ -1,4 +1,4 @@
--- The tables in memory of a tenant, against those that a transaction began with.
+-- Machine: the tables in memory of a tenant, against those that a transaction began with.
 use Rattle.std.specs.Prelude.{◌≡◌, ℕ, ◌<◌, ◌==◌, if◌then◌else◌, List, [], ◌∷◌, map, IsFalse}
 use Rattle.sb_value.specs.declared.change.Change.{Change}
 use Rattle.sb_value.specs.Table.{Entry, IsProper}

@@ -1,4 +1,4 @@
--- Processing of a set of eligible rules with at most n considerations.
+-- Promise: processing of a set of eligible rules with at most n considerations.
 use Rattle.std.specs.Prelude.{ℕ, zero, suc, Bool, List, [], ◌∷◌, Some, None}
 use Rattle.sb_value.specs.declared.refusal.Verdict.{Verdict}
 use Rattle.sb_value.specs.declared.refusal.Verdict.TheVariants as verdict

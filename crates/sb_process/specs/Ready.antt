@@ -1,4 +1,4 @@
--- Changes that are ready to be made: nothing of them needs memory any more.
+-- Machine: changes that are ready to be made: nothing of them needs memory any more.
 use Rattle.std.specs.Prelude.{◌≡◌, ◌⊎◌, ℕ, List, [], ◌∷◌, map, Result, Err, IsTrue}
 use Rattle.sb_value.specs.declared.change.Change.{Change}
 use Rattle.sb_value.specs.declared.id.Who.{Who}

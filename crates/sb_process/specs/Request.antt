@@ -1,4 +1,4 @@
--- A session's statement with all its locks asked for at once.
+-- Machine: a session's statement with all its locks asked for at once.
 use Rattle.std.specs.Prelude.{◌≡◌, ◌⊎◌, ℕ, List, [], ◌∷◌, Some, None, Result, Err, IsTrue, option_map}
 use Rattle.sb_value.specs.declared.value.Value.{Value}
 use Rattle.sb_value.specs.declared.lock.Mode.{Mode}

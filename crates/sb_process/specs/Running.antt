@@ -1,4 +1,4 @@
--- What the consideration of a rule comes to in memory.
+-- Machine: what the consideration of a rule comes to in memory.
 use Rattle.std.specs.Prelude.{◌≡◌, ℕ, Bool, true, false, List, [], ◌∷◌, ◌++◌, Option, Some, None, Result, Ok, Err}
 use Rattle.sb_value.specs.declared.value.Value.{Value}
 use Rattle.sb_value.specs.declared.lock.Mode.{Mode}

@@ -1,4 +1,4 @@
--- What rule processing works on.
+-- Promise: what rule processing works on.
 use Rattle.std.specs.Prelude.{ℕ, List, drop, map, filter, Bool, ◌&&◌, ◌==◌, if◌then◌else◌, length, Option, find, option_and_then}
 use Rattle.sb_value.specs.declared.change.Change.{Change}
 use Rattle.sb_value.specs.declared.net.Transition.{Transition}

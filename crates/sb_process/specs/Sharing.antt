@@ -1,4 +1,4 @@
--- Tables that several transactions change, each of them by one at most.
+-- Machine: tables that several transactions change, each of them by one at most.
 use Rattle.std.specs.Prelude.{◌≡◌, ℕ, Bool, ◌==◌, if◌then◌else◌, List, [], ◌∷◌, ◌++◌, map, filter, IsFalse}
 use Rattle.sb_value.specs.declared.change.Change.{Change}
 use Rattle.sb_value.specs.Table.{after_all}

@@ -1,4 +1,4 @@
--- A statement of a session, or of a rule with its transition tables: its changes, what stands after it, and its answer.
+-- Machine: a statement of a session, or of a rule with its transition tables: its changes, what stands after it, and its answer.
 use Rattle.std.specs.Prelude.{◌≡◌, ◌⊎◌, ℕ, ◌≤◌, ◌+◌, List, ◌++◌, length, Result, Ok, Err}
 use Rattle.sb_value.specs.declared.change.Change.{Change}
 use Rattle.sb_value.specs.declared.net.Transition.{Transition}

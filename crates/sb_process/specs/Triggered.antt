@@ -1,4 +1,4 @@
--- Which rules a session's changes trigger, as memory and the log have them.
+-- Machine: which rules a session's changes trigger, as memory and the log have them.
 use Rattle.std.specs.Prelude.{◌≡◌, IsFalse, ℕ, Bool, true, false, ◌&&◌, List, [], ◌∷◌, Option, Some, None}
 use Rattle.sb_value.specs.declared.id.Who.{Who}
 use Rattle.sb_value.specs.Flags.{flag_at}

@@ -1,4 +1,4 @@
--- What a statement sees of the tables in memory.
+-- Machine: what a statement sees of the tables in memory.
 use Rattle.std.specs.Prelude.{List, []}
 use Rattle.sb_value.specs.declared.value.Value.{Value}
 use Rattle.sb_check.specs.declared.tree.Source.{Source}

@@ -1,4 +1,4 @@
--- What processing works on, and what it leaves.
+-- Machine: what processing works on, and what it leaves.
 use Rattle.std.specs.Prelude.{◌≡◌, ◌≤◌, ℕ, Bool, IsTrue, List, [], ◌∷◌, length, Option, Some, None}
 use Rattle.sb_value.specs.declared.refusal.Verdict.{Verdict}
 use Rattle.sb_check.specs.Condition.{Query}

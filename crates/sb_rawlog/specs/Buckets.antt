@@ -1,4 +1,4 @@
--- Which list a change is in: of each kind of list, that of its bucket, which what the list's walks look for decides.
+-- Machine: which list a change is in: of each kind of list, that of its bucket, which what the list's walks look for decides.
 use Rattle.std.specs.Prelude.{ℕ, ◌+◌, ◌*◌, ◌/◌, ◌%◌, ◌^◌, List, Option}
 use Rattle.sb_value.specs.declared.change.Kind.{Kind}
 use Rattle.sb_value.specs.declared.change.Kind.TheVariants.{Inserted, Deleted, Updated}

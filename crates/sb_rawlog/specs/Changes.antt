@@ -1,4 +1,4 @@
--- Whose change it is, and of what.
+-- Promise: whose change it is, and of what.
 use Rattle.std.specs.Prelude.{ℕ, Bool, true, false, ◌&&◌, ◌==◌}
 use Rattle.sb_value.specs.NetEffect.{is_of}
 use Rattle.sb_value.specs.declared.id.Who.{Who}

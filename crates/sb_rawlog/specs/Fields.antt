@@ -1,4 +1,4 @@
--- What holds of the fields of a log in places.
+-- Machine: what holds of the fields of a log in places.
 use Rattle.std.specs.Prelude.{◌≡◌, ℕ, ◌+◌, ◌≤◌, List, length, vec_capacity}
 use Rattle.sb_rawlog.specs.Logs.{shown}
 use Rattle.sb_rawlog.specs.declared.raw.RawLog.TheInside.{Inside}

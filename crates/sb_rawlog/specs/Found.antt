@@ -1,4 +1,4 @@
--- What is true of the fields of a plain log.
+-- Machine: what is true of the fields of a plain log.
 use Rattle.std.specs.Prelude.{◌≡◌, ℕ, ◌<◌, Bool, true, List, ◌∷◌, Some, length, slice_get}
 use Rattle.sb_value.specs.declared.change.Change.{Change}
 use Rattle.sb_rawlog.specs.Records.{Record, walk, before, change_at}

@@ -1,4 +1,4 @@
--- Where the lists of a log in places begin, as the code keeps it.
+-- Machine: where the lists of a log in places begin, as the code keeps it.
 use Rattle.std.specs.Prelude.{ℕ, List, length, get_or, slice_set, Option, Some, None}
 use Rattle.sb_value.specs.declared.change.Change.{Change}
 use Rattle.sb_rawlog.specs.declared.heads.Heads.{Heads}

@@ -1,4 +1,4 @@
--- What a walk looks for.
+-- Machine: what a walk looks for.
 use Rattle.std.specs.Prelude.{Bool}
 use Rattle.sb_value.specs.declared.change.Change.{Change}
 use Rattle.sb_rawlog.specs.Changes.{is_by, is_op, is_tuple}

@@ -1,4 +1,4 @@
--- Chains of places, from the newest to the oldest.
+-- Machine: chains of places, from the newest to the oldest.
 use Rattle.std.specs.Prelude.{◌≡◌, ℕ, ◌<◌, not, ◌==◌, ◌⊎◌, List, [], ◌∷◌, length, get_or, set, Option, Some, None}
 use Rattle.std.specs.List.{filter}
 use Rattle.sb_rawlog.specs.declared.node.Which.{Which}

@@ -1,4 +1,4 @@
--- A log in places: the places in use from the newest to the oldest, and the chains that hold them by bucket.
+-- Machine: a log in places: the places in use from the newest to the oldest, and the chains that hold them by bucket.
 use Rattle.std.specs.Prelude.{ℕ, zero, suc, ◌<◌, ◌==◌, List, [], ◌∷◌, ◌++◌, length, map, get_or, Option, Some, None}
 use Rattle.std.specs.List.{filter}
 use Rattle.sb_arena.specs.Places.{somes}

@@ -1,4 +1,4 @@
--- A log in places as a contract sees it.
+-- Machine: a log in places as a contract sees it.
 use Rattle.std.specs.Prelude.{◌≡◌, ℕ, List, get_or, Option, Some, None}
 use Rattle.sb_value.specs.declared.change.Change.{Change}
 use Rattle.sb_rawlog.specs.Logs.{contents}

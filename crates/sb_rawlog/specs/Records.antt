@@ -1,4 +1,4 @@
--- A log as a list of changes, each with its time, oldest first.
+-- Promise: a log as a list of changes, each with its time, oldest first.
 use Rattle.std.specs.Prelude.{ℕ, ◌+◌, ◌≤◌, Bool, not, ◌&&◌, ◌==◌, nat_lt, nat_le, List, [], ◌∷◌, reverse, Option}
 use mathlib.Core.HLevel.{×_prop}
 use native.Mathlib.Bridge.{le_prop}

@@ -1,4 +1,4 @@
--- What a walk along a list of a log in places finds.
+-- Machine: what a walk along a list of a log in places finds.
 use Rattle.std.specs.Prelude.{◌≡◌, ℕ, Bool, true, ◌&&◌, nat_le, List, [], ◌∷◌, get_or, Option, Some, None, MatchOption}
 use Rattle.std.specs.List.{filter}
 use Rattle.sb_value.specs.declared.change.Change.{Change}

@@ -1,4 +1,4 @@
--- What a step of a walk answers.
+-- Machine: what a step of a walk answers.
 use Rattle.std.specs.Prelude.{◌≡◌, ℕ, Bool, List, [], ◌∷◌, ◌++◌, Option, Some, None}
 use Rattle.std.specs.Borrow.{Bor}
 use Rattle.sb_value.specs.declared.id.Who.{Who}

@@ -1,4 +1,4 @@
--- A session that has its tenant for itself is told what the one-tenant engine tells it.
+-- Promise: a session that has its tenant for itself is told what the one-tenant engine tells it.
 use Rattle.std.specs.Prelude.{◌≡◌, ◌<◌, ⊤, ℕ, ◌==◌, if◌then◌else◌, false, List, [], ◌∷◌, ◌++◌, flat_map, codes, Result, Ok, Err}
 use Rattle.std.specs.List.{AllByRecursion}
 use Rattle.sb_value.specs.declared.refusal.Refusal.TheVariants.{NoMemory}

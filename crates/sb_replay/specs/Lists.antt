@@ -1,4 +1,4 @@
--- Lists that go side by side.
+-- Promise: lists that go side by side.
 use Rattle.std.specs.Prelude.{◌≡◌, ℕ, ◌+◌, List, [], ◌∷◌, ◌++◌, ⊤}
 
 -- two lists of one length, place by place, from the place k on

@@ -1,4 +1,4 @@
--- The parts of a replay, one for each session of a host in the order of their ranks, from the first round to the last.
+-- Promise: the parts of a replay, one for each session of a host in the order of their ranks, from the first round to the last.
 use Rattle.std.specs.Prelude.{◌≡◌, ⊤, ℕ, zero, suc, ◌+◌, ◌/◌, ◌%◌, List, [], ◌∷◌, ◌++◌, Option, Some, None, Result, Vec}
 use Rattle.std.specs.Global.{Global}
 use Rattle.std.specs.List.{AllZip}

@@ -1,4 +1,4 @@
--- What becomes of one session: it is opened, called with its commands one after another, and closed.
+-- Promise: what becomes of one session: it is opened, called with its commands one after another, and closed.
 use Rattle.std.specs.Prelude.{◌≡◌, ◌≤◌, ℕ, Bool, true, false, List, [], ◌∷◌, map, flat_map, decimal, Option, Some, None, Result, Ok, Err}
 use Rattle.std.specs.List.{AllByRecursion, list_any}
 use Rattle.sb_value.specs.declared.refusal.Refusal.TheVariants as refusal

@@ -1,4 +1,4 @@
--- A sheet: what a session is still to be called with, and what it was answered.
+-- Promise: a sheet: what a session is still to be called with, and what it was answered.
 use Rattle.std.specs.Prelude.{◌≡◌, ℕ, ◌||◌, Bool, false, List, [], ◌∷◌, ◌++◌, map, Option, Some, None, Result, Ok, Err, Vec}
 use Rattle.std.specs.Global.{Global}
 use Rattle.sb_tenant.specs.declared.reply.Answer.{Answer}

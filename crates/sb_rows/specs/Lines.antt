@@ -1,4 +1,4 @@
--- Rows that have ended, and the values of a row that is open.
+-- Promise: rows that have ended, and the values of a row that is open.
 use Rattle.std.specs.Prelude.{List, [], ◌∷◌, ◌++◌}
 use Rattle.sb_value.specs.declared.value.Value.{Value}
 

@@ -1,4 +1,4 @@
--- Rows read back from their text, byte by byte. A comma or a newline within quotes is part of a text.
+-- Promise: rows read back from their text, byte by byte. A comma or a newline within quotes is part of a text.
 use Rattle.std.specs.Prelude.{◌≡◌, ℕ, Bool, true, false, not, ◌==◌, if◌then◌else◌, List, [], ◌∷◌, ◌++◌, length, Result, Ok, Err, pos}
 use Rattle.std.specs.List.{fold}
 use Rattle.sb_value.specs.declared.value.Value.{Value}

@@ -1,4 +1,4 @@
--- The text of rows: a line for each, with a comma between its values.
+-- Promise: the text of rows: a line for each, with a comma between its values.
 use Rattle.std.specs.Prelude.{◌≡◌, ℕ, Bool, true, not, ◌==◌, if◌then◌else◌, List, [], ◌∷◌, ◌++◌, length, map, take, flat_map}
 use Rattle.std.specs.List.{list_all, join_with_byte}
 use Rattle.sb_value.specs.declared.value.Value.{Value}

@@ -1,4 +1,4 @@
--- Rulesets have names of their own.
+-- Machine: rulesets have names of their own.
 use Rattle.std.specs.Prelude.{List, [], ◌∷◌, IsFalse}
 use Rattle.std.specs.List.{list_any}
 use Rattle.sb_value.specs.Name.{same_name}

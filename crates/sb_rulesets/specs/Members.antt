@@ -1,4 +1,4 @@
--- A set of rules, as a flag for each, with rules added or taken.
+-- Promise: a set of rules, as a flag for each, with rules added or taken.
 use Rattle.std.specs.Prelude.{ℕ, Bool, not, ◌&&◌, ◌||◌, ◌==◌, List, map}
 use Rattle.std.specs.List.{list_any, enumerate_from}
 

@@ -1,4 +1,4 @@
--- A ruleset.
+-- Promise: a ruleset.
 use Rattle.std.specs.Prelude.{ℕ, Bool, List}
 
 -- a set of rules, as a flag for each, and the name that it is processed by

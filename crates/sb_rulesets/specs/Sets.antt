@@ -1,4 +1,4 @@
--- Rulesets in order of creation.
+-- Promise: rulesets in order of creation.
 use Rattle.std.specs.Prelude.{ℕ, Bool, not, false, nat_le, if◌then◌else◌, List, [], ◌∷◌, ◌++◌, length, map, filter, find, Option, Some, None, option_map, slice_set}
 use Rattle.std.specs.List.{list_any}
 use Rattle.sb_value.specs.Flags.{no_flags}

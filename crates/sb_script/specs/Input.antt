@@ -1,4 +1,4 @@
--- What an input asks of a host: each of its lines is a command for one of the host's sessions.
+-- Promise: what an input asks of a host: each of its lines is a command for one of the host's sessions.
 use Rattle.std.specs.Prelude.{◌≡◌, ◌⊎◌, ◌<◌, ◌≤◌, ℕ, ◌+◌, ◌*◌, ◌==◌, ◌&&◌, nat_lt, if◌then◌else◌, List, [], ◌∷◌, ◌++◌, length, map, flat_map, Option, Some, None}
 use Rattle.sb_tenant.specs.Limits.{is_session, session_count}
 use Rattle.sb_wire.specs.Lines.{Addressed, Piece, line, too_long, addressed_of, pieces_of}

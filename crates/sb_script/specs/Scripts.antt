@@ -1,4 +1,4 @@
--- The commands of an input, gathered by session while it is read.
+-- Promise: the commands of an input, gathered by session while it is read.
 use Rattle.std.specs.Prelude.{◌≡◌, ◌⊎◌, ⊤, ◌+◌, ◌*◌, ◌<◌, ◌≤◌, ℕ, Bool, false, List, [], ◌++◌, get_or, length, map, Option, None, Some, Result, Ok, Err, Vec}
 use Rattle.std.specs.Global.{Global}
 use Rattle.std.specs.Io.KnownBytes.{IsAtEnd}

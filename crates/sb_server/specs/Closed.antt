@@ -1,4 +1,4 @@
--- What connections leave.
+-- Machine: what connections leave.
 use Rattle.std.specs.Prelude.{◌≡◌, List, ◌++◌, IfSome, Option, Some, Vec}
 use Rattle.std.specs.Global.{Global}
 use Rattle.std.specs.List.{All}

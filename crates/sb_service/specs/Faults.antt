@@ -1,4 +1,4 @@
--- What the faults of hosts are told as.
+-- Promise: what the faults of hosts are told as.
 use Rattle.sb_wire.specs.declared.fault.StreamError.TheVariants as stream
 use Rattle.sb_host.specs.declared.finish.FinishError.{FinishError}
 use Rattle.sb_host.specs.declared.finish.FinishError.TheVariants as finish

@@ -1,4 +1,4 @@
--- What a server tells in its last line.
+-- Promise: what a server tells in its last line.
 use Rattle.std.specs.Prelude.{ℕ, ◌≡◌, ◌++◌, List, length, codes, decimal, Vec}
 use Rattle.std.specs.Global.{Global}
 use Rattle.sb_tenant.specs.declared.reply.Entry.{Entry}

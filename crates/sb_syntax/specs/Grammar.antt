@@ -1,4 +1,4 @@
--- The grammar. `IsX x ts rest` says that the tokens of ts up to rest spell x.
+-- Promise: the grammar. `IsX x ts rest` says that the tokens of ts up to rest spell x.
 use Rattle.std.specs.Prelude.{◌≤◌, ◌<◌, ◌^◌, ℕ, suc, pos, Bool, true, false, List, [], ◌∷◌, length, Option, Some, None}
 use Rattle.std.specs.List.{AllPass}
 use Rattle.sb_value.specs.Printable.{is_printable}

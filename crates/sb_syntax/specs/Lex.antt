@@ -1,4 +1,4 @@
--- The tokens of a text: the bytes of each kind, and when a text is made of tokens and spaces.
+-- Promise: the tokens of a text: the bytes of each kind, and when a text is made of tokens and spaces.
 use Rattle.std.specs.Prelude.{◌≡◌, ◌≤◌, ℕ, ◌+◌, Bool, true, false, ◌&&◌, ◌||◌, ◌==◌, nat_le, if◌then◌else◌, List, [], ◌∷◌, ◌++◌, length, take, drop, codes, Option, Some, None, is_some}
 use Rattle.std.specs.Str.{bytes_eq}
 use Rattle.sb_value.specs.Printable.{is_printable}

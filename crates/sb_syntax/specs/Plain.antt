@@ -1,4 +1,4 @@
--- Bytes that stand for themselves in a text.
+-- Promise: bytes that stand for themselves in a text.
 use Rattle.std.specs.Prelude.{ℕ, Bool, not, ◌==◌, ◌&&◌}
 use Rattle.sb_value.specs.Printable.{is_printable}
 

@@ -1,4 +1,4 @@
--- Reading, as functions on tokens. Each answers what it read and the tokens after it, or None.
+-- Promise: reading, as functions on tokens. Each answers what it read and the tokens after it, or None.
 use Rattle.std.specs.Prelude.{◌≡◌, ◌≤◌, ℕ, zero, suc, ◌^◌, Bool, true, false, List, [], ◌∷◌, ◌++◌, length, Option, Some, None, Result, Ok, Err, nat_lt, nat_le, if◌then◌else◌, pos, ◌&&◌}
 use Rattle.std.specs.List.{list_all}
 use Rattle.sb_value.specs.Printable.{is_printable}

@@ -1,4 +1,4 @@
--- Cutting a text into tokens, as functions.
+-- Promise: cutting a text into tokens, as functions.
 use Rattle.std.specs.Prelude.{ℕ, zero, suc, ◌+◌, ◌-◌, ◌==◌, nat_le, if◌then◌else◌, List, [], ◌∷◌, take, drop, Option, Some, None, option_map}
 use Rattle.std.specs.List.{prefix_len}
 use Rattle.sb_value.specs.Printable.{is_printable}

@@ -1,4 +1,4 @@
--- Texts and commands.
+-- Promise: texts and commands.
 use Rattle.std.specs.Prelude.{◌≡◌, ◌≤◌, ◌<◌, ◌^◌, ℕ, pos, negsuc, List, [], length, Option, Some, None, Result, Ok, Err}
 use Rattle.std.specs.List.{AllPass}
 use Rattle.sb_value.specs.Literal.{value_text}

@@ -1,4 +1,4 @@
--- Commands as trees, with their names unresolved and without where they lie in memory.
+-- Promise: commands as trees, with their names unresolved and without where they lie in memory.
 use Rattle.std.specs.Prelude.{ℕ, Bool, List, Option}
 use Rattle.sb_value.specs.declared.value.Value.{Value}
 use Rattle.sb_value.specs.declared.value.ColumnDefinition.{ColumnDefinition}

@@ -1,4 +1,4 @@
--- What a loop that reads one item a turn keeps.
+-- Machine: what a loop that reads one item a turn keeps.
 use Rattle.std.specs.Prelude.{◌≡◌, ◌≤◌, ℕ, length, Option}
 use Rattle.sb_syntax.specs.Input.{Input}
 use Rattle.sb_syntax.specs.Reading.{Reader, Joins, chain}

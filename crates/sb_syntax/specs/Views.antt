@@ -1,4 +1,4 @@
--- The tree that a value of the program stands for.
+-- Promise: the tree that a value of the program stands for.
 use Rattle.std.specs.Prelude.{map, option_map, Option, None, Some}
 use Rattle.sb_syntax.specs.declared.tree.Expression.{Expression as Stored, Literal, Column, Binary'}
 use Rattle.sb_syntax.specs.declared.tree.Items.{Items}

@@ -1,4 +1,4 @@
--- Names with numbers, and a slot for each number.
+-- Machine: names with numbers, and a slot for each number.
 use Rattle.std.specs.Prelude.{◌≡◌, ℕ, ◌==◌, if◌then◌else◌, List, [], slice_get, unwrap_or, Option, Some, None, is_some}
 use Rattle.std.specs.List.{list_any}
 use Rattle.sb_tables.specs.Stored.{Stored}

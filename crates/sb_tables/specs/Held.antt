@@ -1,4 +1,4 @@
--- A tenant's tables in memory, in order of creation.
+-- Machine: a tenant's tables in memory, in order of creation.
 use Rattle.std.specs.Prelude.{◌≡◌, ℕ, ◌-◌, Bool, not, ◌==◌, max, if◌then◌else◌, List, [], ◌∷◌, ◌++◌, map, filter, find, Option, Some, option_map, unwrap_or}
 use Rattle.std.specs.List.{list_any}
 use Rattle.sb_value.specs.declared.value.Value.{Value}

@@ -1,4 +1,4 @@
--- Laws of stored tables, as statements.
+-- Machine: laws of stored tables, as statements.
 use Rattle.std.specs.Prelude.{◌≡◌, Contains}
 use Rattle.sb_value.specs.Table.{Table, fits_kind}
 use Rattle.sb_value.specs.declared.change.Change.{Change}

@@ -1,4 +1,4 @@
--- Rising numbers.
+-- Machine: rising numbers.
 use Rattle.std.specs.Prelude.{◌≡◌, ℕ, ◌+◌, ◌<◌, ◌≤◌, List, [], ◌∷◌, length, take, drop, slice_index}
 
 -- the numbers rise, from low on, and stay below high

@@ -1,4 +1,4 @@
--- What the slots of a table hold.
+-- Machine: what the slots of a table hold.
 use Rattle.std.specs.Prelude.{◌≡◌, ℕ, ◌+◌, ◌≤◌, if◌then◌else◌, List, [], ◌∷◌, length, map}
 use Rattle.sb_value.specs.declared.value.Value.{Value}
 use Rattle.sb_tables.specs.declared.slot.Slot.{Slot}

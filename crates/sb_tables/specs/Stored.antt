@@ -1,4 +1,4 @@
--- A table in memory.
+-- Machine: a table in memory.
 use Rattle.std.specs.Prelude.{◌≡◌, ℕ, ◌+◌, ◌==◌, nat_lt, not, if◌then◌else◌, List, [], ◌∷◌, ◌++◌, map, filter, IsTrue}
 use Rattle.std.specs.List.{list_any}
 use Rattle.sb_value.specs.declared.value.Value.{Value}

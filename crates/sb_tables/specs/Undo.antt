@@ -1,4 +1,4 @@
--- Undoing the newest change of a table.
+-- Machine: undoing the newest change of a table.
 use Rattle.std.specs.Prelude.{◌≡◌, ℕ, ◌+◌, List, [], ◌∷◌, ◌++◌}
 use Rattle.sb_value.specs.Table.{Table, IsTable, fits_kind, after_change}
 use Rattle.sb_tables.specs.Held.{Held, stored_at, with_stored}

@@ -26,7 +26,8 @@ use Rattle.sb_tenant.specs.Represents.{Holds, Leaves, StandFor, Performs, phase_
 use Rattle.sb_tenant.specs.Resolved as resolved
 use Rattle.sb_tenant.specs.State.{State, Session, closed, idle, active, session_at, is_open, open_count, with_session, rolled_back}
 use Rattle.sb_tenant.specs.Step.{first_of, is_full_for, is_end_of_open, numbered, outcome_of, reply_to, reply_to_command, step}
-use Rattle.sb_tenant.specs.Tenant.{Tenant, HoldNothing, InStep, IsLegal, IsSame, MakesStep, StaysInStep, state}
+use Rattle.sb_tenant.specs.Tenant.{Tenant, IsLegal, IsSame, MakesStep, state}
+use Rattle.sb_tenant.specs.Lending.{HoldNothing, InStep, StaysInStep}
 use Rattle.sb_tenant.specs.Trail.{after_abort, IsNext, state_of, IsTrail, entry_of}
 use Rattle.sb_tenant.proofs.Extensions.{step-numbered, step_is_next, abort_is_next, extended, state_of-extended}
 use Rattle.sb_tenant.proofs.ReplayLaws.{ends as end_is_command, legal_states_are_replayed, open-ended, open_at_most, trails_are_bounded}

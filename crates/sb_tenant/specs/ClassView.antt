@@ -1,4 +1,4 @@
--- What a command asks of its session, in the program.
+-- Machine: what a command asks of its session, in the program.
 use Rattle.sb_tenant.specs.declared.class.Class as stored
 use Rattle.sb_tenant.specs.declared.class.Class.TheVariants.{Opens, Ends, Begins, Defines, Works}
 use Rattle.sb_tenant.specs.Resolved.{Class, opens, ends, begins, defines, works}

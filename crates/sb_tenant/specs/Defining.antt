@@ -1,4 +1,4 @@
--- The commands that define what has a name: tables, rules and rulesets. They are done where no session has a transaction.
+-- Machine: the commands that define what has a name: tables, rules and rulesets. They are done where no session has a transaction.
 use Rattle.std.specs.Prelude.{◌≡◌, ◌⊎◌, ℕ, ◌+◌, ◌≤◌, length, unwrap_or, [], Bool, true, false, not, ◌&&◌, ◌==◌, List, Option, None, Result, Ok, Err, IsTrue, IsFalse}
 use Rattle.std.specs.List.{list_any}
 use Rattle.sb_value.specs.declared.refusal.Refusal.{Refusal}

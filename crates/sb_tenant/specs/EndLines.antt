@@ -1,4 +1,4 @@
--- Lines that end a session.
+-- Machine: lines that end a session.
 use Rattle.std.specs.Prelude.{◌≡◌, ℕ, List, [], ◌∷◌, codes}
 
 -- each is the line `end`

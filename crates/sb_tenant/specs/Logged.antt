@@ -1,4 +1,4 @@
--- A tenant's transactions in a log and its rules in an index that others use, too. Nothing is said of what is the others'.
+-- Machine: a tenant's transactions in a log and its rules in an index that others use, too. Nothing is said of what is the others'.
 use Rattle.std.specs.Prelude.{◌≡◌, ◌≤◌, ℕ, List, IsTrue}
 use Rattle.sb_value.specs.declared.id.Who.{Who}
 use Rattle.sb_rawlog.specs.Records.{Record}

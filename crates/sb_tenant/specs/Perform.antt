@@ -1,4 +1,4 @@
--- What a resolved command does, and its reply.
+-- Promise: what a resolved command does, and its reply.
 use Rattle.std.specs.Prelude.{ℕ, Bool, true, false, ◌&&◌, ◌==◌, List, [], ◌++◌, map, length, Some, None, Result, Ok, Err}
 use Rattle.sb_value.specs.declared.value.Value.{Value}
 use Rattle.sb_value.specs.declared.change.Change.{Change}

@@ -1,4 +1,4 @@
--- What a refused line changes: the trail, and the locks that its statement had taken.
+-- Promise: what a refused line changes: the trail, and the locks that its statement had taken.
 use Rattle.std.specs.Prelude.{◌≡◌, ◌⊎◌, ℕ, List, Option, Some, None, Result, Ok, option_and_then}
 use Rattle.sb_value.specs.declared.lock.Mode.{Mode}
 use Rattle.sb_value.specs.declared.refusal.Refusal.{Refusal}

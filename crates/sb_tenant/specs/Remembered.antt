@@ -1,4 +1,4 @@
--- What a tenant has in memory beside its trail, and what it has at hand for the ends of its sessions.
+-- Machine: what a tenant has in memory beside its trail, and what it has at hand for the ends of its sessions.
 use Rattle.std.specs.Prelude.{ℕ, ◌+◌, ◌*◌, ◌≤◌, List, length, vec_len, vec_capacity}
 use Rattle.sb_tables.specs.Held.{Held}
 use Rattle.sb_process.specs.Made.{NumbersBelow}

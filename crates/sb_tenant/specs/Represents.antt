@@ -1,4 +1,4 @@
--- What a tenant keeps in memory, against its state.
+-- Machine: what a tenant keeps in memory, against its state.
 use Rattle.std.specs.Prelude.{◌≡◌, ◌⊎◌, ℕ, ◌+◌, Bool, false, ◌==◌, List, flat_map, slice_index_or, Result, Ok, Err, IsTrue, IsFalse}
 use Rattle.sb_value.specs.declared.change.Change.{Change}
 use Rattle.sb_value.specs.declared.lock.Mode.{Mode}

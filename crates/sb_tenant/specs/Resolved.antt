@@ -1,4 +1,4 @@
--- Commands whose names are resolved, and what a command asks of its session.
+-- Promise: commands whose names are resolved, and what a command asks of its session.
 use Rattle.std.specs.Prelude.{ℕ, List}
 use Rattle.sb_value.specs.declared.value.ColumnDefinition.{ColumnDefinition}
 use Rattle.sb_check.specs.Condition.{Query}

@@ -1,4 +1,4 @@
--- The state of a tenant.
+-- Promise: the state of a tenant.
 use Rattle.std.specs.Prelude.{ℕ, Bool, true, false, not, ◌==◌, ◌&&◌, if◌then◌else◌, List, [], filter, find, length, count_by, sum_by, flat_map, Option, option_map}
 use Rattle.std.specs.List.{list_any}
 use Rattle.sb_value.specs.declared.change.Change.{Change}

@@ -1,4 +1,4 @@
--- One step of a tenant: a line of a session.
+-- Promise: one step of a tenant: a line of a session.
 use Rattle.std.specs.Prelude.{ℕ, ◌+◌, Bool, true, false, not, ◌&&◌, nat_le, List, Option, Some, None, Result, Ok, Err, codes}
 use Rattle.sb_value.specs.declared.refusal.Refusal.{Refusal}
 use Rattle.sb_value.specs.declared.refusal.Refusal.TheVariants as refusal

@@ -1,14 +1,8 @@
--- A tenant as its users see it: its number, its bound, its trail, and a time for each mark. Its state is the trail's replay.
+-- Promise: a tenant as its users see it: its number, its bound, its trail, and a time for each mark. Its state is the trail's replay.
 use Rattle.std.specs.Prelude.{◌≡◌, ℕ, List, [], Option, Some, None, Result, Ok, Err}
-use Rattle.sb_rawlog.specs.Records.{Record}
-use Rattle.sb_rawlog.specs.Sessions.{records_by, OthersStay}
-use Rattle.sb_index.specs.TableSets.{TableSets}
-use Rattle.sb_catalog.specs.Definitions.{AreIndexed, OtherTenantsStay}
-use Rattle.sb_process.specs.Statement.{RisesBy}
 use Rattle.sb_marks.specs.Transactions.{Kept}
 use Rattle.sb_tenant.specs.declared.reply.Entry.{Entry}
 use Rattle.sb_tenant.specs.declared.reply.Answer.{Answer}
-use Rattle.sb_tenant.specs.Logged.{Agrees, who_of}
 use Rattle.sb_tenant.specs.State.{State}
 use Rattle.sb_tenant.specs.Trail.{state_of, IsTrail, Steps, Extends, IsNotBegun}
 
@@ -35,8 +29,6 @@ IsNew id bound t = (t.id ≡ id) × (t.bound ≡ bound) × (t.trail ≡ [])
 abbrev pub IsSame : Tenant → Tenant → Type 0
 IsSame old new = (new.id ≡ old.id) × (new.bound ≡ old.bound)
 
--- ---- a line of a session
-
 -- it is a step, or is refused by the full trail
 abbrev pub AnswersLine : Tenant → ℕ → List ℕ → Answer → Tenant → Type 0
 AnswersLine old s line answer new = IsSame old new × Steps old.id old.bound old.trail s line answer new.trail
@@ -48,29 +40,3 @@ MakesStep old s line answer new = IsSame old new × Extends old.id old.bound old
 -- it isn't begun, and nothing changes
 abbrev pub LeavesLine : Tenant → ℕ → List ℕ → Tenant → Type 0
 LeavesLine old s line new = (new ≡ old) × IsNotBegun old.id old.bound old.trail s line new.trail
-
--- ---- the log and the index that it is lent
-
--- the log holds the lists of its open transactions, and a time for each of their marks; the index holds its active rules
-abbrev pub InStep : Tenant → List Record → ℕ → List (List TableSets) → Type 0
-InStep t records clock index = Agrees t.id (state t) t.transactions records clock index
-
--- they hold nothing of the tenant of that number
-abbrev pub HoldNothing : ℕ → List Record → List (List TableSets) → Type 0
-HoldNothing id records index = ((s : ℕ) → records_by (who_of id s) records ≡ []) × AreIndexed index id []
-
--- by how much a line raises the clock at most: only a step that has a number does
-abbrev pub rise_of_number : Option ℕ → ℕ
-rise_of_number None = 0
-rise_of_number (Some n) = 32768000
-
-abbrev pub rise_of : {E : Type 0} → Result Answer E → ℕ
-rise_of (Ok answer) = rise_of_number answer.number
-rise_of (Err e) = 0
-
--- a call in a session leaves the tenant in step; what they hold of other sessions and of other tenants stays; the clock rises by n at most
-pub record StaysInStep (n : ℕ) (old new : Tenant) (s : ℕ) (records records' : List Record) (clock clock' : ℕ) (index index' : List (List TableSets)) : Type 0 where
-  pub in_step : InStep new records' clock' index'
-  pub others : OthersStay (who_of old.id s) records records'
-  pub rises : RisesBy n clock clock'
-  pub tenants : OtherTenantsStay old.id index index'

@@ -1,4 +1,4 @@
--- Trails: an abort, which entry may come next, the legal trails, and the state that a trail gives.
+-- Promise: trails: an abort, which entry may come next, the legal trails, and the state that a trail gives.
 use Rattle.std.specs.Prelude.{◌≡◌, ℕ, ◌+◌, Bool, true, false, ◌⊎◌, List, [], ◌∷◌, ◌++◌, length, Some, None, IsTrue, IsFalse}
 use Rattle.sb_value.specs.declared.refusal.Refusal.TheVariants.{NoMemory, TrailFull}
 use Rattle.sb_tenant.specs.declared.reply.Reply.{Reply}

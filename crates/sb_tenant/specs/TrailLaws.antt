@@ -1,4 +1,4 @@
--- Laws of trails, as statements.
+-- Promise: laws of trails, as statements.
 use Rattle.std.specs.Prelude.{◌≡◌, ℕ, ◌+◌, ◌≤◌, ◌↔◌, Bool, true, false, ◌==◌, List, length, Option, Some, None, IsFalse}
 use Rattle.sb_syntax.specs.Text.{command_of}
 use Rattle.sb_syntax.specs.Tree.{Command, open_session, end_session}

@@ -1,4 +1,4 @@
--- The walk of a command: the first refusal, or the command with its names resolved. What the tables tell comes first,
+-- Promise: the walk of a command: the first refusal, or the command with its names resolved. What the tables tell comes first,
 -- but for the name of a new rule; the names of rules and rulesets, limits and cycles come after it.
 use Rattle.std.specs.Prelude.{◌≡◌, ℕ, Bool, false, not, nat_lt, List, [], length, Option, Some, None, Result, Ok, Err}
 use Rattle.sb_value.specs.declared.refusal.Refusal.{Refusal}

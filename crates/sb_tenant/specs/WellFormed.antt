@@ -1,4 +1,4 @@
--- What holds of each state that can be reached: of its marks, its locks and its lists of changes.
+-- Machine: what holds of each state that can be reached: of its marks, its locks and its lists of changes.
 use Rattle.std.specs.Prelude.{◌≤◌, ℕ, List, length, IsTrue, IsFalse}
 use Rattle.sb_value.specs.declared.lock.Mode.{Mode}
 use Rattle.sb_value.specs.Table.{IsProper}

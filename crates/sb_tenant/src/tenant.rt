@@ -6,7 +6,8 @@ ghost use Rattle.sb_tenant.specs.declared.reply.Reply.TheVariants as told;
 ghost use Rattle.sb_tenant.specs.Limits.{entry_limit, is_session, trail_limit};
 ghost use Rattle.sb_tenant.specs.State.{session_at, is_open as session_is_open, table_seen};
 ghost use Rattle.sb_tenant.specs.Step.{is_full_for, is_end_of_open};
-ghost use Rattle.sb_tenant.specs.Tenant.{state, IsLegal, IsNew, AnswersLine, MakesStep, LeavesLine, InStep, HoldNothing, StaysInStep, rise_of};
+ghost use Rattle.sb_tenant.specs.Tenant.{state, IsLegal, IsNew, AnswersLine, MakesStep, LeavesLine};
+ghost use Rattle.sb_tenant.specs.Lending.{InStep, HoldNothing, StaysInStep, rise_of};
 
 use crate::end_lines::EndLines;
 use crate::lines::KnownLines;

@@ -1,4 +1,4 @@
--- Sets of places of columns.
+-- Promise: sets of places of columns.
 use Rattle.std.specs.Prelude.{ℕ, Bool, true, false, not, ◌==◌, nat_lt, if◌then◌else◌, List, [], ◌∷◌, map, Option, Some, None, slice_set, slice_get}
 use Rattle.std.specs.List.{list_any}
 use Rattle.sb_value.specs.Values.{same_value}

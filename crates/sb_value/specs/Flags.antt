@@ -1,4 +1,4 @@
--- Sets of small numbers as lists of flags, and the bits of a word as such a list, the lowest first.
+-- Promise: sets of small numbers as lists of flags, and the bits of a word as such a list, the lowest first.
 use Rattle.std.specs.Prelude.{◌≡◌, ◌≤◌, ◌<◌, true, ℕ, zero, suc, ◌+◌, ◌*◌, Bool, false, not, ◌&&◌, ◌||◌, ◌==◌, if◌then◌else◌, List, [], ◌∷◌, slice_get, unwrap_or, replicate}
 use Rattle.std.specs.List.{list_any}
 use Rattle.std.specs.Int.{bit_at}

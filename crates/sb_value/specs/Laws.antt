@@ -1,4 +1,4 @@
--- Laws of net effects and of the order, as statements.
+-- Promise: laws of net effects and of the order, as statements.
 use Rattle.std.specs.List.{AllPass, list_any}
 use Rattle.sb_value.specs.Printable.{is_printable}
 use Rattle.sb_value.specs.Literal.{value_text, literal_value}

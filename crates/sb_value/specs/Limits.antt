@@ -1,4 +1,4 @@
--- Limits of a tenant.
+-- Promise: limits of a tenant.
 use Rattle.std.specs.Prelude.{ℕ}
 
 -- how many rules a tenant has at most

@@ -1,4 +1,4 @@
--- Table locks of the sessions of a tenant.
+-- Promise: table locks of the sessions of a tenant.
 use Rattle.std.specs.Prelude.{ℕ, Bool, true, false, not, ◌&&◌, ◌||◌, ◌==◌, List, [], ◌∷◌, Option, find, option_map}
 use Rattle.std.specs.List.{list_any}
 use Rattle.sb_value.specs.declared.lock.Mode.{Mode}

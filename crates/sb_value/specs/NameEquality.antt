@@ -1,4 +1,4 @@
--- The test of two names decides whether they are the same list of bytes.
+-- Machine: the test of two names decides whether they are the same list of bytes.
 use Rattle.std.specs.Prelude.{◌≡◌, ℕ, true, List}
 use Rattle.std.specs.Cmp.Lexicographic.{bytes_decides}
 use Rattle.std.proofs.Common.{sym, ◌∙◌}

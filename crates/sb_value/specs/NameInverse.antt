@@ -1,4 +1,4 @@
--- A name gives its memory back.
+-- Machine: a name gives its memory back.
 use Rattle.std.proofs.Common.{◌≡◌, ℕ, List, length, take, arith, length-take}
 use Rattle.sb_value.specs.Name.{IsPadded}
 

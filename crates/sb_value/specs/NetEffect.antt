@@ -1,4 +1,4 @@
--- Net effects of a list of changes, and what follows from them: whether a rule is triggered, and its transition tables.
+-- Promise: net effects of a list of changes, and what follows from them: whether a rule is triggered, and its transition tables.
 use Rattle.std.specs.Prelude.{ℕ, Bool, false, ◌&&◌, ◌||◌, ◌==◌, nat_lt, if◌then◌else◌, List, [], ◌∷◌, map, filter, filter_map, Option, Some, None}
 use Rattle.std.specs.List.{list_any}
 use Rattle.sb_value.specs.Flags.{share_place}

@@ -1,4 +1,4 @@
--- The bytes that a line may have.
+-- Promise: the bytes that a line may have.
 use Rattle.std.specs.Prelude.{ℕ, Bool, ◌&&◌, nat_le}
 
 -- printable ASCII

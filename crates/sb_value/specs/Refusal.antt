@@ -1,4 +1,4 @@
--- The number and the name of a refusal.
+-- Promise: the number and the name of a refusal.
 use Rattle.std.specs.Prelude.{ℕ, List, codes}
 use Rattle.sb_value.specs.declared.refusal.Refusal.{Refusal}
 use Rattle.sb_value.specs.declared.refusal.Refusal.TheVariants as refusal

@@ -1,4 +1,4 @@
--- Tables, and changes of them.
+-- Promise: tables, and changes of them.
 use Rattle.std.specs.Prelude.{Bool, ◌≡◌, ℕ, ◌+◌, not, ◌==◌, if◌then◌else◌, List, [], ◌∷◌, ◌++◌, map, filter, find, unwrap_or, Option, IsSome, IsNone, IsTrue, ◌<◌, option_map}
 use Rattle.std.specs.List.{list_any}
 use Rattle.sb_value.specs.declared.value.Value.{Value}

@@ -1,4 +1,4 @@
--- A list of values that is cut into tuples.
+-- Promise: a list of values that is cut into tuples.
 use Rattle.std.specs.Prelude.{ℕ, ◌+◌, List, [], ◌∷◌, take, drop}
 use Rattle.sb_value.specs.declared.value.Value.{Value}
 

@@ -1,4 +1,4 @@
--- The type of a value, how values compare, and whether values and rows are equal.
+-- Promise: the type of a value, how values compare, and whether values and rows are equal.
 use Rattle.std.specs.Prelude.{Bool, true, false, ◌&&◌, List, [], ◌∷◌}
 use Rattle.std.specs.declared.cmp.Ordering.{Ordering}
 use Rattle.std.specs.declared.cmp.Ordering.TheVariants as order

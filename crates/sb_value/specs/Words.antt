@@ -1,4 +1,4 @@
--- The flags of several words, those of the first word first.
+-- Machine: the flags of several words, those of the first word first.
 use Rattle.std.specs.Prelude.{◌≡◌, ◌<◌, ◌^◌, ℕ, zero, suc, Bool, List, [], ◌∷◌, ◌++◌, take, drop}
 use Rattle.sb_value.specs.Flags.{flags_of, word_of}
 

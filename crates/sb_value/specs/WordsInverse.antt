@@ -1,4 +1,4 @@
--- The flags of words give the words back.
+-- Machine: the flags of words give the words back.
 use Rattle.std.proofs.Common.{◌≡◌, ℕ, zero, suc, ◌^◌, ◌<◌, Bool, List, [], ◌∷◌, ◌++◌, take, drop, length, refl, sym, ap, ◌∙◌, arith}
 use Rattle.sb_value.specs.Flags.{flags_from, flags_of, word_of}
 use Rattle.sb_value.specs.FlagsInverse.{word_of-flags_of}

@@ -1,4 +1,4 @@
--- What each tenant is told of a stream, whatever the others send: what it would be told if it were alone.
+-- Promise: what each tenant is told of a stream, whatever the others send: what it would be told if it were alone.
 use Rattle.std.specs.Prelude.{◌≡◌, ℕ, ◌==◌, if◌then◌else◌, Bool, true, false, List, [], ◌∷◌, ◌++◌, map, filter, filter_map, Option, Some, None, IsTrue, codes}
 use Rattle.std.specs.List.{AllByRecursion}
 use Rattle.sb_tenant.specs.Limits.{is_session}

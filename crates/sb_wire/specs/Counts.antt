@@ -1,4 +1,4 @@
--- What a stream has answered, in numbers, and the line that tells it.
+-- Promise: what a stream has answered, in numbers, and the line that tells it.
 use Rattle.std.specs.Prelude.{◌≡◌, ◌==◌, ◌<◌, ◌+◌, ℕ, Bool, true, false, not, if◌then◌else◌, List, [], ◌∷◌, ◌++◌, Option, Some, None, Result, Ok, Err, length, filter, flat_map, map, codes, decimal, slice_index}
 use Rattle.std.specs.List.{list_any}
 use Rattle.std.specs.Io.Iter.{u64_saturate}

@@ -1,4 +1,4 @@
--- The lines that tell why a stream ended early.
+-- Promise: the lines that tell why a stream ended early.
 use Rattle.std.specs.Prelude.{ℕ, List, codes}
 use Rattle.sb_wire.specs.declared.fault.StreamError.{StreamError}
 use Rattle.sb_wire.specs.declared.fault.StreamError.TheVariants.{ReadFault, WriteFault, NoMemory}

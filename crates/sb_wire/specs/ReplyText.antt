@@ -1,4 +1,4 @@
--- The text of a reply, as its lines.
+-- Promise: the text of a reply, as its lines.
 use Rattle.std.specs.Prelude.{ℕ, List, [], ◌∷◌, ◌++◌, map, length, codes, decimal}
 use Rattle.std.specs.List.{join_with_byte}
 use Rattle.sb_value.specs.declared.refusal.Verdict.{Verdict}

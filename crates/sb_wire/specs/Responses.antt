@@ -1,4 +1,4 @@
--- The lines of a stream, answered one after another by whatever answers a line.
+-- Promise: the lines of a stream, answered one after another by whatever answers a line.
 use Rattle.std.specs.Prelude.{◌≡◌, ◌⊎◌, ◌≤◌, ℕ, Bool, true, false, List, [], ◌∷◌, ◌++◌, length, Option, Result, Ok, Err}
 use Rattle.std.specs.Io.KnownBytes.{Appends, Consumes, IsAtEnd}
 use Rattle.sb_wire.specs.Lines.{Piece, pieces_of, complete_pieces, Completes}

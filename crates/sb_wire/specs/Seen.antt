@@ -1,4 +1,4 @@
--- What a contract sees of a line's piece, of an addressed line and of a refusal of the wire.
+-- Promise: what a contract sees of a line's piece, of an addressed line and of a refusal of the wire.
 use Rattle.std.specs.Prelude.{ℕ, List, [], ◌∷◌, codes, Option, Some, None}
 use Rattle.sb_wire.specs.Lines.{line, too_long, Piece as ItsPiece, Addressed as ItsAddressed}
 use Rattle.sb_wire.specs.declared.input.Piece.{Piece}

@@ -1,4 +1,4 @@
--- What a cell answers to lines, and how a stream of them ends.
+-- Promise: what a cell answers to lines, and how a stream of them ends.
 use Rattle.std.specs.Prelude.{◌≡◌, ◌⊎◌, ◌*◌, ◌<◌, ◌≤◌, nat_lt, ℕ, List, [], ◌∷◌, ◌++◌, length, Option, Result, Ok, Err, ⊤}
 use Rattle.std.specs.Io.KnownBytes.{Appends, Consumes, IsAtEnd, Keeps}
 use Rattle.sb_tenant.specs.State.{State, opening}

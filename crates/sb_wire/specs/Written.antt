@@ -1,4 +1,4 @@
--- Text that is added behind what stands there.
+-- Machine: text that is added behind what stands there.
 use Rattle.std.specs.Prelude.{◌≡◌, ℕ, ◌-◌, List, [], ◌∷◌, ◌++◌, length, take, flat_map}
 use Rattle.sb_wire.specs.Lines.{newline}
 

@@ -1,4 +1,4 @@
--- Results, by the places of their jobs.
+-- Machine: results, by the places of their jobs.
 use Rattle.std.specs.Prelude.{ℕ, ◌≡◌, ◌<◌, ◌≤◌, ◌↔◌, List, [], Option, Some, slice_get, vec_len, vec_capacity}
 use Rattle.std.specs.List.{AllZip}
 use Rattle.sb_workers.specs.declared.work.Placed.{Placed}

@@ -1,4 +1,4 @@
--- Each place pushed stands with its job in the deque, in rising order, or was given with it to exactly one seat.
+-- Machine: each place pushed stands with its job in the deque, in rising order, or was given with it to exactly one seat.
 use Rattle.std.specs.Prelude.{ℕ, suc, ◌+◌, ◌≤◌, ◌≡◌, ◌==◌, Bool, true, cond, List, [], ◌∷◌, ◌++◌, length, Some, slice_get}
 use mathlib.Core.Option.{some}
 use lib.ListN.{get_elem?}

@@ -1,4 +1,4 @@
--- The seats at the pool's deque: the owner's and the helpers'.
+-- Machine: the seats at the pool's deque: the owner's and the helpers'.
 use Rattle.std.specs.Prelude.{ℕ, ◌≡◌, ◌<◌, true, false, List, Some, slice_get}
 use Rattle.std.specs.Global.{Global}
 use Rattle.atomic_blocks.specs.Lent.{RowsId}

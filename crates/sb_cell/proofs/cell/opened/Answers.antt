@@ -1,5 +1,5 @@
 use Rattle.std.proofs.Common.{rules, ◌+◌, ◌*◌, ℕ, length, sym, ap, subst, ◌∙◌}
-use Rattle.sb_tenant.specs.Tenant.{HoldNothing}
+use Rattle.sb_tenant.specs.Lending.{HoldNothing}
 use Rattle.sb_cell.specs.Hosting.{AreFresh, IsFresh}
 use Rattle.sb_cell.proofs.Beginning.{fresh-one_more}
 use Rattle.sb_cell.proofs.cell.opened.Goals as goal

@@ -2,7 +2,7 @@ use Rattle.std.proofs.Common.{◌≡◌, ℕ, ◌+◌, ◌*◌, ◌/◌, ◌%◌
 use Rattle.std.proofs.lemmas.Bool.{true≢false, not-false}
 use Rattle.std.proofs.lemmas.Option.{same_Some}
 use Rattle.sb_cell.specs.Tenants.{AnswersEvent, Cell}
-use Rattle.sb_desk.specs.Kept.{open_in}
+use Rattle.sb_desk.specs.Desks.{open_in}
 use Rattle.sb_desk.specs.Receipts.{Receipts, closes, receipt}
 use Rattle.sb_desk.specs.Seats.{IsSeat, number_of}
 use Rattle.sb_desk.proofs.DeskCalls.{closed_by, enough, full, given_back, still_open, unbegun}

@@ -3,7 +3,8 @@ use Rattle.sb_index.specs.TableSets.{TableSets}
 use Rattle.sb_tenant.specs.declared.reply.Reply.TheVariants.{Ok}
 use Rattle.sb_tenant.specs.State.{session_at, is_open}
 use Rattle.sb_tenant.specs.Remembered.{seen}
-use Rattle.sb_tenant.specs.Tenant.{Tenant, InStep, IsSame, MakesStep, StaysInStep, state}
+use Rattle.sb_tenant.specs.Tenant.{Tenant, IsSame, MakesStep, state}
+use Rattle.sb_tenant.specs.Lending.{InStep, StaysInStep}
 use Rattle.sb_tenant.specs.Trail.{entry_of}
 use Rattle.sb_tenant.specs.declared.tenant.Tenant.TheInside.{Inside}
 use Rattle.sb_tenant.proofs.Steps.{IsEntered, few_entries, ended, ended_fewer, ended_state, entered_in_step, entered_legal, entered_made, entered_remembered}

@@ -5,7 +5,8 @@ use Rattle.sb_tenant.specs.declared.tenant.Tenant.TheInside.{Inside}
 use Rattle.sb_tenant.specs.Remembered.{seen}
 use Rattle.sb_tenant.specs.State.{State}
 use Rattle.sb_tenant.specs.Step.{is_full_for, is_end_of_open}
-use Rattle.sb_tenant.specs.Tenant.{Tenant, InStep, IsSame, MakesStep, StaysInStep, state}
+use Rattle.sb_tenant.specs.Tenant.{Tenant, IsSame, MakesStep, state}
+use Rattle.sb_tenant.specs.Lending.{InStep, StaysInStep}
 use Rattle.sb_tenant.specs.Trail.{entry_of}
 use Rattle.sb_tenant.proofs.ReplayLaws.{open_at_most}
 use Rattle.sb_tenant.proofs.Steps.{IsEntered, few_entries, few_numbers, performed, still_remembered, entered_in_step, entered_legal, entered_made, entered_remembered}

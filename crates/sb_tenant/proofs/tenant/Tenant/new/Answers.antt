@@ -1,7 +1,7 @@
 use Rattle.std.proofs.Common.{sym, subst, List, ℕ}
 use Rattle.sb_tenant.specs.declared.reply.Entry.{Entry}
 use Rattle.sb_tenant.specs.Logged.{Agrees}
-use Rattle.sb_tenant.specs.Tenant.{HoldNothing}
+use Rattle.sb_tenant.specs.Lending.{HoldNothing}
 use Rattle.sb_tenant.specs.Trail.{state_of}
 use Rattle.sb_tenant.proofs.Steps.{new_in_step}
 use Rattle.sb_tenant.proofs.tenant.Tenant.new.Goals as goal

@@ -6,7 +6,8 @@ use Rattle.sb_tenant.specs.declared.tenant.Tenant.TheInside.{Inside}
 use Rattle.sb_tenant.specs.Limits.{entry_limit, trail_limit}
 use Rattle.sb_tenant.specs.Remembered.{seen}
 use Rattle.sb_tenant.specs.State.{session_at, is_open}
-use Rattle.sb_tenant.specs.Tenant.{Tenant, InStep, IsSame, MakesStep, state}
+use Rattle.sb_tenant.specs.Tenant.{Tenant, IsSame, MakesStep, state}
+use Rattle.sb_tenant.specs.Lending.{InStep}
 use Rattle.sb_tenant.specs.Trail.{entry_of}
 use Rattle.sb_tenant.proofs.Steps.{few_entries, phase_closed, still_remembered, opened_in_step, opened_legal, opened_made, opened_remembered}
 use Rattle.sb_tenant.proofs.tenant.Tenant.open.Goals as goal
