@@ -11,7 +11,6 @@ ghost use Rattle.sb_eval.specs.Statement as spec;
 use crate::condition::{condition, operand};
 use crate::fault::Fault;
 use crate::join::MANY;
-use crate::kept::own_row;
 use crate::known::Known;
 use crate::learn::learn_effect;
 use crate::lent_row::LentRow;
@@ -216,7 +215,7 @@ fn change<'r, S: Sources>(
     requires scope { scope_of scope.now ≡ spec.scope_of (number, values.now) }
     ensures { Gives (λ c. c) (change_of (S.seen sources.now) table effect.now (number, values.now)) result }
 {
-    let old = own_row(alloc, values)?;
+    let old = Row::from_values(alloc, values)?;
     match effect {
         Effect::Delete => Ok(delete_change(sources, table, number, old)),
         Effect::Update(assignments, columns) => {

@@ -9,7 +9,7 @@ ghost use Rattle.sb_net.specs.Tables.{with_net};
 use crate::effect::{NetOf, net};
 use crate::scope::Scope;
 use sb_rawlog::ChangeLog;
-use sb_value::{Kind, Row, RowList, TableId, Transition, Triggers, Value, Who};
+use sb_value::{Kind, Row, RowList, TableId, Transition, Triggers, Who};
 use std::alloc::{AllocError, Global};
 
 /// Adds the numbers of the tuples that have a change of the kind, one for each such change.
@@ -41,17 +41,6 @@ fn tuples_of<L: ChangeLog>(alloc: Global, log: &L, scope: &Scope) -> Result<Vec<
     Ok(tuples)
 }
 
-/// A row of these values.
-fn row_of(alloc: Global, values: &[Value]) -> Result<Row, AllocError>
-    ensures { IfOk result (λ row. row ≡ values.now) }
-{
-    let mut row = Row::new(alloc);
-    for value in values {
-        row.push(value.clone()?)?;
-    }
-    Ok(row)
-}
-
 /// Adds the rows of a net effect.
 fn push_net(
     alloc: Global,
@@ -62,12 +51,12 @@ fn push_net(
     ensures { OnOk result (tables.new ≡ with_net triggers.now tables.old (Some (seen net.now))) }
 {
     match *net {
-        NetOf::Inserted(new) => tables.inserted.push(row_of(alloc, new)?)?,
-        NetOf::Deleted(old) => tables.deleted.push(row_of(alloc, old)?)?,
+        NetOf::Inserted(new) => tables.inserted.push(Row::from_values(alloc, new)?)?,
+        NetOf::Deleted(old) => tables.deleted.push(Row::from_values(alloc, old)?)?,
         NetOf::Updated(old, new, columns) => {
             if triggers.updated || triggers.columns.intersects(columns) {
-                tables.old_updated.push(row_of(alloc, old)?)?;
-                tables.new_updated.push(row_of(alloc, new)?)?;
+                tables.old_updated.push(Row::from_values(alloc, old)?)?;
+                tables.new_updated.push(Row::from_values(alloc, new)?)?;
             }
         }
     }

@@ -54,16 +54,22 @@ impl Row {
         self.values.as_slice().len()
     }
 
+    /// A row of copies of these values.
+    pub fn from_values(alloc: Global, values: &[Value]) -> Result<Row, AllocError>
+        ensures { IfOk result (λ row. row ≡ values.now) }
+    {
+        let mut row = Row::new(alloc);
+        for value in values {
+            row.push(value.clone()?)?;
+        }
+        Ok(row)
+    }
+
     /// A row with the same values.
     pub fn clone(&self) -> Result<Row, AllocError>
         ensures { IfOk result (λ copy. copy ≡ self.now) }
     {
-        let values = self.values();
-        let mut copy = Row::new(*self.values.allocator());
-        for value in values {
-            copy.push(value.clone()?)?;
-        }
-        Ok(copy)
+        Row::from_values(*self.values.allocator(), self.values())
     }
 }
 
