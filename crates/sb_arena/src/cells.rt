@@ -75,7 +75,8 @@ pub(crate) fn allocate<T, A: Allocator>(
     len: usize,
 ) -> Result<(Start<T>, Cells<T>, Deed<T, A>), AllocError>
     requires { FitsInBlock T.row len }
-    ensures { IfOk result (λ r. (r.1.at ≡ r.0.ptr) × (r.1.slots ≡ replicate len None) × (r.2.at ≡ r.0.ptr) × (r.2.len ≡ len) × (r.2.alloc ≡ alloc.now)) }
+    ensures cells { IfOk result (λ r. (r.1.at ≡ r.0.ptr) × (r.1.slots ≡ replicate len None)) }
+    ensures deed { IfOk result (λ r. (r.2.at ≡ r.0.ptr) × (r.2.len ≡ len) × (r.2.alloc ≡ alloc.now)) }
 {
     match alloc.allocate(len * size_of::<T>(), align_of::<T>()) {
         Ok(block) => {
@@ -100,7 +101,8 @@ pub(crate) fn free<T, A: Allocator>(
     cells: Cells<T>,
     deed: Deed<T, A>,
 )
-    requires { (cells.at ≡ start.ptr) × (cells.slots ≡ replicate len None) × (deed.at ≡ start.ptr) × (deed.len ≡ len) × (deed.alloc ≡ alloc.now) }
+    requires cells { (cells.at ≡ start.ptr) × (cells.slots ≡ replicate len None) }
+    requires deed { (deed.at ≡ start.ptr) × (deed.len ≡ len) × (deed.alloc ≡ alloc.now) }
 {
     let Cells { mark: _ } = cells;
     let Deed { mark: _ } = deed;
@@ -113,7 +115,8 @@ pub(crate) fn free<T, A: Allocator>(
 impl<T> Cells<T> {
     /// Puts a value into an empty cell.
     pub(crate) fn write(&mut self, start: Start<T>, index: usize, value: T)
-        requires { (start.ptr ≡ self.old.at) × (index < length self.old.slots) × (get_or self.old.slots index None ≡ None) }
+        requires start { start.ptr ≡ self.old.at }
+        requires empty { (index < length self.old.slots) × (get_or self.old.slots index None ≡ None) }
         ensures { (self.new.at ≡ self.old.at) × (self.new.slots ≡ slice_set self.old.slots index (Some value)) }
     {
         // The cell lies in the block, and nothing is overwritten.

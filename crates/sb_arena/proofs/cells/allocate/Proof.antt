@@ -68,7 +68,7 @@ allocate_spec 𝓤 𝓛 𝓜 𝓡 wired X W LX LW g d dd met md =
     let p : Ptr = block_ptr b o in let start : (Start E).Denot = record { ptr = p } in let cells : (Row E).Denot = record { mark = record {}; at = p; slots = replicate len None } in
     let deed : Deed.Denot = record { mark = record {}; at = p; len = len; alloc = a } in let made : Val = three (word p) mark mark in let all : Three.Denot = (start, cells, deed) in
     let typed : Good (layout Three) made = (tt, ((tt, tt), ((tt, tt), ((tt, tt), tt)))) in let ok = first_Good (layout Three) made typed in
-    let Told : Type 0 = (cells.at ≡ p) × (cells.slots ≡ replicate len None) × (deed.at ≡ p) × (deed.len ≡ len) × (deed.alloc ≡ a) in
+    let Cut : Type 0 = (cells.at ≡ p) × (cells.slots ≡ replicate len None) in let Right : Type 0 = (deed.at ≡ p) × (deed.len ≡ len) × (deed.alloc ≡ a) in
     lands_as ! e refl (Answer-typed true b o) $ first ! $ switches_on ! (get_tag ! (vrt ! refl (fld ! refl (stop !))) (whole !)) $ exec ! 𝓣.C 𝓣.Λ Ev (arm_body 0 both) Then $
     sets ! (of_opd ! (get_in ! (vrt ! refl (fld ! refl (stop !))) (in_variant ! 0 0 refl refl (whole !)))) refl (tt, tt) $ sets ! (of_opd ! (get ! refl)) refl (tt, tt) $
     sets ! (agg ! (and_then ! (get ! refl) (no_more !))) refl (word-Good [] p) $
@@ -85,7 +85,7 @@ allocate_spec 𝓤 𝓛 𝓜 𝓡 wired X W LX LW g d dd met md =
     use3 𝓛 (‵ (Three.own_val all (made ∷ []))) (three_made 𝓛 (Start E) (Row E) Deed start cells deed (word p) mark mark) $
     use1 𝓛 (‵ (Out.own_val (Ok all) (live 0 (vcons made vnil) ∷ []))) (ok_of 𝓛 Three Refusal.the_row all made) $
     returns ! (look_at ! 0 refl) $ free_all ! refl $ keep ! (0 ∷ 1 ∷ 2 ∷ []) $ move ! (1 ∷ 2 ∷ []) $ join ! $ nothing ! $ nothing ! $ fjoin ! $ nothing ! $ fjoin ! $
-    use0 𝓛 (raw (fact 𝓤 Told)) (fact_i 𝓤 Told (emp 𝓤) (refl, refl, refl, refl, refl)) $ move ! (2 ∷ 1 ∷ 3 ∷ 0 ∷ []) $ by ! (leaves 𝓛 En hs c z (live 0 (vcons made vnil)) (Ok all) (tt, (tt, tt)) (tt, (tt, tt))))
+    use0 𝓛 (raw (fact 𝓤 Right)) (fact_i 𝓤 Right (emp 𝓤) (refl, refl, refl)) $ use0 𝓛 (raw (fact 𝓤 Cut)) (fact_i 𝓤 Cut (emp 𝓤) (refl, refl)) $ join ! $ move ! (2 ∷ 1 ∷ 3 ∷ 0 ∷ []) $ by ! (leaves 𝓛 En hs c z (live 0 (vcons made vnil)) (Ok all) (tt, (tt, tt)) (tt, (tt, tt))))
     (λ e.
     let Refused : RattleType = Struct (Declared.shape Refusal.the_type) in let none : Val = live 1 (vcons (vstruct vnil) vnil) in let Told : Type 0 = Unit {0} in
     lands_as ! e refl (Answer-typed false 0 0) $ first ! $ switches_on ! (get_tag ! (vrt ! refl (fld ! refl (stop !))) (whole !)) $ exec ! 𝓣.C 𝓣.Λ Ev (arm_body 1 both) Then $
@@ -95,4 +95,4 @@ allocate_spec 𝓤 𝓛 𝓜 𝓡 wired X W LX LW g d dd met md =
     owned ! Refused (Is Refused) (Struct-Makes 𝓛 (Declared.shape Refusal.the_type) tt) tt (vstruct vnil ∷ []) (tt, (refl, tt)) $
     use1 𝓛 (‵ (Out.own_val (Err (record {})) (none ∷ []))) (err_of 𝓛 Three Refusal.the_row (record {}) (vstruct vnil)) $
     returns ! (look_at ! 0 refl) $ free_all ! refl $ keep ! (0 ∷ 1 ∷ 2 ∷ []) $ move ! (1 ∷ 2 ∷ []) $ join ! $ nothing ! $ nothing ! $ fjoin ! $ nothing ! $ fjoin ! $
-    use0 𝓛 (raw (fact 𝓤 Told)) (fact_i 𝓤 Told (emp 𝓤) tt) $ move ! (2 ∷ 1 ∷ 3 ∷ 0 ∷ []) $ by ! (leaves 𝓛 En hs c z none (Err (record {})) (tt, (tt, tt)) (tt, (tt, tt)))))))))))))
+    use0 𝓛 (raw (fact 𝓤 Told)) (fact_i 𝓤 Told (emp 𝓤) tt) $ use0 𝓛 (raw (fact 𝓤 Told)) (fact_i 𝓤 Told (emp 𝓤) tt) $ join ! $ move ! (2 ∷ 1 ∷ 3 ∷ 0 ∷ []) $ by ! (leaves 𝓛 En hs c z none (Err (record {})) (tt, (tt, tt)) (tt, (tt, tt)))))))))))))

@@ -36,18 +36,18 @@ free_spec 𝓤 𝓛 𝓜 𝓡 wired X W LX LW g d dd met md =
     let Post : Val → SProp 𝓤 = (walk_of 𝓛 En hs c).post z in let Run : List Val → SProp 𝓤 = λ ws. WpFn 𝓤 H 𝓣.C 𝓣.Λ fn ws Post in
     let start = z.0.3.1.0 in let len : ℕ = z.0.3.1.1.0 in let cells = z.0.3.1.1.1.0 in let deed = z.0.3.1.1.1.1.0 in
     qed 𝓛 (((‵ (flft κ q) ⊛ others) ⊛ ‵ (owns (types_at En.signature.params z.0.0) z.0.3 us)) ∷ raw (fact 𝓤 (z.0.0.1.0 ⊑ X.lives)) ∷ raw (fact 𝓤 (z.0.0.1.1.0 ⊑ W.lives))
-    ∷ raw (fact 𝓤 ((cells.at ≡ start.ptr) × (cells.slots ≡ replicate len None) × (deed.at ≡ start.ptr) × (deed.len ≡ len) × (deed.alloc ≡ a))) ∷ []) ∵
-    move ! (1 ∷ 2 ∷ 3 ∷ []) $ heard ! _ (λ _. heard ! _ (λ within. heard ! _ (λ asked. split ! $ split ! $ move ! (2 ∷ []) $ fsplit ! $ fsplit ! $ feq_l ! (λ e0. move ! (1 ∷ []) $ fsplit ! $ word_had ! start.ptr us.1.0 (λ e1.
+    ∷ raw (fact 𝓤 ((cells.at ≡ start.ptr) × (cells.slots ≡ replicate len None))) ∷ raw (fact 𝓤 ((deed.at ≡ start.ptr) × (deed.len ≡ len) × (deed.alloc ≡ a))) ∷ []) ∵
+    move ! (1 ∷ 2 ∷ 3 ∷ 4 ∷ []) $ heard ! _ (λ _. heard ! _ (λ within. heard ! _ (λ cut. heard ! _ (λ right. split ! $ split ! $ move ! (2 ∷ []) $ fsplit ! $ fsplit ! $ feq_l ! (λ e0. move ! (1 ∷ []) $ fsplit ! $ word_had ! start.ptr us.1.0 (λ e1.
     fsplit ! $ fsplit ! $ feq_l ! (λ e2. flt_l ! (λ fits. fsplit ! $ fsplit ! $ mark_had ! E us.1.1.1.0 (λ e3. move ! (1 ∷ []) $ fsplit ! $ fsplit ! $ mark_had ! E us.1.1.1.1.0 (λ e4. keep ! (2 ∷ 0 ∷ 3 ∷ 4 ∷ 5 ∷ []) $
     -- [the cells; the deed; what `&alloc` has; its token; the other tokens]
     let al : ℕ = capped (align (elτ E)) in let block = block_ty E len in let words : List Val = vptr rb ro ∷ word start.ptr ∷ vint w64 len ∷ mark ∷ mark ∷ [] in
     suffices ! (Run words) (subst (λ (ws : List Val). ent 𝓤 (Run words) (Run ws)) (λ j. sym e0 j ++ (sym e1 j ++ (sym e2 j ++ (sym e3 j ++ (sym e4 j ++ []))))) (id⊢ 𝓤 (Run words))) $
     enter ! 𝓣.C 𝓣.Λ fn words Post $ alloc_all ! (λ l. pass_all ! refl ((tt, tt), (word-Good [] start.ptr, ((tt, record { fits = fits }), ((tt, (tt, tt)), ((tt, (tt, tt)), tt))))) $
-    rewrite ! 0 (λ (r : Ptr × List (Cell E)). ‵ (row_at (R E) r.0 r.1)) (λ i. (asked.0 i, asked.1 i)) refl $
+    rewrite ! 0 (λ (r : Ptr × List (Cell E)). ‵ (row_at (R E) r.0 r.1)) (λ i. (cut.0 i, cut.1 i)) refl $
     in_a_block ! start.ptr (λ p. row_at (R E) p (replicate len None)) (id⊢ 𝓤 (never 𝓤)) (λ b o e. fsplit ! $ flt_l ! (λ fit.
     let small : len * s < 2 ^ 63 = subst (λ n. n * s < 2 ^ 63) (length-replicate len None) fit in let bytes : len * s < 2 ^ 64 = omega arith in
     let y : (Gives Z 𝓛 𝓜.mem 𝓡.returns).Ghost = at_gives Z 𝓛 𝓜.mem 𝓡.returns κ q (rb, ro) a b o (len * s) al block in
-    rewrite ! 1 (λ (r : W.Denot × Ptr × ℕ). ‵ (token_of (R E) (token Z r.0) r.1 r.2)) (λ i. (asked.4 i, (asked.2 ∙ e) i, asked.3 i)) refl $
+    rewrite ! 1 (λ (r : W.Denot × Ptr × ℕ). ‵ (token_of (R E) (token Z r.0) r.1 r.2)) (λ i. (right.2 i, (right.0 ∙ e) i, right.1 i)) refl $
     use1 𝓛 (‵ (froom (ty_array (elτ E) len) b o)) (to_room E 𝓛 b len o) $ as_raw ! (ty_array (elτ E) len) b o $ first ! $ blocks ! $
     sets ! (is ! (of_opd ! (get_in ! (fld ! refl (stop !)) (sub ! 0 refl (whole !)))) (ap ptr_val e)) refl (tt, tt) $
     sets ! (is ! (bin ! (get ! refl) (size_word !) (record { fits = subst (λ (n : ℕ). n < 2 ^ 64) (sym (uncapped len s bytes)) bytes })) (ap (vint w64) (uncapped len s bytes))) refl (tt, record { fits = bytes }) $
@@ -57,4 +57,4 @@ free_spec 𝓤 𝓛 𝓜 𝓡 wired X W LX LW g d dd met md =
     lands_last ! refl (subst (λ (u : Val). T (has_ty ty_unit u) × WT u) (sym is_unit) (tt, tt)) $ exec ! 𝓣.C 𝓣.Λ (env fn.locals l) (after 1 fn.body) (at_ret (env fn.locals l) Post) $
     sets ! (of_opd ! (unit_lit !)) refl (tt, tt) $ returns ! (look_at ! 0 refl) $ free_all ! refl $ keep ! (0 ∷ 1 ∷ []) $ join ! $
     nothing ! $ nothing ! $ fjoin ! $ nothing ! $ fjoin ! $ nothing ! $ fjoin ! $ nothing ! $ fjoin ! $ nothing ! $ fjoin ! $
-    feq_i ! (List Val) (vunit ∷ []) (vunit ∷ []) refl $ nothing ! $ move ! (3 ∷ 2 ∷ 1 ∷ 0 ∷ []) $ by ! (leaves 𝓛 En hs c z vunit tt (tt, (tt, (tt, (tt, (tt, tt))))) (tt, (tt, (tt, (tt, (tt, tt)))))))))))))))))))))
+    feq_i ! (List Val) (vunit ∷ []) (vunit ∷ []) refl $ nothing ! $ move ! (3 ∷ 2 ∷ 1 ∷ 0 ∷ []) $ by ! (leaves 𝓛 En hs c z vunit tt (tt, (tt, (tt, (tt, (tt, tt))))) (tt, (tt, (tt, (tt, (tt, tt))))))))))))))))))))))
