@@ -1,10 +1,10 @@
 -- Promise: laws of net effects and of the order, as statements.
-use Rattle.std.specs.List.{AllPass, list_any}
-use Rattle.sb_value.specs.Printable.{is_printable}
+use Rattle.std.specs.List.{list_any}
+use Rattle.sb_value.specs.Printable.{AreTextBytes}
 use Rattle.sb_value.specs.Literal.{value_text, literal_value}
 use Rattle.sb_value.specs.declared.value.Value.{Value}
 use Rattle.sb_value.specs.declared.value.Value.TheVariants.{Int, Text}
-use Rattle.std.specs.Prelude.{◌≤◌, ◌-◌, ◌^◌, length, pos, negsuc, int_le, Ok, ◌≡◌, ℕ, Bool, true, false, ◌&&◌, ◌==◌, List, [], ◌∷◌, ◌++◌, IsTrue, IsFalse, ◌↔◌}
+use Rattle.std.specs.Prelude.{◌-◌, ◌^◌, pos, negsuc, int_le, Ok, ◌≡◌, ℕ, Bool, true, false, ◌&&◌, ◌==◌, List, [], ◌∷◌, ◌++◌, IsTrue, IsFalse, ◌↔◌}
 use Rattle.sb_value.specs.Columns.{set_of, with_place}
 use Rattle.sb_value.specs.NetEffect.{history, net_effect, then_net, update_between, is_operation, is_triggered}
 use Rattle.sb_value.specs.Table.{Entry, table_at, IsTable, IsProper, new_row, old_row}
@@ -85,7 +85,7 @@ ProperListsHaveLives =
 -- what a value is in the range of: an integer of 64 bits, a text of at most 255 printable bytes
 abbrev pub IsInRange : Value → Type 0
 IsInRange (Int z) = IsTrue (int_le (negsuc (2 ^ 63 - 1)) z && int_le z (pos (2 ^ 63 - 1)))
-IsInRange (Text bytes) = (length bytes ≤ 255) × AllPass is_printable bytes
+IsInRange (Text bytes) = AreTextBytes bytes
 
 -- the text of a value is a literal that gives the value back
 abbrev pub LiteralsGiveValuesBack : Type 0

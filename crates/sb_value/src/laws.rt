@@ -26,8 +26,8 @@ pub fn last_change_triggers()
     ensures { LastChangeTriggers }
 {}
 
-/// A rule that some changes don't trigger is triggered with those behind them only by a change that is one of its operations,
-/// of a tuple whose net effect is one.
+/// A rule that some changes don't trigger is triggered with those behind them only by a change that is one of its
+/// operations, of a tuple whose net effect is one.
 pub fn new_changes_trigger()
     ensures { NewChangesTrigger }
 {}

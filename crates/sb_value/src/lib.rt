@@ -1,4 +1,4 @@
-//! Values, rows, names, ids and changes: the types that every layer shares, specified as numbers, lists and plain records.
+//! Values, rows, names, ids and changes: what every layer shares, specified as numbers, lists and plain records.
 #![tactic(auto)]
 
 mod change;

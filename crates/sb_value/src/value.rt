@@ -19,16 +19,15 @@ pub struct Text {
 }
 
 impl Model for Text {
-    ghost use Rattle.std.specs.Prelude.{List, ℕ, length, ◌≤◌};
+    ghost use Rattle.std.specs.Prelude.{List, ℕ};
     ghost use Rattle.std.specs.Arc.{arc_value};
-    ghost use Rattle.std.specs.List.{AllPass};
-    ghost use Rattle.sb_value.specs.Printable.{is_printable};
+    ghost use Rattle.sb_value.specs.Printable.{AreTextBytes};
 
     ghost Value = { List ℕ };
 
     ghost view = { λ t. (arc_value t.bytes).items };
 
-    ghost invariant = { λ t. (length (arc_value t.bytes).items ≤ 255) × AllPass is_printable (arc_value t.bytes).items };
+    ghost invariant = { λ t. AreTextBytes (arc_value t.bytes).items };
 }
 
 impl Text {
