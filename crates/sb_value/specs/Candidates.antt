@@ -1,4 +1,4 @@
--- Promise: which changes make a rule a candidate for processing.
+-- Machine: which changes make a rule a candidate for processing.
 use Rattle.std.specs.Prelude.{ℕ, Bool, ◌&&◌, ◌==◌}
 use Rattle.sb_value.specs.Laws.{kind_triggers}
 use Rattle.sb_value.specs.declared.change.Change.{Change}
