@@ -127,18 +127,6 @@ row-at low (s ∷ ss) high n (suc i) d h b f lt =
       | false ↦ rest
     ]
 
-pub row-past : (ss : List Slot) (n i : ℕ) → AllBelow n (take i (numbers ss)) → length ss ≤ i → row_of n (live_rows ss) ≡ None
-row-past [] n i b le = refl
-row-past (s ∷ ss) n zero b le = absurd (omega arith)
-row-past (s ∷ ss) n (suc i) b le =
-    let below : s.number < n = b.0 in
-    let other : (s.number == n) ≡ false = ne_eqb s.number n (omega arith) in
-    let rest = row-past ss n i b.1 (omega arith) in
-    elim s.live as (λ b. row_of n (cond b ((s.number, s.row) ∷ live_rows ss) (live_rows ss)) ≡ None) [
-      | true ↦ ap (λ b. option_map (λ q. q.1) (cond b (let q : Option Numbered = Some (s.number, s.row) in q) (find (λ q. q.0 == n) (live_rows ss)))) other ∙ rest
-      | false ↦ rest
-    ]
-
 abbrev pub Has : List ℕ → ℕ → Type 0
 Has ns n = (k : ℕ) × (k < length ns) × (get_or ns k n ≡ n)
 

@@ -6,12 +6,12 @@ use Rattle.std.proofs.lemmas.List.{get_or-map, length-set, map_push, length_push
 use Rattle.sb_value.specs.declared.value.Value.{Value}
 use Rattle.sb_value.specs.declared.value.ColumnDefinition.{ColumnDefinition}
 use Rattle.sb_tables.specs.declared.slot.Slot.{Slot}
-use Rattle.sb_tables.specs.Rising.{Rises, IsPlace, IsFirstFrom, AllBelow}
+use Rattle.sb_tables.specs.Rising.{Rises, IsPlace, AllBelow}
 use Rattle.sb_tables.specs.Slots.{numbers, live_rows, AreSound}
 use Rattle.sb_tables.specs.Stored.{Stored, numbers_of, put}
 use Rattle.sb_tables.proofs.RisingLaws.{below_before, from_on, rises_push, rises_front}
 use Rattle.sb_tables.proofs.RowLaws.{Numbered, row_of, others, replaced, length-others, put-replaces}
-use Rattle.sb_tables.proofs.SlotLaws.{live_rises, live-append, live-mark, live-put, length-live_set, length-numbers, numbers-set, row-at, row-past, row_if, live-last, live_slots, live-live, numbers-live, live_at_most}
+use Rattle.sb_tables.proofs.SlotLaws.{live_rises, live-append, live-mark, live-put, length-live_set, length-numbers, numbers-set, row-at, row_if, live-last, live_slots, live-live, numbers-live, live_at_most}
 
 abbrev pub stored : List ColumnDefinition → List Numbered → ℕ → List ℕ → ℕ → Stored
 stored columns rows next places room = record { table = record { columns = columns; rows = rows; next = next }; places = places; room = room }
@@ -31,12 +31,6 @@ pub row_here : (ss : List Slot) (high n i : ℕ) (s : Slot) → Rises 0 (numbers
 row_here ss high n i s h lt e is =
     row-at 0 ss high n i s h (subst (λ m. AllBelow m (take i (numbers ss))) e (below_before 0 (numbers ss) high i h lt)) (from_on 0 (numbers ss) high n i h lt (omega arith)) (omega (arith, length-numbers ss))
     ∙ ap (row_if n) (sym is)
-
-pub row_found : (ss : List Slot) (high n i : ℕ) (s : Slot) → Rises 0 (numbers ss) high → IsFirstFrom n (numbers ss) i → i < length ss → s ≡ get_or ss i s → row_of n (live_rows ss) ≡ row_if n s
-row_found ss high n i s h first lt is = row-at 0 ss high n i s h first.below first.above lt ∙ ap (row_if n) (sym is)
-
-pub row_missed : (ss : List Slot) (n i : ℕ) → IsFirstFrom n (numbers ss) i → length ss ≤ i → row_of n (live_rows ss) ≡ None
-row_missed ss n i first le = row-past ss n i first.below le
 
 some_row : (n : ℕ) (s : Slot) → IsSome (row_if n s) → (s.live ≡ true) × (row_if n s ≡ Some s.row)
 some_row n s h =

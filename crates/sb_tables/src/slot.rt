@@ -1,5 +1,5 @@
 //! Where a row stands in memory.
-ghost use Rattle.std.specs.Prelude.{◌≡◌, ◌==◌, ◌&&◌, ℕ, Contains};
+ghost use Rattle.std.specs.Prelude.{◌≡◌, ℕ, Contains};
 ghost use Rattle.sb_tables.specs.Rising.{Rises, IsFirstFrom, IsPlace};
 ghost use Rattle.sb_tables.specs.Slots.{numbers};
 
@@ -13,17 +13,8 @@ pub(crate) struct Slot {
     pub(crate) live: bool,
 }
 
-impl Slot {
-    /// Whether it holds the row of that number.
-    pub(crate) fn is_row(&self, number: u64) -> bool
-        ensures { result ≡ (self.now.live && (self.now.number == number)) }
-    {
-        self.live && self.number == number
-    }
-}
-
 /// The place of the first slot whose number isn't below this one.
-pub(crate) fn first_from(slots: &[Slot], number: u64) -> usize
+fn first_from(slots: &[Slot], number: u64) -> usize
     requires { (high : ℕ) × Rises 0 (numbers slots.now) high }
     ensures { IsFirstFrom number (numbers slots.now) result }
 {

@@ -1,10 +1,9 @@
 //! A table of rows, with undo.
 ghost use Rattle.std.specs.Prelude.{◌≡◌, ◌+◌, ◌-◌, ◌^◌, ◌<◌, ◌≤◌, ◌↔◌, [], ◌∷◌, ◌++◌, length, map, max, Contains, IsSome, IsOk, IsErr, IfOk, OnOk, OnErr, Ok, Some, List};
-ghost use Rattle.std.specs.Option.{option_copied};
 ghost use Rattle.sb_value.specs.Table.{Table as Definition, empty_table, row_at};
 
 use crate::rows::Rows;
-use crate::slot::{Slot, first_from, place_of};
+use crate::slot::{Slot, place_of};
 use sb_value::{Change, ColumnDefinition, Kind, Row};
 use std::alloc::{AllocError, Global};
 use std::marker::Model;
@@ -88,21 +87,6 @@ impl Table {
     {
         Rows {
             slots: self.slots.as_slice(),
-        }
-    }
-
-    /// The row of that number.
-    pub fn row(&self, tuple: u64) -> Option<&Row>
-        ensures { option_copied result ≡ row_at self.now.table tuple }
-    {
-        let place = first_from(self.slots.as_slice(), tuple);
-        let Some(slot) = self.slots.get(place) else {
-            return None;
-        };
-        if slot.is_row(tuple) {
-            Some(&slot.row)
-        } else {
-            None
         }
     }
 

@@ -1,4 +1,6 @@
 //! A table with room: no call on its rows takes memory.
+ghost use Rattle.std.specs.Prelude.{◌≡◌, is_some};
+ghost use Rattle.sb_value.specs.Table.{row_at};
 
 use crate::changes::{only_integer, row_of};
 use crate::mark::mark;
@@ -27,14 +29,26 @@ fn insert(rt: &impl Abort, table: &mut Table, row: Row) -> u64 {
     inserted.unwrap_or(0)
 }
 
+/// Whether the table has a row of that number.
+fn has_row(table: &Table, tuple: u64) -> bool
+    ensures { result ≡ is_some (row_at table.now.table tuple) }
+{
+    for (number, _) in table.rows() {
+        if number == tuple {
+            return true;
+        }
+    }
+    false
+}
+
 /// Puts another row in place of one, and gives the integer of that one.
 fn replace(rt: &impl Abort, table: &mut Table, tuple: u64, row: Row) -> Option<i64> {
-    assert!(rt; table.row(tuple).is_some());
+    assert!(rt; has_row(table, tuple));
     only_integer(&table.replace(tuple, row))
 }
 
 fn delete(rt: &impl Abort, table: &mut Table, tuple: u64) {
-    assert!(rt; table.row(tuple).is_some());
+    assert!(rt; has_row(table, tuple));
     table.mark_deleted(tuple);
 }
 
