@@ -39,76 +39,55 @@ pub enum Refusal {
 impl Refusal {
     ghost use Rattle.sb_value.specs.Refusal.{refusal_number, refusal_name};
 
+    /// Its number and its name in a reply.
+    pub fn number_and_name(&self) -> (u8, &'static str)
+        ensures number { result.0 ≡ refusal_number self.now }
+        ensures name { result.1.now ≡ refusal_name self.now }
+    {
+        match self {
+            Refusal::Syntax => (10, "Syntax"),
+            Refusal::NoTable => (20, "NoTable"),
+            Refusal::TableExists => (21, "TableExists"),
+            Refusal::NoColumn => (22, "NoColumn"),
+            Refusal::BadType => (23, "BadType"),
+            Refusal::Ambiguous => (24, "Ambiguous"),
+            Refusal::WrongCount => (25, "WrongCount"),
+            Refusal::BadTransition => (26, "BadTransition"),
+            Refusal::Overflow => (30, "Overflow"),
+            Refusal::TooBig => (31, "TooBig"),
+            Refusal::TooManyRows => (32, "TooManyRows"),
+            Refusal::Locked(_) => (40, "Locked"),
+            Refusal::InTransaction => (41, "InTransaction"),
+            Refusal::NoTransaction => (42, "NoTransaction"),
+            Refusal::Busy => (43, "Busy"),
+            Refusal::NotOpen => (44, "NotOpen"),
+            Refusal::AlreadyOpen => (45, "AlreadyOpen"),
+            Refusal::NoRule => (50, "NoRule"),
+            Refusal::RuleExists => (51, "RuleExists"),
+            Refusal::Cycle => (52, "Cycle"),
+            Refusal::TooManyRules => (53, "TooManyRules"),
+            Refusal::NoRuleset => (54, "NoRuleset"),
+            Refusal::RulesetExists => (55, "RulesetExists"),
+            Refusal::TooManyRulesets => (56, "TooManyRulesets"),
+            Refusal::TableInUse => (57, "TableInUse"),
+            Refusal::TooManyTables => (58, "TooManyTables"),
+            Refusal::TrailFull => (90, "TrailFull"),
+            Refusal::NoMemory => (91, "NoMemory"),
+        }
+    }
+
     /// Its number in a reply.
     pub fn number(&self) -> u8
         ensures { result ≡ refusal_number self.now }
     {
-        match self {
-            Refusal::Syntax => 10,
-            Refusal::NoTable => 20,
-            Refusal::TableExists => 21,
-            Refusal::NoColumn => 22,
-            Refusal::BadType => 23,
-            Refusal::Ambiguous => 24,
-            Refusal::WrongCount => 25,
-            Refusal::BadTransition => 26,
-            Refusal::Overflow => 30,
-            Refusal::TooBig => 31,
-            Refusal::TooManyRows => 32,
-            Refusal::Locked(_) => 40,
-            Refusal::InTransaction => 41,
-            Refusal::NoTransaction => 42,
-            Refusal::Busy => 43,
-            Refusal::NotOpen => 44,
-            Refusal::AlreadyOpen => 45,
-            Refusal::NoRule => 50,
-            Refusal::RuleExists => 51,
-            Refusal::Cycle => 52,
-            Refusal::TooManyRules => 53,
-            Refusal::NoRuleset => 54,
-            Refusal::RulesetExists => 55,
-            Refusal::TooManyRulesets => 56,
-            Refusal::TableInUse => 57,
-            Refusal::TooManyTables => 58,
-            Refusal::TrailFull => 90,
-            Refusal::NoMemory => 91,
-        }
+        self.number_and_name().0
     }
 
     /// Its name in a reply.
     pub fn name(&self) -> &'static str
         ensures { result.now ≡ refusal_name self.now }
     {
-        match self {
-            Refusal::Syntax => "Syntax",
-            Refusal::NoTable => "NoTable",
-            Refusal::TableExists => "TableExists",
-            Refusal::NoColumn => "NoColumn",
-            Refusal::BadType => "BadType",
-            Refusal::Ambiguous => "Ambiguous",
-            Refusal::WrongCount => "WrongCount",
-            Refusal::BadTransition => "BadTransition",
-            Refusal::Overflow => "Overflow",
-            Refusal::TooBig => "TooBig",
-            Refusal::TooManyRows => "TooManyRows",
-            Refusal::Locked(_) => "Locked",
-            Refusal::InTransaction => "InTransaction",
-            Refusal::NoTransaction => "NoTransaction",
-            Refusal::Busy => "Busy",
-            Refusal::NotOpen => "NotOpen",
-            Refusal::AlreadyOpen => "AlreadyOpen",
-            Refusal::NoRule => "NoRule",
-            Refusal::RuleExists => "RuleExists",
-            Refusal::Cycle => "Cycle",
-            Refusal::TooManyRules => "TooManyRules",
-            Refusal::NoRuleset => "NoRuleset",
-            Refusal::RulesetExists => "RulesetExists",
-            Refusal::TooManyRulesets => "TooManyRulesets",
-            Refusal::TableInUse => "TableInUse",
-            Refusal::TooManyTables => "TooManyTables",
-            Refusal::TrailFull => "TrailFull",
-            Refusal::NoMemory => "NoMemory",
-        }
+        self.number_and_name().1
     }
 }
 
