@@ -45,6 +45,10 @@ IsInFront old new = take (length old) new ≡ old
 abbrev pub has_no_newline : List ℕ → Bool
 has_no_newline bytes = list_all (λ b. not (b == newline)) bytes
 
+-- the text is this line with its newline, and then the rest
+abbrev pub BeginsWithLine : List ℕ → List ℕ → List ℕ → Type 0
+BeginsWithLine text line rest = (has_no_newline line ≡ true) × (text ≡ line ++ newline ∷ rest)
+
 -- each row's text is of one line
 abbrev pub HaveNoNewline : List (List Value) → Type 0
 HaveNoNewline rows = list_all (λ row. has_no_newline (row_text row)) rows ≡ true

@@ -1,6 +1,6 @@
 //! The lines of a text, each behind the same bytes.
-ghost use Rattle.std.specs.Prelude.{◌≡◌, ◌++◌, ◌∷◌, [], ℕ, List, true, OnOk, OnErr};
-ghost use Rattle.sb_rows.specs.RowText.{newline, has_no_newline, started_rows, IsInFront};
+ghost use Rattle.std.specs.Prelude.{◌≡◌, ◌++◌, ◌∷◌, [], ℕ, List, OnOk, OnErr};
+ghost use Rattle.sb_rows.specs.RowText.{newline, started_rows, BeginsWithLine, IsInFront};
 
 use crate::row_text::RowText;
 use memchr::memchr;
@@ -8,8 +8,8 @@ use std::alloc::AllocError;
 
 /// The first line with its newline, and what stands behind it.
 fn split_line(text: &[u8]) -> (&[u8], &[u8])
-    ensures line { (line rest : List ℕ) → has_no_newline line ≡ true → text.now ≡ line ++ newline ∷ rest → result.0.now ≡ line ++ newline ∷ [] }
-    ensures rest { (line rest : List ℕ) → has_no_newline line ≡ true → text.now ≡ line ++ newline ∷ rest → result.1.now ≡ rest }
+    ensures line { (line rest : List ℕ) → BeginsWithLine text.now line rest → result.0.now ≡ line ++ newline ∷ [] }
+    ensures rest { (line rest : List ℕ) → BeginsWithLine text.now line rest → result.1.now ≡ rest }
 {
     match memchr(b'\n', text) {
         Some(at) => text.split_at(at + 1),

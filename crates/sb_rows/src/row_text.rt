@@ -9,8 +9,8 @@ use sb_value::{Text, Value, literals_give_values_back};
 use std::alloc::{AllocError, Global};
 use std::marker::Model;
 
-/// The text of rows, a line for each, and of the values of a row that is open. The text alone is kept: each value is read
-/// back from it.
+/// The text of rows, a line for each, and of the values of a row that is open. The text alone is kept: each value is
+/// read back from it.
 #[derive(Drop)]
 pub struct RowText {
     text: Vec<u8>,

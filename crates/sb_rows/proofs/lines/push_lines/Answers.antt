@@ -14,6 +14,6 @@ pub loop-row-preserved : goal.loop-row-preserved
 loop-row-preserved c =
     let low : c.loop-row._row < length c.args.rows.now.rows = omega (arith, c.len-row-end.ensures, c.loop-row-test.true) in
     let left = lines_left _ _ _ low c.text-left.ensures.lines c.loop-row.invariant.left in record {
-      left = c.split_line.ensures.rest _ _ left.0 left.1;
-      out = lines_there _ _ _ _ _ _ _ low c.loop-row.invariant.out (c.split_line.ensures.line _ _ left.0 left.1) c.in_ok-push_line.ensures.ok;
+      left = c.split_line.ensures.rest _ _ left;
+      out = lines_there _ _ _ _ _ _ _ low c.loop-row.invariant.out (c.split_line.ensures.line _ _ left) c.in_ok-push_line.ensures.ok;
     }
