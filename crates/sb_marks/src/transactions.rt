@@ -1,15 +1,16 @@
 //! The marks and the candidates of a tenant's sessions.
 ghost use Rattle.std.specs.Prelude.{◌≡◌, ◌⊎◌, ℕ, ◌<◌, ◌≤◌, false, not, ◌&&◌, ◌||◌, ◌==◌, if◌then◌else◌, length, OnOk, OnErr};
 ghost use Rattle.sb_value.specs.Flags.{flag_at};
-ghost use Rattle.sb_marks.specs.Transactions.{mark_of, tested_of, is_candidate_of, is_marked};
+ghost use Rattle.sb_marks.specs.Transactions.{mark_of, tested_of, is_candidate_of, SetsTime};
 
 use crate::times::{Times, grow};
 use sb_value::{RuleId, RuleSet, SESSION_LIMIT, SessionId};
 use std::alloc::{AllocError, Global};
 use std::marker::Model;
 
-/// For each session the time of each rule's mark, the time up to which its changes since then were found not to trigger the rule,
-/// and the rules that its changes may have triggered. The rules of which none was marked or tested take no place.
+/// For each session the time of each rule's mark, the time up to which its changes since then were found not to trigger
+/// the rule, and the rules that its changes may have triggered. The rules of which none was marked or tested take no
+/// place.
 #[derive(Drop)]
 pub struct Transactions {
     rows: Vec<Times>,
@@ -43,7 +44,8 @@ impl Transactions {
     pub fn begin(&mut self, session: SessionId)
         ensures marks { (s r : ℕ) → mark_of self.new s r ≡ (if s == session then 0 else mark_of self.old s r) }
         ensures tested { (s r : ℕ) → tested_of self.new s r ≡ (if s == session then 0 else tested_of self.old s r) }
-        ensures candidates { (s r : ℕ) → is_candidate_of self.new s r ≡ (not (s == session) && is_candidate_of self.old s r) }
+        ensures candidates { (s r : ℕ) →
+            is_candidate_of self.new s r ≡ (not (s == session) && is_candidate_of self.old s r) }
     {
         self.marked[session.index()] = RuleSet::empty();
         self.candidates[session.index()] = RuleSet::empty();
@@ -82,8 +84,8 @@ impl Transactions {
         rule: RuleId,
         time: u64,
     ) -> Result<(), AllocError>
-        ensures marks { OnOk result ((s r : ℕ) → mark_of self.new s r ≡ (if (s == session) && (r == rule) then time else mark_of self.old s r)) }
-        ensures tested { OnOk result ((s r : ℕ) → tested_of self.new s r ≡ (if (s == session) && (r == rule) then time else tested_of self.old s r)) }
+        ensures marks { OnOk result (SetsTime session rule time (mark_of self.old) (mark_of self.new)) }
+        ensures tested { OnOk result (SetsTime session rule time (tested_of self.old) (tested_of self.new)) }
         ensures candidates { (s r : ℕ) → is_candidate_of self.new s r ≡ is_candidate_of self.old s r }
         ensures unchanged { OnErr result (self.new ≡ self.old) }
     {
@@ -103,17 +105,20 @@ impl Transactions {
     pub fn join(&mut self, session: SessionId, rules: RuleSet)
         ensures marks { (s r : ℕ) → mark_of self.new s r ≡ mark_of self.old s r }
         ensures tested { (s r : ℕ) → tested_of self.new s r ≡ tested_of self.old s r }
-        ensures candidates { (s r : ℕ) → is_candidate_of self.new s r ≡ (is_candidate_of self.old s r || ((s == session) && flag_at rules r)) }
+        ensures candidates { (s r : ℕ) →
+            is_candidate_of self.new s r ≡ (is_candidate_of self.old s r || ((s == session) && flag_at rules r)) }
     {
         self.candidates[session.index()] = self.candidates[session.index()].union(rules);
     }
 
-    /// Takes a rule from the candidates of a session, where its changes up to the time were found not to trigger it. Where there
-    /// is no memory for that time, the rule is tested for these changes again.
+    /// Takes a rule from the candidates of a session, where its changes up to the time were found not to trigger it.
+    /// Where there is no memory for that time, the rule is tested for these changes again.
     pub fn leave(&mut self, session: SessionId, rule: RuleId, time: u64)
         ensures marks { (s r : ℕ) → mark_of self.new s r ≡ mark_of self.old s r }
-        ensures tested { (t : ℕ) × ((t ≡ time) ⊎ (t ≡ tested_of self.old session rule)) × ((s r : ℕ) → tested_of self.new s r ≡ (if (s == session) && (r == rule) then t else tested_of self.old s r)) }
-        ensures candidates { (s r : ℕ) → is_candidate_of self.new s r ≡ (is_candidate_of self.old s r && not ((s == session) && (r == rule))) }
+        ensures tested { (t : ℕ) × ((t ≡ time) ⊎ (t ≡ tested_of self.old session rule))
+            × SetsTime session rule t (tested_of self.old) (tested_of self.new) }
+        ensures candidates { (s r : ℕ) →
+            is_candidate_of self.new s r ≡ (is_candidate_of self.old s r && not ((s == session) && (r == rule))) }
     {
         self.candidates[session.index()] = self.candidates[session.index()].without(rule);
         if grow(&mut self.rows, rule.index() + 1).is_ok() {
@@ -125,8 +130,8 @@ impl Transactions {
     /// Sets both times of a rule that has its row.
     fn set(&mut self, session: SessionId, rule: RuleId, mark: u64, tested: u64)
         requires row { rule < length self.old.rows }
-        ensures marks { (s r : ℕ) → mark_of self.new s r ≡ (if (s == session) && (r == rule) then mark else mark_of self.old s r) }
-        ensures tested { (s r : ℕ) → tested_of self.new s r ≡ (if (s == session) && (r == rule) then tested else tested_of self.old s r) }
+        ensures marks { SetsTime session rule mark (mark_of self.old) (mark_of self.new) }
+        ensures tested { SetsTime session rule tested (tested_of self.old) (tested_of self.new) }
         ensures candidates { (s r : ℕ) → is_candidate_of self.new s r ≡ is_candidate_of self.old s r }
     {
         self.rows[rule.index()] = self.rows[rule.index()].with(session, mark, tested);
