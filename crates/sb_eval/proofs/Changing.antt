@@ -8,12 +8,12 @@ use Rattle.sb_value.specs.declared.value.Value.{Value}
 use Rattle.sb_value.specs.declared.change.Change.{Change}
 use Rattle.sb_check.specs.Condition.{Condition}
 use Rattle.sb_check.specs.declared.tree.Assignment.{Assignment}
-use Rattle.sb_eval.specs.Seen.{Seen}
+use Rattle.sb_plan.specs.Seen.{Seen}
 use Rattle.sb_eval.specs.Statement.{update_change, assigned, scope_of, found, places_of}
 use Rattle.sb_eval.specs.Effect.{with_change}
-use Rattle.sb_eval.specs.Scopes.{value_seen}
-use Rattle.sb_eval.specs.declared.value_ref.ValueRef.{ValueRef}
-use Rattle.sb_eval.specs.Meaning.{both, each, passing}
+use Rattle.sb_plan.specs.Scopes.{value_seen}
+use Rattle.sb_plan.specs.declared.value_ref.ValueRef.{ValueRef}
+use Rattle.sb_plan.specs.Meaning.{both, each, passing}
 
 abbrev pub Numbered : Type 0
 Numbered = ℕ × List Value

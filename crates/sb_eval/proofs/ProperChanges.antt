@@ -13,8 +13,8 @@ use Rattle.sb_check.specs.Condition.{Condition}
 use Rattle.sb_check.specs.declared.tree.Assignment.{Assignment}
 use Rattle.sb_check.specs.declared.tree.Statement.{Statement}
 use Rattle.sb_check.specs.declared.tree.Statement.TheVariants.{InsertRows, InsertQuery, Delete, Update}
-use Rattle.sb_eval.specs.Seen.{Seen, rows_in}
-use Rattle.sb_eval.specs.Meaning.{both, each, passing, holds, rows_of}
+use Rattle.sb_plan.specs.Seen.{Seen, rows_in}
+use Rattle.sb_plan.specs.Meaning.{both, each, passing, holds, rows_of}
 use Rattle.sb_eval.specs.Statement.{scope_of, found, assigned, update_change, update_of, places_of, delete_change, insert_change, insert_changes, changes_by, rows_after, row_limit, cost_limit, statement_cost, within_rows, or_overflow}
 use Rattle.sb_eval.specs.Target.{target}
 use Rattle.sb_eval.specs.Laws.{inserts, counted_with, IsChangeOf, AreChangesOf, AreMakeable, ChangesAreProper}

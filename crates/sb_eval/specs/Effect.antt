@@ -2,8 +2,12 @@
 use Rattle.std.specs.Prelude.{ℕ, Bool, if◌then◌else◌, List, [], ◌∷◌, ◌++◌, Option, Some, option_map}
 use Rattle.sb_value.specs.declared.value.Value.{Value}
 use Rattle.sb_value.specs.declared.change.Change.{Change}
-use Rattle.sb_eval.specs.Seen.{Seen}
+use Rattle.sb_plan.specs.Seen.{Seen}
 use Rattle.sb_eval.specs.Statement.{delete_change, update_change, assigned, scope_of}
+use Rattle.sb_check.specs.declared.tree.Assignment.{Assignment}
+use Rattle.sb_check.specs.declared.tree.Source.{Source}
+use Rattle.sb_plan.specs.Known.{OperandRight, left, right}
+use Rattle.sb_plan.specs.declared.known.Known.{Known}
 use Rattle.sb_eval.specs.declared.change.Effect.{Effect}
 use Rattle.sb_eval.specs.declared.change.Effect.TheVariants.{Delete, Update}
 
@@ -15,3 +19,14 @@ change_of seen t (Update assignments columns) r = option_map (update_change seen
 -- the changes with that of one row, where there is one
 abbrev pub with_change : List Change → Option Change → Bool → Option (List Change)
 with_change done change passes = if passes then option_map (λ c. done ++ c ∷ []) change else Some done
+
+-- what is known of it is so in every scope
+module _ (rows_in : Source → List (List Value)) where
+  -- of the operands of assignments: each lies to the left of those after it
+  abbrev pub AssignmentsRight : List Assignment → Known → Type 0
+  AssignmentsRight [] known = Unit {0}
+  AssignmentsRight (a ∷ rest) known = OperandRight rows_in a.operand (left known) × AssignmentsRight rest (right known)
+
+  abbrev pub EffectRight : Effect → Known → Type 0
+  EffectRight Delete known = Unit {0}
+  EffectRight (Update assignments columns) known = AssignmentsRight assignments.now known

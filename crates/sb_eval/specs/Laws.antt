@@ -6,7 +6,7 @@ use Rattle.sb_value.specs.declared.change.Kind.TheVariants.{Inserted, Deleted, U
 use Rattle.sb_value.specs.declared.id.Who.{Who}
 use Rattle.sb_value.specs.Table.{Entry, IsProper, IsTable, has_table, table_at}
 use Rattle.sb_check.specs.declared.tree.Statement.{Statement}
-use Rattle.sb_eval.specs.Seen.{Seen}
+use Rattle.sb_plan.specs.Seen.{Seen}
 use Rattle.sb_eval.specs.Statement.{statement_changes}
 use Rattle.sb_eval.specs.Target.{target}
 

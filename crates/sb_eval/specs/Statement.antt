@@ -16,9 +16,9 @@ use Rattle.sb_check.specs.declared.tree.Source.TheVariants as source
 use Rattle.sb_check.specs.declared.tree.Assignment.{Assignment}
 use Rattle.sb_check.specs.declared.tree.Statement.{Statement}
 use Rattle.sb_check.specs.declared.tree.Statement.TheVariants.{InsertRows, InsertQuery, Delete, Update}
-use Rattle.sb_eval.specs.Seen.{Seen, rows_in}
-use Rattle.sb_eval.specs.Meaning.{Scope, both, each, passing, holds, operand_value, rows_of}
-use Rattle.sb_eval.specs.Cost.{subquery_cost, operand_cost, query_cost}
+use Rattle.sb_plan.specs.Seen.{Seen, row_count, rows_in}
+use Rattle.sb_plan.specs.Meaning.{Scope, both, each, passing, holds, operand_value, rows_of}
+use Rattle.sb_plan.specs.Cost.{subquery_cost, operand_cost, query_cost}
 
 -- ---- the lock list: the tables in the order of their places in the text
 
@@ -58,10 +58,6 @@ cost_limit = 2 ^ 20
 -- the most rows of a table, and of a select command
 abbrev pub row_limit : ℕ
 row_limit = 4096
-
--- how many rows a source has
-abbrev pub row_count : Seen → Source → ℕ
-row_count seen s = length (rows_in seen s)
 
 -- so many for each row of the target
 abbrev pub target_cost : Seen → ℕ → ℕ → ℕ

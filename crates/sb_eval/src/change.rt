@@ -1,23 +1,18 @@
 //! The changes of single rows.
-ghost use Rattle.std.specs.Prelude.{◌≡◌, ◌++◌, ◌∷◌, [], map, slice_set, IfOk, OnOk, option_and_then};
+ghost use Rattle.std.specs.Prelude.{◌≡◌, map, slice_set, IfOk, OnOk};
 ghost use Rattle.sb_eval.specs.Answer.{Gives, Leaves};
-ghost use Rattle.sb_eval.specs.Effect.{change_of, with_change};
-ghost use Rattle.sb_eval.specs.Known.{IsRight, AssignmentsRight, EffectRight};
-ghost use Rattle.sb_eval.specs.Meaning as meaning;
-ghost use Rattle.sb_eval.specs.Scopes.{scope_of, value_seen};
-ghost use Rattle.sb_eval.specs.Seen.{rows_in};
+ghost use Rattle.sb_eval.specs.Around.{assigned_around, rows_around};
+ghost use Rattle.sb_eval.specs.Effect.{AssignmentsRight};
 ghost use Rattle.sb_eval.specs.Statement as spec;
+ghost use Rattle.sb_eval.specs.TableWalk.{AreOperandsRight, IsTableWalkRight, change_of_row, changed};
+ghost use Rattle.sb_plan.specs.Scopes.{scope_of, value_seen};
 
+use crate::around::Around;
 use crate::condition::{condition, operand};
 use crate::fault::Fault;
-use crate::join::MANY;
-use crate::known::Known;
 use crate::learn::learn_effect;
-use crate::lent_row::LentRow;
-use crate::scope::Scope;
-use crate::sources::Sources;
-use crate::value_ref::ValueRef;
 use sb_check::{Assignment, Condition};
+use sb_plan::{Known, LOOKED_UP, LentRow, Scope, Sources, ValueRef};
 use sb_value::{Change, Columns, Kind, Row, TableId, Value, sets_take_places};
 use smallvec::SmallVec;
 use std::alloc::{AllocError, Global};
@@ -115,7 +110,7 @@ struct AssignedRow<'r> {
 impl<'r> Model for AssignedRow<'r> {
     ghost use Rattle.std.specs.Prelude.{List, map};
     ghost use Rattle.sb_value.specs.declared.value.Value.{Value as Item};
-    ghost use Rattle.sb_eval.specs.Scopes.{value_seen};
+    ghost use Rattle.sb_plan.specs.Scopes.{value_seen};
 
     ghost Value = { List Item };
 
@@ -167,18 +162,17 @@ fn assign<'r, S: Sources>(
     alloc: Global,
     assignments: &'r [Assignment],
     known: &Known<'r>,
-    sources: &'r S,
-    scope: &Scope<'_, 'r>,
+    around: &Around<'_, 'r, S>,
     row: &mut AssignedRow<'r>,
 ) -> Result<(), Fault>
-    requires { AssignmentsRight (rows_in (S.seen sources.now)) assignments.now known.now }
-    ensures { Leaves row.new (spec.assigned (S.seen sources.now) (scope_of scope.now) assignments.now row.old) result }
+    requires { AssignmentsRight (rows_around S.seen around.now) assignments.now known.now }
+    ensures { Leaves row.new (assigned_around S.seen around.now assignments.now row.old) result }
 {
     let Some((first, rest)) = assignments.split_first() else {
         return Ok(());
     };
-    assign(alloc, rest, known.right(), sources, scope, row)?;
-    let value = operand(alloc, &first.operand, known.left(), sources, scope)?;
+    assign(alloc, rest, known.right(), around, row)?;
+    let value = operand(alloc, &first.operand, known.left(), around)?;
     row.set(first.place, value);
     Ok(())
 }
@@ -189,75 +183,84 @@ fn assigned_row<'r, S: Sources>(
     assignments: &'r [Assignment],
     values: &'r [Value],
     known: &Known<'r>,
-    sources: &'r S,
-    scope: &Scope<'_, 'r>,
+    around: &Around<'_, 'r, S>,
 ) -> Result<Row, Fault>
-    requires { AssignmentsRight (rows_in (S.seen sources.now)) assignments.now known.now }
-    ensures { Gives (λ row. row) (spec.assigned (S.seen sources.now) (scope_of scope.now) assignments.now values.now) result }
+    requires { AssignmentsRight (rows_around S.seen around.now) assignments.now known.now }
+    ensures { Gives (λ row. row) (assigned_around S.seen around.now assignments.now values.now) result }
 {
     let mut row = AssignedRow::new(alloc, values)?;
-    assign(alloc, assignments, known, sources, scope, &mut row)?;
+    assign(alloc, assignments, known, around, &mut row)?;
     Ok(row.to_row(alloc)?)
+}
+
+/// What stays the same while the rows of a statement's table are walked through.
+#[derive(Drop)]
+pub(crate) struct TableWalk<'w, 'r, S: Sources> {
+    pub(crate) effect: &'w Effect<'r>,
+    pub(crate) filter: &'r Condition,
+    pub(crate) known: &'w Known<'r>,
+    pub(crate) table: TableId,
+    pub(crate) sources: &'r S,
 }
 
 /// The change of one row.
 fn change<'r, S: Sources>(
     alloc: Global,
-    effect: &Effect<'r>,
-    table: TableId,
+    walk: &TableWalk<'_, 'r, S>,
     number: u64,
     values: &'r [Value],
-    known: &Known<'r>,
-    sources: &'r S,
+    operands: &Known<'r>,
     scope: &Scope<'_, 'r>,
 ) -> Result<Change, Fault>
-    requires known { EffectRight (rows_in (S.seen sources.now)) effect.now known.now }
+    requires operands { AreOperandsRight S.seen walk.now operands.now }
     requires scope { scope_of scope.now ≡ spec.scope_of (number, values.now) }
-    ensures { Gives (λ c. c) (change_of (S.seen sources.now) table effect.now (number, values.now)) result }
+    ensures { Gives (λ c. c) (change_of_row S.seen walk.now (number, values.now)) result }
 {
     let old = Row::from_values(alloc, values)?;
-    match effect {
-        Effect::Delete => Ok(delete_change(sources, table, number, old)),
+    match walk.effect {
+        Effect::Delete => Ok(delete_change(walk.sources, walk.table, number, old)),
         Effect::Update(assignments, columns) => {
-            let new = assigned_row(alloc, assignments, values, known, sources, scope)?;
-            Ok(update_change(sources, table, *columns, number, old, new))
+            let around = Around {
+                sources: walk.sources,
+                scope: &*scope,
+            };
+            let new = assigned_row(alloc, assignments, values, operands, &around)?;
+            Ok(update_change(walk.sources, walk.table, *columns, number, old, new))
         }
     }
 }
 
-/// Adds the change of one row, where the condition is true of it. What can be known of the operands is found at the first
-/// such row, and again where so many were found that their sources are worth looking up.
+/// Adds the change of one row, where the condition is true of it. What can be known of the operands is found at the
+/// first such row, and again where so many were found that their sources are worth looking up.
 pub(crate) fn change_row<'r, S: Sources>(
     alloc: Global,
-    effect: &Effect<'r>,
-    filter: &'r Condition,
-    table: TableId,
+    walk: &TableWalk<'_, 'r, S>,
     number: u64,
     values: &'r [Value],
-    known: &Known<'r>,
-    sources: &'r S,
     operands: &mut Known<'r>,
     changes: &mut Vec<Change>,
 ) -> Result<(), Fault>
-    requires known { IsRight (rows_in (S.seen sources.now)) filter.now known.now }
-    requires operands { EffectRight (rows_in (S.seen sources.now)) effect.now operands.old }
-    ensures operands { OnOk result (EffectRight (rows_in (S.seen sources.now)) effect.now operands.new) }
-    ensures changes { Leaves changes.new.items (option_and_then (with_change changes.old.items (change_of (S.seen sources.now) table effect.now (number, values.now))) (meaning.holds (rows_in (S.seen sources.now)) filter.now (spec.scope_of (number, values.now)))) result }
+    requires known { IsTableWalkRight S.seen walk.now }
+    requires operands { AreOperandsRight S.seen walk.now operands.old }
+    ensures operands { OnOk result (AreOperandsRight S.seen walk.now operands.new) }
+    ensures changes { Leaves changes.new.items (changed S.seen walk.now changes.old.items (number, values.now)) result }
 {
     let combination = [LentRow { values }];
     let outermost = Scope::Outermost;
     let scope = Scope::Within(&combination, &outermost);
-    let passes = condition(alloc, filter, known, sources, &scope)?;
+    let around = Around {
+        sources: walk.sources,
+        scope: &scope,
+    };
+    let passes = condition(alloc, walk.filter, walk.known, &around)?;
     if !passes {
         return Ok(());
     }
     let found = changes.len();
-    if found == 0 || found == MANY {
-        *operands = learn_effect(alloc, effect, found as u64, sources)?;
+    if found == 0 || found == LOOKED_UP {
+        *operands = learn_effect(alloc, walk.effect, found as u64, walk.sources)?;
     }
-    let change = change(
-        alloc, effect, table, number, values, operands, sources, &scope,
-    )?;
+    let change = change(alloc, walk, number, values, operands, &scope)?;
     changes.push(change)?;
     Ok(())
 }

@@ -1,5 +1,5 @@
 use Rattle.std.proofs.Common.{◌≡◌, map, take}
-use Rattle.sb_eval.specs.Scopes.{value_seen}
+use Rattle.sb_plan.specs.Scopes.{value_seen}
 use Rattle.sb_eval.proofs.change.AssignedRow.new.Given as goal
 
 -- the values so far are there

@@ -1,0 +1,5 @@
+mod Uncorrelated
+mod Searching
+mod Indexing
+mod Joining
+mod Deciding

@@ -1,0 +1,13 @@
+pub mod Seen
+pub mod SourceRows
+pub mod Meaning
+pub mod Cost
+pub mod Scopes
+pub mod Size
+pub mod Correlation
+pub mod ValueSet
+pub mod Known
+pub mod Joined
+pub mod Settled
+pub mod Index
+pub mod Join

@@ -1,0 +1,41 @@
+//! What a query means, and what is found out of it before its combinations are walked: what it costs, how far it looks
+//! outward, which rows can be looked up, what is known of its subqueries, and what of it overflows nowhere.
+#![tactic(auto)]
+
+mod correlation;
+mod cost;
+mod early;
+mod equality;
+mod expression;
+mod index;
+mod join;
+mod known;
+mod laws;
+mod lent_row;
+mod scope;
+mod settled;
+mod source_rows;
+mod sources;
+mod truth;
+mod value_ref;
+mod value_set;
+
+pub use correlation::is_uncorrelated;
+pub use cost::{combination_count, operand_cost, query_cost, subquery_cost};
+pub use early::is_false_already;
+pub use equality::Equality;
+pub use expression::value;
+pub use index::{Entry, Index};
+pub use join::{Join, LOOKED_UP, learn_join};
+pub use known::Known;
+pub use laws::{
+    equal_columns_suffice, indexes_suffice, known_values_suffice, settled_never_overflow,
+};
+pub use lent_row::LentRow;
+pub use scope::{Scope, column};
+pub use settled::{is_query_settled, is_settled};
+pub use source_rows::SourceRows;
+pub use sources::Sources;
+pub use truth::is_true_inlined;
+pub use value_ref::ValueRef;
+pub use value_set::ValueSet;
