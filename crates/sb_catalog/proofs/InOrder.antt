@@ -1,8 +1,9 @@
 -- Names that are looked up in order.
-use Rattle.std.proofs.Common.{◌≡◌, ◌∙◌, ℕ, zero, suc, List, [], ◌∷◌, ◌++◌, take, Some, Result, Ok, Err, slice_get, refl, sym, ap}
+use Rattle.std.proofs.Common.{◌≡◌, ◌∙◌, ◌⊎◌, ℕ, zero, suc, Bool, true, false, if◌then◌else◌, inl, List, [], ◌∷◌, ◌++◌, take, Some, Result, Ok, Err, slice_get, refl, sym, ap, subst}
 use Rattle.std.proofs.lemmas.Option.{none-some, same_Some}
 use Rattle.sb_value.specs.declared.refusal.Refusal.{Refusal}
-use Rattle.sb_check.specs.Names.{and_then, in_order}
+use Rattle.sb_value.specs.declared.refusal.Refusal.TheVariants.{NoRuleset, NoMemory}
+use Rattle.sb_check.specs.Names.{and_then, in_order, required}
 
 module _ {A B : Type 0} (walk : A → Result B Refusal) where
   -- one more at the end
@@ -51,3 +52,8 @@ module _ {A B : Type 0} (walk : A → Result B Refusal) where
           and_then r (λ v. and_then (in_order walk xs) (λ zs. Ok (v ∷ zs))) ≡ Err e
       by (Err f) g rest = absurd (cc)
       by (Ok v) g rest = let o = inner v (in_order walk (take i xs)) refl g in ap (λ r. and_then r (λ zs. Ok (v ∷ zs))) (rest o.0 o.1)
+
+-- what is refused by itself is refused beside a ruleset, which comes first
+pub refused_beside : (has : Bool) (rules : Result (List ℕ) Refusal) (e r : Refusal) → (rules ≡ Err e) ⊎ (e ≡ NoMemory) → r ≡ (if has then e else NoRuleset) → (required has NoRuleset rules ≡ Err r) ⊎ (r ≡ NoMemory)
+refused_beside true rules e r h is = subst (λ (x : Refusal). (rules ≡ Err x) ⊎ (x ≡ NoMemory)) (sym is) h
+refused_beside false rules e r h is = inl (ap Err (sym is))

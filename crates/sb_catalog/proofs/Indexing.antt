@@ -163,26 +163,6 @@ listed_changed change keeps id (r ∷ rules) = λ i. by (nat_eq r.id id) i ∷ l
 pub listed_active : (id : ℕ) (active : Bool) (rules : List Rule) → map (λ (r : Rule). r.id) (with_active rules id active) ≡ map (λ (r : Rule). r.id) rules
 listed_active id active rules = listed_changed (λ r. record r { active = active }) (λ r. refl) id rules
 
--- ---- the set of the active rules
-
-pub joins : (id n : ℕ) (before active : Bool) → active ≡ true → (before || nat_eq id n) ≡ (before || (nat_eq n id && active))
-joins id n before active e = λ i. before || ((turned id n ∙ last (nat_eq n id)) i)
-  where
-    last : (b : Bool) → b ≡ (b && active)
-    last true = sym e
-    last false = refl
-
-pub stays_out : (id n : ℕ) (before active : Bool) → active ≡ false → before ≡ (before || (nat_eq n id && active))
-stays_out id n before active e = first before ∙ (λ i. before || sym (last (nat_eq n id)) i)
-  where
-    first : (b : Bool) → b ≡ (b || false)
-    first true = refl
-    first false = refl
-
-    last : (b : Bool) → (b && active) ≡ false
-    last true = e
-    last false = refl
-
 -- ---- rules that are found
 
 -- a rule that is found by its name is found by its number

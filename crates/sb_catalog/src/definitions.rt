@@ -1,5 +1,5 @@
 //! The rules with their order, and the rulesets: what commands on them do, in step with the index.
-ghost use Rattle.std.specs.Prelude.{◌≡◌, ℕ, List, [], true, false, None, Ok, Err, IsTrue, IsFalse, IfOk, OnSome, OnErr};
+ghost use Rattle.std.specs.Prelude.{◌≡◌, ℕ, List, [], true, false, None, Ok, Err, IsTrue, IsFalse, if◌then◌else◌, IfOk, OnSome, OnErr};
 ghost use Rattle.sb_value.specs.Flags.{flag_at};
 ghost use Rattle.sb_check.specs.Answer.{Answers};
 ghost use Rattle.sb_check.specs.RulePartsView.{new_parts, rule_parts};
@@ -90,7 +90,8 @@ impl Definitions {
         }
     }
 
-    /// Puts a new rule behind the others, unless its pairs close a cycle. Room in the order is had last: what follows takes no memory.
+    /// Puts a new rule behind the others, unless its pairs close a cycle. Room in the order is had last: what follows
+    /// takes no memory.
     fn push_rule(
         &mut self,
         rule: RuleId,
@@ -264,32 +265,31 @@ impl Definitions {
     pub fn add_rules(&mut self, alloc: Global, set: &Name, names: &[Name]) -> Result<(), Refusal>
         ensures { ChangesMembers with_rules self.old self.new set.now (members self.old set.now names.now) result }
     {
-        let members = match self.members(alloc, set, names) {
-            Ok(members) => members,
-            Err(refusal) => return Err(refusal),
-        };
-        self.rulesets.add_rules(set, members.as_slice())
+        match self.numbers(alloc, names) {
+            Ok(rules) => self.rulesets.add_rules(set, rules.as_slice()),
+            Err(refusal) => Err(self.refusal_beside(set, refusal)),
+        }
     }
 
     /// Takes the rules of these names out of the ruleset.
     pub fn del_rules(&mut self, alloc: Global, set: &Name, names: &[Name]) -> Result<(), Refusal>
         ensures { ChangesMembers without_rules self.old self.new set.now (members self.old set.now names.now) result }
     {
-        let members = match self.members(alloc, set, names) {
-            Ok(members) => members,
-            Err(refusal) => return Err(refusal),
-        };
-        self.rulesets.del_rules(set, members.as_slice())
+        match self.numbers(alloc, names) {
+            Ok(rules) => self.rulesets.del_rules(set, rules.as_slice()),
+            Err(refusal) => Err(self.refusal_beside(set, refusal)),
+        }
     }
 
-    /// The numbers of rules that are named beside a ruleset.
-    fn members(&self, alloc: Global, set: &Name, names: &[Name]) -> Result<Vec<RuleId>, Refusal>
-        ensures { Answers (λ ids. ids.items) (members self.now set.now names.now) result }
+    /// Why rules are refused beside a ruleset, where they are refused for this by themselves. The ruleset comes first.
+    fn refusal_beside(&self, set: &Name, refusal: Refusal) -> Refusal
+        ensures { result ≡ (if has_ruleset self.now.rulesets set.now then refusal else Refusal.NoRuleset) }
     {
-        if !self.rulesets.has(set) {
-            return Err(Refusal::NoRuleset);
+        if self.rulesets.has(set) {
+            refusal
+        } else {
+            Refusal::NoRuleset
         }
-        self.numbers(alloc, names)
     }
 
     /// The active rules.

@@ -204,6 +204,15 @@ module _ (origin : List Held) (session : ℕ) (index : List (List TableSets)) (c
         let same = same-numbers origin session setting progress d records clock w.transaction new later time after k in
         (condition-there d.tables new.tables same rule.condition can.0, actions-there d.tables new.tables same rule.actions can.1, can.2)
 
+-- a look for the next rule, from where the work has come to
+pub looks : {origin : List Held} {start now seen : Database} {session : ℕ} {records later : List Record} {clock time : ℕ} {index : List (List TableSets)} {catalog : List Rule} {order : Ranks} {setting : Setting} {progress after : Progress} →
+    IsWork origin start session records clock index catalog order setting progress → ComesTo origin now session later time setting progress after → now.id ≡ start.id →
+    (IsWork origin now session later time index catalog order setting after → IsWork origin seen session later time index catalog order setting after) →
+    IsWork origin now session later time index catalog order setting after × IsWork origin seen session later time index catalog order setting after × ComesTo origin seen session later time setting progress after
+looks {origin} {start} {now} {seen} {session} {records} {later} {clock} {time} {index} {catalog} {order} {setting} {progress} {after} w k same on =
+    let work = work-after origin session index catalog order setting progress start records clock w now later time after k same in
+    (work, on work, comes-looked origin session index catalog order setting progress start records clock w now later time after k seen (on work))
+
 pub if-ok : {A : Type 0} (P : A → Type 0) (r : Result A AllocError) (x : A) → r ≡ Ok x → IfOk r P → P x
 if-ok P r x e h = subst (λ s. IfOk s P) e h
 

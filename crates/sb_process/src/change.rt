@@ -24,14 +24,21 @@ use crate::lock_list::{statement_locks, target_of};
 use crate::ready::prepare;
 use crate::refusal::refusal_for;
 use crate::request::request;
-use crate::view::no_transition;
+use crate::view::{Viewer, no_transition};
 use sb_check::Statement;
 use sb_eval::{changes, changes_are_proper};
 use sb_index::RuleIndex;
 use sb_rawlog::ChangeLog;
 use sb_tables::changes_keep_places;
-use sb_value::{Change, Refusal, SessionId, TableId, Transition};
+use sb_value::{Change, Refusal, SessionId, TableId};
 use std::alloc::Global;
+
+/// The changes of a statement, and the table that they are of.
+#[derive(Drop)]
+struct Effect {
+    target: TableId,
+    changes: Vec<Change>,
+}
 
 impl Database {
     /// Makes the changes of a session's statement, once all its locks are taken, and says how many
@@ -59,38 +66,46 @@ impl Database {
         ensures numbers { (n : ℕ) → NumbersBelow n self.old.tables → NumbersBelow (n + 4096) self.new.tables }
     {
         let none = no_transition(alloc);
-        self.run(alloc, log, index, session, &none, statement)
+        let viewer = Viewer {
+            session,
+            tables: &none,
+        };
+        self.run(alloc, log, index, &viewer, statement)
     }
 
-    /// Runs a statement of a session or of a rule, which sees these transition tables.
+    /// Runs a statement of a session or of a rule.
     pub(crate) fn run<L: ChangeLog>(
         &mut self,
         alloc: Global,
         log: &mut L,
         index: &RuleIndex,
-        session: SessionId,
-        tables: &Transition,
+        viewer: &Viewer<'_>,
         statement: &Statement,
     ) -> Result<usize, Refusal>
-        requires transaction { IsTransaction self.old session (L.records log.old) (L.clock log.old) }
+        requires transaction { IsTransaction self.old viewer.now.session (L.records log.old) (L.clock log.old) }
         requires there { AreThere self.old.tables (spec.statement_locks statement.now) }
         requires times { L.clock log.old + 4096 < 2 ^ 64 }
         requires numbers { NumbersBelow (2 ^ 64 - 4097) self.old.tables }
-        ensures ran { EachRunning self.old session (L.records log.old) (L.clock log.old) index.now
+        ensures ran { EachRunning self.old viewer.now.session (L.records log.old) (L.clock log.old) index.now
             (λ origin setting progress.
-            Runs origin self.new session tables.now statement.now result
+            Runs origin self.new viewer.now.session viewer.now.tables.now statement.now result
             (L.records log.new) (L.clock log.new) setting progress) }
         ensures id { self.new.id ≡ self.old.id }
-        ensures sessions { OtherSessionsStay self.old.transactions self.new.transactions session }
-        ensures others { OthersStay (who_in self.old session) (L.records log.old) (L.records log.new) }
+        ensures sessions { OtherSessionsStay self.old.transactions self.new.transactions viewer.now.session }
+        ensures others { OthersStay (who_in self.old viewer.now.session) (L.records log.old) (L.records log.new) }
         ensures times { RisesBy 4096 (L.clock log.old) (L.clock log.new) }
         ensures numbers { (n : ℕ) → NumbersBelow n self.old.tables → NumbersBelow (n + 4096) self.new.tables }
     {
         let Ok(list) = statement_locks(alloc, statement) else {
             return Err(Refusal::NoMemory);
         };
-        match request(&mut self.locks, &self.tables, session, list.as_slice()) {
-            Ok(()) => self.run_granted(alloc, log, index, session, tables, statement),
+        match request(
+            &mut self.locks,
+            &self.tables,
+            viewer.session,
+            list.as_slice(),
+        ) {
+            Ok(()) => self.run_granted(alloc, log, index, viewer, statement),
             Err(refusal) => Err(refusal),
         }
     }
@@ -101,31 +116,35 @@ impl Database {
         alloc: Global,
         log: &mut L,
         index: &RuleIndex,
-        session: SessionId,
-        tables: &Transition,
+        viewer: &Viewer<'_>,
         statement: &Statement,
     ) -> Result<usize, Refusal>
-        requires transaction { IsTransaction self.old session (L.records log.old) (L.clock log.old) }
+        requires transaction { IsTransaction self.old viewer.now.session (L.records log.old) (L.clock log.old) }
         requires there { IsTrue (has_number self.old.tables (target statement.now)) }
-        requires locked { IsTrue (held self.old.locks session (target statement.now) mode.Write) }
+        requires locked { IsTrue (held self.old.locks viewer.now.session (target statement.now) mode.Write) }
         requires times { L.clock log.old + 4096 < 2 ^ 64 }
         requires numbers { NumbersBelow (2 ^ 64 - 4097) self.old.tables }
-        ensures ran { EachRunning self.old session (L.records log.old) (L.clock log.old) index.now
+        ensures ran { EachRunning self.old viewer.now.session (L.records log.old) (L.clock log.old) index.now
             (λ origin setting progress.
-            Changes origin self.new session
-            (spec.statement_changes (seen_with setting tables.now progress) statement.now) result (L.records log.new) (L.clock log.new) setting progress) }
+            Changes origin self.new viewer.now.session
+            (spec.statement_changes (seen_with setting viewer.now.tables.now progress) statement.now) result
+            (L.records log.new) (L.clock log.new) setting progress) }
         ensures id { self.new.id ≡ self.old.id }
-        ensures sessions { OtherSessionsStay self.old.transactions self.new.transactions session }
-        ensures others { OthersStay (who_in self.old session) (L.records log.old) (L.records log.new) }
+        ensures sessions { OtherSessionsStay self.old.transactions self.new.transactions viewer.now.session }
+        ensures others { OthersStay (who_in self.old viewer.now.session) (L.records log.old) (L.records log.new) }
         ensures times { RisesBy 4096 (L.clock log.old) (L.clock log.new) }
         ensures numbers { (n : ℕ) → NumbersBelow n self.old.tables → NumbersBelow (n + 4096) self.new.tables }
     {
         // for the proof: the tables are sound, and the changes of a statement can be made of them
         changes_keep_places();
         changes_are_proper();
-        match self.evaluate(alloc, session, tables, statement) {
+        match self.evaluate(alloc, viewer, statement) {
             Ok(changes) => {
-                self.make_all(alloc, log, index, session, target_of(statement), changes)
+                let effect = Effect {
+                    target: target_of(statement),
+                    changes,
+                };
+                self.make_all(alloc, log, index, viewer.session, effect)
             }
             Err(refusal) => Err(refusal),
         }
@@ -135,18 +154,17 @@ impl Database {
     fn evaluate(
         &self,
         alloc: Global,
-        session: SessionId,
-        tables: &Transition,
+        viewer: &Viewer<'_>,
         statement: &Statement,
     ) -> Result<Vec<Change>, Refusal>
         ensures ok { IfOk result (λ changes.
-            spec.statement_changes (seen_by self.now.tables tables.now (who_in self.now session)) statement.now
-            ≡ Ok changes.items) }
+            spec.statement_changes (seen_by self.now.tables viewer.now.tables.now (who_in self.now viewer.now.session))
+            statement.now ≡ Ok changes.items) }
         ensures err { IfErr result (λ refusal.
-            (spec.statement_changes (seen_by self.now.tables tables.now (who_in self.now session)) statement.now
-            ≡ Err refusal) ⊎ (refusal ≡ variant.NoMemory)) }
+            (spec.statement_changes (seen_by self.now.tables viewer.now.tables.now (who_in self.now viewer.now.session))
+            statement.now ≡ Err refusal) ⊎ (refusal ≡ variant.NoMemory)) }
     {
-        let view = self.view(session, tables);
+        let view = self.view(viewer);
         match changes(alloc, statement, &view) {
             Ok(changes) => Ok(changes),
             Err(error) => Err(refusal_for(error)),
@@ -160,19 +178,19 @@ impl Database {
         log: &mut L,
         index: &RuleIndex,
         session: SessionId,
-        target: TableId,
-        changes: Vec<Change>,
+        effect: Effect,
     ) -> Result<usize, Refusal>
-        requires makeable { AreMakeable (entries self.old.tables) (who_in self.old session) target changes.items }
-        requires there { IsTrue (has_number self.old.tables target) }
+        requires makeable { AreMakeable (entries self.old.tables) (who_in self.old session) effect.target
+            effect.changes.items }
+        requires there { IsTrue (has_number self.old.tables effect.target) }
         requires numbered { AreNumbered self.old.tables }
         requires stored { AreStored self.old.tables }
-        requires locked { IsTrue (held self.old.locks session target mode.Write) }
+        requires locked { IsTrue (held self.old.locks session effect.target mode.Write) }
         requires times { L.clock log.old + 4096 < 2 ^ 64 }
         requires numbers { NumbersBelow (2 ^ 64 - 4097) self.old.tables }
         ensures made { EachRunning self.old session (L.records log.old) (L.clock log.old) index.now
             (λ origin setting progress.
-            Changes origin self.new session (Ok changes.items) result
+            Changes origin self.new session (Ok effect.changes.items) result
             (L.records log.new) (L.clock log.new) setting progress) }
         ensures id { self.new.id ≡ self.old.id }
         ensures sessions { OtherSessionsStay self.old.transactions self.new.transactions session }
@@ -180,6 +198,7 @@ impl Database {
         ensures times { RisesBy 4096 (L.clock log.old) (L.clock log.new) }
         ensures numbers { (n : ℕ) → NumbersBelow n self.old.tables → NumbersBelow (n + 4096) self.new.tables }
     {
+        let Effect { target, changes } = effect;
         let count = changes.len();
         match prepare(alloc, &mut self.tables, log, target, changes) {
             Ok(list) => {

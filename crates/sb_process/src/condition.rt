@@ -14,31 +14,35 @@ use crate::database::Database;
 use crate::lock_list::query_locks;
 use crate::refusal::refusal_for;
 use crate::request::request;
+use crate::view::Viewer;
 use sb_check::Query;
 use sb_eval::holds;
-use sb_value::{Refusal, SessionId, Transition};
+use sb_value::Refusal;
 use std::alloc::Global;
 
 impl Database {
-    /// Whether a rule's condition is true over these transition tables, once all its locks are taken.
+    /// Whether a rule's condition is true over what the viewer sees, once all its locks are taken.
     pub(crate) fn test(
         &mut self,
         alloc: Global,
-        session: SessionId,
-        tables: &Transition,
+        viewer: &Viewer<'_>,
         condition: &Option<Query>,
     ) -> Result<bool, Refusal>
         requires { IsConditionThere self.old.tables condition.now }
-        ensures tested { (records : List Record) (clock : ℕ) → EachTransaction self.old session records clock
-            (λ origin setting progress. Tests (ComesTo origin self.new session records clock setting progress)
-            (test_condition setting tables.now condition.now progress) result ⊎ (result ≡ Err Refusal.NoMemory)) }
-        ensures under_way { (records : List Record) (clock : ℕ) → EachTransaction self.old session records clock
+        ensures tested { (records : List Record) (clock : ℕ) →
+            EachTransaction self.old viewer.now.session records clock
+            (λ origin setting progress.
+            Tests (ComesTo origin self.new viewer.now.session records clock setting progress)
+            (test_condition setting viewer.now.tables.now condition.now progress) result
+            ⊎ (result ≡ Err Refusal.NoMemory)) }
+        ensures under_way { (records : List Record) (clock : ℕ) →
+            EachTransaction self.old viewer.now.session records clock
             (λ origin setting progress. (after : Progress)
-            × ComesTo origin self.new session records clock setting progress after) }
+            × ComesTo origin self.new viewer.now.session records clock setting progress after) }
         ensures only_locks { self.new ≡ record self.old { locks = self.new.locks } }
     {
         match condition {
-            Some(query) => self.test_query(alloc, session, tables, query),
+            Some(query) => self.test_query(alloc, viewer, query),
             None => Ok(true),
         }
     }
@@ -46,40 +50,42 @@ impl Database {
     fn test_query(
         &mut self,
         alloc: Global,
-        session: SessionId,
-        tables: &Transition,
+        viewer: &Viewer<'_>,
         query: &Query,
     ) -> Result<bool, Refusal>
         requires { AreThere self.old.tables (statement.query_locks query.now) }
-        ensures tested { (records : List Record) (clock : ℕ) → EachTransaction self.old session records clock
-            (λ origin setting progress. Tests (ComesTo origin self.new session records clock setting progress)
-            (test_condition setting tables.now (Some query.now) progress) result ⊎ (result ≡ Err Refusal.NoMemory)) }
-        ensures under_way { (records : List Record) (clock : ℕ) → EachTransaction self.old session records clock
+        ensures tested { (records : List Record) (clock : ℕ) →
+            EachTransaction self.old viewer.now.session records clock
+            (λ origin setting progress.
+            Tests (ComesTo origin self.new viewer.now.session records clock setting progress)
+            (test_condition setting viewer.now.tables.now (Some query.now) progress) result
+            ⊎ (result ≡ Err Refusal.NoMemory)) }
+        ensures under_way { (records : List Record) (clock : ℕ) →
+            EachTransaction self.old viewer.now.session records clock
             (λ origin setting progress. (after : Progress)
-            × ComesTo origin self.new session records clock setting progress after) }
+            × ComesTo origin self.new viewer.now.session records clock setting progress after) }
         ensures only_locks { self.new ≡ record self.old { locks = self.new.locks } }
     {
         let Ok(list) = query_locks(alloc, query) else {
             return Err(Refusal::NoMemory);
         };
-        match request(&mut self.locks, &self.tables, session, list.as_slice()) {
-            Ok(()) => self.has_row(alloc, session, tables, query),
+        match request(
+            &mut self.locks,
+            &self.tables,
+            viewer.session,
+            list.as_slice(),
+        ) {
+            Ok(()) => self.has_row(alloc, viewer, query),
             Err(refusal) => Err(refusal),
         }
     }
 
     /// Whether a query has a row over the tables as they are.
-    fn has_row(
-        &self,
-        alloc: Global,
-        session: SessionId,
-        tables: &Transition,
-        query: &Query,
-    ) -> Result<bool, Refusal>
+    fn has_row(&self, alloc: Global, viewer: &Viewer<'_>, query: &Query) -> Result<bool, Refusal>
         ensures { IsAnswer (truth (statement.condition_rows
-            (seen_by self.now.tables tables.now (who_in self.now session)) query.now)) result }
+            (seen_by self.now.tables viewer.now.tables.now (who_in self.now viewer.now.session)) query.now)) result }
     {
-        let view = self.view(session, tables);
+        let view = self.view(viewer);
         match holds(alloc, query, &view) {
             Ok(found) => Ok(found),
             Err(error) => Err(refusal_for(error)),

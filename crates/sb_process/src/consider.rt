@@ -11,6 +11,7 @@ ghost use Rattle.sb_marks.specs.Transactions.{OtherSessionsStay};
 ghost use Rattle.sb_process.specs.Work.{AreActionsThere, IsConditionThere};
 
 use crate::database::Database;
+use crate::view::Viewer;
 use sb_catalog::Rule;
 use sb_check::Action;
 use sb_index::RuleIndex;
@@ -27,6 +28,13 @@ pub(crate) enum Consideration {
     RolledBack,
 }
 
+/// The rule that is considered next, and the session that considers it.
+#[derive(Drop)]
+pub(crate) struct Chosen<'a> {
+    pub(crate) session: SessionId,
+    pub(crate) rule: &'a Rule,
+}
+
 impl Database {
     /// Considers a rule: its transition tables are taken and stay, its mark is set, and where its condition is true its
     /// actions run.
@@ -35,37 +43,40 @@ impl Database {
         alloc: Global,
         log: &mut L,
         index: &RuleIndex,
-        session: SessionId,
-        rule: &Rule,
+        chosen: &Chosen<'_>,
     ) -> Result<Consideration, Refusal>
-        requires running { IsUnderWay self.old session (L.records log.old) (L.clock log.old) index.now }
-        requires condition { IsConditionThere self.old.tables rule.now.condition }
-        requires actions { AreActionsThere self.old.tables rule.now.actions }
-        requires few { length rule.now.actions ≤ 8 }
+        requires running { IsUnderWay self.old chosen.now.session (L.records log.old) (L.clock log.old) index.now }
+        requires condition { IsConditionThere self.old.tables chosen.now.rule.now.condition }
+        requires actions { AreActionsThere self.old.tables chosen.now.rule.now.actions }
+        requires few { length chosen.now.rule.now.actions ≤ 8 }
         requires times { L.clock log.old + 32768 < 2 ^ 64 }
         requires numbers { (n : ℕ) × (n + 32768 < 2 ^ 64) × NumbersBelow n self.old.tables }
-        ensures considered { EachRunning self.old session (L.records log.old) (L.clock log.old) index.now
+        ensures considered { EachRunning self.old chosen.now.session (L.records log.old) (L.clock log.old) index.now
             (λ origin setting progress.
-            Goes (ComesTo origin self.new session (L.records log.new) (L.clock log.new) setting progress)
-            (spec.consider setting rule.now progress) result ⊎ (result ≡ Err Refusal.NoMemory)) }
-        ensures under_way { EachRunning self.old session (L.records log.old) (L.clock log.old) index.now
+            Goes (ComesTo origin self.new chosen.now.session (L.records log.new) (L.clock log.new) setting progress)
+            (spec.consider setting chosen.now.rule.now progress) result ⊎ (result ≡ Err Refusal.NoMemory)) }
+        ensures under_way { EachRunning self.old chosen.now.session (L.records log.old) (L.clock log.old) index.now
             (λ origin setting progress. (after : Progress)
-            × ComesTo origin self.new session (L.records log.new) (L.clock log.new) setting progress after) }
+            × ComesTo origin self.new chosen.now.session (L.records log.new) (L.clock log.new) setting progress after) }
         ensures id { self.new.id ≡ self.old.id }
-        ensures sessions { OtherSessionsStay self.old.transactions self.new.transactions session }
-        ensures others { OthersStay (who_in self.old session) (L.records log.old) (L.records log.new) }
+        ensures sessions { OtherSessionsStay self.old.transactions self.new.transactions chosen.now.session }
+        ensures others { OthersStay (who_in self.old chosen.now.session) (L.records log.old) (L.records log.new) }
         ensures times { RisesBy 32768 (L.clock log.old) (L.clock log.new) }
         ensures numbers { (n : ℕ) → NumbersBelow n self.old.tables → NumbersBelow (n + 32768) self.new.tables }
     {
-        let Ok(tables) = self.rule_tables(alloc, log, session, rule) else {
+        let Ok(tables) = self.rule_tables(alloc, log, chosen) else {
             return Err(Refusal::NoMemory);
         };
-        let Ok(()) = self.mark_now(log, session, rule) else {
+        let Ok(()) = self.mark_now(log, chosen) else {
             return Err(Refusal::NoMemory);
         };
-        match self.test(alloc, session, &tables, &rule.condition) {
+        let viewer = Viewer {
+            session: chosen.session,
+            tables: &tables,
+        };
+        match self.test(alloc, &viewer, &chosen.rule.condition) {
             Ok(true) => {
-                self.run_actions(alloc, log, index, session, &tables, rule.actions.as_slice())
+                self.run_actions(alloc, log, index, &viewer, chosen.rule.actions.as_slice())
             }
             Ok(false) => Ok(Consideration::False),
             Err(refusal) => Err(refusal),
@@ -77,38 +88,41 @@ impl Database {
         &self,
         alloc: Global,
         log: &L,
-        session: SessionId,
-        rule: &Rule,
+        chosen: &Chosen<'_>,
     ) -> Result<Transition, AllocError>
-        ensures { EachTransaction self.now session (L.records log.now) (L.clock log.now)
-            (λ origin setting progress. IfOk result (λ tables. tables ≡ rule_tables progress rule.now)) }
+        ensures { EachTransaction self.now chosen.now.session (L.records log.now) (L.clock log.now)
+            (λ origin setting progress. IfOk result (λ tables. tables ≡ rule_tables progress chosen.now.rule.now)) }
     {
         // for the proof: a time marks the changes that are older
         let _now = log.now();
         let who = Who {
             tenant: self.id,
-            session,
+            session: chosen.session,
         };
-        let since = self.transactions.mark(session, rule.id);
-        transition_tables(alloc, log, who, rule.table, rule.triggers, since)
+        let since = self.transactions.mark(chosen.session, chosen.rule.id);
+        transition_tables(
+            alloc,
+            log,
+            who,
+            chosen.rule.table,
+            chosen.rule.triggers,
+            since,
+        )
     }
 
     /// Sets a rule's mark at the end of the session's changes.
-    fn mark_now<L: ChangeLog>(
-        &mut self,
-        log: &L,
-        session: SessionId,
-        rule: &Rule,
-    ) -> Result<(), AllocError>
-        ensures marked { OnOk result (EachTransaction self.old session (L.records log.now) (L.clock log.now)
+    fn mark_now<L: ChangeLog>(&mut self, log: &L, chosen: &Chosen<'_>) -> Result<(), AllocError>
+        ensures marked { OnOk result (EachTransaction self.old chosen.now.session (L.records log.now) (L.clock log.now)
             (λ origin setting progress.
-            Represents origin self.new session (L.records log.now) (L.clock log.now) setting
-            (marked rule.now progress))) }
-        ensures sessions { OnOk result (OtherSessionsStay self.old.transactions self.new.transactions session) }
+            Represents origin self.new chosen.now.session (L.records log.now) (L.clock log.now) setting
+            (marked chosen.now.rule.now progress))) }
+        ensures sessions { OnOk result
+            (OtherSessionsStay self.old.transactions self.new.transactions chosen.now.session) }
         ensures only_marks { OnOk result (self.new ≡ record self.old { transactions = self.new.transactions }) }
         ensures unchanged { OnErr result (self.new ≡ self.old) }
     {
-        self.transactions.set_mark(session, rule.id, log.now())?;
+        self.transactions
+            .set_mark(chosen.session, chosen.rule.id, log.now())?;
         Ok(())
     }
 
@@ -118,24 +132,24 @@ impl Database {
         alloc: Global,
         log: &mut L,
         index: &RuleIndex,
-        session: SessionId,
-        tables: &Transition,
+        viewer: &Viewer<'_>,
         actions: &[Action],
     ) -> Result<Consideration, Refusal>
-        requires running { IsUnderWay self.old session (L.records log.old) (L.clock log.old) index.now }
+        requires running { IsUnderWay self.old viewer.now.session (L.records log.old) (L.clock log.old) index.now }
         requires actions { AreActionsThere self.old.tables actions.now }
         requires times { L.clock log.old + 4096 * length actions.now < 2 ^ 64 }
         requires numbers { (n : ℕ) × (n + 4096 * length actions.now < 2 ^ 64) × NumbersBelow n self.old.tables }
-        ensures ran { EachRunning self.old session (L.records log.old) (L.clock log.old) index.now
+        ensures ran { EachRunning self.old viewer.now.session (L.records log.old) (L.clock log.old) index.now
             (λ origin setting progress.
-            Ends (ComesTo origin self.new session (L.records log.new) (L.clock log.new) setting progress)
-            (spec.run_actions setting tables.now actions.now progress) result ⊎ (result ≡ Err Refusal.NoMemory)) }
-        ensures under_way { EachRunning self.old session (L.records log.old) (L.clock log.old) index.now
+            Ends (ComesTo origin self.new viewer.now.session (L.records log.new) (L.clock log.new) setting progress)
+            (spec.run_actions setting viewer.now.tables.now actions.now progress) result
+            ⊎ (result ≡ Err Refusal.NoMemory)) }
+        ensures under_way { EachRunning self.old viewer.now.session (L.records log.old) (L.clock log.old) index.now
             (λ origin setting progress. (after : Progress)
-            × ComesTo origin self.new session (L.records log.new) (L.clock log.new) setting progress after) }
+            × ComesTo origin self.new viewer.now.session (L.records log.new) (L.clock log.new) setting progress after) }
         ensures id { self.new.id ≡ self.old.id }
-        ensures sessions { OtherSessionsStay self.old.transactions self.new.transactions session }
-        ensures others { OthersStay (who_in self.old session) (L.records log.old) (L.records log.new) }
+        ensures sessions { OtherSessionsStay self.old.transactions self.new.transactions viewer.now.session }
+        ensures others { OthersStay (who_in self.old viewer.now.session) (L.records log.old) (L.records log.new) }
         ensures times { RisesBy (4096 * length actions.now) (L.clock log.old) (L.clock log.new) }
         ensures numbers { (n : ℕ) → NumbersBelow n self.old.tables
             → NumbersBelow (n + 4096 * length actions.now) self.new.tables }
@@ -143,8 +157,8 @@ impl Database {
         match actions {
             [] => Ok(Consideration::True),
             [first, rest @ ..] => {
-                match self.run_action(alloc, log, index, session, tables, first) {
-                    Ok(true) => self.run_actions(alloc, log, index, session, tables, rest),
+                match self.run_action(alloc, log, index, viewer, first) {
+                    Ok(true) => self.run_actions(alloc, log, index, viewer, rest),
                     Ok(false) => Ok(Consideration::RolledBack),
                     Err(refusal) => Err(refusal),
                 }
@@ -158,31 +172,31 @@ impl Database {
         alloc: Global,
         log: &mut L,
         index: &RuleIndex,
-        session: SessionId,
-        tables: &Transition,
+        viewer: &Viewer<'_>,
         action: &Action,
     ) -> Result<bool, Refusal>
-        requires running { IsUnderWay self.old session (L.records log.old) (L.clock log.old) index.now }
+        requires running { IsUnderWay self.old viewer.now.session (L.records log.old) (L.clock log.old) index.now }
         requires action { AreActionsThere self.old.tables (action.now ∷ []) }
         requires times { L.clock log.old + 4096 < 2 ^ 64 }
         requires numbers { NumbersBelow (2 ^ 64 - 4097) self.old.tables }
-        ensures ran { EachRunning self.old session (L.records log.old) (L.clock log.old) index.now
+        ensures ran { EachRunning self.old viewer.now.session (L.records log.old) (L.clock log.old) index.now
             (λ origin setting progress.
-            Acts (ComesTo origin self.new session (L.records log.new) (L.clock log.new) setting progress)
-            (spec.run_actions setting tables.now (action.now ∷ []) progress) result ⊎ (result ≡ Err Refusal.NoMemory)) }
-        ensures under_way { EachRunning self.old session (L.records log.old) (L.clock log.old) index.now
+            Acts (ComesTo origin self.new viewer.now.session (L.records log.new) (L.clock log.new) setting progress)
+            (spec.run_actions setting viewer.now.tables.now (action.now ∷ []) progress) result
+            ⊎ (result ≡ Err Refusal.NoMemory)) }
+        ensures under_way { EachRunning self.old viewer.now.session (L.records log.old) (L.clock log.old) index.now
             (λ origin setting progress. (after : Progress)
-            × ComesTo origin self.new session (L.records log.new) (L.clock log.new) setting progress after) }
+            × ComesTo origin self.new viewer.now.session (L.records log.new) (L.clock log.new) setting progress after) }
         ensures id { self.new.id ≡ self.old.id }
-        ensures sessions { OtherSessionsStay self.old.transactions self.new.transactions session }
-        ensures others { OthersStay (who_in self.old session) (L.records log.old) (L.records log.new) }
+        ensures sessions { OtherSessionsStay self.old.transactions self.new.transactions viewer.now.session }
+        ensures others { OthersStay (who_in self.old viewer.now.session) (L.records log.old) (L.records log.new) }
         ensures times { RisesBy 4096 (L.clock log.old) (L.clock log.new) }
         ensures numbers { (n : ℕ) → NumbersBelow n self.old.tables → NumbersBelow (n + 4096) self.new.tables }
     {
         match action {
             Action::Rollback => Ok(false),
             Action::Change(statement) => {
-                match self.run(alloc, log, index, session, tables, statement) {
+                match self.run(alloc, log, index, viewer, statement) {
                     Ok(_) => Ok(true),
                     Err(refusal) => Err(refusal),
                 }

@@ -11,12 +11,11 @@ ghost use Rattle.sb_marks.specs.Transactions.{OtherSessionsStay};
 ghost use Rattle.sb_process.specs.Work.{AreActionsThere, IsConditionThere};
 
 use crate::Outcome;
-use crate::consider::Consideration;
+use crate::consider::{Chosen, Consideration};
 use crate::database::Database;
-use sb_catalog::Rule;
 use sb_index::RuleIndex;
 use sb_rawlog::ChangeLog;
-use sb_value::{Refusal, RuleId, SessionId, Verdict};
+use sb_value::{Refusal, RuleId, Verdict};
 use std::alloc::{AllocError, Global};
 
 impl Database {
@@ -26,34 +25,34 @@ impl Database {
         alloc: Global,
         log: &mut L,
         index: &RuleIndex,
-        session: SessionId,
-        rule: &Rule,
+        chosen: &Chosen<'_>,
         trace: &mut Vec<(RuleId, Verdict)>,
     ) -> Result<Option<Outcome>, AllocError>
-        requires running { IsUnderWay self.old session (L.records log.old) (L.clock log.old) index.now }
-        requires condition { IsConditionThere self.old.tables rule.now.condition }
-        requires actions { AreActionsThere self.old.tables rule.now.actions }
-        requires few { length rule.now.actions ≤ 8 }
+        requires running { IsUnderWay self.old chosen.now.session (L.records log.old) (L.clock log.old) index.now }
+        requires condition { IsConditionThere self.old.tables chosen.now.rule.now.condition }
+        requires actions { AreActionsThere self.old.tables chosen.now.rule.now.actions }
+        requires few { length chosen.now.rule.now.actions ≤ 8 }
         requires times { L.clock log.old + 32768 < 2 ^ 64 }
         requires numbers { (n : ℕ) × (n + 32768 < 2 ^ 64) × NumbersBelow n self.old.tables }
-        ensures noted { EachRunning self.old session (L.records log.old) (L.clock log.old) index.now
+        ensures noted { EachRunning self.old chosen.now.session (L.records log.old) (L.clock log.old) index.now
             (λ origin setting progress. IfOk result (λ o.
-            Notes (ComesTo origin self.new session (L.records log.new) (L.clock log.new) setting progress)
-            rule.now.id progress (spec.consider setting rule.now progress) trace.old.items trace.new.items o)) }
-        ensures under_way { EachRunning self.old session (L.records log.old) (L.clock log.old) index.now
+            Notes (ComesTo origin self.new chosen.now.session (L.records log.new) (L.clock log.new) setting progress)
+            chosen.now.rule.now.id progress (spec.consider setting chosen.now.rule.now progress)
+            trace.old.items trace.new.items o)) }
+        ensures under_way { EachRunning self.old chosen.now.session (L.records log.old) (L.clock log.old) index.now
             (λ origin setting progress. (after : Progress)
-            × ComesTo origin self.new session (L.records log.new) (L.clock log.new) setting progress after) }
+            × ComesTo origin self.new chosen.now.session (L.records log.new) (L.clock log.new) setting progress after) }
         ensures id { self.new.id ≡ self.old.id }
-        ensures sessions { OtherSessionsStay self.old.transactions self.new.transactions session }
-        ensures others { OthersStay (who_in self.old session) (L.records log.old) (L.records log.new) }
+        ensures sessions { OtherSessionsStay self.old.transactions self.new.transactions chosen.now.session }
+        ensures others { OthersStay (who_in self.old chosen.now.session) (L.records log.old) (L.records log.new) }
         ensures times { RisesBy 32768 (L.clock log.old) (L.clock log.new) }
         ensures numbers { (n : ℕ) → NumbersBelow n self.old.tables → NumbersBelow (n + 32768) self.new.tables }
     {
         if trace.reserve(1).is_err() {
             return Err(AllocError);
         }
-        let considered = self.consider(alloc, log, index, session, rule);
-        note(trace, rule.id, considered)
+        let considered = self.consider(alloc, log, index, chosen);
+        note(trace, chosen.rule.id, considered)
     }
 }
 

@@ -11,6 +11,7 @@ ghost use Rattle.sb_process.specs.Statement.{RisesBy};
 ghost use Rattle.sb_marks.specs.Transactions.{OtherSessionsStay, ArePast};
 ghost use Rattle.sb_process.specs.Work.{EachWork, IsAtWork, AreActive, CanRun, Processes};
 
+use crate::consider::Chosen;
 use crate::database::Database;
 use crate::{Outcome, Processed, Trace};
 use sb_catalog::Catalog;
@@ -137,7 +138,11 @@ impl Database {
             let Some(rule) = self.next_rule(log, rules, point.session, point.eligible) else {
                 return Ok(Outcome::Done);
             };
-            match self.consider_noted(alloc, log, rules.index, point.session, rule, trace) {
+            let chosen = Chosen {
+                session: point.session,
+                rule,
+            };
+            match self.consider_noted(alloc, log, rules.index, &chosen, trace) {
                 Ok(None) => {}
                 Ok(Some(outcome)) => return Ok(outcome),
                 Err(error) => return Err(error),

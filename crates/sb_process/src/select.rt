@@ -11,7 +11,7 @@ use crate::database::Database;
 use crate::lock_list::query_locks;
 use crate::refusal::refusal_for;
 use crate::request::request;
-use crate::view::no_transition;
+use crate::view::{Viewer, no_transition};
 use sb_check::Query;
 use sb_eval::select_rows;
 use sb_rows::SharedRows;
@@ -47,7 +47,11 @@ impl Database {
             (seen_by self.now.tables seen.no_transition (who_in self.now session)) query.now) result }
     {
         let none = no_transition(alloc);
-        let view = self.view(session, &none);
+        let viewer = Viewer {
+            session,
+            tables: &none,
+        };
+        let view = self.view(&viewer);
         match select_rows(alloc, query, &view) {
             Ok(rows) => Ok(rows),
             Err(error) => Err(refusal_for(error)),

@@ -22,19 +22,26 @@ pub(crate) struct View<'a> {
     pub(crate) who: Who,
 }
 
+/// Who sees the tables: a session, and the transition tables of its rule, or none.
+#[derive(Drop)]
+pub(crate) struct Viewer<'a> {
+    pub(crate) session: SessionId,
+    pub(crate) tables: &'a Transition,
+}
+
 impl Database {
-    /// What a statement of the session sees, with these transition tables.
-    pub(crate) fn view<'a>(&'a self, session: SessionId, transition: &'a Transition) -> View<'a>
+    /// What a statement of the viewer sees.
+    pub(crate) fn view<'a>(&'a self, viewer: &Viewer<'a>) -> View<'a>
         ensures tables { result.tables.now ≡ self.now.tables }
-        ensures transition { result.transition.now ≡ transition.now }
-        ensures who { result.who ≡ who_in self.now session }
+        ensures transition { result.transition.now ≡ viewer.now.tables.now }
+        ensures who { result.who ≡ who_in self.now viewer.now.session }
     {
         View {
             tables: &self.tables,
-            transition,
+            transition: viewer.tables,
             who: Who {
                 tenant: self.id,
-                session,
+                session: viewer.session,
             },
         }
     }

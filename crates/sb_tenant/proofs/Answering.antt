@@ -1,5 +1,5 @@
 -- A command's class, what its session refuses, and what its answer leaves.
-use Rattle.std.proofs.Common.{◌≡◌, ◌∙◌, ◌⊎◌, ℕ, zero, suc, ◌+◌, ◌<◌, ◌≤◌, Bool, true, false, not, ◌&&◌, ◌||◌, nat_eq, List, [], ◌∷◌, length, refl, sym, ap, subst, arith, inl, inr, eqb-true, ne_eqb, unwrap_or}
+use Rattle.std.proofs.Common.{◌≡◌, ◌∙◌, ℕ, zero, suc, ◌+◌, ◌<◌, ◌≤◌, Bool, true, false, not, ◌&&◌, ◌||◌, nat_eq, List, [], ◌∷◌, length, refl, sym, ap, subst, arith, inl, inr, eqb-true, ne_eqb, unwrap_or}
 use Rattle.std.specs.Prelude.{if◌then◌else◌, Option, None, Some, Result, IsTrue}
 use Rattle.std.specs.List.{list_any}
 use Rattle.std.proofs.lemmas.Bool.{ltb-true, lt-ltb, not-false}
@@ -15,8 +15,6 @@ use Rattle.sb_syntax.specs.Tree.{Command}
 use Rattle.sb_syntax.specs.Tree as text
 use Rattle.sb_rawlog.specs.Records.{Record}
 use Rattle.sb_index.specs.TableSets.{TableSets}
-use Rattle.sb_tables.specs.Held.{Held}
-use Rattle.sb_process.specs.Made.{NumbersBelow}
 use Rattle.sb_tenant.specs.declared.phase.Phase.{Phase}
 use Rattle.sb_tenant.specs.declared.phase.Phase.TheVariants.{Closed, Idle, Active}
 use Rattle.sb_tenant.specs.declared.reply.Reply.{Reply}
@@ -30,6 +28,7 @@ use Rattle.sb_tenant.specs.State.{State, Session, closed, idle, active, session_
 use Rattle.sb_tenant.specs.Step.{refusal_by, first_of, session_refusal, outcome_of, reply_to_command, reply_to}
 use Rattle.sb_tenant.specs.Trail.{aborted}
 use Rattle.sb_tenant.specs.Walk.{class_of, walk}
+use Rattle.sb_tenant.proofs.Leaving.{below_more}
 
 -- ---- commands
 
@@ -168,27 +167,6 @@ may_define phases s i h =
 
 -- ---- what an answer leaves
 
-pub below_more : (n m : ℕ) (tables : List Held) → n ≤ m → NumbersBelow n tables → NumbersBelow m tables
-below_more n m [] le h = tt
-below_more n m (t ∷ tables) le h = (omega (arith, le, h.0), below_more n m tables le h.1)
-
-pub leaves_more : (n m : ℕ) (old new : Store) (s : ℕ) (before after : List Record) (clock later : ℕ) → n ≤ m → Leaves n old new s before after clock later → Leaves m old new s before after clock later
-leaves_more n m old new s before after clock later le h = record {
-  id = h.id;
-  others = h.others;
-  times = (h.times.0, omega (arith, le, h.times.1));
-  numbers = λ k below. below_more (k + n) (k + m) new.database.tables (omega (arith, le)) (h.numbers k below);
-}
-
--- nothing is left otherwise than it was
-pub leaves_all : (n : ℕ) (store : Store) (s : ℕ) (records : List Record) (clock : ℕ) → Leaves n store store s records records clock clock
-leaves_all n store s records clock = record {
-  id = refl;
-  others = λ other differs. refl;
-  times = (omega arith, omega arith);
-  numbers = λ k. below_more k (k + n) store.database.tables (omega arith);
-}
-
 -- without a transaction an abort changes nothing
 pub abort_idle : (state : State) (s : ℕ) → has_transaction (session_at state s) ≡ false → aborted state s ≡ state
 abort_idle state s h = ap (λ (b : Bool). elim b [ true ↦ rolled_back state s | false ↦ state ]) h
@@ -237,18 +215,9 @@ eighth s n same below = lt-ltb s 8 (subst (λ (k : ℕ). k < 8) same below)
 
 -- ---- what is left of the log
 
-pub leaves_database : (n : ℕ) (old new : Store) (s : ℕ) (records : List Record) (clock : ℕ) → new.database.id ≡ old.database.id → new.database.tables ≡ old.database.tables
-    → Leaves n old new s records records clock clock
-leaves_database n old new s records clock id tables = record {
-  id = id;
-  others = λ other differs. refl;
-  times = (omega arith, omega arith);
-  numbers = λ k below. below_more k (k + n) new.database.tables (omega arith) (subst (NumbersBelow k) (sym tables) below);
-}
-
-pub leaves_defined : (old new : Store) (before after : List (List TableSets)) (command : Command) (result : Result (Unit {0}) Refusal) (s : ℕ) (records : List Record) (clock : ℕ)
+pub leaves_defined : {old new : Store} {before after : List (List TableSets)} {command : Command} {result : Result (Unit {0}) Refusal} {s : ℕ} {records : List Record} {clock : ℕ}
     → Defines old new before after command result → Leaves 32768000 old new s records records clock clock
-leaves_defined old new before after command result s records clock d = record {
+leaves_defined {old} {new} d = record {
   id = d.id;
   others = λ other differs. refl;
   times = (omega arith, omega arith);

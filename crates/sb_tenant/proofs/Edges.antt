@@ -15,7 +15,7 @@ use Rattle.sb_tenant.specs.State.{State, idle, opening, session_at, has_transact
 use Rattle.sb_tenant.specs.Limits.{trail_limit}
 use Rattle.sb_tenant.specs.Step.{step}
 use Rattle.sb_tenant.specs.Trail.{entry_of, state_of}
-use Rattle.sb_tenant.proofs.Script.{replies, replies_in_sessions, row, t, h, a, integer_column, named, number, source, a_of, show, insert, b, aliased, plus_one, start, empties_h, no}
+use Rattle.sb_tenant.proofs.Script.{replies, replies_in_sessions, row, t, h, a, integer_column, named, number, source, a_of, show, insert, b, aliased, plus_one, start, no}
 
 -- ---- limits of the catalog
 

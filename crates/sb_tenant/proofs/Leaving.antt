@@ -1,16 +1,16 @@
 -- What calls leave, one after another, and the work of an assertion point.
-use Rattle.std.proofs.Common.{◌≡◌, ◌∙◌, ℕ, ◌+◌, ◌<◌, ◌≤◌, Bool, true, false, ◌&&◌, ◌||◌, cond, nat_eq, List, [], ◌∷◌, Some, None, refl, sym, ap, subst, eqb-true, arith, add-zero, IsTrue}
+use Rattle.std.proofs.Common.{◌≡◌, ◌∙◌, ℕ, ◌+◌, ◌≤◌, Bool, true, false, ◌&&◌, ◌||◌, cond, nat_eq, List, [], ◌∷◌, Some, None, refl, sym, ap, subst, eqb-true, arith, IsTrue}
 use Rattle.std.specs.List.{list_any}
 use Rattle.std.proofs.lemmas.Bool.{eq-eqb}
 use Rattle.std.proofs.lemmas.Option.{none-some}
-use Rattle.sb_value.specs.Table.{Entry}
 use Rattle.sb_rawlog.specs.Records.{Record}
-use Rattle.sb_tables.specs.Held.{Held, entries}
+use Rattle.sb_rawlog.specs.Sessions.{OthersStay as OtherRecordsStay}
+use Rattle.sb_tables.specs.Held.{Held}
 use Rattle.sb_index.specs.TableSets.{TableSets}
 use Rattle.sb_catalog.specs.Definitions.{AreIndexed, AreOrdered}
 use Rattle.sb_catalog.specs.Rules.{AreNumbered, numbered, is_active}
 use Rattle.sb_catalog.specs.declared.rule.Rule.{Rule}
-use Rattle.sb_process.specs.Made.{EachBelow, NumbersBelow}
+use Rattle.sb_process.specs.Made.{NumbersBelow}
 use Rattle.sb_process.specs.Sharing.{TablesAreShared}
 use Rattle.sb_process.specs.Work.{AreActive, IsWork}
 use Rattle.sb_tenant.specs.declared.store.Store.{Store}
@@ -22,41 +22,44 @@ use Rattle.sb_tenant.proofs.Standing.{base_of, one-session}
 
 -- ---- one call after another
 
-each-weaken : (m n : ℕ) (tables : List Entry) → m ≤ n → EachBelow m tables → EachBelow n tables
-each-weaken m n [] l h = tt
-each-weaken m n (e ∷ tables) l h = let first : e.table.next < m = h.0 in (omega arith, each-weaken m n tables l h.1)
+pub below_more : (n m : ℕ) (tables : List Held) → n ≤ m → NumbersBelow n tables → NumbersBelow m tables
+below_more n m [] le h = tt
+below_more n m (t ∷ tables) le h = (omega (arith, le, h.0), below_more n m tables le h.1)
 
-pub leaves-none : (old new : Store) (s : ℕ) (records : List Record) (clock : ℕ) → new.database.id ≡ old.database.id → new.database.tables ≡ old.database.tables → Leaves 0 old new s records records clock clock
-leaves-none old new s records clock id tables = record {
+-- what rises by little rises by no more than what rises by more
+pub leaves_more : {n m s : ℕ} {old new : Store} {before after : List Record} {clock later : ℕ} → Leaves n old new s before after clock later → n ≤ m → Leaves m old new s before after clock later
+leaves_more {n} {m} {s} {old} {new} h le = record {
+  id = h.id;
+  others = h.others;
+  times = (h.times.0, omega (arith, le, h.times.1));
+  numbers = λ k below. below_more (k + n) (k + m) new.database.tables (omega (arith, le)) (h.numbers k below);
+}
+
+-- the log stays as it was, and the tables do
+pub leaves_same : (n : ℕ) {s : ℕ} {old new : Store} {records : List Record} {clock : ℕ} → new.database.id ≡ old.database.id → new.database.tables ≡ old.database.tables → Leaves n old new s records records clock clock
+leaves_same n {s} {old} {new} id tables = record {
   id = id;
   others = λ other differs. refl;
   times = (omega arith, omega arith);
-  numbers = λ m h. subst (λ (k : ℕ). NumbersBelow k new.database.tables) (sym (add-zero m)) (subst (NumbersBelow m) (sym tables) h);
+  numbers = λ k below. below_more k (k + n) new.database.tables (omega arith) (subst (NumbersBelow k) (sym tables) below);
 }
 
-module _ (s : ℕ) (one two three : Store) (a b c : List Record) (x y z : ℕ) where
-  pub leaves-on : (n : ℕ) → Leaves n one two s a b x y → Leaves 0 two three s b c y z → Leaves n one three s a c x z
-  leaves-on n f g = record {
-    id = g.id ∙ f.id;
-    others = λ other differs. g.others other (λ e. differs (e ∙ ap (λ (id : ℕ). who_of id s) f.id)) ∙ f.others other differs;
-    times = let p : x ≤ y = f.times.0 in let q : y ≤ x + n = f.times.1 in let u : y ≤ z = g.times.0 in let v : z ≤ y + 0 = g.times.1 in (omega arith, omega arith);
-    numbers = λ m h. subst (λ (k : ℕ). NumbersBelow k three.database.tables) (add-zero (m + n)) (g.numbers (m + n) (f.numbers m h));
-  }
+-- what takes no time
+pub leaves_still : {s : ℕ} {old new : Store} {before after : List Record} {clock later : ℕ} → new.database.id ≡ old.database.id → OtherRecordsStay (who_of old.database.id s) before after → later ≡ clock →
+    ((m : ℕ) → NumbersBelow m old.database.tables → NumbersBelow m new.database.tables) → Leaves 0 old new s before after clock later
+leaves_still {s} {old} {new} id others same numbers = record {
+  id = id;
+  others = others;
+  times = (omega (arith, same), omega (arith, same));
+  numbers = λ m h. below_more m (m + 0) new.database.tables (omega arith) (numbers m h);
+}
 
-  pub leaves-first : (n : ℕ) → Leaves 0 one two s a b x y → Leaves n two three s b c y z → Leaves n one three s a c x z
-  leaves-first n f g = record {
-    id = g.id ∙ f.id;
-    others = λ other differs. g.others other (λ e. differs (e ∙ ap (λ (id : ℕ). who_of id s) f.id)) ∙ f.others other differs;
-    times = let p : x ≤ y = f.times.0 in let q : y ≤ x + 0 = f.times.1 in let u : y ≤ z = g.times.0 in let v : z ≤ y + n = g.times.1 in (omega arith, omega arith);
-    numbers = λ m h. g.numbers m (subst (λ (k : ℕ). NumbersBelow k two.database.tables) (add-zero m) (f.numbers m h));
-  }
-
-pub leaves-less : (n k s : ℕ) (one two : Store) (a b : List Record) (x y : ℕ) → n ≤ k → Leaves n one two s a b x y → Leaves k one two s a b x y
-leaves-less n k s one two a b x y less f = record {
-  id = f.id;
-  others = f.others;
-  times = let p : x ≤ y = f.times.0 in let q : y ≤ x + n = f.times.1 in (omega arith, omega arith);
-  numbers = λ m h. each-weaken (m + n) (m + k) (entries two.database.tables) (omega arith) (f.numbers m h);
+pub leaves_on : {n m s : ℕ} {one two three : Store} {a b c : List Record} {x y z : ℕ} → Leaves n one two s a b x y → Leaves m two three s b c y z → Leaves (n + m) one three s a c x z
+leaves_on {n} {m} {s} {one} {two} {three} f g = record {
+  id = g.id ∙ f.id;
+  others = λ other differs. g.others other (λ e. differs (e ∙ ap (λ (id : ℕ). who_of id s) f.id)) ∙ f.others other differs;
+  times = (omega (arith, f.times.0, g.times.0), omega (arith, f.times.1, g.times.1));
+  numbers = λ k h. below_more (k + n + m) (k + (n + m)) three.database.tables (omega arith) (g.numbers (k + n) (f.numbers k h));
 }
 
 -- ---- an assertion point

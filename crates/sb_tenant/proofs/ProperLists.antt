@@ -12,10 +12,6 @@ use Rattle.sb_value.specs.Table.{Table, Entry, new_row, after_kind, after_change
 abbrev Row : Type 0
 Row = ℕ × List Value
 
-below-more : (n : ℕ) (rows : List Row) → AreBelow n rows → AreBelow (n + 1) rows
-below-more n [] h = tt
-below-more n (r ∷ rows) h = let p : r.0 < n = h.0 in (omega arith, below-more n rows h.1)
-
 below-last : (n : ℕ) (row : List Value) (rows : List Row) → AreBelow n rows → AreBelow (n + 1) (rows ++ (n, row) ∷ [])
 below-last n row [] h = (omega arith, tt)
 below-last n row (r ∷ rows) h = let p : r.0 < n = h.0 in (omega arith, below-last n row rows h.1)

@@ -42,9 +42,6 @@ module _ (s o : ℕ) (other : (o == s) ≡ false) where
   twice : (state : State) (one two : Session) → session_at (with_session (with_session state s one) s two) o ≡ session_at state o
   twice state one two = other_session (with_session state s one) s two o other ∙ other_session state s one o other
 
-  thrice : (state : State) (one two three : Session) → session_at (with_session (with_session (with_session state s one) s two) s three) o ≡ session_at state o
-  thrice state one two three = other_session (with_session (with_session state s one) s two) s three o other ∙ twice state one two
-
   stands-commit : (state : State) (standing : Standing) → session_at (stands_as state s (λ after. committed after s) standing) o ≡ session_at state o
   stands-commit state (goes_on progress) = twice state (active progress.changes progress.marks) idle
   stands-commit state taken_back = other_session state s idle o other

@@ -20,7 +20,6 @@ use Rattle.sb_tables.specs.Held.{Held, entries, entry_of}
 use Rattle.sb_tables.specs.Undo.{stored_after}
 use Rattle.sb_process.specs.Made.{held_after, tables_after, tables_after_all}
 use Rattle.sb_tenant.specs.declared.reply.Reply.{Reply}
-use Rattle.sb_tenant.specs.declared.reply.Reply.TheVariants as reply
 use Rattle.sb_tenant.specs.declared.store.Store.{Store}
 use Rattle.sb_tenant.specs.Represents.{StandFor, Performs, Refuses, all_changes}
 use Rattle.sb_tenant.specs.Resolved.{Resolved, query, change}

@@ -1,5 +1,5 @@
 -- Promise: a tenant as its users see it: its number, its bound, its trail, and a time for each mark. Its state is the trail's replay.
-use Rattle.std.specs.Prelude.{◌≡◌, ℕ, List, [], Option, Some, None, Result, Ok, Err}
+use Rattle.std.specs.Prelude.{◌≡◌, ℕ, List, []}
 use Rattle.sb_marks.specs.Transactions.{Kept}
 use Rattle.sb_tenant.specs.declared.reply.Entry.{Entry}
 use Rattle.sb_tenant.specs.declared.reply.Answer.{Answer}

@@ -12,6 +12,7 @@ ghost use Rattle.sb_tenant.specs.State.{State};
 ghost use Rattle.sb_tenant.specs.Step.{reply_to, reply_to_command};
 ghost use Rattle.sb_tenant.specs.Trail.{aborted};
 
+use crate::asker::Asker;
 use crate::class::{Class, class_of};
 use crate::reply::Reply;
 use crate::store::{Replies, Store};
@@ -49,25 +50,24 @@ impl Store {
         alloc: Global,
         log: &mut L,
         index: &mut RuleIndex,
-        session: SessionId,
-        bound: u32,
+        asker: &Asker,
         line: &[u8],
     ) -> Replies
         requires stand { (state : State) × StandFor self.old (L.records log.old) (L.clock log.old) index.old state }
-        requires bound { bound ≤ 1000 }
+        requires bound { asker.now.bound ≤ 1000 }
         requires times { L.clock log.old < 2 ^ 63 }
         requires numbers { NumbersBelow (2 ^ 63) self.old.database.tables }
         ensures answered { EachState self.old (L.records log.old) (L.clock log.old) index.old
-            (λ state. Performs self.new (L.records log.new) (L.clock log.new) index.new state session
-            (reply_to self.old.database.id bound state session line.now) result.0) }
+            (λ state. Performs self.new (L.records log.new) (L.clock log.new) index.new state asker.now.session
+            (reply_to self.old.database.id asker.now.bound state asker.now.session line.now) result.0) }
         ensures twice { result.1 ≡ result.0 }
-        ensures leaves { Leaves 32768000 self.old self.new session
+        ensures leaves { Leaves 32768000 self.old self.new asker.now.session
             (L.records log.old) (L.records log.new) (L.clock log.old) (L.clock log.new) }
         ensures others { OtherTenantsStay self.old.database.id index.old index.new }
     {
         match parse(alloc, line) {
-            Ok(command) => self.respond(alloc, log, index, session, bound, command),
-            Err(ParseError::NoMemory) => self.run_out(log, session),
+            Ok(command) => self.respond(alloc, log, index, asker, command),
+            Err(ParseError::NoMemory) => self.run_out(log, asker.session),
             Err(ParseError::Syntax { place: _ }) => refused(Refusal::Syntax),
         }
     }
@@ -79,6 +79,10 @@ impl Store {
             EachState self.old (L.records log.old) (L.clock log.old) index
             (λ state. StandFor self.new (L.records log.new) (L.clock log.new) index (aborted state session)) }
         ensures replies { result ≡ (told.No Refusal.NoMemory, told.No Refusal.NoMemory) }
+        ensures performed { (index : List (List TableSets)) (before : State) (meant : State × Reply) →
+            StandAside self.old (L.records log.old) (L.clock log.old) index before session →
+            Performs self.new (L.records log.new) (L.clock log.new) index before session meant result.0 }
+        ensures twice { result.1 ≡ result.0 }
         ensures leaves { Leaves 0 self.old self.new session
             (L.records log.old) (L.records log.new) (L.clock log.old) (L.clock log.new) }
     {
@@ -114,48 +118,48 @@ impl Store {
         alloc: Global,
         log: &mut L,
         index: &mut RuleIndex,
-        session: SessionId,
-        bound: u32,
+        asker: &Asker,
         command: Command,
     ) -> Replies
         requires stand { (state : State) × StandFor self.old (L.records log.old) (L.clock log.old) index.old state }
-        requires bound { bound ≤ 1000 }
+        requires bound { asker.now.bound ≤ 1000 }
         requires times { L.clock log.old < 2 ^ 63 }
         requires numbers { NumbersBelow (2 ^ 63) self.old.database.tables }
         requires few { HasFewActions (tree_of command) }
         ensures answered { EachState self.old (L.records log.old) (L.clock log.old) index.old
-            (λ state. Performs self.new (L.records log.new) (L.clock log.new) index.new state session
-            (reply_to_command self.old.database.id bound state session (tree_of command)) result.0) }
+            (λ state. Performs self.new (L.records log.new) (L.clock log.new) index.new state asker.now.session
+            (reply_to_command self.old.database.id asker.now.bound state asker.now.session (tree_of command))
+            result.0) }
         ensures twice { result.1 ≡ result.0 }
-        ensures leaves { Leaves 32768000 self.old self.new session
+        ensures leaves { Leaves 32768000 self.old self.new asker.now.session
             (L.records log.old) (L.records log.new) (L.clock log.old) (L.clock log.new) }
         ensures others { OtherTenantsStay self.old.database.id index.old index.new }
     {
         // for the proof: the session is one of the eight
-        let _ = session.index();
+        let _ = asker.session.index();
         let class = class_of(&command);
-        match self.phases.refusal(class, session) {
+        match self.phases.refusal(class, asker.session) {
             Some(refusal) => return refused(refusal),
             None => {}
         }
         match class {
             Class::Opens => {
-                self.open(session);
+                self.open(asker.session);
                 done()
             }
             Class::Ends => {
-                self.end(log, session);
+                self.end(log, asker.session);
                 done()
             }
             Class::Begins => {
-                self.begin(session);
+                self.begin(asker.session);
                 done()
             }
             Class::Defines => match self.define(alloc, index, command) {
                 Ok(()) => done(),
                 Err(refusal) => refused(refusal),
             },
-            Class::Works => self.work(alloc, log, index, session, bound, command),
+            Class::Works => self.work(alloc, log, index, asker, command),
         }
     }
 }

@@ -2,6 +2,7 @@
 #![tactic(auto)]
 
 mod answer;
+mod asker;
 mod class;
 mod define;
 mod end_lines;
@@ -24,4 +25,4 @@ mod work;
 pub use lines::KnownLines;
 pub use places::reserve_here;
 pub use reply::{Answer, Entry, Line, NamedTrace, Reply};
-pub use tenant::{NotBegun, TRAIL_LIMIT, Tenant};
+pub use tenant::{NotBegun, Sent, TRAIL_LIMIT, Tenant};

@@ -14,6 +14,7 @@ ghost use Rattle.sb_tenant.specs.Resolved.{commit as commit_command};
 ghost use Rattle.sb_tenant.specs.State.{State, committed};
 ghost use Rattle.sb_tenant.specs.declared.phase.Phase.TheVariants as phase;
 
+use crate::asker::Asker;
 use crate::phase::Phase;
 use crate::store::{Replies, Store};
 use crate::told::told;
@@ -30,35 +31,34 @@ impl Store {
         alloc: Global,
         log: &mut L,
         index: &RuleIndex,
-        session: SessionId,
+        asker: &Asker,
         eligible: RuleSet,
-        bound: u32,
     ) -> Replies
         requires stand { (state : State) × StandFor self.old (L.records log.old) (L.clock log.old) index.now state }
-        requires active { phase_at self.old.phases session ≡ phase.Active }
+        requires active { phase_at self.old.phases asker.now.session ≡ phase.Active }
         requires rules { (id : ℕ) → IsTrue (flag_at eligible id) → IsTrue (is_active self.old.definitions.rules id) }
-        requires bound { bound ≤ 1000 }
+        requires bound { asker.now.bound ≤ 1000 }
         requires times { L.clock log.old < 2 ^ 63 }
         requires numbers { NumbersBelow (2 ^ 63) self.old.database.tables }
         ensures performed { EachState self.old (L.records log.old) (L.clock log.old) index.now
             (λ state. (chosen : ℕ → Bool) → ((id : ℕ) → flag_at eligible id ≡ chosen id) →
-            Performs self.new (L.records log.new) (L.clock log.new) index.now state session
-            (process_at self.old.database.id bound state session chosen stays) result.0) }
+            Performs self.new (L.records log.new) (L.clock log.new) index.now state asker.now.session
+            (process_at self.old.database.id asker.now.bound state asker.now.session chosen stays) result.0) }
         ensures twice { result.1 ≡ result.0 }
-        ensures leaves { Leaves 32768000 self.old self.new session
+        ensures leaves { Leaves 32768000 self.old self.new asker.now.session
             (L.records log.old) (L.records log.new) (L.clock log.old) (L.clock log.new) }
     {
         let point = AssertionPoint {
-            session,
+            session: asker.session,
             eligible,
-            bound,
+            bound: asker.bound,
         };
         match self.run(alloc, log, index, &point) {
             Ok(processed) => match told(alloc, &self.definitions.rules, &processed) {
                 Ok(replies) => replies,
-                Err(_) => self.run_out(log, session),
+                Err(_) => self.run_out(log, asker.session),
             },
-            Err(_) => self.run_out(log, session),
+            Err(_) => self.run_out(log, asker.session),
         }
     }
 
@@ -68,36 +68,35 @@ impl Store {
         alloc: Global,
         log: &mut L,
         index: &RuleIndex,
-        session: SessionId,
-        bound: u32,
+        asker: &Asker,
     ) -> Replies
         requires stand { (state : State) × StandFor self.old (L.records log.old) (L.clock log.old) index.now state }
-        requires active { phase_at self.old.phases session ≡ phase.Active }
-        requires bound { bound ≤ 1000 }
+        requires active { phase_at self.old.phases asker.now.session ≡ phase.Active }
+        requires bound { asker.now.bound ≤ 1000 }
         requires times { L.clock log.old < 2 ^ 63 }
         requires numbers { NumbersBelow (2 ^ 63) self.old.database.tables }
         ensures performed { EachState self.old (L.records log.old) (L.clock log.old) index.now
-            (λ state. Performs self.new (L.records log.new) (L.clock log.new) index.now state session
-            (perform self.old.database.id bound state session commit_command) result.0) }
+            (λ state. Performs self.new (L.records log.new) (L.clock log.new) index.now state asker.now.session
+            (perform self.old.database.id asker.now.bound state asker.now.session commit_command) result.0) }
         ensures twice { result.1 ≡ result.0 }
-        ensures leaves { Leaves 32768000 self.old self.new session
+        ensures leaves { Leaves 32768000 self.old self.new asker.now.session
             (L.records log.old) (L.records log.new) (L.clock log.old) (L.clock log.new) }
     {
         let eligible = self.definitions.active();
         let point = AssertionPoint {
-            session,
+            session: asker.session,
             eligible,
-            bound,
+            bound: asker.bound,
         };
         match self.run(alloc, log, index, &point) {
             Ok(processed) => match told(alloc, &self.definitions.rules, &processed) {
                 Ok(replies) => {
-                    self.finish(log, session, processed.outcome.is_done());
+                    self.finish(log, asker.session, processed.outcome.is_done());
                     replies
                 }
-                Err(_) => self.run_out(log, session),
+                Err(_) => self.run_out(log, asker.session),
             },
-            Err(_) => self.run_out(log, session),
+            Err(_) => self.run_out(log, asker.session),
         }
     }
 

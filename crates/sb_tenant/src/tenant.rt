@@ -9,6 +9,7 @@ ghost use Rattle.sb_tenant.specs.Step.{is_full_for, is_end_of_open};
 ghost use Rattle.sb_tenant.specs.Tenant.{state, IsLegal, IsNew, AnswersLine, MakesStep, LeavesLine};
 ghost use Rattle.sb_tenant.specs.Lending.{InStep, HoldNothing, StaysInStep, rise_of};
 
+use crate::asker::Asker;
 use crate::end_lines::EndLines;
 use crate::lines::KnownLines;
 use crate::phase::Phase;
@@ -34,6 +35,13 @@ const END: &[u8] = b"end";
 /// A step wasn't begun for want of memory.
 #[derive(Clone, Copy, Debug, PartialEq, Eq)]
 pub struct NotBegun;
+
+/// A line that was sent, and the same where it is in memory already.
+#[derive(Drop)]
+pub struct Sent<'a> {
+    pub line: &'a [u8],
+    pub own: Option<&'a Line>,
+}
 
 /// A database of its own, with the trail of its steps.
 #[derive(Drop)]
@@ -126,21 +134,20 @@ impl Tenant {
     }
 
     /// Makes a step of the line, or is refused by the full trail. Where memory runs out before the
-    /// step has begun, nothing changes. The entry shares the bytes of `own`, where the line is in memory already.
+    /// step has begun, nothing changes. The entry shares the bytes of a line that is in memory already.
     pub fn step<L: ChangeLog>(
         &mut self,
         alloc: Global,
         log: &mut L,
         index: &mut RuleIndex,
         session: SessionId,
-        line: &[u8],
-        own: Option<&Line>,
+        sent: &Sent<'_>,
     ) -> Result<Answer, NotBegun>
-        requires own { IfSome own (λ l. l.now ≡ line.now) }
+        requires own { IfSome sent.now.own (λ l. l.now ≡ sent.now.line.now) }
         requires in_step { InStep self.old (L.records log.old) (L.clock log.old) index.old }
         requires times { L.clock log.old < 2 ^ 63 }
-        ensures ok { IfOk result (λ answer. AnswersLine self.old session line.now answer self.new) }
-        ensures err { OnErr result (LeavesLine self.old session line.now self.new) }
+        ensures ok { IfOk result (λ answer. AnswersLine self.old session sent.now.line.now answer self.new) }
+        ensures err { OnErr result (LeavesLine self.old session sent.now.line.now self.new) }
         ensures legal { IsLegal self.new }
         ensures in_step { StaysInStep (rise_of result) self.old self.new session
             (L.records log.old) (L.records log.new) (L.clock log.old) (L.clock log.new) index.old index.new }
@@ -148,7 +155,7 @@ impl Tenant {
     {
         // for the proof: the trail is legal
         let _ = &self.trail;
-        if self.ends(session, line) {
+        if self.ends(session, sent.line) {
             return Ok(self.end(log, session));
         }
         if self.is_full() {
@@ -157,7 +164,7 @@ impl Tenant {
                 reply: Reply::No(Refusal::TrailFull),
             });
         }
-        self.enter(alloc, log, index, session, line, own)
+        self.enter(alloc, log, index, session, sent)
     }
 
     /// Makes the step `open`.
@@ -233,16 +240,15 @@ impl Tenant {
         log: &mut L,
         index: &mut RuleIndex,
         session: SessionId,
-        line: &[u8],
-        own: Option<&Line>,
+        sent: &Sent<'_>,
     ) -> Result<Answer, NotBegun>
-        requires own { IfSome own (λ l. l.now ≡ line.now) }
+        requires own { IfSome sent.now.own (λ l. l.now ≡ sent.now.line.now) }
         requires in_step { InStep self.old (L.records log.old) (L.clock log.old) index.old }
         requires times { L.clock log.old < 2 ^ 63 }
-        requires room { is_full_for (state self.old) session line.now ≡ false }
-        requires goes_on { is_end_of_open (state self.old) session line.now ≡ false }
-        ensures ok { IfOk result (λ answer. MakesStep self.old session line.now answer self.new) }
-        ensures err { OnErr result (LeavesLine self.old session line.now self.new) }
+        requires room { is_full_for (state self.old) session sent.now.line.now ≡ false }
+        requires goes_on { is_end_of_open (state self.old) session sent.now.line.now ≡ false }
+        ensures ok { IfOk result (λ answer. MakesStep self.old session sent.now.line.now answer self.new) }
+        ensures err { OnErr result (LeavesLine self.old session sent.now.line.now self.new) }
         ensures legal { IsLegal self.new }
         ensures in_step { StaysInStep (rise_of result) self.old self.new session
             (L.records log.old) (L.records log.new) (L.clock log.old) (L.clock log.new) index.old index.new }
@@ -254,12 +260,14 @@ impl Tenant {
             &mut self.trail,
             &mut self.end_lines,
             &mut self.known_lines,
-            line,
-            own,
+            sent.line,
+            sent.own,
         )?;
-        let (reply, copy) = self
-            .store
-            .answer(alloc, log, index, session, self.bound, line);
+        let asker = Asker {
+            session,
+            bound: self.bound,
+        };
+        let (reply, copy) = self.store.answer(alloc, log, index, &asker, sent.line);
         let entry = Entry {
             session,
             line: kept,

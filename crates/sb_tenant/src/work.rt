@@ -12,6 +12,7 @@ ghost use Rattle.sb_tenant.specs.Step.{outcome_of};
 ghost use Rattle.sb_tenant.specs.Walk.{class_of, walk};
 
 use crate::answer::{done, refused};
+use crate::asker::Asker;
 use crate::names::Names;
 use crate::store::{Replies, Store};
 use sb_check::{resolve_query, resolve_statement, resolved_tables_are_there, walks_see_columns};
@@ -28,44 +29,43 @@ impl Store {
         alloc: Global,
         log: &mut L,
         index: &RuleIndex,
-        session: SessionId,
-        bound: u32,
+        asker: &Asker,
         command: Command,
     ) -> Replies
         requires class { class_of (view.command command) ≡ works }
         requires stand { (state : State) × StandFor self.old (L.records log.old) (L.clock log.old) index.now state }
-        requires active { phase_at self.old.phases session ≡ phase.Active }
-        requires bound { bound ≤ 1000 }
+        requires active { phase_at self.old.phases asker.now.session ≡ phase.Active }
+        requires bound { asker.now.bound ≤ 1000 }
         requires times { L.clock log.old < 2 ^ 63 }
         requires numbers { NumbersBelow (2 ^ 63) self.old.database.tables }
         ensures performed { EachState self.old (L.records log.old) (L.clock log.old) index.now
-            (λ state. Performs self.new (L.records log.new) (L.clock log.new) index.now state session
-            (outcome_of self.old.database.id bound state session None
+            (λ state. Performs self.new (L.records log.new) (L.clock log.new) index.now state asker.now.session
+            (outcome_of self.old.database.id asker.now.bound state asker.now.session None
             (walk state.catalog (view.command command))) result.0) }
         ensures twice { result.1 ≡ result.0 }
-        ensures leaves { Leaves 32768000 self.old self.new session
+        ensures leaves { Leaves 32768000 self.old self.new asker.now.session
             (L.records log.old) (L.records log.new) (L.clock log.old) (L.clock log.new) }
     {
         match command {
-            Command::Commit => self.commit(alloc, log, index, session, bound),
+            Command::Commit => self.commit(alloc, log, index, asker),
             Command::Rollback => {
-                self.roll_back(log, session);
+                self.roll_back(log, asker.session);
                 done()
             }
             Command::ProcessRules => {
                 let eligible = self.definitions.active();
-                self.process(alloc, log, index, session, eligible, bound)
+                self.process(alloc, log, index, asker, eligible)
             }
             Command::ProcessRuleset(name) => match self.definitions.active_members(&name) {
-                Some(eligible) => self.process(alloc, log, index, session, eligible, bound),
+                Some(eligible) => self.process(alloc, log, index, asker, eligible),
                 None => refused(Refusal::NoRuleset),
             },
             Command::ProcessRule(name) => match self.definitions.active_rule(&name) {
-                Some(eligible) => self.process(alloc, log, index, session, eligible, bound),
+                Some(eligible) => self.process(alloc, log, index, asker, eligible),
                 None => refused(Refusal::NoRule),
             },
-            Command::Query(query) => self.query(alloc, log, session, &query),
-            Command::Change(change) => self.write(alloc, log, index, session, &change),
+            Command::Query(query) => self.query(alloc, log, asker.session, &query),
+            Command::Change(change) => self.write(alloc, log, index, asker.session, &change),
             _ => unreachable!(),
         }
     }

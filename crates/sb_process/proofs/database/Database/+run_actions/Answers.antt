@@ -43,7 +43,7 @@ run_actions-requires g t c = λ κs le.
           ),
           (
             actions-there c.args.self.now.tables c.run_action.new.self.tables
-                (same-numbers w.0 c.args.session w.1 w.2 c.args.self.now (g.L.ChangeLog.records c.args.log.now) (g.L.ChangeLog.clock c.args.log.now) w.3.transaction c.run_action.new.self
+                (same-numbers w.0 c.args.viewer.now.session w.1 w.2 c.args.self.now (g.L.ChangeLog.records c.args.log.now) (g.L.ChangeLog.clock c.args.log.now) w.3.transaction c.run_action.new.self
                 (g.L.ChangeLog.records c.run_action.new.log) (g.L.ChangeLog.clock c.run_action.new.log) come.0 come.1)
                 (take (length c.args.actions.now - 1) (drop 1 c.args.actions.now))
                 (rest-there c.args.self.now.tables c.first-item.result (take (length c.args.actions.now - 1) (drop 1 c.args.actions.now)) (subst (AreActionsThere c.args.self.now.tables) e c.requires.actions)),
@@ -56,25 +56,25 @@ run_actions-requires g t c = λ κs le.
 -- the others begin with what the first one came to
 pub returns-in-Ok-true-clause-ran : goal.returns-in-Ok-true-clause-ran
 returns-in-Ok-true-clause-ran g t c = λ origin setting progress w.
-    let session = c.args.session in
+    let session = c.args.viewer.now.session in
     let mid = c.run_action.new in let new = c.run_actions.new in
     let first = c.first-item.result in
     let rest = take (length c.args.actions.now - 1) (drop 1 c.args.actions.now) in
     let e = whole c.args.actions.now first c.in-len1-up.len_at_least c.first-item.is in
     let M = λ (q : Progress). ComesTo origin mid.self session (g.L.ChangeLog.records mid.log) (g.L.ChangeLog.clock mid.log) setting progress q in
     let S = λ (q : Progress). ComesTo origin new.self session (g.L.ChangeLog.records new.log) (g.L.ChangeLog.clock new.log) setting progress q in
-    let one = first-ran M setting c.args.tables.now first rest progress
-    (acted M (run_actions setting c.args.tables.now (first ∷ []) progress) c.run_action.result true (c.in-Ok-true.is ∙ ap Ok c.in-Ok-true.field-0-test) (c.run_action.ensures.ran origin setting progress w)) in
+    let one = first-ran M setting c.args.viewer.now.tables.now first rest progress
+    (acted M (run_actions setting c.args.viewer.now.tables.now (first ∷ []) progress) c.run_action.result true (c.in-Ok-true.is ∙ ap Ok c.in-Ok-true.field-0-test) (c.run_action.ensures.ran origin setting progress w)) in
     let R = λ (q : Progress). ComesTo origin new.self session (g.L.ChangeLog.records new.log) (g.L.ChangeLog.clock new.log) setting one.0 q in
-    ends-after S R (run_actions setting c.args.tables.now c.args.actions.now progress) (run_actions setting c.args.tables.now rest one.0) c.run_actions.result
-    (ap (λ (l : List Action). run_actions setting c.args.tables.now l progress) e ∙ one.2)
+    ends-after S R (run_actions setting c.args.viewer.now.tables.now c.args.actions.now progress) (run_actions setting c.args.viewer.now.tables.now rest one.0) c.run_actions.result
+    (ap (λ (l : List Action). run_actions setting c.args.viewer.now.tables.now l progress) e ∙ one.2)
     (λ q h. comes-on origin session setting progress one.0 q mid.self new.self (g.L.ChangeLog.records mid.log) (g.L.ChangeLog.records new.log) (g.L.ChangeLog.clock mid.log) (g.L.ChangeLog.clock new.log) one.1 h)
     (c.run_actions.ensures.ran origin setting one.0
     (record { transaction = (one.1).stands; indexed = subst (λ id. AreIndexed c.args.index.now id setting.rules) (sym c.run_action.ensures.id) w.indexed }))
 
 pub returns-in-Ok-true-clause-under_way : goal.returns-in-Ok-true-clause-under_way
 returns-in-Ok-true-clause-under_way g t c = λ origin setting progress w.
-    let session = c.args.session in
+    let session = c.args.viewer.now.session in
     let mid = c.run_action.new in let new = c.run_actions.new in
     let one = c.run_action.ensures.under_way origin setting progress w in
     let all = c.run_actions.ensures.under_way origin setting one.0
@@ -96,12 +96,12 @@ returns-in-Ok-false-clause-ran g t c = λ origin setting progress w.
     let mid = c.run_action.new in
     let first = c.first-item.result in
     let rest = take (length c.args.actions.now - 1) (drop 1 c.args.actions.now) in
-    let M = λ (q : Progress). ComesTo origin mid.self c.args.session (g.L.ChangeLog.records mid.log) (g.L.ChangeLog.clock mid.log) setting progress q in
+    let M = λ (q : Progress). ComesTo origin mid.self c.args.viewer.now.session (g.L.ChangeLog.records mid.log) (g.L.ChangeLog.clock mid.log) setting progress q in
     let result : Result Consideration Refusal = Ok RolledBack in
     inl (subst (λ (x : Ending). Ends M x result)
-    (sym (ap (λ (l : List Action). run_actions setting c.args.tables.now l progress) (whole c.args.actions.now first c.in-len1-up.len_at_least c.first-item.is)
-    ∙ first-rolled_back M setting c.args.tables.now first rest progress
-    (acted M (run_actions setting c.args.tables.now (first ∷ []) progress) c.run_action.result false (c.in-Ok-false.is ∙ ap Ok c.in-Ok-false.field-0-test) (c.run_action.ensures.ran origin setting progress w))))
+    (sym (ap (λ (l : List Action). run_actions setting c.args.viewer.now.tables.now l progress) (whole c.args.actions.now first c.in-len1-up.len_at_least c.first-item.is)
+    ∙ first-rolled_back M setting c.args.viewer.now.tables.now first rest progress
+    (acted M (run_actions setting c.args.viewer.now.tables.now (first ∷ []) progress) c.run_action.result false (c.in-Ok-false.is ∙ ap Ok c.in-Ok-false.field-0-test) (c.run_action.ensures.ran origin setting progress w))))
     refl)
 
 pub returns-in-Ok-false-clause-numbers : goal.returns-in-Ok-false-clause-numbers
@@ -113,10 +113,10 @@ returns-in-Err-clause-ran g t c = λ origin setting progress w.
     let mid = c.run_action.new in
     let first = c.first-item.result in
     let rest = take (length c.args.actions.now - 1) (drop 1 c.args.actions.now) in
-    let M = λ (q : Progress). ComesTo origin mid.self c.args.session (g.L.ChangeLog.records mid.log) (g.L.ChangeLog.clock mid.log) setting progress q in
-    ends-refused M (run_actions setting c.args.tables.now (first ∷ []) progress) (run_actions setting c.args.tables.now c.args.actions.now progress) c.run_action.result c.in-Err.refusal c.in-Err.is
-    (λ h. ap (λ (l : List Action). run_actions setting c.args.tables.now l progress) (whole c.args.actions.now first c.in-len1-up.len_at_least c.first-item.is)
-    ∙ first-refused M setting c.args.tables.now first rest progress c.in-Err.refusal h)
+    let M = λ (q : Progress). ComesTo origin mid.self c.args.viewer.now.session (g.L.ChangeLog.records mid.log) (g.L.ChangeLog.clock mid.log) setting progress q in
+    ends-refused M (run_actions setting c.args.viewer.now.tables.now (first ∷ []) progress) (run_actions setting c.args.viewer.now.tables.now c.args.actions.now progress) c.run_action.result c.in-Err.refusal c.in-Err.is
+    (λ h. ap (λ (l : List Action). run_actions setting c.args.viewer.now.tables.now l progress) (whole c.args.actions.now first c.in-len1-up.len_at_least c.first-item.is)
+    ∙ first-refused M setting c.args.viewer.now.tables.now first rest progress c.in-Err.refusal h)
     (c.run_action.ensures.ran origin setting progress w)
 
 pub returns-in-Err-clause-numbers : goal.returns-in-Err-clause-numbers

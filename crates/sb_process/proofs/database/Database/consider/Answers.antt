@@ -25,7 +25,7 @@ run_actions-requires-clause-running g c =
     let records = g.L.ChangeLog.records c.args.log.now in
     let clock = g.L.ChangeLog.clock c.args.log.now in
     let m = c.in-Ok-mark_now.ensures.marked w.0 w.1 w.2 w.3.transaction in
-    let come = c.test.ensures.under_way records clock w.0 w.1 (marked c.args.rule.now w.2) m in (
+    let come = c.test.ensures.under_way records clock w.0 w.1 (marked c.args.chosen.now.rule.now w.2) m in (
       w.0,
       w.1,
       come.0,
@@ -37,7 +37,7 @@ run_actions-requires-clause-running g c =
 
 pub returns-in-Ok-true-clause-considered : goal.returns-in-Ok-true-clause-considered
 returns-in-Ok-true-clause-considered g c = λ origin setting progress w.
-    let session = c.args.session in let rule = c.args.rule.now in let tables = c.in-Ok.tables in
+    let session = c.args.chosen.now.session in let rule = c.args.chosen.now.rule.now in let tables = c.in-Ok.tables in
     let records = g.L.ChangeLog.records c.args.log.now in let clock = g.L.ChangeLog.clock c.args.log.now in
     let mid = c.test.new.self in let new = c.run_actions.new in
     let later = g.L.ChangeLog.records new.log in let time = g.L.ChangeLog.clock new.log in
@@ -61,7 +61,7 @@ returns-in-Ok-true-clause-considered g c = λ origin setting progress w.
 
 pub returns-in-Ok-true-clause-under_way : goal.returns-in-Ok-true-clause-under_way
 returns-in-Ok-true-clause-under_way g c = λ origin setting progress w.
-    let session = c.args.session in let rule = c.args.rule.now in
+    let session = c.args.chosen.now.session in let rule = c.args.chosen.now.rule.now in
     let records = g.L.ChangeLog.records c.args.log.now in let clock = g.L.ChangeLog.clock c.args.log.now in
     let mid = c.test.new.self in let new = c.run_actions.new in
     let one = c.test.ensures.under_way records clock origin setting (marked rule progress) (c.in-Ok-mark_now.ensures.marked origin setting progress w.transaction) in
@@ -83,7 +83,7 @@ returns-in-Ok-true-clause-numbers g c = λ n h.
 
 pub returns-in-Ok-false-clause-considered : goal.returns-in-Ok-false-clause-considered
 returns-in-Ok-false-clause-considered g c = λ origin setting progress w.
-    let session = c.args.session in let rule = c.args.rule.now in let tables = c.in-Ok.tables in
+    let session = c.args.chosen.now.session in let rule = c.args.chosen.now.rule.now in let tables = c.in-Ok.tables in
     let records = g.L.ChangeLog.records c.args.log.now in let clock = g.L.ChangeLog.clock c.args.log.now in
     let start = marked rule progress in
     let tested = test_condition setting tables rule.condition start in
@@ -99,8 +99,8 @@ returns-in-Ok-false-clause-considered g c = λ origin setting progress w.
 pub returns-in-Ok-false-clause-under_way : goal.returns-in-Ok-false-clause-under_way
 returns-in-Ok-false-clause-under_way g c = λ origin setting progress w.
     let records = g.L.ChangeLog.records c.args.log.now in let clock = g.L.ChangeLog.clock c.args.log.now in
-    let one = c.test.ensures.under_way records clock origin setting (marked c.args.rule.now progress) (c.in-Ok-mark_now.ensures.marked origin setting progress w.transaction) in
-    (one.0, comes-marked origin c.args.session setting c.args.rule.now progress one.0 c.test.new.self records clock one.1)
+    let one = c.test.ensures.under_way records clock origin setting (marked c.args.chosen.now.rule.now progress) (c.in-Ok-mark_now.ensures.marked origin setting progress w.transaction) in
+    (one.0, comes-marked origin c.args.chosen.now.session setting c.args.chosen.now.rule.now progress one.0 c.test.new.self records clock one.1)
 
 pub returns-in-Ok-false-clause-numbers : goal.returns-in-Ok-false-clause-numbers
 returns-in-Ok-false-clause-numbers g c = λ n h.
@@ -109,7 +109,7 @@ returns-in-Ok-false-clause-numbers g c = λ n h.
 
 pub returns-clause-considered : goal.returns-clause-considered
 returns-clause-considered g c = λ origin setting progress w.
-    let session = c.args.session in let rule = c.args.rule.now in let tables = c.in-Ok.tables in
+    let session = c.args.chosen.now.session in let rule = c.args.chosen.now.rule.now in let tables = c.in-Ok.tables in
     let records = g.L.ChangeLog.records c.args.log.now in let clock = g.L.ChangeLog.clock c.args.log.now in
     let start = marked rule progress in
     let tested = test_condition setting tables rule.condition start in
@@ -125,8 +125,8 @@ returns-clause-considered g c = λ origin setting progress w.
 pub returns-clause-under_way : goal.returns-clause-under_way
 returns-clause-under_way g c = λ origin setting progress w.
     let records = g.L.ChangeLog.records c.args.log.now in let clock = g.L.ChangeLog.clock c.args.log.now in
-    let one = c.test.ensures.under_way records clock origin setting (marked c.args.rule.now progress) (c.in-Ok-mark_now.ensures.marked origin setting progress w.transaction) in
-    (one.0, comes-marked origin c.args.session setting c.args.rule.now progress one.0 c.test.new.self records clock one.1)
+    let one = c.test.ensures.under_way records clock origin setting (marked c.args.chosen.now.rule.now progress) (c.in-Ok-mark_now.ensures.marked origin setting progress w.transaction) in
+    (one.0, comes-marked origin c.args.chosen.now.session setting c.args.chosen.now.rule.now progress one.0 c.test.new.self records clock one.1)
 
 pub returns-clause-numbers : goal.returns-clause-numbers
 returns-clause-numbers g c = λ n h.

@@ -10,7 +10,7 @@ use Rattle.sb_process.specs.Made.{EachBelow}
 use Rattle.sb_process.specs.Running.{ComesTo, Notes}
 use Rattle.sb_process.specs.Setting.{Progress}
 use Rattle.sb_process.proofs.Numbers.{each-weaken}
-use Rattle.sb_process.proofs.Processing.{finds-done, finds-limit, finds-outcome, reaches-more, sessions-on, others-on, running-of, work-after, comes-looked, rule-can-run, if-ok}
+use Rattle.sb_process.proofs.Processing.{finds-done, finds-limit, finds-outcome, reaches-more, sessions-on, others-on, running-of, looks, work-after, rule-can-run, if-ok}
 use Rattle.sb_process.proofs.Running.{comes-on}
 use Rattle.sb_process.proofs.database.Database.consider_all.Goals as goal
 
@@ -20,31 +20,24 @@ pub returns-in_default-clause-processed : goal.returns-in_default-clause-process
 returns-in_default-clause-processed g c = λ origin setting progress w.
     let session = c.args.point.now.session in let index = c.args.rules.now.index.now in let catalog = c.args.rules.now.catalog.now in let order = c.args.rules.now.order.now in
     let eligible = flag_at c.args.point.now.eligible in let bound = c.args.point.now.bound in let turn = c.loop-turn._turn in
-    let start = c.args.self.now in let records = g.L.ChangeLog.records c.args.log.now in let clock = g.L.ChangeLog.clock c.args.log.now in
+    let records = g.L.ChangeLog.records c.args.log.now in let clock = g.L.ChangeLog.clock c.args.log.now in
     let now = c.loop-turn.self in let later = g.L.ChangeLog.records c.loop-turn.log in let time = g.L.ChangeLog.clock c.loop-turn.log in
     let looked = c.next_rule.new.self in
     let r = c.loop-turn.invariant.reached origin setting progress w in
     let M = λ (q : Progress). ComesTo origin now session later time setting progress q in
     let L = λ (q : Progress). ComesTo origin looked session later time setting progress q in
-    let w0 = work-after origin session index catalog order setting progress start records clock w now later time r.after r.comes_to c.loop-turn.invariant.id in
-    let w1 = c.next_rule.ensures.work origin setting r.after w0 in
-    let k = comes-looked origin session index catalog order setting progress start records clock w now later time r.after r.comes_to looked w1 in
-    finds-done setting eligible progress bound (bound - turn) c.args.trace.now.items c.loop-turn.trace.items M r L (λ h. k) (sym (c.next_rule.ensures.next origin setting r.after w0) ∙ ap option_copied c.in_default.is)
+    let l = looks w r.comes_to c.loop-turn.invariant.id (c.next_rule.ensures.work origin setting r.after) in
+    finds-done setting eligible progress bound (bound - turn) c.args.trace.now.items c.loop-turn.trace.items M r L (λ h. l.2) (sym (c.next_rule.ensures.next origin setting r.after l.0) ∙ ap option_copied c.in_default.is)
 
 pub returns-in_default-clause-under_way : goal.returns-in_default-clause-under_way
 returns-in_default-clause-under_way g c = λ origin setting progress w.
     let session = c.args.point.now.session in let index = c.args.rules.now.index.now in let catalog = c.args.rules.now.catalog.now in let order = c.args.rules.now.order.now in
-    let eligible = flag_at c.args.point.now.eligible in let bound = c.args.point.now.bound in let turn = c.loop-turn._turn in
-    let start = c.args.self.now in let records = g.L.ChangeLog.records c.args.log.now in let clock = g.L.ChangeLog.clock c.args.log.now in
-    let now = c.loop-turn.self in let later = g.L.ChangeLog.records c.loop-turn.log in let time = g.L.ChangeLog.clock c.loop-turn.log in
+    let eligible = flag_at c.args.point.now.eligible in let bound = c.args.point.now.bound in
+    let records = g.L.ChangeLog.records c.args.log.now in let clock = g.L.ChangeLog.clock c.args.log.now in
     let looked = c.next_rule.new.self in
     let r = c.loop-turn.invariant.reached origin setting progress w in
-    let M = λ (q : Progress). ComesTo origin now session later time setting progress q in
-    let L = λ (q : Progress). ComesTo origin looked session later time setting progress q in
-    let w0 = work-after origin session index catalog order setting progress start records clock w now later time r.after r.comes_to c.loop-turn.invariant.id in
-    let w1 = c.next_rule.ensures.work origin setting r.after w0 in
-    let k = comes-looked origin session index catalog order setting progress start records clock w now later time r.after r.comes_to looked w1 in
-    (r.after, k)
+    let l = looks w r.comes_to c.loop-turn.invariant.id (c.next_rule.ensures.work origin setting r.after) in
+    (r.after, l.2)
 
 pub returns-in_default-clause-numbers : goal.returns-in_default-clause-numbers
 returns-in_default-clause-numbers g c = λ n h.
@@ -58,68 +51,52 @@ pub consider_noted-requires-clause-running : goal.consider_noted-requires-clause
 consider_noted-requires-clause-running g c =
     let some = c.requires.work in
     let session = c.args.point.now.session in let index = c.args.rules.now.index.now in let catalog = c.args.rules.now.catalog.now in let order = c.args.rules.now.order.now in
-    let eligible = flag_at c.args.point.now.eligible in let bound = c.args.point.now.bound in let turn = c.loop-turn._turn in
-    let start = c.args.self.now in let records = g.L.ChangeLog.records c.args.log.now in let clock = g.L.ChangeLog.clock c.args.log.now in
-    let now = c.loop-turn.self in let later = g.L.ChangeLog.records c.loop-turn.log in let time = g.L.ChangeLog.clock c.loop-turn.log in
+    let eligible = flag_at c.args.point.now.eligible in let bound = c.args.point.now.bound in
+    let records = g.L.ChangeLog.records c.args.log.now in let clock = g.L.ChangeLog.clock c.args.log.now in
+    let later = g.L.ChangeLog.records c.loop-turn.log in let time = g.L.ChangeLog.clock c.loop-turn.log in
     let looked = c.next_rule.new.self in
     let r = c.loop-turn.invariant.reached some.0 some.1 some.2 some.3 in
-    let M = λ (q : Progress). ComesTo some.0 now session later time some.1 some.2 q in
-    let L = λ (q : Progress). ComesTo some.0 looked session later time some.1 some.2 q in
-    let w0 = work-after some.0 session index catalog order some.1 some.2 start records clock some.3 now later time r.after r.comes_to c.loop-turn.invariant.id in
-    let w1 = c.next_rule.ensures.work some.0 some.1 r.after w0 in
-    let k = comes-looked some.0 session index catalog order some.1 some.2 start records clock some.3 now later time r.after r.comes_to looked w1 in
-    (some.0, some.1, r.after, running-of some.0 session index catalog order some.1 r.after looked later time w1)
+    let l = looks some.3 r.comes_to c.loop-turn.invariant.id (c.next_rule.ensures.work some.0 some.1 r.after) in
+    (some.0, some.1, r.after, running-of some.0 session index catalog order some.1 r.after looked later time l.1)
 
 pub consider_noted-requires-clause-condition : goal.consider_noted-requires-clause-condition
 consider_noted-requires-clause-condition g c =
     let some = c.requires.work in
     let session = c.args.point.now.session in let index = c.args.rules.now.index.now in let catalog = c.args.rules.now.catalog.now in let order = c.args.rules.now.order.now in
-    let eligible = flag_at c.args.point.now.eligible in let bound = c.args.point.now.bound in let turn = c.loop-turn._turn in
+    let eligible = flag_at c.args.point.now.eligible in let bound = c.args.point.now.bound in
     let start = c.args.self.now in let records = g.L.ChangeLog.records c.args.log.now in let clock = g.L.ChangeLog.clock c.args.log.now in
     let now = c.loop-turn.self in let later = g.L.ChangeLog.records c.loop-turn.log in let time = g.L.ChangeLog.clock c.loop-turn.log in
     let looked = c.next_rule.new.self in
     let r = c.loop-turn.invariant.reached some.0 some.1 some.2 some.3 in
-    let M = λ (q : Progress). ComesTo some.0 now session later time some.1 some.2 q in
-    let L = λ (q : Progress). ComesTo some.0 looked session later time some.1 some.2 q in
-    let w0 = work-after some.0 session index catalog order some.1 some.2 start records clock some.3 now later time r.after r.comes_to c.loop-turn.invariant.id in
-    let w1 = c.next_rule.ensures.work some.0 some.1 r.after w0 in
-    let k = comes-looked some.0 session index catalog order some.1 some.2 start records clock some.3 now later time r.after r.comes_to looked w1 in
-    (rule-can-run some.0 session index catalog order some.1 some.2 start records clock some.3 looked later time r.after k eligible c.in-Some.rule.now
-    (sym (c.next_rule.ensures.next some.0 some.1 r.after w0) ∙ ap option_copied c.in-Some.is) c.requires.rules).0
+    let l = looks some.3 r.comes_to c.loop-turn.invariant.id (c.next_rule.ensures.work some.0 some.1 r.after) in
+    (rule-can-run some.0 session index catalog order some.1 some.2 start records clock some.3 looked later time r.after l.2 eligible c.in-Some.rule.now
+    (sym (c.next_rule.ensures.next some.0 some.1 r.after l.0) ∙ ap option_copied c.in-Some.is) c.requires.rules).0
 
 pub consider_noted-requires-clause-actions : goal.consider_noted-requires-clause-actions
 consider_noted-requires-clause-actions g c =
     let some = c.requires.work in
     let session = c.args.point.now.session in let index = c.args.rules.now.index.now in let catalog = c.args.rules.now.catalog.now in let order = c.args.rules.now.order.now in
-    let eligible = flag_at c.args.point.now.eligible in let bound = c.args.point.now.bound in let turn = c.loop-turn._turn in
+    let eligible = flag_at c.args.point.now.eligible in let bound = c.args.point.now.bound in
     let start = c.args.self.now in let records = g.L.ChangeLog.records c.args.log.now in let clock = g.L.ChangeLog.clock c.args.log.now in
     let now = c.loop-turn.self in let later = g.L.ChangeLog.records c.loop-turn.log in let time = g.L.ChangeLog.clock c.loop-turn.log in
     let looked = c.next_rule.new.self in
     let r = c.loop-turn.invariant.reached some.0 some.1 some.2 some.3 in
-    let M = λ (q : Progress). ComesTo some.0 now session later time some.1 some.2 q in
-    let L = λ (q : Progress). ComesTo some.0 looked session later time some.1 some.2 q in
-    let w0 = work-after some.0 session index catalog order some.1 some.2 start records clock some.3 now later time r.after r.comes_to c.loop-turn.invariant.id in
-    let w1 = c.next_rule.ensures.work some.0 some.1 r.after w0 in
-    let k = comes-looked some.0 session index catalog order some.1 some.2 start records clock some.3 now later time r.after r.comes_to looked w1 in
-    (rule-can-run some.0 session index catalog order some.1 some.2 start records clock some.3 looked later time r.after k eligible c.in-Some.rule.now
-    (sym (c.next_rule.ensures.next some.0 some.1 r.after w0) ∙ ap option_copied c.in-Some.is) c.requires.rules).1
+    let l = looks some.3 r.comes_to c.loop-turn.invariant.id (c.next_rule.ensures.work some.0 some.1 r.after) in
+    (rule-can-run some.0 session index catalog order some.1 some.2 start records clock some.3 looked later time r.after l.2 eligible c.in-Some.rule.now
+    (sym (c.next_rule.ensures.next some.0 some.1 r.after l.0) ∙ ap option_copied c.in-Some.is) c.requires.rules).1
 
 pub consider_noted-requires-clause-few : goal.consider_noted-requires-clause-few
 consider_noted-requires-clause-few g c =
     let some = c.requires.work in
     let session = c.args.point.now.session in let index = c.args.rules.now.index.now in let catalog = c.args.rules.now.catalog.now in let order = c.args.rules.now.order.now in
-    let eligible = flag_at c.args.point.now.eligible in let bound = c.args.point.now.bound in let turn = c.loop-turn._turn in
+    let eligible = flag_at c.args.point.now.eligible in let bound = c.args.point.now.bound in
     let start = c.args.self.now in let records = g.L.ChangeLog.records c.args.log.now in let clock = g.L.ChangeLog.clock c.args.log.now in
     let now = c.loop-turn.self in let later = g.L.ChangeLog.records c.loop-turn.log in let time = g.L.ChangeLog.clock c.loop-turn.log in
     let looked = c.next_rule.new.self in
     let r = c.loop-turn.invariant.reached some.0 some.1 some.2 some.3 in
-    let M = λ (q : Progress). ComesTo some.0 now session later time some.1 some.2 q in
-    let L = λ (q : Progress). ComesTo some.0 looked session later time some.1 some.2 q in
-    let w0 = work-after some.0 session index catalog order some.1 some.2 start records clock some.3 now later time r.after r.comes_to c.loop-turn.invariant.id in
-    let w1 = c.next_rule.ensures.work some.0 some.1 r.after w0 in
-    let k = comes-looked some.0 session index catalog order some.1 some.2 start records clock some.3 now later time r.after r.comes_to looked w1 in
-    (rule-can-run some.0 session index catalog order some.1 some.2 start records clock some.3 looked later time r.after k eligible c.in-Some.rule.now
-    (sym (c.next_rule.ensures.next some.0 some.1 r.after w0) ∙ ap option_copied c.in-Some.is) c.requires.rules).2
+    let l = looks some.3 r.comes_to c.loop-turn.invariant.id (c.next_rule.ensures.work some.0 some.1 r.after) in
+    (rule-can-run some.0 session index catalog order some.1 some.2 start records clock some.3 looked later time r.after l.2 eligible c.in-Some.rule.now
+    (sym (c.next_rule.ensures.next some.0 some.1 r.after l.0) ∙ ap option_copied c.in-Some.is) c.requires.rules).2
 
 pub consider_noted-requires-clause-numbers : goal.consider_noted-requires-clause-numbers
 consider_noted-requires-clause-numbers g c =
@@ -134,41 +111,36 @@ pub returns-in-Ok-Some-clause-processed : goal.returns-in-Ok-Some-clause-process
 returns-in-Ok-Some-clause-processed g c = λ origin setting progress w.
     let session = c.args.point.now.session in let index = c.args.rules.now.index.now in let catalog = c.args.rules.now.catalog.now in let order = c.args.rules.now.order.now in
     let eligible = flag_at c.args.point.now.eligible in let bound = c.args.point.now.bound in let turn = c.loop-turn._turn in
-    let start = c.args.self.now in let records = g.L.ChangeLog.records c.args.log.now in let clock = g.L.ChangeLog.clock c.args.log.now in
+    let records = g.L.ChangeLog.records c.args.log.now in let clock = g.L.ChangeLog.clock c.args.log.now in
     let now = c.loop-turn.self in let later = g.L.ChangeLog.records c.loop-turn.log in let time = g.L.ChangeLog.clock c.loop-turn.log in
     let looked = c.next_rule.new.self in
     let r = c.loop-turn.invariant.reached origin setting progress w in
     let M = λ (q : Progress). ComesTo origin now session later time setting progress q in
     let L = λ (q : Progress). ComesTo origin looked session later time setting progress q in
-    let w0 = work-after origin session index catalog order setting progress start records clock w now later time r.after r.comes_to c.loop-turn.invariant.id in
-    let w1 = c.next_rule.ensures.work origin setting r.after w0 in
-    let k = comes-looked origin session index catalog order setting progress start records clock w now later time r.after r.comes_to looked w1 in
+    let l = looks w r.comes_to c.loop-turn.invariant.id (c.next_rule.ensures.work origin setting r.after) in
     let new = c.consider_noted.new in let last = g.L.ChangeLog.records new.log in let end = g.L.ChangeLog.clock new.log in
     let S = λ (q : Progress). ComesTo origin new.self session last end setting progress q in
     let R = λ (q : Progress). ComesTo origin new.self session last end setting r.after q in
     let rule : Rule = c.in-Some.rule.now in
-    let e = sym (c.next_rule.ensures.next origin setting r.after w0) ∙ ap option_copied c.in-Some.is in
+    let e = sym (c.next_rule.ensures.next origin setting r.after l.0) ∙ ap option_copied c.in-Some.is in
     let more : bound - turn ≡ suc (bound - (turn + 1)) = omega (arith, c.loop-turn-test.true) in
     let notes = if-ok (λ (o : Option Outcome). Notes R rule.id r.after (consider setting rule r.after) c.loop-turn.trace.items new.trace.items o) c.consider_noted.result c.in-Ok-Some.field-0 c.in-Ok-Some.is
-    (c.consider_noted.ensures.noted origin setting r.after (running-of origin session index catalog order setting r.after looked later time w1)) in
+    (c.consider_noted.ensures.noted origin setting r.after (running-of origin session index catalog order setting r.after looked later time l.1)) in
     finds-outcome setting eligible progress bound (bound - turn) c.args.trace.now.items c.loop-turn.trace.items M r rule e (bound - (turn + 1)) more new.trace.items R c.in-Ok-Some.field-0 notes S c.in-Ok-Some.outcome c.in-Ok-Some.field-0-is
 
 pub returns-in-Ok-Some-clause-under_way : goal.returns-in-Ok-Some-clause-under_way
 returns-in-Ok-Some-clause-under_way g c = λ origin setting progress w.
     let session = c.args.point.now.session in let index = c.args.rules.now.index.now in let catalog = c.args.rules.now.catalog.now in let order = c.args.rules.now.order.now in
-    let eligible = flag_at c.args.point.now.eligible in let bound = c.args.point.now.bound in let turn = c.loop-turn._turn in
-    let start = c.args.self.now in let records = g.L.ChangeLog.records c.args.log.now in let clock = g.L.ChangeLog.clock c.args.log.now in
-    let now = c.loop-turn.self in let later = g.L.ChangeLog.records c.loop-turn.log in let time = g.L.ChangeLog.clock c.loop-turn.log in
+    let eligible = flag_at c.args.point.now.eligible in let bound = c.args.point.now.bound in
+    let records = g.L.ChangeLog.records c.args.log.now in let clock = g.L.ChangeLog.clock c.args.log.now in
+    let later = g.L.ChangeLog.records c.loop-turn.log in let time = g.L.ChangeLog.clock c.loop-turn.log in
     let looked = c.next_rule.new.self in
     let r = c.loop-turn.invariant.reached origin setting progress w in
-    let M = λ (q : Progress). ComesTo origin now session later time setting progress q in
     let L = λ (q : Progress). ComesTo origin looked session later time setting progress q in
-    let w0 = work-after origin session index catalog order setting progress start records clock w now later time r.after r.comes_to c.loop-turn.invariant.id in
-    let w1 = c.next_rule.ensures.work origin setting r.after w0 in
-    let k = comes-looked origin session index catalog order setting progress start records clock w now later time r.after r.comes_to looked w1 in
+    let l = looks w r.comes_to c.loop-turn.invariant.id (c.next_rule.ensures.work origin setting r.after) in
     let new = c.consider_noted.new in let last = g.L.ChangeLog.records new.log in let end = g.L.ChangeLog.clock new.log in
-    let come = c.consider_noted.ensures.under_way origin setting r.after (running-of origin session index catalog order setting r.after looked later time w1) in
-    (come.0, comes-on origin session setting progress r.after come.0 looked new.self later last time end k come.1)
+    let come = c.consider_noted.ensures.under_way origin setting r.after (running-of origin session index catalog order setting r.after looked later time l.1) in
+    (come.0, comes-on origin session setting progress r.after come.0 looked new.self later last time end l.2 come.1)
 
 pub returns-in-Ok-Some-clause-numbers : goal.returns-in-Ok-Some-clause-numbers
 returns-in-Ok-Some-clause-numbers g c = λ n h.
@@ -180,19 +152,16 @@ returns-in-Ok-Some-clause-numbers g c = λ n h.
 pub returns-in-Err-clause-under_way : goal.returns-in-Err-clause-under_way
 returns-in-Err-clause-under_way g c = λ origin setting progress w.
     let session = c.args.point.now.session in let index = c.args.rules.now.index.now in let catalog = c.args.rules.now.catalog.now in let order = c.args.rules.now.order.now in
-    let eligible = flag_at c.args.point.now.eligible in let bound = c.args.point.now.bound in let turn = c.loop-turn._turn in
-    let start = c.args.self.now in let records = g.L.ChangeLog.records c.args.log.now in let clock = g.L.ChangeLog.clock c.args.log.now in
-    let now = c.loop-turn.self in let later = g.L.ChangeLog.records c.loop-turn.log in let time = g.L.ChangeLog.clock c.loop-turn.log in
+    let eligible = flag_at c.args.point.now.eligible in let bound = c.args.point.now.bound in
+    let records = g.L.ChangeLog.records c.args.log.now in let clock = g.L.ChangeLog.clock c.args.log.now in
+    let later = g.L.ChangeLog.records c.loop-turn.log in let time = g.L.ChangeLog.clock c.loop-turn.log in
     let looked = c.next_rule.new.self in
     let r = c.loop-turn.invariant.reached origin setting progress w in
-    let M = λ (q : Progress). ComesTo origin now session later time setting progress q in
     let L = λ (q : Progress). ComesTo origin looked session later time setting progress q in
-    let w0 = work-after origin session index catalog order setting progress start records clock w now later time r.after r.comes_to c.loop-turn.invariant.id in
-    let w1 = c.next_rule.ensures.work origin setting r.after w0 in
-    let k = comes-looked origin session index catalog order setting progress start records clock w now later time r.after r.comes_to looked w1 in
+    let l = looks w r.comes_to c.loop-turn.invariant.id (c.next_rule.ensures.work origin setting r.after) in
     let new = c.consider_noted.new in let last = g.L.ChangeLog.records new.log in let end = g.L.ChangeLog.clock new.log in
-    let come = c.consider_noted.ensures.under_way origin setting r.after (running-of origin session index catalog order setting r.after looked later time w1) in
-    (come.0, comes-on origin session setting progress r.after come.0 looked new.self later last time end k come.1)
+    let come = c.consider_noted.ensures.under_way origin setting r.after (running-of origin session index catalog order setting r.after looked later time l.1) in
+    (come.0, comes-on origin session setting progress r.after come.0 looked new.self later last time end l.2 come.1)
 
 pub returns-in-Err-clause-numbers : goal.returns-in-Err-clause-numbers
 returns-in-Err-clause-numbers g c = λ n h.
@@ -209,24 +178,22 @@ loop-turn-preserved g c =
       reached = λ origin setting progress w.
           let session = c.args.point.now.session in let index = c.args.rules.now.index.now in let catalog = c.args.rules.now.catalog.now in let order = c.args.rules.now.order.now in
           let eligible = flag_at c.args.point.now.eligible in let bound = c.args.point.now.bound in let turn = c.loop-turn._turn in
-          let start = c.args.self.now in let records = g.L.ChangeLog.records c.args.log.now in let clock = g.L.ChangeLog.clock c.args.log.now in
+          let records = g.L.ChangeLog.records c.args.log.now in let clock = g.L.ChangeLog.clock c.args.log.now in
           let now = c.loop-turn.self in let later = g.L.ChangeLog.records c.loop-turn.log in let time = g.L.ChangeLog.clock c.loop-turn.log in
           let looked = c.next_rule.new.self in
           let r = c.loop-turn.invariant.reached origin setting progress w in
           let M = λ (q : Progress). ComesTo origin now session later time setting progress q in
           let L = λ (q : Progress). ComesTo origin looked session later time setting progress q in
-          let w0 = work-after origin session index catalog order setting progress start records clock w now later time r.after r.comes_to c.loop-turn.invariant.id in
-          let w1 = c.next_rule.ensures.work origin setting r.after w0 in
-          let k = comes-looked origin session index catalog order setting progress start records clock w now later time r.after r.comes_to looked w1 in
+          let l = looks w r.comes_to c.loop-turn.invariant.id (c.next_rule.ensures.work origin setting r.after) in
           let new = c.consider_noted.new in let last = g.L.ChangeLog.records new.log in let end = g.L.ChangeLog.clock new.log in
           let S = λ (q : Progress). ComesTo origin new.self session last end setting progress q in
           let R = λ (q : Progress). ComesTo origin new.self session last end setting r.after q in
           let rule : Rule = c.in-Some.rule.now in
-          let e = sym (c.next_rule.ensures.next origin setting r.after w0) ∙ ap option_copied c.in-Some.is in
+          let e = sym (c.next_rule.ensures.next origin setting r.after l.0) ∙ ap option_copied c.in-Some.is in
           let more : bound - turn ≡ suc (bound - (turn + 1)) = omega (arith, c.loop-turn-test.true) in
           let notes = if-ok (λ (o : Option Outcome). Notes R rule.id r.after (consider setting rule r.after) c.loop-turn.trace.items new.trace.items o) c.consider_noted.result c.in-Ok-None.field-0 c.in-Ok-None.is
-          (c.consider_noted.ensures.noted origin setting r.after (running-of origin session index catalog order setting r.after looked later time w1)) in
-          reaches-more setting eligible progress bound (bound - turn) c.args.trace.now.items c.loop-turn.trace.items M r rule e (bound - (turn + 1)) more new.trace.items R c.in-Ok-None.field-0 notes S (λ q h. comes-on origin session setting progress r.after q looked new.self later last time end k h) c.in-Ok-None.field-0-is;
+          (c.consider_noted.ensures.noted origin setting r.after (running-of origin session index catalog order setting r.after looked later time l.1)) in
+          reaches-more setting eligible progress bound (bound - turn) c.args.trace.now.items c.loop-turn.trace.items M r rule e (bound - (turn + 1)) more new.trace.items R c.in-Ok-None.field-0 notes S (λ q h. comes-on origin session setting progress r.after q looked new.self later last time end l.2 h) c.in-Ok-None.field-0-is;
       id = c.consider_noted.ensures.id ∙ same;
       sessions = sessions-on c.args.self.now.transactions c.next_rule.new.self.transactions c.consider_noted.new.self.transactions c.args.point.now.session
           (sessions-on c.args.self.now.transactions c.loop-turn.self.transactions c.next_rule.new.self.transactions c.args.point.now.session inv.sessions c.next_rule.ensures.sessions) c.consider_noted.ensures.sessions;
@@ -244,47 +211,38 @@ pub returns-in-Some-next_rule-clause-processed : goal.returns-in-Some-next_rule-
 returns-in-Some-next_rule-clause-processed g c = λ origin setting progress w.
     let session = c.args.point.now.session in let index = c.args.rules.now.index.now in let catalog = c.args.rules.now.catalog.now in let order = c.args.rules.now.order.now in
     let eligible = flag_at c.args.point.now.eligible in let bound = c.args.point.now.bound in let turn = c.loop-turn._turn in
-    let start = c.args.self.now in let records = g.L.ChangeLog.records c.args.log.now in let clock = g.L.ChangeLog.clock c.args.log.now in
+    let records = g.L.ChangeLog.records c.args.log.now in let clock = g.L.ChangeLog.clock c.args.log.now in
     let now = c.loop-turn.self in let later = g.L.ChangeLog.records c.loop-turn.log in let time = g.L.ChangeLog.clock c.loop-turn.log in
     let looked = c.next_rule-2.new.self in
     let r = c.loop-turn.invariant.reached origin setting progress w in
     let M = λ (q : Progress). ComesTo origin now session later time setting progress q in
     let L = λ (q : Progress). ComesTo origin looked session later time setting progress q in
-    let w0 = work-after origin session index catalog order setting progress start records clock w now later time r.after r.comes_to c.loop-turn.invariant.id in
-    let w1 = c.next_rule-2.ensures.work origin setting r.after w0 in
-    let k = comes-looked origin session index catalog order setting progress start records clock w now later time r.after r.comes_to looked w1 in
+    let l = looks w r.comes_to c.loop-turn.invariant.id (c.next_rule-2.ensures.work origin setting r.after) in
     let none_left : bound - turn ≡ 0 = omega (arith, c.loop-turn-test.false) in
-    finds-limit setting eligible progress bound (bound - turn) c.args.trace.now.items c.loop-turn.trace.items M r L c.in-Some-next_rule.field-0.now none_left (sym (c.next_rule-2.ensures.next origin setting r.after w0) ∙ ap option_copied c.in-Some-next_rule.is)
+    finds-limit setting eligible progress bound (bound - turn) c.args.trace.now.items c.loop-turn.trace.items M r L c.in-Some-next_rule.field-0.now none_left (sym (c.next_rule-2.ensures.next origin setting r.after l.0) ∙ ap option_copied c.in-Some-next_rule.is)
 
 pub returns-in-None-clause-processed : goal.returns-in-None-clause-processed
 returns-in-None-clause-processed g c = λ origin setting progress w.
     let session = c.args.point.now.session in let index = c.args.rules.now.index.now in let catalog = c.args.rules.now.catalog.now in let order = c.args.rules.now.order.now in
     let eligible = flag_at c.args.point.now.eligible in let bound = c.args.point.now.bound in let turn = c.loop-turn._turn in
-    let start = c.args.self.now in let records = g.L.ChangeLog.records c.args.log.now in let clock = g.L.ChangeLog.clock c.args.log.now in
+    let records = g.L.ChangeLog.records c.args.log.now in let clock = g.L.ChangeLog.clock c.args.log.now in
     let now = c.loop-turn.self in let later = g.L.ChangeLog.records c.loop-turn.log in let time = g.L.ChangeLog.clock c.loop-turn.log in
     let looked = c.next_rule-2.new.self in
     let r = c.loop-turn.invariant.reached origin setting progress w in
     let M = λ (q : Progress). ComesTo origin now session later time setting progress q in
     let L = λ (q : Progress). ComesTo origin looked session later time setting progress q in
-    let w0 = work-after origin session index catalog order setting progress start records clock w now later time r.after r.comes_to c.loop-turn.invariant.id in
-    let w1 = c.next_rule-2.ensures.work origin setting r.after w0 in
-    let k = comes-looked origin session index catalog order setting progress start records clock w now later time r.after r.comes_to looked w1 in
-    finds-done setting eligible progress bound (bound - turn) c.args.trace.now.items c.loop-turn.trace.items M r L (λ h. k) (sym (c.next_rule-2.ensures.next origin setting r.after w0) ∙ ap option_copied c.in-None.is)
+    let l = looks w r.comes_to c.loop-turn.invariant.id (c.next_rule-2.ensures.work origin setting r.after) in
+    finds-done setting eligible progress bound (bound - turn) c.args.trace.now.items c.loop-turn.trace.items M r L (λ h. l.2) (sym (c.next_rule-2.ensures.next origin setting r.after l.0) ∙ ap option_copied c.in-None.is)
 
 pub returns-in-Some-next_rule-clause-under_way : goal.returns-in-Some-next_rule-clause-under_way
 returns-in-Some-next_rule-clause-under_way g c = λ origin setting progress w.
     let session = c.args.point.now.session in let index = c.args.rules.now.index.now in let catalog = c.args.rules.now.catalog.now in let order = c.args.rules.now.order.now in
-    let eligible = flag_at c.args.point.now.eligible in let bound = c.args.point.now.bound in let turn = c.loop-turn._turn in
-    let start = c.args.self.now in let records = g.L.ChangeLog.records c.args.log.now in let clock = g.L.ChangeLog.clock c.args.log.now in
-    let now = c.loop-turn.self in let later = g.L.ChangeLog.records c.loop-turn.log in let time = g.L.ChangeLog.clock c.loop-turn.log in
+    let eligible = flag_at c.args.point.now.eligible in let bound = c.args.point.now.bound in
+    let records = g.L.ChangeLog.records c.args.log.now in let clock = g.L.ChangeLog.clock c.args.log.now in
     let looked = c.next_rule-2.new.self in
     let r = c.loop-turn.invariant.reached origin setting progress w in
-    let M = λ (q : Progress). ComesTo origin now session later time setting progress q in
-    let L = λ (q : Progress). ComesTo origin looked session later time setting progress q in
-    let w0 = work-after origin session index catalog order setting progress start records clock w now later time r.after r.comes_to c.loop-turn.invariant.id in
-    let w1 = c.next_rule-2.ensures.work origin setting r.after w0 in
-    let k = comes-looked origin session index catalog order setting progress start records clock w now later time r.after r.comes_to looked w1 in
-    (r.after, k)
+    let l = looks w r.comes_to c.loop-turn.invariant.id (c.next_rule-2.ensures.work origin setting r.after) in
+    (r.after, l.2)
 
 pub returns-in-Some-next_rule-clause-numbers : goal.returns-in-Some-next_rule-clause-numbers
 returns-in-Some-next_rule-clause-numbers g c = λ n h.
@@ -295,17 +253,12 @@ returns-in-Some-next_rule-clause-numbers g c = λ n h.
 pub returns-in-None-clause-under_way : goal.returns-in-None-clause-under_way
 returns-in-None-clause-under_way g c = λ origin setting progress w.
     let session = c.args.point.now.session in let index = c.args.rules.now.index.now in let catalog = c.args.rules.now.catalog.now in let order = c.args.rules.now.order.now in
-    let eligible = flag_at c.args.point.now.eligible in let bound = c.args.point.now.bound in let turn = c.loop-turn._turn in
-    let start = c.args.self.now in let records = g.L.ChangeLog.records c.args.log.now in let clock = g.L.ChangeLog.clock c.args.log.now in
-    let now = c.loop-turn.self in let later = g.L.ChangeLog.records c.loop-turn.log in let time = g.L.ChangeLog.clock c.loop-turn.log in
+    let eligible = flag_at c.args.point.now.eligible in let bound = c.args.point.now.bound in
+    let records = g.L.ChangeLog.records c.args.log.now in let clock = g.L.ChangeLog.clock c.args.log.now in
     let looked = c.next_rule-2.new.self in
     let r = c.loop-turn.invariant.reached origin setting progress w in
-    let M = λ (q : Progress). ComesTo origin now session later time setting progress q in
-    let L = λ (q : Progress). ComesTo origin looked session later time setting progress q in
-    let w0 = work-after origin session index catalog order setting progress start records clock w now later time r.after r.comes_to c.loop-turn.invariant.id in
-    let w1 = c.next_rule-2.ensures.work origin setting r.after w0 in
-    let k = comes-looked origin session index catalog order setting progress start records clock w now later time r.after r.comes_to looked w1 in
-    (r.after, k)
+    let l = looks w r.comes_to c.loop-turn.invariant.id (c.next_rule-2.ensures.work origin setting r.after) in
+    (r.after, l.2)
 
 pub returns-in-None-clause-numbers : goal.returns-in-None-clause-numbers
 returns-in-None-clause-numbers g c = λ n h.

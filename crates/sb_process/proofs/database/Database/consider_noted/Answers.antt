@@ -14,7 +14,7 @@ returns-then-is_err-clause-numbers g c = λ n h. each-weaken n (n + 32768) (entr
 pub returns-clause-noted : goal.returns-clause-noted
 returns-clause-noted g c = λ origin setting progress w.
     let new = c.consider-considered.new in
-    let S = λ (q : Progress). ComesTo origin new.self c.args.session (g.L.ChangeLog.records new.log) (g.L.ChangeLog.clock new.log) setting progress q in
-    noted-as S c.args.rule.now.id progress c.args.trace.now.items c.note.new.trace.items (consider setting c.args.rule.now progress) c.consider-considered.result c.note.result
+    let S = λ (q : Progress). ComesTo origin new.self c.args.chosen.now.session (g.L.ChangeLog.records new.log) (g.L.ChangeLog.clock new.log) setting progress q in
+    noted-as S c.args.chosen.now.rule.now.id progress c.args.trace.now.items c.note.new.trace.items (consider setting c.args.chosen.now.rule.now progress) c.consider-considered.result c.note.result
     (c.consider-considered.ensures.considered origin setting progress w) c.note.ensures.outcome
-    (subst (λ (l : List (ℕ × Verdict)). OnOk c.note.result (c.note.new.trace.items ≡ l ++ (c.args.rule.now.id, verdict_noted c.consider-considered.result) ∷ [])) c.reserve.ensures.items c.note.ensures.verdict) c.note.ensures.had_memory
+    (subst (λ (l : List (ℕ × Verdict)). OnOk c.note.result (c.note.new.trace.items ≡ l ++ (c.args.chosen.now.rule.now.id, verdict_noted c.consider-considered.result) ∷ [])) c.reserve.ensures.items c.note.ensures.verdict) c.note.ensures.had_memory

@@ -12,8 +12,8 @@ use Rattle.sb_process.proofs.database.Database.make_all.Goals as goal
 
 pub apply-requires-clause-can : goal.apply-requires-clause-can
 apply-requires-clause-can g c =
-    subst (λ (cs : List Change). CanApply c.prepare.new.tables (who_in c.args.self.now c.args.session) c.args.target cs) (sym c.in-Ok.ensures.changes)
-    (can_apply c.args.self.now.tables c.prepare.new.tables (who_in c.args.self.now c.args.session) c.args.target c.args.changes.items c.requires.makeable c.requires.numbered c.requires.stored c.requires.there c.requires.numbers
+    subst (λ (cs : List Change). CanApply c.prepare.new.tables (who_in c.args.self.now c.args.session) c.args.effect.target cs) (sym c.in-Ok.ensures.changes)
+    (can_apply c.args.self.now.tables c.prepare.new.tables (who_in c.args.self.now c.args.session) c.args.effect.target c.args.effect.changes.items c.requires.makeable c.requires.numbered c.requires.stored c.requires.there c.requires.numbers
     c.prepare.ensures.same c.in-Ok.ensures.few c.in-Ok.ensures.table)
 
 -- the changes are made of the tables with room for them
@@ -24,7 +24,7 @@ returns-in-Ok-clause-made g c = λ origin setting progress w.
     (g.L.ChangeLog.clock c.prepare.new.log) setting progress origin w.transaction c.prepare.ensures.same c.prepare.ensures.records c.prepare.ensures.clock in
     let all = c.apply.ensures.all origin setting progress (record { transaction = ready; indexed = w.indexed }) in
     inl (
-      ap Ok (c.len-count.ensures ∙ c.args.changes.ok.0),
+      ap Ok (c.len-count.ensures ∙ c.args.effect.changes.ok.0),
       subst
           (λ (cs : List Change). Represents origin c.apply.new.self c.args.session (g.L.ChangeLog.records c.apply.new.log) (g.L.ChangeLog.clock c.apply.new.log) setting (record progress { changes = progress.changes ++ cs }))
           c.in-Ok.ensures.changes all,
@@ -32,7 +32,7 @@ returns-in-Ok-clause-made g c = λ origin setting progress w.
 
 pub returns-in-Ok-clause-numbers : goal.returns-in-Ok-clause-numbers
 returns-in-Ok-clause-numbers g c = λ n b.
-    let long : length c.args.changes.items ≡ length c.in-Ok.list.items = sym (ap (λ (l : List Change). length l) c.in-Ok.ensures.changes) ∙ length-map c.in-Ok.list.items (λ (r : Ready). r.change) in
+    let long : length c.args.effect.changes.items ≡ length c.in-Ok.list.items = sym (ap (λ (l : List Change). length l) c.in-Ok.ensures.changes) ∙ length-map c.in-Ok.list.items (λ (r : Ready). r.change) in
     each-weaken (n + length c.in-Ok.list.items) (n + 4096) (entries c.apply.new.self.tables) (omega (arith, long, c.in-Ok.ensures.few))
     (c.apply.ensures.numbers n (numbers_same n c.args.self.now.tables c.prepare.new.tables (sym c.prepare.ensures.same) b))
 

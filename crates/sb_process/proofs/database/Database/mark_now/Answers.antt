@@ -9,6 +9,6 @@ returns-clause-marked g c = λ origin setting progress r.
     let d = c.args.self.now in
     let records = g.L.ChangeLog.records c.args.log.now in
     let clock = g.L.ChangeLog.clock c.args.log.now in
-    represents-marked origin d c.args.session records clock setting progress r (subst (Rising 0 records) c.now.ensures.clock c.now.ensures.rising) c.args.rule.now c.set_mark.new.self
-    (λ s x. c.in_ok-set_mark.ensures.marks s x ∙ ap (λ (t : ℕ). cond ((nat_eq s c.args.session) && (nat_eq x c.args.rule.now.id)) t (mark_of d.transactions s x)) c.now.ensures.clock)
-    (λ s x. c.in_ok-set_mark.ensures.tested s x ∙ ap (λ (t : ℕ). cond ((nat_eq s c.args.session) && (nat_eq x c.args.rule.now.id)) t (tested_of d.transactions s x)) c.now.ensures.clock) c.set_mark.ensures.candidates
+    represents-marked origin d c.args.chosen.now.session records clock setting progress r (subst (Rising 0 records) c.now.ensures.clock c.now.ensures.rising) c.args.chosen.now.rule.now c.set_mark.new.self
+    (λ s x. c.in_ok-set_mark.ensures.marks s x ∙ ap (λ (t : ℕ). cond ((nat_eq s c.args.chosen.now.session) && (nat_eq x c.args.chosen.now.rule.now.id)) t (mark_of d.transactions s x)) c.now.ensures.clock)
+    (λ s x. c.in_ok-set_mark.ensures.tested s x ∙ ap (λ (t : ℕ). cond ((nat_eq s c.args.chosen.now.session) && (nat_eq x c.args.chosen.now.rule.now.id)) t (tested_of d.transactions s x)) c.now.ensures.clock) c.set_mark.ensures.candidates

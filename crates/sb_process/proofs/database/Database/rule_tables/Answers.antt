@@ -10,5 +10,5 @@ returns g c = λ origin setting progress r.
     let d = c.args.self.now in
     let records = g.L.ChangeLog.records c.args.log.now in
     taken-ok c.transition_tables.result _ _
-    (ap (λ (t : ℕ). transition_tables c.args.rule.now.triggers c.args.rule.now.table (changes_since (who_in d c.args.session) t records)) c.mark-since.ensures
-    ∙ sym (tables-taken origin d c.args.session records (g.L.ChangeLog.clock c.args.log.now) setting progress r c.now-now.ensures.marks c.args.rule.now)) c.transition_tables.ensures
+    (ap (λ (t : ℕ). transition_tables c.args.chosen.now.rule.now.triggers c.args.chosen.now.rule.now.table (changes_since (who_in d c.args.chosen.now.session) t records)) c.mark-since.ensures
+    ∙ sym (tables-taken origin d c.args.chosen.now.session records (g.L.ChangeLog.clock c.args.log.now) setting progress r c.now-now.ensures.marks c.args.chosen.now.rule.now)) c.transition_tables.ensures

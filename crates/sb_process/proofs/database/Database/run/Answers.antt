@@ -25,19 +25,19 @@ run_granted-requires-clause-transaction g c =
     let d : Database = c.args.self.now in
     let list : List (ℕ × Mode) = statement_locks c.args.statement.now in
     let listed = c.as_slice.ensures.value ∙ c.in-Ok.ensures in
-    let taken = λ (s t : ℕ) (m : Mode). c.in-Ok-request.ensures.taken s t m ∙ ap (λ l. with_locks (held d.locks) c.args.session l s t m) listed in
+    let taken = λ (s t : ℕ) (m : Mode). c.in-Ok-request.ensures.taken s t m ∙ ap (λ l. with_locks (held d.locks) c.args.viewer.now.session l s t m) listed in
     let some = c.requires.transaction in
     let p : Progress = record some.2 { locks = with_locks some.2.locks some.1.who.session list } in
-    (some.0, some.1, p, with_more d c.args.session (g.L.ChangeLog.records c.args.log.now) (g.L.ChangeLog.clock c.args.log.now) some.1 some.2 some.0 some.3 c.request.new.locks list taken)
+    (some.0, some.1, p, with_more d c.args.viewer.now.session (g.L.ChangeLog.records c.args.log.now) (g.L.ChangeLog.clock c.args.log.now) some.1 some.2 some.0 some.3 c.request.new.locks list taken)
 
 pub run_granted-requires-clause-locked : goal.run_granted-requires-clause-locked
 run_granted-requires-clause-locked g c =
     let d : Database = c.args.self.now in
     let t : ℕ = target c.args.statement.now in
     let listed = c.as_slice.ensures.value ∙ c.in-Ok.ensures in
-    c.in-Ok-request.ensures.taken c.args.session t Write
-    ∙ ap (λ l. with_locks (held d.locks) c.args.session l c.args.session t Write) listed
-    ∙ target_locked (held d.locks) c.args.session c.args.statement.now
+    c.in-Ok-request.ensures.taken c.args.viewer.now.session t Write
+    ∙ ap (λ l. with_locks (held d.locks) c.args.viewer.now.session l c.args.viewer.now.session t Write) listed
+    ∙ target_locked (held d.locks) c.args.viewer.now.session c.args.statement.now
 
 -- with the locks taken, what is meant is what the changes of the statement are
 pub returns-in-Ok-request-clause-ran : goal.returns-in-Ok-request-clause-ran
@@ -48,13 +48,13 @@ returns-in-Ok-request-clause-ran g c = λ origin setting progress w.
     let clock : ℕ = g.L.ChangeLog.clock c.args.log.now in
     let list : List (ℕ × Mode) = statement_locks c.args.statement.now in
     let listed = c.as_slice.ensures.value ∙ c.in-Ok.ensures in
-    let none = same_conflict d c.args.session records clock setting progress origin r list ∙ ap (first_conflict (held d.locks) c.args.session) (sym listed) ∙ c.in-Ok-request.ensures.granted in
-    let taken = λ (s t : ℕ) (m : Mode). c.in-Ok-request.ensures.taken s t m ∙ ap (λ l. with_locks (held d.locks) c.args.session l s t m) listed in
+    let none = same_conflict d c.args.viewer.now.session records clock setting progress origin r list ∙ ap (first_conflict (held d.locks) c.args.viewer.now.session) (sym listed) ∙ c.in-Ok-request.ensures.granted in
+    let taken = λ (s t : ℕ) (m : Mode). c.in-Ok-request.ensures.taken s t m ∙ ap (λ l. with_locks (held d.locks) c.args.viewer.now.session l s t m) listed in
     let p : Progress = record progress { locks = with_locks progress.locks setting.who.session list } in
-    let meant = granted_answer setting progress list (λ p. statement_changes (seen_with setting c.args.tables.now p) c.args.statement.now) none in
+    let meant = granted_answer setting progress list (λ p. statement_changes (seen_with setting c.args.viewer.now.tables.now p) c.args.statement.now) none in
     let after = after_granted setting progress list none in
-    let stands = λ (q : Progress). Represents origin c.run_granted.new.self c.args.session (g.L.ChangeLog.records c.run_granted.new.log) (g.L.ChangeLog.clock c.run_granted.new.log) setting q in
-    elim (c.run_granted.ensures.ran origin setting p (record { transaction = with_more d c.args.session records clock setting progress origin r c.request.new.locks list taken; indexed = w.indexed })) [
+    let stands = λ (q : Progress). Represents origin c.run_granted.new.self c.args.viewer.now.session (g.L.ChangeLog.records c.run_granted.new.log) (g.L.ChangeLog.clock c.run_granted.new.log) setting q in
+    elim (c.run_granted.ensures.ran origin setting p (record { transaction = with_more d c.args.viewer.now.session records clock setting progress origin r c.request.new.locks list taken; indexed = w.indexed })) [
       | inl done ↦ inl (done.0 ∙ ap counted (sym meant), subst stands (λ i. with_changes_of (sym meant i) (sym after i)) done.1)
       | inr out ↦ inr (out.0, inl (subst stands (sym after) out.1))
     ]
@@ -69,11 +69,11 @@ returns-clause-ran g c = λ origin setting progress w.
     let list : List (ℕ × Mode) = statement_locks c.args.statement.now in
     let listed = c.as_slice.ensures.value ∙ c.in-Ok.ensures in
     let no = c.in-Err.ensures.refused in
-    let conflict = same_conflict d c.args.session records clock setting progress origin r list ∙ ap (first_conflict (held d.locks) c.args.session) (sym listed) ∙ no.1 in
-    let meant = refused_answer setting progress list (λ p. statement_changes (seen_with setting c.args.tables.now p) c.args.statement.now) no.0 conflict in
+    let conflict = same_conflict d c.args.viewer.now.session records clock setting progress origin r list ∙ ap (first_conflict (held d.locks) c.args.viewer.now.session) (sym listed) ∙ no.1 in
+    let meant = refused_answer setting progress list (λ p. statement_changes (seen_with setting c.args.viewer.now.tables.now p) c.args.statement.now) no.0 conflict in
     let after = after_refused setting progress list no.0 conflict in
     inl (
-      ap Err (same_refusal d c.args.session records clock setting progress origin r no.0 c.in-Err.refusal no.2) ∙ ap counted (sym meant),
-      subst (λ (q : Progress). Represents origin (record d { locks = c.request.new.locks }) c.args.session records clock setting q) (λ i. with_changes_of (sym meant i) (sym after i))
-          (subst (λ l. Represents origin (record d { locks = l }) c.args.session records clock setting progress) (sym c.in-Err.ensures.unchanged) r),
+      ap Err (same_refusal d c.args.viewer.now.session records clock setting progress origin r no.0 c.in-Err.refusal no.2) ∙ ap counted (sym meant),
+      subst (λ (q : Progress). Represents origin (record d { locks = c.request.new.locks }) c.args.viewer.now.session records clock setting q) (λ i. with_changes_of (sym meant i) (sym after i))
+          (subst (λ l. Represents origin (record d { locks = l }) c.args.viewer.now.session records clock setting progress) (sym c.in-Err.ensures.unchanged) r),
     )

@@ -15,32 +15,32 @@ returns-in-Rollback-clause-numbers g c = λ n h. each-weaken n (n + 4096) (entri
 
 pub returns-in-Ok-clause-ran : goal.returns-in-Ok-clause-ran
 returns-in-Ok-clause-ran g c = λ origin setting progress w.
-    let session = c.args.session in
+    let session = c.args.viewer.now.session in
     let old = c.args.log.now in let new = c.run.new.log in
     let S = λ (q : Progress). ComesTo origin c.run.new.self session (g.L.ChangeLog.records new) (g.L.ChangeLog.clock new) setting progress q in
     let result : Result Bool Refusal = Ok true in
-    subst (λ (a : Action). Acts S (run_actions setting c.args.tables.now (a ∷ []) progress) result ⊎ (result ≡ Err NoMemory)) (sym c.in-Change.is)
+    subst (λ (a : Action). Acts S (run_actions setting c.args.viewer.now.tables.now (a ∷ []) progress) result ⊎ (result ≡ Err NoMemory)) (sym c.in-Change.is)
     (change-ran origin session setting progress c.args.self.now (g.L.ChangeLog.records old) (g.L.ChangeLog.clock old) w.transaction c.run.new.self (g.L.ChangeLog.records new)
-    (g.L.ChangeLog.clock new) c.args.tables.now c.in-Change.statement c.run.result c.in-Ok.field-0 c.in-Ok.is (c.run.ensures.ran origin setting progress w))
+    (g.L.ChangeLog.clock new) c.args.viewer.now.tables.now c.in-Change.statement c.run.result c.in-Ok.field-0 c.in-Ok.is (c.run.ensures.ran origin setting progress w))
 
 pub returns-in-Err-clause-ran : goal.returns-in-Err-clause-ran
 returns-in-Err-clause-ran g c = λ origin setting progress w.
-    let session = c.args.session in
+    let session = c.args.viewer.now.session in
     let old = c.args.log.now in let new = c.run.new.log in
     let S = λ (q : Progress). ComesTo origin c.run.new.self session (g.L.ChangeLog.records new) (g.L.ChangeLog.clock new) setting progress q in
     let result : Result Bool Refusal = Err c.in-Err.refusal in
-    subst (λ (a : Action). Acts S (run_actions setting c.args.tables.now (a ∷ []) progress) result ⊎ (result ≡ Err NoMemory)) (sym c.in-Change.is)
+    subst (λ (a : Action). Acts S (run_actions setting c.args.viewer.now.tables.now (a ∷ []) progress) result ⊎ (result ≡ Err NoMemory)) (sym c.in-Change.is)
     (change-refused origin session setting progress c.args.self.now (g.L.ChangeLog.records old) (g.L.ChangeLog.clock old) w.transaction c.run.new.self (g.L.ChangeLog.records new)
-    (g.L.ChangeLog.clock new) c.args.tables.now c.in-Change.statement c.run.result c.in-Err.refusal c.in-Err.is (c.run.ensures.ran origin setting progress w))
+    (g.L.ChangeLog.clock new) c.args.viewer.now.tables.now c.in-Change.statement c.run.result c.in-Err.refusal c.in-Err.is (c.run.ensures.ran origin setting progress w))
 
 pub returns-in-Ok-clause-under_way : goal.returns-in-Ok-clause-under_way
 returns-in-Ok-clause-under_way g c = λ origin setting progress w.
     let old = c.args.log.now in let new = c.run.new.log in
-    runs-under_way origin c.args.session setting progress c.args.self.now (g.L.ChangeLog.records old) (g.L.ChangeLog.clock old) w.transaction c.run.new.self (g.L.ChangeLog.records new)
-    (g.L.ChangeLog.clock new) c.args.tables.now c.in-Change.statement c.run.result (c.run.ensures.ran origin setting progress w)
+    runs-under_way origin c.args.viewer.now.session setting progress c.args.self.now (g.L.ChangeLog.records old) (g.L.ChangeLog.clock old) w.transaction c.run.new.self (g.L.ChangeLog.records new)
+    (g.L.ChangeLog.clock new) c.args.viewer.now.tables.now c.in-Change.statement c.run.result (c.run.ensures.ran origin setting progress w)
 
 pub returns-in-Err-clause-under_way : goal.returns-in-Err-clause-under_way
 returns-in-Err-clause-under_way g c = λ origin setting progress w.
     let old = c.args.log.now in let new = c.run.new.log in
-    runs-under_way origin c.args.session setting progress c.args.self.now (g.L.ChangeLog.records old) (g.L.ChangeLog.clock old) w.transaction c.run.new.self (g.L.ChangeLog.records new)
-    (g.L.ChangeLog.clock new) c.args.tables.now c.in-Change.statement c.run.result (c.run.ensures.ran origin setting progress w)
+    runs-under_way origin c.args.viewer.now.session setting progress c.args.self.now (g.L.ChangeLog.records old) (g.L.ChangeLog.clock old) w.transaction c.run.new.self (g.L.ChangeLog.records new)
+    (g.L.ChangeLog.clock new) c.args.viewer.now.tables.now c.in-Change.statement c.run.result (c.run.ensures.ran origin setting progress w)

@@ -30,24 +30,24 @@ make_all-requires-clause-makeable g c =
     let some = c.requires.transaction in
     let sound = sound-made c.changes_keep_places.ensures some.0 some.2.changes c.args.self.now.tables some.3.made in
     let t : ℕ = target c.args.statement.now in
-    subst (λ (n : ℕ). AreMakeable (entries c.args.self.now.tables) (who_in c.args.self.now c.args.session) n c.in-Ok.changes.items) (sym c.target_of.ensures)
-    (c.changes_are_proper.ensures (seen_by c.args.self.now.tables c.args.tables.now (who_in c.args.self.now c.args.session)) c.args.statement.now c.in-Ok.changes.items
+    subst (λ (n : ℕ). AreMakeable (entries c.args.self.now.tables) (who_in c.args.self.now c.args.viewer.now.session) n c.in-Ok.changes.items) (sym c.target_of.ensures)
+    (c.changes_are_proper.ensures (seen_by c.args.self.now.tables c.args.viewer.now.tables.now (who_in c.args.self.now c.args.viewer.now.session)) c.args.statement.now c.in-Ok.changes.items
     (number-entries c.args.self.now.tables t ∙ c.requires.there) (tables_are c.args.self.now.tables t sound.1) c.in-Ok.ensures.ok)
 
 pub returns-in-Ok-clause-ran : goal.returns-in-Ok-clause-ran
 returns-in-Ok-clause-ran g c = λ origin setting progress w.
-    let seen = same_seen c.args.self.now c.args.session (g.L.ChangeLog.records c.args.log.now) (g.L.ChangeLog.clock c.args.log.now) setting progress origin w.transaction c.args.tables.now progress refl in
+    let seen = same_seen c.args.self.now c.args.viewer.now.session (g.L.ChangeLog.records c.args.log.now) (g.L.ChangeLog.clock c.args.log.now) setting progress origin w.transaction c.args.viewer.now.tables.now progress refl in
     subst
-    (λ (meant : Result (List Change) Refusal). Changes origin c.make_all.new.self c.args.session meant c.make_all.result (g.L.ChangeLog.records c.make_all.new.log) (g.L.ChangeLog.clock c.make_all.new.log) setting progress)
+    (λ (meant : Result (List Change) Refusal). Changes origin c.make_all.new.self c.args.viewer.now.session meant c.make_all.result (g.L.ChangeLog.records c.make_all.new.log) (g.L.ChangeLog.clock c.make_all.new.log) setting progress)
     (sym (ap (λ s. statement_changes s c.args.statement.now) seen ∙ c.in-Ok.ensures.ok)) (c.make_all.ensures.made origin setting progress w)
 
 pub returns-in-Err-clause-ran : goal.returns-in-Err-clause-ran
 returns-in-Err-clause-ran g c = λ origin setting progress w.
-    let seen = same_seen c.args.self.now c.args.session (g.L.ChangeLog.records c.args.log.now) (g.L.ChangeLog.clock c.args.log.now) setting progress origin w.transaction c.args.tables.now progress refl in
+    let seen = same_seen c.args.self.now c.args.viewer.now.session (g.L.ChangeLog.records c.args.log.now) (g.L.ChangeLog.clock c.args.log.now) setting progress origin w.transaction c.args.viewer.now.tables.now progress refl in
     elim c.in-Err.ensures.err [
       | inl e ↦ subst
           (λ (meant : Result (List Change) Refusal).
-          Changes origin c.args.self.now c.args.session meant (Err c.in-Err.refusal) (g.L.ChangeLog.records c.args.log.now) (g.L.ChangeLog.clock c.args.log.now) setting progress)
+          Changes origin c.args.self.now c.args.viewer.now.session meant (Err c.in-Err.refusal) (g.L.ChangeLog.records c.args.log.now) (g.L.ChangeLog.clock c.args.log.now) setting progress)
           (sym (ap (λ s. statement_changes s c.args.statement.now) seen ∙ e)) (inl (refl, w.transaction))
       | inr e ↦ inr (ap Err e, w.transaction)
     ]

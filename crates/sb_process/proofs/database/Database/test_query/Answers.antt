@@ -18,12 +18,12 @@ returns-in-Ok-request-clause-under_way c = λ records clock origin setting progr
     let d = c.args.self.now in
     let list : List (ℕ × Mode) = query_locks c.args.query.now in
     let listed = c.as_slice.ensures.value ∙ c.in-Ok.ensures in
-    let taken = λ (s t : ℕ) (m : Mode). c.in-Ok-request.ensures.taken s t m ∙ ap (λ l. with_locks (held d.locks) c.args.session l s t m) listed in
+    let taken = λ (s t : ℕ) (m : Mode). c.in-Ok-request.ensures.taken s t m ∙ ap (λ l. with_locks (held d.locks) c.args.viewer.now.session l s t m) listed in
     let p : Progress = record progress { locks = with_locks progress.locks setting.who.session list } in (
       p,
       record {
-        stands = with_more d c.args.session records clock setting progress origin r c.request.new.locks list taken;
-        locks = released-with progress.locks setting.who.session c.args.session list (same_session d c.args.session records clock setting progress origin r);
+        stands = with_more d c.args.viewer.now.session records clock setting progress origin r c.request.new.locks list taken;
+        locks = released-with progress.locks setting.who.session c.args.viewer.now.session list (same_session d c.args.viewer.now.session records clock setting progress origin r);
       },
     )
 
@@ -32,17 +32,17 @@ returns-in-Ok-request-clause-tested c = λ records clock origin setting progress
     let d = c.args.self.now in
     let list : List (ℕ × Mode) = query_locks c.args.query.now in
     let listed = c.as_slice.ensures.value ∙ c.in-Ok.ensures in
-    let none = same_conflict d c.args.session records clock setting progress origin r list ∙ ap (first_conflict (held d.locks) c.args.session) (sym listed) ∙ c.in-Ok-request.ensures.granted in
-    let taken = λ (s t : ℕ) (m : Mode). c.in-Ok-request.ensures.taken s t m ∙ ap (λ l. with_locks (held d.locks) c.args.session l s t m) listed in
+    let none = same_conflict d c.args.viewer.now.session records clock setting progress origin r list ∙ ap (first_conflict (held d.locks) c.args.viewer.now.session) (sym listed) ∙ c.in-Ok-request.ensures.granted in
+    let taken = λ (s t : ℕ) (m : Mode). c.in-Ok-request.ensures.taken s t m ∙ ap (λ l. with_locks (held d.locks) c.args.viewer.now.session l s t m) listed in
     let p : Progress = record progress { locks = with_locks progress.locks setting.who.session list } in
-    let S = λ (q : Progress). ComesTo origin (record d { locks = c.request.new.locks }) c.args.session records clock setting progress q in
+    let S = λ (q : Progress). ComesTo origin (record d { locks = c.request.new.locks }) c.args.viewer.now.session records clock setting progress q in
     let here : S p = record {
-      stands = with_more d c.args.session records clock setting progress origin r c.request.new.locks list taken;
-      locks = released-with progress.locks setting.who.session c.args.session list (same_session d c.args.session records clock setting progress origin r);
+      stands = with_more d c.args.viewer.now.session records clock setting progress origin r c.request.new.locks list taken;
+      locks = released-with progress.locks setting.who.session c.args.viewer.now.session list (same_session d c.args.viewer.now.session records clock setting progress origin r);
     } in
     let meant =
-    granted_answer setting progress list (λ p. test_rows p (condition_rows (seen_with setting c.args.tables.now p) c.args.query.now)) none
-    ∙ ap (λ seen. test_rows p (condition_rows seen c.args.query.now)) (seen-same origin c.args.session setting progress d records clock r c.args.tables.now p refl) in
+    granted_answer setting progress list (λ p. test_rows p (condition_rows (seen_with setting c.args.viewer.now.tables.now p) c.args.query.now)) none
+    ∙ ap (λ seen. test_rows p (condition_rows seen c.args.query.now)) (seen-same origin c.args.viewer.now.session setting progress d records clock r c.args.viewer.now.tables.now p refl) in
     subst (λ (m : Result (Bool × Progress) Refusal). Tests S m c.has_row.result ⊎ (c.has_row.result ≡ Err NoMemory)) (sym meant)
     (tests-rows S p _ c.has_row.result here c.has_row.ensures)
 
@@ -52,9 +52,9 @@ returns-clause-tested c = λ records clock origin setting progress r.
     let list : List (ℕ × Mode) = query_locks c.args.query.now in
     let no = c.in-Err.ensures.refused in
     let listed = c.as_slice.ensures.value ∙ c.in-Ok.ensures in
-    let conflict = same_conflict d c.args.session records clock setting progress origin r list ∙ ap (first_conflict (held d.locks) c.args.session) (sym listed) ∙ no.1 in
-    let S = λ (q : Progress). ComesTo origin (record d { locks = c.request.new.locks }) c.args.session records clock setting progress q in
+    let conflict = same_conflict d c.args.viewer.now.session records clock setting progress origin r list ∙ ap (first_conflict (held d.locks) c.args.viewer.now.session) (sym listed) ∙ no.1 in
+    let S = λ (q : Progress). ComesTo origin (record d { locks = c.request.new.locks }) c.args.viewer.now.session records clock setting progress q in
     let result : Result Bool Refusal = Err c.in-Err.refusal in
     inl (subst (λ (m : Result (Bool × Progress) Refusal). Tests S m result)
-    (sym (refused_answer setting progress list (λ p. test_rows p (condition_rows (seen_with setting c.args.tables.now p) c.args.query.now)) no.0 conflict))
-    (ap Err (same_refusal d c.args.session records clock setting progress origin r no.0 c.in-Err.refusal no.2)))
+    (sym (refused_answer setting progress list (λ p. test_rows p (condition_rows (seen_with setting c.args.viewer.now.tables.now p) c.args.query.now)) no.0 conflict))
+    (ap Err (same_refusal d c.args.viewer.now.session records clock setting progress origin r no.0 c.in-Err.refusal no.2)))

@@ -1,7 +1,7 @@
 use Rattle.std.proofs.Common.{inl, sym}
 use Rattle.sb_tenant.specs.Perform.{perform}
 use Rattle.sb_tenant.specs.Resolved.{change}
-use Rattle.sb_tenant.proofs.Leaving.{leaves-on}
+use Rattle.sb_tenant.proofs.Leaving.{leaves_on}
 use Rattle.sb_tenant.proofs.store.Store.change.Goals as goal
 
 pub refuse-requires : goal.refuse-requires
@@ -15,6 +15,4 @@ returns-in-Err-clause-performed g c = λ state st bound.
     c.refuse.ensures.refused c.args.index.now state (perform c.args.self.now.database.id bound state c.args.session (change c.args.statement.now)) (c.count.ensures.aside state st) (c.in-Err.ensures.comes state st bound)
 
 pub returns-in-Err-clause-leaves : goal.returns-in-Err-clause-leaves
-returns-in-Err-clause-leaves g c =
-    leaves-on c.args.session c.args.self.now c.count.new.self c.refuse.new.self (g.L.ChangeLog.records c.args.log.now) (g.L.ChangeLog.records c.count.new.log) (g.L.ChangeLog.records c.refuse.new.log)
-    (g.L.ChangeLog.clock c.args.log.now) (g.L.ChangeLog.clock c.count.new.log) (g.L.ChangeLog.clock c.refuse.new.log) 4096 c.count.ensures.leaves c.refuse.ensures.leaves
+returns-in-Err-clause-leaves g c = leaves_on c.count.ensures.leaves c.refuse.ensures.leaves

@@ -1,4 +1,4 @@
-use Rattle.std.proofs.Common.{◌∙◌, inl, inr, ◌*◌, ◌≤◌, sym, ap, subst, arith}
+use Rattle.std.proofs.Common.{◌∙◌, inl, sym, ap, arith}
 use Rattle.sb_catalog.specs.declared.definitions.Definitions.{Definitions}
 use Rattle.sb_catalog.specs.Rules.{is_active}
 use Rattle.sb_catalog.specs.declared.rule.Rule.{Rule}
@@ -8,9 +8,7 @@ use Rattle.sb_process.specs.Running.{is_done}
 use Rattle.sb_tenant.specs.Perform.{named, reply_of}
 use Rattle.sb_tenant.specs.State.{setting_of, progress_of}
 use Rattle.sb_tenant.specs.declared.store.Store.{Store}
-use Rattle.sb_tenant.proofs.Leaving.{leaves-on, leaves-less}
-use Rattle.sb_tenant.specs.declared.reply.Reply.{Reply}
-use Rattle.sb_tenant.specs.Represents.{StandFor}
+use Rattle.sb_tenant.proofs.Leaving.{leaves_on, leaves_more}
 use Rattle.sb_tenant.proofs.store.Store.commit.Goals as goal
 
 pub run-requires-clause-rules : goal.run-requires-clause-rules
@@ -24,29 +22,23 @@ finish-requires-clause-active g c = λ e. c.in-Ok.ensures.under_way (sym c.is_do
 
 pub returns-in-Ok-told-clause-performed : goal.returns-in-Ok-told-clause-performed
 returns-in-Ok-told-clause-performed g c = λ state st.
-    let old : Store = c.args.self.now in let s = c.args.session in
+    let old : Store = c.args.self.now in let s = c.args.asker.now.session in
     let found = c.in-Ok.ensures.found state st (is_active state.catalog.rules) (λ id. c.active-eligible.ensures id ∙ ap (λ (rules : List Rule). is_active rules id) st.0.1.rules) in
     let tells = c.in-Ok-told.ensures.told state.catalog (sym st.0.1.rules ∙ sym (ap (λ (d : Definitions). d.rules) c.run.ensures.definitions)) in
-    let meant = process c.args.bound (setting_of old.database.id state s) (is_active state.catalog.rules) (progress_of state s) in
+    let meant = process c.args.asker.now.bound (setting_of old.database.id state s) (is_active state.catalog.rules) (progress_of state s) in
     inl (
       tells ∙ (λ i. reply_of state.catalog (found.outcome i) (named state.catalog (found.trace i))),
       c.finish.ensures.finished c.args.index.now state meant.outcome meant.progress (sym (ap is_done found.outcome) ∙ sym c.is_done.ensures) found.stands,
     )
 
 pub returns-in-Ok-told-clause-leaves : goal.returns-in-Ok-told-clause-leaves
-returns-in-Ok-told-clause-leaves g c =
-    let old : Store = c.args.self.now in let s = c.args.session in
-    let earlier = g.L.ChangeLog.records c.args.log.now in let clock = g.L.ChangeLog.clock c.args.log.now in
-    let mid = g.L.ChangeLog.records c.run.new.log in let then = g.L.ChangeLog.clock c.run.new.log in
-    let bound : c.args.bound ≤ 1000 = c.requires.bound in
-    let left = leaves-less (32768 * c.args.bound) 32768000 s old c.run.new.self earlier mid clock then (omega arith) c.run.ensures.leaves in
-    leaves-on s old c.run.new.self c.finish.new.self earlier mid (g.L.ChangeLog.records c.finish.new.log) clock then (g.L.ChangeLog.clock c.finish.new.log) 32768000 left c.finish.ensures.leaves
+returns-in-Ok-told-clause-leaves g c = leaves_more (leaves_on c.run.ensures.leaves c.finish.ensures.leaves) (omega (arith, c.requires.bound))
 
 pub returns-in-Ok-clause-performed : goal.returns-in-Ok-clause-performed
-returns-in-Ok-clause-performed g c = λ state st. let a = c.run.ensures.aside state st in inr (ap (λ (r : Reply × Reply). r.0) c.run_out.ensures.replies, subst (StandFor c.run_out.new.self (g.L.ChangeLog.records c.run_out.new.log) (g.L.ChangeLog.clock c.run_out.new.log) c.args.index.now) a.2 (c.run_out.ensures.aborted c.args.index.now a.0 a.1))
+returns-in-Ok-clause-performed g c = λ state st. c.run_out.ensures.performed c.args.index.now state _ (c.run.ensures.aside state st)
 
 pub returns-clause-performed : goal.returns-clause-performed
-returns-clause-performed g c = λ state st. let a = c.run.ensures.aside state st in inr (ap (λ (r : Reply × Reply). r.0) c.run_out-in-Err.ensures.replies, subst (StandFor c.run_out-in-Err.new.self (g.L.ChangeLog.records c.run_out-in-Err.new.log) (g.L.ChangeLog.clock c.run_out-in-Err.new.log) c.args.index.now) a.2 (c.run_out-in-Err.ensures.aborted c.args.index.now a.0 a.1))
+returns-clause-performed g c = λ state st. c.run_out-in-Err.ensures.performed c.args.index.now state _ (c.run.ensures.aside state st)
 
 pub run_out-requires : goal.run_out-requires
 run_out-requires g c = let w = c.run.ensures.aside c.requires.stand.0 c.requires.stand.1 in (c.args.index.now, w.0, w.1)
@@ -55,25 +47,7 @@ pub run_out-requires-in-Err : goal.run_out-requires-in-Err
 run_out-requires-in-Err g c = let w = c.run.ensures.aside c.requires.stand.0 c.requires.stand.1 in (c.args.index.now, w.0, w.1)
 
 pub returns-in-Ok-clause-leaves : goal.returns-in-Ok-clause-leaves
-returns-in-Ok-clause-leaves g c =
-    let old : Store = c.args.self.now in let s = c.args.session in
-    let earlier = g.L.ChangeLog.records c.args.log.now in let clock = g.L.ChangeLog.clock c.args.log.now in
-    let mid = g.L.ChangeLog.records c.run.new.log in let then = g.L.ChangeLog.clock c.run.new.log in
-    let bound : c.args.bound ≤ 1000 = c.requires.bound in
-    let left = leaves-less (32768 * c.args.bound) 32768000 s old c.run.new.self earlier mid clock then (omega arith) c.run.ensures.leaves in
-    leaves-on s old c.run.new.self c.run_out.new.self earlier mid (g.L.ChangeLog.records c.run_out.new.log) clock then (g.L.ChangeLog.clock c.run_out.new.log) 32768000 left c.run_out.ensures.leaves
+returns-in-Ok-clause-leaves g c = leaves_more (leaves_on c.run.ensures.leaves c.run_out.ensures.leaves) (omega (arith, c.requires.bound))
 
 pub returns-clause-leaves : goal.returns-clause-leaves
-returns-clause-leaves g c =
-    let old : Store = c.args.self.now in let s = c.args.session in
-    let earlier = g.L.ChangeLog.records c.args.log.now in let clock = g.L.ChangeLog.clock c.args.log.now in
-    let mid = g.L.ChangeLog.records c.run.new.log in let then = g.L.ChangeLog.clock c.run.new.log in
-    let bound : c.args.bound ≤ 1000 = c.requires.bound in
-    let left = leaves-less (32768 * c.args.bound) 32768000 s old c.run.new.self earlier mid clock then (omega arith) c.run.ensures.leaves in
-    leaves-on s old c.run.new.self c.run_out-in-Err.new.self earlier mid (g.L.ChangeLog.records c.run_out-in-Err.new.log) clock then (g.L.ChangeLog.clock c.run_out-in-Err.new.log) 32768000 left c.run_out-in-Err.ensures.leaves
-
-pub returns-in-Ok-clause-twice : goal.returns-in-Ok-clause-twice
-returns-in-Ok-clause-twice g c = ap (λ (r : Reply × Reply). r.1) c.run_out.ensures.replies ∙ sym (ap (λ (r : Reply × Reply). r.0) c.run_out.ensures.replies)
-
-pub returns-clause-twice : goal.returns-clause-twice
-returns-clause-twice g c = ap (λ (r : Reply × Reply). r.1) c.run_out-in-Err.ensures.replies ∙ sym (ap (λ (r : Reply × Reply). r.0) c.run_out-in-Err.ensures.replies)
+returns-clause-leaves g c = leaves_more (leaves_on c.run.ensures.leaves c.run_out-in-Err.ensures.leaves) (omega (arith, c.requires.bound))

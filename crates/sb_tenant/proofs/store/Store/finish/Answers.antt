@@ -3,7 +3,7 @@ use Rattle.sb_process.specs.Process.{stands_after}
 use Rattle.sb_tenant.specs.Perform.{stands_as, stays}
 use Rattle.sb_tenant.specs.Represents.{StandFor}
 use Rattle.sb_tenant.proofs.Calls.{commits, commits-not}
-use Rattle.sb_tenant.proofs.Leaving.{leaves-none}
+use Rattle.sb_tenant.proofs.Leaving.{leaves_same}
 use Rattle.sb_tenant.proofs.store.Store.finish.Goals as goal
 
 pub returns-then-done-clause-finished : goal.returns-then-done-clause-finished
@@ -17,4 +17,4 @@ returns-else-done-clause-finished g c = λ index state outcome progress e h.
     subst (StandFor c.args.self.now (g.L.ChangeLog.records c.args.log.now) (g.L.ChangeLog.clock c.args.log.now) index) (commits-not state c.args.session outcome progress (e ∙ c.if-done.false)) h
 
 pub returns-else-done-clause-leaves : goal.returns-else-done-clause-leaves
-returns-else-done-clause-leaves g c = leaves-none c.args.self.now c.args.self.now c.args.session (g.L.ChangeLog.records c.args.log.now) (g.L.ChangeLog.clock c.args.log.now) refl refl
+returns-else-done-clause-leaves g c = leaves_same 0 refl refl

@@ -1,10 +1,10 @@
-use Rattle.std.proofs.Common.{◌≡◌, ℕ, refl, sym, subst, arith, add-zero}
-use Rattle.sb_process.specs.Made.{NumbersBelow}
+use Rattle.std.proofs.Common.{◌≡◌, refl, arith}
 use Rattle.sb_tenant.specs.declared.phase.Phase.TheVariants.{Idle}
 use Rattle.sb_tenant.specs.declared.store.Store.{Store}
 use Rattle.sb_tenant.specs.State.{setting_of, progress_of}
 use Rattle.sb_tenant.proofs.Calls.{number-below, set-other, set-own, goes-in}
 use Rattle.sb_tenant.proofs.Standing.{base_of, one-session}
+use Rattle.sb_tenant.proofs.Leaving.{leaves_still}
 use Rattle.sb_tenant.proofs.store.Store.keep.Goals as goal
 
 pub commit-requires : goal.commit-requires
@@ -44,12 +44,4 @@ returns-clause-leaves g c =
     let index = c.requires.stand.0 in let state = c.requires.stand.1 in let st = c.requires.stand.2 in
     let earlier = g.L.ChangeLog.records c.args.log.now in let clock = g.L.ChangeLog.clock c.args.log.now in
     let view = one-session c.transactions_share_tables.ensures st.0.0 old state st.0.1 s is earlier clock index st.1 in
-    let kept = c.commit.ensures.kept (base_of st.0.0 state s) (setting_of old.database.id state s) (progress_of state s) view in
-    let later = g.L.ChangeLog.clock c.commit.new.log in
-    let same : later ≡ clock = c.commit.ensures.clock in
-    record {
-      id = kept.id;
-      others = c.commit.ensures.others;
-      times = (omega arith, omega arith);
-      numbers = λ m h. subst (λ (k : ℕ). NumbersBelow k c.commit.new.self.tables) (sym (add-zero m)) (c.commit.ensures.numbers m h);
-    }
+    leaves_still (c.commit.ensures.kept (base_of st.0.0 state s) (setting_of old.database.id state s) (progress_of state s) view).id c.commit.ensures.others c.commit.ensures.clock c.commit.ensures.numbers

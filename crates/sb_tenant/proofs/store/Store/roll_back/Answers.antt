@@ -1,10 +1,10 @@
-use Rattle.std.proofs.Common.{◌≡◌, ℕ, sym, subst, refl, arith, add-zero}
-use Rattle.sb_process.specs.Made.{NumbersBelow}
+use Rattle.std.proofs.Common.{◌≡◌, refl, arith}
 use Rattle.sb_tenant.specs.declared.phase.Phase.TheVariants.{Idle}
 use Rattle.sb_tenant.specs.declared.store.Store.{Store}
 use Rattle.sb_tenant.specs.State.{setting_of, progress_of}
 use Rattle.sb_tenant.proofs.Calls.{number-below, set-other, set-own, goes-back}
 use Rattle.sb_tenant.proofs.Standing.{one-session, base_of}
+use Rattle.sb_tenant.proofs.Leaving.{leaves_still}
 use Rattle.sb_tenant.proofs.store.Store.roll_back.Goals as goal
 
 pub rollback-requires : goal.rollback-requires
@@ -44,15 +44,7 @@ returns-clause-leaves g c =
     let index = c.requires.stand.0 in let state = c.requires.stand.1 in let st = c.requires.stand.2 in
     let earlier = g.L.ChangeLog.records c.args.log.now in let clock = g.L.ChangeLog.clock c.args.log.now in
     let view = one-session c.transactions_share_tables.ensures st.0.0 old state st.0.1 s is earlier clock index st.1 in
-    let back = c.rollback.ensures.back (base_of st.0.0 state s) (setting_of old.database.id state s) (progress_of state s) view in
-    let later = g.L.ChangeLog.clock c.rollback.new.log in
-    let same : later ≡ clock = c.rollback.ensures.clock in
-    record {
-      id = back.id;
-      others = c.rollback.ensures.others;
-      times = (omega arith, omega arith);
-      numbers = λ m h. subst (λ (k : ℕ). NumbersBelow k c.rollback.new.self.tables) (sym (add-zero m)) (c.rollback.ensures.numbers m h);
-    }
+    leaves_still (c.rollback.ensures.back (base_of st.0.0 state s) (setting_of old.database.id state s) (progress_of state s) view).id c.rollback.ensures.others c.rollback.ensures.clock c.rollback.ensures.numbers
 
 pub returns-clause-idle : goal.returns-clause-idle
 returns-clause-idle g c = set-own c.args.self.now.phases c.set.new.self c.args.session Idle c.set.ensures

@@ -8,7 +8,7 @@ use Rattle.sb_tables.specs.Held.{entries}
 use Rattle.sb_tenant.specs.Represents.{StandFor}
 use Rattle.sb_tenant.specs.Resolved.{change}
 use Rattle.sb_tenant.specs.Walk.{walk}
-use Rattle.sb_tenant.proofs.Answering.{leaves_more}
+use Rattle.sb_tenant.proofs.Leaving.{leaves_more}
 use Rattle.sb_tenant.proofs.Runnable.{statement_there}
 use Rattle.sb_tenant.proofs.TableCommands.{outside}
 use Rattle.sb_tenant.proofs.Working.{change_walked, performs_as, refusal_meant, part_refused}
@@ -39,6 +39,4 @@ returns-in-Err-clause-performed g c = λ state h bound.
     (change_walked old (g.L.ChangeLog.records c.args.log.now) (g.L.ChangeLog.clock c.args.log.now) c.args.index.now state h c.walks_see_columns.ensures.statements q (Err c.in-Err.refusal)) why))
 
 pub returns-in-Err-clause-leaves : goal.returns-in-Err-clause-leaves
-returns-in-Err-clause-leaves g c =
-    leaves_more 0 4096 c.args.self.now c.refuse.new.self c.args.session (g.L.ChangeLog.records c.args.log.now) (g.L.ChangeLog.records c.refuse.new.log) (g.L.ChangeLog.clock c.args.log.now) (g.L.ChangeLog.clock c.refuse.new.log)
-    (omega arith) c.refuse.ensures.leaves
+returns-in-Err-clause-leaves g c = leaves_more c.refuse.ensures.leaves (omega arith)

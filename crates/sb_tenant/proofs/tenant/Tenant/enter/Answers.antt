@@ -33,41 +33,41 @@ after g c = record c.self.inside { store = c.answer-reply.new.self; trail = c.pu
 same : (g : Over) (c : goal.After-put g) → IsSame (seen c.self.inside) (seen (after g c))
 same g c = (c.answer-reply.ensures.leaves.id, refl)
 
-longer : (g : Over) (c : goal.After-put g) → c.put.new.trail.items ≡ c.self.inside.trail.items ++ entry_of c.args.session c.args.line.now c.answer-reply.result.0 ∷ []
+longer : (g : Over) (c : goal.After-put g) → c.put.new.trail.items ≡ c.self.inside.trail.items ++ entry_of c.args.session c.args.sent.now.line.now c.answer-reply.result.0 ∷ []
 longer g c = c.put.ensures.items ∙ (λ i. c.make_ready.ensures.items i ++ entry_of c.args.session (c.in_ok-kept.ensures.line i) c.answer-reply.result.0 ∷ [])
 
 -- the answer is the next entry
-entered : (g : Over) (c : goal.After-put g) → (next : State) × IsEntered (seen c.self.inside).id (seen c.self.inside).bound (seen c.self.inside).trail c.args.session c.args.line.now c.answer-reply.result.0 c.answer-reply.new.self
+entered : (g : Over) (c : goal.After-put g) → (next : State) × IsEntered (seen c.self.inside).id (seen c.self.inside).bound (seen c.self.inside).trail c.args.session c.args.sent.now.line.now c.answer-reply.result.0 c.answer-reply.new.self
     (g.L.ChangeLog.records c.answer-reply.new.log) (g.L.ChangeLog.clock c.answer-reply.new.log) c.answer-reply.new.index next
 entered g c =
     let t = seen c.self.inside in
-    let room = subst (λ (v : Tenant). is_full_for (state v) c.args.session c.args.line.now ≡ false) (sym c.self.view_is) c.requires.room in
-    let goes_on = subst (λ (v : Tenant). is_end_of_open (state v) c.args.session c.args.line.now ≡ false) (sym c.self.view_is) c.requires.goes_on in
+    let room = subst (λ (v : Tenant). is_full_for (state v) c.args.session c.args.sent.now.line.now ≡ false) (sym c.self.view_is) c.requires.room in
+    let goes_on = subst (λ (v : Tenant). is_end_of_open (state v) c.args.session c.args.sent.now.line.now ≡ false) (sym c.self.view_is) c.requires.goes_on in
     let agrees = subst (λ (v : Tenant). InStep v (g.L.ChangeLog.records c.args.log.now) (g.L.ChangeLog.clock c.args.log.now) c.args.index.now) (sym c.self.view_is) c.requires.in_step in
-    performed t.id t.bound t.trail c.self.invariant.legal c.args.session c.args.line.now c.in_range.ensures room c.answer-reply.result.0 c.answer-reply.new.self (g.L.ChangeLog.records c.answer-reply.new.log) (g.L.ChangeLog.clock c.answer-reply.new.log)
+    performed t.id t.bound t.trail c.self.invariant.legal c.args.session c.args.sent.now.line.now c.in_range.ensures room c.answer-reply.result.0 c.answer-reply.new.self (g.L.ChangeLog.records c.answer-reply.new.log) (g.L.ChangeLog.clock c.answer-reply.new.log)
     c.answer-reply.new.index goes_on (c.answer-reply.ensures.answered (state t) (c.self.invariant.holds, agrees))
 
 pub invariant_of-self-2 : goal.invariant_of-self-2
 invariant_of-self-2 g c =
     let e = entered g c in
     let few = open_at_most e.0 in
-    entered_remembered c.self.inside (after g c) c.self.invariant (same g c) c.args.session c.args.line.now c.answer-reply.result.0 _ _ _ _ c.args.index.now _ e.0 32768000 c.answer-reply.ensures.leaves (longer g c) e.1 (omega arith)
+    entered_remembered c.self.inside (after g c) c.self.invariant (same g c) c.args.session c.args.sent.now.line.now c.answer-reply.result.0 _ _ _ _ c.args.index.now _ e.0 32768000 c.answer-reply.ensures.leaves (longer g c) e.1 (omega arith)
     (omega (arith, few, c.in_ok-kept.ensures.places, c.put.ensures.len, c.put.ensures.capacity)) (omega (arith, few, c.in_ok-kept.ensures.filled))
 
 pub returns-clause-ok : goal.returns-clause-ok
 returns-clause-ok g c =
     let e = entered g c in
-    subst (λ (told : Reply). MakesStep c.args.self.now c.args.session c.args.line.now (record { number = Some c.put.result; reply = told }) (seen (after g c))) (sym c.answer-reply.ensures.twice)
-    (subst (λ (v : Tenant). MakesStep v c.args.session c.args.line.now (record { number = Some c.put.result; reply = c.answer-reply.result.0 }) (seen (after g c))) c.self.view_is
-    (entered_made c.self.inside (after g c) c.self.invariant (same g c) c.args.session c.args.line.now c.answer-reply.result.0 _ _ _ _ c.args.index.now _ e.0 32768000 c.answer-reply.ensures.leaves (longer g c) e.1 c.put.result c.put.ensures.number))
+    subst (λ (told : Reply). MakesStep c.args.self.now c.args.session c.args.sent.now.line.now (record { number = Some c.put.result; reply = told }) (seen (after g c))) (sym c.answer-reply.ensures.twice)
+    (subst (λ (v : Tenant). MakesStep v c.args.session c.args.sent.now.line.now (record { number = Some c.put.result; reply = c.answer-reply.result.0 }) (seen (after g c))) c.self.view_is
+    (entered_made c.self.inside (after g c) c.self.invariant (same g c) c.args.session c.args.sent.now.line.now c.answer-reply.result.0 _ _ _ _ c.args.index.now _ e.0 32768000 c.answer-reply.ensures.leaves (longer g c) e.1 c.put.result c.put.ensures.number))
 
 pub returns-clause-legal : goal.returns-clause-legal
 returns-clause-legal g c =
     let e = entered g c in
-    entered_legal c.self.inside (after g c) c.self.invariant (same g c) c.args.session c.args.line.now c.answer-reply.result.0 _ _ _ _ c.args.index.now _ e.0 32768000 c.answer-reply.ensures.leaves (longer g c) e.1
+    entered_legal c.self.inside (after g c) c.self.invariant (same g c) c.args.session c.args.sent.now.line.now c.answer-reply.result.0 _ _ _ _ c.args.index.now _ e.0 32768000 c.answer-reply.ensures.leaves (longer g c) e.1
 
 pub returns-clause-in_step : goal.returns-clause-in_step
 returns-clause-in_step g c =
     let e = entered g c in
     subst (λ (v : Tenant). StaysInStep 32768000 v (seen (after g c)) c.args.session (g.L.ChangeLog.records c.args.log.now) (g.L.ChangeLog.records c.answer-reply.new.log) (g.L.ChangeLog.clock c.args.log.now) (g.L.ChangeLog.clock c.answer-reply.new.log) c.args.index.now c.answer-reply.new.index) c.self.view_is
-    (entered_in_step c.self.inside (after g c) c.self.invariant (same g c) c.args.session c.args.line.now c.answer-reply.result.0 _ _ _ _ c.args.index.now _ e.0 32768000 c.answer-reply.ensures.leaves (longer g c) e.1 c.answer-reply.ensures.others)
+    (entered_in_step c.self.inside (after g c) c.self.invariant (same g c) c.args.session c.args.sent.now.line.now c.answer-reply.result.0 _ _ _ _ c.args.index.now _ e.0 32768000 c.answer-reply.ensures.leaves (longer g c) e.1 c.answer-reply.ensures.others)

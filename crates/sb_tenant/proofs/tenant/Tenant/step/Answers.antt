@@ -11,7 +11,7 @@ use Rattle.sb_tenant.proofs.tenant.Tenant.step.Goals as goal
 pub returns-then-ends-clause-ok : goal.returns-then-ends-clause-ok
 returns-then-ends-clause-ok g c =
     let t = c.args.self.now in
-    let line = c.args.line.now in
+    let line = c.args.sent.now.line.now in
     let is = same_text line (codes "end") (and_parts (is_open (session_at (state t) c.args.session)) (same_name line (codes "end")) (sym c.ends.ensures ∙ c.if-ends.true)).1 in (
       c.end.ensures.made.0,
       inl (subst (λ (l : List ℕ). Extends t.id t.bound t.trail c.args.session l c.end.result c.end.new.self.trail) (sym is) c.end.ensures.made.1),
