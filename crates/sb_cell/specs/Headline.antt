@@ -7,7 +7,7 @@ use Rattle.sb_tenant.specs.declared.reply.Reply.TheVariants.{No}
 use Rattle.sb_tenant.specs.Trail.{IsTrail, state_of, answers, state_after}
 use Rattle.sb_cell.specs.declared.Event.{Event}
 use Rattle.sb_cell.specs.declared.StepError.{StepError}
-use Rattle.sb_cell.specs.Events.{own_events, own_answers, AreTurns}
+use Rattle.sb_cell.specs.Events.{own_events, own_answers, AreTurns, AreEvents}
 
 -- what a run of a cell is: the tenants that it hosts, their trails before, the events, the answers, and the trails after
 pub record Run : Type 0 where
@@ -20,6 +20,10 @@ pub record Run : Type 0 where
 -- the answers to a tenant's own events
 abbrev pub own_given : Run → ℕ → List (Result Answer StepError)
 own_given run t = own_answers t run.events run.given
+
+-- the events one after another were answered so, and each left the trails to the next
+abbrev pub IsRun : ℕ → Run → Type 0
+IsRun bound run = AreEvents bound run.hosts run.before run.events run.given run.after
 
 -- the trails of the hosted tenants are legal
 abbrev pub BeginsLegal : ℕ → Run → Type 0

@@ -1,5 +1,5 @@
 -- Machine: what holds of a cell at any time.
-use Rattle.std.specs.Prelude.{◌≡◌, ℕ, ◌+◌, ◌*◌, ◌<◌, ◌≤◌, ◌&&◌, List, [], length, sum_by, slice_get, Some, IsFalse}
+use Rattle.std.specs.Prelude.{◌≡◌, ℕ, ◌+◌, ◌*◌, ◌<◌, ◌≤◌, ◌&&◌, nat_lt, List, [], length, sum_by, slice_get, Some, IsFalse}
 use Rattle.sb_value.specs.declared.id.Who.{Who}
 use Rattle.sb_rawlog.specs.Records.{Record}
 use Rattle.sb_rawlog.specs.Sessions.{records_by}
@@ -29,6 +29,10 @@ pub record IsHosted (c : Cell) : Type 0 where
   pub records : (who : Who) → IsFalse (hosts c who.tenant && is_session who.session) → records_by who c.records ≡ []
   pub rules : (t : ℕ) → IsFalse (hosts c t) → AreIndexed c.index t []
   pub clock : c.clock ≤ 32768000 * entry_count c.tenants
+
+-- the places below n are those of the numbers first + stride * place below the limit
+abbrev pub ArePlacesBelow : ℕ → ℕ → ℕ → ℕ → Type 0
+ArePlacesBelow first stride limit n = (place : ℕ) → nat_lt place n ≡ nat_lt (first + stride * place) limit
 
 -- a new tenant of a number, which is in step with what holds nothing of it
 abbrev pub IsFresh : ℕ → ℕ → Tenant → Type 0

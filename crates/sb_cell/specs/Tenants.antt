@@ -1,5 +1,5 @@
 -- Promise: a cell as its users see it: its tenants with their trails, the log and the index that they share.
-use Rattle.std.specs.Prelude.{true, false, ◌≡◌, ℕ, ◌/◌, ◌%◌, Bool, ◌&&◌, ◌==◌, nat_lt, if◌then◌else◌, List, [], length, slice_get, Option, Some, None, Result, Err, IsFalse}
+use Rattle.std.specs.Prelude.{true, false, ◌≡◌, ℕ, ◌/◌, ◌%◌, Bool, ◌&&◌, ◌==◌, nat_lt, if◌then◌else◌, List, [], length, slice_get, Option, Some, None, Result, Err, IsFalse, IsTrue}
 use Rattle.sb_rawlog.specs.Records.{Record}
 use Rattle.sb_index.specs.TableSets.{TableSets}
 use Rattle.sb_tenant.specs.State.{State}
@@ -7,7 +7,7 @@ use Rattle.sb_tenant.specs.declared.reply.Answer.{Answer}
 use Rattle.sb_tenant.specs.declared.reply.Entry.{Entry}
 use Rattle.sb_tenant.specs.Limits.{is_session}
 use Rattle.sb_tenant.specs.Tenant.{Tenant}
-use Rattle.sb_tenant.specs.Trail.{state_of}
+use Rattle.sb_tenant.specs.Trail.{IsTrail, state_of}
 use Rattle.sb_cell.specs.declared.StepError.{StepError}
 use Rattle.sb_cell.specs.declared.StepError.TheVariants.{NoTenant, NoSession}
 use Rattle.sb_cell.specs.declared.Event.{Event}
@@ -43,6 +43,18 @@ trails c t = trail_of (tenant_at c t)
 -- the state that its trail gives
 abbrev pub states : Cell → ℕ → State
 states c t = state_of t c.bound (trails c t)
+
+-- the trail of each tenant that it hosts is legal
+abbrev pub HasLegalTrails : Cell → Type 0
+HasLegalTrails c = (t : ℕ) → IsTrue (hosts c t) → IsTrail t c.bound (trails c t)
+
+-- it hosts the tenant, whose trail this is
+abbrev pub HasTrail : Cell → ℕ → List Entry → Type 0
+HasTrail c t trail = (hosts c t ≡ true) × (trail ≡ trails c t)
+
+-- it hosts the tenant under the tenant's own number
+abbrev pub IsTenantOf : Cell → Tenant → Type 0
+IsTenantOf c t = (hosts c t.id ≡ true) × (t.bound ≡ c.bound) × (tenant_at c t.id ≡ Some t)
 
 -- it hosts the numbers below a limit that are first + stride * place; each of their trails is empty
 pub record IsNew (first stride limit bound : ℕ) (c : Cell) : Type 0 where

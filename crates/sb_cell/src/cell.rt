@@ -1,16 +1,14 @@
 //! Tenants that are served one step at a time, over one log and one index.
 ghost use Rattle.std.specs.List.{Contains};
-ghost use Rattle.std.specs.Prelude.{◌≡◌, ◌≤◌, ◌<◌, ◌+◌, ◌*◌, ◌==◌, ◌%◌, ◌&&◌, ℕ, true, false, nat_le, nat_lt, Ok, Some, IfOk, IfSome, OnErr, IsTrue, MatchOption, All, codes, length, option_copied, option_map, if◌then◌else◌};
+ghost use Rattle.std.specs.Prelude.{◌≡◌, ◌≤◌, ◌<◌, ◌+◌, ◌*◌, ◌==◌, ◌%◌, ◌&&◌, ℕ, true, false, nat_le, Ok, Some, IfOk, IfSome, OnErr, MatchOption, All, codes, length, option_copied, option_map, if◌then◌else◌};
 ghost use Rattle.sb_tenant.specs.declared.reply.Reply.TheVariants as told;
 ghost use Rattle.sb_tenant.specs.Limits.{entry_limit, trail_limit};
 ghost use Rattle.sb_tenant.specs.Tenant.{Tenant as ItsTenant};
-ghost use Rattle.sb_tenant.specs.Trail.{IsTrail};
 ghost use Rattle.sb_tenant.specs.State.{session_at, is_open as session_is_open, table_seen};
-ghost use Rattle.sb_cell.specs.Events.{AreEvents};
-ghost use Rattle.sb_cell.specs.Headline.{RunsInTurn, RunsAlone};
-ghost use Rattle.sb_cell.specs.Hosting.{AreFresh, entry_count};
+ghost use Rattle.sb_cell.specs.Headline.{IsRun, RunsInTurn, RunsAlone};
+ghost use Rattle.sb_cell.specs.Hosting.{AreFresh, ArePlacesBelow, entry_count};
 ghost use Rattle.sb_cell.specs.Memory.{HoldsTransactions, HoldsRules, AreInStep};
-ghost use Rattle.sb_cell.specs.Tenants.{AnswersEvent, IsNew, IsSame, hosts, tenant_at, trails, states, run_of};
+ghost use Rattle.sb_cell.specs.Tenants.{AnswersEvent, HasLegalTrails, HasTrail, IsNew, IsSame, IsTenantOf, hosts, states, run_of};
 
 use crate::laws::{events_run_in_turn, turns_run_alone};
 use crate::{Answers, Event, StepError};
@@ -18,7 +16,7 @@ use sb_index::RuleIndex;
 use sb_rawlog::{ChangeLog, RawLog};
 use sb_tables::Table;
 use sb_tenant::laws::trails_are_bounded;
-use sb_tenant::{Answer, Entry, Line, Tenant};
+use sb_tenant::{Answer, Entry, Line, Sent, Tenant};
 use sb_value::{Name, SESSION_LIMIT, SessionId, TenantId};
 use std::alloc::{AllocError, Global};
 use std::marker::Model;
@@ -56,13 +54,13 @@ pub struct Cell {
 
 impl Model for Cell {
     ghost use Rattle.sb_cell.specs.Tenants.{Cell};
-    ghost use Rattle.sb_cell.specs.Hosting.{IsHosted};
+    ghost use Rattle.sb_cell.specs.Fields.{seen, IsInOrder};
 
     ghost Value = { Cell };
 
-    ghost view = { λ c. record { first = c.first; stride = c.stride; bound = c.bound; tenants = c.tenants.items; records = ⟦<Log as ChangeLog>⟧.records c.log; clock = ⟦<Log as ChangeLog>⟧.clock c.log; index = c.index } };
+    ghost view = { seen };
 
-    ghost invariant = { λ c. IsHosted (record { first = c.first; stride = c.stride; bound = c.bound; tenants = c.tenants.items; records = ⟦<Log as ChangeLog>⟧.records c.log; clock = ⟦<Log as ChangeLog>⟧.clock c.log; index = c.index }) };
+    ghost invariant = { IsInOrder };
 }
 
 impl Cell {
@@ -109,7 +107,7 @@ impl Cell {
 
     /// At any time its trails are legal, and together they have few entries.
     pub fn keeps_trails(&self)
-        ensures legal { (tenant : ℕ) → IsTrue (hosts self.now tenant) → IsTrail tenant self.now.bound (trails self.now tenant) }
+        ensures legal { HasLegalTrails self.now }
         ensures few { entry_count self.now.tenants ≤ 256 * entry_limit }
         ensures first { self.now.first < self.now.stride }
     {
@@ -121,7 +119,7 @@ impl Cell {
     /// Its tenants alone, each of which it hosts under its own number.
     pub fn into_tenants(self) -> Vec<Tenant>
         ensures tenants { result.items ≡ self.tenants }
-        ensures hosted { All (λ t. (hosts self t.id ≡ true) × (t.bound ≡ self.bound) × (tenant_at self t.id ≡ Some t)) result.items }
+        ensures hosted { All (IsTenantOf self) result.items }
         ensures whole { (t : ℕ) → hosts self t ≡ true → (own : ItsTenant) × Contains result.items own × (own.id ≡ t) }
     {
         let Cell { tenants, .. } = self;
@@ -189,7 +187,8 @@ impl Cell {
         trails_are_bounded();
         let place = (tenant / self.stride) as usize;
         let session = SessionId::new(session as u8);
-        match self.tenants[place].step(alloc, &mut self.log, &mut self.index, session, line, own) {
+        let sent = Sent { line, own };
+        match self.tenants[place].step(alloc, &mut self.log, &mut self.index, session, &sent) {
             Ok(answer) => Ok(answer),
             Err(_) => Err(StepError::NotBegun),
         }
@@ -249,7 +248,7 @@ impl Cell {
 
     /// The steps of a tenant so far.
     pub fn trail(&self, tenant: u32) -> Option<&[Entry]>
-        ensures { MatchOption result (hosts self.now tenant ≡ false) (λ trail. (hosts self.now tenant ≡ true) × (trail.now ≡ trails self.now tenant)) }
+        ensures { MatchOption result (hosts self.now tenant ≡ false) (λ trail. HasTrail self.now tenant trail.now) }
     {
         if self.hosts(tenant) {
             Some(self.tenants[(tenant / self.stride) as usize].trail())
@@ -296,13 +295,14 @@ impl Cell {
 
     /// The answers to events, one after another. All room for them is had before the first one runs.
     pub fn run(&mut self, alloc: Global, events: &[Event]) -> Result<Answers, AllocError>
-        ensures events { IfOk result (λ given. AreEvents self.old.bound (hosts self.old) (trails self.old) events.now given (trails self.new)) }
+        ensures events { IfOk result (λ given. IsRun self.old.bound (run_of self.old events.now given self.new)) }
         ensures in_turn { IfOk result (λ given. RunsInTurn self.old.bound (run_of self.old events.now given self.new)) }
         ensures alone { IfOk result (λ given. RunsAlone self.old.bound (run_of self.old events.now given self.new)) }
         ensures same { IsSame self.old self.new }
         ensures err { OnErr result (self.new ≡ self.old) }
     {
-        // for the proof: the trails are legal; events one after another run every tenant in turn, and so as if it were alone
+        // for the proof: the trails are legal; events one after another run every tenant in turn, and so as if it
+        // were alone
         let _ = &self.tenants;
         events_run_in_turn();
         turns_run_alone();
@@ -327,7 +327,7 @@ fn opened(
     requires tenants { tenants ≤ 256 }
     requires bound { bound ≤ 1000 }
     ensures fresh { IfOk result (λ made. AreFresh first stride bound made.items) }
-    ensures all { IfOk result (λ made. (place : ℕ) → nat_lt place (length made.items) ≡ nat_lt (first + stride * place) tenants) }
+    ensures all { IfOk result (λ made. ArePlacesBelow first stride tenants (length made.items)) }
 {
     let places = place_count(first, stride, tenants);
     let mut made = Vec::with_capacity(alloc, places as usize)?;
@@ -341,7 +341,7 @@ fn opened(
 /// How many numbers below `tenants` are `first` and a multiple of `stride`.
 fn place_count(first: u32, stride: u32, tenants: u32) -> u32
     requires { first < stride }
-    ensures count { (place : ℕ) → nat_lt place result ≡ nat_lt (first + stride * place) tenants }
+    ensures count { ArePlacesBelow first stride tenants result }
 {
     if first < tenants {
         (tenants - first - 1) / stride + 1

@@ -1,13 +1,12 @@
 //! What holds of the definitions alone: each law is the contract of a function that does nothing.
 ghost use Rattle.std.specs.Prelude.{ℕ};
-ghost use Rattle.sb_cell.specs.Events.{AreEvents};
-ghost use Rattle.sb_cell.specs.Headline.{Run, BeginsLegal, RunsInTurn, RunsAlone, AnswerAlike};
+ghost use Rattle.sb_cell.specs.Headline.{Run, BeginsLegal, IsRun, RunsInTurn, RunsAlone, AnswerAlike};
 
 use sb_tenant::laws::legal_states_are_replayed;
 
 /// Events that each make one turn of their tenant and touch no other run every tenant in turn.
 pub fn events_run_in_turn()
-    ensures { (bound : ℕ) (run : Run) → AreEvents bound run.hosts run.before run.events run.given run.after → RunsInTurn bound run }
+    ensures { (bound : ℕ) (run : Run) → IsRun bound run → RunsInTurn bound run }
 {}
 
 /// A tenant that runs in turn and meets no want of memory runs as if it were alone.
@@ -20,5 +19,5 @@ pub fn turns_run_alone()
 
 /// Of two runs, each answers a tenant without regard to what else runs beside it.
 pub fn equal_runs_answer_alike()
-    ensures { (bound : ℕ) (one other : Run) → RunsAlone bound one → RunsAlone bound other → AnswerAlike bound one other }
+    ensures { (bound : ℕ) (one two : Run) → RunsAlone bound one → RunsAlone bound two → AnswerAlike bound one two }
 {}

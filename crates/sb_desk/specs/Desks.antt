@@ -1,5 +1,5 @@
 -- Promise: what the three calls of a desk do: each is one step of the desk's cell, and the session gets exactly its answer.
-use Rattle.std.specs.Prelude.{ℕ, ◌≡◌, true, false, nat_le, List, codes, Some, ◌⊎◌, Ok, Err}
+use Rattle.std.specs.Prelude.{ℕ, ◌≡◌, Bool, true, false, nat_le, List, codes, Some, ◌⊎◌, Ok, Err}
 use Rattle.sb_tenant.specs.declared.reply.Answer.{Answer}
 use Rattle.sb_tenant.specs.declared.reply.Reply.TheVariants as told
 use Rattle.sb_tenant.specs.Limits.{trail_limit}

@@ -69,3 +69,9 @@ pub record IsDesk (p : Place) (c : Cell) (parts : ℕ) (seats : List (Option Ses
   pub whole : parts + entry_count c.tenants ≡ 2 ^ 32
   pub places : (t : ℕ) → IsTrue (hosts c t) → 8 * (t / p.cells) + 8 ≤ length seats
   pub seated : (t s : ℕ) → IsTrue (hosts c t) → s < 8 → SeatAt p.table (number_of p.cells t s) (open_in c t s) (seat_of p.cells seats t s)
+
+-- the desk of this cell of a host, which has cells and no more tenants than it may
+abbrev pub IsDeskOf : TableId → ℕ → ℕ → ℕ → ℕ → Cell → ℕ → List (Option SessionSeat) → Type 0
+IsDeskOf table tenants cells bound first c parts seats =
+    (0 < cells) × (tenants ≤ 256)
+    × IsDesk (record { table = table; tenants = tenants; cells = cells; bound = bound; first = first }) c parts seats

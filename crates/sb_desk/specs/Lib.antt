@@ -2,3 +2,4 @@ pub mod Seats
 pub mod Receipts
 pub mod Desks
 pub mod Kept
+pub mod Fields

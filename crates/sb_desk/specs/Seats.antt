@@ -56,6 +56,16 @@ number_of cells tenant session = number_at (tenant % cells) (tenant / cells) ses
 abbrev pub SessionSeat : Type 0
 SessionSeat = Seat (Unit {0}) (List ℕ)
 
+-- the table has one word, and this is its seat of all numbers below n
+abbrev pub IsSeatOfAll : ℕ → TableId → SessionSeat → Type 0
+IsSeatOfAll n z s = (z.words ≡ 1) × (s.table_id ≡ z) × (s.me ≡ (below n, []))
+
+-- a part of a seat's numbers is split off, and the rest stays
+abbrev pub SplitsOff : (List ℕ → List ℕ) → (List ℕ → List ℕ) → SessionSeat → SessionSeat → SessionSeat → Type 0
+SplitsOff rest part old new off =
+    (new.table_id ≡ old.table_id) × (new.me ≡ (rest old.me.0, old.me.1))
+    × (off.table_id ≡ old.table_id) × (off.me ≡ (part old.me.0, []))
+
 -- a seat of this table that knows this number alone
 abbrev pub IsSeat : TableId → ℕ → SessionSeat → Type 0
 IsSeat z n s = (s.table_id ≡ z) × (s.me ≡ (n ∷ [], []))

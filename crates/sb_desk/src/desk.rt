@@ -1,6 +1,6 @@
 //! What the lock of a cell holds: the cell, its share of the host's ledger, and the seats of its
 //! closed sessions.
-ghost use Rattle.std.specs.Prelude.{◌≡◌, ◌+◌, ◌-◌, ◌*◌, ◌/◌, ◌<◌, ◌≤◌, ◌%◌, ◌^◌, ◌==◌, ◌&&◌, nat_lt, ℕ, [], ◌∷◌, length, true, false, Some, None, Ok, IsSome, IfOk, IfErr, OnErr, OnOk, codes};
+ghost use Rattle.std.specs.Prelude.{◌≡◌, ◌+◌, ◌-◌, ◌*◌, ◌/◌, ◌<◌, ◌≤◌, ◌%◌, ◌^◌, ◌==◌, ◌&&◌, nat_lt, ℕ, true, false, Some, Ok, IsSome, IfOk, IfErr, OnOk};
 ghost use Rattle.sb_cell.specs.Tenants.{IsNew, hosts};
 ghost use Rattle.sb_desk.specs.Desks.{open_in, Admits, Enters, Leaves, Refuses, RefusesRightly};
 ghost use Rattle.sb_desk.specs.Kept.{AreDealt};
@@ -41,15 +41,14 @@ pub struct Desk<N: Naming, const FIRST: u32> {
 }
 
 impl<N: Naming, const FIRST: u32> Model for Desk<N, FIRST> {
-    ghost use Rattle.std.specs.Prelude.{◌<◌, ◌≤◌};
     ghost use Rattle.sb_cell.specs.Tenants.{Cell};
-    ghost use Rattle.sb_desk.specs.Kept.{IsDesk};
+    ghost use Rattle.sb_desk.specs.Kept.{IsDeskOf};
 
     ghost Value = { Cell };
 
     ghost view = { λ d. d.cell };
 
-    ghost invariant = { λ d. (0 < N.cells) × (N.tenants ≤ 256) × IsDesk (record { table = N.table; tenants = N.tenants; cells = N.cells; bound = N.bound; first = FIRST }) d.cell d.share.parts d.seats.items };
+    ghost invariant = { λ d. IsDeskOf N.table N.tenants N.cells N.bound FIRST d.cell d.share.parts d.seats.items };
 }
 
 impl<N: Naming, const FIRST: u32> Desk<N, FIRST> {
@@ -64,13 +63,6 @@ impl<N: Naming, const FIRST: u32> Desk<N, FIRST> {
         // for the proof: its number is below how many cells there are
         cell.keeps_trails();
         Desk { cell, share, seats }
-    }
-
-    /// The cell.
-    pub fn cell(&self) -> &Cell
-        ensures { result.now ≡ self.now }
-    {
-        &self.cell
     }
 
     /// The cell alone, which is the one of this number in this host.

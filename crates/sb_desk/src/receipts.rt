@@ -1,7 +1,8 @@
 //! A session's receipts: a line and its answer for each of its entries.
-ghost use Rattle.std.specs.Prelude.{ℕ, List, ◌≡◌, ◌+◌, ◌*◌, ◌<◌, ◌≤◌, ◌%◌, [], ◌∷◌, ◌++◌, length, true, false, codes, Some, None, IsSome, MatchOption, IfOk, OnErr, OnOk, vec_capacity};
+ghost use Rattle.std.specs.Prelude.{ℕ, List, ◌≡◌, ◌+◌, ◌<◌, false, Some, None, IsSome, MatchOption, IfOk, OnErr, OnOk};
 ghost use Rattle.sb_tenant.specs.declared.reply.Reply.TheVariants as told;
-ghost use Rattle.sb_desk.specs.Receipts.{after_end, last_of, newcomer, numbered, prepared, receipt};
+ghost use Rattle.sb_desk.specs.Fields.{IsRoom, answered, noted, unseated};
+ghost use Rattle.sb_desk.specs.Receipts.{after_end, last_of, newcomer, numbered, prepared};
 ghost use Rattle.sb_desk.specs.Seats.{IsSeat, number_of};
 
 use crate::naming::Naming;
@@ -48,16 +49,14 @@ pub struct Receipts<N: Naming> {
 }
 
 impl<N: Naming> Model for Receipts<N> {
-    ghost use Rattle.std.specs.Prelude.{◌≡◌, ◌+◌, ◌<◌, ◌≤◌, length, vec_capacity};
-    ghost use Rattle.sb_desk.specs.Receipts.{Receipts, answer_by};
-    ghost use Rattle.sb_desk.specs.Kept.{IsListed, HoldsSeat, not_some, owed};
-    ghost use Rattle.sb_desk.specs.Seats.{number_of};
+    ghost use Rattle.sb_desk.specs.Receipts.{Receipts};
+    ghost use Rattle.sb_desk.specs.Fields.{seen, AreKept};
 
     ghost Value = { Receipts };
 
-    ghost view = { λ r. record { tenant = r.tenant; session = r.session; list = r.list.items; ended = not_some r.opening; ready = r.ready; last = answer_by r.newest r.list.items } };
+    ghost view = { seen };
 
-    ghost invariant = { λ r. (r.tenant < N.tenants) × (r.session < 8) × (r.share.parts ≡ length r.list.items) × HoldsSeat N.table (number_of N.cells r.tenant r.session) r.opening × (length r.list.items + owed r.opening r.ready ≤ vec_capacity r.list) × IsListed r.newest r.list.items };
+    ghost invariant = { AreKept N.table N.tenants N.cells };
 }
 
 impl<N: Naming> Receipts<N> {
@@ -133,7 +132,7 @@ impl<N: Naming> Receipts<N> {
         requires parts { 1 < from.old.parts }
         requires ready { IsSome self.old.ready }
         ensures part { from.new.parts + 1 ≡ from.old.parts }
-        ensures note { (line : List ℕ) × (self.old.ready ≡ Some line) × (self.new ≡ record { tenant = self.old.tenant; session = self.old.session; list = self.old.list ++ receipt line answer ∷ []; ended = self.old.ended; ready = None; last = Some answer }) }
+        ensures note { (line : List ℕ) × (self.old.ready ≡ Some line) × (self.new ≡ noted self.old line answer) }
     {
         let Some(line) = self.ready.take() else {
             unreachable!()
@@ -169,7 +168,7 @@ impl<N: Naming> Receipts<N> {
 
     /// Takes the answer to the line that was ready, which is no receipt.
     pub(crate) fn tell(&mut self, answer: Answer)
-        ensures { self.new ≡ record { tenant = self.old.tenant; session = self.old.session; list = self.old.list; ended = self.old.ended; ready = None; last = Some answer } }
+        ensures { self.new ≡ answered self.old answer }
     {
         self.ready = None;
         self.newest = Newest::Beside(answer);
@@ -178,7 +177,7 @@ impl<N: Naming> Receipts<N> {
     /// Gives the seat of a session that has ended.
     pub(crate) fn give_up_seat(&mut self) -> SessionSeat
         requires { self.old.ended ≡ false }
-        ensures ended { self.new ≡ record { tenant = self.old.tenant; session = self.old.session; list = self.old.list; ended = true; ready = self.old.ready; last = self.old.last } }
+        ensures ended { self.new ≡ unseated self.old }
         ensures seat { IsSeat N.table (number_of N.cells self.old.tenant self.old.session) result }
     {
         match self.opening.take() {
@@ -221,7 +220,7 @@ pub(crate) struct Room {
 impl Room {
     /// The room, before the session is opened.
     pub(crate) fn new(alloc: Global) -> Result<Room, AllocError>
-        ensures { IfOk result (λ room. (room.list.items ≡ []) × (2 ≤ vec_capacity room.list) × (room.first ≡ codes "open") × (room.end ≡ codes "end")) }
+        ensures { IfOk result IsRoom }
     {
         let mut list = Vec::new(alloc);
         list.reserve(2)?;
@@ -243,8 +242,7 @@ impl Room {
         number: u32,
     ) -> Receipts<N>
         requires of { (tenant < N.tenants) × (session < 8) }
-        requires list { (self.list.items ≡ []) × (2 ≤ vec_capacity self.list) }
-        requires lines { (self.first ≡ codes "open") × (self.end ≡ codes "end") }
+        requires room { IsRoom self }
         requires part { share.parts ≡ 1 }
         requires seat { IsSeat N.table (number_of N.cells tenant session) seat }
         ensures { result ≡ newcomer tenant session number }

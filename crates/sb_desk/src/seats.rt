@@ -1,7 +1,7 @@
 //! The seats of a host's sessions: a table of one word, which never changes. A seat knows a list of
 //! numbers, and no number stands twice in all lists together.
-ghost use Rattle.std.specs.Prelude.{◌≡◌, ◌≢◌, ℕ, ◌+◌, ◌<◌, [], ◌∷◌, ◌++◌, IfOk, true, false};
-ghost use Rattle.sb_desk.specs.Seats.{first_of, rest_of, block_of, past_block, NoneTwice, below, IsSeat};
+ghost use Rattle.std.specs.Prelude.{◌≡◌, ◌+◌, ◌<◌, [], ◌∷◌, ◌++◌, IfOk, true, false};
+ghost use Rattle.sb_desk.specs.Seats.{first_of, rest_of, block_of, past_block, NoneTwice, below, IsSeat, IsSeatOfAll, SplitsOff};
 
 use atomic_table::{Join, Play, Seat, Shared, Split, Table, TableRule};
 use std::alloc::{AllocError, Global};
@@ -64,7 +64,7 @@ pub type Seats = Table<(), Numbers, usize, OnceEach, Global>;
 
 /// The table, with the seat of all numbers below `count`.
 pub fn open_seats(alloc: Global, count: usize) -> Result<(Seats, SessionSeat), AllocError>
-    ensures { IfOk result (λ t. (t.0.shared.table_id.words ≡ 1) × (t.1.table_id ≡ t.0.shared.table_id) × (t.1.me ≡ (below count, []))) }
+    ensures { IfOk result (λ t. IsSeatOfAll count t.0.shared.table_id t.1) }
 {
     Seats::of_words(alloc, &[0], &count)
 }
@@ -72,7 +72,7 @@ pub fn open_seats(alloc: Global, count: usize) -> Result<(Seats, SessionSeat), A
 /// Splits off the seat of the first number.
 pub fn split(table: &SeatTable, all: &mut SessionSeat) -> SessionSeat
     requires { (all.old.table_id ≡ table.now.table_id) × (table.now.table_id.words ≡ 1) }
-    ensures { (all.new.table_id ≡ all.old.table_id) × (all.new.me ≡ (rest_of all.old.me.0, all.old.me.1)) × (result.table_id ≡ all.old.table_id) × (result.me ≡ (first_of all.old.me.0, [])) }
+    ensures { SplitsOff rest_of first_of all.old all.new result }
 {
     table.split_seat::<Cut>(all)
 }
@@ -80,7 +80,7 @@ pub fn split(table: &SeatTable, all: &mut SessionSeat) -> SessionSeat
 /// Splits off the seat of the numbers of one cell.
 pub fn split_block(table: &SeatTable, all: &mut SessionSeat) -> SessionSeat
     requires { (all.old.table_id ≡ table.now.table_id) × (table.now.table_id.words ≡ 1) }
-    ensures { (all.new.table_id ≡ all.old.table_id) × (all.new.me ≡ (past_block all.old.me.0, all.old.me.1)) × (result.table_id ≡ all.old.table_id) × (result.me ≡ (block_of all.old.me.0, [])) }
+    ensures { SplitsOff past_block block_of all.old all.new result }
 {
     table.split_seat::<CutBlock>(all)
 }

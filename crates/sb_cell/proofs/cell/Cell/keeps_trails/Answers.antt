@@ -1,15 +1,14 @@
-use Rattle.std.proofs.Common.{ℕ, ◌*◌, ◌≤◌, IsTrue, subst, arith}
-use Rattle.sb_tenant.specs.Trail.{IsTrail}
+use Rattle.std.proofs.Common.{◌*◌, ◌≤◌, subst, arith}
 use Rattle.sb_cell.specs.contracts.cell.Cell.{the_view}
 use Rattle.sb_cell.specs.Hosting.{entry_count}
-use Rattle.sb_cell.specs.Tenants.{Cell, hosts, trails}
+use Rattle.sb_cell.specs.Tenants.{Cell, HasLegalTrails}
 use Rattle.sb_cell.proofs.Cells.{few_entries}
 use Rattle.sb_cell.proofs.Running.{begins_legal}
 use Rattle.sb_cell.proofs.cell.Cell.keeps_trails.Goals as goal
 use Rattle.sb_tenant.specs.Limits.{entry_limit}
 
 pub returns-clause-legal : goal.returns-clause-legal
-returns-clause-legal c = subst (λ (x : Cell). (t : ℕ) → IsTrue (hosts x t) → IsTrail t x.bound (trails x t)) c.self.view_is (begins_legal (the_view c.self.inside) c.self.invariant)
+returns-clause-legal c = subst HasLegalTrails c.self.view_is (begins_legal (the_view c.self.inside) c.self.invariant)
 
 pub returns-clause-few : goal.returns-clause-few
 returns-clause-few c =

@@ -1,13 +1,12 @@
-use Rattle.std.proofs.Common.{rules, ◌≡◌, ◌+◌, ◌∙◌, ◌++◌, ◌∷◌, [], List, ℕ, Result, IsTrue, sym, ap, subst, take}
+use Rattle.std.proofs.Common.{rules, ◌≡◌, ◌+◌, ◌∙◌, ◌++◌, ◌∷◌, [], List, ℕ, Result, sym, ap, subst, take}
 use Rattle.std.proofs.lemmas.List.{take_all, take_more}
 use Rattle.sb_tenant.specs.declared.reply.Answer.{Answer}
-use Rattle.sb_tenant.specs.Trail.{IsTrail}
 use Rattle.sb_cell.specs.declared.Event.{Event}
 use Rattle.sb_cell.specs.declared.StepError.{StepError}
 use Rattle.sb_cell.specs.contracts.cell.Cell.{the_view}
 use Rattle.sb_cell.specs.Events.{AreEvents}
 use Rattle.sb_cell.specs.Headline.{RunsInTurn}
-use Rattle.sb_cell.specs.Tenants.{Cell, AnswersEvent, hosts, run_of, trails}
+use Rattle.sb_cell.specs.Tenants.{AnswersEvent, HasLegalTrails, hosts, run_of, trails}
 use Rattle.sb_cell.proofs.Running.{begins_legal, more, same_more}
 use Rattle.sb_cell.proofs.cell.Cell.run.Goals as goal
 
@@ -39,4 +38,4 @@ returns-clause-in_turn c = in_turn c
 pub returns-clause-alone : goal.returns-clause-alone
 returns-clause-alone c =
     c.turns_run_alone.ensures c.args.self.now.bound (run_of c.args.self.now c.args.events.now c.loop-event.list.items c.loop-event.self)
-    (subst (λ (x : Cell). (t : ℕ) → IsTrue (hosts x t) → IsTrail t x.bound (trails x t)) c.self.view_is (begins_legal (the_view c.self.inside) c.self.invariant)) (in_turn c)
+    (subst HasLegalTrails c.self.view_is (begins_legal (the_view c.self.inside) c.self.invariant)) (in_turn c)
