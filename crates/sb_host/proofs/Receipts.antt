@@ -11,14 +11,11 @@ use Rattle.sb_desk.specs.Receipts.{numbered, receipt, receipts_of}
 use Rattle.sb_host.specs.declared.comparing.Found.{Found}
 use Rattle.sb_host.specs.declared.comparing.Found.TheVariants.{Equal, Fewer, Different}
 use Rattle.sb_host.specs.declared.comparing.Seen.{Seen}
-use Rattle.sb_host.specs.Comparing.{Compares, IsSeen, Lists, Tells}
+use Rattle.sb_host.specs.Comparing.{Compares, IsSeen, Lists, Tells, wanted_of}
 use Rattle.sb_host.specs.Finish.{step_of}
 use Rattle.sb_host.proofs.Rising.{RisesFrom, only_rising}
 
 -- ---- what a trail wants
-
-abbrev pub wanted_of : ℕ → ℕ → Entry → List Receipt
-wanted_of s n e = cond (e.session == s) (receipt e.line (numbered n e.reply) ∷ []) []
 
 -- of one entry more
 pub wants_more : (s n : ℕ) (es : List Entry) (e : Entry) → receipts_of s n (es ++ e ∷ []) ≡ receipts_of s n es ++ wanted_of s (n + length es) e

@@ -65,6 +65,11 @@ after_call s line answer = record {
   last = Some answer;
 }
 
+-- of a session that hasn't ended, one answer
+abbrev pub AnswersOnce : Session → List ℕ → Session → Type 0
+AnswersOnce old line new =
+    (answer : Answer) × (old.ended ≡ false) × IsNumbered answer × (new ≡ after_call old line answer)
+
 -- of a session that hasn't ended, one answer; or a refusal, which says whether it has
 abbrev pub Calls : Session → List ℕ → Result Answer CallError → Session → Type 0
 Calls old line (Ok answer) new = (old.ended ≡ false) × IsNumbered answer × (new ≡ after_call old line answer)

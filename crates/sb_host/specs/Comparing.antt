@@ -1,5 +1,5 @@
 -- Machine: the parts of the closing check.
-use Rattle.std.specs.Prelude.{ℕ, ◌==◌, if◌then◌else◌, ◌∷◌, ◌/◌, ◌%◌, ◌≡◌, ◌<◌, ◌≤◌, Bool, MatchBool, List, [], length, take, Option, Some, None, Result, Ok, Err, Vec}
+use Rattle.std.specs.Prelude.{ℕ, ◌==◌, if◌then◌else◌, ◌∷◌, ◌++◌, ◌*◌, ◌/◌, ◌%◌, ◌≡◌, ◌<◌, ◌≤◌, nat_le, Bool, MatchBool, List, [], length, slice_index_or, take, Option, Some, None, Result, Ok, Err, Vec}
 use Rattle.std.specs.Global.{Global}
 use Rattle.std.specs.List.Sorted.{IsPermutation}
 use Rattle.sb_tenant.specs.declared.reply.Entry.{Entry}
@@ -7,6 +7,7 @@ use Rattle.sb_tenant.specs.Limits.{session_count}
 use Rattle.sb_tenant.specs.Tenant.{Tenant}
 use Rattle.sb_tenant.specs.Trail.{IsTrail}
 use Rattle.sb_desk.specs.declared.receipts.Receipt.{Receipt}
+use Rattle.sb_desk.specs.Receipts.{numbered, receipt}
 use Rattle.sb_host.specs.declared.comparing.Found.{Found}
 use Rattle.sb_host.specs.declared.comparing.Found.TheVariants.{Equal, Fewer, Different}
 use Rattle.sb_host.specs.declared.comparing.Seen.{Seen}
@@ -15,7 +16,7 @@ use Rattle.sb_host.specs.declared.finish.FinishError.TheVariants.{Missing, Misma
 use Rattle.sb_host.specs.declared.finish.Report.{Report}
 use Rattle.sb_host.specs.declared.gathering.Place.{Place}
 use Rattle.sb_host.specs.declared.stub.Stub.{Stub}
-use Rattle.sb_host.specs.Finish.{Agrees, IsKept, IsMismatch, IsMissing, gathered, rank, row_at, wanted}
+use Rattle.sb_host.specs.Finish.{Agrees, IsKept, IsMismatch, IsMissing, gathered, rank, receipts_in, row_at, wanted}
 
 -- the test says whether the two are equal
 abbrev pub Tells : {A : Type 0} → Bool → A → A → Type 0
@@ -26,6 +27,23 @@ Tells b x y = MatchBool b (x ≡ y) (x ≡ y → ⊥)
 -- as far as the entries want these, the receipts have been seen to be the same, or not
 abbrev pub IsSeen : List Receipt → List Receipt → Seen → Type 0
 IsSeen held due seen = (seen.count ≡ length due) × Tells seen.same (take (length due) held) due
+
+-- the receipt that the entry of this number wants
+abbrev pub due_of : ℕ → Entry → Receipt
+due_of n e = receipt e.line (numbered n e.reply)
+
+-- those that it wants of session s
+abbrev pub wanted_of : ℕ → ℕ → Entry → List Receipt
+wanted_of s n e = if e.session == s then due_of n e ∷ [] else []
+
+-- the test says whether this receipt stands at that place
+abbrev pub TellsAt : Bool → List Receipt → ℕ → Receipt → Type 0
+TellsAt b held at due =
+    MatchBool b ((at < length held) × (slice_index_or held at due ≡ due)) (at < length held → slice_index_or held at due ≡ due → ⊥)
+
+-- whatever was wanted before, so far as it was seen, it is with more
+abbrev pub SeesMore : List Receipt → List Receipt → Seen → Seen → Type 0
+SeesMore held more seen new = (due : List Receipt) → IsSeen held due seen → IsSeen held (due ++ more) new
 
 -- two lists are one
 abbrev pub Lists : List Receipt → List Receipt → Found → Type 0
@@ -46,6 +64,16 @@ due_at trails k = wanted (k / session_count) (k % session_count) trails
 
 abbrev pub RowAgrees : List (Vec Receipt Global) → List (Vec Entry Global) → ℕ → Type 0
 RowAgrees rows trails k = IsPermutation (row_at rows k) (due_at trails k)
+
+-- a row for each session of so many tenants, which has its receipts in the stubs
+abbrev pub AreRows : ℕ → List Stub → List (Vec Receipt Global) → Type 0
+AreRows tenants stubs rows =
+    (length rows ≡ 8 * tenants) × ((t s : ℕ) → t < tenants → s < 8 → row_at rows (rank t s) ≡ gathered t s stubs)
+
+-- each row has more by the receipts of a stub
+abbrev pub TakeStub : ℕ → Stub → List (Vec Receipt Global) → List (Vec Receipt Global) → Type 0
+TakeStub tenants stub old new =
+    (t s : ℕ) → t < tenants → s < 8 → row_at new (rank t s) ≡ row_at old (rank t s) ++ receipts_in t s stub
 
 -- the row of rank k is the first that doesn't agree, and this was found of it
 abbrev pub FailsAt : List (Vec Receipt Global) → List (Vec Entry Global) → ℕ → Found → Type 0
@@ -79,6 +107,14 @@ IsFirstStray tenants stubs None = (t s : ℕ) → tenants ≤ t → gathered t s
 IsFirstStray tenants stubs (Some p) =
     (tenants ≤ p.tenant) × (p.session < session_count) × (gathered p.tenant p.session stubs ≡ [] → ⊥)
     × ((t s : ℕ) → tenants ≤ t → s < session_count → rank t s < rank p.tenant p.session → gathered t s stubs ≡ [])
+
+-- whatever stubs were looked at before, the first stray is told with this one, too
+abbrev pub LooksAt : ℕ → Stub → Option Place → Option Place → Type 0
+LooksAt tenants stub old new = (xs : List Stub) → IsFirstStray tenants xs old → IsFirstStray tenants (xs ++ stub ∷ []) new
+
+-- it stands before the other, or is the same
+abbrev pub is_no_later : Place → Place → Bool
+is_no_later p other = nat_le (rank p.tenant p.session) (rank other.tenant other.session)
 
 -- ---- all sessions
 

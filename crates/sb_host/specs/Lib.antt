@@ -4,3 +4,5 @@ pub mod Opening
 pub mod Lent
 pub mod Finish
 pub mod Comparing
+pub mod Parts
+pub mod Fields

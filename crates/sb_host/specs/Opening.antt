@@ -1,7 +1,8 @@
 -- Machine: the parts of a host that has no name yet.
-use Rattle.std.specs.Prelude.{ℕ, ◌+◌, ◌-◌, ◌*◌, List}
+use Rattle.std.specs.Prelude.{ℕ, ◌≡◌, ◌+◌, ◌-◌, ◌*◌, ◌<◌, ◌≤◌, List}
 use Rattle.atomic_table.specs.Seated.{TableId}
-use Rattle.sb_desk.specs.Seats.{from}
+use Rattle.sb_desk.specs.Seats.{SessionSeat, from}
+use Rattle.sb_host.specs.declared.opening.Numbers.{Numbers}
 
 -- how many tenants, cells and considerations at one assertion point; the table of the seats, and the ledger
 pub record Opened : Type 0 where
@@ -11,6 +12,20 @@ pub record Opened : Type 0 where
   pub table : TableId
   pub name : ℕ
   pub parts : ℕ
+
+-- these names of a host's type, which are its table of seats, its numbers and its ledger, are of these parts
+abbrev pub AreNames : TableId → ℕ → ℕ → ℕ → ℕ → ℕ → Opened → Type 0
+AreNames table tenants cells bound name parts o =
+    (table ≡ o.table) × (tenants ≡ o.tenants) × (cells ≡ o.cells) × (bound ≡ o.bound)
+    × (name ≡ o.name) × (parts ≡ o.parts)
+
+-- numbers that a host may have
+abbrev pub MayBe : Numbers → Type 0
+MayBe n = (0 < n.tenants) × (n.tenants ≤ 256) × (0 < n.cells) × (n.cells ≤ 16) × (n.bound ≤ 1000)
+
+-- a seat of this table, which has one word and is the one of that name
+abbrev pub IsSeatOf : TableId → TableId → SessionSeat → Type 0
+IsSeatOf name table seat = (seat.table_id ≡ table) × (table.words ≡ 1) × (table ≡ name)
 
 -- the numbers that are left before cell i is opened: each of 16 cells has 2048
 abbrev pub left_at : ℕ → List ℕ

@@ -1,8 +1,7 @@
 //! The receipts of a session against its entries.
-ghost use Rattle.std.specs.Prelude.{ℕ, List, ◌≡◌, ◌+◌, ◌*◌, ◌<◌, ◌≤◌, ◌==◌, ◌++◌, ◌∷◌, [], if◌then◌else◌, length, slice_index_or, MatchBool, IfErr, OnOk};
-ghost use Rattle.sb_desk.specs.Receipts.{numbered, receipt, receipts_of};
-ghost use Rattle.sb_desk.specs.declared.receipts.Receipt.{Receipt};
-ghost use Rattle.sb_host.specs.Comparing.{Compares, IsSeen, Lists, RowAgrees, RowFails, Tells, due_at};
+ghost use Rattle.std.specs.Prelude.{ℕ, ◌≡◌, ◌*◌, ◌<◌, ◌≤◌, length, IfErr, OnOk};
+ghost use Rattle.sb_desk.specs.Receipts.{receipts_of};
+ghost use Rattle.sb_host.specs.Comparing.{Compares, Lists, RowAgrees, RowFails, SeesMore, Tells, TellsAt, due_at, due_of, wanted_of};
 ghost use Rattle.sb_host.specs.Finish.{row_at, step_of};
 
 use crate::equal::{same_bytes, same_reply};
@@ -105,7 +104,7 @@ fn compare(trail: &[Entry], session: SessionId, receipts: &[Receipt]) -> Found
 /// One entry more is seen.
 fn look(seen: Seen, receipts: &[Receipt], entry: &Entry, number: usize, session: SessionId) -> Seen
     requires { seen.count < number }
-    ensures seen { (due : List Receipt) → IsSeen receipts.now due seen → IsSeen receipts.now (due ++ (if entry.now.session == session then receipt entry.now.line (numbered number entry.now.reply) ∷ [] else [])) result }
+    ensures seen { SeesMore receipts.now (wanted_of session number entry.now) seen result }
     ensures count { result.count ≤ number }
 {
     if entry.session != session {
@@ -119,14 +118,14 @@ fn look(seen: Seen, receipts: &[Receipt], entry: &Entry, number: usize, session:
 
 /// Whether that receipt is there, and is the one that the entry wants.
 fn is_next(receipts: &[Receipt], at: usize, entry: &Entry, number: usize) -> bool
-    ensures { let due = receipt entry.now.line (numbered number entry.now.reply) in MatchBool result ((at < length receipts.now) × (slice_index_or receipts.now at due ≡ due)) (at < length receipts.now → slice_index_or receipts.now at due ≡ due → ⊥) }
+    ensures { TellsAt result receipts.now at (due_of number entry.now) }
 {
     at < receipts.len() && is_receipt(&receipts[at], entry, number)
 }
 
 /// Whether it is the receipt that the entry of this number wants.
 fn is_receipt(held: &Receipt, entry: &Entry, number: usize) -> bool
-    ensures { Tells result held.now (receipt entry.now.line (numbered number entry.now.reply)) }
+    ensures { Tells result held.now (due_of number entry.now) }
 {
     let Some(own) = held.answer.number else {
         return false;

@@ -1,8 +1,7 @@
 //! The receipts of all stubs, gathered by session.
-ghost use Rattle.std.specs.Prelude.{ℕ, List, ◌≡◌, ◌+◌, ◌*◌, ◌<◌, ◌≤◌, nat_le, ◌++◌, ◌∷◌, [], false, length, MatchOption, IfOk, OnOk};
-ghost use Rattle.sb_host.specs.Comparing.{IsFirstStray};
-ghost use Rattle.sb_host.specs.Finish.{gathered, rank, receipts_in, row_at};
-ghost use Rattle.sb_host.specs.declared.stub.Stub.{Stub};
+ghost use Rattle.std.specs.Prelude.{ℕ, ◌≡◌, ◌*◌, [], false, length, MatchOption, IfOk, OnOk};
+ghost use Rattle.sb_host.specs.Comparing.{AreRows, IsFirstStray, LooksAt, TakeStub, is_no_later};
+ghost use Rattle.sb_host.specs.Finish.{rank, row_at};
 
 use crate::stub::Stub;
 use sb_desk::Receipt;
@@ -38,7 +37,7 @@ pub(crate) fn first_stray(stubs: &[Stub], tenants: u32) -> Option<Place>
 
 /// One stub more is looked at.
 fn look_at(first: &mut Option<Place>, stub: &Stub, tenants: u32)
-    ensures { (xs : List Stub) → IsFirstStray tenants xs first.old → IsFirstStray tenants (xs ++ stub.now ∷ []) first.new }
+    ensures { LooksAt tenants stub.now first.old first.new }
 {
     // for the proof: a session's number is below 8
     let _number = stub.session.number();
@@ -59,7 +58,7 @@ fn look_at(first: &mut Option<Place>, stub: &Stub, tenants: u32)
 
 /// Whether there is a first one, and it doesn't stand behind the other.
 fn is_before(first: &Option<Place>, other: &Place) -> bool
-    ensures { MatchOption first.now (result ≡ false) (λ p. result ≡ nat_le (rank p.tenant p.session) (rank other.now.tenant other.now.session)) }
+    ensures { MatchOption first.now (result ≡ false) (λ p. result ≡ is_no_later p other.now) }
 {
     match first {
         Some(place) => place.order() <= other.order(),
@@ -84,7 +83,7 @@ pub(crate) fn rows_of(
     stubs: Vec<Stub>,
     tenants: u32,
 ) -> Result<Vec<Vec<Receipt>>, AllocError>
-    ensures { IfOk result (λ rows. (length rows.items ≡ 8 * tenants) × ((t s : ℕ) → t < tenants → s < 8 → row_at rows.items (rank t s) ≡ gathered t s stubs.items)) }
+    ensures { IfOk result (λ rows. AreRows tenants stubs.items rows.items) }
 {
     let mut rows = blank(alloc, SESSION_LIMIT * tenants as usize)?;
     for stub in stubs {
@@ -97,7 +96,7 @@ pub(crate) fn rows_of(
 fn deal(rows: &mut Vec<Vec<Receipt>>, stub: Stub, tenants: u32) -> Result<(), AllocError>
     requires { length rows.old.items ≡ 8 * tenants }
     ensures length { OnOk result (length rows.new.items ≡ length rows.old.items) }
-    ensures rows { OnOk result ((t s : ℕ) → t < tenants → s < 8 → row_at rows.new.items (rank t s) ≡ row_at rows.old.items (rank t s) ++ receipts_in t s stub) }
+    ensures rows { OnOk result (TakeStub tenants stub rows.old.items rows.new.items) }
 {
     let Stub {
         tenant,

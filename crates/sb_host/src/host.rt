@@ -1,5 +1,5 @@
 //! The cells of a host, each behind a lock of its own.
-ghost use Rattle.std.specs.Prelude.{◌≡◌, ◌<◌, ◌≤◌, false, IsSome, IfOk, IfErr, OnOk};
+ghost use Rattle.std.specs.Prelude.{◌≡◌, ◌<◌, false, IsSome, IfOk, IfErr, OnOk};
 ghost use Rattle.sb_host.specs.Calls.{Attached, Called, IsRefused, IsNewcomer, Left, Refused};
 
 use crate::gate::Gate;
@@ -37,13 +37,14 @@ pub struct Host<N: Naming> {
 }
 
 impl<N: Naming> Model for Host<N> {
-    ghost use Rattle.std.specs.Prelude.{ℕ, ◌≡◌, ◌<◌, ◌≤◌, IsSome};
+    ghost use Rattle.std.specs.Prelude.{ℕ};
+    ghost use Rattle.sb_host.specs.Fields.{IsHost};
 
     ghost Value = { ℕ };
 
     ghost view = { λ h. h.tenants };
 
-    ghost invariant = { λ h. (h.tenants ≡ N.tenants) × (h.tenants ≤ 256) × (h.cells ≡ N.cells) × (0 < h.cells) × (h.cells ≤ 16) × (h.seats.shared.table_id ≡ N.table) × (N.table.words ≡ 1) × ((0 < h.cells → IsSome h.d0) × (1 < h.cells → IsSome h.d1) × (2 < h.cells → IsSome h.d2) × (3 < h.cells → IsSome h.d3) × (4 < h.cells → IsSome h.d4) × (5 < h.cells → IsSome h.d5) × (6 < h.cells → IsSome h.d6) × (7 < h.cells → IsSome h.d7) × (8 < h.cells → IsSome h.d8) × (9 < h.cells → IsSome h.d9) × (10 < h.cells → IsSome h.d10) × (11 < h.cells → IsSome h.d11) × (12 < h.cells → IsSome h.d12) × (13 < h.cells → IsSome h.d13) × (14 < h.cells → IsSome h.d14) × (15 < h.cells → IsSome h.d15)) };
+    ghost invariant = { IsHost N.table N.tenants N.cells };
 }
 
 impl<N: Naming> Host<N> {

@@ -1,5 +1,5 @@
 //! The three calls of a desk, behind its lock.
-ghost use Rattle.std.specs.Prelude.{◌≡◌, ◌<◌, ◌≤◌, ◌%◌, true, false, IsSome, IfOk, IfErr, OnOk};
+ghost use Rattle.std.specs.Prelude.{◌≡◌, ◌<◌, ◌%◌, false, IsSome, IfOk, IfErr, OnOk};
 ghost use Rattle.sb_host.specs.Calls.{Called, IsNewcomer, IsRefused, Left, Refused};
 
 use crate::gate::Gate;
@@ -11,8 +11,8 @@ use sb_value::SessionId;
 use std::alloc::Global;
 use std::sync::{Mutex, Wait};
 
-/// The lock of the cell `F`, which a host with fewer cells hasn't. No other lock is on its cache lines, so threads at work in
-/// different cells don't wait for each other's.
+/// The lock of the cell `F`, which a host with fewer cells hasn't. No other lock is on its cache lines, so threads at
+/// work in different cells don't wait for each other's.
 pub(crate) type Lock<N, const F: u32> = Option<CachePadded<Mutex<Desk<N, F>>>>;
 
 /// What every cell of a host is reached by: how many there are, and what the seats share.

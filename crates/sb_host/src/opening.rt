@@ -1,8 +1,8 @@
 //! A host is opened in two steps: its parts, whose names nobody knows yet, and then the host, whose
 //! type has the names.
-ghost use Rattle.std.specs.Prelude.{◌≡◌, ◌+◌, ◌-◌, ◌*◌, ◌/◌, ◌<◌, ◌≤◌, ◌^◌, [], true, IsSome, IfOk, OnOk};
+ghost use Rattle.std.specs.Prelude.{◌≡◌, ◌+◌, ◌-◌, ◌*◌, ◌/◌, ◌<◌, ◌≤◌, ◌^◌, [], true, IsSome, IfOk};
 ghost use Rattle.sb_desk.specs.Kept.{AreDealt};
-ghost use Rattle.sb_host.specs.Opening.{left_at, left_in};
+ghost use Rattle.sb_host.specs.Opening.{AreNames, IsSeatOf, MayBe, left_at, left_in};
 
 use crate::host::Host;
 use crate::locks::Lock;
@@ -36,15 +36,14 @@ pub struct Opened {
 }
 
 impl Model for Opened {
-    ghost use Rattle.std.specs.Prelude.{◌≡◌, ◌*◌, ◌<◌, ◌≤◌, ◌^◌, []};
-    ghost use Rattle.sb_desk.specs.Seats.{below};
     ghost use Rattle.sb_host.specs.Opening.{Opened};
+    ghost use Rattle.sb_host.specs.Parts.{seen, AreParts};
 
     ghost Value = { Opened };
 
-    ghost view = { λ o. record { tenants = o.numbers.tenants; cells = o.numbers.cells; bound = o.numbers.bound; table = o.seats.shared.table_id; name = o.blank.name; parts = o.blank.parts } };
+    ghost view = { seen };
 
-    ghost invariant = { λ o. (0 < o.numbers.tenants) × (o.numbers.tenants ≤ 256) × (0 < o.numbers.cells) × (o.numbers.cells ≤ 16) × (o.numbers.bound ≤ 1000) × (o.blank.parts ≡ 17 * 2 ^ 32) × (o.all.table_id ≡ o.seats.shared.table_id) × (o.seats.shared.table_id.words ≡ 1) × (o.all.me ≡ (below 32768, [])) };
+    ghost invariant = { AreParts };
 }
 
 impl Opened {
@@ -118,9 +117,9 @@ fn desk_of<N: Naming, const F: u32>(
     share: Share<N>,
     numbers: Numbers,
 ) -> Result<Desk<N, F>, AllocError>
-    requires table { (block.table_id ≡ table.now.table_id) × (table.now.table_id.words ≡ 1) × (table.now.table_id ≡ N.table) }
+    requires table { IsSeatOf N.table table.now.table_id block }
     requires cell { F < numbers.cells }
-    requires numbers { (0 < numbers.tenants) × (numbers.tenants ≤ 256) × (0 < numbers.cells) × (numbers.cells ≤ 16) × (numbers.bound ≤ 1000) }
+    requires numbers { MayBe numbers }
     requires named { (N.tenants ≡ numbers.tenants) × (N.cells ≡ numbers.cells) × (N.bound ≡ numbers.bound) }
     requires block { block.me ≡ (left_in F 0, []) }
     requires share { share.parts ≡ 2 ^ 32 }
@@ -146,9 +145,9 @@ fn open_desk<N: Naming, const F: u32>(
     numbers: Numbers,
     well: &mut bool,
 ) -> Lock<N, F>
-    requires table { (all.old.table_id ≡ table.now.table_id) × (table.now.table_id.words ≡ 1) × (table.now.table_id ≡ N.table) }
+    requires table { IsSeatOf N.table table.now.table_id all.old }
     requires cell { F < 16 }
-    requires numbers { (0 < numbers.tenants) × (numbers.tenants ≤ 256) × (0 < numbers.cells) × (numbers.cells ≤ 16) × (numbers.bound ≤ 1000) }
+    requires numbers { MayBe numbers }
     requires named { (N.tenants ≡ numbers.tenants) × (N.cells ≡ numbers.cells) × (N.bound ≡ numbers.bound) }
     requires all { all.old.me ≡ (left_at F, []) }
     requires rest { (rest.old.parts ≡ (17 - F) * 2 ^ 32) × (rest.old.amount ≡ 0) }
@@ -174,9 +173,7 @@ fn open_desk<N: Naming, const F: u32>(
 impl<N: Naming> Host<N> {
     /// The host of these parts, which the type names.
     pub fn new(alloc: Global, opened: Opened) -> Result<Host<N>, AllocError>
-        requires table { N.table ≡ opened.table }
-        requires numbers { (N.tenants ≡ opened.tenants) × (N.cells ≡ opened.cells) × (N.bound ≡ opened.bound) }
-        requires ledger { (N.name ≡ opened.name) × (N.parts ≡ opened.parts) }
+        requires { AreNames N.table N.tenants N.cells N.bound N.name N.parts opened }
         ensures { IfOk result (λ host. host ≡ opened.tenants) }
     {
         let Opened {

@@ -1,8 +1,6 @@
 //! A session: it borrows its host, and each of its calls is one step.
-ghost use Rattle.std.specs.Prelude.{◌≡◌, ◌++◌, ◌∷◌, ℕ, [], true, false, None, Some, IfErr, IfOk, MatchOption, OnOk};
-ghost use Rattle.sb_tenant.specs.declared.reply.Answer.{Answer};
-ghost use Rattle.sb_desk.specs.Receipts.{after_end};
-ghost use Rattle.sb_host.specs.Calls.{IsNumbered, after_call, is_ended};
+ghost use Rattle.std.specs.Prelude.{◌≡◌, false, None, Some, IfErr, IfOk, MatchOption, OnOk};
+ghost use Rattle.sb_host.specs.Calls.{AnswersOnce, IsNumbered, is_ended};
 ghost use Rattle.sb_host.specs.Stubs.{LeavesStub};
 
 use crate::gate::{Gate, NoGate};
@@ -33,9 +31,7 @@ impl<'h, N: Naming> Session<'h, N> {
     ghost use Rattle.std.specs.Prelude.{⊤};
     ghost use Rattle.std.specs.Borrow.{sem, follows_so};
     ghost use mathlib.Core.Option.{none};
-    ghost use mir.Syntax.{named};
-    ghost use Rattle.sb_host.specs.contracts.session.Session.{the_row};
-    ghost use Rattle.sb_host.specs.Lent.{CallsTo};
+    ghost use Rattle.sb_host.specs.Lent.{CallsTo, session_of};
 
     /// The answer of the newest call that gave one.
     pub fn last(&self) -> Option<&Answer>
@@ -66,7 +62,7 @@ impl<'h, N: Naming> Session<'h, N> {
         line: &[u8],
         gate: &G,
     ) -> Result<(), CallError>
-        ensures ok { OnOk result ((answer : Answer) × (self.old.ended ≡ false) × IsNumbered answer × (self.new ≡ after_call self.old line.now answer)) }
+        ensures ok { OnOk result (AnswersOnce self.old line.now self.new) }
         ensures err { IfErr result (λ e. (self.new ≡ self.old) × (self.old.ended ≡ is_ended e)) }
     {
         if self.receipts.ended() {
@@ -89,7 +85,8 @@ impl<'h, N: Naming> Session<'h, N> {
         ensures ok { OnOk result (self.old.ended ≡ false) }
         ensures numbered { IfOk result (λ answer. IsNumbered answer.now) }
         ensures err { IfErr result (λ e. self.old.ended ≡ is_ended e) }
-        ensures* after { sem 𝓛 (follows_so (the_row (record { mir = named 1; lft = [] }) N.row (record { table = N.table; tenants = N.tenants; cells = N.cells; bound = N.bound }) (record { name = N.name; parts = N.parts })) (the_row (record { mir = named 1; lft = [] }) N.row (record { table = N.table; tenants = N.tenants; cells = N.cells; bound = N.bound }) (record { name = N.name; parts = N.parts })) self.entry.ghost_name none (λ _ _. ⊤) (λ n. CallsTo self.old line.now result n)) }
+        ensures* after { let row = session_of N.row N.table N.tenants N.cells N.bound N.name N.parts in
+            sem 𝓛 (follows_so row row self.entry.ghost_name none (λ _ _. ⊤) (λ n. CallsTo self.old line.now result n)) }
     {
         self.step_with(rt, alloc, line, gate)?;
         match self.receipts.last() {
@@ -108,7 +105,8 @@ impl<'h, N: Naming> Session<'h, N> {
         ensures ok { OnOk result (self.old.ended ≡ false) }
         ensures numbered { IfOk result (λ answer. IsNumbered answer.now) }
         ensures err { IfErr result (λ e. self.old.ended ≡ is_ended e) }
-        ensures* after { sem 𝓛 (follows_so (the_row (record { mir = named 1; lft = [] }) N.row (record { table = N.table; tenants = N.tenants; cells = N.cells; bound = N.bound }) (record { name = N.name; parts = N.parts })) (the_row (record { mir = named 1; lft = [] }) N.row (record { table = N.table; tenants = N.tenants; cells = N.cells; bound = N.bound }) (record { name = N.name; parts = N.parts })) self.entry.ghost_name none (λ _ _. ⊤) (λ n. CallsTo self.old line.now result n)) }
+        ensures* after { let row = session_of N.row N.table N.tenants N.cells N.bound N.name N.parts in
+            sem 𝓛 (follows_so row row self.entry.ghost_name none (λ _ _. ⊤) (λ n. CallsTo self.old line.now result n)) }
     {
         self.step_with(rt, alloc, line, &NoGate)?;
         match self.receipts.last() {

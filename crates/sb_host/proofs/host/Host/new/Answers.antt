@@ -24,4 +24,4 @@ invariant_of-result g c =
     let w3 = c.open_desk-d3.ensures.well w4 in
     let w2 = c.open_desk-d2.ensures.well w3 in
     let w1 = c.open_desk-d1.ensures.well w2 in
-    (tenants ∙ sym c.requires.numbers.0, o.1, cells ∙ sym c.requires.numbers.1, o.2, o.3, table ∙ sym c.requires.table, ap (λ z. z.words) (c.requires.table ∙ sym table) ∙ o.7, (λ few. c.open_desk-d0.ensures.there few w1, λ few. c.open_desk-d1.ensures.there few w2, λ few. c.open_desk-d2.ensures.there few w3, λ few. c.open_desk-d3.ensures.there few w4, λ few. c.open_desk-d4.ensures.there few w5, λ few. c.open_desk-d5.ensures.there few w6, λ few. c.open_desk-d6.ensures.there few w7, λ few. c.open_desk-d7.ensures.there few w8, λ few. c.open_desk-d8.ensures.there few w9, λ few. c.open_desk-d9.ensures.there few w10, λ few. c.open_desk-d10.ensures.there few w11, λ few. c.open_desk-d11.ensures.there few w12, λ few. c.open_desk-d12.ensures.there few w13, λ few. c.open_desk-d13.ensures.there few w14, λ few. c.open_desk-d14.ensures.there few w15, λ few. c.open_desk-d15.ensures.there few well))
+    (tenants ∙ sym c.requires.1, o.1, cells ∙ sym c.requires.2, o.2, o.3, table ∙ sym c.requires.0, ap (λ z. z.words) (c.requires.0 ∙ sym table) ∙ o.7, (λ few. c.open_desk-d0.ensures.there few w1, λ few. c.open_desk-d1.ensures.there few w2, λ few. c.open_desk-d2.ensures.there few w3, λ few. c.open_desk-d3.ensures.there few w4, λ few. c.open_desk-d4.ensures.there few w5, λ few. c.open_desk-d5.ensures.there few w6, λ few. c.open_desk-d6.ensures.there few w7, λ few. c.open_desk-d7.ensures.there few w8, λ few. c.open_desk-d8.ensures.there few w9, λ few. c.open_desk-d9.ensures.there few w10, λ few. c.open_desk-d10.ensures.there few w11, λ few. c.open_desk-d11.ensures.there few w12, λ few. c.open_desk-d12.ensures.there few w13, λ few. c.open_desk-d13.ensures.there few w14, λ few. c.open_desk-d14.ensures.there few w15, λ few. c.open_desk-d15.ensures.there few well))
