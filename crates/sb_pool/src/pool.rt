@@ -1,7 +1,7 @@
 //! Jobs of sessions: each is a line that its session is called with.
 ghost use Rattle.std.specs.Prelude.{◌≡◌, ◌<◌, ◌≤◌, IfErr, IfOk};
 ghost use Rattle.std.specs.List.{AllZip};
-ghost use Rattle.sb_pool.specs.Pool.{CallsOnce};
+ghost use Rattle.sb_pool.specs.Pool.{CallsOnce, IsDone};
 
 use sb_host::{CallError, Gate, Naming, Session};
 use sb_workers::{Work, run};
@@ -54,10 +54,9 @@ struct Calling<'g, G> {
 }
 
 impl<'h, 'g, N: Naming, G: Gate> Work<Job<'h, N>, Done<'h, N>> for Calling<'g, G> {
-    ghost use Rattle.std.specs.Prelude.{◌≡◌};
-    ghost use Rattle.sb_pool.specs.Pool.{CallsOnce};
+    ghost use Rattle.sb_pool.specs.Pool.{IsDone};
 
-    ghost does = { λ job done. (done.line ≡ job.line) × CallsOnce job.session job.line.items done.result done.session };
+    ghost does = { IsDone };
 
     fn work<R: Wait>(&self, rt: &R, job: Job<'h, N>) -> Done<'h, N> {
         let Job { mut session, line } = job;
@@ -84,7 +83,7 @@ impl Pool {
         gate: &G,
     ) -> Result<Vec<Done<'h, N>>, PoolError<'h, N>>
         requires workers { (0 < workers) × (workers ≤ 16) }
-        ensures done { IfOk result (λ all. AllZip (λ job done. (done.line ≡ job.line) × CallsOnce job.session job.line.items done.result done.session) jobs.entry.items all.items) }
+        ensures done { IfOk result (λ all. AllZip IsDone jobs.entry.items all.items) }
         ensures back { IfErr result (λ e. e.jobs.items ≡ jobs.entry.items) }
     {
         let calling = Calling { alloc, gate };

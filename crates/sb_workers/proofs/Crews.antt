@@ -15,6 +15,9 @@ module _ {J D : Type 0} (does : J → D → Type 0) (deque : RowsId × Global) w
       last zero g = let same : h ≡ x = cc in subst (IsHelper does deque) same one
       last (suc j) g = absurd cc
 
+  pub none_back : (hs : List (Helper J D)) → hs ≡ [] → AreHelpers does deque hs
+  none_back hs none = subst (AreHelpers does deque) (sym none) (λ i x e. absurd cc)
+
   pub helpers_grow : (hs : List (Helper J D)) (h : Helper J D) (all : List (Helper J D)) → all ≡ hs ++ h ∷ [] → AreHelpers does deque hs → IsHelper does deque h → AreHelpers does deque all
   helpers_grow hs h all e each one = subst (AreHelpers does deque) (sym e) (helpers-snoc hs h each one)
 

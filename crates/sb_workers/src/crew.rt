@@ -1,12 +1,13 @@
 //! All workers at one deque: the calling thread, which owns it, and its helpers.
-ghost use Rattle.std.specs.Prelude.{◌≡◌, ◌+◌, ◌<◌, ◌≤◌, ◌^◌, true, [], length, IfOk, IfErr, vec_len, vec_capacity};
+ghost use Rattle.std.specs.Prelude.{◌≡◌, ◌+◌, ◌<◌, ◌≤◌, ◌^◌, true, [], length, IfOk, IfErr, vec_len};
 ghost use Rattle.std.specs.List.{AllZip};
 ghost use Rattle.std.specs.Thread.{IsSync};
 ghost use Rattle.crossbeam_deque.specs.Handles.{stealer_deque, worker_capacity, worker_deque, worker_flavor, worker_index, worker_view};
-ghost use Rattle.sb_workers.specs.Results.{AllDone, AreDone};
+ghost use Rattle.sb_workers.specs.Results.{AllDone};
 ghost use Rattle.sb_workers.specs.Rule.{known, tasks_from};
-ghost use Rattle.sb_workers.specs.Seats.{AreHelpers, IsHelper, IsOwner, SameOwner};
+ghost use Rattle.sb_workers.specs.Seats.{IsCrew, IsCrewBack, IsHelper};
 
+use crate::caller::Caller;
 use crate::helper::{Helper, help, hire, take_in};
 use crate::results::Rack;
 use crate::rule::{Owner, Pushed, Thief};
@@ -23,7 +24,8 @@ const MOST_JOBS: usize = 1 << 32;
 /// Pushes the jobs in order, each with its place.
 fn fill<J: Drop>(mut owner: Owner<J>, jobs: Vec<J>) -> Owner<J>
     requires fresh { worker_view owner ≡ known (worker_view owner).parts true [] [] }
-    requires room { (worker_index owner ≡ 0) × (length jobs.items ≤ worker_capacity owner) × (length jobs.items < 2 ^ 62) }
+    requires room { (worker_index owner ≡ 0) × (length jobs.items ≤ worker_capacity owner) }
+    requires few { length jobs.items < 2 ^ 62 }
     ensures same { (worker_deque result ≡ worker_deque owner) × (worker_flavor result ≡ worker_flavor owner) }
     ensures view { worker_view result ≡ known (worker_view owner).parts true (tasks_from 0 jobs.items) [] }
 {
@@ -43,64 +45,50 @@ fn crew<J: Drop + Send, D: Drop + Send, W: Work<J, D> + Sync, R: Threads + Wait 
     rt: &R,
     work: &W,
     thief: &Thief<J>,
-    owner: Owner<J>,
-    done: Vec<Placed<D>>,
+    caller: Caller<J, D>,
     mut helpers: Vec<Helper<J, D>>,
     back: Vec<Helper<J, D>>,
-    spare: usize,
-) -> (Owner<J>, Vec<Placed<D>>, Vec<Helper<J, D>>)
-    requires owner { IsOwner owner }
-    requires done { AreDone W.does (worker_view owner).given done.items }
-    requires room { length (worker_view owner).pushed ≤ vec_capacity done }
-    requires helpers { AreHelpers W.does (stealer_deque thief.now) helpers.items }
-    requires back { AreHelpers W.does (stealer_deque thief.now) back.items }
-    requires places { vec_len back + vec_len helpers + spare ≤ vec_capacity back }
-    requires few { spare + vec_len helpers < 4096 }
-    ensures same { SameOwner owner result.0 }
-    ensures done { AreDone W.does (worker_view result.0).given result.1.items × (length (worker_view owner).pushed ≤ vec_capacity result.1) }
-    ensures places { vec_len result.2 + spare ≤ vec_capacity result.2 }
-    ensures helpers { AreHelpers W.does (stealer_deque thief.now) result.2.items × (length result.2.items ≡ length back.items + length helpers.items) }
+) -> (Caller<J, D>, Vec<Helper<J, D>>)
+    requires { IsCrew W.does (stealer_deque thief.now) caller helpers back }
+    ensures { IsCrewBack W.does (stealer_deque thief.now) caller helpers back result }
 {
     let Some(helper) = helpers.pop() else {
-        let (owner, done) = drain(rt, work, owner, done);
-        return (owner, done, back);
+        return (drain(rt, work, caller), back);
     };
-    let (helper, (owner, done, mut back)) = thread::join(
+    let (helper, (caller, mut back)) = thread::join(
         rt,
         move || -> Helper<J, D>
             requires { IsHelper W.does (stealer_deque thief.now) helper }
             ensures { IsHelper W.does (stealer_deque thief.entry.now) result }
         { help(rt, work, thief, helper) },
-        move || -> (Owner<J>, Vec<Placed<D>>, Vec<Helper<J, D>>)
-            requires { IsSync R.row × IsSync W.row × IsOwner owner × AreDone W.does (worker_view owner).given done.items × (length (worker_view owner).pushed ≤ vec_capacity done) × AreHelpers W.does (stealer_deque thief.now) helpers.items × AreHelpers W.does (stealer_deque thief.now) back.items × (vec_len back + vec_len helpers + (spare + 1) ≤ vec_capacity back) × (spare + 1 + vec_len helpers < 4096) }
-            ensures { SameOwner owner result.0 × AreDone W.does (worker_view result.0).given result.1.items × (length (worker_view owner).pushed ≤ vec_capacity result.1) × AreHelpers W.does (stealer_deque thief.entry.now) result.2.items × (length result.2.items ≡ length back.items + length helpers.items) × (vec_len result.2 + (spare + 1) ≤ vec_capacity result.2) }
-        { crew(rt, work, thief, owner, done, helpers, back, spare + 1) },
+        move || -> (Caller<J, D>, Vec<Helper<J, D>>)
+            requires { IsSync R.row × IsSync W.row × IsCrew W.does (stealer_deque thief.now) caller helpers back }
+            ensures { IsCrewBack W.does (stealer_deque thief.entry.now) caller helpers back result }
+        { crew(rt, work, thief, caller, helpers, back) },
     );
     back.push_reserved(helper);
-    (owner, done, back)
+    (caller, back)
 }
 
-/// All tasks in the deque done, in any order. In the end the owner has all parts and finds the deque
-/// empty.
+/// All tasks in the deque done, in any order. In the end the calling thread has all parts and finds the
+/// deque empty.
 fn do_all<J: Drop + Send, D: Drop + Send, W: Work<J, D> + Sync, R: Threads + Wait + Sync>(
     rt: &R,
     work: &W,
     thief: &Thief<J>,
-    owner: Owner<J>,
-    done: Vec<Placed<D>>,
+    caller: Caller<J, D>,
     helpers: Vec<Helper<J, D>>,
     back: Vec<Helper<J, D>>,
 ) -> Vec<Placed<D>>
-    requires owner { ((worker_view owner).parts + vec_len helpers ≡ 1024) × ((worker_view owner).owns ≡ true) × ((worker_view owner).given ≡ []) × (worker_flavor owner ≡ 0) }
-    requires thief { stealer_deque thief.now ≡ worker_deque owner }
-    requires done { (done.items ≡ []) × (length (worker_view owner).pushed ≤ vec_capacity done) }
-    requires helpers { AreHelpers W.does (worker_deque owner) helpers.items × (vec_len helpers < 1024) }
-    requires back { (back.items ≡ []) × (vec_len helpers ≤ vec_capacity back) }
-    ensures { AllDone W.does (worker_view owner).pushed result.items }
+    requires thief { stealer_deque thief.now ≡ worker_deque caller.owner }
+    requires crew { IsCrew W.does (worker_deque caller.owner) caller helpers back }
+    requires parts { (worker_view caller.owner).parts + vec_len helpers ≡ 1024 }
+    requires back { back.items ≡ [] }
+    ensures { AllDone W.does (worker_view caller.owner).pushed result.items }
 {
-    let (owner, done, back) = crew(rt, work, thief, owner, done, helpers, back, 0);
-    let (owner, done) = take_in::<J, D, W>(owner, done, back);
-    let (_owner, done) = drain(rt, work, owner, done);
+    let (caller, back) = crew(rt, work, thief, caller, helpers, back);
+    let caller = take_in::<J, D, W>(caller, back);
+    let Caller { done, .. } = drain(rt, work, caller);
     done
 }
 
@@ -137,6 +125,7 @@ pub fn run<J: Drop + Send, D: Drop + Send, W: Work<J, D> + Sync, R: Threads + Wa
         return Err(jobs);
     };
     let owner = fill(owner, jobs);
-    let done = do_all(rt, work, &stealer, owner, done, helpers, back);
+    let caller = Caller { owner, done };
+    let done = do_all(rt, work, &stealer, caller, helpers, back);
     Ok(rack.list(done))
 }

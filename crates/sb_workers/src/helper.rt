@@ -1,10 +1,10 @@
 //! The helpers: threads that do jobs beside the calling one.
-ghost use Rattle.std.specs.Prelude.{◌≡◌, ◌+◌, ◌-◌, ◌<◌, ◌≤◌, true, [], length, IfOk, vec_len, vec_capacity};
-ghost use Rattle.crossbeam_deque.specs.Handles.{stealer_deque, worker_capacity, worker_deque, worker_flavor, worker_index, worker_view};
-ghost use Rattle.sb_workers.specs.Results.{AreDone};
+ghost use Rattle.std.specs.Prelude.{◌≡◌, ◌-◌, ◌<◌, ◌≤◌, true, [], IfOk, vec_len, vec_capacity};
+ghost use Rattle.crossbeam_deque.specs.Handles.{stealer_deque, worker_deque, worker_view};
 ghost use Rattle.sb_workers.specs.Rule.{known};
-ghost use Rattle.sb_workers.specs.Seats.{AreHelpers, IsHelper};
+ghost use Rattle.sb_workers.specs.Seats.{AreHelpers, HasMoreParts, IsCaller, IsHelper, SameEnd};
 
+use crate::caller::Caller;
 use crate::rule::{Looked, Owner, Part, Seat, Thief};
 use crate::turns::steal;
 use crate::work::{Placed, Work};
@@ -28,7 +28,7 @@ pub(crate) fn hire<J: Drop, D: Drop, W: Work<J, D>>(
 ) -> Result<(Owner<J>, Vec<Helper<J, D>>, Vec<Helper<J, D>>), AllocError>
     requires fresh { worker_view owner ≡ known 1024 true [] [] }
     requires few { count < 1024 }
-    ensures owner { IfOk result (λ r. (worker_view r.0 ≡ known (1024 - count) true [] []) × (worker_deque r.0 ≡ worker_deque owner) × (worker_flavor r.0 ≡ worker_flavor owner) × (worker_index r.0 ≡ worker_index owner) × (worker_capacity owner ≤ worker_capacity r.0)) }
+    ensures owner { IfOk result (λ r. (worker_view r.0 ≡ known (1024 - count) true [] []) × SameEnd owner r.0) }
     ensures helpers { IfOk result (λ r. AreHelpers W.does (worker_deque owner) r.1.items × (vec_len r.1 ≡ count)) }
     ensures back { IfOk result (λ r. (r.2.items ≡ []) × (count ≤ vec_capacity r.2)) }
 {
@@ -70,21 +70,20 @@ pub(crate) fn help<J: Drop, D: Drop, W: Work<J, D>, R: Wait>(
     Helper { alloc, seat, done }
 }
 
-/// The owner takes in what one helper has done.
+/// The calling thread takes in what one helper has done.
 fn take_one<J: Drop, D: Drop, W: Work<J, D>>(
-    owner: &mut Owner<J>,
-    done: &mut Vec<Placed<D>>,
+    caller: Caller<J, D>,
     helper: Helper<J, D>,
-)
-    requires owner { ((worker_view owner.old).owns ≡ true) × (0 < (worker_view owner.old).parts) }
-    requires done { AreDone W.does (worker_view owner.old).given done.old.items }
-    requires room { length (worker_view owner.old).pushed ≤ vec_capacity done.old }
-    requires helper { IsHelper W.does (worker_deque owner.old) helper }
-    ensures same { (worker_deque owner.new ≡ worker_deque owner.old) × (worker_flavor owner.new ≡ worker_flavor owner.old) }
-    ensures view { ((worker_view owner.new).parts ≡ (worker_view owner.old).parts + 1) × ((worker_view owner.new).owns ≡ true) × ((worker_view owner.new).pushed ≡ (worker_view owner.old).pushed) }
-    ensures done { AreDone W.does (worker_view owner.new).given done.new.items }
-    ensures room { length (worker_view owner.new).pushed ≤ vec_capacity done.new }
+) -> Caller<J, D>
+    requires caller { IsCaller W.does caller }
+    requires helper { IsHelper W.does (worker_deque caller.owner) helper }
+    ensures parts { HasMoreParts 1 caller.owner result.owner }
+    ensures caller { IsCaller W.does result }
 {
+    let Caller {
+        mut owner,
+        mut done,
+    } = caller;
     let Helper {
         seat,
         done: mut theirs,
@@ -95,25 +94,21 @@ fn take_one<J: Drop, D: Drop, W: Work<J, D>>(
     let Ok(()) = done.append(&mut theirs) else {
         unreachable!()
     };
+    Caller { owner, done }
 }
 
-/// The owner takes in what the helpers have done.
+/// The calling thread takes in what the helpers have done.
 pub(crate) fn take_in<J: Drop, D: Drop, W: Work<J, D>>(
-    mut owner: Owner<J>,
-    mut done: Vec<Placed<D>>,
+    mut caller: Caller<J, D>,
     mut helpers: Vec<Helper<J, D>>,
-) -> (Owner<J>, Vec<Placed<D>>)
-    requires owner { ((worker_view owner).owns ≡ true) × (0 < (worker_view owner).parts) }
-    requires done { AreDone W.does (worker_view owner).given done.items }
-    requires room { length (worker_view owner).pushed ≤ vec_capacity done }
-    requires helpers { AreHelpers W.does (worker_deque owner) helpers.items }
-    ensures same { (worker_deque result.0 ≡ worker_deque owner) × (worker_flavor result.0 ≡ worker_flavor owner) }
-    ensures view { ((worker_view result.0).parts ≡ (worker_view owner).parts + vec_len helpers) × ((worker_view result.0).owns ≡ true) × ((worker_view result.0).pushed ≡ (worker_view owner).pushed) }
-    ensures done { AreDone W.does (worker_view result.0).given result.1.items }
-    ensures room { length (worker_view result.0).pushed ≤ vec_capacity result.1 }
+) -> Caller<J, D>
+    requires caller { IsCaller W.does caller }
+    requires helpers { AreHelpers W.does (worker_deque caller.owner) helpers.items }
+    ensures parts { HasMoreParts (vec_len helpers) caller.owner result.owner }
+    ensures caller { IsCaller W.does result }
 {
     while let Some(helper) = helpers.pop() {
-        take_one::<J, D, W>(&mut owner, &mut done, helper);
+        caller = take_one::<J, D, W>(caller, helper);
     }
-    (owner, done)
+    caller
 }

@@ -1,6 +1,7 @@
 //! Workers: jobs done by several threads, each of them once, with the results in the order of the jobs.
 #![tactic(auto)]
 
+mod caller;
 mod crew;
 mod helper;
 mod results;

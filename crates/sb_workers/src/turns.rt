@@ -1,34 +1,34 @@
 //! What the owner and a helper do with the deque.
-ghost use Rattle.std.specs.Prelude.{◌≡◌, ◌≤◌, length, vec_capacity};
 ghost use Rattle.crossbeam_deque.specs.Handles.{view, stealer_deque, worker_view};
 ghost use Rattle.sb_workers.specs.Results.{AreDone};
 ghost use Rattle.sb_workers.specs.Rule.{AllOut};
-ghost use Rattle.sb_workers.specs.Seats.{IsOwner, IsSeat, SameOwner};
+ghost use Rattle.sb_workers.specs.Seats.{IsCaller, IsSeat, SameOwner};
 
-use crate::rule::{Owner, Popped, Seat, Stolen, Thief};
+use crate::caller::Caller;
+use crate::rule::{Popped, Seat, Stolen, Thief};
 use crate::work::{Placed, Work, done_at};
 use crossbeam_deque::Steal;
 use std::sync::Wait;
 
-/// The owner does what it finds, until the deque is empty.
+/// The calling thread does what it finds, until the deque is empty.
 pub(crate) fn drain<J: Drop, D: Drop, W: Work<J, D>, R: Wait>(
     rt: &R,
     work: &W,
-    mut owner: Owner<J>,
-    mut done: Vec<Placed<D>>,
-) -> (Owner<J>, Vec<Placed<D>>)
-    requires owner { IsOwner owner }
-    requires done { AreDone W.does (worker_view owner).given done.items }
-    requires room { length (worker_view owner).pushed ≤ vec_capacity done }
-    ensures same { SameOwner owner result.0 }
-    ensures done { AreDone W.does (worker_view result.0).given result.1.items }
-    ensures room { length (worker_view owner).pushed ≤ vec_capacity result.1 }
-    ensures all { AllOut (worker_view result.0) }
+    caller: Caller<J, D>,
+) -> Caller<J, D>
+    requires { IsCaller W.does caller }
+    ensures same { SameOwner caller.owner result.owner }
+    ensures caller { IsCaller W.does result }
+    ensures all { AllOut (worker_view result.owner) }
 {
+    let Caller {
+        mut owner,
+        mut done,
+    } = caller;
     for _ in rt.forever() {
         match owner.pop_as::<Popped>() {
             Some(task) => done.push_reserved(done_at(rt, work, task)),
-            None => return (owner, done),
+            None => return Caller { owner, done },
         }
     }
     unreachable!()

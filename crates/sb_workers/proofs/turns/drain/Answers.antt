@@ -39,8 +39,18 @@ loop-preserved g c =
       );
       owner = i.owner;
       done = zip_grows (IsDone g.W.Work.does) v.given c.in-Some-pop_as.task (worker_view c.pop_as.new.self).given c.loop.done.items c.done_at.result c.push_reserved.new.self.items (ap (λ (h : Known _). h.given) r.0) c.push_reserved.ensures.items i.done c.done_at.ensures;
-      room = subst (λ n. length (worker_view c.args.owner).pushed ≤ n) (sym c.push_reserved.ensures.capacity) i.room;
+      room = subst (λ n. length (worker_view c.args.caller.owner).pushed ≤ n) (sym c.push_reserved.ensures.capacity) i.room;
     }
 
-pub returns-in-None-pop_as-clause-done : goal.returns-in-None-pop_as-clause-done
-returns-in-None-pop_as-clause-done g c = zip_same (IsDone g.W.Work.does) (worker_view c.loop.owner).given (worker_view c.pop_as.new.self).given c.loop.done.items (ap (λ (h : Known _). h.given) c.in-None-pop_as.ensures.rule.0) c.loop.invariant.done
+pub returns-in-None-pop_as-clause-caller : goal.returns-in-None-pop_as-clause-caller
+returns-in-None-pop_as-clause-caller g c =
+    let i = c.loop.invariant in
+    let e = c.in-None-pop_as.ensures.rule.0 in (
+      (
+        ap (λ (h : Known _). h.owns) e ∙ (i.same.3 ∙ i.owner.0),
+        subst (λ n. 0 < n) (sym (ap (λ (h : Known _). h.parts) e ∙ i.same.2)) i.owner.1,
+        c.in-None-pop_as.ensures.same.0.1 ∙ (i.same.1 ∙ i.owner.2),
+      ),
+      zip_same (IsDone g.W.Work.does) (worker_view c.loop.owner).given (worker_view c.pop_as.new.self).given c.loop.done.items (ap (λ (h : Known _). h.given) e) i.done,
+      subst (λ l. length l ≤ vec_capacity c.loop.done) (sym (ap (λ (h : Known _). h.pushed) e ∙ i.same.4)) i.room,
+    )
