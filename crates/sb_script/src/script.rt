@@ -97,7 +97,8 @@ impl Script {
 
     /// A command, if the host has its session.
     fn hosted<'a>(&self, addressed: Addressed<'a>) -> Result<Addressed<'a>, WireRefusal>
-        ensures ok { IfOk result (λ a. asked_by self.now.tenants (Some (addressed_seen addressed.entry)) ≡ Some (addressed_seen a)) }
+        ensures ok { let named = Some (addressed_seen addressed.entry) in
+            IfOk result (λ a. asked_by self.now.tenants named ≡ Some (addressed_seen a)) }
         ensures within { IfOk result (λ a. (a.tenant < self.now.tenants) × (a.session < 8)) }
         ensures err { IfErr result (λ why. (asked_by self.now.tenants (Some (addressed_seen addressed.entry)) ≡ None)
             × IsBadBy self.now.tenants (Some (addressed_seen addressed.entry)) why) }

@@ -88,22 +88,27 @@ pub record Summarizes (lines : List Piece) (text : List ℕ) (s : Summary) : Typ
 
 -- ---- the summary's line
 
-abbrev of_command : Refusal → ℕ × List ℕ
+abbrev pub of_command : Refusal → ℕ × List ℕ
 of_command r = (refusal_number r, refusal_name r)
 
-abbrev of_wire : WireRefusal → ℕ × List ℕ
+abbrev pub of_wire : WireRefusal → ℕ × List ℕ
 of_wire r = (wire_number r, wire_name r)
 
--- each refusal by its number and its name
-abbrev pub refusals : List (ℕ × List ℕ)
-refusals =
-    of_command refusal.Syntax ∷ of_wire wire.TooLong ∷ of_wire wire.BadLine ∷ of_wire wire.NoTenant ∷ of_wire wire.NoSession
-    ∷ map of_command (refusal.NoTable ∷ refusal.TableExists ∷ refusal.NoColumn ∷ refusal.BadType ∷ refusal.Ambiguous ∷ refusal.WrongCount ∷ refusal.BadTransition
+-- the refusals of commands but Syntax, and those of lines that are told before them, in the order of their numbers
+abbrev pub of_commands : List Refusal
+of_commands =
+    refusal.NoTable ∷ refusal.TableExists ∷ refusal.NoColumn ∷ refusal.BadType ∷ refusal.Ambiguous ∷ refusal.WrongCount ∷ refusal.BadTransition
     ∷ refusal.Overflow ∷ refusal.TooBig ∷ refusal.TooManyRows
     ∷ refusal.Locked [] ∷ refusal.InTransaction ∷ refusal.NoTransaction ∷ refusal.Busy ∷ refusal.NotOpen ∷ refusal.AlreadyOpen
     ∷ refusal.NoRule ∷ refusal.RuleExists ∷ refusal.Cycle ∷ refusal.TooManyRules ∷ refusal.NoRuleset ∷ refusal.RulesetExists ∷ refusal.TooManyRulesets
-    ∷ refusal.TableInUse ∷ refusal.TooManyTables ∷ refusal.TrailFull ∷ refusal.NoMemory ∷ [])
-    ++ of_wire wire.NotBegun ∷ []
+    ∷ refusal.TableInUse ∷ refusal.TooManyTables ∷ refusal.TrailFull ∷ refusal.NoMemory ∷ []
+
+abbrev pub of_lines : List WireRefusal
+of_lines = wire.TooLong ∷ wire.BadLine ∷ wire.NoTenant ∷ wire.NoSession ∷ []
+
+-- each refusal by its number and its name, in the order of the numbers
+abbrev pub refusals : List (ℕ × List ℕ)
+refusals = of_command refusal.Syntax ∷ map of_wire of_lines ++ map of_command of_commands ++ of_wire wire.NotBegun ∷ []
 
 -- how often a refusal came, if it did
 abbrev pub count_part : ℕ → ℕ × List ℕ → List ℕ

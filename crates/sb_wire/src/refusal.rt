@@ -15,20 +15,28 @@ pub enum WireRefusal {
 }
 
 impl WireRefusal {
-    ghost use Rattle.sb_wire.specs.Seen.{refusal_line, wire_number};
+    ghost use Rattle.sb_wire.specs.Seen.{refusal_line, wire_number, wire_name};
+
+    /// Its number and its name in a reply.
+    pub(crate) fn number_and_name(&self) -> (u8, &'static str)
+        ensures number { result.0 ≡ wire_number self.now }
+        ensures name { result.1.now ≡ wire_name self.now }
+    {
+        match self {
+            WireRefusal::TooLong => (11, "TooLong"),
+            WireRefusal::BadLine => (12, "BadLine"),
+            WireRefusal::NoTenant => (13, "NoTenant"),
+            WireRefusal::NoSession => (14, "NoSession"),
+            WireRefusal::NoMemory => (91, "NoMemory"),
+            WireRefusal::NotBegun => (92, "NotBegun"),
+        }
+    }
 
     /// Its number in a reply.
     pub(crate) fn number(&self) -> u8
         ensures { result ≡ wire_number self.now }
     {
-        match self {
-            WireRefusal::TooLong => 11,
-            WireRefusal::BadLine => 12,
-            WireRefusal::NoTenant => 13,
-            WireRefusal::NoSession => 14,
-            WireRefusal::NoMemory => 91,
-            WireRefusal::NotBegun => 92,
-        }
+        self.number_and_name().0
     }
 
     /// The line that says it.

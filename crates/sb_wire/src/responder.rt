@@ -24,7 +24,8 @@ pub trait Responder<S, T> {
         second: &mut T,
     ) -> Result<(), AllocError>
         requires { over (first.old, second.old) ≡ false }
-        ensures { (text : List ℕ) × responds self.now (first.old, second.old) (piece_seen piece.entry) text (first.new, second.new)
+        ensures { (text : List ℕ)
+            × responds self.now (first.old, second.old) (piece_seen piece.entry) text (first.new, second.new)
             × OnOk result (out.new.items ≡ out.old.items ++ text)
             × OnErr result (out.new.items ≡ out.old.items) };
 

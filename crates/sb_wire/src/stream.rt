@@ -20,6 +20,13 @@ const PIECE_SIZE: usize = 65_536;
 /// The most reads of a stream.
 const MOST_READS: u64 = 1 << 32;
 
+/// What stands between two reads: the line that is open, and the replies that wait to be written.
+#[derive(Drop)]
+struct Pending {
+    lines: Lines,
+    out: Vec<u8>,
+}
+
 /// Answers each line of the input when it is complete, until the stream is over, and writes the
 /// replies before it reads on.
 pub fn answer_stream<S, T, A: Responder<S, T>, R: Source, W: Sink>(
@@ -40,17 +47,23 @@ pub fn answer_stream<S, T, A: Responder<S, T>, R: Source, W: Sink>(
     let Ok(mut buffer) = vec![in alloc; 0u8; PIECE_SIZE] else {
         return Err(StreamError::NoMemory);
     };
-    let mut lines = Lines::new();
-    let mut out = Vec::new(alloc);
+    let lines = Lines::new();
+    let out = Vec::new(alloc);
+    let mut pending = Pending { lines, out };
     for _read in 0..MOST_READS {
         let count = read_piece(reader, buffer.as_mut_slice())?;
         if count == 0 {
-            return answer_last(alloc, &lines, writer, responder, first, second, &mut out);
+            return answer_last(
+                &pending.lines,
+                writer,
+                responder,
+                first,
+                second,
+                &mut pending.out,
+            );
         }
         let bytes = &buffer.as_slice()[..count];
-        answer_bytes(
-            alloc, bytes, &mut lines, writer, responder, first, second, &mut out,
-        )?;
+        answer_bytes(bytes, &mut pending, writer, responder, first, second)?;
         if responder.is_over(first, second) {
             return Ok(());
         }
@@ -80,7 +93,6 @@ fn read_piece<R: Source>(reader: &mut R, buf: &mut [u8]) -> Result<usize, Stream
 
 /// Answers the line that stands open at the end.
 fn answer_last<S, T, A: Responder<S, T>, W: Sink>(
-    alloc: Global,
     lines: &Lines,
     writer: &mut W,
     responder: &A,
@@ -99,61 +111,58 @@ fn answer_last<S, T, A: Responder<S, T>, W: Sink>(
     let Some(piece) = lines.finish() else {
         return write_out(writer, out);
     };
-    answer_next(alloc, piece, writer, responder, first, second, out)?;
+    answer_next(piece, writer, responder, first, second, out)?;
     write_out(writer, out)
 }
 
 /// Answers the lines that these bytes complete, and writes the replies.
 fn answer_bytes<S, T, A: Responder<S, T>, W: Sink>(
-    alloc: Global,
     bytes: &[u8],
-    lines: &mut Lines,
+    pending: &mut Pending,
     writer: &mut W,
     responder: &A,
     first: &mut S,
     second: &mut T,
-    out: &mut Vec<u8>,
 ) -> Result<(), StreamError>
     requires { A.over (first.old, second.old) ≡ false }
     ensures takes { (left : List ℕ)
-        × (t : AnswersBytes (A.responds responder.now) A.over (first.old, second.old) (W.contents writer.old) out.old.items
-        lines.old bytes.now (first.new, second.new) (W.contents writer.new) left)
-        × OnOk result ((left ≡ []) × (out.new.items ≡ [])
-        × (A.over (first.new, second.new) ≡ false → (t.ahead ≡ []) × (t.opened ≡ lines.new))) }
+        × (t : AnswersBytes (A.responds responder.now) A.over (first.old, second.old) (W.contents writer.old)
+        pending.old.out.items pending.old.lines bytes.now (first.new, second.new) (W.contents writer.new) left)
+        × OnOk result ((left ≡ []) × (pending.new.out.items ≡ [])
+        × (A.over (first.new, second.new) ≡ false → (t.ahead ≡ []) × (t.opened ≡ pending.new.lines))) }
     ensures refused { OnWriteFault result (MayFail W.refuses W.contents writer.new) }
     ensures reads { IfErr result (λ e. e ≢ StreamError.ReadFault) }
 {
-    answer_lines(alloc, bytes, lines, writer, responder, first, second, out)?;
-    write_out(writer, out)
+    answer_lines(bytes, pending, writer, responder, first, second)?;
+    write_out(writer, &mut pending.out)
 }
 
 /// Answers the lines that these bytes complete, until the stream is over.
 fn answer_lines<S, T, A: Responder<S, T>, W: Sink>(
-    alloc: Global,
     bytes: &[u8],
-    lines: &mut Lines,
+    pending: &mut Pending,
     writer: &mut W,
     responder: &A,
     first: &mut S,
     second: &mut T,
-    out: &mut Vec<u8>,
 ) -> Result<(), StreamError>
     requires { A.over (first.old, second.old) ≡ false }
     ensures takes { (left : List ℕ)
-        × (t : AnswersBytes (A.responds responder.now) A.over (first.old, second.old) (W.contents writer.old) out.old.items
-        lines.old bytes.now (first.new, second.new) (W.contents writer.new) left)
-        × OnOk result ((left ≡ out.new.items)
-        × (A.over (first.new, second.new) ≡ false → (t.ahead ≡ []) × (t.opened ≡ lines.new))) }
+        × (t : AnswersBytes (A.responds responder.now) A.over (first.old, second.old) (W.contents writer.old)
+        pending.old.out.items pending.old.lines bytes.now (first.new, second.new) (W.contents writer.new) left)
+        × OnOk result ((left ≡ pending.new.out.items)
+        × (A.over (first.new, second.new) ≡ false → (t.ahead ≡ []) × (t.opened ≡ pending.new.lines))) }
     ensures refused { OnWriteFault result (MayFail W.refuses W.contents writer.new) }
     ensures reads { IfErr result (λ e. e ≢ StreamError.ReadFault) }
 {
     let mut rest = bytes;
-    while let Some(behind) = lines.feed(rest) {
-        answer_next(alloc, lines.line(), writer, responder, first, second, out)?;
+    while let Some(behind) = pending.lines.feed(rest) {
+        let line = pending.lines.line();
+        answer_next(line, writer, responder, first, second, &mut pending.out)?;
         if responder.is_over(first, second) {
             return Ok(());
         }
-        lines.clear();
+        pending.lines.clear();
         rest = behind;
     }
     Ok(())
@@ -161,7 +170,6 @@ fn answer_lines<S, T, A: Responder<S, T>, W: Sink>(
 
 /// Answers a line, and writes the replies so far where they are many.
 fn answer_next<S, T, A: Responder<S, T>, W: Sink>(
-    alloc: Global,
     piece: Piece<'_>,
     writer: &mut W,
     responder: &A,
@@ -177,7 +185,7 @@ fn answer_next<S, T, A: Responder<S, T>, W: Sink>(
     ensures refused { OnWriteFault result (MayFail W.refuses W.contents writer.new) }
     ensures reads { IfErr result (λ e. e ≢ StreamError.ReadFault) }
 {
-    match responder.respond(alloc, piece, out, first, second) {
+    match responder.respond(*out.allocator(), piece, out, first, second) {
         Err(_) => {
             // the replies before are written all the same
             write_out(writer, out)?;

@@ -1,47 +1,12 @@
 //! The line that tells a summary.
 ghost use Rattle.std.specs.Prelude.{◌≡◌, ◌++◌, length, map, OnOk};
-ghost use Rattle.sb_wire.specs.Counts.{count_part, count_parts, summary_line, totals_line};
+ghost use Rattle.sb_wire.specs.Counts.{count_part, count_parts, of_command, of_wire, refusals, summary_line, totals_line};
 
+use crate::refusal::WireRefusal;
 use crate::summary::Summary;
 use crate::words::{push_labelled, push_word};
+use sb_value::{Name, Refusal};
 use std::alloc::AllocError;
-
-/// Each refusal's number and name.
-const REFUSALS: [(u8, &str); 33] = [
-    (10, "Syntax"),
-    (11, "TooLong"),
-    (12, "BadLine"),
-    (13, "NoTenant"),
-    (14, "NoSession"),
-    (20, "NoTable"),
-    (21, "TableExists"),
-    (22, "NoColumn"),
-    (23, "BadType"),
-    (24, "Ambiguous"),
-    (25, "WrongCount"),
-    (26, "BadTransition"),
-    (30, "Overflow"),
-    (31, "TooBig"),
-    (32, "TooManyRows"),
-    (40, "Locked"),
-    (41, "InTransaction"),
-    (42, "NoTransaction"),
-    (43, "Busy"),
-    (44, "NotOpen"),
-    (45, "AlreadyOpen"),
-    (50, "NoRule"),
-    (51, "RuleExists"),
-    (52, "Cycle"),
-    (53, "TooManyRules"),
-    (54, "NoRuleset"),
-    (55, "RulesetExists"),
-    (56, "TooManyRulesets"),
-    (57, "TableInUse"),
-    (58, "TooManyTables"),
-    (90, "TrailFull"),
-    (91, "NoMemory"),
-    (92, "NotBegun"),
-];
 
 /// Adds the line of a summary.
 pub fn write_summary(out: &mut Vec<u8>, summary: &Summary) -> Result<(), AllocError>
@@ -49,7 +14,7 @@ pub fn write_summary(out: &mut Vec<u8>, summary: &Summary) -> Result<(), AllocEr
 {
     push_labelled(out, b"lines ", summary.lines)?;
     push_labelled(out, b", steps ", summary.steps)?;
-    push_counts(out, &summary.refused, &REFUSALS)?;
+    push_refusals(out, &summary.refused)?;
     out.push(b'\n')?;
     Ok(())
 }
@@ -64,14 +29,81 @@ pub fn write_totals(out: &mut Vec<u8>, trails: u64, steps: u64) -> Result<(), Al
     Ok(())
 }
 
-/// The refusals that came.
-fn push_counts(out: &mut Vec<u8>, counts: &[u64], refusals: &[(u8, &str)]) -> Result<(), AllocError>
+/// The refusals that came, in the order of their numbers.
+fn push_refusals(out: &mut Vec<u8>, counts: &[u64]) -> Result<(), AllocError>
+    requires { length counts.now ≡ 256 }
+    ensures { OnOk result (out.new.items ≡ out.old.items ++ count_parts counts.now refusals) }
+{
+    push_commands(out, counts, &[Refusal::Syntax])?;
+    push_lines(
+        out,
+        counts,
+        &[
+            WireRefusal::TooLong,
+            WireRefusal::BadLine,
+            WireRefusal::NoTenant,
+            WireRefusal::NoSession,
+        ],
+    )?;
+    push_commands(
+        out,
+        counts,
+        &[
+            Refusal::NoTable,
+            Refusal::TableExists,
+            Refusal::NoColumn,
+            Refusal::BadType,
+            Refusal::Ambiguous,
+            Refusal::WrongCount,
+            Refusal::BadTransition,
+            Refusal::Overflow,
+            Refusal::TooBig,
+            Refusal::TooManyRows,
+            Refusal::Locked(Name::new(b"t")),
+            Refusal::InTransaction,
+            Refusal::NoTransaction,
+            Refusal::Busy,
+            Refusal::NotOpen,
+            Refusal::AlreadyOpen,
+            Refusal::NoRule,
+            Refusal::RuleExists,
+            Refusal::Cycle,
+            Refusal::TooManyRules,
+            Refusal::NoRuleset,
+            Refusal::RulesetExists,
+            Refusal::TooManyRulesets,
+            Refusal::TableInUse,
+            Refusal::TooManyTables,
+            Refusal::TrailFull,
+            Refusal::NoMemory,
+        ],
+    )?;
+    push_lines(out, counts, &[WireRefusal::NotBegun])?;
+    Ok(())
+}
+
+/// The refusals of commands that came.
+fn push_commands(out: &mut Vec<u8>, counts: &[u64], refusals: &[Refusal]) -> Result<(), AllocError>
     requires { length counts.now ≡ 256 }
     ensures { OnOk result (out.new.items ≡
-        out.old.items ++ count_parts counts.now (map (λ r. (r.0, r.1.now)) refusals.now)) }
+        out.old.items ++ count_parts counts.now (map of_command refusals.now)) }
 {
-    for (number, name) in refusals {
-        push_count_of(out, counts[usize::from(*number)], *number, name)?;
+    for refusal in refusals {
+        let (number, name) = refusal.number_and_name();
+        push_count_of(out, counts[usize::from(number)], number, name)?;
+    }
+    Ok(())
+}
+
+/// The refusals of lines that came.
+fn push_lines(out: &mut Vec<u8>, counts: &[u64], refusals: &[WireRefusal]) -> Result<(), AllocError>
+    requires { length counts.now ≡ 256 }
+    ensures { OnOk result (out.new.items ≡
+        out.old.items ++ count_parts counts.now (map of_wire refusals.now)) }
+{
+    for refusal in refusals {
+        let (number, name) = refusal.number_and_name();
+        push_count_of(out, counts[usize::from(number)], number, name)?;
     }
     Ok(())
 }

@@ -18,7 +18,7 @@ returns-clause-takes g c =
     let h2 = g.W.Write.contents c.write_out.new.writer in
     let old : g.row.S.Denot × g.row.T.Denot = (c.args.first.now, c.args.second.now) in
     let new : g.row.S.Denot × g.row.T.Denot = (c.answer_lines.new.first, c.answer_lines.new.second) in
-    let out = c.args.out.now.items in (
+    let out = c.args.pending.now.out.items in (
       w.1,
       record {
         taken = t.taken;

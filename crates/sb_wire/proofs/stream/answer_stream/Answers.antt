@@ -59,7 +59,7 @@ loop-read-preserved g c =
     let few : length bytes ≤ 65536 = omega (arith, c.in_ok-count.ensures.bound.0, full, so.5, whole) in
     let some : 1 ≤ length bytes = omega arith in (
       so.0 ++ bytes,
-      reading-more by over old was new i0 i1 i2 h0 h1 h2 so.0 c.loop-read.out.items c.loop-read.lines so.1 so.4 told.0 bytes reads told.1 c.answer_bytes.new.lines (told.2.2 going).0 (told.2.2 going).1 told.2.0,
+      reading-more by over old was new i0 i1 i2 h0 h1 h2 so.0 c.loop-read.pending.out.items c.loop-read.pending.lines so.1 so.4 told.0 bytes reads told.1 c.answer_bytes.new.pending.lines (told.2.2 going).0 (told.2.2 going).1 told.2.0,
       simp length-append (omega arith),
       simp length-append (omega (arith, so.3, few)),
       told.2.1,
@@ -102,7 +102,7 @@ returns-then-count-eq0-clause-goes g c =
     let none : Consumes i1 i2 [] = subst (λ (n : ℕ). Consumes i1 i2 (take n c.read_piece.new.buf)) c.if-count-eq0.true read.0 in
     let room : 0 < length c.read_piece.new.buf = omega arith in
     let last = c.answer_last.ensures.replies in
-    let s = reading-last by over old was new i0 i1 i2 h0 h1 h2 so.0 c.loop-read.out.items c.loop-read.lines so.1 so.4 last.0 (omega arith) none last.1 in (
+    let s = reading-last by over old was new i0 i1 i2 h0 h1 h2 so.0 c.loop-read.pending.out.items c.loop-read.pending.lines so.1 so.4 last.0 (omega arith) none last.1 in (
       s.0,
       stops-last g.R.Source.fails g.R.Read.remaining c.read_piece.new.reader (over new) s.0.seen s.0.pieces s.0.left c.answer_last.result (read.1 c.if-count-eq0.true room) s.2 (on_ok c.answer_last.result (λ e. s.1 ∙ e) last.2) c.answer_last.ensures.reads,
     )
@@ -130,7 +130,7 @@ returns-in_err-answer_bytes-clause-goes g c =
     let whole : count ≡ length bytes = subst (λ (t : List ℕ). count ≡ length (take count t)) same c.in_ok-count.ensures.bound.1 in
     let few : length bytes ≤ 65536 = omega (arith, c.in_ok-count.ensures.bound.0, full, so.5, whole) in
     let told = c.in_err-answer_bytes.ensures.takes in
-    let s = reading-stopped by over old was new i0 i1 i2 h0 h1 h2 so.0 c.loop-read.out.items c.loop-read.lines so.1 so.4 told.0 bytes reads told.1 (simp length-append (omega (arith, so.3, few))) in
+    let s = reading-stopped by over old was new i0 i1 i2 h0 h1 h2 so.0 c.loop-read.pending.out.items c.loop-read.pending.lines so.1 so.4 told.0 bytes reads told.1 (simp length-append (omega (arith, so.3, few))) in
     let p = err_from_is_err_and c.from_residual-in_err-answer_bytes.result c.from_residual-in_err-answer_bytes.ensures.1 in
     (s.0, rw (p.1, p.2) (stops-early g.R.Source.fails g.R.Read.remaining c.read_piece.new.reader (over new) s.0.seen s.0.pieces s.0.left _ c.in_err-answer_bytes.ensures.reads s.2))
 
@@ -157,7 +157,7 @@ returns-then-is_over-clause-goes g c =
     let whole : count ≡ length bytes = subst (λ (t : List ℕ). count ≡ length (take count t)) same c.in_ok-count.ensures.bound.1 in
     let few : length bytes ≤ 65536 = omega (arith, c.in_ok-count.ensures.bound.0, full, so.5, whole) in
     let told = c.in_ok-answer_bytes.ensures.takes in
-    let s = reading-stopped by over old was new i0 i1 i2 h0 h1 h2 so.0 c.loop-read.out.items c.loop-read.lines so.1 so.4 told.0 bytes reads told.1 (simp length-append (omega (arith, so.3, few))) in
+    let s = reading-stopped by over old was new i0 i1 i2 h0 h1 h2 so.0 c.loop-read.pending.out.items c.loop-read.pending.lines so.1 so.4 told.0 bytes reads told.1 (simp length-append (omega (arith, so.3, few))) in
     (s.0, (s.1 ∙ told.2.0, inl (sym c.is_over.ensures ∙ c.if-is_over.true, s.2)))
 
 -- too many reads

@@ -16,5 +16,5 @@ parts s old one two three four e1 e2 e3 e4 =
 
 pub returns : goal.returns
 returns c =
-    parts c.args.summary.now c.args.out.now.items c.push_labelled.new.out.items c.push_labelled-2.new.out.items c.push_counts.new.out.items c.push.new.self.items
-    c.in_ok-push_labelled.ensures c.in_ok-push_labelled-2.ensures c.in_ok-push_counts.ensures c.in_ok-push.ensures.items
+    parts c.args.summary.now c.args.out.now.items c.push_labelled.new.out.items c.push_labelled-2.new.out.items c.push_refusals.new.out.items c.push.new.self.items
+    c.in_ok-push_labelled.ensures c.in_ok-push_labelled-2.ensures c.in_ok-push_refusals.ensures c.in_ok-push.ensures.items
