@@ -13,7 +13,7 @@ ghost use Rattle.sb_options.specs.declared.request.Hosting.{Hosting as ItsHostin
 ghost use Rattle.sb_options.specs.declared.request.Request.TheVariants as request;
 ghost use Rattle.sb_options.specs.declared.request.Run.{Run as ItsRun};
 ghost use Rattle.sb_options.specs.declared.request.Serving.{Serving as ItsServing};
-ghost use Rattle.sb_options.specs.Within.{AreRun, IsWithin};
+ghost use Rattle.sb_options.specs.Within.{AreRun};
 ghost use Rattle.sb_options.specs.Words.{AskFor, AskForHelp, AskForVersion, HasFault, HaveUnfit};
 ghost use Rattle.sb_options.specs.declared.unfit.Unfit.{Unfit as ItsUnfit};
 ghost use Rattle.sb_command.specs.Refusals.{refusal_text};
@@ -52,14 +52,16 @@ pub fn command<
     // and words that ask for a server its port and its trails
     ensures serves { (s : ItsServing) → AskFor (map S.text words.now) (request.Serve s)
         → result ≡ 0 → (text : List ℕ)
-        × Appends (W.contents writer.old) (W.contents writer.new) text × TellsServer s.hosting.run.bound s.hosting.run.tenants text }
+        × Appends (W.contents writer.old) (W.contents writer.new) text
+        × TellsServer s.hosting.run.bound s.hosting.run.tenants text }
     // and words that ask for a replay what the sessions of the input were answered
     ensures replays { (h : ItsHosting) → AskFor (map S.text words.now) (request.Replay h)
         → result ≡ 0 → IfSome (R.remaining reader.old) (λ input. (text : List ℕ)
         × Appends (W.contents writer.old) (W.contents writer.new) text
         × Replays h.run.tenants h.run.bound input text) }
-    // whatever the status: of a run how its stream went; of a server or a replay the fault that it ended with; help and the
-    // version, as they are asked for; words with a fault; the first part that isn't allowed, by its line; and want of memory
+    // whatever the status: of a run how its stream went; of a server or a replay the fault that it ended with; help and
+    // the version, as they are asked for; words with a fault; the first part that isn't allowed, by its line; and want of
+    // memory
     ensures asked { ((r : ItsRun) × AskFor (map S.text words.now) (request.Run r)
         × (ended : _) × (summary : _) × (result ≡ status_of ended)
         × GoesFresh R.fails R.remaining W.refuses W.contents r.tenants r.bound reader.old reader.new

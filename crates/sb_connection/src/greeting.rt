@@ -5,8 +5,9 @@ ghost use Rattle.sb_wire.specs.Seen.{piece_seen, refusal_line};
 ghost use Rattle.sb_connection.specs.Conversation.{attach_lines, named_of};
 ghost use Rattle.sb_connection.specs.Responding.{Greets, GreetsNamed};
 
+use crate::talking::Talk;
 use crate::watch::{Event, Watch};
-use sb_host::{AttachError, Host, Naming, Session};
+use sb_host::{AttachError, Naming, Session};
 use sb_tenant::Reply;
 use sb_value::Refusal;
 use sb_wire::{
@@ -46,25 +47,23 @@ pub(crate) fn tenant_named(piece: Piece<'_>) -> u32 {
 
 /// Opens the session that a first line names, or turns the connection away.
 pub(crate) fn greet<'h, T: Wait, N: Naming, V: Watch>(
-    rt: &T,
+    talk: &Talk<'_, 'h, T, N, V>,
     alloc: Global,
-    host: &'h Host<N>,
-    watch: &V,
     piece: Piece<'_>,
     out: &mut Vec<u8>,
     session: &mut Option<Session<'h, N>>,
     away: &mut bool,
 ) -> Result<(), AllocError>
     requires { session.old ≡ None }
-    ensures { (text : List ℕ) × Greets host.now (piece_seen piece.entry) text session.new away.new
+    ensures { (text : List ℕ) × Greets talk.now.host.now (piece_seen piece.entry) text session.new away.new
         × OnOk result (out.new.items ≡ out.old.items ++ text)
         × OnErr result (out.new.items ≡ out.old.items) }
 {
     match piece {
-        Piece::TooLong => turn_away(watch, out, away, WireRefusal::TooLong),
+        Piece::TooLong => turn_away(talk.watch, out, away, WireRefusal::TooLong),
         Piece::Line(line) => match Named::split(line) {
-            Some(named) => open(rt, alloc, host, watch, named, out, session, away),
-            None => turn_away(watch, out, away, WireRefusal::BadLine),
+            Some(named) => open(talk, alloc, named, out, session, away),
+            None => turn_away(talk.watch, out, away, WireRefusal::BadLine),
         },
     }
 }
@@ -87,28 +86,29 @@ fn turn_away<V: Watch>(
 
 /// Opens this session, or turns the connection away.
 fn open<'h, T: Wait, N: Naming, V: Watch>(
-    rt: &T,
+    talk: &Talk<'_, 'h, T, N, V>,
     alloc: Global,
-    host: &'h Host<N>,
-    watch: &V,
     named: Named,
     out: &mut Vec<u8>,
     session: &mut Option<Session<'h, N>>,
     away: &mut bool,
 ) -> Result<(), AllocError>
     requires { session.old ≡ None }
-    ensures { (text : List ℕ) × GreetsNamed host.now named text session.new away.new
+    ensures { (text : List ℕ) × GreetsNamed talk.now.host.now named text session.new away.new
         × OnOk result (out.new.items ≡ out.old.items ++ text)
         × OnErr result (out.new.items ≡ out.old.items) }
 {
-    match host.attach(rt, alloc, named.tenant, named.session) {
+    match talk
+        .host
+        .attach(talk.rt, alloc, named.tenant, named.session)
+    {
         Ok(opened) => {
-            watch.see(Event::Attached(named));
+            talk.watch.see(Event::Attached(named));
             *session = Some(opened);
             write_bare_reply(out, &Reply::Ok)
         }
         Err(error) => {
-            watch.see(Event::TurnedAway { named, why: error });
+            talk.watch.see(Event::TurnedAway { named, why: error });
             *away = true;
             refuse(out, error)
         }

@@ -1,4 +1,5 @@
-//! A connection to a host: its first line names a session, each further line is a call of it, and it is closed at the end.
+//! A connection to a host: its first line names a session, each further line is a call of it, and it is closed at the
+//! end.
 #![tactic(auto)]
 
 mod connection;

@@ -1,5 +1,5 @@
 //! The lines of a connection, one at a time.
-ghost use Rattle.std.specs.Prelude.{◌≡◌, ◌++◌, List, ℕ, false, OnOk, OnErr};
+ghost use Rattle.std.specs.Prelude.{◌≡◌, ◌++◌, false, OnOk, OnErr};
 ghost use Rattle.sb_wire.specs.Seen.{piece_seen};
 ghost use Rattle.sb_connection.specs.Exchanges.{Exchange, line_in, said_text};
 ghost use Rattle.sb_connection.specs.Responding.{Exchanges};
@@ -37,9 +37,7 @@ impl<'r, 'h, T: Wait, N: Naming, V: Watch> Responder<Option<Session<'h, N>>, boo
     ) -> Result<(), AllocError> {
         match first {
             Some(session) => exchange(self.rt, alloc, piece, out, session),
-            None => greet(
-                self.rt, alloc, self.host, self.watch, piece, out, first, second,
-            ),
+            None => greet(self, alloc, piece, out, first, second),
         }
     }
 

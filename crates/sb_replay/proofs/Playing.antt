@@ -10,7 +10,7 @@ use Rattle.sb_tenant.specs.declared.reply.Answer.{Answer}
 use Rattle.sb_desk.specs.declared.desk.CallError.{CallError}
 use Rattle.sb_desk.specs.Receipts.{newcomer}
 use Rattle.sb_host.specs.Calls.{Calls, Session, shown}
-use Rattle.sb_pool.specs.Pool.{CallsOnce}
+use Rattle.sb_pool.specs.Pool.{CallsOnce, IsDone}
 use Rattle.sb_pool.specs.declared.pool.Job.{Job}
 use Rattle.sb_pool.specs.declared.pool.Done.{Done}
 use Rattle.sb_replay.specs.Lists.{AllCut}
@@ -33,9 +33,6 @@ told_by old session after line (Ok u) new (answer, calls) tells =
 told_by old session after line (Err e) new calls tells = (Err e, calls, tells)
 
 module _ {N : Type 0} where
-  abbrev pub IsDone : Job N → Done N → Type 0
-  IsDone job done = (done.line ≡ job.line) × CallsOnce job.session job.line.items done.result done.session
-
   stays : (session : Option Session) (left : List (List ℕ)) (old new : Part N) → Rests session left → new ≡ old → MovesBy session left old new
   stays None left old new rests same = same
   stays (Some s) [] old new rests same = same

@@ -4,3 +4,4 @@ pub mod Sheets
 pub mod Parts
 pub mod Replay
 pub mod Alone
+pub mod Fields

@@ -1,5 +1,5 @@
 -- Promise: what a replay writes, and why it fails.
-use Rattle.std.specs.Prelude.{◌≡◌, ◌⊎◌, ⊤, ◌+◌, ◌*◌, ◌<◌, ◌≤◌, ℕ, true, List, [], ◌∷◌, ◌++◌, get_or, length, flat_map, Option, IfSome, Ok, Err, Vec}
+use Rattle.std.specs.Prelude.{◌≡◌, ◌⊎◌, ⊤, ◌+◌, ◌*◌, ◌<◌, ◌≤◌, ℕ, true, List, [], ◌++◌, get_or, length, flat_map, Option, IfSome, Ok, Err, Vec}
 use Rattle.std.specs.Global.{Global}
 use Rattle.std.specs.List.{All, Contains}
 use Rattle.std.specs.Io.KnownBytes.{Appends, Consumes, Keeps}
@@ -53,6 +53,10 @@ pub record Replays (tenants bound : ℕ) (input text : List ℕ) : Type 0 where
 -- a session that was told of a full trail has one
 abbrev pub IsFullBy : List (Vec Entry Global) → Sheet → Type 0
 IsFullBy trails sheet = sheet.is_full ≡ true → trail_limit ≤ length (row_at trails sheet.tenant)
+
+-- it was told so, and the trail denies it
+abbrev pub IsDenied : List (Vec Entry Global) → Sheet → Type 0
+IsDenied trails sheet = (sheet.is_full ≡ true) × (length (row_at trails sheet.tenant) < trail_limit)
 
 -- trails with which all stubs agree, and this is the text
 pub record Reports (tenants bound : ℕ) (stubs : List Stub) (sheets : List Sheet) (text : List ℕ) : Type 0 where

@@ -1,9 +1,9 @@
 //! The host is finished, and the text of the replay made.
-ghost use Rattle.std.specs.Prelude.{◌≡◌, ◌++◌, ◌<◌, nat_le, true, MatchBool, IfErr, IfOk, OnOk, length};
+ghost use Rattle.std.specs.Prelude.{◌≡◌, ◌++◌, nat_le, MatchBool, IfErr, IfOk, OnOk, length};
 ghost use Rattle.std.specs.List.{All};
 ghost use Rattle.sb_tenant.specs.Limits.{trail_limit};
 ghost use Rattle.sb_host.specs.Finish.{row_at};
-ghost use Rattle.sb_replay.specs.Replay.{DeniesOne, IsFullBy, IsUnfinished, Reports, replay_text};
+ghost use Rattle.sb_replay.specs.Replay.{DeniesOne, IsDenied, IsFullBy, IsUnfinished, Reports, replay_text};
 ghost use Rattle.sb_replay.specs.Sheets.{texts_of};
 
 use crate::closing::Closed;
@@ -27,7 +27,7 @@ fn has_full_trail(trails: &[Vec<Entry>], tenant: u32) -> bool
 
 /// Whether a session was told of a full trail where the trail isn't.
 fn denies(trails: &[Vec<Entry>], sheet: &Sheet) -> bool
-    ensures { MatchBool result ((sheet.now.is_full ≡ true) × (length (row_at trails.now sheet.now.tenant) < trail_limit)) (IsFullBy trails.now sheet.now) }
+    ensures { MatchBool result (IsDenied trails.now sheet.now) (IsFullBy trails.now sheet.now) }
 {
     if !sheet.is_full() {
         return false;

@@ -3,7 +3,8 @@ ghost use Rattle.std.specs.Prelude.{ℕ, List};
 ghost use Rattle.sb_replay.specs.Alone.{TellsAsAlone};
 ghost use Rattle.sb_replay.specs.Replay.{Replays};
 
-/// In a replay a session that has its tenant for itself is told what it would be told alone, so the same on any number of cells and workers.
+/// In a replay a session that has its tenant for itself is told what it would be told alone, so the same on any number
+/// of cells and workers.
 pub fn replays_tell_as_alone()
     ensures { (tenants bound : ℕ) (input text : List ℕ) (r : Replays tenants bound input text) → TellsAsAlone r }
 {}

@@ -15,8 +15,8 @@ use std::alloc::Global;
 use std::sync::Wait;
 use std::thread::Threads;
 
-/// Replays an input: reads it to its end, opens each session that it names, calls all sessions round by round with their
-/// commands on so many threads, closes them, finishes the host, and only then writes what they were answered.
+/// Replays an input: reads it to its end, opens each session that it names, calls all sessions round by round with
+/// their commands on so many threads, closes them, finishes the host, and only then writes what they were answered.
 pub fn replay<R: Source, W: Sink, N: Naming + Send + Sync, T: Threads + Wait + Sync>(
     rt: &T,
     alloc: Global,
@@ -28,7 +28,8 @@ pub fn replay<R: Source, W: Sink, N: Naming + Send + Sync, T: Threads + Wait + S
     requires workers { (0 < workers) × (workers ≤ 16) }
     ensures ok { OnOk result (IfSome (R.remaining reader.old) (λ input. (text : List ℕ)
         × Appends (W.contents writer.old) (W.contents writer.new) text × Replays host N.bound input text)) }
-    ensures err { IfErr result (λ e. Fails R.fails R.remaining W.refuses W.contents host N.bound reader.old reader.new writer.old writer.new e) }
+    ensures err { let fails = Fails R.fails R.remaining W.refuses W.contents host N.bound in
+        IfErr result (λ e. fails reader.old reader.new writer.old writer.new e) }
 {
     let rows = match read_script(alloc, reader, host.tenants()) {
         Ok(rows) => rows,

@@ -98,7 +98,8 @@ fn gather_one<'h, N: Naming>(
     parts: &mut Vec<Part<'h, N>>,
 ) -> Result<(), AllocError>
     requires { calls_of waiting ≤ length (into_iter_items done.old) }
-    ensures { OnOk result (GathersOne waiting.entry (into_iter_items done.old) parts.old.items (into_iter_items done.new) parts.new.items) }
+    ensures { let had = into_iter_items done.old in let left = into_iter_items done.new in
+        OnOk result (GathersOne waiting.entry had parts.old.items left parts.new.items) }
 {
     match waiting {
         Waiting::Called(sheet) => match done.next() {

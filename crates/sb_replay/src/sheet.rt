@@ -1,5 +1,5 @@
 //! What a session is called with, and what it was answered.
-ghost use Rattle.std.specs.Prelude.{◌≡◌, ◌++◌, ◌||◌, IfOk, OnOk};
+ghost use Rattle.std.specs.Prelude.{◌≡◌, ◌||◌, IfOk, OnOk};
 ghost use Rattle.sb_replay.specs.Sheets.{Gives, Tells, TellsGiven, TellsText, fresh, lines_of};
 
 use sb_host::{CallError, Naming, Session};
@@ -21,12 +21,12 @@ pub(crate) struct Sheet {
 }
 
 impl Model for Sheet {
-    ghost use Rattle.std.specs.Vec.Iter.{into_iter_items};
-    ghost use Rattle.sb_replay.specs.Sheets.{Sheet, lines_of};
+    ghost use Rattle.sb_replay.specs.Fields.{seen};
+    ghost use Rattle.sb_replay.specs.Sheets.{Sheet};
 
     ghost Value = { Sheet };
 
-    ghost view = { λ s. record { tenant = s.tenant; number = s.number; left = lines_of (into_iter_items s.commands); text = s.text.items; is_full = s.is_full } };
+    ghost view = { seen };
 }
 
 impl Sheet {
@@ -55,7 +55,8 @@ impl Sheet {
         self.commands.next()
     }
 
-    /// Adds what the newest call of its session was answered. One without a number is no entry, since the trail is full.
+    /// Adds what the newest call of its session was answered. One without a number is no entry, since the trail is
+    /// full.
     pub(crate) fn tell<N: Naming>(
         &mut self,
         session: &Session<'_, N>,

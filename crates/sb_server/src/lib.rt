@@ -8,4 +8,4 @@ mod told;
 mod visit;
 mod worker;
 
-pub use server::{ServeError, Terms, serve_all};
+pub use server::{Acceptor, ServeError, Terms, serve_all};

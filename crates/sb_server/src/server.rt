@@ -26,12 +26,22 @@ const PIECE: usize = 65_536;
 /// How long a server serves, and whom.
 #[derive(Clone, Copy, Debug)]
 pub struct Terms {
+    /// On how many threads.
+    pub workers: usize,
     /// How many connections, or 0, which is without end.
     pub connections: u64,
     /// A connection is closed that has sent nothing for so long.
     pub idle: Option<Duration>,
     /// It stops where the program's input ends.
     pub until_input_ends: bool,
+}
+
+/// Where connections are taken, who is told of them, and by which terms they are served.
+#[derive(Drop)]
+pub struct Acceptor<'s, V> {
+    pub listener: &'s TcpListener,
+    pub watch: &'s V,
+    pub terms: Terms,
 }
 
 /// Why nothing was served.
@@ -87,34 +97,33 @@ impl<'s, N: Naming, V: Watch, C: Clock> Work<Seat, Vec<Stub>> for Serving<'s, N,
     }
 }
 
-/// Serves connections by these terms, on so many threads, and leaves the receipts of all sessions.
+/// Serves the connections that are taken, and leaves the receipts of all sessions.
 pub fn serve_all<N: Naming + Send + Sync, V: Watch + Sync, R: Threads + Wait + Net + Clock + Sync>(
     rt: &R,
     alloc: Global,
-    listener: &TcpListener,
+    acceptor: &Acceptor<'_, V>,
     host: &Host<N>,
-    watch: &V,
-    workers: usize,
-    terms: Terms,
 ) -> Result<Vec<Stub>, ServeError>
-    requires workers { (0 < workers) × (workers ≤ 16) }
+    requires workers { (0 < acceptor.now.terms.workers) × (acceptor.now.terms.workers ≤ 16) }
     ensures { IfOk result (λ stubs. All LeavesClosed stubs.items) }
 {
+    let listener = acceptor.listener;
+    let terms = acceptor.terms;
     if listener.set_nonblocking(true).is_err() {
         return Err(ServeError::NoPlace);
     }
     let mut wakers = Vec::new(alloc);
-    let seats = seats(rt, alloc, workers, terms, &mut wakers)?;
+    let seats = seats(rt, alloc, terms, &mut wakers)?;
     let serving = Serving {
         alloc,
         host,
-        watch,
+        watch: acceptor.watch,
         clock: rt,
         idle: terms.idle,
         entrance: Entrance::new(listener, terms.connections, wakers),
         stopping: AtomicBool::new(false),
     };
-    match run(rt, alloc, seats, workers, &serving) {
+    match run(rt, alloc, seats, terms.workers, &serving) {
         Ok(parts) => match gather(alloc, parts) {
             Ok(stubs) => Ok(stubs),
             Err(_) => Err(ServeError::NoMemory),
@@ -127,12 +136,11 @@ pub fn serve_all<N: Naming + Send + Sync, V: Watch + Sync, R: Threads + Wait + N
 fn seats<R: Net>(
     rt: &R,
     alloc: Global,
-    workers: usize,
     terms: Terms,
     wakers: &mut Vec<Waker>,
 ) -> Result<Vec<Seat>, ServeError> {
     let mut seats = Vec::new(alloc);
-    for worker in 0..workers {
+    for worker in 0..terms.workers {
         let Ok(poll) = Poll::new(rt) else {
             return Err(ServeError::NoPlace);
         };

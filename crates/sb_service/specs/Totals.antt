@@ -5,10 +5,14 @@ use Rattle.sb_tenant.specs.declared.reply.Entry.{Entry}
 use Rattle.sb_wire.specs.Counts.{totals_line}
 use Rattle.sb_host.specs.Finish.{AreTrails, steps_in}
 
+-- the line that tells how many trails there are and how many steps they have
+abbrev pub trails_line : List (Vec Entry Global) → List ℕ
+trails_line trails = totals_line (length trails) (steps_in trails)
+
 -- there is a legal trail for each tenant, and the line tells how many they are and how many steps they have
 abbrev pub TellsTrails : ℕ → ℕ → List ℕ → Type 0
 TellsTrails bound tenants line =
-    (trails : List (Vec Entry Global)) × AreTrails bound tenants trails × (line ≡ totals_line (length trails) (steps_in trails))
+    (trails : List (Vec Entry Global)) × AreTrails bound tenants trails × (line ≡ trails_line trails)
 
 -- the first line of a server
 abbrev pub listening_line : ℕ → List ℕ

@@ -1,10 +1,8 @@
 //! The end of a server: its host is finished, and the trails are counted.
-ghost use Rattle.std.specs.Prelude.{◌≡◌, List, ℕ, IfOk, OnOk, length};
+ghost use Rattle.std.specs.Prelude.{◌≡◌, List, ℕ, IfOk, OnOk};
 ghost use Rattle.std.specs.Io.KnownBytes.{Appends};
-ghost use Rattle.sb_wire.specs.Counts.{totals_line};
-ghost use Rattle.sb_host.specs.Finish.{steps_in};
 ghost use Rattle.sb_service.specs.Faults.{unfinished_as};
-ghost use Rattle.sb_service.specs.Totals.{TellsTrails};
+ghost use Rattle.sb_service.specs.Totals.{TellsTrails, trails_line};
 
 use crate::fault::Fault;
 use sb_host::{FinishError, Host, Naming, Report, Stub};
@@ -13,7 +11,7 @@ use std::alloc::{AllocError, Global};
 
 /// The line that tells of the trails.
 fn totals(alloc: Global, report: &Report) -> Result<Vec<u8>, AllocError>
-    ensures { IfOk result (λ line. line.items ≡ totals_line (length report.now.trails.items) (steps_in report.now.trails.items)) }
+    ensures { IfOk result (λ line. line.items ≡ trails_line report.now.trails.items) }
 {
     let Some(steps) = report.steps() else {
         return Err(AllocError);

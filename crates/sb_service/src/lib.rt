@@ -11,4 +11,4 @@ mod server;
 
 pub use fault::Fault;
 pub use replaying::replay;
-pub use server::{serve, serve_by, serve_on};
+pub use server::{serve, serve_by};

@@ -1,6 +1,7 @@
 //! A replay, from its host to its last line.
 ghost use Rattle.std.specs.Prelude.{◌≡◌, ◌<◌, ◌≤◌, List, ℕ, IfErr, IfSome, OnOk};
 ghost use Rattle.std.specs.Io.KnownBytes.{Appends};
+ghost use Rattle.sb_host.specs.Opening.{AreNames};
 ghost use Rattle.sb_options.specs.Within.{AreHost};
 ghost use Rattle.sb_replay.specs.Replay.{Fails, Replays};
 ghost use Rattle.sb_replay.specs.declared.error.ReplayError.{ReplayError as ItsError};
@@ -59,9 +60,7 @@ fn replay_host<
     reader: &mut R,
     writer: &mut W,
 ) -> Result<(), Fault>
-    requires table { N.table ≡ opened.table }
-    requires numbers { (N.tenants ≡ opened.tenants) × (N.cells ≡ opened.cells) × (N.bound ≡ opened.bound) }
-    requires ledger { (N.name ≡ opened.name) × (N.parts ≡ opened.parts) }
+    requires named { AreNames N.table N.tenants N.cells N.bound N.name N.parts opened }
     requires workers { (0 < workers) × (workers ≤ 16) }
     ensures ok { OnOk result (IfSome (R.remaining reader.old) (λ input. (text : List ℕ)
         × Appends (W.contents writer.old) (W.contents writer.new) text

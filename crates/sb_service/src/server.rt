@@ -1,6 +1,7 @@
 //! A server, from its port to its last line.
-ghost use Rattle.std.specs.Prelude.{◌≡◌, ◌<◌, ◌≤◌, List, ℕ, OnOk};
+ghost use Rattle.std.specs.Prelude.{◌<◌, ◌≤◌, List, ℕ, OnOk};
 ghost use Rattle.std.specs.Io.KnownBytes.{Appends};
+ghost use Rattle.sb_host.specs.Opening.{AreNames};
 ghost use Rattle.sb_options.specs.Within.{AreServer};
 ghost use Rattle.sb_service.specs.Totals.{TellsServer, TellsTrails};
 
@@ -11,7 +12,7 @@ use crate::listening::listen;
 use sb_connection::Watch;
 use sb_host::{Host, Naming, Opened};
 use sb_options::Serving;
-use sb_server::{ServeError, Terms, serve_all};
+use sb_server::{Acceptor, ServeError, Terms, serve_all};
 use sb_wire::{Sink, StreamError};
 use std::alloc::Global;
 use std::marker::Brand;
@@ -46,9 +47,7 @@ fn serve_host<
     T: Threads + Wait + Net<Listener = TcpListener, Stream = TcpStream> + Eprint + Clock + Sync,
     W: Sink,
 >(rt: &T, alloc: Global, opened: Opened, serving: Serving, writer: &mut W) -> Result<(), Fault>
-    requires table { N.table ≡ opened.table }
-    requires numbers { (N.tenants ≡ opened.tenants) × (N.cells ≡ opened.cells) × (N.bound ≡ opened.bound) }
-    requires ledger { (N.name ≡ opened.name) × (N.parts ≡ opened.parts) }
+    requires named { AreNames N.table N.tenants N.cells N.bound N.name N.parts opened }
     requires asked { AreServer serving }
     ensures { OnOk result ((text : List ℕ)
         × Appends (W.contents writer.old) (W.contents writer.new) text
@@ -59,13 +58,18 @@ fn serve_host<
     };
     let journal = Journal::new(rt);
     let listener = listen(rt, alloc, serving.port as u16, &journal, writer)?;
-    let workers = serving.hosting.workers as usize;
     let terms = Terms {
+        workers: serving.hosting.workers as usize,
         connections: u64::from(serving.connections),
         idle: idle(serving.idle),
         until_input_ends: serving.until_input_ends,
     };
-    serve_by(rt, alloc, &listener, host, &journal, workers, terms, writer)
+    let acceptor = Acceptor {
+        listener: &listener,
+        watch: &journal,
+        terms,
+    };
+    serve_by(rt, alloc, &acceptor, host, writer)
 }
 
 /// So many seconds, or no end where that is 0.
@@ -76,36 +80,7 @@ fn idle(seconds: u32) -> Option<Duration> {
     Some(Duration::from_secs(u64::from(seconds)))
 }
 
-/// Serves so many connections of the listener, or without end where that is 0, and tells the host's trails behind the last one.
-pub fn serve_on<
-    N: Naming + Send + Sync,
-    V: Watch + Sync,
-    T: Threads + Wait + Net + Clock + Sync,
-    W: Sink,
->(
-    rt: &T,
-    alloc: Global,
-    listener: &TcpListener,
-    host: Host<N>,
-    watch: &V,
-    workers: usize,
-    connections: u64,
-    writer: &mut W,
-) -> Result<(), Fault>
-    requires { (0 < workers) × (workers ≤ 16) }
-    ensures { OnOk result ((line : List ℕ)
-        × Appends (W.contents writer.old) (W.contents writer.new) line
-        × TellsTrails N.bound host line) }
-{
-    let terms = Terms {
-        connections,
-        idle: None,
-        until_input_ends: false,
-    };
-    serve_by(rt, alloc, listener, host, watch, workers, terms, writer)
-}
-
-/// Serves the listener's connections by these terms, and tells the host's trails behind the last one.
+/// Serves the connections that are taken, and tells the host's trails behind the last one.
 pub fn serve_by<
     N: Naming + Send + Sync,
     V: Watch + Sync,
@@ -114,19 +89,16 @@ pub fn serve_by<
 >(
     rt: &T,
     alloc: Global,
-    listener: &TcpListener,
+    acceptor: &Acceptor<'_, V>,
     host: Host<N>,
-    watch: &V,
-    workers: usize,
-    terms: Terms,
     writer: &mut W,
 ) -> Result<(), Fault>
-    requires { (0 < workers) × (workers ≤ 16) }
+    requires { (0 < acceptor.now.terms.workers) × (acceptor.now.terms.workers ≤ 16) }
     ensures { OnOk result ((line : List ℕ)
         × Appends (W.contents writer.old) (W.contents writer.new) line
         × TellsTrails N.bound host line) }
 {
-    match serve_all(rt, alloc, listener, &host, watch, workers, terms) {
+    match serve_all(rt, alloc, acceptor, &host) {
         Ok(stubs) => finish(alloc, host, stubs, writer),
         Err(ServeError::NoMemory) => Err(OUT_OF_MEMORY),
         Err(ServeError::NoPlace) => Err(Fault::CannotListen),

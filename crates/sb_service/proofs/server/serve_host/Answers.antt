@@ -5,4 +5,4 @@ pub returns : goal.returns
 returns g c =
     let first = c.in_ok-listener.ensures in
     tells_both (g.W.Write.contents c.args.writer.now) (g.W.Write.contents c.listen.new.writer) (g.W.Write.contents c.serve_by.new.writer)
-    g.N.Naming.bound c.args.opened.bound c.in-Ok.host c.args.opened.tenants first.0 c.serve_by.result c.requires.numbers.2 c.in-Ok.ensures first.1 c.serve_by.ensures
+    g.N.Naming.bound c.args.opened.bound c.in-Ok.host c.args.opened.tenants first.0 c.serve_by.result c.requires.named.3 c.in-Ok.ensures first.1 c.serve_by.ensures
