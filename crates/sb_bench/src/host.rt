@@ -1,5 +1,5 @@
 //! Calls of a host's sessions: beside a cell's own steps, on one thread and on two, and the check at the end.
-ghost use Rattle.std.specs.Prelude.{◌≡◌, ◌<◌, ◌≤◌};
+ghost use Rattle.sb_host.specs.Opening.{AreNames};
 
 use sb_cell::Cell;
 use sb_host::{Host, Naming, Opened, Session, Stub};
@@ -72,9 +72,7 @@ fn time_beside<N: Naming + Send + Sync, R: Threads + Wait + Clock + Sync>(
     load: Load,
     opened: Opened,
 ) -> io::Result<Times>
-    requires table { N.table ≡ opened.table }
-    requires numbers { (N.tenants ≡ opened.tenants) × (N.cells ≡ opened.cells) × (N.bound ≡ opened.bound) }
-    requires ledger { (N.name ≡ opened.name) × (N.parts ≡ opened.parts) }
+    requires named { AreNames N.table N.tenants N.cells N.bound N.name N.parts opened }
 {
     let host = Host::<N>::new(alloc, opened)?;
     let both = Opened::new(alloc, 2, 2, 1000)?;
@@ -89,9 +87,7 @@ fn time_both<N: Naming + Send + Sync, M: Naming + Send + Sync, R: Threads + Wait
     one: &Host<N>,
     opened: Opened,
 ) -> io::Result<Times>
-    requires table { M.table ≡ opened.table }
-    requires numbers { (M.tenants ≡ opened.tenants) × (M.cells ≡ opened.cells) × (M.bound ≡ opened.bound) }
-    requires ledger { (M.name ≡ opened.name) × (M.parts ≡ opened.parts) }
+    requires named { AreNames M.table M.tenants M.cells M.bound M.name M.parts opened }
 {
     let host = Host::<M>::new(alloc, opened)?;
     let (times, stubs) = time_calls(rt, alloc, load, one, &host)?;

@@ -1,5 +1,5 @@
 //! Hosts from their opening to their closing check, on one thread.
-ghost use Rattle.std.specs.Prelude.{◌≡◌};
+ghost use Rattle.sb_host.specs.Opening.{AreNames};
 
 use crate::mark::mark;
 use sb_host::{AttachError, CallError, FinishError, Host, Naming, Opened, Report, Session};
@@ -64,9 +64,7 @@ fn served<N: Naming, R: Wait>(
     opened: Opened,
     lines: &[u8],
 ) -> Option<(Vec<u8>, bool, usize)>
-    requires table { N.table ≡ opened.table }
-    requires numbers { (N.tenants ≡ opened.tenants) × (N.cells ≡ opened.cells) × (N.bound ≡ opened.bound) }
-    requires ledger { (N.name ≡ opened.name) × (N.parts ≡ opened.parts) }
+    requires named { AreNames N.table N.tenants N.cells N.bound N.name N.parts opened }
 {
     let host = Host::<N>::new(alloc, opened).ok()?;
     let mut session = host.attach(rt, alloc, 0, 0).ok()?;
@@ -97,9 +95,7 @@ fn is_refused(report: &Result<Report, FinishError>) -> bool {
 /// What is refused, and why a host isn't reported: the steps of a session, the answers that were not
 /// as they are to be, and the session that is told.
 fn refused<N: Naming, R: Wait>(rt: &R, alloc: Global, opened: Opened) -> Option<(usize, u32, bool)>
-    requires table { N.table ≡ opened.table }
-    requires numbers { (N.tenants ≡ opened.tenants) × (N.cells ≡ opened.cells) × (N.bound ≡ opened.bound) }
-    requires ledger { (N.name ≡ opened.name) × (N.parts ≡ opened.parts) }
+    requires named { AreNames N.table N.tenants N.cells N.bound N.name N.parts opened }
 {
     let host = Host::<N>::new(alloc, opened).ok()?;
     let mut wrong = 0u32;
@@ -145,9 +141,7 @@ fn refused<N: Naming, R: Wait>(rt: &R, alloc: Global, opened: Opened) -> Option<
 
 /// A trail that is full: the answers that were not as they are to be, and its length.
 fn filled<N: Naming, R: Wait>(rt: &R, alloc: Global, opened: Opened) -> Option<(u32, usize)>
-    requires table { N.table ≡ opened.table }
-    requires numbers { (N.tenants ≡ opened.tenants) × (N.cells ≡ opened.cells) × (N.bound ≡ opened.bound) }
-    requires ledger { (N.name ≡ opened.name) × (N.parts ≡ opened.parts) }
+    requires named { AreNames N.table N.tenants N.cells N.bound N.name N.parts opened }
 {
     let host = Host::<N>::new(alloc, opened).ok()?;
     let mut session = host.attach(rt, alloc, 0, 0).ok()?;

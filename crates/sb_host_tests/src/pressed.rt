@@ -1,5 +1,5 @@
 //! Hosts on which any request for memory may be refused: what each call may answer then, and nothing else.
-ghost use Rattle.std.specs.Prelude.{◌≡◌};
+ghost use Rattle.sb_host.specs.Opening.{AreNames};
 
 use sb_host::{
     AttachError, CallError, FinishError, Host, Naming, NoGate, Opened, Report, Session, Stub,
@@ -63,9 +63,7 @@ fn called<N: Naming, R: Wait>(
 /// A session that ends, and another whose stub is dropped: how many answers may not be, or nothing where memory
 /// ran out before there was a session.
 fn sessions_in_turn<N: Naming, R: Wait>(rt: &R, alloc: Global, opened: Opened) -> Option<u32>
-    requires table { N.table ≡ opened.table }
-    requires numbers { (N.tenants ≡ opened.tenants) × (N.cells ≡ opened.cells) × (N.bound ≡ opened.bound) }
-    requires ledger { (N.name ≡ opened.name) × (N.parts ≡ opened.parts) }
+    requires named { AreNames N.table N.tenants N.cells N.bound N.name N.parts opened }
 {
     let host = Host::<N>::new(alloc, opened).ok()?;
     let mut wrong = 0u32;
@@ -175,9 +173,7 @@ fn pooled<N: Naming + Send + Sync, R: Threads + Wait + Sync>(
     alloc: Global,
     opened: Opened,
 ) -> Option<bool>
-    requires table { N.table ≡ opened.table }
-    requires numbers { (N.tenants ≡ opened.tenants) × (N.cells ≡ opened.cells) × (N.bound ≡ opened.bound) }
-    requires ledger { (N.name ≡ opened.name) × (N.parts ≡ opened.parts) }
+    requires named { AreNames N.table N.tenants N.cells N.bound N.name N.parts opened }
 {
     let host = Host::<N>::new(alloc, opened).ok()?;
     let (is_well, stubs) = jobs_at_once(rt, alloc, &host)?;

@@ -1,5 +1,5 @@
 //! Jobs of sessions on several threads.
-ghost use Rattle.std.specs.Prelude.{◌≡◌};
+ghost use Rattle.sb_host.specs.Opening.{AreNames};
 
 use sb_host::{Gate, Host, Naming, Opened, Session, Stub};
 use sb_pool::{Done, Job, Pool};
@@ -145,9 +145,7 @@ fn overlap<N: Naming + Send + Sync, R: Threads + Wait + Sync>(
     alloc: Global,
     opened: Opened,
 ) -> Option<(u32, bool, (usize, usize, usize))>
-    requires table { N.table ≡ opened.table }
-    requires numbers { (N.tenants ≡ opened.tenants) × (N.cells ≡ opened.cells) × (N.bound ≡ opened.bound) }
-    requires ledger { (N.name ≡ opened.name) × (N.parts ≡ opened.parts) }
+    requires named { AreNames N.table N.tenants N.cells N.bound N.name N.parts opened }
 {
     let host = Host::<N>::new(alloc, opened).ok()?;
     let gate = Meeting {
@@ -235,9 +233,7 @@ fn apart<N: Naming + Send + Sync, R: Threads + Wait + Sync>(
     alloc: Global,
     opened: Opened,
 ) -> Option<(usize, usize, usize)>
-    requires table { N.table ≡ opened.table }
-    requires numbers { (N.tenants ≡ opened.tenants) × (N.cells ≡ opened.cells) × (N.bound ≡ opened.bound) }
-    requires ledger { (N.name ≡ opened.name) × (N.parts ≡ opened.parts) }
+    requires named { AreNames N.table N.tenants N.cells N.bound N.name N.parts opened }
 {
     let host = Host::<N>::new(alloc, opened).ok()?;
     let stubs = visited(rt, alloc, &host)?;
@@ -340,9 +336,7 @@ fn together<N: Naming + Send + Sync, R: Threads + Wait + Sync>(
     alloc: Global,
     opened: Opened,
 ) -> Option<(bool, usize)>
-    requires table { N.table ≡ opened.table }
-    requires numbers { (N.tenants ≡ opened.tenants) × (N.cells ≡ opened.cells) × (N.bound ≡ opened.bound) }
-    requires ledger { (N.name ≡ opened.name) × (N.parts ≡ opened.parts) }
+    requires named { AreNames N.table N.tenants N.cells N.bound N.name N.parts opened }
 {
     let host = Host::<N>::new(alloc, opened).ok()?;
     let (kept, stubs) = shared(rt, alloc, &host)?;

@@ -1,5 +1,5 @@
 //! Connections over memory, and what is told of connections.
-ghost use Rattle.std.specs.Prelude.{◌≡◌};
+ghost use Rattle.sb_host.specs.Opening.{AreNames};
 
 use sb_connection::{Event, Named, Served, serve_one};
 use sb_host::{AttachError, Host, Naming, Opened};
@@ -17,9 +17,7 @@ fn served<N: Naming, R: Wait>(
     opened: Opened,
     lines: &[u8],
 ) -> Option<(usize, Vec<u8>)>
-    requires table { N.table ≡ opened.table }
-    requires numbers { (N.tenants ≡ opened.tenants) × (N.cells ≡ opened.cells) × (N.bound ≡ opened.bound) }
-    requires ledger { (N.name ≡ opened.name) × (N.parts ≡ opened.parts) }
+    requires named { AreNames N.table N.tenants N.cells N.bound N.name N.parts opened }
 {
     let host = Host::<N>::new(alloc, opened).ok()?;
     let mut reader = lines;

@@ -1,5 +1,6 @@
 //! Replays over memory.
-ghost use Rattle.std.specs.Prelude.{◌≡◌, ◌<◌, ◌≤◌};
+ghost use Rattle.std.specs.Prelude.{◌<◌, ◌≤◌};
+ghost use Rattle.sb_host.specs.Opening.{AreNames};
 
 use sb_host::{Host, Naming, Opened};
 use sb_replay::replay;
@@ -17,9 +18,7 @@ fn replayed<N: Naming + Send + Sync, T: Threads + Wait + Sync>(
     input: &[u8],
     workers: usize,
 ) -> Option<Vec<u8>>
-    requires table { N.table ≡ opened.table }
-    requires numbers { (N.tenants ≡ opened.tenants) × (N.cells ≡ opened.cells) × (N.bound ≡ opened.bound) }
-    requires ledger { (N.name ≡ opened.name) × (N.parts ≡ opened.parts) }
+    requires named { AreNames N.table N.tenants N.cells N.bound N.name N.parts opened }
     requires workers { (0 < workers) × (workers ≤ 16) }
 {
     let host = Host::<N>::new(alloc, opened).ok()?;

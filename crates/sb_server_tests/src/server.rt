@@ -1,10 +1,10 @@
 //! A server with a client over a socket.
-ghost use Rattle.std.specs.Prelude.{◌≡◌};
+ghost use Rattle.sb_host.specs.Opening.{AreNames};
 
 use sb_connection::NoWatch;
 use sb_host::{Host, Naming, Opened};
-use sb_server::Terms;
-use sb_service::{serve_by, serve_on};
+use sb_server::{Acceptor, Terms};
+use sb_service::serve_by;
 use std::alloc::Global;
 use std::fs::Files;
 use std::io::{self, Read, Write};
@@ -51,9 +51,7 @@ fn visited<
     left: &[u8],
     lines: &'static [u8],
 ) -> Option<(Vec<u8>, Vec<u8>)>
-    requires table { N.table ≡ opened.table }
-    requires numbers { (N.tenants ≡ opened.tenants) × (N.cells ≡ opened.cells) × (N.bound ≡ opened.bound) }
-    requires ledger { (N.name ≡ opened.name) × (N.parts ≡ opened.parts) }
+    requires named { AreNames N.table N.tenants N.cells N.bound N.name N.parts opened }
 {
     let host = Host::<N>::new(alloc, opened).ok()?;
     let listener = TcpListener::bind(rt, "127.0.0.1:0").ok()?;
@@ -62,17 +60,17 @@ fn visited<
     let client = TcpStream::connect(rt, address).ok()?;
     let reading = thread::spawn(rt, move || read_back(alloc, client, lines)).ok()?;
     let mut told = Vec::new(alloc);
-    serve_on(
-        rt,
-        alloc,
-        &listener,
-        host,
-        &NoWatch,
-        1,
-        before.saturating_add(1),
-        &mut told,
-    )
-    .ok()?;
+    let acceptor = Acceptor {
+        listener: &listener,
+        watch: &NoWatch,
+        terms: Terms {
+            workers: 1,
+            connections: before.saturating_add(1),
+            idle: None,
+            until_input_ends: false,
+        },
+    };
+    serve_by(rt, alloc, &acceptor, host, &mut told).ok()?;
     Some((reading.join(rt)?, told))
 }
 
@@ -126,9 +124,7 @@ fn visited_by_two<
     N: Naming + Send + Sync,
     R: Net<Listener = TcpListener, Stream = TcpStream> + Threads + Wait + Clock + Files + Sync,
 >(rt: &R, alloc: Global, opened: Opened) -> Option<(Vec<u8>, Vec<u8>)>
-    requires table { N.table ≡ opened.table }
-    requires numbers { (N.tenants ≡ opened.tenants) × (N.cells ≡ opened.cells) × (N.bound ≡ opened.bound) }
-    requires ledger { (N.name ≡ opened.name) × (N.parts ≡ opened.parts) }
+    requires named { AreNames N.table N.tenants N.cells N.bound N.name N.parts opened }
 {
     let host = Host::<N>::new(alloc, opened).ok()?;
     let listener = TcpListener::bind(rt, "127.0.0.1:0").ok()?;
@@ -140,13 +136,18 @@ fn visited_by_two<
     let (_reader, writer) = io::pipe(rt).ok()?;
     let input = writer.into_raw_fd();
     let reading = thread::spawn(rt, move || read_both(alloc, first, second, input)).ok()?;
-    let terms = Terms {
-        connections: 0,
-        idle: None,
-        until_input_ends: true,
+    let acceptor = Acceptor {
+        listener: &listener,
+        watch: &NoWatch,
+        terms: Terms {
+            workers: 1,
+            connections: 0,
+            idle: None,
+            until_input_ends: true,
+        },
     };
     let mut told = Vec::new(alloc);
-    serve_by(rt, alloc, &listener, host, &NoWatch, 1, terms, &mut told).ok()?;
+    serve_by(rt, alloc, &acceptor, host, &mut told).ok()?;
     reading.join(rt)
 }
 

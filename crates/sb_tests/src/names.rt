@@ -32,7 +32,8 @@ impl OneTable {
 }
 
 impl Schema for OneTable {
-    ghost names = { λ s. record { tables = record { id = 0; name = s.name; table = empty_table s.columns.items } ∷ []; rule = None } };
+    ghost names = { λ s.
+        record { tables = record { id = 0; name = s.name; table = empty_table s.columns.items } ∷ []; rule = None } };
 
     fn table(&self, name: &Name) -> Option<TableEntry<'_>> {
         if self.name.is_same(name) {
@@ -85,7 +86,8 @@ impl Sources for OnlyTransition {
 
 /// The rows of a transition table. A table has none.
 fn listed(transition: &Transition, source: Source) -> &[Row]
-    ensures { result.now ≡ rows_in (record { tables = []; transition = transition.now; who = record { tenant = 0; session = 0 } }) source }
+    ensures { result.now ≡
+        rows_in (record { tables = []; transition = transition.now; who = record { tenant = 0; session = 0 } }) source }
 {
     match source {
         Source::Table(_) => &[],
