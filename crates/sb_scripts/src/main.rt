@@ -34,6 +34,7 @@ mod tenant;
 
 use fault::ScriptFault;
 use player::Player;
+use sb_wire::StreamError;
 use std::io::{self, Read as _, Write as _};
 use std::process::ExitCode;
 
@@ -55,12 +56,12 @@ fn main(rt: HostRuntime) -> ExitCode {
 fn run(rt: &HostRuntime) -> Result<(), ScriptFault> {
     let mut input = Vec::new(rt.alloc());
     if rt.reader().read_to_end(&mut input).is_err() {
-        return Err(ScriptFault::Read);
+        return Err(ScriptFault::Stream(StreamError::ReadFault));
     }
     let mut player = Player::new(rt.alloc());
     player.play_all(input.as_slice())?;
     if io::writer(rt).write_all(player.answers()).is_err() {
-        return Err(ScriptFault::Write);
+        return Err(ScriptFault::Stream(StreamError::WriteFault));
     }
     Ok(())
 }

@@ -150,7 +150,7 @@ pub fn fresh_cell(alloc: Global, header: &Header) -> Result<Cell, ScriptFault> {
 pub fn push_end(ended: Result<(), StreamError>, out: &mut Vec<u8>) -> Result<(), ScriptFault> {
     let error = match ended {
         Ok(()) => return Ok(()),
-        Err(StreamError::NoMemory) => return Err(ScriptFault::NoMemory),
+        Err(StreamError::NoMemory) => return Err(ScriptFault::Stream(StreamError::NoMemory)),
         Err(error) => error,
     };
     if !out.is_empty() && !out.ends_with(b"\n".as_slice()) {

@@ -5,7 +5,7 @@ use crate::repeat::push_number;
 use sb_syntax::{ParseError, parse};
 use sb_tenant::Reply;
 use sb_value::Refusal;
-use sb_wire::{LINE_LIMIT, WireRefusal, write_bare_refusal, write_bare_reply};
+use sb_wire::{LINE_LIMIT, StreamError, WireRefusal, write_bare_refusal, write_bare_reply};
 use std::alloc::Global;
 
 /// Adds the answers to these lines.
@@ -23,7 +23,7 @@ pub fn play_syntax(alloc: Global, lines: &[u8], out: &mut Vec<u8>) -> Result<(),
 fn answer(alloc: Global, line: &[u8], out: &mut Vec<u8>) -> Result<(), ScriptFault> {
     match parse(alloc, line) {
         Ok(_) => write_bare_reply(out, &Reply::Ok)?,
-        Err(ParseError::NoMemory) => return Err(ScriptFault::NoMemory),
+        Err(ParseError::NoMemory) => return Err(ScriptFault::Stream(StreamError::NoMemory)),
         Err(ParseError::Syntax { place }) => {
             write_bare_reply(out, &Reply::No(Refusal::Syntax))?;
             out.extend_from_slice(b"at ")?;

@@ -6,7 +6,7 @@ use crate::repeat::push_number;
 use sb_cell::{Cell, StepError};
 use sb_tenant::{Answer, Entry};
 use sb_value::SessionId;
-use sb_wire::write_bare_reply;
+use sb_wire::{StreamError, write_bare_reply};
 use std::alloc::Global;
 
 /// The tenant's number.
@@ -25,7 +25,7 @@ pub fn play_tenant(alloc: Global, lines: &[u8], out: &mut Vec<u8>) -> Result<(),
     }
     match cell.trail(LONE) {
         Some(trail) => push_trail(trail, out),
-        None => Err(ScriptFault::NoMemory),
+        None => Err(ScriptFault::Stream(StreamError::NoMemory)),
     }
 }
 
@@ -47,7 +47,7 @@ fn answer(alloc: Global, cell: &mut Cell, line: &[u8]) -> Result<Answer, StepErr
 
 fn push_answer(answer: Result<Answer, StepError>, out: &mut Vec<u8>) -> Result<(), ScriptFault> {
     let Ok(answer) = answer else {
-        return Err(ScriptFault::NoMemory);
+        return Err(ScriptFault::Stream(StreamError::NoMemory));
     };
     match answer.number {
         Some(number) => push_number(u64::from(number), out)?,

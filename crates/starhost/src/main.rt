@@ -2,7 +2,7 @@
 #![tactic(auto)]
 
 use sb_command::{Console, command};
-use sb_wire::Fallible;
+use sb_wire::{Fallible, StreamError};
 use std::io::IsTerminal as _;
 use std::process::ExitCode;
 use std::{env, io};
@@ -44,7 +44,7 @@ fn main(rt: HostRuntime) -> ExitCode {
 fn unread(rt: &HostRuntime, lacks_memory: bool) -> ExitCode {
     // a standard error that takes nothing can't be told of
     if lacks_memory {
-        let _told = eprintln!(rt; "fault: out of memory");
+        let _told = eprintln!(rt; "fault: {}", StreamError::NoMemory);
         return ExitCode::from(FAULT);
     }
     let _told = eprintln!(rt; "error: a word isn't text");
