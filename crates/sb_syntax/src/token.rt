@@ -1,11 +1,10 @@
 //! The tokens of a text, and its command.
 
-ghost use Rattle.std.specs.Prelude.{◌≡◌, ◌<◌, ◌≤◌, ◌↔◌, length, IfOk, IfErr, List, ℕ, Err, Some};
+ghost use Rattle.std.specs.Prelude.{◌≡◌, ◌≤◌, ◌↔◌, length, IfOk, IfErr, List, ℕ, Some};
 ghost use Rattle.sb_syntax.specs.Cursor.{AllWithin, lexemes};
 ghost use Rattle.sb_syntax.specs.Lex.{AreTokens};
 ghost use Rattle.sb_syntax.specs.Scan.{scan};
 ghost use Rattle.sb_syntax.specs.Text.{Spells, Reading, NoTokens, NoCommand, command_of, CanBeHeld, SpellsItself, text_limit};
-ghost use Rattle.sb_syntax.specs.declared.error.ParseError.TheVariants.{NoMemory};
 ghost use Rattle.sb_value.specs.declared.value.Value.{Value};
 ghost use Rattle.sb_syntax.specs.Tree as tree;
 ghost use Rattle.sb_syntax.specs.Views as view;
@@ -64,15 +63,12 @@ pub const TEXT_LIMIT: usize = 4096;
 
 /// The command that the text is.
 pub fn parse(alloc: Global, text: &[u8]) -> Result<Command, ParseError>
+    requires long { length text.now ≤ text_limit }
     ensures found { IfOk result (λ c. Spells text.now (view.command c)) }
     ensures computed { IfOk result (λ c. command_of text.now ≡ Some (view.command c)) }
     // Syntax says that no command has the text.
     ensures none { IfErr result (NoCommand text.now) }
-    ensures long { text_limit < length text.now → result ≡ Err NoMemory }
 {
-    if text.len() > TEXT_LIMIT {
-        return Err(ParseError::NoMemory);
-    }
     let tokens = tokens(alloc, text)?;
     let mut cursor = Cursor::new(text, tokens.as_slice());
     match command(alloc, &mut cursor) {
