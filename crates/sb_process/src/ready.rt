@@ -61,6 +61,7 @@ fn reserve<L: ChangeLog>(
     ensures records { L.records log.new ≡ L.records log.old }
     ensures clock { L.clock log.new ≡ L.clock log.old }
 {
+    log.shrink(changes.len());
     log.reserve(changes.len())?;
     tables.reserve(target, insert_count(changes))
 }

@@ -1,5 +1,5 @@
 //! What every log of changes promises.
-ghost use Rattle.std.specs.Prelude.{◌≡◌, ℕ, ◌+◌, ◌-◌, ◌<◌, ◌^◌, List, [], ◌∷◌, ◌++◌, Some, length, OnOk, OnErr, IfSome, option_copied};
+ghost use Rattle.std.specs.Prelude.{◌≡◌, ℕ, ◌+◌, ◌-◌, ◌<◌, ◌^◌, List, [], ◌∷◌, ◌++◌, Some, length, max, min, OnOk, OnErr, IfSome, option_copied};
 ghost use Rattle.sb_rawlog.specs.Changes.{author, is_op, is_tuple};
 ghost use Rattle.sb_rawlog.specs.declared.spot.Spot.{Spot};
 ghost use Rattle.sb_rawlog.specs.Records.{Record, Rising, walk, others, change_at};
@@ -25,10 +25,17 @@ pub trait ChangeLog {
     /// The spot was given by this log, and its record is still there.
     ghost stands: { Self → Spot → Type 0 };
 
-    /// Makes room for `n` changes. What room there was for more is given up.
+    /// Makes room for `n` changes, where there is less.
     fn reserve(&mut self, n: usize) -> Result<(), AllocError>
-        ensures ok { OnOk result (room self.new ≡ n) }
+        ensures ok { OnOk result (room self.new ≡ max n (room self.old)) }
         ensures err { OnErr result (room self.new ≡ room self.old) }
+        ensures records { records self.new ≡ records self.old }
+        ensures clock { clock self.new ≡ clock self.old }
+        ensures spots { SpotsStay (stands self.old) (stands self.new) (records self.new) };
+
+    /// Gives up the room for more than `n` changes, and with it memory, where far more of it is free.
+    fn shrink(&mut self, n: usize)
+        ensures room { room self.new ≡ min n (room self.old) }
         ensures records { records self.new ≡ records self.old }
         ensures clock { clock self.new ≡ clock self.old }
         ensures spots { SpotsStay (stands self.old) (stands self.new) (records self.new) };

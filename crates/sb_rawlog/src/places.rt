@@ -115,7 +115,7 @@ fn rewind(free: &mut Vec<usize>, used: &mut usize)
 }
 
 /// Adds free places, at least `more`, all of which can be given back without memory.
-fn add_places(
+fn grow(
     arena: &mut Arena<Node<Change>>,
     free: &mut Vec<usize>,
     more: usize,
@@ -188,8 +188,8 @@ fn shed(arena: &mut Arena<Node<Change>>, free: &mut Vec<usize>, used: usize, n: 
     }
 }
 
-/// Sees that at least `n` places are free, and not far more, and that all places can be given back without memory.
-pub(crate) fn fit_places(
+/// Sees that at least `n` places are free, and that all places can be given back without memory.
+pub(crate) fn add_places(
     arena: &mut Arena<Node<Change>>,
     free: &mut Vec<usize>,
     used: &mut usize,
@@ -209,8 +209,30 @@ pub(crate) fn fit_places(
     rewind(free, used);
     let spare = free.len() + (arena.places() - *used);
     if n > spare {
-        return add_places(arena, free, n - spare);
+        return grow(arena, free, n - spare);
     }
-    shed(arena, free, *used, n);
     Ok(())
+}
+
+/// Gives one block back to the system where far more places are free than the `n` that are to stay so.
+pub(crate) fn spare_places(
+    arena: &mut Arena<Node<Change>>,
+    free: &mut Vec<usize>,
+    used: &mut usize,
+    n: usize,
+)
+    requires free { AreFree free.old.items used.old arena.old }
+    requires fewer { length free.old.items ≤ used.old }
+    requires empty { length free.old.items ≡ used.old → (p : ℕ) → get_or arena.old p None ≡ None }
+    requires roomy { length arena.old ≤ vec_capacity free.old }
+    requires spare { n ≤ room_in free.old.items used.old arena.old }
+    ensures same { HoldSame arena.old arena.new }
+    ensures free { AreFree free.new.items used.new arena.new }
+    ensures in_use { used.new + length free.old.items ≡ used.old + length free.new.items }
+    ensures roomy { length arena.new ≤ vec_capacity free.new }
+    ensures spare { n ≤ room_in free.new.items used.new arena.new }
+    ensures sheds { Sheds (length arena.old) used.new (length free.new.items) n (length arena.new) }
+{
+    rewind(free, used);
+    shed(arena, free, *used, n);
 }

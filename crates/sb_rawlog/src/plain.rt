@@ -47,9 +47,16 @@ impl ChangeLog for PlainLog {
     ghost stands = { λ l s. (c : Change) × (change_at s.time l.items.items ≡ Some c) };
 
     fn reserve(&mut self, n: usize) -> Result<(), AllocError> {
+        if n <= self.room {
+            return Ok(());
+        }
         self.items.reserve(n)?;
         self.room = n;
         Ok(())
+    }
+
+    fn shrink(&mut self, n: usize) {
+        self.room = self.room.min(n);
     }
 
     fn spare(&self) -> usize {

@@ -12,7 +12,7 @@ use crate::key::Key;
 use crate::lists::link;
 use crate::log::ChangeLog;
 use crate::node::{Node, Which};
-use crate::places::{claim, enter, fit_places, give_back, take_out};
+use crate::places::{add_places, claim, enter, give_back, spare_places, take_out};
 use crate::search::{search, spot_for};
 use crate::spot::Spot;
 use sb_arena::Arena;
@@ -97,9 +97,18 @@ impl ChangeLog for RawLog {
     ghost stands = { Stands };
 
     fn reserve(&mut self, n: usize) -> Result<(), AllocError> {
-        fit_places(&mut self.arena, &mut self.free, &mut self.used, n)?;
+        if n <= self.room {
+            return Ok(());
+        }
+        add_places(&mut self.arena, &mut self.free, &mut self.used, n)?;
         self.room = n;
         Ok(())
+    }
+
+    fn shrink(&mut self, n: usize) {
+        let room = self.room.min(n);
+        spare_places(&mut self.arena, &mut self.free, &mut self.used, room);
+        self.room = room;
     }
 
     fn spare(&self) -> usize {

@@ -1,6 +1,6 @@
 use Rattle.std.proofs.Common.{◌≤◌, ◌-◌, length}
 use Rattle.sb_rawlog.specs.Places.{HoldSame}
-use Rattle.sb_rawlog.proofs.places.add_places.Given as goal
+use Rattle.sb_rawlog.proofs.places.grow.Given as goal
 
 -- blocks were added, and there is room to give their places back
 abbrev pub invariant-growth : goal.invariant-growth
