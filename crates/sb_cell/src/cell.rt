@@ -105,6 +105,13 @@ impl Cell {
         })
     }
 
+    /// Lets each tenant's trail and open transactions take so many bytes (`Tenant::limit_memory`).
+    pub fn limit_memory(&mut self, bytes: u64)
+        ensures { self.new ≡ self.old }
+    {
+        limit_each(&mut self.tenants, bytes);
+    }
+
     /// At any time its trails are legal, and together they have few entries.
     pub fn keeps_trails(&self)
         ensures legal { HasLegalTrails self.now }
@@ -312,6 +319,15 @@ impl Cell {
             list.push_reserved(answer);
         }
         Ok(Answers { list })
+    }
+}
+
+/// Limits the memory of each tenant.
+fn limit_each(tenants: &mut Vec<Tenant>, bytes: u64)
+    ensures { tenants.new.items ≡ tenants.old.items }
+{
+    for place in 0..tenants.len() {
+        tenants[place].limit_memory(bytes);
     }
 }
 

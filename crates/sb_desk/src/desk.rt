@@ -65,6 +65,13 @@ impl<N: Naming, const FIRST: u32> Desk<N, FIRST> {
         Desk { cell, share, seats }
     }
 
+    /// The cell.
+    pub fn cell(&self) -> &Cell
+        ensures { result.now ≡ self.now }
+    {
+        &self.cell
+    }
+
     /// The cell alone, which is the one of this number in this host.
     pub fn into_cell(self) -> Cell
         ensures same { result ≡ self }

@@ -55,6 +55,14 @@ impl<N: Naming> Host<N> {
         self.tenants
     }
 
+    /// How many cells it has. A tenant's is its number modulo this one.
+    pub fn cells(&self) -> u32
+        ensures is { result ≡ N.cells }
+        ensures some { 0 < result }
+    {
+        self.cells
+    }
+
     /// Opens a session of a tenant.
     pub fn attach<R: Wait>(
         &self,

@@ -1,7 +1,7 @@
 -- A refused line leaves the state, but for the locks of its statement.
-use Rattle.std.proofs.Common.{◌≡◌, ◌∙◌, sym, ap, refl, ◌⊎◌, inl, inr, ℕ, ◌+◌, Bool, true, false, not, cond, ◌&&◌, ◌==◌, List, Option, Some, None, Result, Ok, Err, eqb-true}
+use Rattle.std.proofs.Common.{◌≡◌, ◌∙◌, sym, ap, refl, ◌⊎◌, inl, inr, ℕ, ◌+◌, Bool, true, false, not, cond, ◌&&◌, ◌==◌, List, [], length, Option, Some, None, Result, Ok, Err, eqb-true}
 use Rattle.std.proofs.lemmas.Bool.{true≢false, false≢true}
-use Rattle.std.specs.Prelude.{option_and_then}
+use Rattle.std.specs.Prelude.{if◌then◌else◌, nat_lt, option_and_then}
 use Rattle.sb_value.specs.declared.change.Change.{Change}
 use Rattle.sb_value.specs.declared.lock.Mode.{Mode}
 use Rattle.sb_value.specs.declared.refusal.Refusal.{Refusal}
@@ -13,8 +13,12 @@ use Rattle.sb_syntax.specs.Text.{command_of}
 use Rattle.sb_syntax.specs.Tree as text
 use Rattle.sb_syntax.specs.Tree.{Command}
 use Rattle.sb_check.specs.Names.{and_then, required}
+use Rattle.sb_plan.specs.Cost.{query_cost}
+use Rattle.sb_plan.specs.Meaning.{rows_of}
+use Rattle.sb_plan.specs.Seen.{row_count, rows_in}
 use Rattle.sb_eval.specs.Seen.{no_transition}
-use Rattle.sb_eval.specs.Statement.{query_locks, statement_changes, statement_locks}
+use Rattle.sb_value.specs.declared.value.Value.{Value}
+use Rattle.sb_eval.specs.Statement.{changes_by, cost_limit, or_overflow, query_locks, row_limit, rows_after, select_rows, statement_changes, statement_cost, statement_locks, within_cost, within_rows}
 use Rattle.sb_process.specs.Process.{process}
 use Rattle.sb_process.specs.Setting.{Progress, seen_with}
 use Rattle.sb_process.specs.declared.Outcome.{Outcome}
@@ -27,9 +31,9 @@ use Rattle.sb_tenant.specs.declared.reply.Reply.TheVariants as reply
 use Rattle.sb_tenant.specs.State.{State, Catalog, Session, closed, idle, active, changes_of, committed, has_transaction, is_open, marks_of, progress_of, session_at, setting_of, with_progress}
 use Rattle.sb_tenant.specs.Resolved.{Resolved, Class, defines, works, open_session, end_session, begin, commit, rollback, process_rules, process_ruleset, process_rule, query, change}
 use Rattle.sb_tenant.specs.Walk.{class_of, unless, walk}
-use Rattle.sb_tenant.specs.Perform.{change_seen, named, perform, perform_change, process_at, reply_of, select_seen, stays, with_request}
+use Rattle.sb_tenant.specs.Perform.{change_seen, named, perform, perform_change, process_at, reply_of, reply_rows, select_seen, stays, with_request}
 use Rattle.sb_tenant.specs.Step.{first_of, is_full_for, numbered, outcome_of, reply_to, reply_to_command, session_refusal, step}
-use Rattle.sb_tenant.specs.RefusalLaws.{ChangesNothing, RefusalsTakeLocksAtMost, RefusedDefinitionsChangeNothing, TakesLocks, request_in, request_of}
+use Rattle.sb_tenant.specs.RefusalLaws.{ChangesNothing, RefusalsTakeLocksAtMost, RefusedDefinitionsChangeNothing, ComesBehindLocks, TakesLocks, request_in, request_of}
 
 -- ---- other commands ask for no locks
 
@@ -90,6 +94,21 @@ no-definition (text.query q) h = absurd (let e = h in cc)
 no-definition (text.change c) h = absurd (let e = h in cc)
 no-definition other h = refl
 
+-- ---- what evaluation refuses
+
+behind-rows : {A : Type 0} (a : A) (b : Bool) (e : Refusal) → (if b then Err refusal.TooManyRows else Ok a) ≡ Err e → ComesBehindLocks e
+behind-rows a true e h = inr (inr (let x = h in cc))
+behind-rows a false e h = absurd (let x = h in cc)
+
+behind-cost : {A : Type 0} (count : A → ℕ) (given : Option A) (b : Bool) (e : Refusal) →
+    within_rows count (if b then Err refusal.TooBig else or_overflow given) ≡ Err e → ComesBehindLocks e
+behind-cost count given true e h = inl (let x = h in cc)
+behind-cost count None false e h = inr (inl (let x = h in cc))
+behind-cost count (Some a) false e h = behind-rows a (nat_lt row_limit (count a)) e h
+
+behind : {A : Type 0} (count : A → ℕ) (cost : ℕ) (given : Option A) (e : Refusal) → within_rows count (within_cost cost given) ≡ Err e → ComesBehindLocks e
+behind count cost given e h = behind-cost count given (nat_lt cost_limit cost) e h
+
 -- ---- a transaction whose changes and marks are put anew
 
 refilled : (session : Session) → has_transaction session ≡ true → active (changes_of session) (marks_of session) ≡ session
@@ -121,21 +140,27 @@ module _ (tenant bound : ℕ) (state : State) (s : ℕ) where
   abbrev Leaves : Option (List (ℕ × Mode)) → State × Reply → Type 0
   Leaves asks r =
       (e : Refusal) → r.1 ≡ reply.No e →
-      (r.0 ≡ state) ⊎ ((request : List (ℕ × Mode)) × (asks ≡ Some request) × (first_conflict state.locks s request ≡ None) × (r.0 ≡ locked request))
+      (r.0 ≡ state) ⊎ (ComesBehindLocks e × (request : List (ℕ × Mode)) × (asks ≡ Some request) × (first_conflict state.locks s request ≡ None) × (r.0 ≡ locked request))
 
-  leaves-request : (request : List (ℕ × Mode)) (next : Progress → State × Reply) → ((e : Refusal) → (next (asked request)).1 ≡ reply.No e → (next (asked request)).0 ≡ locked request) →
+  leaves-request : (request : List (ℕ × Mode)) (next : Progress → State × Reply) →
+      ((e : Refusal) → (next (asked request)).1 ≡ reply.No e → ComesBehindLocks e × ((next (asked request)).0 ≡ locked request)) →
       Leaves (Some request) (with_request state s request next)
   leaves-request request next h = by (first_conflict state.locks s request) refl
     where
       by : (o : Option ℕ) → first_conflict state.locks s request ≡ o →
           Leaves (Some request) (elim o as (λ _. State × Reply) [ Some table ↦ (state, reply.No (refusal.Locked (name_at state.catalog.tables table))) | None ↦ next (asked request) ])
       by (Some table) conflict = λ e told. inl refl
-      by None free = λ e told. inr (request, refl, free, h e told)
+      by None free = λ e told. let left = h e told in inr (left.0, request, refl, free, left.1)
 
-  leaves-change : has_transaction (session_at state s) ≡ true → (request : List (ℕ × Mode)) (r : Result (List Change) Refusal) (e : Refusal) →
-      (change_seen state s (asked request) r).1 ≡ reply.No e → (change_seen state s (asked request) r).0 ≡ locked request
-  leaves-change has request (Err why) e told = goes-on has request
-  leaves-change has request (Ok changes) e told = absurd (let x = told in cc)
+  leaves-change : has_transaction (session_at state s) ≡ true → (request : List (ℕ × Mode)) (r : Result (List Change) Refusal) →
+      ((e : Refusal) → r ≡ Err e → ComesBehindLocks e) → (e : Refusal) →
+      (change_seen state s (asked request) r).1 ≡ reply.No e → ComesBehindLocks e × ((change_seen state s (asked request) r).0 ≡ locked request)
+  leaves-change has request (Err why) late e told = (late e (let x = told in cc), goes-on has request)
+  leaves-change has request (Ok changes) late e told = absurd (let x = told in cc)
+
+  rows-refused : (r : Result (List (List Value)) Refusal) (e : Refusal) → reply_rows r ≡ reply.No e → r ≡ Err e
+  rows-refused (Err why) e told = let x = told in cc
+  rows-refused (Ok rows) e told = absurd (let x = told in cc)
 
   never : (catalog : Catalog) (outcome : Outcome) (trace : List (List ℕ × Verdict)) (e : Refusal) → reply_of catalog outcome trace ≡ reply.No e → ⊥
   never catalog Done trace e told = cc
@@ -153,11 +178,15 @@ module _ (tenant bound : ℕ) (state : State) (s : ℕ) where
   leaves-perform process_rules has = leaves-process None (is_active state.catalog.rules) stays
   leaves-perform (process_ruleset name) has = leaves-process None (λ id. is_active state.catalog.rules id && is_member state.catalog.rulesets name id) stays
   leaves-perform (process_rule r) has = leaves-process None (λ id. (id == r) && is_active state.catalog.rules id) stays
-  leaves-perform (query q) has = leaves-request (query_locks q) (select_seen tenant state s q) (λ e told. goes-on (has (query_locks q) refl) (query_locks q))
+  leaves-perform (query q) has =
+      let seen = seen_with (setting_of tenant state s) no_transition (asked (query_locks q)) in
+      leaves-request (query_locks q) (select_seen tenant state s q)
+      (λ e told. (behind length (query_cost (row_count seen) q) (rows_of (rows_in seen) q []) e (rows-refused (select_rows seen q) e told), goes-on (has (query_locks q) refl) (query_locks q)))
   leaves-perform (change statement) has =
+      let seen = seen_with (setting_of tenant state s) no_transition (asked (statement_locks statement)) in
       leaves-request (statement_locks statement) (perform_change tenant state s statement)
-      (leaves-change (has (statement_locks statement) refl) (statement_locks statement)
-      (statement_changes (seen_with (setting_of tenant state s) no_transition (asked (statement_locks statement))) statement))
+      (leaves-change (has (statement_locks statement) refl) (statement_locks statement) (statement_changes seen statement)
+      (behind (rows_after seen statement) (statement_cost seen statement) (changes_by seen statement)))
   leaves-perform other has = λ e told. absurd (let x = told in cc)
 
   leaves-outcome : (r : Option Refusal) (w : Result Resolved Refusal) →
@@ -203,17 +232,17 @@ module _ (tenant bound : ℕ) (state : State) (s : ℕ) where
   placed full r = elim full [ true ↦ (state, record { number = None; reply = reply.No refusal.TrailFull }) | false ↦ numbered state r ]
 
   leaves-step : (line : List ℕ) (full : Bool) (e : Refusal) → (placed full (reply_to tenant bound state s line)).1.reply ≡ reply.No e →
-      ChangesNothing state (placed full (reply_to tenant bound state s line)).0 ⊎ TakesLocks state s line (placed full (reply_to tenant bound state s line)).0
+      ChangesNothing state (placed full (reply_to tenant bound state s line)).0 ⊎ (ComesBehindLocks e × TakesLocks state s line (placed full (reply_to tenant bound state s line)).0)
   leaves-step line true e told = inl refl
   leaves-step line false e told = by (leaves-line line e told)
     where
       after : State
       after = (reply_to tenant bound state s line).0
 
-      by : (after ≡ state) ⊎ ((request : List (ℕ × Mode)) × (request_in state line ≡ Some request) × (first_conflict state.locks s request ≡ None) × (after ≡ locked request)) →
-          ChangesNothing state (record after { steps = state.steps + 1 }) ⊎ TakesLocks state s line (record after { steps = state.steps + 1 })
+      by : (after ≡ state) ⊎ (ComesBehindLocks e × (request : List (ℕ × Mode)) × (request_in state line ≡ Some request) × (first_conflict state.locks s request ≡ None) × (after ≡ locked request)) →
+          ChangesNothing state (record after { steps = state.steps + 1 }) ⊎ (ComesBehindLocks e × TakesLocks state s line (record after { steps = state.steps + 1 }))
       by (inl same) = inl (λ i. record (same i) { steps = state.steps + 1 })
-      by (inr (request, asks, free, is)) = inr (request, asks, free, λ i. record (is i) { steps = state.steps + 1 })
+      by (inr (late, request, asks, free, is)) = inr (late, (request, asks, free, λ i. record (is i) { steps = state.steps + 1 }))
 
 pub take_locks_at_most : (tenant bound : ℕ) → RefusalsTakeLocksAtMost tenant bound
 take_locks_at_most tenant bound state s line e told = leaves-step tenant bound state s line (is_full_for state s line) e told
@@ -224,6 +253,7 @@ change_nothing tenant bound state s line command e is class told = by (take_lock
     none : request_in state line ≡ None
     none = ap (option_and_then (λ c. request_of (walk state.catalog c))) is ∙ none-walk state.catalog command (no-definition command class)
 
-    by : ChangesNothing state (step tenant bound state s line).0 ⊎ TakesLocks state s line (step tenant bound state s line).0 → ChangesNothing state (step tenant bound state s line).0
+    by : ChangesNothing state (step tenant bound state s line).0 ⊎ (ComesBehindLocks e × TakesLocks state s line (step tenant bound state s line).0) →
+        ChangesNothing state (step tenant bound state s line).0
     by (inl same) = same
-    by (inr (request, asks, free, after)) = absurd (let x = sym none ∙ asks in cc)
+    by (inr (late, (request, asks, free, after))) = absurd (let x = sym none ∙ asks in cc)

@@ -2,6 +2,7 @@
 use Rattle.std.specs.Prelude.{◌≡◌, ◌⊎◌, ℕ, List, Option, Some, None, Result, Ok, option_and_then}
 use Rattle.sb_value.specs.declared.lock.Mode.{Mode}
 use Rattle.sb_value.specs.declared.refusal.Refusal.{Refusal}
+use Rattle.sb_value.specs.declared.refusal.Refusal.TheVariants.{TooBig, Overflow, TooManyRows}
 use Rattle.sb_value.specs.Locks.{first_conflict, with_locks}
 use Rattle.sb_syntax.specs.Text.{command_of}
 use Rattle.sb_syntax.specs.Tree.{Command}
@@ -22,6 +23,10 @@ request_of other = None
 abbrev pub request_in : State → List ℕ → Option (List (ℕ × Mode))
 request_in state line = option_and_then (λ c. request_of (walk state.catalog c)) (command_of line)
 
+-- it comes when the statement has its locks: it would cost too much, overflows, or gives too many rows
+abbrev pub ComesBehindLocks : Refusal → Type 0
+ComesBehindLocks refusal = (refusal ≡ TooBig) ⊎ ((refusal ≡ Overflow) ⊎ (refusal ≡ TooManyRows))
+
 -- nothing but the number of steps
 abbrev pub ChangesNothing : State → State → Type 0
 ChangesNothing before after = after ≡ record before { steps = after.steps }
@@ -33,11 +38,11 @@ TakesLocks before s line after =
     × (after ≡ record before { locks = with_locks before.locks s request; steps = after.steps })
 
 module _ (tenant bound : ℕ) where
-  -- a refused line changes no table, rule or ruleset, and no session
+  -- a refused line changes no table, rule or ruleset, and no session; it takes locks where it is refused behind them alone
   abbrev pub RefusalsTakeLocksAtMost : Type 0
   RefusalsTakeLocksAtMost =
       (state : State) (s : ℕ) (line : List ℕ) (refusal : Refusal) → (step tenant bound state s line).1.reply ≡ No refusal →
-      ChangesNothing state (step tenant bound state s line).0 ⊎ TakesLocks state s line (step tenant bound state s line).0
+      ChangesNothing state (step tenant bound state s line).0 ⊎ (ComesBehindLocks refusal × TakesLocks state s line (step tenant bound state s line).0)
 
   -- a refused command that would define something changes nothing at all
   abbrev pub RefusedDefinitionsChangeNothing : Type 0

@@ -1,8 +1,9 @@
 //! The answer to a line.
-ghost use Rattle.std.specs.Prelude.{◌≡◌, ◌<◌, ◌≤◌, ◌^◌, List, None};
+ghost use Rattle.std.specs.Prelude.{◌≡◌, ◌<◌, ◌≤◌, ◌^◌, List, None, length};
 ghost use Rattle.sb_catalog.specs.Definitions.{OtherTenantsStay};
 ghost use Rattle.sb_index.specs.TableSets.{TableSets};
 ghost use Rattle.sb_process.specs.Made.{NumbersBelow};
+ghost use Rattle.sb_syntax.specs.Text.{text_limit};
 ghost use Rattle.sb_syntax.specs.Views.{command as tree_of};
 ghost use Rattle.sb_tenant.specs.declared.phase.Phase.TheVariants as phase;
 ghost use Rattle.sb_tenant.specs.declared.reply.Reply.TheVariants as told;
@@ -55,6 +56,7 @@ impl Store {
     ) -> Replies
         requires stand { (state : State) × StandFor self.old (L.records log.old) (L.clock log.old) index.old state }
         requires bound { asker.now.bound ≤ 1000 }
+        requires short { length line.now ≤ text_limit }
         requires times { L.clock log.old < 2 ^ 63 }
         requires numbers { NumbersBelow (2 ^ 63) self.old.database.tables }
         ensures answered { EachState self.old (L.records log.old) (L.clock log.old) index.old

@@ -12,6 +12,7 @@ mod names;
 mod phase;
 mod places;
 mod processing;
+mod quota;
 mod reply;
 mod rule_commands;
 mod ruleset_commands;

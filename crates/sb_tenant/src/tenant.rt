@@ -2,6 +2,7 @@
 ghost use Rattle.std.specs.Prelude.{◌≡◌, ◌≤◌, ◌<◌, ◌^◌, ◌++◌, ◌∷◌, [], ◌+◌, ℕ, List, true, false, IfOk, IfSome, OnErr, OnOk, Some, nat_le, codes, length, vec_len, vec_capacity, option_copied, option_map};
 ghost use Rattle.sb_index.specs.TableSets.{TableSets};
 ghost use Rattle.sb_rawlog.specs.Records.{Record};
+ghost use Rattle.sb_syntax.specs.Text.{text_limit};
 ghost use Rattle.sb_tenant.specs.declared.reply.Reply.TheVariants as told;
 ghost use Rattle.sb_tenant.specs.Limits.{entry_limit, is_session, trail_limit};
 ghost use Rattle.sb_tenant.specs.State.{session_at, is_open as session_is_open, table_seen};
@@ -14,10 +15,12 @@ use crate::end_lines::EndLines;
 use crate::lines::KnownLines;
 use crate::phase::Phase;
 use crate::places::reserve_here;
+use crate::quota::Quota;
 use crate::reply::{Answer, Entry, Line, Reply};
 use crate::store::Store;
 use sb_index::RuleIndex;
 use sb_rawlog::ChangeLog;
+use sb_syntax::TEXT_LIMIT;
 use sb_tables::Table;
 use sb_value::{Name, Refusal, SESSION_LIMIT, SessionId, TenantId};
 use std::alloc::Global;
@@ -32,7 +35,8 @@ const OPEN: &[u8] = b"open";
 /// The line that ends a session.
 const END: &[u8] = b"end";
 
-/// A step wasn't begun for want of memory.
+/// A step wasn't begun: memory ran out, or what the tenant may take of it is taken, or the line is longer than a command
+/// may be.
 #[derive(Clone, Copy, Debug, PartialEq, Eq)]
 pub struct NotBegun;
 
@@ -51,6 +55,7 @@ pub struct Tenant {
     trail: Vec<Entry>,
     end_lines: EndLines,
     known_lines: KnownLines,
+    quota: Quota,
 }
 
 impl Model for Tenant {
@@ -80,7 +85,16 @@ impl Tenant {
             trail: Vec::new(alloc),
             end_lines: EndLines::new(alloc),
             known_lines: KnownLines::new(alloc),
+            quota: Quota::none(),
         }
+    }
+
+    /// Lets its trail and its open transactions take so many bytes. Where they are taken no line is begun any more but
+    /// `end` and `rollback`, which give back.
+    pub fn limit_memory(&mut self, bytes: u64)
+        ensures { self.new ≡ self.old }
+    {
+        self.quota.set_limit(bytes);
     }
 
     /// Its number.
@@ -133,8 +147,9 @@ impl Tenant {
         self.store.database.tables.by_name(name)
     }
 
-    /// Makes a step of the line, or is refused by the full trail. Where memory runs out before the
-    /// step has begun, nothing changes. The entry shares the bytes of a line that is in memory already.
+    /// Makes a step of the line, or is refused by the full trail. Where memory runs out before the step has begun, or all
+    /// is taken that the tenant may take, and for a line of more than 4,096 bytes, nothing changes. The entry shares the
+    /// bytes of a line that is in memory already.
     pub fn step<L: ChangeLog>(
         &mut self,
         alloc: Global,
@@ -164,6 +179,9 @@ impl Tenant {
                 reply: Reply::No(Refusal::TrailFull),
             });
         }
+        if self.quota.refuses(sent.line) {
+            return Err(NotBegun);
+        }
         self.enter(alloc, log, index, session, sent)
     }
 
@@ -179,6 +197,9 @@ impl Tenant {
             InStep self.old records clock index → InStep self.new records clock index }
     {
         in_range(session);
+        if self.quota.refuses(OPEN) {
+            return Err(NotBegun);
+        }
         let line = make_ready(
             alloc,
             &mut self.trail,
@@ -188,6 +209,7 @@ impl Tenant {
             None,
         )?;
         self.store.open(session);
+        self.quota.count_entry(OPEN, &Reply::Ok);
         let entry = Entry {
             session,
             line,
@@ -214,7 +236,10 @@ impl Tenant {
     {
         in_range(session);
         let line = self.end_lines.take();
+        let changes = log.len();
         self.store.end(log, session);
+        self.quota.count_changes(changes, log.len());
+        self.quota.count_entry(END, &Reply::Ok);
         let entry = Entry {
             session,
             line,
@@ -267,7 +292,10 @@ impl Tenant {
             session,
             bound: self.bound,
         };
+        let changes = log.len();
         let (reply, copy) = self.store.answer(alloc, log, index, &asker, sent.line);
+        self.quota.count_changes(changes, log.len());
+        self.quota.count_entry(sent.line, &reply);
         let entry = Entry {
             session,
             line: kept,
@@ -288,7 +316,7 @@ fn in_range(session: SessionId)
 }
 
 /// Has what a step needs before it begins: a place for its entry, a place and a line for the end of
-/// each session, and the line.
+/// each session, and the line, which is no longer than a command may be.
 fn make_ready(
     alloc: Global,
     trail: &mut Vec<Entry>,
@@ -305,8 +333,10 @@ fn make_ready(
     ensures line { IfOk result (λ kept. kept ≡ line.now) }
     ensures places { OnOk result (vec_len trail.new + 9 ≤ vec_capacity trail.new) }
     ensures filled { OnOk result (8 ≤ end_lines.new) }
+    ensures short { OnOk result (length line.now ≤ text_limit) }
 {
-    if reserve_here(alloc, trail, 1 + SESSION_LIMIT).is_err()
+    if line.len() > TEXT_LIMIT
+        || reserve_here(alloc, trail, 1 + SESSION_LIMIT).is_err()
         || end_lines.fill(alloc, SESSION_LIMIT).is_err()
     {
         return Err(NotBegun);

@@ -26,7 +26,7 @@ longer g c = c.put.ensures.items ∙ ap (λ (l : List ℕ). c.self.inside.trail.
 
 -- the fields after it
 abbrev after : (g : Over) → goal.After-put g → Inside
-after g c = record c.self.inside { store = c.end.new.self; trail = c.put.new.trail; end_lines = c.take-line.new.self }
+after g c = record c.self.inside { store = c.end.new.self; trail = c.put.new.trail; end_lines = c.take-line.new.self; quota = c.count_entry.new.self }
 
 same : (g : Over) (c : goal.After-put g) → IsSame (seen c.self.inside) (seen (after g c))
 same g c = (c.end.ensures.leaves.id, refl)

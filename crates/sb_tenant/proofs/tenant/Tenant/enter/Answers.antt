@@ -28,7 +28,7 @@ put-requires-clause-few g c =
 
 -- the fields after it
 abbrev after : (g : Over) → goal.After-put g → Inside
-after g c = record c.self.inside { store = c.answer-reply.new.self; trail = c.put.new.trail; end_lines = c.make_ready.new.end_lines; known_lines = c.make_ready.new.known_lines }
+after g c = record c.self.inside { store = c.answer-reply.new.self; trail = c.put.new.trail; end_lines = c.make_ready.new.end_lines; known_lines = c.make_ready.new.known_lines; quota = c.count_entry.new.self }
 
 same : (g : Over) (c : goal.After-put g) → IsSame (seen c.self.inside) (seen (after g c))
 same g c = (c.answer-reply.ensures.leaves.id, refl)

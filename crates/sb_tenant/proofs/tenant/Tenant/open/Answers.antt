@@ -34,7 +34,7 @@ room c = subst (λ (v : Tenant). nat_le trail_limit (state v).steps ≡ false) (
 
 -- the fields after it
 abbrev after : goal.After-put → Inside
-after c = record c.self.inside { store = c.open.new.self; trail = c.put.new.trail; end_lines = c.make_ready.new.end_lines; known_lines = c.make_ready.new.known_lines }
+after c = record c.self.inside { store = c.open.new.self; trail = c.put.new.trail; end_lines = c.make_ready.new.end_lines; known_lines = c.make_ready.new.known_lines; quota = c.count_entry.new.self }
 
 same : (c : goal.After-put) → IsSame (seen c.self.inside) (seen (after c))
 same c = (ap (λ (d : Database). d.id) c.open.ensures.database, refl)

@@ -1,0 +1,91 @@
+//! How much memory a tenant may take.
+ghost use Rattle.std.specs.Prelude.{◌≡◌, Some, None};
+ghost use Rattle.sb_tenant.specs.Quota.{refuses};
+
+use crate::reply::{NamedTrace, Reply};
+use sb_rows::SharedRows;
+
+/// The line that gives a transaction's memory back.
+const ROLLBACK: &[u8] = b"rollback";
+
+/// An entry takes so many bytes, beside its line and its reply.
+const ENTRY_BYTES: usize = 128;
+
+/// A change of an open transaction takes so many bytes: its place in the log, and the two rows of a short table.
+const CHANGE_BYTES: u64 = 256;
+
+/// A considered rule in a reply takes so many bytes.
+const CONSIDERED_BYTES: usize = 40;
+
+/// What a tenant's trail and its open transactions take, and how much that may be, in bytes.
+#[derive(Clone, Copy)]
+pub(crate) struct Quota {
+    limit: Option<u64>,
+    taken: u64,
+}
+
+impl Quota {
+    /// Without a limit, and with nothing taken.
+    pub(crate) fn none() -> Quota
+        ensures { result ≡ record { limit = None; taken = 0 } }
+    {
+        Quota {
+            limit: None,
+            taken: 0,
+        }
+    }
+
+    /// So many bytes may be taken.
+    pub(crate) fn set_limit(&mut self, bytes: u64)
+        ensures { self.new ≡ record self.old { limit = Some bytes } }
+    {
+        self.limit = Some(bytes);
+    }
+
+    /// Whether a line isn't begun: all that may be taken is, and it isn't `rollback`, which gives back.
+    pub(crate) fn refuses(&self, line: &[u8]) -> bool
+        ensures { result ≡ refuses self.now line.now }
+    {
+        match self.limit {
+            Some(limit) => self.taken >= limit && line != ROLLBACK,
+            None => false,
+        }
+    }
+
+    /// Counts an entry with this line and this reply.
+    pub(crate) fn count_entry(&mut self, line: &[u8], reply: &Reply)
+        ensures { self.new.limit ≡ self.old.limit }
+    {
+        let bytes = reply_bytes(reply).saturating_add(line.len().saturating_add(ENTRY_BYTES));
+        self.taken = self.taken.saturating_add(bytes as u64);
+    }
+
+    /// Counts changes: the open transactions had so many, and have so many now.
+    pub(crate) fn count_changes(&mut self, before: usize, after: usize)
+        ensures { self.new.limit ≡ self.old.limit }
+    {
+        let added = CHANGE_BYTES.saturating_mul(after as u64);
+        let gone = CHANGE_BYTES.saturating_mul(before as u64);
+        self.taken = self.taken.saturating_add(added).saturating_sub(gone);
+    }
+}
+
+/// What a reply takes beside its entry.
+fn reply_bytes(reply: &Reply) -> usize {
+    match reply {
+        Reply::Rows(rows) => text_bytes(rows),
+        Reply::Done(trace)
+        | Reply::ByRule(_, trace)
+        | Reply::ByError(_, _, trace)
+        | Reply::ByLimit(trace) => trace_bytes(trace),
+        Reply::Ok | Reply::Count(_) | Reply::No(_) => 0,
+    }
+}
+
+fn text_bytes(rows: &SharedRows) -> usize {
+    rows.text().len()
+}
+
+fn trace_bytes(trace: &NamedTrace) -> usize {
+    trace.as_slice().len().saturating_mul(CONSIDERED_BYTES)
+}
