@@ -2,3 +2,4 @@ pub mod Talks
 pub mod Closing
 pub mod Whole
 pub mod Steps
+pub mod Routes

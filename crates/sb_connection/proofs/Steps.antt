@@ -7,13 +7,14 @@ use Rattle.sb_wire.specs.Lines.{Completes, Piece, complete_pieces, last_piece, l
 use Rattle.sb_wire.specs.Responses.{AreAnswered}
 use Rattle.sb_connection.specs.declared.state.State.TheVariants.{Open, Answered, Over, Failed}
 use Rattle.sb_connection.specs.declared.state.State as stands
+use Rattle.sb_connection.specs.Conversation.{Hosted}
 use Rattle.sb_connection.specs.History.{AreAll, AreComplete, History, MayReceive, Stands, Tells, after_end, after_receiving, after_sending, nothing_yet}
 use Rattle.sb_connection.specs.Machine.{Adds, AddsLast, Answers, Finishes, Holds, Steps, Talking}
 use Rattle.sb_connection.specs.Responding.{Responds, State, over}
 use Rattle.sb_connection.specs.Standing.{is_open}
 
-pub nothing_holds : (tenants : ℕ) → Holds (record { history = nothing_yet tenants; opened = line []; talk = (None, false) })
-nothing_holds tenants = record {
+pub nothing_holds : (hosted : Hosted) → Holds (record { history = nothing_yet hosted; opened = line []; talk = (None, false) })
+nothing_holds hosted = record {
   pieces = [];
   text = [];
   tells = record { taken = []; split = refl; lost = []; whole = refl; stands = (refl, refl, refl) };
@@ -58,11 +59,11 @@ drop_behind n bytes fed behind is =
     (ap (λ (m : ℕ). drop m (front ++ behind)) count ∙ drop-append_seam front behind)
 
 -- some lines, and then others
-answered_then : (tenants : ℕ) (a b c : State) (ps qs : List Piece) (text more : List ℕ) → AreAnswered (Responds tenants) over a ps text b → AreAnswered (Responds tenants) over b qs more c → AreAnswered (Responds tenants) over a (ps ++ qs) (text ++ more) c
-answered_then tenants a b c [] qs text more (none, same) others =
-    subst (λ (t : List ℕ). AreAnswered (Responds tenants) over a qs t c) (ap (λ (t : List ℕ). t ++ more) (sym none)) (subst (λ (s : State). AreAnswered (Responds tenants) over s qs more c) same others)
-answered_then tenants a b c (p ∷ ps) qs text more (first, rest, mid, is, going, own, first-others) others =
-    (first, rest ++ more, mid, ap (λ (t : List ℕ). t ++ more) is ∙ append_assoc first rest more, going, own, answered_then tenants mid b c ps qs rest more first-others others)
+answered_then : (hosted : Hosted) (a b c : State) (ps qs : List Piece) (text more : List ℕ) → AreAnswered (Responds hosted) over a ps text b → AreAnswered (Responds hosted) over b qs more c → AreAnswered (Responds hosted) over a (ps ++ qs) (text ++ more) c
+answered_then hosted a b c [] qs text more (none, same) others =
+    subst (λ (t : List ℕ). AreAnswered (Responds hosted) over a qs t c) (ap (λ (t : List ℕ). t ++ more) (sym none)) (subst (λ (s : State). AreAnswered (Responds hosted) over s qs more c) same others)
+answered_then hosted a b c (p ∷ ps) qs text more (first, rest, mid, is, going, own, first-others) others =
+    (first, rest ++ more, mid, ap (λ (t : List ℕ). t ++ more) is ∙ append_assoc first rest more, going, own, answered_then hosted mid b c ps qs rest more first-others others)
 
 module _ (k : Talking) (holds : Holds k) where
   abbrev h : History
@@ -217,8 +218,8 @@ module _ (k : Talking) (holds : Holds k) where
             tells = t.0;
             is_open = (completes.behind taken holds.is_open).1 ∙ ap (λ (bytes : List ℕ). piece_of (open_line bytes)) (sym t.1);
             answered =
-                subst (λ (n : ℕ). AreAnswered (Responds n) over (None, false) pieces (holds.text ++ a.text) new.talk) (sym a.streams.0)
-                (answered_then h.tenants (None, false) k.talk new.talk holds.pieces (p ∷ []) holds.text a.text holds.answered (a.text, [], new.talk, sym (append-nil a.text), standing.2, a.responds, (refl, refl)));
+                subst (λ (n : Hosted). AreAnswered (Responds n) over (None, false) pieces (holds.text ++ a.text) new.talk) (sym a.streams.0)
+                (answered_then h.hosted (None, false) k.talk new.talk holds.pieces (p ∷ []) holds.text a.text holds.answered (a.text, [], new.talk, sym (append-nil a.text), standing.2, a.responds, (refl, refl)));
           }
 
     -- the line that stands open at the end is answered
@@ -271,8 +272,8 @@ module _ (k : Talking) (holds : Holds k) where
             tells = t.0;
             is_open = a.opened ∙ holds.is_open ∙ ap (λ (bytes : List ℕ). piece_of (open_line bytes)) (sym t.1);
             answered =
-                subst (λ (n : ℕ). AreAnswered (Responds n) over (None, false) all (holds.text ++ a.text) new.talk) (sym a.streams.0)
-                (answered_then h.tenants (None, false) k.talk new.talk holds.pieces (last_piece k.opened) holds.text a.text holds.answered a.answered);
+                subst (λ (n : Hosted). AreAnswered (Responds n) over (None, false) all (holds.text ++ a.text) new.talk) (sym a.streams.0)
+                (answered_then h.hosted (None, false) k.talk new.talk holds.pieces (last_piece k.opened) holds.text a.text holds.answered a.answered);
           }
 
 -- ---- steps, from the fields of a connection

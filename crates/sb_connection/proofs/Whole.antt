@@ -9,43 +9,43 @@ use Rattle.sb_wire.specs.Seen.{refusal_line}
 use Rattle.sb_wire.specs.declared.refusal.WireRefusal.TheVariants as wire
 use Rattle.sb_host.specs.Calls.{Attached, Session}
 use Rattle.sb_host.specs.declared.stub.Stub.{Stub}
-use Rattle.sb_connection.specs.Conversation.{Talks, TurnsAway, TurnsAwayFrom, attach_lines, named_by, named_of, welcome}
+use Rattle.sb_connection.specs.Conversation.{Hosted, Talks, TurnsAway, TurnsAwayFrom, attach_lines, named_by, named_of, tenant_at, welcome}
 use Rattle.sb_connection.specs.declared.greeting.Named.{Named}
 use Rattle.sb_connection.specs.Exchanges.{IsClosed, has_ended, receipts_of}
 use Rattle.sb_connection.specs.Responding.{Greets, GreetsBy, LeavesSome, Responds, State, is_over, over}
 use Rattle.sb_connection.proofs.Closing.{left_receipts}
 use Rattle.sb_connection.proofs.Talks.{MovesBy, calls}
 
-module _ (tenants : ℕ) where
+module _ (hosted : Hosted) where
   -- ---- the first line
 
-  turned_by : (named : Option Named) (text : List ℕ) (away : Bool) → GreetsBy tenants named text None away → (away ≡ true) × ((said : List (List ℕ)) × TurnsAwayFrom tenants named said × (text ≡ ended_lines said))
+  turned_by : (named : Option Named) (text : List ℕ) (away : Bool) → GreetsBy hosted named text None away → (away ≡ true) × ((said : List (List ℕ)) × TurnsAwayFrom hosted named said × (text ≡ ended_lines said))
   turned_by None text away (none, is_away, is) = (is_away, (refusal_line wire.BadLine ∷ [], refl, is))
   turned_by (Some n) text away (is_away, e, attached, is) = (is_away, (attach_lines e, (e, attached, refl), is))
 
-  turned : (p : Piece) (text : List ℕ) (away : Bool) → Greets tenants p text None away → (away ≡ true) × ((said : List (List ℕ)) × TurnsAway tenants p said × (text ≡ ended_lines said))
+  turned : (p : Piece) (text : List ℕ) (away : Bool) → Greets hosted p text None away → (away ≡ true) × ((said : List (List ℕ)) × TurnsAway hosted p said × (text ≡ ended_lines said))
   turned too_long text away (none, is_away, is) = (is_away, (refusal_line wire.TooLong ∷ [], refl, is))
   turned (line bytes) text away greets = turned_by (named_of bytes) text away greets
 
-  opened_by : (named : Option Named) (text : List ℕ) (s : Session) (away : Bool) → GreetsBy tenants named text (Some s) away → (n : Named) × (named ≡ Some n) × Attached tenants n.tenant n.session (Ok s) × (text ≡ welcome)
+  opened_by : (named : Option Named) (text : List ℕ) (s : Session) (away : Bool) → GreetsBy hosted named text (Some s) away → (n : Named) × (named ≡ Some n) × Attached hosted.tenants (tenant_at hosted n.tenant) n.session (Ok s) × (text ≡ welcome)
   opened_by None text s away (none, is_away, is) = absurd cc
   opened_by (Some n) text s away (attached, is) = (n, refl, attached, is)
 
-  opened : (p : Piece) (text : List ℕ) (s : Session) (away : Bool) → Greets tenants p text (Some s) away → (n : Named) × (named_by p ≡ Some n) × Attached tenants n.tenant n.session (Ok s) × (text ≡ welcome)
+  opened : (p : Piece) (text : List ℕ) (s : Session) (away : Bool) → Greets hosted p text (Some s) away → (n : Named) × (named_by p ≡ Some n) × Attached hosted.tenants (tenant_at hosted n.tenant) n.session (Ok s) × (text ≡ welcome)
   opened too_long text s away (none, is_away, is) = absurd cc
   opened (line bytes) text s away greets = opened_by (named_of bytes) text s away greets
 
   -- ---- the lines behind
 
   abbrev Answered : State → List Piece → List ℕ → State → Type 0
-  Answered old pieces text new = AreAnswered (Responds tenants) over old pieces text new
+  Answered old pieces text new = AreAnswered (Responds hosted) over old pieces text new
 
   -- what is to be shown
   abbrev Whole : List Piece → List ℕ → Option Stub → Bool → Type 0
-  Whole pieces text stub is_over = Talks tenants pieces text stub is_over × IfSome stub (λ s. IsClosed s.receipts.items)
+  Whole pieces text stub is_over = Talks hosted pieces text stub is_over × IfSome stub (λ s. IsClosed s.receipts.items)
 
   -- none, where the connection was turned away
-  after_turning : (p : Piece) (ps : List Piece) (text first rest : List ℕ) (away : Bool) (new : State) (stub : Option Stub) → text ≡ first ++ rest → Greets tenants p first None away
+  after_turning : (p : Piece) (ps : List Piece) (text first rest : List ℕ) (away : Bool) (new : State) (stub : Option Stub) → text ≡ first ++ rest → Greets hosted p first None away
       → Answered (None, away) ps rest new → LeavesSome new.0 stub → Whole (p ∷ ps) text stub (over new)
   after_turning p [] text first rest away new stub is greets (none, same) leaves =
       let t = turned p first away greets in
@@ -56,7 +56,7 @@ module _ (tenants : ℕ) where
   after_turning p (q ∷ ps) text first rest away new stub is greets (f, r, mid, same, going, own, later) leaves = absurd (false≢true (sym going ∙ (turned p first away greets).0))
 
   -- calls of the session that was opened
-  after_opening : (p : Piece) (ps : List Piece) (text first rest : List ℕ) (s : Session) (away : Bool) (new : State) (stub : Stub) → text ≡ first ++ rest → Greets tenants p first (Some s) away
+  after_opening : (p : Piece) (ps : List Piece) (text first rest : List ℕ) (s : Session) (away : Bool) (new : State) (stub : Stub) → text ≡ first ++ rest → Greets hosted p first (Some s) away
       → (r : MovesBy s ps rest new) → LeavesSome (Some r.new) (Some stub) → Whole (p ∷ ps) text (Some stub) (over new)
   after_opening p ps text first rest s away new stub is greets r (of_tenant, of_session, same, more) =
       let o = opened p first s away greets in
@@ -81,12 +81,12 @@ module _ (tenants : ℕ) where
         left.1,
       )
 
-  first_line : (p : Piece) (ps : List Piece) (text first rest : List ℕ) (session : Option Session) (away : Bool) (new : State) (stub : Option Stub) → text ≡ first ++ rest → Greets tenants p first session away
+  first_line : (p : Piece) (ps : List Piece) (text first rest : List ℕ) (session : Option Session) (away : Bool) (new : State) (stub : Option Stub) → text ≡ first ++ rest → Greets hosted p first session away
       → Answered (session, away) ps rest new → LeavesSome new.0 stub → Whole (p ∷ ps) text stub (over new)
   first_line p ps text first rest None away new stub is greets others leaves = after_turning p ps text first rest away new stub is greets others leaves
   first_line p ps text first rest (Some s) away new stub is greets others leaves =
       let open_yet : s.ended ≡ false = ap (λ (x : Session). x.ended) (opened p first s away greets).2.2.1 in
-      let r = calls tenants s away ps rest new open_yet others in
+      let r = calls hosted s away ps rest new open_yet others in
       by_stub stub r (subst (λ (x : Option Session). LeavesSome x stub) r.is leaves)
     where
       by_stub : (k : Option Stub) (r : MovesBy s ps rest new) → LeavesSome (Some r.new) k → Whole (p ∷ ps) text k (over new)

@@ -4,12 +4,12 @@ use Rattle.sb_wire.specs.Lines.{Piece, complete_pieces, last_piece, open_line, p
 use Rattle.sb_host.specs.declared.stub.Stub.{Stub}
 use Rattle.sb_connection.specs.declared.state.State.{State}
 use Rattle.sb_connection.specs.declared.state.State.TheVariants.{Open, Answered, Over, Failed}
-use Rattle.sb_connection.specs.Conversation.{Talks}
+use Rattle.sb_connection.specs.Conversation.{Hosted, Talks}
 use Rattle.sb_connection.specs.Standing.{is_open}
 
 pub record History : Type 0 where
   -- those of the host
-  pub tenants : ℕ
+  pub hosted : Hosted
   pub state : State
   -- the client sends no more
   pub at_end : Bool
@@ -22,8 +22,8 @@ pub record History : Type 0 where
 
 -- ---- what is done from outside
 
-abbrev pub nothing_yet : ℕ → History
-nothing_yet tenants = record { tenants = tenants; state = Open; at_end = false; received = []; waiting = []; handed = []; pending = [] }
+abbrev pub nothing_yet : Hosted → History
+nothing_yet hosted = record { hosted = hosted; state = Open; at_end = false; received = []; waiting = []; handed = []; pending = [] }
 
 abbrev pub after_receiving : History → List ℕ → History
 after_receiving h bytes = record h { received = h.received ++ bytes; waiting = h.waiting ++ bytes }
@@ -43,7 +43,7 @@ MayReceive h = (is_open h.state ≡ true) × (h.at_end ≡ false) × (h.waiting 
 -- nothing is received or sent
 abbrev pub SameStreams : History → History → Type 0
 SameStreams old new =
-    (new.tenants ≡ old.tenants) × (new.at_end ≡ old.at_end) × (new.received ≡ old.received) × (new.handed ≡ old.handed)
+    (new.hosted ≡ old.hosted) × (new.at_end ≡ old.at_end) × (new.received ≡ old.received) × (new.handed ≡ old.handed)
 
 -- no line is answered any more, or something is to be sent first, or all that came are looked at and more may come
 abbrev pub IsSettled : History → Type 0
@@ -80,4 +80,4 @@ pub record Converses (h : History) (stub : Option Stub) : Type 0 where
   pub text : List ℕ
   pub over : Bool
   pub tells : Tells h pieces text over
-  pub talks : Talks h.tenants pieces text stub over
+  pub talks : Talks h.hosted pieces text stub over

@@ -5,3 +5,6 @@ pub mod Watching
 pub mod Standing
 pub mod History
 pub mod Machine
+pub mod Routing
+pub mod Traffic
+pub mod Transactions

@@ -1,6 +1,6 @@
 -- Machine: what holds of a connection between its steps.
-use Rattle.std.specs.Prelude.{◌≡◌, ℕ, Bool, true, false, List, [], ◌++◌, Option, None}
-use Rattle.sb_wire.specs.Lines.{Piece, last_piece, line, open_line, piece_of}
+use Rattle.std.specs.Prelude.{◌≡◌, ℕ, Bool, true, false, List, ◌++◌, None}
+use Rattle.sb_wire.specs.Lines.{Piece, last_piece, open_line, piece_of}
 use Rattle.sb_wire.specs.Responses.{AreAnswered}
 use Rattle.sb_connection.specs.declared.state.State.TheVariants.{Open, Answered, Over, Failed}
 use Rattle.sb_connection.specs.declared.state.State as stands
@@ -19,7 +19,7 @@ pub record Holds (k : Talking) : Type 0 where
   pub text : List ℕ
   pub tells : Tells k.history pieces text (over k.talk)
   pub is_open : k.opened ≡ piece_of (open_line tells.taken)
-  pub answered : AreAnswered (Responds k.history.tenants) over (None, false) pieces text k.talk
+  pub answered : AreAnswered (Responds k.history.hosted) over (None, false) pieces text k.talk
 
 -- a step keeps what holds, and receives and sends nothing
 pub record Steps (old : Talking) (more : Bool) (new : Talking) : Type 0 where
@@ -39,7 +39,7 @@ Adds Failed old text new is_over = new ≡ old
 -- the open line is answered, and all else stays
 pub record Answers (old new : Talking) : Type 0 where
   pub text : List ℕ
-  pub responds : Responds old.history.tenants old.talk old.opened text new.talk
+  pub responds : Responds old.history.hosted old.talk old.opened text new.talk
   pub adds : Adds new.history.state old.history.pending text new.history.pending (over new.talk)
   pub streams : SameStreams old.history new.history
   pub waiting : new.history.waiting ≡ old.history.waiting
@@ -55,7 +55,7 @@ AddsLast Failed old text new = new ≡ old
 -- the line that stands open at the end is answered, if it has a byte, and no other one is
 pub record Finishes (old new : Talking) : Type 0 where
   pub text : List ℕ
-  pub answered : AreAnswered (Responds old.history.tenants) over old.talk (last_piece old.opened) text new.talk
+  pub answered : AreAnswered (Responds old.history.hosted) over old.talk (last_piece old.opened) text new.talk
   pub adds : AddsLast new.history.state old.history.pending text new.history.pending
   pub streams : SameStreams old.history new.history
   pub waiting : new.history.waiting ≡ old.history.waiting

@@ -10,7 +10,7 @@ use Rattle.sb_desk.specs.declared.desk.CallError.TheVariants as call
 use Rattle.sb_host.specs.Calls.{Attached, Calls, Session}
 use Rattle.sb_host.specs.Stubs.{LeavesStub}
 use Rattle.sb_host.specs.declared.stub.Stub.{Stub}
-use Rattle.sb_connection.specs.Conversation.{attach_lines, named_of, welcome}
+use Rattle.sb_connection.specs.Conversation.{Hosted, attach_lines, named_of, tenant_at, welcome}
 use Rattle.sb_connection.specs.declared.greeting.Named.{Named}
 use Rattle.sb_connection.specs.Exchanges.{Exchange, line_in, said_text}
 use Rattle.sb_connection.specs.Exchanges as exchange
@@ -33,29 +33,29 @@ Exchanges old (exchange.unbegun bytes) new = Calls old bytes (Err call.NotBegun)
 Exchanges old (exchange.answered bytes answer) new = Calls old bytes (Ok answer) new
 
 -- a first line opens a session, or the connection is turned away
-abbrev pub GreetsNamed : ℕ → Named → List ℕ → Option Session → Bool → Type 0
-GreetsNamed tenants named text None away = (away ≡ true) × (e : AttachError) × Attached tenants named.tenant named.session (Err e) × (text ≡ ended_lines (attach_lines e))
-GreetsNamed tenants named text (Some s) away = Attached tenants named.tenant named.session (Ok s) × (text ≡ welcome)
+abbrev pub GreetsNamed : Hosted → Named → List ℕ → Option Session → Bool → Type 0
+GreetsNamed hosted named text None away = (away ≡ true) × (e : AttachError) × Attached hosted.tenants (tenant_at hosted named.tenant) named.session (Err e) × (text ≡ ended_lines (attach_lines e))
+GreetsNamed hosted named text (Some s) away = Attached hosted.tenants (tenant_at hosted named.tenant) named.session (Ok s) × (text ≡ welcome)
 
 abbrev pub TurnsAwayBy : WireRefusal → List ℕ → Option Session → Bool → Type 0
 TurnsAwayBy r text s away = (s ≡ None) × (away ≡ true) × (text ≡ ended_lines (refusal_line r ∷ []))
 
 -- by what the line names
-abbrev pub GreetsBy : ℕ → Option Named → List ℕ → Option Session → Bool → Type 0
-GreetsBy tenants None text s away = TurnsAwayBy wire.BadLine text s away
-GreetsBy tenants (Some named) text s away = GreetsNamed tenants named text s away
+abbrev pub GreetsBy : Hosted → Option Named → List ℕ → Option Session → Bool → Type 0
+GreetsBy hosted None text s away = TurnsAwayBy wire.BadLine text s away
+GreetsBy hosted (Some named) text s away = GreetsNamed hosted named text s away
 
-abbrev pub Greets : ℕ → Piece → List ℕ → Option Session → Bool → Type 0
-Greets tenants too_long text s away = TurnsAwayBy wire.TooLong text s away
-Greets tenants (line bytes) text s away = GreetsBy tenants (named_of bytes) text s away
+abbrev pub Greets : Hosted → Piece → List ℕ → Option Session → Bool → Type 0
+Greets hosted too_long text s away = TurnsAwayBy wire.TooLong text s away
+Greets hosted (line bytes) text s away = GreetsBy hosted (named_of bytes) text s away
 
 -- the first line is greeted, and any other is an exchange of the session
-abbrev pub RespondsBy : ℕ → Option Session → Piece → List ℕ → State → Type 0
-RespondsBy tenants None p text new = Greets tenants p text new.0 new.1
-RespondsBy tenants (Some s) p text new = (e : Exchange) × (after : Session) × (p ≡ line_in e) × (text ≡ said_text e) × Exchanges s e after × (new.0 ≡ Some after)
+abbrev pub RespondsBy : Hosted → Option Session → Piece → List ℕ → State → Type 0
+RespondsBy hosted None p text new = Greets hosted p text new.0 new.1
+RespondsBy hosted (Some s) p text new = (e : Exchange) × (after : Session) × (p ≡ line_in e) × (text ≡ said_text e) × Exchanges s e after × (new.0 ≡ Some after)
 
-abbrev pub Responds : ℕ → State → Piece → List ℕ → State → Type 0
-Responds tenants old p text new = RespondsBy tenants old.0 p text new
+abbrev pub Responds : Hosted → State → Piece → List ℕ → State → Type 0
+Responds hosted old p text new = RespondsBy hosted old.0 p text new
 
 -- a session is closed, if there is one
 abbrev pub LeavesSome : Option Session → Option Stub → Type 0

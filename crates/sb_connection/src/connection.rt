@@ -1,24 +1,28 @@
 //! A connection as a value over bytes: bytes come in and bytes go out, and it makes no system call.
-ghost use Rattle.std.specs.Prelude.{◌≡◌, ◌<◌, ◌≤◌, ◌↔◌, length, IfSome, IsFalse, IsTrue, OnErr, OnOk, [], false};
+ghost use Rattle.std.specs.Prelude.{◌≡◌, ◌<◌, ◌≤◌, ◌↔◌, length, IfOk, IfSome, IsFalse, IsTrue, OnErr, OnOk, [], false};
+ghost use Rattle.sb_connection.specs.Conversation.{hosting};
 ghost use Rattle.sb_connection.specs.Exchanges.{IsClosed};
 ghost use Rattle.sb_connection.specs.History.{Converses, IsSettled, MayReceive, SameStreams, after_end, after_receiving, after_sending, nothing_yet};
 ghost use Rattle.sb_connection.specs.Standing.{is_open};
+ghost use Rattle.sb_connection.specs.Traffic.{after_write};
 
+use crate::ending::Ending;
 use crate::machine::Machine;
 use crate::serve::{close, tell_end};
 use crate::state::State;
+use crate::stream::Stream;
 use crate::watch::Watch;
 use sb_host::{Host, Naming, Stub};
-use sb_wire::StreamError;
 use std::alloc::{AllocError, Global};
+use std::io;
 use std::marker::Model;
 use std::sync::Wait;
 
 /// How many lines are answered at most before other connections have their turn.
 const LINES_A_TURN: usize = 64;
 
-/// Give it what comes while it `wants_read`, `advance` it, and send its `output` while it
-/// `wants_write`, until it `is_done`. Then close it, or at any time before.
+/// Give it what comes while it `wants_read`, `advance` it, and `send` while it `wants_write`,
+/// until it `is_done`. Then close it, or at any time before.
 #[derive(Drop)]
 pub struct Connection<'h, N: Naming> {
     machine: Machine<'h, N>,
@@ -36,12 +40,12 @@ impl<'h, N: Naming> Model for Connection<'h, N> {
 }
 
 impl<'h, N: Naming> Connection<'h, N> {
-    /// Before its first byte. It allocates nothing.
-    pub fn new(alloc: Global, host: &'h Host<N>) -> Connection<'h, N>
-        ensures { result ≡ nothing_yet host.now }
+    /// Before its first byte; the host's first tenant has this number. It allocates nothing.
+    pub fn new(alloc: Global, host: &'h Host<N>, first: u32) -> Connection<'h, N>
+        ensures { result ≡ nothing_yet (hosting first host.now) }
     {
         Connection {
-            machine: Machine::new(alloc, host),
+            machine: Machine::new(alloc, host, first),
         }
     }
 
@@ -83,33 +87,28 @@ impl<'h, N: Naming> Connection<'h, N> {
         true
     }
 
-    /// The next bytes to send.
-    pub fn output(&self) -> &[u8]
-        ensures { result.now ≡ self.now.pending }
+    /// Sends once, as much as the stream takes: so many bytes, or why none.
+    pub fn send<S: Stream>(&mut self, stream: &mut S) -> io::Result<usize>
+        ensures count { IfOk result (λ count. count ≤ length self.old.pending) }
+        ensures sent { IfOk result (λ count. self.new ≡ after_sending self.old count) }
+        ensures unsent { OnErr result (self.new ≡ self.old) }
+        ensures traffic { S.traffic stream.new ≡ after_write (S.traffic stream.old) self.old.pending result }
     {
-        self.machine.pending()
-    }
-
-    /// So many of them were sent.
-    pub fn sent(&mut self, count: usize)
-        requires { count ≤ length self.old.pending }
-        ensures { self.new ≡ after_sending self.old count }
-    {
-        self.machine.note_sent(count);
+        self.machine.send(stream)
     }
 
     /// Whether there is something to send.
     pub fn wants_write(&self) -> bool
         ensures { IsTrue result ↔ (0 < length self.now.pending) }
     {
-        !self.output().is_empty()
+        !self.machine.pending().is_empty()
     }
 
     /// Whether no line is answered any more, and all replies are sent.
     pub fn is_done(&self) -> bool
         ensures { IsTrue result ↔ ((is_open self.now.state ≡ false) × (self.now.pending ≡ [])) }
     {
-        !self.machine.state().is_open() && self.output().is_empty()
+        !self.machine.state().is_open() && self.machine.pending().is_empty()
     }
 
     /// Whether there was no memory for a reply.
@@ -119,19 +118,27 @@ impl<'h, N: Naming> Connection<'h, N> {
         matches!(self.machine.state(), State::Failed)
     }
 
+    /// How many bytes that came aren't looked at yet.
+    pub fn waiting(&self) -> usize
+        ensures { result ≡ length self.now.waiting }
+    {
+        self.machine.waiting().len()
+    }
+
+    /// Whether its session has a transaction, by what it was answered.
+    pub fn transacts(&self) -> bool {
+        self.machine.transacts
+    }
+
     /// Closes the session, if one was opened, and tells of it.
-    pub fn close<T: Wait, V: Watch>(
-        self,
-        rt: &T,
-        watch: &V,
-        ended: Result<(), StreamError>,
-    ) -> Option<Stub>
+    pub fn close<T: Wait, V: Watch>(self, rt: &T, watch: &V, ended: Ending) -> Option<Stub>
         ensures conversation { Converses self.entry result }
         ensures closed { IfSome result (λ stub. IsClosed stub.receipts.items) }
     {
         let Connection { machine } = self;
+        let first = machine.first;
         let stub = close(rt, machine.into_session());
-        tell_end(watch, &stub, &ended);
+        tell_end(watch, first, &stub, ended);
         stub
     }
 }

@@ -2,7 +2,7 @@
 ghost use Rattle.std.specs.Prelude.{◌≡◌, ◌++◌, ◌∷◌, [], List, ℕ, None, OnOk, OnErr, true};
 ghost use Rattle.sb_wire.specs.Output.{ended_lines};
 ghost use Rattle.sb_wire.specs.Seen.{piece_seen, refusal_line};
-ghost use Rattle.sb_connection.specs.Conversation.{attach_lines, named_of};
+ghost use Rattle.sb_connection.specs.Conversation.{attach_lines, hosting, named_by, named_of, tenant_at};
 ghost use Rattle.sb_connection.specs.Responding.{Greets, GreetsNamed};
 
 use crate::talking::Talk;
@@ -25,7 +25,7 @@ pub struct Named {
 
 impl Named {
     /// The two numbers of a line, if it is that.
-    fn split(line: &[u8]) -> Option<Named>
+    pub(crate) fn split(line: &[u8]) -> Option<Named>
         ensures { result ≡ named_of line.now }
     {
         let (tenant, rest) = number_before_space(line)?;
@@ -34,15 +34,29 @@ impl Named {
     }
 }
 
-/// The tenant that a first line names, or 0.
-pub(crate) fn tenant_named(piece: Piece<'_>) -> u32 {
-    let Piece::Line(line) = piece else {
-        return 0;
-    };
-    match Named::split(line) {
-        Some(named) => named.tenant,
-        None => 0,
+/// What a first line names.
+pub(crate) fn named_in(piece: Piece<'_>) -> Option<Named>
+    ensures { result ≡ named_by (piece_seen piece.entry) }
+{
+    match piece {
+        Piece::Line(line) => Named::split(line),
+        Piece::TooLong => None,
     }
+}
+
+/// Which tenant of a host this number names, where so many have numbers from the first one on.
+pub(crate) fn tenant_at(first: u32, tenants: u32, number: u32) -> u32
+    ensures { result ≡ tenant_at (hosting first tenants) number }
+{
+    if number < first {
+        return tenants;
+    }
+    number - first
+}
+
+/// The number of a tenant of a host.
+pub(crate) fn number_of(first: u32, tenant: u32) -> u32 {
+    first.saturating_add(tenant)
 }
 
 /// Opens the session that a first line names, or turns the connection away.
@@ -55,7 +69,7 @@ pub(crate) fn greet<'h, T: Wait, N: Naming, V: Watch>(
     away: &mut bool,
 ) -> Result<(), AllocError>
     requires { session.old ≡ None }
-    ensures { (text : List ℕ) × Greets talk.now.host.now (piece_seen piece.entry) text session.new away.new
+    ensures { (text : List ℕ) × Greets (hosting talk.now.first talk.now.host.now) (piece_seen piece.entry) text session.new away.new
         × OnOk result (out.new.items ≡ out.old.items ++ text)
         × OnErr result (out.new.items ≡ out.old.items) }
 {
@@ -94,14 +108,12 @@ fn open<'h, T: Wait, N: Naming, V: Watch>(
     away: &mut bool,
 ) -> Result<(), AllocError>
     requires { session.old ≡ None }
-    ensures { (text : List ℕ) × GreetsNamed talk.now.host.now named text session.new away.new
+    ensures { (text : List ℕ) × GreetsNamed (hosting talk.now.first talk.now.host.now) named text session.new away.new
         × OnOk result (out.new.items ≡ out.old.items ++ text)
         × OnErr result (out.new.items ≡ out.old.items) }
 {
-    match talk
-        .host
-        .attach(talk.rt, alloc, named.tenant, named.session)
-    {
+    let tenant = tenant_at(talk.first, talk.host.tenants(), named.tenant);
+    match talk.host.attach(talk.rt, alloc, tenant, named.session) {
         Ok(opened) => {
             talk.watch.see(Event::Attached(named));
             *session = Some(opened);

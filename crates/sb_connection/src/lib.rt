@@ -3,16 +3,23 @@
 #![tactic(auto)]
 
 mod connection;
+mod ending;
 mod greeting;
 mod machine;
 mod room;
+mod routing;
 mod serve;
 mod state;
+mod stream;
 mod talking;
+mod transactions;
 mod watch;
 
 pub use connection::Connection;
+pub use ending::Ending;
 pub use greeting::Named;
+pub use routing::{Route, route_of};
 pub use serve::{Served, serve_one, serve_one_with};
 pub use state::State;
+pub use stream::Stream;
 pub use watch::{Event, NoWatch, Watch};

@@ -1,20 +1,25 @@
 //! The steps of a connection, each of which answers a line.
-ghost use Rattle.std.specs.Prelude.{◌≡◌, ◌≤◌, [], false, true, None, length, ◌⊎◌, IsFalse, IsTrue, MatchBool, OnErr, OnOk};
+ghost use Rattle.std.specs.Prelude.{◌≡◌, ◌≤◌, [], false, true, None, length, ◌⊎◌, IfOk, IsFalse, IsTrue, MatchBool, OnErr, OnOk};
 ghost use Rattle.sb_wire.specs.Lines.{line};
+ghost use Rattle.sb_connection.specs.Conversation.{hosting};
 ghost use Rattle.sb_connection.specs.History.{MayReceive, after_end, after_receiving, after_sending, nothing_yet};
 ghost use Rattle.sb_connection.specs.Machine.{Answers, Finishes, Steps};
 ghost use Rattle.sb_connection.specs.Responding.{over};
 ghost use Rattle.sb_connection.specs.Standing.{is_open};
+ghost use Rattle.sb_connection.specs.Traffic.{after_write};
 
-use crate::greeting::tenant_named;
-use crate::room::{newest_step, tell_room};
+use crate::greeting::{Named, named_in};
+use crate::room::{newest_step, tell_room, was_unbegun};
 use crate::state::State;
+use crate::stream::Stream;
 use crate::talking::Talk;
-use crate::watch::Watch;
+use crate::transactions::transacts_after;
+use crate::watch::{Event, Watch};
 use http_server::Log;
 use sb_host::{Host, Naming, Session};
-use sb_wire::{Lines, Responder};
+use sb_wire::{Lines, Piece, Responder};
 use std::alloc::{AllocError, Global};
+use std::io;
 use std::marker::Model;
 use std::sync::Wait;
 
@@ -26,12 +31,18 @@ const MOST_PENDING: usize = 65_536;
 pub(crate) struct Machine<'h, N: Naming> {
     pub(crate) alloc: Global,
     pub(crate) host: &'h Host<N>,
+    /// The number of the host's first tenant.
+    pub(crate) first: u32,
     pub(crate) state: State,
     /// The client sends no more.
     pub(crate) at_end: bool,
     pub(crate) session: Option<Session<'h, N>>,
-    /// That of the session.
-    pub(crate) tenant: u32,
+    /// What the first line names.
+    pub(crate) named: Option<Named>,
+    /// It is told that a line wasn't begun.
+    pub(crate) tells_unbegun: bool,
+    /// It has a transaction.
+    pub(crate) transacts: bool,
     /// No session was opened.
     pub(crate) away: bool,
     /// The line that stands open behind what is taken of the input.
@@ -48,13 +59,14 @@ pub(crate) struct Machine<'h, N: Naming> {
 
 impl<'h, N: Naming> Model for Machine<'h, N> {
     ghost use Rattle.std.specs.Prelude.{◌≤◌, flat_map, take, drop, vec_len};
+    ghost use Rattle.sb_connection.specs.Conversation.{hosting};
     ghost use Rattle.sb_connection.specs.Machine.{Talking};
 
     ghost Value = { Talking };
 
     ghost view = { λ m. record {
       history = record {
-        tenants = m.host.now;
+        hosted = hosting m.first m.host.now;
         state = m.state;
         at_end = m.at_end;
         received = flat_map (λ r. r.0.items) m.reads.items;
@@ -70,16 +82,19 @@ impl<'h, N: Naming> Model for Machine<'h, N> {
 }
 
 impl<'h, N: Naming> Machine<'h, N> {
-    pub(crate) fn new(alloc: Global, host: &'h Host<N>) -> Machine<'h, N>
-        ensures { result ≡ record { history = nothing_yet host.now; opened = line []; talk = (None, false) } }
+    pub(crate) fn new(alloc: Global, host: &'h Host<N>, first: u32) -> Machine<'h, N>
+        ensures { result ≡ record { history = nothing_yet (hosting first host.now); opened = line []; talk = (None, false) } }
     {
         Machine {
             alloc,
             host,
+            first,
             state: State::Open,
             at_end: false,
             session: None,
-            tenant: 0,
+            named: None,
+            tells_unbegun: false,
+            transacts: false,
             away: false,
             lines: Lines::new(),
             input: Vec::new(alloc),
@@ -145,14 +160,50 @@ impl<'h, N: Naming> Machine<'h, N> {
         requires { over self.old.talk ≡ false }
         ensures { Answers self.old self.new }
     {
-        if self.session.is_none() {
-            self.tenant = tenant_named(self.lines.line());
+        let had_session = self.session.is_some();
+        if !had_session {
+            self.named = named_in(self.lines.line());
         }
         let before = newest_step(&self.session);
         self.respond(rt, watch);
         match newest_step(&self.session) {
-            Some(step) if before != Some(step) => tell_room(watch, self.tenant, step),
+            Some(step) if before != Some(step) => self.note_step(watch, step),
+            step if had_session => self.note_none(watch, step),
             _ => {}
+        }
+    }
+
+    /// The line was answered by this step.
+    fn note_step<V: Watch>(&mut self, watch: &V, step: u32)
+        ensures { self.new ≡ self.old }
+    {
+        self.transacts = self.transacts_now();
+        if let Some(named) = self.named {
+            tell_room(watch, named.tenant, step);
+        }
+    }
+
+    /// The line was answered by no step, and the newest one is still this. Where it wasn't begun, that is told once.
+    fn note_none<V: Watch>(&mut self, watch: &V, newest: Option<u32>)
+        ensures { self.new ≡ self.old }
+    {
+        if self.tells_unbegun || !was_unbegun(&self.session, newest) {
+            return;
+        }
+        if let (Some(named), Piece::Line(_)) = (self.named, self.lines.line()) {
+            self.tells_unbegun = true;
+            watch.see(Event::NotBegun(named));
+        }
+    }
+
+    /// Whether the session has a transaction, behind the newest answer.
+    fn transacts_now(&self) -> bool {
+        match (&self.session, self.lines.line()) {
+            (Some(session), Piece::Line(line)) => match session.last() {
+                Some(answer) => transacts_after(self.transacts, line, &answer.reply),
+                None => false,
+            },
+            _ => self.transacts,
         }
     }
 
@@ -164,6 +215,7 @@ impl<'h, N: Naming> Machine<'h, N> {
             rt,
             host: self.host,
             watch,
+            first: self.first,
         };
         let answered = talk.respond(
             self.alloc,
@@ -257,8 +309,29 @@ impl<'h, N: Naming> Machine<'h, N> {
         &self.output.as_slice()[self.sent..]
     }
 
-    /// So many of them were sent. The memory is given back when all are.
-    pub(crate) fn note_sent(&mut self, count: usize)
+    /// What came and isn't looked at yet.
+    pub(crate) fn waiting(&self) -> &[u8]
+        ensures { result.now ≡ self.now.history.waiting }
+    {
+        &self.input.as_slice()[self.taken..]
+    }
+
+    /// Sends once, as much as the stream takes.
+    pub(crate) fn send<S: Stream>(&mut self, stream: &mut S) -> io::Result<usize>
+        ensures count { IfOk result (λ count. count ≤ length self.old.history.pending) }
+        ensures sent { IfOk result (λ count. self.new ≡ record self.old { history = after_sending self.old.history count }) }
+        ensures unsent { OnErr result (self.new ≡ self.old) }
+        ensures traffic { S.traffic stream.new ≡ after_write (S.traffic stream.old) self.old.history.pending result }
+    {
+        let answer = stream.write(&self.output, self.sent);
+        if let Ok(count) = answer {
+            self.note_sent(count);
+        }
+        answer
+    }
+
+    /// So many of the bytes to send were sent. The memory is given back when all are.
+    fn note_sent(&mut self, count: usize)
         requires { count ≤ length self.old.history.pending }
         ensures { self.new ≡ record self.old { history = after_sending self.old.history count } }
     {

@@ -21,6 +21,18 @@ pub(crate) fn newest_step<N: Naming>(session: &Option<Session<'_, N>>) -> Option
     }
 }
 
+/// Whether the newest line wasn't begun, where it was no step and this is the newest one: an answer that is no step says
+/// that the trail is full.
+pub(crate) fn was_unbegun<N: Naming>(
+    session: &Option<Session<'_, N>>,
+    newest: Option<u32>,
+) -> bool {
+    let Some(session) = session else {
+        return false;
+    };
+    session.last().is_none() || newest.is_some()
+}
+
 /// For how many steps a trail has room behind this one.
 pub(crate) fn steps_left(step: Option<u32>) -> u32 {
     match step {

@@ -1,12 +1,13 @@
 //! A connection from its first line to the end of its session.
 ghost use Rattle.std.specs.Prelude.{◌≡◌, IfSome};
-ghost use Rattle.sb_connection.specs.Conversation.{Conversation};
+ghost use Rattle.sb_connection.specs.Conversation.{Conversation, hosting};
 ghost use Rattle.sb_connection.specs.Exchanges.{IsClosed};
 ghost use Rattle.sb_connection.specs.Responding.{LeavesSome};
 ghost use Rattle.sb_wire.specs.Responses.{StopsBy};
 ghost use Rattle.sb_wire.specs.Stream.{MayFail, OnWriteFault};
 
-use crate::greeting::Named;
+use crate::ending::Ending;
+use crate::greeting::{Named, number_of};
 use crate::room::steps_left;
 use crate::talking::Talk;
 use crate::watch::{Event, NoWatch, Watch};
@@ -31,7 +32,7 @@ pub fn serve_one<T: Wait, N: Naming, R: Source, W: Sink>(
     writer: &mut W,
     host: &Host<N>,
 ) -> Served
-    ensures goes { (c : Conversation host.now (R.remaining reader.old) (W.contents writer.old)
+    ensures goes { (c : Conversation (hosting 0 host.now) (R.remaining reader.old) (W.contents writer.old)
         (R.remaining reader.new) (W.contents writer.new) result.stub)
         × StopsBy R.fails R.remaining reader.new c.over c.seen c.pieces c.left result.ended }
     ensures refused { OnWriteFault result.ended (MayFail W.refuses W.contents writer.new) }
@@ -49,18 +50,23 @@ pub fn serve_one_with<T: Wait, N: Naming, R: Source, W: Sink, V: Watch>(
     host: &Host<N>,
     watch: &V,
 ) -> Served
-    ensures goes { (c : Conversation host.now (R.remaining reader.old) (W.contents writer.old)
+    ensures goes { (c : Conversation (hosting 0 host.now) (R.remaining reader.old) (W.contents writer.old)
         (R.remaining reader.new) (W.contents writer.new) result.stub)
         × StopsBy R.fails R.remaining reader.new c.over c.seen c.pieces c.left result.ended }
     ensures refused { OnWriteFault result.ended (MayFail W.refuses W.contents writer.new) }
     ensures closed { IfSome result.stub (λ stub. IsClosed stub.receipts.items) }
 {
-    let talk = Talk { rt, host, watch };
+    let talk = Talk {
+        rt,
+        host,
+        watch,
+        first: 0,
+    };
     let mut session = None;
     let mut away = false;
     let ended = answer_stream(alloc, reader, writer, &talk, &mut session, &mut away);
     let stub = close(rt, session);
-    tell_end(watch, &stub, &ended);
+    tell_end(watch, 0, &stub, Ending::of(&ended));
     Served { stub, ended }
 }
 
@@ -75,38 +81,41 @@ pub(crate) fn close<T: Wait, N: Naming>(rt: &T, session: Option<Session<'_, N>>)
 }
 
 /// Tells how a connection ended.
-pub(crate) fn tell_end<V: Watch>(watch: &V, stub: &Option<Stub>, ended: &Result<(), StreamError>) {
+pub(crate) fn tell_end<V: Watch>(watch: &V, first: u32, stub: &Option<Stub>, ended: Ending) {
     let named = match stub {
-        Some(stub) => Some(session_of(stub)),
+        Some(stub) => Some(session_of(first, stub)),
         None => None,
     };
-    if let Err(why) = ended {
-        watch.see(Event::Failed { named, why: *why });
+    match (ended, named) {
+        (Ending::Well, _) => {}
+        (Ending::Fault { why, reason }, _) => watch.see(Event::Failed { named, why, reason }),
+        (Ending::IdleTransaction, Some(named)) => watch.see(Event::IdleTransaction(named)),
+        (Ending::Idle | Ending::IdleTransaction, _) => watch.see(Event::Idle(named)),
     }
     match stub {
-        Some(stub) => watch.see(closed(stub)),
+        Some(stub) => watch.see(closed(first, stub)),
         None => watch.see(Event::Left),
     }
 }
 
 /// What is told of a session that is closed.
-fn closed(stub: &Stub) -> Event {
+fn closed(first: u32, stub: &Stub) -> Event {
     let receipts = stub.list();
     let newest = match receipts.last() {
         Some(receipt) => receipt.answer.number,
         None => None,
     };
     Event::Closed {
-        named: session_of(stub),
+        named: session_of(first, stub),
         steps: receipts.len(),
         left: steps_left(newest),
     }
 }
 
 /// Whose receipts these are.
-fn session_of(stub: &Stub) -> Named {
+fn session_of(first: u32, stub: &Stub) -> Named {
     Named {
-        tenant: stub.tenant,
+        tenant: number_of(first, stub.tenant),
         session: u32::from(stub.session.number()),
     }
 }

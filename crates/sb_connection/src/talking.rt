@@ -17,13 +17,16 @@ pub(crate) struct Talk<'r, 'h, T, N: Naming, V> {
     pub(crate) rt: &'r T,
     pub(crate) host: &'h Host<N>,
     pub(crate) watch: &'r V,
+    /// The number of the host's first tenant.
+    pub(crate) first: u32,
 }
 
 impl<'r, 'h, T: Wait, N: Naming, V: Watch> Responder<Option<Session<'h, N>>, bool>
     for Talk<'r, 'h, T, N, V> {
+    ghost use Rattle.sb_connection.specs.Conversation.{hosting};
     ghost use Rattle.sb_connection.specs.Responding.{Responds, over};
 
-    ghost responds = { λ talk. Responds talk.host.now };
+    ghost responds = { λ talk. Responds (hosting talk.first talk.host.now) };
 
     ghost over = { over };
 

@@ -7,6 +7,7 @@ use sb_host::AttachError;
 use sb_wire::{StreamError, WireRefusal};
 use std::fmt;
 use std::fmt::{Display, Formatter};
+use std::io::ErrorKind;
 
 /// What happens to connections.
 #[derive(Clone, Copy)]
@@ -27,11 +28,20 @@ pub enum Event {
         tenant: u32,
         left: u32,
     },
+    /// A line of a session wasn't begun for want of memory. It is told once a connection.
+    NotBegun(Named),
     /// A connection ended by a fault. Its session, if it had one, is closed next.
     Failed {
         named: Option<Named>,
         why: StreamError,
+        reason: Option<ErrorKind>,
     },
+    /// A connection is closed that has sent no line for too long.
+    Idle(Option<Named>),
+    /// So is one whose session has a transaction.
+    IdleTransaction(Named),
+    /// A connection is closed whose first line didn't come in time.
+    Late,
     /// A session made so many steps, and its tenant's trail has room for so many more.
     Closed {
         named: Named,
@@ -40,8 +50,8 @@ pub enum Event {
     },
     /// A connection without a session ended.
     Left,
-    NotAccepted,
-    /// There is no memory for the receipts of a connection.
+    NotAccepted(ErrorKind),
+    /// There is no memory for a connection.
     NoPlace,
 }
 
@@ -63,6 +73,23 @@ impl Display for Named {
     }
 }
 
+/// Writes of a connection that ended by a fault.
+fn write_failed<W: fmt::Write>(
+    f: &mut Formatter<W>,
+    named: &Option<Named>,
+    why: StreamError,
+    reason: &Option<ErrorKind>,
+) -> fmt::Result {
+    f.write_str("failed: ")?;
+    if let Some(named) = named {
+        write!(f, "{named}: ")?;
+    }
+    match reason {
+        Some(reason) => write!(f, "{why}: {reason}"),
+        None => write!(f, "{why}"),
+    }
+}
+
 impl Display for Event {
     fn fmt<W: fmt::Write>(&self, f: &mut Formatter<W>) -> fmt::Result {
         match self {
@@ -70,11 +97,12 @@ impl Display for Event {
             Event::Attached(named) => write!(f, "attached: {named}"),
             Event::TurnedAway { named, why } => write!(f, "turned away: {named}: {why:?}"),
             Event::Unnamed(why) => write!(f, "turned away: {why:?}"),
-            Event::Failed {
-                named: Some(named),
-                why,
-            } => write!(f, "failed: {named}: {why}"),
-            Event::Failed { named: None, why } => write!(f, "failed: {why}"),
+            Event::Failed { named, why, reason } => write_failed(f, named, *why, reason),
+            Event::NotBegun(named) => { write!(f, "no memory for {named}: lines aren't begun") }
+            Event::Idle(Some(named)) => write!(f, "idle: {named}"),
+            Event::Idle(None) => f.write_str("idle"),
+            Event::IdleTransaction(named) => write!(f, "idle in a transaction: {named}"),
+            Event::Late => f.write_str("no first line in time"),
             Event::Fills { tenant, left: 0 } => write!(f, "the trail of tenant {tenant} is full"),
             Event::Fills { tenant, left } => {
                 write!(f, "the trail of tenant {tenant} has room for {left} steps")
@@ -83,7 +111,7 @@ impl Display for Event {
                 write!(f, "closed: {named}: {steps} steps, {left} left")
             }
             Event::Left => f.write_str("disconnected"),
-            Event::NotAccepted => f.write_str("a connection can't be accepted"),
+            Event::NotAccepted(why) => write!(f, "a connection can't be accepted: {why}"),
             Event::NoPlace => f.write_str("no memory for a connection"),
         }
     }

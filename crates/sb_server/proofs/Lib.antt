@@ -1,2 +1,4 @@
+pub mod Failing
 pub mod Gains
+pub mod Placing
 pub mod Sending

@@ -1,1 +1,6 @@
+pub mod Carried
 pub mod Closed
+pub mod Mailboxes
+pub mod Places
+pub mod Sockets
+pub mod Visits

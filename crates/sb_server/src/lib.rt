@@ -1,9 +1,15 @@
-//! Connections of a listener, served on a host by workers, each of which waits for many of them at once.
+//! Connections of a listener. One thread takes them and reads their first lines; workers serve them, each those of its
+//! cells, and wait for many at once.
 #![tactic(auto)]
 
+mod beside;
 mod door;
 mod input;
+mod mailbox;
+mod newcomer;
+mod porter;
 mod server;
+mod socket;
 mod told;
 mod visit;
 mod worker;

@@ -1,19 +1,25 @@
 //! All connections of a listener, served by workers.
-ghost use Rattle.std.specs.Prelude.{◌≡◌, ◌<◌, ◌≤◌, IfOk};
+ghost use Rattle.std.specs.Prelude.{◌≡◌, ◌<◌, ◌≤◌, ◌++◌, [], IfOk, OnOk, vec_len};
 ghost use Rattle.std.specs.List.{All, flat_map};
-ghost use Rattle.sb_server.specs.Closed.{LeavesClosed};
+ghost use Rattle.sb_server.specs.Closed.{LeaveClosed, LeavesClosed};
+ghost use Rattle.sb_server.specs.Mailboxes.{ArePlaced};
+ghost use Rattle.sb_server.specs.Places.{place_of};
 
-use crate::door::Entrance;
+use crate::beside::run_beside;
+use crate::door::Door;
+use crate::mailbox::{Letter, Mailbox};
+use crate::porter::{FIRST_LINE, Porter};
+use crate::visit::Limits;
 use crate::worker::{Seat, WAKER, Worker};
 use mio::{Events, Poll, Waker};
 use sb_connection::Watch;
 use sb_host::{Host, Naming, Stub};
-use sb_workers::{Work, run};
+use sb_workers::Work;
 use std::alloc::{AllocError, Global};
 use std::net::{Net, TcpListener};
 use std::rt::Clock;
 use std::sync::Wait;
-use std::sync::atomic::{AtomicBool, Ordering};
+use std::sync::atomic::{AtomicBool, AtomicUsize, Ordering};
 use std::thread::Threads;
 use std::time::Duration;
 
@@ -26,12 +32,16 @@ const PIECE: usize = 65_536;
 /// How long a server serves, and whom.
 #[derive(Clone, Copy, Debug)]
 pub struct Terms {
-    /// On how many threads.
+    /// The cells are shared out among so many threads; one more stands at the door.
     pub workers: usize,
-    /// How many connections, or 0, which is without end.
+    /// The number of the host's first tenant, as clients name it.
+    pub first_tenant: u32,
+    /// How many connections are taken, or 0, which is without end.
     pub connections: u64,
-    /// A connection is closed that has sent nothing for so long.
+    /// A connection is closed that has sent no line for so long.
     pub idle: Option<Duration>,
+    /// A connection is closed that has sent no line for so long in a transaction.
+    pub idle_transaction: Option<Duration>,
     /// It stops where the program's input ends.
     pub until_input_ends: bool,
 }
@@ -44,12 +54,16 @@ pub struct Acceptor<'s, V> {
     pub terms: Terms,
 }
 
-/// Why nothing was served.
-#[derive(Clone, Copy, Debug)]
+/// Why a server ended before it was to.
+#[derive(Clone, Copy, Debug, PartialEq, Eq)]
 pub enum ServeError {
     NoMemory,
-    /// The system has no place where a worker may wait.
+    /// The system has no place where a thread may wait for connections.
     NoPlace,
+    /// A thread couldn't be started.
+    NoThread,
+    /// The system doesn't tell any more what happens to connections.
+    PollFailed,
 }
 
 impl From<AllocError> for ServeError {
@@ -58,42 +72,195 @@ impl From<AllocError> for ServeError {
     }
 }
 
-/// What every worker serves.
+/// What all threads share.
 #[derive(Drop)]
 pub(crate) struct Serving<'s, N: Naming, V, C> {
     pub(crate) alloc: Global,
     pub(crate) host: &'s Host<N>,
     pub(crate) watch: &'s V,
     pub(crate) clock: &'s C,
-    pub(crate) idle: Option<Duration>,
-    pub(crate) entrance: Entrance<'s>,
-    pub(crate) stopping: AtomicBool,
+    pub(crate) first_tenant: u32,
+    listener: &'s TcpListener,
+    terms: Terms,
+    /// That of each worker, by its place.
+    pub(crate) mailboxes: Vec<Mailbox>,
+    /// What wakes the thread at the door.
+    door: Waker,
+    /// How many threads run.
+    here: AtomicUsize,
+    is_door_closed: AtomicBool,
+    stopping: AtomicBool,
+    lacks_thread: AtomicBool,
+    has_failed: AtomicBool,
+    ghost some: { 0 < vec_len mailboxes },
+    ghost placed: { ArePlaced mailboxes.items },
 }
 
 impl<'s, N: Naming, V, C> Serving<'s, N, V, C> {
-    /// Ends the service: all workers are told.
+    /// The place of the worker that has a tenant's cell.
+    pub(crate) fn place_of(&self, tenant: u32) -> usize
+        ensures { result ≡ place_of N.cells (vec_len self.now.mailboxes) tenant }
+    {
+        (tenant % self.host.cells()) as usize % self.mailboxes.len()
+    }
+
+    /// The mailbox of the worker that has a tenant's cell.
+    fn mailbox_of(&self, tenant: u32) -> &Mailbox
+        ensures { result.now.place ≡ place_of N.cells (vec_len self.now.mailboxes) tenant }
+    {
+        &self.mailboxes[self.place_of(tenant)]
+    }
+
+    /// Hands a connection to the worker that has its tenant's cell. Whether there was a place.
+    pub(crate) fn hand_over<T: Wait>(&self, rt: &T, letter: Letter) -> bool {
+        self.mailbox_of(letter.tenant).put(rt, letter)
+    }
+
+    /// The connections that were handed to the worker at this place.
+    pub(crate) fn letters<T: Wait>(&self, rt: &T, place: usize) -> Vec<Letter> {
+        match self.mailboxes.get(place) {
+            Some(mailbox) => mailbox.take(rt, self.alloc),
+            None => Vec::new(self.alloc),
+        }
+    }
+
+    /// Tells that one more thread runs.
+    pub(crate) fn arrive(&self) {
+        if self.here.fetch_add(1, Ordering::SeqCst) == self.mailboxes.len() {
+            self.wake_all();
+        }
+    }
+
+    /// Whether all threads run: those of the workers and the one at the door.
+    pub(crate) fn are_all_here(&self) -> bool {
+        self.here.load(Ordering::SeqCst) > self.mailboxes.len()
+    }
+
+    pub(crate) fn is_door_closed(&self) -> bool {
+        self.is_door_closed.load(Ordering::SeqCst)
+    }
+
+    /// No more connections are handed over.
+    pub(crate) fn close_door(&self) {
+        self.is_door_closed.store(true, Ordering::SeqCst);
+        self.wake_all();
+    }
+
+    pub(crate) fn is_stopping(&self) -> bool {
+        self.stopping.load(Ordering::SeqCst)
+    }
+
+    /// Ends the service.
     pub(crate) fn stop(&self) {
         self.stopping.store(true, Ordering::SeqCst);
-        self.entrance.close();
+        self.wake_all();
+    }
+
+    /// Ends it since a thread is missing.
+    pub(crate) fn lack_thread(&self) {
+        self.lacks_thread.store(true, Ordering::SeqCst);
+        self.stop();
+    }
+
+    /// Ends it since a thread can't wait for events.
+    pub(crate) fn fail_poll(&self) {
+        self.has_failed.store(true, Ordering::SeqCst);
+        self.stop();
+    }
+
+    fn wake_all(&self) {
+        let _told = self.door.wake();
+        for mailbox in &self.mailboxes {
+            mailbox.wake();
+        }
+    }
+
+    /// Why it ended early, if it did.
+    fn failure(&self) -> Option<ServeError> {
+        if self.lacks_thread.load(Ordering::SeqCst) {
+            return Some(ServeError::NoThread);
+        }
+        if self.has_failed.load(Ordering::SeqCst) {
+            return Some(ServeError::PollFailed);
+        }
+        None
     }
 }
 
-impl<'s, N: Naming, V: Watch, C: Clock> Work<Seat, Vec<Stub>> for Serving<'s, N, V, C> {
+/// Who works at a seat.
+#[derive(Clone, Copy)]
+enum Role {
+    /// It takes connections.
+    Door,
+    /// The worker at this place.
+    Worker(usize),
+}
+
+/// A seat, and who works there.
+#[derive(Drop)]
+pub(crate) struct Post {
+    role: Role,
+    seat: Seat,
+}
+
+impl<'s, N: Naming, V: Watch, C: Clock> Work<Post, Vec<Stub>> for Serving<'s, N, V, C> {
     ghost use Rattle.sb_server.specs.Closed.{LeaveClosed};
 
     ghost does = { λ _ stubs. LeaveClosed stubs };
 
-    fn work<R: Wait>(&self, rt: &R, seat: Seat) -> Vec<Stub> {
+    fn work<R: Wait>(&self, rt: &R, post: Post) -> Vec<Stub> {
+        match post.role {
+            Role::Door => self.keep_door(rt, post.seat),
+            Role::Worker(place) => self.serve_cells(rt, place, post.seat),
+        }
+    }
+}
+
+impl<'s, N: Naming, V: Watch, C: Clock> Serving<'s, N, V, C> {
+    /// Takes connections at the door, and closes those that open no session.
+    fn keep_door<R: Wait>(&self, rt: &R, seat: Seat) -> Vec<Stub>
+        ensures { LeaveClosed result }
+    {
         let Seat {
             poll,
             mut events,
             buffer,
-            watches_input,
         } = seat;
-        let mut worker = Worker::new(self, poll, buffer);
-        worker.serve(rt, &mut events, watches_input);
-        worker.close_all(rt);
+        let lobby = Worker::new(self, self.lobby_limits(), poll, buffer);
+        let door = Door::new(self.listener, self.terms.connections);
+        let mut porter = Porter::new(lobby, door);
+        porter.run(rt, &mut events, self.terms.until_input_ends);
+        porter.into_stubs()
+    }
+
+    /// Serves the connections of the cells of this place.
+    fn serve_cells<R: Wait>(&self, rt: &R, place: usize, seat: Seat) -> Vec<Stub>
+        ensures { LeaveClosed result }
+    {
+        let Seat {
+            poll,
+            mut events,
+            buffer,
+        } = seat;
+        let mut worker = Worker::new(self, self.limits(), poll, buffer);
+        worker.run(rt, place, &mut events);
         worker.into_stubs()
+    }
+
+    /// How long a connection may be silent.
+    fn limits(&self) -> Limits {
+        Limits {
+            idle: self.terms.idle,
+            idle_transaction: self.terms.idle_transaction,
+        }
+    }
+
+    /// How long one may be silent that opens no session.
+    fn lobby_limits(&self) -> Limits {
+        Limits {
+            idle: Some(Duration::from_secs(u64::from(FIRST_LINE))),
+            idle_transaction: None,
+        }
     }
 }
 
@@ -107,24 +274,39 @@ pub fn serve_all<N: Naming + Send + Sync, V: Watch + Sync, R: Threads + Wait + N
     requires workers { (0 < acceptor.now.terms.workers) × (acceptor.now.terms.workers ≤ 16) }
     ensures { IfOk result (λ stubs. All LeavesClosed stubs.items) }
 {
-    let listener = acceptor.listener;
     let terms = acceptor.terms;
-    if listener.set_nonblocking(true).is_err() {
+    if acceptor.listener.set_nonblocking(true).is_err() {
         return Err(ServeError::NoPlace);
     }
-    let mut wakers = Vec::new(alloc);
-    let seats = seats(rt, alloc, terms, &mut wakers)?;
+    let (seat, waker) = take_seat(rt, alloc)?;
+    let mut mailboxes = Vec::new(alloc);
+    let posts = posts(rt, alloc, terms.workers, &mut mailboxes)?;
     let serving = Serving {
         alloc,
         host,
         watch: acceptor.watch,
         clock: rt,
-        idle: terms.idle,
-        entrance: Entrance::new(listener, terms.connections, wakers),
+        first_tenant: terms.first_tenant,
+        listener: acceptor.listener,
+        terms,
+        mailboxes,
+        door: waker,
+        here: AtomicUsize::new(0),
+        is_door_closed: AtomicBool::new(false),
         stopping: AtomicBool::new(false),
+        lacks_thread: AtomicBool::new(false),
+        has_failed: AtomicBool::new(false),
     };
-    match run(rt, alloc, seats, terms.workers, &serving) {
-        Ok(parts) => match gather(alloc, parts) {
+    let door = Post {
+        role: Role::Door,
+        seat,
+    };
+    let (first, parts) = run_beside(rt, alloc, door, posts, terms.workers, &serving);
+    if let Some(error) = serving.failure() {
+        return Err(error);
+    }
+    match parts {
+        Ok(parts) => match gather(alloc, first, parts) {
             Ok(stubs) => Ok(stubs),
             Err(_) => Err(ServeError::NoMemory),
         },
@@ -132,41 +314,60 @@ pub fn serve_all<N: Naming + Send + Sync, V: Watch + Sync, R: Threads + Wait + N
     }
 }
 
-/// A seat for each worker, and what wakes it.
-fn seats<R: Net>(
+/// Where a thread waits, and what wakes it.
+fn take_seat<R: Net>(rt: &R, alloc: Global) -> Result<(Seat, Waker), ServeError> {
+    let Ok(poll) = Poll::new(rt) else {
+        return Err(ServeError::NoPlace);
+    };
+    let Ok(waker) = Waker::new(poll.registry(), WAKER) else {
+        return Err(ServeError::NoPlace);
+    };
+    let events = Events::with_capacity(alloc, EVENTS)?;
+    let buffer = vec![in alloc; 0u8; PIECE]?;
+    let seat = Seat {
+        poll,
+        events,
+        buffer,
+    };
+    Ok((seat, waker))
+}
+
+/// A post for each worker, and its mailbox.
+fn posts<R: Net>(
     rt: &R,
     alloc: Global,
-    terms: Terms,
-    wakers: &mut Vec<Waker>,
-) -> Result<Vec<Seat>, ServeError> {
-    let mut seats = Vec::new(alloc);
-    for worker in 0..terms.workers {
-        let Ok(poll) = Poll::new(rt) else {
-            return Err(ServeError::NoPlace);
-        };
-        let Ok(waker) = Waker::new(poll.registry(), WAKER) else {
-            return Err(ServeError::NoPlace);
-        };
-        let events = Events::with_capacity(alloc, EVENTS)?;
-        let buffer = vec![in alloc; 0u8; PIECE]?;
-        let seat = Seat {
-            poll,
-            events,
-            buffer,
-            watches_input: terms.until_input_ends && worker == 0,
-        };
-        if wakers.push(waker).is_err() || seats.push(seat).is_err() {
+    workers: usize,
+    mailboxes: &mut Vec<Mailbox>,
+) -> Result<Vec<Post>, ServeError>
+    requires { mailboxes.old.items ≡ [] }
+    ensures count { OnOk result (vec_len mailboxes.new ≡ workers) }
+    ensures placed { OnOk result (ArePlaced mailboxes.new.items) }
+{
+    let mut posts = Vec::new(alloc);
+    for number in 0..workers {
+        let (seat, waker) = take_seat(rt, alloc)?;
+        if mailboxes.push(Mailbox::new(alloc, number, waker)).is_err()
+            || posts.push(worker_post(number, seat)).is_err()
+        {
             return Err(ServeError::NoMemory);
         }
     }
-    Ok(seats)
+    Ok(posts)
 }
 
-/// All receipts in one list, worker by worker.
-fn gather(alloc: Global, parts: Vec<Vec<Stub>>) -> Result<Vec<Stub>, AllocError>
-    ensures { IfOk result (λ stubs. stubs.items ≡ flat_map (λ part. part.items) parts.items) }
+/// That of the worker at this place.
+fn worker_post(place: usize, seat: Seat) -> Post {
+    Post {
+        role: Role::Worker(place),
+        seat,
+    }
+}
+
+/// All receipts in one list, those of the door first, then worker by worker.
+fn gather(alloc: Global, first: Vec<Stub>, parts: Vec<Vec<Stub>>) -> Result<Vec<Stub>, AllocError>
+    ensures { IfOk result (λ stubs. stubs.items ≡ first.items ++ flat_map (λ part. part.items) parts.items) }
 {
-    let mut stubs = Vec::new(alloc);
+    let mut stubs = first;
     for mut part in parts {
         stubs.append(&mut part)?;
     }

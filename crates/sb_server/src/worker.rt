@@ -3,36 +3,35 @@ ghost use Rattle.std.specs.Prelude.{◌≡◌, ◌+◌, ◌≤◌, ◌++◌, [],
 ghost use Rattle.sb_host.specs.declared.stub.Stub.{Stub as ItsStub};
 ghost use Rattle.slab.specs.Slab.{Updates, get, slab_len};
 ghost use Rattle.sb_server.specs.Closed.{GainsClosed, Leaves};
+ghost use Rattle.sb_server.specs.Places.{place_of};
+ghost use Rattle.sb_server.specs.Sockets.{traffic};
 
-use crate::door::{Client, Door};
 use crate::input::{has_ended, watch_input};
+use crate::mailbox::Letter;
+use crate::newcomer::{Heard, Newcomer};
 use crate::server::Serving;
-use crate::visit::{Next, Visit};
+use crate::socket::Socket;
+use crate::visit::{Limits, Next, Visit};
 use mio::event::Event as Ready;
-use mio::net::TcpStream;
 use mio::unix::SourceFd;
 use mio::{Events, Interest, Poll, Token};
-use sb_connection::{Connection, Event, Watch};
+use sb_connection::{Ending, Event, Watch};
 use sb_host::{Naming, Stub};
-use sb_wire::StreamError;
 use slab::Slab;
 use std::mem;
 use std::rt::Clock;
 use std::sync::Wait;
-use std::sync::atomic::Ordering;
 use std::time::{Duration, Instant};
 
-const LISTENER: Token = Token(usize::MAX);
+pub(crate) const WAKER: Token = Token(usize::MAX);
 
-const INPUT: Token = Token(usize::MAX - 1);
+/// How often connections that may be silent for too long are looked at, in milliseconds.
+pub(crate) const SWEEP: u64 = 1_000;
 
-pub(crate) const WAKER: Token = Token(usize::MAX - 2);
+/// How often it is looked whether all threads run, and for so many milliseconds.
+const LOOKS: usize = 100;
 
-/// How many connections are taken at most before those that are there have their turn.
-const TAKEN_A_TURN: usize = 16;
-
-/// How often connections that may be idle are looked at, in milliseconds.
-const SWEEP: u64 = 1_000;
+const LOOK: u64 = 100;
 
 /// What a worker begins with.
 #[derive(Drop)]
@@ -40,22 +39,24 @@ pub(crate) struct Seat {
     pub(crate) poll: Poll,
     pub(crate) events: Events,
     pub(crate) buffer: Vec<u8>,
-    /// It looks at the program's input.
-    pub(crate) watches_input: bool,
 }
 
 /// A worker with its connections, by their tokens.
 #[derive(Drop)]
 pub(crate) struct Worker<'s, N: Naming, V, C> {
-    serving: &'s Serving<'s, N, V, C>,
-    poll: Poll,
-    door: Door<'s>,
-    buffer: Vec<u8>,
-    visits: Slab<Box<Visit<'s, N>>>,
+    pub(crate) serving: &'s Serving<'s, N, V, C>,
+    limits: Limits,
+    pub(crate) poll: Poll,
+    pub(crate) buffer: Vec<u8>,
+    visits: Slab<Box<Visit<'s, N, Socket>>>,
     /// Those that are served next.
     due: Vec<usize>,
+    /// There was no place for one of them: all connections are served next.
+    all_due: bool,
     stubs: Vec<Stub>,
-    /// When idle connections were looked for.
+    /// It was woken.
+    is_called: bool,
+    /// When silent connections were looked for.
     swept: Option<Instant>,
     /// Each connection has a place for its receipts.
     ghost room: { vec_len stubs + slab_len visits ≤ vec_capacity stubs },
@@ -63,17 +64,24 @@ pub(crate) struct Worker<'s, N: Naming, V, C> {
 
 impl<'s, N: Naming, V: Watch, C: Clock> Worker<'s, N, V, C> {
     /// A worker at its seat, which has no connection yet.
-    pub(crate) fn new(serving: &'s Serving<'s, N, V, C>, poll: Poll, buffer: Vec<u8>) -> Self
+    pub(crate) fn new(
+        serving: &'s Serving<'s, N, V, C>,
+        limits: Limits,
+        poll: Poll,
+        buffer: Vec<u8>,
+    ) -> Self
         ensures { result.stubs.items ≡ [] }
     {
         Worker {
             serving,
+            limits,
             poll,
-            door: Door::new(&serving.entrance),
             buffer,
             visits: Slab::new(serving.alloc),
             due: Vec::new(serving.alloc),
+            all_due: false,
             stubs: Vec::new(serving.alloc),
+            is_called: true,
             swept: None,
         }
     }
@@ -86,81 +94,133 @@ impl<'s, N: Naming, V: Watch, C: Clock> Worker<'s, N, V, C> {
         stubs
     }
 
-    /// Serves connections until none is to be taken and none is left, or the server stops.
-    pub(crate) fn serve<T: Wait>(&mut self, rt: &T, events: &mut Events, watches_input: bool)
+    /// Waits until all threads run. Whether they do.
+    pub(crate) fn meet(&mut self, events: &mut Events) -> bool
+        ensures { self.new.stubs.items ≡ self.old.stubs.items }
+    {
+        self.serving.arrive();
+        for _look in 0..LOOKS {
+            if self.serving.are_all_here() {
+                return true;
+            }
+            let patience = Some(Duration::from_millis(LOOK));
+            if self.serving.is_stopping() || !self.wait(events, patience) {
+                return false;
+            }
+        }
+        self.serving.lack_thread();
+        false
+    }
+
+    /// Serves the connections of its place, once all threads run, and closes those that are left.
+    pub(crate) fn run<T: Wait>(&mut self, rt: &T, place: usize, events: &mut Events)
         ensures { GainsClosed self.old.stubs.items self.new.stubs.items }
     {
-        self.begin(watches_input);
+        if !self.meet(events) {
+            return;
+        }
+        self.serve(rt, place, events);
+        self.close_all(rt);
+    }
+
+    /// Serves the connections of its place until none comes and none is left, or the server stops.
+    fn serve<T: Wait>(&mut self, rt: &T, place: usize, events: &mut Events)
+        ensures { GainsClosed self.old.stubs.items self.new.stubs.items }
+    {
         for _turn in 0..u64::MAX {
-            if !self.goes_on() {
+            // what was handed over before the door closed is there, told or not
+            let is_last = self.serving.is_door_closed();
+            self.is_called |= is_last;
+            self.take_over(rt, place);
+            if self.serving.is_stopping() || (is_last && self.visits.is_empty()) {
                 return;
             }
-            let patience = self.patience();
-            if self.poll.poll(events, patience).is_err() {
+            if !self.wait(events, self.patience()) {
                 return;
             }
             for event in events.iter() {
                 self.note(event);
             }
-            self.take_some();
             self.serve_due(rt);
             self.sweep(rt);
         }
     }
 
-    /// Has connections at the listener reported, and the end of the input where that is asked for.
-    fn begin(&mut self, watches_input: bool)
+    /// Waits for events. Whether it could.
+    pub(crate) fn wait(&mut self, events: &mut Events, patience: Option<Duration>) -> bool
         ensures { self.new.stubs ≡ self.old.stubs }
     {
-        let registry = self.poll.registry();
-        let listener = self.serving.entrance.descriptor();
-        let _told_by_a_turn = registry.register(
-            &mut SourceFd(&listener),
-            LISTENER,
-            Interest::READABLE,
-        );
-        if watches_input && watch_input(registry, INPUT) {
-            self.serving.stop();
+        if self.poll.poll(events, patience).is_err() {
+            self.serving.fail_poll();
+            return false;
         }
+        true
     }
 
-    fn goes_on(&self) -> bool {
-        !self.serving.stopping.load(Ordering::SeqCst)
-            && (self.serving.entrance.is_open() || !self.visits.is_empty())
+    /// Has what comes at a descriptor reported under this token.
+    pub(crate) fn report(&self, descriptor: i32, token: Token) {
+        let registry = self.poll.registry();
+        let _told_by_a_turn = registry.register(
+            &mut SourceFd(&descriptor),
+            token,
+            Interest::READABLE,
+        );
+    }
+
+    /// Has the program's input reported under this token, if it can be waited for.
+    pub(crate) fn report_input(&self, token: Token) -> bool {
+        !watch_input(self.poll.registry(), token)
+    }
+
+    /// Whether the program's input, which is ready, has ended.
+    pub(crate) fn has_input_ended(&self, token: Token) -> bool {
+        has_ended(self.poll.registry(), token)
+    }
+
+    /// Reads what has come of a newcomer.
+    pub(crate) fn hear(&mut self, newcomer: &mut Newcomer) -> Heard
+        ensures { self.new.stubs ≡ self.old.stubs }
+    {
+        let serving = self.serving;
+        newcomer.hear(
+            &mut self.buffer,
+            serving.first_tenant,
+            serving.host.tenants(),
+        )
+    }
+
+    /// Whether it has no connection.
+    pub(crate) fn is_empty(&self) -> bool {
+        self.visits.is_empty()
     }
 
     /// How long it may wait for events.
-    fn patience(&self) -> Option<Duration> {
-        if !self.due.is_empty() {
+    pub(crate) fn patience(&self) -> Option<Duration> {
+        if self.all_due || !self.due.is_empty() {
             return Some(Duration::ZERO);
         }
-        match self.door.patience() {
-            Some(patience) => Some(patience),
-            None if self.serving.idle.is_some() => Some(Duration::from_millis(SWEEP)),
-            None => None,
+        if self.limits.are_set() && !self.visits.is_empty() {
+            return Some(Duration::from_millis(SWEEP));
         }
+        None
     }
 
-    /// The time, where it matters.
+    /// The time, where silence matters.
     fn now(&self) -> Option<Instant> {
-        if self.serving.idle.is_none() && !self.door.has_fault() {
+        if !self.limits.are_set() {
             return None;
         }
         Instant::now(self.serving.clock).ok()
     }
 
     /// One event.
-    fn note(&mut self, event: &Ready)
+    pub(crate) fn note(&mut self, event: &Ready)
         ensures { self.new.stubs ≡ self.old.stubs }
     {
         let token = event.token();
-        if token == LISTENER {
-            self.door.note();
-        } else if token == INPUT {
-            if has_ended(self.poll.registry(), INPUT) {
-                self.serving.stop();
-            }
-        } else if token != WAKER {
+        if token == WAKER {
+            self.is_called = true;
+        } else {
             self.note_client(token.0, event.is_read_closed());
         }
     }
@@ -177,7 +237,7 @@ impl<'s, N: Naming, V: Watch, C: Clock> Worker<'s, N, V, C> {
     }
 
     /// Puts a connection back, and serves it next.
-    fn put_due(&mut self, mut visit: Box<Visit<'s, N>>)
+    fn put_due(&mut self, mut visit: Box<Visit<'s, N, Socket>>)
         requires stub { vec_len self.old.stubs + (slab_len self.old.visits + 1) ≤ vec_capacity self.old.stubs }
         requires visit { slab_len self.old.visits + 1 ≤ self.old.visits.capacity }
         ensures { self.new.stubs ≡ self.old.stubs }
@@ -186,65 +246,97 @@ impl<'s, N: Naming, V: Watch, C: Clock> Worker<'s, N, V, C> {
         visit.is_due = true;
         let key = self.visits.insert_reserved(visit);
         if !was_due && self.due.push(key).is_err() {
-            self.serving.stop();
+            self.all_due = true;
         }
     }
 
-    /// Takes some of the connections that wait at the listener.
-    fn take_some(&mut self)
+    /// Takes over the connections that were handed to its place.
+    fn take_over<T: Wait>(&mut self, rt: &T, place: usize)
         ensures { self.new.stubs.items ≡ self.old.stubs.items }
     {
-        let now = self.now();
-        for _taken in 0..TAKEN_A_TURN {
-            match self.door.take(self.serving.watch, now) {
-                Some(Client { stream, port }) => self.admit(TcpStream::from_std(stream), port),
-                None => return,
+        if !self.is_called {
+            return;
+        }
+        self.is_called = false;
+        for letter in self.serving.letters(rt, place) {
+            if self.serving.place_of(letter.tenant) == place {
+                self.settle_in(place, letter);
+            } else {
+                self.refuse(letter.newcomer.port, Event::NoPlace);
             }
         }
+    }
+
+    /// Takes over a connection of this place.
+    fn settle_in(&mut self, place: usize, letter: Letter)
+        requires { place ≡ place_of N.cells (vec_len self.old.serving.now.mailboxes) letter.tenant }
+        ensures { self.new.stubs.items ≡ self.old.stubs.items }
+    {
+        let Letter { newcomer, .. } = letter;
+        self.admit(Box::into_inner(newcomer));
+    }
+
+    /// Tells a client that isn't served.
+    fn refuse(&self, port: u16, why: Event) {
+        self.serving.watch.see_client(port, why);
     }
 
     /// Takes a connection. One that has no place isn't served.
-    fn admit(&mut self, mut stream: TcpStream, port: u16)
+    pub(crate) fn admit(&mut self, newcomer: Newcomer)
         ensures { self.new.stubs.items ≡ self.old.stubs.items }
     {
+        let port = newcomer.port;
         if self.stubs.reserve(self.visits.len() + 1).is_err() || self.visits.reserve(1).is_err() {
-            self.serving.watch.see(Event::NoPlace);
+            self.refuse(port, Event::NoPlace);
             return;
         }
+        let serving = self.serving;
+        let heard = self.now();
+        let visit = Visit::begin(
+            serving.alloc,
+            serving.host,
+            serving.first_tenant,
+            newcomer,
+            heard,
+        );
+        match Box::new(serving.alloc, visit) {
+            Ok(visit) => self.begin(visit),
+            Err(_) => self.refuse(port, Event::NoPlace),
+        }
+    }
+
+    /// Has a connection reported from now on, and serves it next.
+    fn begin(&mut self, mut visit: Box<Visit<'s, N, Socket>>)
+        requires stub { vec_len self.old.stubs + (slab_len self.old.visits + 1) ≤ vec_capacity self.old.stubs }
+        requires visit { slab_len self.old.visits + 1 ≤ self.old.visits.capacity }
+        ensures { self.new.stubs ≡ self.old.stubs }
+    {
         let token = Token(self.visits.vacant_key());
-        let interest = Interest::READABLE | Interest::WRITABLE;
-        if self
-            .poll
-            .registry()
-            .register(&mut stream, token, interest)
-            .is_err()
-        {
-            self.serving.watch.see(Event::NotAccepted);
-            return;
-        }
-        let visit = Visit {
-            stream,
-            port,
-            connection: Connection::new(self.serving.alloc, self.serving.host),
-            heard: self.now(),
-            is_due: false,
-            hung_up: false,
-        };
-        match Box::new(self.serving.alloc, visit) {
-            Ok(visit) => {
-                self.serving.watch.see_client(port, Event::Came);
-                self.visits.insert_reserved(visit);
-            }
-            Err(_) => self.serving.watch.see(Event::NoPlace),
+        match visit.register(self.poll.registry(), token) {
+            Ok(()) => self.put_due(visit),
+            Err(error) => self.refuse(visit.port, Event::NotAccepted(error.kind())),
         }
     }
 
     /// Gives each connection that is due its turn.
-    fn serve_due<T: Wait>(&mut self, rt: &T)
+    pub(crate) fn serve_due<T: Wait>(&mut self, rt: &T)
         ensures { GainsClosed self.old.stubs.items self.new.stubs.items }
     {
         let due = mem::replace(&mut self.due, Vec::new(self.serving.alloc));
         for key in due {
+            self.serve_turn(rt, key);
+        }
+        if self.all_due {
+            self.all_due = false;
+            self.serve_all(rt);
+        }
+    }
+
+    /// Gives each connection its turn.
+    fn serve_all<T: Wait>(&mut self, rt: &T)
+        ensures { GainsClosed self.old.stubs.items self.new.stubs.items }
+    {
+        for key in 0..self.visits.capacity() {
             self.serve_turn(rt, key);
         }
     }
@@ -257,55 +349,51 @@ impl<'s, N: Naming, V: Watch, C: Clock> Worker<'s, N, V, C> {
             return;
         };
         visit.is_due = false;
-        let (next, has_heard) = visit.serve(rt, self.serving.watch, self.buffer.as_mut_slice());
-        if has_heard {
-            visit.heard = self.now();
-        }
-        match next {
+        let turn = visit.serve(rt, self.serving.watch, &mut self.buffer);
+        visit.note_turn(turn, self.now());
+        match turn.next {
             Next::Waits => {
                 self.visits.insert_reserved(visit);
             }
             Next::GoesOn => self.put_due(visit),
-            Next::Ends(ended) => self.settle(rt, Box::into_inner(visit), ended),
+            Next::Ends(ending) => self.settle(rt, Box::into_inner(visit), ending),
         }
     }
 
-    /// Closes the connections that have sent nothing for too long.
-    fn sweep<T: Wait>(&mut self, rt: &T)
+    /// Closes the connections that have been silent for too long.
+    pub(crate) fn sweep<T: Wait>(&mut self, rt: &T)
         ensures { GainsClosed self.old.stubs.items self.new.stubs.items }
     {
-        let (Some(idle), Some(now)) = (self.serving.idle, self.now()) else {
+        let Some(now) = self.now() else {
             return;
         };
-        if let Some(swept) = self.swept {
-            if now.duration_since(swept) < Duration::from_millis(SWEEP) {
-                return;
-            }
+        if !is_time(self.swept, now) {
+            return;
         }
         self.swept = Some(now);
         for key in 0..self.visits.capacity() {
-            self.end_idle(rt, key, now, idle);
+            self.judge(rt, key, now);
         }
     }
 
-    /// Closes a connection that has sent nothing for so long.
-    fn end_idle<T: Wait>(&mut self, rt: &T, key: usize, now: Instant, idle: Duration)
+    /// Closes a connection that has been silent for too long. What has come is read first.
+    fn judge<T: Wait>(&mut self, rt: &T, key: usize, now: Instant)
         ensures { GainsClosed self.old.stubs.items self.new.stubs.items }
     {
-        if !self.is_idle(key, now, idle) {
+        if self.silence(key, now).is_none() {
             return;
         }
-        self.end(rt, key, Err(StreamError::ReadFault));
+        self.serve_turn(rt, key);
+        if let Some(ending) = self.silence(key, now) {
+            self.end(rt, key, ending);
+        }
     }
 
-    /// Whether a connection has sent nothing for so long.
-    fn is_idle(&self, key: usize, now: Instant, idle: Duration) -> bool {
+    /// How a connection ends that has been silent for too long, if it has.
+    fn silence(&self, key: usize, now: Instant) -> Option<Ending> {
         match self.visits.get(key) {
-            Some(visit) => match visit.heard {
-                Some(heard) => now.duration_since(heard) >= idle,
-                None => false,
-            },
-            None => false,
+            Some(visit) => visit.silence(now, &self.limits),
+            None => None,
         }
     }
 
@@ -315,30 +403,38 @@ impl<'s, N: Naming, V: Watch, C: Clock> Worker<'s, N, V, C> {
         ensures gains { GainsClosed self.old.stubs.items self.new.stubs.items }
     {
         for key in 0..self.visits.capacity() {
-            self.end(rt, key, Ok(()));
+            self.end(rt, key, Ending::Well);
         }
     }
 
     /// Closes a connection, if there is one.
-    fn end<T: Wait>(&mut self, rt: &T, key: usize, ended: Result<(), StreamError>)
+    fn end<T: Wait>(&mut self, rt: &T, key: usize, ending: Ending)
         ensures ends { Updates self.old.visits self.new.visits key None }
         ensures gains { GainsClosed self.old.stubs.items self.new.stubs.items }
     {
         if let Some(visit) = self.visits.try_remove(key) {
-            self.settle(rt, Box::into_inner(visit), ended);
+            self.settle(rt, Box::into_inner(visit), ending);
         }
     }
 
     /// Closes a connection, and keeps the receipts of its session.
-    fn settle<T: Wait>(&mut self, rt: &T, visit: Visit<'s, N>, ended: Result<(), StreamError>)
+    fn settle<T: Wait>(&mut self, rt: &T, visit: Visit<'s, N, Socket>, ending: Ending)
         requires { vec_len self.old.stubs + (slab_len self.old.visits + 1) ≤ vec_capacity self.old.stubs }
-        ensures left { (stub : Option ItsStub) × Leaves visit.entry.connection stub
+        ensures left { (stub : Option ItsStub) × Leaves (traffic visit.entry.stream) visit.entry.connection visit.entry.is_cut stub
             × (self.new.stubs.items ≡ self.old.stubs.items ++ option_to_list stub) }
         ensures others { self.new.visits ≡ self.old.visits }
         ensures gains { GainsClosed self.old.stubs.items self.new.stubs.items }
     {
-        if let Some(stub) = visit.leave(rt, self.serving.watch, ended) {
+        if let Some(stub) = visit.leave(rt, self.serving.watch, ending) {
             self.stubs.push_reserved(stub);
         }
+    }
+}
+
+/// Whether it is time to look for silent connections again.
+pub(crate) fn is_time(swept: Option<Instant>, now: Instant) -> bool {
+    match swept {
+        Some(swept) => now.duration_since(swept) >= Duration::from_millis(SWEEP),
+        None => true,
     }
 }

@@ -1,6 +1,6 @@
 use denote.Param.Send.{arg_sync, param_sync}
-use Rattle.std.proofs.Common.{List, [], ◌∷◌, subst, sym}
-use Rattle.std.specs.Prelude.{Vec}
+use Rattle.std.proofs.Common.{List, [], ◌∷◌, ◌++◌, subst, sym}
+use Rattle.std.specs.Prelude.{IfOk, Vec}
 use Rattle.std.specs.Global.{Global}
 use Rattle.std.specs.List.{All, AllZip, flat_map}
 use Rattle.std.proofs.lemmas.List.Elements.{All-append, All-nil}
@@ -9,9 +9,9 @@ use Rattle.sb_server.specs.Closed.{LeaveClosed, LeavesClosed}
 use Rattle.sb_server.proofs.Sending.{serving_sync}
 use Rattle.sb_server.proofs.server.serve_all.Goals as goal
 
--- the workers share the host and the entrance
-pub run-requires-sync-W : goal.run-requires-sync-W
-run-requires-sync-W g c = λ κs bounds. search (param_sync, arg_sync, serving_sync)
+-- the threads share the host, the mailboxes and the watch
+pub run_beside-first-requires-sync-W : goal.run_beside-first-requires-sync-W
+run_beside-first-requires-sync-W g c = λ κs bounds. search (param_sync, arg_sync, serving_sync)
 
 -- each worker closed its sessions
 all_closed : {A : Type 0} (jobs : List A) (parts : List (Vec Stub Global)) → AllZip (λ job part. LeaveClosed part) jobs parts → All LeavesClosed (flat_map (λ part. part.items) parts)
@@ -22,5 +22,9 @@ all_closed (job ∷ jobs) (part ∷ parts) (own, others) = All-append LeavesClos
 
 pub returns-in-Ok-gather : goal.returns-in-Ok-gather
 returns-in-Ok-gather g c =
-    let closed = all_closed c.in_ok-seats.seats.items c.in-Ok.parts.items c.in-Ok.ensures.done in
-    subst (λ (l : List Stub). All LeavesClosed l) (sym c.in-Ok-gather.ensures) closed
+    let posts = c.in_ok-posts.posts.items in
+    let did = c.run_beside-first.ensures in
+    let done = subst (λ r. IfOk r (λ results. AllZip (λ job part. LeaveClosed part) posts results.items)) c.in-Ok.is did.others in
+    let closed = all_closed posts c.in-Ok.parts.items done in
+    subst (λ (l : List Stub). All LeavesClosed l) (sym c.in-Ok-gather.ensures)
+    (All-append LeavesClosed c.run_beside-first.result.0.items (flat_map (λ part. part.items) c.in-Ok.parts.items) did.one closed)

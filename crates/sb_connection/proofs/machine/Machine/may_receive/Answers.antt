@@ -1,4 +1,4 @@
-use Rattle.std.proofs.Common.{◌≡◌, ◌∙◌, ap, refl, rules, arith, true, ◌==◌, length}
+use Rattle.std.proofs.Common.{◌≡◌, ap, rules, arith, true, ◌==◌}
 use Rattle.sb_connection.specs.Standing.{is_open}
 use Rattle.sb_connection.proofs.Steps.{may_by}
 use Rattle.sb_connection.proofs.machine.Machine.may_receive.Goals as goal

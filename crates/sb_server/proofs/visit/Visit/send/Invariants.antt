@@ -1,5 +1,9 @@
-use Rattle.std.proofs.Common.{length}
+use Rattle.std.proofs.Common.{◌≡◌, length}
+use Rattle.sb_server.specs.Visits.{SendsSome}
 use Rattle.sb_server.proofs.visit.Visit.send.Given as goal
+
+abbrev pub invariant-loop-self : goal.invariant-loop-self
+invariant-loop-self g l = SendsSome l.fn.self.connection l.self.connection × (l.self.is_cut ≡ l.fn.self.is_cut)
 
 -- each write sends some of what waits
 abbrev pub decreases-loop-self : goal.decreases-loop-self

@@ -2,4 +2,4 @@ use Rattle.sb_server.proofs.Gains.{gains_then}
 use Rattle.sb_server.proofs.worker.Worker.sweep.Goals as goal
 
 pub loop-key-preserved : goal.loop-key-preserved
-loop-key-preserved g c = gains_then c.args.self.now.stubs.items c.loop-key.self.stubs.items c.end_idle.new.self.stubs.items c.loop-key.invariant c.end_idle.ensures
+loop-key-preserved g c = gains_then c.args.self.now.stubs.items c.loop-key.self.stubs.items c.judge.new.self.stubs.items c.loop-key.invariant c.judge.ensures

@@ -2,12 +2,11 @@ use Rattle.std.proofs.Common.{◌∙◌, subst, sym, List, ap, ◌++◌}
 use Rattle.std.specs.List.{All}
 use Rattle.sb_host.specs.declared.stub.Stub.{Stub}
 use Rattle.sb_server.specs.Closed.{LeavesClosed}
-use Rattle.sb_server.proofs.Gains.{gains_then}
-use Rattle.sb_server.proofs.server.ServingWorkSeatVecStub.work.Goals as goal
+use Rattle.sb_server.proofs.server.Serving.serve_cells.Goals as goal
 
 -- it begins with none, and gains those of its connections
 pub returns : goal.returns
 returns g c =
-    let gained = gains_then c.new-worker.result.stubs.items c.serve.new.self.stubs.items c.close_all.new.self.stubs.items c.serve.ensures c.close_all.ensures.gains in
+    let gained = c.run.ensures in
     let is = c.into_stubs.ensures ∙ gained.1 ∙ ap (λ (l : List Stub). l ++ gained.0) c.new-worker.ensures in
     subst (λ (l : List Stub). All LeavesClosed l) (sym is) gained.2

@@ -1,0 +1,33 @@
+//! How a connection ends.
+
+use sb_wire::StreamError;
+use std::io::ErrorKind;
+
+/// How a connection ended.
+#[derive(Clone, Copy)]
+pub enum Ending {
+    /// It is over, or the server ends.
+    Well,
+    /// By a fault, for which the system may have a reason.
+    Fault {
+        why: StreamError,
+        reason: Option<ErrorKind>,
+    },
+    /// No line came for too long.
+    Idle,
+    /// No line came for too long in a transaction.
+    IdleTransaction,
+}
+
+impl Ending {
+    /// As a stream's end is told.
+    pub(crate) fn of(ended: &Result<(), StreamError>) -> Ending {
+        match ended {
+            Ok(()) => Ending::Well,
+            Err(why) => Ending::Fault {
+                why: *why,
+                reason: None,
+            },
+        }
+    }
+}

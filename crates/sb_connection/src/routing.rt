@@ -1,0 +1,49 @@
+//! Where a connection goes, before its first line is answered.
+ghost use Rattle.std.specs.Prelude.{◌≡◌};
+ghost use Rattle.sb_connection.specs.Conversation.{hosting};
+ghost use Rattle.sb_connection.specs.Routing.{Routes, RoutesBy};
+
+use crate::greeting::{Named, named_in, tenant_at};
+use sb_value::SESSION_LIMIT;
+use sb_wire::{Lines, Piece};
+
+/// Where a connection goes.
+#[derive(Clone, Copy, Debug, PartialEq, Eq)]
+pub enum Route {
+    /// Its first line isn't complete.
+    Unknown,
+    /// To this tenant of the host.
+    To(u32),
+    /// Its first line opens no session.
+    Away,
+}
+
+/// Where a connection goes by the bytes that have come of it; and whether no more come.
+pub fn route_of(bytes: &[u8], has_ended: bool, first: u32, tenants: u32) -> Route
+    ensures { Routes (hosting first tenants) bytes.now has_ended result }
+{
+    let mut lines = Lines::new();
+    match lines.feed(bytes) {
+        Some(_) => route_by(named_in(lines.line()), first, tenants),
+        None if has_ended => route_by(named_in(lines.line()), first, tenants),
+        None => match lines.line() {
+            Piece::TooLong => Route::Away,
+            Piece::Line(_) => Route::Unknown,
+        },
+    }
+}
+
+/// Where a connection goes whose first line names this.
+fn route_by(named: Option<Named>, first: u32, tenants: u32) -> Route
+    ensures { RoutesBy (hosting first tenants) named result }
+{
+    let Some(named) = named else {
+        return Route::Away;
+    };
+    let tenant = tenant_at(first, tenants, named.tenant);
+    if tenant < tenants && named.session < SESSION_LIMIT as u32 {
+        Route::To(tenant)
+    } else {
+        Route::Away
+    }
+}

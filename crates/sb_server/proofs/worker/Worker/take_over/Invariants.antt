@@ -1,0 +1,5 @@
+use Rattle.std.proofs.Common.{◌≡◌}
+use Rattle.sb_server.proofs.worker.Worker.take_over.Given as goal
+
+abbrev pub invariant-loop-letter : goal.invariant-loop-letter
+invariant-loop-letter g l = l.self.stubs.items ≡ l.fn.self.stubs.items

@@ -1,0 +1,116 @@
+//! A connection whose first line isn't known yet.
+ghost use Rattle.std.specs.Prelude.{◌≡◌, [], false};
+ghost use Rattle.sb_connection.specs.Traffic.{gave, no_traffic, took};
+ghost use Rattle.sb_server.specs.Carried.{Hears};
+ghost use Rattle.sb_server.specs.Sockets.{traffic};
+
+use crate::socket::Socket;
+use mio::{Interest, Registry, Token};
+use sb_connection::{Route, Stream, route_of};
+use std::alloc::Global;
+use std::io::{self, ErrorKind};
+
+/// A connection before its first line is answered.
+#[derive(Drop)]
+pub(crate) struct Newcomer {
+    pub(crate) socket: Socket,
+    /// The client's.
+    pub(crate) port: u16,
+    /// All that came.
+    pub(crate) bytes: Vec<u8>,
+    /// How often it was seen that its first line hasn't come, about once a second.
+    pub(crate) age: u32,
+    /// It has been handed to the system to be reported.
+    pub(crate) is_watched: bool,
+    /// Memory ran out for what was read last.
+    pub(crate) is_cut: bool,
+    ghost whole: { Hears is_cut (gave (traffic socket)) bytes.items },
+    ghost fresh: { took (traffic socket) ≡ [] },
+}
+
+/// What is known of a newcomer.
+#[derive(Clone, Copy)]
+pub(crate) enum Heard {
+    Route(Route),
+    /// It went without a byte.
+    Left,
+    Fault(ErrorKind),
+    NoMemory,
+}
+
+/// How often a newcomer is read at most in one turn.
+const MOST_READS: usize = 16;
+
+impl Newcomer {
+    pub(crate) fn new(alloc: Global, socket: Socket, port: u16) -> Newcomer
+        requires { traffic socket ≡ no_traffic }
+    {
+        Newcomer {
+            socket,
+            port,
+            bytes: Vec::new(alloc),
+            age: 0,
+            is_watched: false,
+            is_cut: false,
+        }
+    }
+
+    /// Reads until its first line is known, or nothing more is there.
+    pub(crate) fn hear(&mut self, buffer: &mut Vec<u8>, first: u32, tenants: u32) -> Heard {
+        for _read in 0..MOST_READS {
+            if let Some(heard) = self.hear_once(buffer, first, tenants) {
+                return heard;
+            }
+        }
+        Heard::Route(Route::Unknown)
+    }
+
+    /// Reads once. None where it is to be read again.
+    fn hear_once(&mut self, buffer: &mut Vec<u8>, first: u32, tenants: u32) -> Option<Heard> {
+        if self.is_cut {
+            return Some(Heard::NoMemory);
+        }
+        match self.read(buffer) {
+            Ok(_) if self.is_cut => Some(Heard::NoMemory),
+            Ok(0) if self.bytes.is_empty() => Some(Heard::Left),
+            Ok(count) => match route_of(self.bytes.as_slice(), count == 0, first, tenants) {
+                Route::Unknown => None,
+                known => Some(Heard::Route(known)),
+            },
+            Err(error) => match error.kind() {
+                ErrorKind::WouldBlock => Some(Heard::Route(Route::Unknown)),
+                ErrorKind::Interrupted => None,
+                why => Some(Heard::Fault(why)),
+            },
+        }
+    }
+
+    /// Reads once, and keeps what came.
+    fn read(&mut self, buffer: &mut Vec<u8>) -> io::Result<usize>
+        requires { self.old.is_cut ≡ false }
+    {
+        let answer = self.socket.read(buffer);
+        if let Ok(count) = answer {
+            self.is_cut = self.bytes.extend_from_slice(&buffer[..count]).is_err();
+        }
+        answer
+    }
+
+    /// One look more.
+    pub(crate) fn grow_older(&mut self) {
+        self.age = self.age.saturating_add(1);
+    }
+
+    /// Has it reported under this token.
+    pub(crate) fn watch(&mut self, registry: &Registry, token: Token) -> io::Result<()> {
+        self.is_watched = true;
+        self.socket.register(registry, token, Interest::READABLE)
+    }
+
+    /// Has it reported no more.
+    pub(crate) fn unwatch(&mut self, registry: &Registry) {
+        if self.is_watched {
+            self.socket.deregister(registry);
+        }
+    }
+}
