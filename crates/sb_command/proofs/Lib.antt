@@ -1,2 +1,7 @@
+mod Once
+mod First
+mod Found
 mod Runs
 mod Told
+mod Servers
+mod Commands

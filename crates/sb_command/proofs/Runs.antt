@@ -4,16 +4,16 @@ use Rattle.std.proofs.lemmas.Bool.{false≢true}
 use Rattle.std.specs.Prelude.{OnOk}
 use Rattle.clap.specs.Words.{Text}
 use Rattle.clap.proofs.OnLiterals.{clap_on_literals}
-use Rattle.sb_options.specs.Words.{AskFor, AskOnce, IsAsked}
-use Rattle.sb_options.specs.declared.request.Hosting.{Hosting}
-use Rattle.sb_options.specs.declared.request.Request.{Request}
-use Rattle.sb_options.specs.declared.request.Request.TheVariants.{Run as run_request, Serve, Replay}
-use Rattle.sb_options.specs.declared.request.Run.{Run}
-use Rattle.sb_options.specs.declared.request.Serving.{Serving}
-use Rattle.sb_options.specs.declared.words.Asked.{Asked}
-use Rattle.sb_options.specs.declared.words.Asked.TheVariants.{For}
+use Rattle.sb_command.specs.Words.{AskFor, AskOnce, IsAsked}
+use Rattle.sb_command.specs.declared.request.Hosting.{Hosting}
+use Rattle.sb_command.specs.declared.request.Request.{Request}
+use Rattle.sb_command.specs.declared.request.Request.TheVariants.{Run as run_request, Serve, Replay, Parse}
+use Rattle.sb_command.specs.declared.request.Run.{Run}
+use Rattle.sb_command.specs.declared.request.Serving.{Serving}
+use Rattle.sb_command.specs.declared.words.Asked.{Asked}
+use Rattle.sb_command.specs.declared.words.Asked.TheVariants.{For}
 use Rattle.sb_command.specs.Faults.{TellsEnd}
-use Rattle.sb_service.specs.declared.fault.Fault.{Fault}
+use Rattle.sb_command.specs.declared.fault.Fault.{Fault}
 
 abbrev begins_with_t : Option Text → Bool
 begins_with_t None = false
@@ -26,8 +26,8 @@ not_given is = false≢true (ap begins_with_t is)
 
 pub no_words : {A : Type 0} (f : A → Text) (words : List A) → length words ≤ 1 → AskFor (map f words) (run_request (record { tenants = 16; bound = 1000 }))
 unfolding clap_on_literals
-no_words f [] h = (refl, (inl refl, (refl, refl, (refl, refl, refl, not_given)), (refl, refl)))
-no_words f (w ∷ []) h = (refl, (inl refl, (refl, refl, (refl, refl, refl, not_given)), (refl, refl)))
+no_words f [] h = (refl, (inl refl, (refl, refl, (refl, refl, (refl, refl, refl, refl, refl, not_given))), (refl, refl)))
+no_words f (w ∷ []) h = (refl, (inl refl, (refl, refl, (refl, refl, (refl, refl, refl, refl, refl, not_given))), (refl, refl)))
 no_words f (w ∷ v ∷ rest) h = absurd (omega arith)
 
 -- what is read is what the words ask for
@@ -50,6 +50,7 @@ abbrev kind_of : Request → ℕ
 kind_of (run_request r) = 0
 kind_of (Serve s) = 1
 kind_of (Replay h) = 2
+kind_of Parse = 3
 
 -- words that ask for two requests ask for one
 module _ (once : AskOnce) (words : List Text) where

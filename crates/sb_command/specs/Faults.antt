@@ -1,10 +1,18 @@
--- Promise: the lines of faults.
-use Rattle.std.specs.Prelude.{ℕ, ◌≡◌, ◌⊎◌, List, ◌++◌, Option, Result, Ok, Err, codes, decimal}
-use Rattle.sb_command.specs.Does.{Tells}
+-- Promise: why a server or a replay ends early, and the lines that tell it.
+use Rattle.std.specs.Prelude.{ℕ, ◌≡◌, ◌⊎◌, ◌+◌, List, ◌++◌, Option, Result, Ok, Err, codes, decimal}
 use Rattle.sb_wire.specs.Faults.{fault_line}
-use Rattle.sb_wire.specs.declared.fault.StreamError.TheVariants.{NoMemory}
-use Rattle.sb_service.specs.declared.fault.Fault.{Fault}
-use Rattle.sb_service.specs.declared.fault.Fault.TheVariants.{Stream, CannotListen, BadLine, CannotAttach, TrailMissing, TrailMismatch}
+use Rattle.sb_wire.specs.declared.fault.StreamError.TheVariants as stream
+use Rattle.sb_host.specs.declared.finish.FinishError.{FinishError}
+use Rattle.sb_host.specs.declared.finish.FinishError.TheVariants as finish
+use Rattle.sb_server.specs.declared.server.ServeError.{ServeError}
+use Rattle.sb_server.specs.declared.server.ServeError.TheVariants as serve
+use Rattle.sb_replay.specs.declared.error.ReplayError.{ReplayError}
+use Rattle.sb_replay.specs.declared.error.ReplayError.TheVariants as replay
+use Rattle.sb_command.specs.Does.{Tells}
+use Rattle.sb_command.specs.declared.fault.Fault.{Fault}
+use Rattle.sb_command.specs.declared.fault.Fault.TheVariants.{Stream, CannotListen, CannotWait, CannotStart, WaitingFailed, BadLine, CannotAttach, TrailMissing, TrailMismatch}
+
+-- ---- the lines
 
 -- a text with the numbers of a session behind it
 abbrev pub numbered_text : List ℕ → ℕ → ℕ → List ℕ
@@ -13,6 +21,9 @@ numbered_text label tenant session = label ++ decimal tenant ++ codes " " ++ dec
 abbrev pub fault_text : Fault → List ℕ
 fault_text (Stream e) = fault_line e
 fault_text CannotListen = codes "fault: cannot listen\n"
+fault_text CannotWait = codes "fault: cannot wait\n"
+fault_text CannotStart = codes "fault: cannot start a thread\n"
+fault_text WaitingFailed = codes "fault: waiting failed\n"
 fault_text (BadLine n) = codes "fault: bad line " ++ decimal n ++ codes "\n"
 fault_text (CannotAttach t s) = numbered_text (codes "fault: cannot attach ") t s
 fault_text (TrailMissing t s) = numbered_text (codes "fault: trail missing ") t s
@@ -21,9 +32,33 @@ fault_text (TrailMismatch t s) = numbered_text (codes "fault: trail mismatch ") 
 module _ {E : Type 0} (denies : E → Type 0) (told : E → Option (List ℕ)) (errors more : E) where
   -- a fault is told by its line, or want of memory where there is none for the line
   abbrev pub TellsFault : Fault → Type 0
-  TellsFault why = Tells denies told errors more (fault_text why) ⊎ Tells denies told errors more (fault_line NoMemory)
+  TellsFault why = Tells denies told errors more (fault_text why) ⊎ Tells denies told errors more (fault_line stream.NoMemory)
 
   -- a server or a replay that ended well has status 0 and tells nothing; one that didn't has status 1 and tells its fault
   abbrev pub TellsEnd : Result (Unit {0}) Fault → ℕ → Type 0
   TellsEnd (Ok value) status = (status ≡ 0) × (more ≡ errors)
   TellsEnd (Err why) status = (status ≡ 1) × TellsFault why
+
+-- ---- the reasons
+
+-- of a host that wasn't finished, whose tenants have this first number
+abbrev pub unfinished_as : ℕ → FinishError → Fault
+unfinished_as first (finish.Missing t s) = TrailMissing (first + t) s
+unfinished_as first (finish.Mismatch t s) = TrailMismatch (first + t) s
+unfinished_as first finish.NoMemory = Stream stream.NoMemory
+
+-- of an input that wasn't replayed
+abbrev pub unplayed_as : ReplayError → Fault
+unplayed_as replay.ReadFault = Stream stream.ReadFault
+unplayed_as replay.WriteFault = Stream stream.WriteFault
+unplayed_as (replay.BadLine n why) = BadLine n
+unplayed_as (replay.Attach t s) = CannotAttach t s
+unplayed_as (replay.Finish e) = unfinished_as 0 e
+unplayed_as replay.NoMemory = Stream stream.NoMemory
+
+-- of connections that weren't served
+abbrev pub unserved_as : ServeError → Fault
+unserved_as serve.NoMemory = Stream stream.NoMemory
+unserved_as serve.NoPlace = CannotWait
+unserved_as serve.NoThread = CannotStart
+unserved_as serve.PollFailed = WaitingFailed

@@ -1,9 +1,9 @@
 -- Promise: the line of words that aren't allowed.
 use Rattle.std.specs.Prelude.{ℕ, List, ◌++◌, codes}
 use Rattle.clap.specs.Words.{Text}
-use Rattle.sb_options.specs.declared.unfit.Part.{Part}
-use Rattle.sb_options.specs.declared.unfit.Part.TheVariants.{Command, Tenants, Bound, Cells, Workers, Port, Connections, Idle, UntilInputEnds}
-use Rattle.sb_options.specs.declared.unfit.Unfit.{Unfit}
+use Rattle.sb_command.specs.declared.unfit.Part.{Part}
+use Rattle.sb_command.specs.declared.unfit.Part.TheVariants.{Command, Tenants, Bound, Cells, Workers, Port, Connections, Idle, IdleTransaction, FirstTenant, TenantMemory, Log, UntilInputEnds}
+use Rattle.sb_command.specs.declared.unfit.Unfit.{Unfit}
 
 -- a part, with the text that stands for it
 abbrev pub part_text : Part → Text → List ℕ
@@ -15,6 +15,10 @@ part_text Workers text = codes "--workers " ++ text
 part_text Port text = codes "--port " ++ text
 part_text Connections text = codes "--connections " ++ text
 part_text Idle text = codes "--idle " ++ text
+part_text IdleTransaction text = codes "--idle-transaction " ++ text
+part_text FirstTenant text = codes "--first-tenant " ++ text
+part_text TenantMemory text = codes "--tenant-memory " ++ text
+part_text Log text = codes "--log " ++ text
 part_text UntilInputEnds text = codes "--until-input-ends"
 
 -- a part that isn't allowed, and what is

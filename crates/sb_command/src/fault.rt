@@ -1,13 +1,35 @@
-//! The line that tells why a server or a replay ended early.
+//! Why a server or a replay ended early, and the line that tells it.
 ghost use Rattle.std.specs.Prelude.{◌≡◌, ◌++◌, decimal, IfOk, OnOk};
 ghost use Rattle.sb_command.specs.Faults.{TellsFault, fault_text, numbered_text};
 
 use crate::telling::fault;
-use sb_service::Fault;
 use sb_wire::{Sink, StreamError, push_labelled, write_bytes};
 use std::alloc::{AllocError, Global};
 
 const FAULT: u8 = 1;
+
+/// Why a server or a replay ended early.
+#[derive(Clone, Copy, Debug)]
+pub enum Fault {
+    /// Of the streams, or want of memory.
+    Stream(StreamError),
+    /// Nothing can listen at the port.
+    CannotListen,
+    /// The system has no place where a server may wait.
+    CannotWait,
+    /// It starts no thread.
+    CannotStart,
+    /// It doesn't tell any more what comes.
+    WaitingFailed,
+    /// This line of the input, counted from 1, is no command for a session of the host.
+    BadLine { line: u64 },
+    /// The session is open already, or its tenant's trail is full.
+    CannotAttach { tenant: u64, session: u32 },
+    /// The session has fewer receipts than its tenant's trail has entries of it.
+    TrailMissing { tenant: u64, session: u32 },
+    /// The session's receipts are others than those entries.
+    TrailMismatch { tenant: u64, session: u32 },
+}
 
 /// Tells a fault by its line, or want of memory where there is none for the line.
 pub(crate) fn tell_fault<E: Sink>(alloc: Global, why: Fault, errors: &mut E) -> u8
@@ -31,6 +53,9 @@ fn line_of(alloc: Global, why: Fault) -> Result<Vec<u8>, AllocError>
     match why {
         Fault::Stream(error) => line.extend_from_slice(error.line())?,
         Fault::CannotListen => line.extend_from_slice(b"fault: cannot listen\n")?,
+        Fault::CannotWait => line.extend_from_slice(b"fault: cannot wait\n")?,
+        Fault::CannotStart => line.extend_from_slice(b"fault: cannot start a thread\n")?,
+        Fault::WaitingFailed => line.extend_from_slice(b"fault: waiting failed\n")?,
         Fault::BadLine { line: number } => {
             push_labelled(&mut line, b"fault: bad line ", number)?;
             line.push(b'\n')?;
@@ -52,12 +77,12 @@ fn line_of(alloc: Global, why: Fault) -> Result<Vec<u8>, AllocError>
 fn push_session(
     out: &mut Vec<u8>,
     label: &[u8],
-    tenant: u32,
+    tenant: u64,
     session: u32,
 ) -> Result<(), AllocError>
     ensures { OnOk result (out.new.items ≡ out.old.items ++ numbered_text label.now tenant session) }
 {
-    push_labelled(out, label, u64::from(tenant))?;
+    push_labelled(out, label, tenant)?;
     push_labelled(out, b" ", u64::from(session))?;
     out.push(b'\n')?;
     Ok(())

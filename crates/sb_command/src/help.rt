@@ -3,14 +3,16 @@
 pub(crate) const VERSION: &str = "starhost 0.1\n";
 
 /// What stands behind the first words of a refusal.
-pub(crate) const ALLOWED: &str = "; allowed are: run, serve, replay, --tenants 1 to 256, \
+pub(crate) const ALLOWED: &str =
+    "; allowed are: run, serve, replay, parse; of all but parse --tenants 1 to 256, \
 --bound 1 to 1000; of serve and replay --cells 1 to 16, --workers 1 to 16; of serve --port \
-0 to 65535, --connections 0 to 1000000, --idle 0 to 86400, --until-input-ends; --help, --version\n";
+0 to 65535, --connections 0 to 1000000, --idle 0 to 86400, --idle-transaction 0 to 86400, --first-tenant \
+0 to 999999000, --tenant-memory 0 to 1048576, --log error, warning or info, --until-input-ends; --help, --version\n";
 
 pub(crate) const HELP: &str = "\
 starhost answers the command lines of hosted active databases.
 
-Usage: starhost [run|serve|replay] [OPTIONS]
+Usage: starhost [run|serve|replay|parse] [OPTIONS]
 
 Commands:
   run            answer the lines of standard input on standard output;
@@ -18,23 +20,37 @@ Commands:
   serve          serve connections on 127.0.0.1, each of them a session
   replay         read all lines of standard input, call their sessions on
                  several threads, and write the replies session by session
+  parse          tell of each line of standard input whether it is a command:
+                 `ok`, `syntax <place>` or `too long`; it has no options
 
-Options of every command:
+Options of run, serve and replay:
   --tenants N    host the tenants 0 to N - 1: 1 to 256, or else 16
   --bound N      the most rules that are considered at one assertion point:
                  1 to 1000, or else 1000
 
 Options of serve and replay:
-  --cells N      locks that tenants are shared out among: 1 to 16, or else 4
-  --workers N    threads: 1 to 16, or else 4
+  --cells N      groups of tenants that may wait for each other: tenant t is
+                 in group t modulo N; 1 to 16, or else 4
+  --workers N    threads: 1 to 16, or else 4. In serve each serves its share
+                 of the groups, so with as many threads as groups no group
+                 waits for another
 
 Options of serve:
   --port N       the port: 0 to 65535, or else 0, which is any free one
   --connections N
                  stop behind so many connections: 0 to 1000000, or else 0,
                  which is never
-  --idle SECONDS close a connection that has sent nothing for so long:
+  --idle SECONDS close a connection that has sent no whole line for so long:
                  0 to 86400, or else 0, which is never
+  --idle-transaction SECONDS
+                 the same for a connection that has a transaction open
+  --first-tenant N
+                 the tenants' numbers begin at N: 0 to 999999000, or else 0
+  --tenant-memory MB
+                 what a tenant's trail and open transactions may take: 0 to
+                 1048576, or else 0, which is as much as there is
+  --log LEVEL    what is logged on standard error: error, warning or info,
+                 or else info, which is all
   --until-input-ends
                  stop where standard input ends
 
@@ -46,7 +62,8 @@ A line of run and replay is `<tenant> <session> <command>`, and each line of its
 reply begins with the same two numbers. In run each reply is written before more
 input is read. In replay each session that a line names is opened beforehand.
 The first line of a connection is `<tenant> <session>`, each further one is a
-command, and replies stand without numbers.
+command, and replies stand without numbers. A line of parse is a command; the
+place is that of the byte, counted from 1, where it stops being one.
 
 Examples:
   printf '0 0 open\\n0 0 create table t (a int)\\n0 0 end\\n' | starhost
@@ -54,11 +71,13 @@ Examples:
   starhost replay --workers 8 < lines.txt > replies.txt
   starhost serve --port 7411 &
   printf '0 0\\ncreate table t (a int)\\n' | nc -N 127.0.0.1 7411
+  echo 'select * from' | starhost parse
 
 A command ends with status 0; with 1 and a line `fault: ..` on standard error
 where reading or writing failed, memory ran out, nothing can listen at the port,
-or a line of a replay is no command for a session of the host. Where standard
-error is a terminal, a line before that counts lines, steps and refusals of a
-run. Words that aren't allowed are refused with status 2.
+no thread can be started, waiting for connections failed, or a line of a replay
+is no command for a session of the host. Where standard error is a terminal, a
+line before that counts lines, steps and refusals of a run. Words that aren't
+allowed are refused with status 2.
 docs/COMMANDS.md has all commands.
 ";

@@ -1,30 +1,36 @@
 //! What a command line is answered.
 ghost use Rattle.std.specs.Prelude.{◌≡◌, ◌≤◌, ◌⊎◌, List, ℕ, IfErr, IfSome, length, map};
 ghost use Rattle.std.specs.Io.KnownBytes.{Appends};
-ghost use Rattle.sb_wire.specs.Stream.{AnswersFresh};
-ghost use Rattle.sb_command.specs.Does.{GoesFresh, Shows, Tells, TellsRun, status_of};
+ghost use Rattle.sb_wire.specs.Stream.{AnswersFresh, MayFail, OnWriteFault};
+ghost use Rattle.sb_command.specs.Does.{GoesFresh, Shows, Tells, TellsRun, line_of, status_of};
 ghost use Rattle.sb_wire.specs.Faults.{fault_line};
+ghost use Rattle.sb_command.specs.Ends.{EndsEarly};
 ghost use Rattle.sb_command.specs.Faults.{TellsEnd};
+ghost use Rattle.sb_command.specs.Parsing.{ParsesStream, TellsLines};
 ghost use Rattle.sb_replay.specs.Replay.{Fails, Replays};
 ghost use Rattle.sb_replay.specs.declared.error.ReplayError.{ReplayError as ItsError};
-ghost use Rattle.sb_service.specs.Faults.{unplayed_as};
-ghost use Rattle.sb_service.specs.Totals.{TellsServer};
-ghost use Rattle.sb_options.specs.declared.request.Hosting.{Hosting as ItsHosting};
-ghost use Rattle.sb_options.specs.declared.request.Request.TheVariants as request;
-ghost use Rattle.sb_options.specs.declared.request.Run.{Run as ItsRun};
-ghost use Rattle.sb_options.specs.declared.request.Serving.{Serving as ItsServing};
-ghost use Rattle.sb_options.specs.Within.{AreRun};
-ghost use Rattle.sb_options.specs.Words.{AskFor, AskForHelp, AskForVersion, HasFault, HaveUnfit};
-ghost use Rattle.sb_options.specs.declared.unfit.Unfit.{Unfit as ItsUnfit};
+ghost use Rattle.sb_command.specs.Faults.{unplayed_as};
+ghost use Rattle.sb_command.specs.Totals.{TellsServer};
+ghost use Rattle.sb_command.specs.declared.request.Hosting.{Hosting as ItsHosting};
+ghost use Rattle.sb_command.specs.declared.request.Request.TheVariants as request;
+ghost use Rattle.sb_command.specs.declared.request.Run.{Run as ItsRun};
+ghost use Rattle.sb_command.specs.declared.request.Serving.{Serving as ItsServing};
+ghost use Rattle.sb_command.specs.Within.{AreRun};
+ghost use Rattle.sb_command.specs.Words.{AskFor, AskForHelp, AskForVersion, HasFault, HaveUnfit};
+ghost use Rattle.sb_command.specs.declared.unfit.Unfit.{Unfit as ItsUnfit};
 ghost use Rattle.sb_command.specs.Refusals.{refusal_text};
 
 use crate::console::Console;
-use crate::fault::tell_fault;
+use crate::fault::{Fault, tell_fault};
 use crate::help::{ALLOWED, HELP, VERSION};
+use crate::laws::words_ask_once;
+use crate::parsing::parse_lines;
 use crate::refusing::{refuse, refuse_part};
-use crate::telling::{SUCCESS, fault, tell_run};
-use sb_options::{Asked, Request, Run, read_words, words_ask_once};
-use sb_service::{Fault, replay, serve};
+use crate::replaying::replay;
+use crate::request::{Request, Run};
+use crate::server::serve;
+use crate::telling::{SUCCESS, fault, tell_run, tell_stream_end};
+use crate::words::{Asked, read_words};
 use sb_wire::{Sink, Source, StreamError, Summary, run_fresh, write_bytes};
 use std::alloc::Global;
 use std::convert::AsStr;
@@ -59,9 +65,13 @@ pub fn command<
         → result ≡ 0 → IfSome (R.remaining reader.old) (λ input. (text : List ℕ)
         × Appends (W.contents writer.old) (W.contents writer.new) text
         × Replays h.run.tenants h.run.bound input text) }
-    // whatever the status: of a run how its stream went; of a server or a replay the fault that it ended with; help and
-    // the version, as they are asked for; words with a fault; the first part that isn't allowed, by its line; and want of
-    // memory
+    // and words that ask for it which lines of the input are commands
+    ensures parses { AskFor (map S.text words.now) request.Parse
+        → result ≡ 0 → IfSome (R.remaining reader.old) (λ input. (text : List ℕ)
+        × Appends (W.contents writer.old) (W.contents writer.new) text × TellsLines input text) }
+    // whatever the status: of a run how its stream went; of a server or a replay the fault that it ended with, and why;
+    // how the stream of lines went of which it is told whether they are commands; help and the version, as they are asked
+    // for; words with a fault; the first part that isn't allowed, by its line; and want of memory
     ensures asked { ((r : ItsRun) × AskFor (map S.text words.now) (request.Run r)
         × (ended : _) × (summary : _) × (result ≡ status_of ended)
         × GoesFresh R.fails R.remaining W.refuses W.contents r.tenants r.bound reader.old reader.new
@@ -70,12 +80,19 @@ pub fn command<
         summary ended)
         ⊎ ((s : ItsServing) × AskFor (map S.text words.now) (request.Serve s) × (ended : _)
         × TellsEnd E.refuses E.contents errors.old.sink errors.new.sink ended result
-        × (reader.new ≡ reader.old))
+        × (reader.new ≡ reader.old)
+        × IfErr ended (EndsEarly W.refuses W.contents s.hosting.run.bound s.hosting.run.tenants
+        s.first_tenant writer.old writer.new))
         ⊎ ((h : ItsHosting) × AskFor (map S.text words.now) (request.Replay h) × (ended : _)
         × TellsEnd E.refuses E.contents errors.old.sink errors.new.sink ended result
         × IfErr ended (λ why. (e : ItsError) × (why ≡ unplayed_as e)
         × Fails R.fails R.remaining W.refuses W.contents h.run.tenants h.run.bound
         reader.old reader.new writer.old writer.new e))
+        ⊎ (AskFor (map S.text words.now) request.Parse × (ended : _) × (result ≡ status_of ended)
+        × ParsesStream R.fails R.remaining reader.old reader.new
+        (W.contents writer.old) (W.contents writer.new) ended
+        × OnWriteFault ended (MayFail W.refuses W.contents writer.new)
+        × Tells E.refuses E.contents errors.old.sink errors.new.sink (line_of ended))
         ⊎ (AskForHelp (map S.text words.now) × (reader.new ≡ reader.old)
         × Shows W.refuses W.contents E.refuses E.contents HELP.now writer.old writer.new
         errors.old.sink errors.new.sink result)
@@ -102,6 +119,10 @@ pub fn command<
         Ok(Asked::For(Request::Replay(asked))) => {
             let ended = replay(rt, alloc, asked, reader, writer);
             tell_end(alloc, ended, &mut errors.sink)
+        }
+        Ok(Asked::For(Request::Parse)) => {
+            let ended = parse_lines(alloc, reader, writer);
+            tell_stream_end(ended, &mut errors.sink)
         }
         Ok(Asked::Help) => show(HELP, writer, &mut errors.sink),
         Ok(Asked::Version) => show(VERSION, writer, &mut errors.sink),

@@ -6,8 +6,8 @@ ghost use Rattle.sb_command.specs.Refusals.{part_text, refusal_text};
 
 use crate::help::ALLOWED;
 use crate::telling::fault;
+use crate::unfit::{Part, Unfit};
 use clap::Error;
-use sb_options::{Part, Unfit};
 use sb_wire::{Sink, StreamError, write_bytes};
 use std::alloc::{AllocError, Global};
 
@@ -69,6 +69,10 @@ fn push_part(out: &mut Vec<u8>, unfit: Unfit<'_>) -> Result<(), AllocError>
         Part::Port => push_text(out, b"--port ", text),
         Part::Connections => push_text(out, b"--connections ", text),
         Part::Idle => push_text(out, b"--idle ", text),
+        Part::IdleTransaction => push_text(out, b"--idle-transaction ", text),
+        Part::FirstTenant => push_text(out, b"--first-tenant ", text),
+        Part::TenantMemory => push_text(out, b"--tenant-memory ", text),
+        Part::Log => push_text(out, b"--log ", text),
         Part::UntilInputEnds => push_text(out, b"--until-input-ends", ""),
     }
 }

@@ -28,7 +28,7 @@ pub(crate) fn tell_run<E: Sink>(
         errors.new.sink summary.now ended }
 {
     match tell_summary(alloc, summary, errors) {
-        Ok(()) => tell_end(ended, &mut errors.sink),
+        Ok(()) => tell_stream_end(ended, &mut errors.sink),
         // what can't take a summary isn't told of a fault either
         Err(_) => status(ended),
     }
@@ -43,8 +43,8 @@ fn status(ended: Result<(), StreamError>) -> u8
     }
 }
 
-/// Tells of the fault that ended a run, if one did.
-fn tell_end<E: Sink>(ended: Result<(), StreamError>, errors: &mut E) -> u8
+/// Tells of the fault that ended a stream, if one did.
+pub(crate) fn tell_stream_end<E: Sink>(ended: Result<(), StreamError>, errors: &mut E) -> u8
     ensures status { result ≡ status_of ended }
     ensures tells { Tells E.refuses E.contents errors.old errors.new (line_of ended) }
 {

@@ -22,7 +22,7 @@ use Rattle.sb_host.specs.Calls.{Calls, Session, shown}
 use Rattle.sb_host.specs.Finish.{row_at, wanted}
 use Rattle.sb_host.specs.Stubs.{LeavesStub}
 use Rattle.sb_host.specs.declared.stub.Stub.{Stub}
-use Rattle.sb_script.specs.Input.{commands_for}
+use Rattle.sb_replay.specs.Input.{commands_for}
 use Rattle.sb_replay.specs.Alone.{IsServed, TellsAsAlone, opened_text, text_alone, text_behind}
 use Rattle.sb_replay.specs.Replay.{Replays, text_at}
 use Rattle.sb_replay.specs.Sessions.{Attends, Exchange, Leaves, Plays, commands_in, is_absent, session_text, told_text}

@@ -5,9 +5,9 @@ use Rattle.std.specs.Io.KnownBytes.{Consumes, Keeps}
 use Rattle.sb_host.specs.declared.stub.Stub.{Stub}
 use Rattle.sb_replay.specs.declared.error.ReplayError.{ReplayError}
 use Rattle.sb_replay.specs.declared.error.ReplayError.TheVariants.{ReadFault, WriteFault, BadLine, Attach, Finish, NoMemory}
-use Rattle.sb_script.specs.Scripts.{FailsToRead, HoldsScript}
-use Rattle.sb_script.specs.declared.error.ScriptError.{ScriptError}
-use Rattle.sb_script.specs.declared.error.ScriptError.TheVariants as script
+use Rattle.sb_replay.specs.Scripts.{FailsToRead, HoldsScript}
+use Rattle.sb_replay.specs.declared.error.ScriptError.{ScriptError}
+use Rattle.sb_replay.specs.declared.error.ScriptError.TheVariants as script
 use Rattle.sb_replay.specs.Parts.{AreAttended}
 use Rattle.sb_replay.specs.Replay.{Fails, IsUnclosed, IsUnfinished, IsUnopened, IsUnplayed, unread_by}
 use Rattle.sb_replay.specs.Sheets.{Sheet}

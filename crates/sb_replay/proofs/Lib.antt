@@ -1,3 +1,5 @@
+mod Commands
+mod Lines
 mod Rows
 mod Lists
 mod Playing

@@ -10,7 +10,7 @@ use Rattle.sb_tenant.specs.Step.{step}
 use Rattle.sb_desk.specs.Receipts.{closes}
 use Rattle.sb_desk.specs.declared.desk.CallError.{CallError}
 use Rattle.sb_desk.specs.declared.desk.CallError.TheVariants as call
-use Rattle.sb_script.specs.Input.{commands_for}
+use Rattle.sb_replay.specs.Input.{commands_for}
 use Rattle.sb_replay.specs.Replay.{Replays, text_at}
 use Rattle.sb_replay.specs.Sessions.{is_absent, told_text}
 

@@ -1,3 +1,5 @@
+pub mod Input
+pub mod Scripts
 pub mod Lists
 pub mod Sessions
 pub mod Sheets

@@ -8,8 +8,8 @@ use Rattle.sb_tenant.specs.Limits.{session_count, trail_limit}
 use Rattle.sb_wire.specs.Counts.{totals_line}
 use Rattle.sb_wire.specs.Lines.{Addressed}
 use Rattle.sb_wire.specs.Stream.{MayFail, read_limit}
-use Rattle.sb_script.specs.Input.{IsAsked, IsBadLine, commands_for}
-use Rattle.sb_script.specs.Scripts.{HoldsScript}
+use Rattle.sb_replay.specs.Input.{IsAsked, IsBadLine, commands_for}
+use Rattle.sb_replay.specs.Scripts.{HoldsScript}
 use Rattle.sb_desk.specs.declared.desk.AttachError.{AttachError}
 use Rattle.sb_desk.specs.declared.desk.AttachError.TheVariants.{AlreadyOpen, TrailFull, NotBegun}
 use Rattle.sb_host.specs.Calls.{IsRefused, Session}
@@ -21,8 +21,8 @@ use Rattle.sb_host.specs.declared.finish.Report.{Report}
 use Rattle.sb_host.specs.declared.stub.Stub.{Stub}
 use Rattle.sb_replay.specs.declared.error.ReplayError.{ReplayError}
 use Rattle.sb_replay.specs.declared.error.ReplayError.TheVariants.{ReadFault, WriteFault, BadLine, Attach, Finish, NoMemory}
-use Rattle.sb_script.specs.declared.error.ScriptError.{ScriptError}
-use Rattle.sb_script.specs.declared.error.ScriptError.TheVariants as script
+use Rattle.sb_replay.specs.declared.error.ScriptError.{ScriptError}
+use Rattle.sb_replay.specs.declared.error.ScriptError.TheVariants as script
 use Rattle.sb_replay.specs.Parts.{AreAttended}
 use Rattle.sb_replay.specs.Sessions.{Attends}
 use Rattle.sb_replay.specs.Sheets.{Sheet, texts_of}

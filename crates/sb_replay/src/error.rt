@@ -1,11 +1,20 @@
-//! Why an input isn't replayed.
+//! Why an input gives no commands, and why it isn't replayed.
 ghost use Rattle.std.specs.Prelude.{◌≡◌};
 ghost use Rattle.sb_replay.specs.Replay.{unattached_as, unread_by};
 
 use sb_host::{AttachError, FinishError};
-use sb_script::ScriptError;
 use sb_value::SessionId;
 use sb_wire::WireRefusal;
+
+/// Why an input gives no commands.
+#[derive(Clone, Copy, Debug, PartialEq, Eq)]
+pub enum ScriptError {
+    /// The reader failed.
+    ReadFault,
+    /// This line, counted from 1, is no command for a session of the host: a stream would refuse it by this word.
+    BadLine { line: u64, why: WireRefusal },
+    NoMemory,
+}
 
 /// Why a replay ended without its output.
 #[derive(Clone, Copy)]

@@ -1,15 +1,20 @@
-//! An input replayed on a host: each session that it names is called with its commands, in rounds that are shared
-//! out among workers, and what they were answered is written session by session.
+//! An input replayed on a host: its commands are read by session, each session is called with its own, in rounds that
+//! are shared out among workers, and what they were answered is written session by session.
 #![tactic(auto)]
 
 mod closing;
 mod error;
 mod finishing;
+mod fresh;
 pub mod laws;
 mod part;
+mod reading;
 mod replaying;
 mod round;
+mod script;
 mod sheet;
 
-pub use error::ReplayError;
+pub use error::{ReplayError, ScriptError};
+pub use fresh::{Size, replay_fresh};
+pub use reading::read_script;
 pub use replaying::replay;

@@ -1,12 +1,13 @@
-use Rattle.std.proofs.Common.{◌≡◌, ◌⊎◌, List, ℕ, IfSome, map, inl, inr, refl, subst, arith}
+use Rattle.std.proofs.Common.{◌≡◌, ◌⊎◌, ◌∙◌, List, ℕ, IfSome, map, inl, inr, refl, sym, subst, arith}
 use Rattle.std.specs.Io.KnownBytes.{Appends}
 use Rattle.clap.specs.declared.error.kind.ErrorKind.TheVariants.{DisplayHelp, DisplayVersion}
 use Rattle.sb_wire.specs.Stream.{AnswersFresh}
 use Rattle.sb_replay.specs.Replay.{Replays}
-use Rattle.sb_service.specs.Totals.{TellsServer}
-use Rattle.sb_options.specs.Words.{IsAsked}
-use Rattle.sb_options.specs.declared.request.Request.TheVariants.{Run, Serve, Replay}
+use Rattle.sb_command.specs.Totals.{TellsServer}
+use Rattle.sb_command.specs.Words.{IsAsked}
+use Rattle.sb_command.specs.declared.request.Request.TheVariants.{Run, Serve, Replay, Parse}
 use Rattle.sb_command.proofs.Runs.{asked_for, no_other, no_words, same_hosting, same_run, same_serving, went_well}
+use Rattle.sb_command.proofs.Told.{at_success}
 use Rattle.sb_command.proofs.program.command.Goals as goal
 
 pub returns-in-Ok-For-Run-clause-runs : goal.returns-in-Ok-For-Run-clause-runs
@@ -23,6 +24,11 @@ returns-in-Ok-For-Run-clause-usual g c = λ few ok. let words = map g.S.AsStr.te
     (λ input. (text : List ℕ) × Appends (g.W.Write.contents c.args.writer.now) (g.W.Write.contents c.run.new.writer) text × AnswersFresh q.tenants q.bound input text))
     (asked_for words b.field-0 b.field-0-0 (Run b.asked) b.ensures.asked b.field-0-is b.field-0-0-is) (no_words g.S.AsStr.text c.args.words.now few) (c.run.ensures.runs ok)
 
+pub returns-in-Ok-For-Run-clause-asked : goal.returns-in-Ok-For-Run-clause-asked
+returns-in-Ok-For-Run-clause-asked g c = let words = map g.S.AsStr.text c.args.words.now in let b = c.in-Ok-For-Run in
+    let goes = c.run.ensures.goes in
+    inl (b.asked, asked_for words b.field-0 b.field-0-0 (Run b.asked) b.ensures.asked b.field-0-is b.field-0-0-is, goes.0, goes.1, goes.2, goes.3, goes.4)
+
 pub returns-in-Ok-For-Serve-clause-usual : goal.returns-in-Ok-For-Serve-clause-usual
 returns-in-Ok-For-Serve-clause-usual g c = λ few ok. let words = map g.S.AsStr.text c.args.words.now in let b = c.in-Ok-For-Serve in
     absurd (no_other c.words_ask_once.ensures.once words (Run (record { tenants = 16; bound = 1000 })) (Serve b.asked) (omega arith)
@@ -33,7 +39,7 @@ returns-in-Ok-For-Serve-clause-serves g c = λ s asks ok. let words = map g.S.As
     same_serving c.words_ask_once.ensures.once words b.asked s
     (λ q. (text : List ℕ) × Appends (g.W.Write.contents c.args.writer.now) (g.W.Write.contents c.serve-ended.new.writer) text × TellsServer q.hosting.run.bound q.hosting.run.tenants text)
     (asked_for words b.field-0 b.field-0-0 (Serve b.asked) b.ensures.asked b.field-0-is b.field-0-0-is) asks
-    (went_well g.E.Sink.refuses g.E.Write.contents c.args.errors.now.sink c.tell_end.new.errors c.serve-ended.result c.tell_end.result c.tell_end.ensures ok c.serve-ended.ensures)
+    (went_well g.E.Sink.refuses g.E.Write.contents c.args.errors.now.sink c.tell_end.new.errors c.serve-ended.result c.tell_end.result c.tell_end.ensures ok c.serve-ended.ensures.ok)
 
 pub returns-in-Ok-For-Replay-clause-usual : goal.returns-in-Ok-For-Replay-clause-usual
 returns-in-Ok-For-Replay-clause-usual g c = λ few ok. let words = map g.S.AsStr.text c.args.words.now in let b = c.in-Ok-For-Replay in
@@ -48,6 +54,26 @@ returns-in-Ok-For-Replay-clause-replays g c = λ h asks ok. let words = map g.S.
     (asked_for words b.field-0 b.field-0-0 (Replay b.asked) b.ensures.asked b.field-0-is b.field-0-0-is) asks
     (went_well g.E.Sink.refuses g.E.Write.contents c.args.errors.now.sink c.tell_end-in-Ok-For-Replay.new.errors c.replay-ended.result c.tell_end-in-Ok-For-Replay.result c.tell_end-in-Ok-For-Replay.ensures ok c.replay-ended.ensures.ok)
 
+pub returns-in-Ok-For-Parse-clause-usual : goal.returns-in-Ok-For-Parse-clause-usual
+returns-in-Ok-For-Parse-clause-usual g c = λ few ok. let words = map g.S.AsStr.text c.args.words.now in let b = c.in-Ok-For-Parse in
+    absurd (no_other c.words_ask_once.ensures.once words (Run (record { tenants = 16; bound = 1000 })) Parse (omega arith)
+    (no_words g.S.AsStr.text c.args.words.now few) (asked_for words b.field-0 b.field-0-0 Parse b.ensures.asked b.field-0-is b.field-0-0-is))
+
+pub returns-in-Ok-For-Parse-clause-parses : goal.returns-in-Ok-For-Parse-clause-parses
+returns-in-Ok-For-Parse-clause-parses g c = λ asks zero.
+    at_success c.parse_lines-ended.result (sym c.tell_stream_end.ensures.status ∙ zero) c.parse_lines-ended.ensures.ok
+
+pub returns-in-Ok-For-Parse-clause-asked : goal.returns-in-Ok-For-Parse-clause-asked
+returns-in-Ok-For-Parse-clause-asked g c = let words = map g.S.AsStr.text c.args.words.now in let b = c.in-Ok-For-Parse in
+    inr (inr (inr (inl (
+      asked_for words b.field-0 b.field-0-0 Parse b.ensures.asked b.field-0-is b.field-0-0-is,
+      c.parse_lines-ended.result,
+      c.tell_stream_end.ensures.status,
+      c.parse_lines-ended.ensures.goes,
+      c.parse_lines-ended.ensures.refused,
+      c.tell_stream_end.ensures.tells,
+    ))))
+
 pub returns-in-Ok-Help-clause-usual : goal.returns-in-Ok-Help-clause-usual
 returns-in-Ok-Help-clause-usual g c = λ few ok. let words = map g.S.AsStr.text c.args.words.now in
     absurd (c.words_ask_once.ensures.one_thing words (Run (record { tenants = 16; bound = 1000 })) (no_words g.S.AsStr.text c.args.words.now few) DisplayHelp
@@ -55,11 +81,11 @@ returns-in-Ok-Help-clause-usual g c = λ few ok. let words = map g.S.AsStr.text 
 
 pub returns-in-Ok-Help-clause-asked : goal.returns-in-Ok-Help-clause-asked
 returns-in-Ok-Help-clause-asked g c =
-    inr (inr (inr (inl (
+    inr (inr (inr (inr (inl (
       subst (IsAsked (map g.S.AsStr.text c.args.words.now)) c.in-Ok-Help.field-0-is c.in-Ok-Help.ensures.asked,
       refl,
       c.show.ensures,
-    ))))
+    )))))
 
 pub returns-in-Ok-Version-clause-usual : goal.returns-in-Ok-Version-clause-usual
 returns-in-Ok-Version-clause-usual g c = λ few ok. let words = map g.S.AsStr.text c.args.words.now in
@@ -68,11 +94,11 @@ returns-in-Ok-Version-clause-usual g c = λ few ok. let words = map g.S.AsStr.te
 
 pub returns-in-Ok-Version-clause-asked : goal.returns-in-Ok-Version-clause-asked
 returns-in-Ok-Version-clause-asked g c =
-    inr (inr (inr (inr (inl (
+    inr (inr (inr (inr (inr (inl (
       subst (IsAsked (map g.S.AsStr.text c.args.words.now)) c.in-Ok-Version.field-0-is c.in-Ok-Version.ensures.asked,
       refl,
       c.show-in-Ok-Version.ensures,
-    )))))
+    ))))))
 
 -- why words are refused, or no memory for the line
 module _ {A B : Type 0} (asked : A) (n : ℕ) {R W Told : Type 0} (reader : R) (writer : W) where
@@ -82,17 +108,17 @@ module _ {A B : Type 0} (asked : A) (n : ℕ) {R W Told : Type 0} (reader : R) (
 
 pub returns-in-Ok-Refused-clause-asked : goal.returns-in-Ok-Refused-clause-asked
 returns-in-Ok-Refused-clause-asked g c =
-    inr (inr (inr (inr (inr (
+    inr (inr (inr (inr (inr (inr (
     refused (subst (IsAsked (map g.S.AsStr.text c.args.words.now)) c.in-Ok-Refused.field-0-is c.in-Ok-Refused.ensures.asked) c.refuse.result c.args.reader.now c.args.writer.now c.refuse.ensures
-    )))))
+    ))))))
 
 pub returns-in-Ok-NotAllowed-clause-asked : goal.returns-in-Ok-NotAllowed-clause-asked
 returns-in-Ok-NotAllowed-clause-asked g c =
     let unfit = c.in-Ok-NotAllowed.unfit in
     let has = subst (IsAsked (map g.S.AsStr.text c.args.words.now)) c.in-Ok-NotAllowed.field-0-is c.in-Ok-NotAllowed.ensures.asked in
-    inr (inr (inr (inr (inr (inr (
+    inr (inr (inr (inr (inr (inr (inr (
     elim c.refuse_part.ensures [ inl said ↦ inl (unfit, has, said.0, refl, refl, said.1) | inr short ↦ inr (short.0, refl, refl, short.1) ]
-    ))))))
+    )))))))
 
 pub returns-in-Err-clause-asked : goal.returns-in-Err-clause-asked
-returns-in-Err-clause-asked g c = inr (inr (inr (inr (inr (inr (inr (c.fault.ensures.status, refl, refl, c.fault.ensures.tells)))))))
+returns-in-Err-clause-asked g c = inr (inr (inr (inr (inr (inr (inr (inr (c.fault.ensures.status, refl, refl, c.fault.ensures.tells))))))))

@@ -6,7 +6,7 @@ use Rattle.sb_command.proofs.telling.tell_run.Goals as goal
 pub returns-in-Ok-clause-tells : goal.returns-in-Ok-clause-tells
 returns-in-Ok-clause-tells g c =
     let w = c.in-Ok.ensures.writes in
-    (w.0, w.1, tells-both g.E.Sink.refuses g.E.Write.contents c.args.errors.now.sink c.tell_summary.new.errors.sink c.tell_end.new.errors w.0 w.2 w.3 (line_of c.args.ended) w.4 w.5 w.6 c.tell_end.ensures.tells)
+    (w.0, w.1, tells-both g.E.Sink.refuses g.E.Write.contents c.args.errors.now.sink c.tell_summary.new.errors.sink c.tell_stream_end.new.errors w.0 w.2 w.3 (line_of c.args.ended) w.4 w.5 w.6 c.tell_stream_end.ensures.tells)
 
 pub returns-in-Err-clause-tells : goal.returns-in-Err-clause-tells
 returns-in-Err-clause-tells g c =

@@ -1,7 +1,7 @@
 use Rattle.std.proofs.Common.{◌≡◌, ℕ, List, ◌++◌, IfSome, sym, ap, ◌∙◌, subst, append-nil}
 use Rattle.std.specs.Io.KnownBytes.{Appends}
 use Rattle.std.proofs.lemmas.Result.{on_ok_weaker}
-use Rattle.sb_script.specs.Scripts.{FailsToRead, HoldsScript}
+use Rattle.sb_replay.specs.Scripts.{FailsToRead, HoldsScript}
 use Rattle.std.proofs.KnownBytes.{Keeps-refl}
 use Rattle.sb_replay.proofs.Faults.{not_written, unplayed_fails, unread_fails, unreported_fails}
 use Rattle.sb_replay.specs.Replay.{Fails}

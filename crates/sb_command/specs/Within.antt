@@ -1,0 +1,30 @@
+-- Promise: the ranges of what is asked for.
+use Rattle.std.specs.Prelude.{◌≤◌, ⊤}
+use Rattle.sb_command.specs.declared.request.Hosting.{Hosting}
+use Rattle.sb_command.specs.declared.request.Request.{Request}
+use Rattle.sb_command.specs.declared.request.Request.TheVariants.{Run as run_request, Serve, Replay, Parse}
+use Rattle.sb_command.specs.declared.request.Run.{Run}
+use Rattle.sb_command.specs.declared.request.Serving.{Serving}
+use Rattle.sb_command.specs.declared.words.Asked.{Asked}
+use Rattle.sb_command.specs.declared.words.Asked.TheVariants.{For}
+
+abbrev pub AreRun : Run → Type 0
+AreRun r = (1 ≤ r.tenants) × (r.tenants ≤ 256) × (1 ≤ r.bound) × (r.bound ≤ 1000)
+
+abbrev pub AreHost : Hosting → Type 0
+AreHost h = AreRun h.run × (1 ≤ h.cells) × (h.cells ≤ 16) × (1 ≤ h.workers) × (h.workers ≤ 16)
+
+abbrev pub AreServer : Serving → Type 0
+AreServer s =
+    AreHost s.hosting × (s.port ≤ 65535) × (s.connections ≤ 1000000) × (s.idle ≤ 86400) × (s.idle_transaction ≤ 86400)
+    × (s.first_tenant ≤ 999999000) × (s.tenant_memory ≤ 1048576)
+
+abbrev pub IsWithin : Request → Type 0
+IsWithin (run_request r) = AreRun r
+IsWithin (Serve s) = AreServer s
+IsWithin (Replay h) = AreHost h
+IsWithin Parse = ⊤
+
+abbrev pub AreWithin : Asked → Type 0
+AreWithin (For r) = IsWithin r
+AreWithin other = ⊤

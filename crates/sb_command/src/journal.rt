@@ -1,0 +1,108 @@
+//! What an operator reads on standard error.
+
+use crate::severity::Severity;
+use jiff::Timestamp;
+use libc::net as system;
+use libc::types::pollfd;
+use log::sink::Console;
+use log::{Level, LevelFilter, Logged, log};
+use sb_connection::{Event, Watch};
+use sb_wire::WireRefusal;
+use std::fmt::Display;
+use std::io;
+use std::rt::Clock;
+use std::sync::atomic::{AtomicU64, Ordering};
+
+const STANDARD_ERROR: i32 = 2;
+
+/// Writes a line on standard error for each event that is severe enough, with its time. A line for which there is no
+/// room is dropped and counted, so that nobody waits for who reads them.
+#[derive(Drop)]
+pub(crate) struct Journal<'r, T> {
+    rt: &'r T,
+    least: Severity,
+    dropped: AtomicU64,
+}
+
+impl<'r, T: Eprint + Clock> Journal<'r, T> {
+    pub(crate) fn new(rt: &'r T, least: Severity) -> Journal<'r, T> {
+        Journal {
+            rt,
+            least,
+            dropped: AtomicU64::new(0),
+        }
+    }
+
+    /// Tells why nothing listens at this port.
+    pub(crate) fn tell_cannot_listen(&self, port: u16, why: &io::Error) {
+        self.write(
+            Severity::Error,
+            &format_args!("can't listen at port {port}: {why}"),
+        );
+    }
+
+    /// Tells why a replay refuses this line of its input.
+    pub(crate) fn tell_bad_line(&self, line: u64, why: WireRefusal) {
+        self.write(Severity::Error, &format_args!("bad line {line}: {why:?}"));
+    }
+
+    /// Writes a line, if it is told and there is room, and before it how many were dropped.
+    fn write<D: Display>(&self, severity: Severity, text: &D) {
+        if !severity.is_told_at(self.least) {
+            return;
+        }
+        if !has_room() {
+            self.dropped.fetch_add(1, Ordering::SeqCst);
+            return;
+        }
+        let dropped = self.dropped.swap(0, Ordering::SeqCst);
+        if dropped > 0 {
+            self.write_now(Level::Warn, &format_args!("{dropped} lines were dropped"));
+        }
+        self.write_now(level_of(severity), text);
+    }
+
+    fn write_now<D: Display>(&self, level: Level, text: &D) {
+        let log = Logged::new(self.rt, LevelFilter::Info, Console(self.rt));
+        match Timestamp::now(self.rt) {
+            Ok(now) => log!(log; target: "starhost", level, "{now:.3} {text}"),
+            Err(_) => log!(log; target: "starhost", level, "{text}"),
+        }
+    }
+}
+
+impl<'r, T: Eprint + Clock> Watch for Journal<'r, T> {
+    fn see(&self, event: Event) {
+        self.write(severity_of(&event), &event);
+    }
+
+    fn see_client(&self, port: u16, event: Event) {
+        self.write(severity_of(&event), &format_args!("port {port}: {event}"));
+    }
+}
+
+fn severity_of(event: &Event) -> Severity {
+    if event.is_warning() {
+        Severity::Warning
+    } else {
+        Severity::Info
+    }
+}
+
+fn level_of(severity: Severity) -> Level {
+    match severity {
+        Severity::Error => Level::Error,
+        Severity::Warning => Level::Warn,
+        Severity::Info => Level::Info,
+    }
+}
+
+/// Whether standard error takes a line at once. A pipe that has room has it for a line of each worker.
+fn has_room() -> bool {
+    let mut waits = [pollfd {
+        fd: STANDARD_ERROR,
+        events: system::POLLOUT,
+        revents: 0,
+    }];
+    system::poll(&mut waits, 0) > 0
+}

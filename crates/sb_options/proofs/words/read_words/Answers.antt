@@ -1,7 +1,0 @@
-use Rattle.std.proofs.Common.{subst}
-use Rattle.sb_options.specs.Unfit.{IsFirstUnfit}
-use Rattle.sb_options.proofs.words.read_words.Goals as goal
-
-pub returns-in-Ok-clause-asked : goal.returns-in-Ok-clause-asked
-returns-in-Ok-clause-asked g c =
-    (c.in-Ok.ensures.kinds, subst (λ t. IsFirstUnfit t c.in-Err-requested.unfit) c.in-Ok.ensures.texts c.in-Err-requested.ensures.unfit)
