@@ -1,9 +1,10 @@
 //! A list of events of two tenants, answered by one call of a cell.
 
-use sb_cell::{Answers, Cell, Event, StepError};
+use sb_cell::{Cell, Event, StepError};
 use sb_tenant::{Answer, Line};
 use sb_wire::write_bare_reply;
-use std::alloc::{AllocError, Global};
+use std::alloc::Global;
+use std::process::Abort;
 use std::test::Fail;
 
 /// A department that goes takes its employees with it.
@@ -48,58 +49,65 @@ const OTHER_REPLIES: &[u8] =
     b"ok\nok\nok\nok\nok\nok 1\ndone 3\ncascade true\ncascade true\ncascade false\nok\nok 1\n\
 rolledback limit 3\ncascade true\ncascade true\ncascade true\nok\nrows 1\n3\nok\n";
 
-fn event(alloc: Global, tenant: u32, line: &[u8]) -> Result<Event, AllocError> {
-    Ok(Event {
-        tenant,
-        session: 0,
-        line: Line::new(alloc, line)?,
-    })
-}
-
 /// The lines of both tenants by turns, and a last `end`.
-fn events(alloc: Global) -> Result<Vec<Event>, AllocError> {
+fn events(rt: &impl Abort, alloc: Global) -> Vec<Event> {
     let mut list = Vec::new(alloc);
     for (first, other) in FIRST.iter().zip(OTHER.iter()) {
-        list.push(event(alloc, 0, first)?)?;
-        list.push(event(alloc, 8, other)?)?;
+        push(rt, alloc, &mut list, 0, first);
+        push(rt, alloc, &mut list, 8, other);
     }
-    list.push(event(alloc, 0, b"end")?)?;
-    Ok(list)
+    push(rt, alloc, &mut list, 0, b"end");
+    list
 }
 
-fn push_reply(text: &mut Vec<u8>, answer: &Result<Answer, StepError>) -> Result<(), AllocError> {
+fn push(rt: &impl Abort, alloc: Global, list: &mut Vec<Event>, tenant: u32, line: &[u8]) {
+    let line = Line::new(alloc, line).expect(rt, "a line");
+    let event = Event {
+        tenant,
+        session: 0,
+        line,
+    };
+    list.push(event).expect(rt, "an event");
+}
+
+fn push_reply(rt: &impl Abort, text: &mut Vec<u8>, answer: &Result<Answer, StepError>) {
     match answer {
-        Ok(answer) => write_bare_reply(text, &answer.reply),
-        Err(_) => Ok(()),
+        Ok(answer) => write_bare_reply(text, &answer.reply).expect(rt, "a reply"),
+        Err(_) => assert!(rt; false),
     }
 }
 
-/// The replies to the events of a tenant.
-fn replies_to(
+/// Whether the replies to a tenant's events are this text.
+fn are_replies(
+    rt: &impl Abort,
     alloc: Global,
     events: &[Event],
     answers: &[Result<Answer, StepError>],
     tenant: u32,
-) -> Result<Vec<u8>, AllocError> {
+    replies: &[u8],
+) -> bool {
     let mut text = Vec::new(alloc);
     for (event, answer) in events.iter().zip(answers.iter()) {
         if event.tenant == tenant {
-            push_reply(&mut text, answer)?;
+            push_reply(rt, &mut text, answer);
         }
     }
-    Ok(text)
+    text.as_slice() == replies
+}
+
+/// Both tenants' replies are those of each alone, and the log is empty at the end.
+fn check(rt: &impl Abort, alloc: Global, cell: &mut Cell, events: &[Event]) {
+    let answers = cell.run(alloc, events).expect(rt, "answers");
+    let told = answers.as_slice();
+    assert!(rt; are_replies(rt, alloc, events, told, 0, FIRST_REPLIES));
+    assert!(rt; are_replies(rt, alloc, events, told, 8, OTHER_REPLIES));
+    assert!(rt; cell.log_len() == 0);
 }
 
 #[test]
 fn events_are_answered(rt: HostRuntime) -> Result<(), Fail> {
-    let alloc = rt.alloc();
-    let mut cell = Cell::new(alloc, 0, 1, 16, 3)?;
-    let events = events(alloc)?;
-    let answers: Answers = cell.run(alloc, events.as_slice())?;
-    let first = replies_to(alloc, events.as_slice(), answers.as_slice(), 0)?;
-    assert!(rt; first.as_slice() == FIRST_REPLIES);
-    let other = replies_to(alloc, events.as_slice(), answers.as_slice(), 8)?;
-    assert!(rt; other.as_slice() == OTHER_REPLIES);
-    assert_eq!(rt; cell.log_len(), 0);
+    let mut cell = Cell::new(rt.alloc(), 0, 1, 16, 3)?;
+    let events = events(&rt, rt.alloc());
+    check(&rt, rt.alloc(), &mut cell, events.as_slice());
     Ok(())
 }

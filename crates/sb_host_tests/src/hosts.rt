@@ -1,35 +1,76 @@
-//! Hosts from their opening to their closing check, on one thread.
+//! Hosts from their opening to their closing check, on one thread. What `may_lack` memory is answered so, or as it is
+//! to be.
 ghost use Rattle.sb_host.specs.Opening.{AreNames};
 
 use crate::mark::mark;
-use sb_host::{AttachError, CallError, FinishError, Host, Naming, Opened, Report, Session};
-use sb_tenant::Reply;
+use sb_host::{AttachError, CallError, FinishError, Host, Naming, Opened, Report, Session, Stub};
+use sb_tenant::{Answer, Reply};
 use sb_value::Refusal;
 use sb_wire::write_bare_reply;
 use std::alloc::Global;
 use std::marker::Brand;
+use std::process::Abort;
 use std::sync::Wait;
-use std::test::*;
+use std::test::Fail;
 
-/// Whether the newest answer has this number, and is `ok`.
-fn is_ok_at<N: Naming>(session: &Session<'_, N>, number: u32) -> bool {
-    match session.last() {
+/// Whether the answer is `ok`, or tells that memory ran out.
+pub fn is_ok(answer: Option<&Answer>, may_lack: bool) -> bool {
+    match answer {
         Some(answer) => match &answer.reply {
-            Reply::Ok => answer.number == Some(number),
+            Reply::Ok => true,
+            Reply::No(Refusal::NoMemory) => may_lack,
             _ => false,
         },
         None => false,
     }
 }
 
-/// Whether the newest answer is that the trail is full, and has no number.
-fn is_full<N: Naming>(session: &Session<'_, N>) -> bool {
-    match session.last() {
-        Some(answer) => match &answer.reply {
-            Reply::No(Refusal::TrailFull) => answer.number.is_none(),
-            _ => false,
-        },
-        None => false,
+/// Opens the first session of a tenant.
+pub fn attach<'h, N: Naming, R: Wait + Abort>(
+    rt: &R,
+    alloc: Global,
+    host: &'h Host<N>,
+    tenant: u32,
+    may_lack: bool,
+) -> Option<Session<'h, N>> {
+    match host.attach(rt, alloc, tenant, 0) {
+        Ok(session) => Some(session),
+        Err(error) => {
+            assert!(rt; may_lack && error == AttachError::NotBegun);
+            None
+        }
+    }
+}
+
+/// Calls the session with a line that is answered `ok`, once more where it wasn't begun.
+fn call<N: Naming, R: Wait + Abort>(
+    rt: &R,
+    alloc: Global,
+    session: &mut Session<'_, N>,
+    line: &[u8],
+    may_lack: bool,
+) {
+    if session.call(rt, alloc, line).is_err() {
+        assert!(rt; may_lack);
+        let _ = session.call(rt, alloc, line);
+    }
+    assert!(rt; is_ok(session.last(), may_lack));
+}
+
+/// The host's closing check, with these stubs.
+pub fn finish<N: Naming, R: Abort>(
+    rt: &R,
+    alloc: Global,
+    host: Host<N>,
+    stubs: Vec<Stub>,
+    may_lack: bool,
+) -> Option<Report> {
+    match host.finish(alloc, stubs) {
+        Ok(report) => Some(report),
+        Err(error) => {
+            assert!(rt; may_lack && matches!(error, FinishError::NoMemory));
+            None
+        }
     }
 }
 
@@ -41,155 +82,151 @@ select * from t\ncommit\nbegin\nselect * from t\nend";
 const REPLIES: &[u8] =
     b"ok\nok\nok 2\nrows 2\n1,'x''y'\n-2,''\ndone 0\nok\nrows 2\n1,'x''y'\n-2,''\nok\n";
 
-/// Sends these lines, and gives the text of what they are answered.
-fn answered<N: Naming, R: Wait>(
-    rt: &R,
-    alloc: Global,
-    session: &mut Session<'_, N>,
-    lines: &[u8],
-) -> Option<Vec<u8>> {
+/// Calls a session with these lines, one by one.
+fn play<N: Naming, R: Wait + Abort>(rt: &R, alloc: Global, session: &mut Session<'_, N>) {
     let mut text = Vec::new(alloc);
-    for line in lines.split(|byte| *byte == b'\n') {
+    for line in LINES.split(|byte| *byte == b'\n') {
         let _ = session.call(rt, alloc, line);
-        write_bare_reply(&mut text, &session.last()?.reply).ok()?;
+        if let Some(answer) = session.last() {
+            write_bare_reply(&mut text, &answer.reply).expect(rt, "a reply");
+        }
     }
-    Some(text)
+    assert!(rt; text.as_slice() == REPLIES);
+    assert!(rt; session.ended());
 }
 
-/// What these lines are answered, whether the last answer is `ok` and has number 9, and the length of the
-/// trail.
-fn served<N: Naming, R: Wait>(
-    rt: &R,
-    alloc: Global,
-    opened: Opened,
-    lines: &[u8],
-) -> Option<(Vec<u8>, bool, usize)>
+/// A session of that host, which leaves 9 receipts.
+fn play_alone<N: Naming, R: Wait + Abort>(rt: &R, alloc: Global, host: &Host<N>) -> Option<Stub> {
+    let mut session = attach(rt, alloc, host, 0, false)?;
+    play(rt, alloc, &mut session);
+    Some(session.close(rt))
+}
+
+fn serve<N: Naming, R: Wait + Abort>(rt: &R, alloc: Global, opened: Opened)
     requires named { AreNames N.table N.tenants N.cells N.bound N.name N.parts opened }
 {
-    let host = Host::<N>::new(alloc, opened).ok()?;
-    let mut session = host.attach(rt, alloc, 0, 0).ok()?;
-    let text = answered(rt, alloc, &mut session, lines)?;
-    let good = is_ok_at(&session, 9) && session.ended();
+    let host = Host::<N>::new(alloc, opened).expect(rt, "a host");
     let mut stubs = Vec::new(alloc);
-    stubs.push(session.close(rt)).ok()?;
-    let report = host.finish(alloc, stubs).ok()?;
-    Some((text, good, report.trails.get(0)?.len()))
+    if let Some(stub) = play_alone(rt, alloc, &host) {
+        stubs.push(stub).expect(rt, "a stub");
+    }
+    let report = finish(rt, alloc, host, stubs, false);
+    assert!(rt; report.is_some_and(|report| report.trails.len() == 1 && report.steps() == Some(9)));
 }
 
-/// Whether the first session of the first tenant has fewer receipts than entries.
-fn is_missing(error: &FinishError) -> bool {
+#[test]
+fn a_session_is_served(rt: HostRuntime) -> Result<(), Fail> {
+    let opened = Opened::new(rt.alloc(), 1, 1, 1000)?;
+    serve::<Brand, _>(&rt, rt.alloc(), opened);
+    Ok(())
+}
+
+/// What isn't opened takes no memory.
+fn turn_away<N: Naming, R: Wait + Abort>(rt: &R, alloc: Global, host: &Host<N>) {
+    mark();
+    let outside = host.attach(rt, alloc, 2, 0).err();
+    assert!(rt; outside == Some(AttachError::NoTenant));
+    let ninth = host.attach(rt, alloc, 0, 8).err();
+    assert!(rt; ninth == Some(AttachError::NoSession));
+    mark();
+}
+
+/// A session that has ended is called once more, and closed, without memory.
+fn leave<N: Naming, R: Wait + Abort>(rt: &R, alloc: Global, mut session: Session<'_, N>) -> Stub {
+    mark();
+    assert!(rt; session.ended() && session.last().is_some());
+    let called = session.call(rt, alloc, b"begin").err();
+    assert!(rt; called == Some(CallError::Ended));
+    let stub = session.close(rt);
+    assert!(rt; stub.list().len() == 3);
+    mark();
+    stub
+}
+
+/// A session with a transaction that its end takes back.
+fn live<N: Naming, R: Wait + Abort>(
+    rt: &R,
+    alloc: Global,
+    host: &Host<N>,
+    may_lack: bool,
+) -> Option<Stub> {
+    let mut session = attach(rt, alloc, host, 0, may_lack)?;
+    mark();
+    let again = host.attach(rt, alloc, 0, 0).err();
+    assert!(rt; again == Some(AttachError::AlreadyOpen) && host.tenants() == 2);
+    mark();
+    call(rt, alloc, &mut session, b"begin", may_lack);
+    call(rt, alloc, &mut session, b"end", may_lack);
+    Some(leave(rt, alloc, session))
+}
+
+/// Whether the session was open once more. Its receipts are lost.
+fn lose<N: Naming, R: Wait + Abort>(rt: &R, alloc: Global, host: &Host<N>, may_lack: bool) -> bool {
+    let Some(mut session) = attach(rt, alloc, host, 0, may_lack) else {
+        return false;
+    };
+    call(rt, alloc, &mut session, b"begin", may_lack);
+    mark();
+    drop(session.close(rt));
+    mark();
+    true
+}
+
+/// Whether the first session of the first tenant has fewer receipts than entries, or memory ran out.
+fn is_missing(error: Option<&FinishError>, may_lack: bool) -> bool {
     match error {
-        FinishError::Missing { tenant, session } => *tenant == 0 && session.number() == 0,
+        Some(FinishError::Missing { tenant, session }) => *tenant == 0 && session.number() == 0,
+        Some(FinishError::NoMemory) => may_lack,
         _ => false,
     }
 }
 
-/// Whether a host isn't reported for that reason.
-fn is_refused(report: &Result<Report, FinishError>) -> bool {
-    match report {
-        Ok(_) => false,
-        Err(error) => is_missing(error),
+/// Where receipts are lost, the check tells of their session.
+fn miss<N: Naming, R: Abort>(
+    rt: &R,
+    alloc: Global,
+    host: Host<N>,
+    stubs: Vec<Stub>,
+    may_lack: bool,
+) {
+    let error = host.finish(alloc, stubs).err();
+    assert!(rt; is_missing(error.as_ref(), may_lack));
+}
+
+/// One session after the other, of which the second one's receipts are lost.
+pub fn lose_receipts<N: Naming, R: Wait + Abort>(
+    rt: &R,
+    alloc: Global,
+    host: Host<N>,
+    may_lack: bool,
+) {
+    turn_away(rt, alloc, &host);
+    let Ok(mut stubs) = Vec::with_capacity(alloc, 1) else {
+        assert!(rt; may_lack);
+        return;
+    };
+    let Some(stub) = live(rt, alloc, &host, may_lack) else {
+        return;
+    };
+    stubs.push_reserved(stub);
+    if lose(rt, alloc, &host, may_lack) {
+        miss(rt, alloc, host, stubs, may_lack);
+    } else {
+        let report = finish(rt, alloc, host, stubs, may_lack);
+        assert!(rt; report.is_none_or(|report| report.steps() == Some(3)));
     }
 }
 
-/// What is refused, and why a host isn't reported: the steps of a session, the answers that were not
-/// as they are to be, and the session that is told.
-fn refused<N: Naming, R: Wait>(rt: &R, alloc: Global, opened: Opened) -> Option<(usize, u32, bool)>
+fn lose_receipts_of_new<N: Naming, R: Wait + Abort>(rt: &R, alloc: Global, opened: Opened)
     requires named { AreNames N.table N.tenants N.cells N.bound N.name N.parts opened }
 {
-    let host = Host::<N>::new(alloc, opened).ok()?;
-    let mut wrong = 0u32;
-    mark();
-    if host.attach(rt, alloc, 2, 0).err() != Some(AttachError::NoTenant) {
-        wrong |= 1;
-    }
-    if host.attach(rt, alloc, 0, 8).err() != Some(AttachError::NoSession) {
-        wrong |= 2;
-    }
-    mark();
-    let mut session = host.attach(rt, alloc, 0, 0).ok()?;
-    mark();
-    if host.attach(rt, alloc, 0, 0).err() != Some(AttachError::AlreadyOpen) {
-        wrong |= 4;
-    }
-    mark();
-    let _ = session.call(rt, alloc, b"begin");
-    if !is_ok_at(&session, 2) {
-        wrong |= 8;
-    }
-    let _ = session.call(rt, alloc, b"end");
-    mark();
-    if !is_ok_at(&session, 3) || !session.ended() {
-        wrong |= 16;
-    }
-    if session.call(rt, alloc, b"begin").err() != Some(CallError::Ended) || host.tenants() != 2 {
-        wrong |= 32;
-    }
-    let stub = session.close(rt);
-    let receipts = stub.list().len();
-    mark();
-    let mut again = host.attach(rt, alloc, 0, 0).ok()?;
-    let _ = again.call(rt, alloc, b"begin");
-    mark();
-    let _dropped = again.close(rt);
-    mark();
-    let mut stubs = Vec::new(alloc);
-    stubs.push(stub).ok()?;
-    let report = host.finish(alloc, stubs);
-    Some((receipts, wrong, is_refused(&report)))
-}
-
-/// A trail that is full: the answers that were not as they are to be, and its length.
-fn filled<N: Naming, R: Wait>(rt: &R, alloc: Global, opened: Opened) -> Option<(u32, usize)>
-    requires named { AreNames N.table N.tenants N.cells N.bound N.name N.parts opened }
-{
-    let host = Host::<N>::new(alloc, opened).ok()?;
-    let mut session = host.attach(rt, alloc, 0, 0).ok()?;
-    for _ in 0..1_048_575u32 {
-        let _ = session.call(rt, alloc, b"begin");
-    }
-    let mut wrong = 0u32;
-    if session.list().len() != 1_048_576 {
-        wrong |= 1;
-    }
-    let _ = session.call(rt, alloc, b"begin");
-    if !is_full(&session) {
-        wrong |= 2;
-    }
-    let _ = session.call(rt, alloc, b"end");
-    if !is_ok_at(&session, 1_048_577) {
-        wrong |= 4;
-    }
-    let mut stubs = Vec::with_capacity(alloc, 1).ok()?;
-    mark();
-    if host.attach(rt, alloc, 0, 0).err() != Some(AttachError::TrailFull) {
-        wrong |= 8;
-    }
-    stubs.push(session.close(rt)).ok()?;
-    mark();
-    let report = host.finish(alloc, stubs).ok()?;
-    Some((wrong, report.trails.get(0)?.len()))
+    let host = Host::<N>::new(alloc, opened).expect(rt, "a host");
+    lose_receipts(rt, alloc, host, false);
 }
 
 #[test]
-fn hosts_are_finished(rt: HostRuntime) -> Result<(), Fail> {
-    let one = Opened::new(rt.alloc(), 1, 1, 1000)?;
-    match served::<Brand, _>(&rt, rt.alloc(), one, LINES) {
-        Some((text, good, steps)) => {
-            assert_eq!(rt; text.as_slice(), REPLIES);
-            assert_eq!(rt; (good, steps), (true, 9));
-        }
-        None => assert!(rt; false),
-    }
-    let two = Opened::new(rt.alloc(), 2, 2, 1000)?;
-    assert_eq!(rt;
-        refused::<Brand, _>(&rt, rt.alloc(), two),
-        Some((3, 0, true))
-    );
-    let one = Opened::new(rt.alloc(), 1, 1, 1000)?;
-    assert_eq!(rt;
-        filled::<Brand, _>(&rt, rt.alloc(), one),
-        Some((0, 1_048_577))
-    );
+fn lost_receipts_are_told(rt: HostRuntime) -> Result<(), Fail> {
+    let opened = Opened::new(rt.alloc(), 2, 2, 1000)?;
+    lose_receipts_of_new::<Brand, _>(&rt, rt.alloc(), opened);
     Ok(())
 }

@@ -1,4 +1,6 @@
 //! A block as texts that are read as commands and no more. A text that is no command also says where it stops being one.
+ghost use Rattle.std.specs.Prelude.{◌≤◌, length};
+ghost use Rattle.sb_syntax.specs.Text.{text_limit};
 
 use crate::fault::ScriptFault;
 use crate::repeat::push_number;
@@ -20,7 +22,9 @@ pub fn play_syntax(alloc: Global, lines: &[u8], out: &mut Vec<u8>) -> Result<(),
     Ok(())
 }
 
-fn answer(alloc: Global, line: &[u8], out: &mut Vec<u8>) -> Result<(), ScriptFault> {
+fn answer(alloc: Global, line: &[u8], out: &mut Vec<u8>) -> Result<(), ScriptFault>
+    requires { length line.now ≤ text_limit }
+{
     match parse(alloc, line) {
         Ok(_) => write_bare_reply(out, &Reply::Ok)?,
         Err(ParseError::NoMemory) => return Err(ScriptFault::Stream(StreamError::NoMemory)),

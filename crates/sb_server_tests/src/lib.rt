@@ -1,13 +1,5 @@
-//! Tests of connections, a server's listener, replays and the program: what no script of `sb_scripts` shows.
+//! Tests of connections over memory: what no client of the built program shows.
 #![tactic(auto)]
 
 #[cfg(test)]
 mod connections;
-#[cfg(test)]
-mod inputs;
-#[cfg(test)]
-mod program;
-#[cfg(test)]
-mod replays;
-#[cfg(test)]
-mod server;

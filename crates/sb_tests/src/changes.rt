@@ -1,10 +1,10 @@
-//! Changes of one table, and logs of them.
+//! Changes of one table. A test ends where memory runs out.
 ghost use Rattle.std.specs.Prelude.{◌≡◌};
 
 use crate::mark::mark;
 use sb_rawlog::ChangeLog;
 use sb_value::{Change, Columns, Kind, Row, SessionId, TableId, TenantId, Value, Who};
-use std::alloc::{AllocError, Global};
+use std::alloc::Global;
 use std::process::Abort;
 
 /// Session 0 of the tenant.
@@ -23,39 +23,46 @@ pub fn table() -> TableId {
 }
 
 /// The row of one integer.
-pub fn row_of(alloc: Global, value: i64) -> Result<Row, AllocError> {
+pub fn row_of(rt: &impl Abort, alloc: Global, value: i64) -> Row {
     let mut row = Row::new(alloc);
-    row.push(Value::Int(value))?;
-    Ok(row)
+    row.push(Value::Int(value)).expect(rt, "a row");
+    row
 }
 
-/// The row of one integer, if there is one.
-fn row(alloc: Global, value: Option<i64>) -> Result<Option<Row>, AllocError> {
-    match value {
-        Some(value) => Ok(Some(row_of(alloc, value)?)),
-        None => Ok(None),
+/// The integer of these values of a row of one.
+pub fn integer(values: &[Value]) -> Option<i64> {
+    match values {
+        [Value::Int(value)] => Some(*value),
+        _ => None,
     }
 }
 
-/// A change of the tuple by the tenant's session 0, which names no column.
-pub fn change(
-    alloc: Global,
-    tenant: u8,
-    tuple: u64,
-    kind: Kind,
-    old: Option<i64>,
-    new: Option<i64>,
-) -> Result<Change, AllocError> {
-    Ok(Change {
+/// A change of tuple 1 by the tenant's session 0, which names no column.
+fn change(tenant: u8, kind: Kind, old: Option<Row>, new: Option<Row>) -> Change {
+    Change {
         tenant: TenantId::new(tenant),
         session: SessionId::new(0),
         table: table(),
-        tuple,
+        tuple: 1,
         kind,
-        old: row(alloc, old)?,
-        new: row(alloc, new)?,
+        old,
+        new,
         columns: Columns::empty(),
-    })
+    }
+}
+
+pub fn insert(rt: &impl Abort, alloc: Global, tenant: u8, value: i64) -> Change {
+    change(tenant, Kind::Inserted, None, Some(row_of(rt, alloc, value)))
+}
+
+pub fn update(rt: &impl Abort, alloc: Global, tenant: u8, old: i64, new: i64) -> Change {
+    let old = row_of(rt, alloc, old);
+    change(
+        tenant,
+        Kind::Updated,
+        Some(old),
+        Some(row_of(rt, alloc, new)),
+    )
 }
 
 /// Appends the change to a log that has room for it.
@@ -65,17 +72,4 @@ pub fn append<L: ChangeLog>(rt: &impl Abort, log: &mut L, change: Change) {
     mark();
     log.append(change);
     mark();
-}
-
-/// The integer of a row of one.
-pub fn only_integer(row: &Row) -> Option<i64> {
-    integer(row.values())
-}
-
-/// The integer of these values of a row of one.
-pub fn integer(values: &[Value]) -> Option<i64> {
-    match values {
-        [Value::Int(value)] => Some(*value),
-        _ => None,
-    }
 }

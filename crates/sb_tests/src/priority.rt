@@ -1,34 +1,42 @@
 //! The order of rules: which precede which.
+ghost use Rattle.std.specs.Prelude.{◌≡◌, ◌∷◌, [], true};
+ghost use Rattle.sb_priority.specs.Ranks.{AreRanked, is_ranked};
 
 use crate::mark::mark;
 use sb_priority::Priorities;
 use sb_value::{RuleId, RuleSet};
-use std::test::Fail;
+use std::process::Abort;
 
-/// Precedence is taken through the rule in the middle, until that is dropped.
+/// The older rule comes to precede the newer one, and goes.
+fn turn(rt: &impl Abort, order: &mut Priorities, older: RuleId, newer: RuleId)
+    requires known { is_ranked order.old newer ≡ true }
+    requires others { AreRanked order.old (older ∷ []) }
+{
+    mark();
+    let others = [older];
+    assert!(rt; order.alter(newer, &[], &others, &others).is_ok());
+    assert!(rt; order.precedes(older, newer));
+    let both = RuleSet::empty().with(newer).with(older);
+    assert!(rt; order.choose(both) == Some(older));
+    order.drop_rule(older);
+    assert!(rt; !order.precedes(older, newer));
+    mark();
+}
+
 #[test]
-fn precedence(rt: HostRuntime) -> Result<(), Fail> {
-    let [first, middle, last] = [RuleId::new(63), RuleId::new(7), RuleId::new(0)];
+fn precedence(rt: HostRuntime) {
+    let [older, newer] = [RuleId::new(63), RuleId::new(7)];
     let mut order = Priorities::new(rt.alloc());
-    order.reserve(middle)?;
+    order.reserve(older).expect(&rt, "room");
     mark();
     assert!(rt; order.has_room());
-    assert_eq!(rt; order.add(middle, &[], &[]), Ok(()));
+    assert!(rt; order.add(older, &[], &[]).is_ok());
     mark();
-    order.reserve(first)?;
-    mark();
-    assert!(rt; order.has_room());
-    assert_eq!(rt; order.add(first, &[middle], &[]), Ok(()));
-    mark();
-    order.reserve(last)?;
+    order.reserve(newer).expect(&rt, "room");
     mark();
     assert!(rt; order.has_room());
-    assert_eq!(rt; order.add(last, &[], &[middle]), Ok(()));
-    assert!(rt; order.precedes(first, last) && !order.precedes(last, first));
-    let both = RuleSet::empty().with(last).with(first);
-    assert_eq!(rt; order.choose(both).map(|rule| rule.number()), Some(63));
-    order.drop_rule(middle);
-    assert!(rt; !order.precedes(first, last));
+    assert!(rt; order.add(newer, &[older], &[]).is_ok());
+    assert!(rt; order.precedes(newer, older));
     mark();
-    Ok(())
+    turn(&rt, &mut order, older, newer);
 }

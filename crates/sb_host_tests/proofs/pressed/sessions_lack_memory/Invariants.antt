@@ -1,8 +1,8 @@
 use Rattle.sb_host_tests.proofs.pressed.sessions_lack_memory.Given as goal
 
 -- the names of the host that was just opened
-abbrev pub ghosts-sessions_in_turn-N-Ledger : goal.ghosts-sessions_in_turn-N-Ledger
-ghosts-sessions_in_turn-N-Ledger g a = record { name = a.opened.name; parts = a.opened.parts }
+abbrev pub ghosts-lose_receipts_of_new-N-Ledger : goal.ghosts-lose_receipts_of_new-N-Ledger
+ghosts-lose_receipts_of_new-N-Ledger g a = record { name = a.opened.name; parts = a.opened.parts }
 
-abbrev pub ghosts-sessions_in_turn-N-Naming : goal.ghosts-sessions_in_turn-N-Naming
-ghosts-sessions_in_turn-N-Naming g a = record { table = a.opened.table; tenants = a.opened.tenants; cells = a.opened.cells; bound = a.opened.bound }
+abbrev pub ghosts-lose_receipts_of_new-N-Naming : goal.ghosts-lose_receipts_of_new-N-Naming
+ghosts-lose_receipts_of_new-N-Naming g a = record { table = a.opened.table; tenants = a.opened.tenants; cells = a.opened.cells; bound = a.opened.bound }
