@@ -1,44 +1,68 @@
 #!/usr/bin/env python3
-"""Runs the client of docs/CLIENTS.md on a server of the built program, and compares what it prints with what stands there.
+"""Plays docs/CLIENTS.md on a server of the built program: what its example prints, and the bytes of its transcript.
 
-    bench/clients.py [PROGRAM]
+    clients.py [PROGRAM]
 
-PROGRAM is crates/starhost/out/starhost where it isn't given, which `rt run` or `rt ci` leaves there."""
+PROGRAM is crates/starhost/out/starhost where no word is given, which `rt run` or `rt ci` leaves there.
+"""
 
 import contextlib
 import io
-import os
+import pathlib
 import re
+import socket
 import subprocess
 import sys
 
-ROOT = os.path.dirname(os.path.dirname(os.path.abspath(__file__)))
+TOP = pathlib.Path(__file__).resolve().parent.parent
+sys.path.insert(0, str(TOP / "clients" / "python"))
 
 
 def blocks(kind):
     """The blocks of the page that begin with three quotes and this word."""
-    with open(f"{ROOT}/docs/CLIENTS.md", encoding="ascii") as page:
-        found = re.findall(r"^```(\w*)\n(.*?)^```$", page.read(), re.M | re.S)
+    found = re.findall(r"^```(\w*)\n(.*?)^```$", (TOP / "docs/CLIENTS.md").read_text("ascii"), re.M | re.S)
     return [text for its, text in found if its == kind]
 
 
-def main():
-    program = sys.argv[1] if len(sys.argv) > 1 else f"{ROOT}/crates/starhost/out/starhost"
+def printed(port):
+    """What the example prints."""
     names = {}
-    exec("\n".join(blocks("python")), names)
-    server = subprocess.Popen([program, "serve", "--connections", "1"], stdout=subprocess.PIPE, stderr=subprocess.DEVNULL, text=True)
+    exec(blocks("python")[0], names)
+    with contextlib.redirect_stdout(io.StringIO()) as told:
+        names["example"](port)
+    return told.getvalue()
+
+
+def read_back(port, transcript):
+    """The transcript with what the server answers to its lines."""
+    with socket.create_connection(("127.0.0.1", port), timeout=10) as stream:
+        file = stream.makefile("rwb")
+        lines = []
+        for line in transcript.splitlines():
+            if line.startswith("> "):
+                file.write(line[2:].encode() + b"\n")
+                file.flush()
+                lines.append(line)
+            else:
+                lines.append("< " + file.readline().decode().rstrip("\n"))
+        if file.read(1):
+            sys.exit("the server says more than the transcript")
+    return "\n".join(lines) + "\n"
+
+
+def main():
+    program = sys.argv[1] if len(sys.argv) > 1 else str(TOP / "crates/starhost/out/starhost")
+    server = subprocess.Popen([program, "serve", "--connections", "2"], stdin=subprocess.DEVNULL, stdout=subprocess.PIPE, stderr=subprocess.DEVNULL, text=True)
     try:
         port = int(server.stdout.readline().split()[1])
-        printed = io.StringIO()
-        with contextlib.redirect_stdout(printed):
-            names["example"](port)
+        transcript = next(block for block in blocks("text") if block.startswith("> "))
+        for what, got, wanted in (("the example", printed(port), blocks("")[0]), ("the transcript", read_back(port, transcript), transcript)):
+            if got != wanted:
+                sys.exit(f"{what}:\n{got}wanted:\n{wanted}")
         server.wait(timeout=10)
     finally:
         server.kill()
-    wanted = blocks("")[0]
-    if printed.getvalue() != wanted:
-        sys.exit(f"printed:\n{printed.getvalue()}wanted:\n{wanted}")
-    print("the client of docs/CLIENTS.md prints what stands there")
+    print("docs/CLIENTS.md: its example and its transcript are as printed there")
 
 
 if __name__ == "__main__":

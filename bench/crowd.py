@@ -4,10 +4,10 @@
     crowd.py [PROGRAM]
 
 PROGRAM is crates/starhost/out/starhost where no word is given; `rt run` in
-crates/starhost builds it. Each crowd has a server of its own, with four workers, and
-is told in one line; the first that isn't served as it is to be ends the program, with
-status 1. No server is left behind. Where a process may not have so many descriptors,
-the large crowds are left out, and that is told.
+crates/starhost builds it. Each crowd has a server of its own, with four workers where
+nothing else is said, and is told in one line; the first that isn't served as it is to
+be ends the program, with status 1. No server is left behind. Where a process may not
+have so many descriptors, the large crowds are left out, and that is told.
 """
 
 import fcntl
@@ -19,6 +19,7 @@ import struct
 import subprocess
 import sys
 import tempfile
+import threading
 import time
 
 TRANSACTION = b"begin\ncommit\n"
@@ -31,12 +32,12 @@ DESCRIPTORS = 2_500
 class Server:
     all = []
 
-    def __init__(self, program, *words, descriptors=None, stdin=subprocess.DEVNULL, log=None):
+    def __init__(self, program, *words, workers=4, tenants=256, descriptors=None, stdin=subprocess.DEVNULL, log=None):
         def limit():
             if descriptors is not None:
                 resource.setrlimit(resource.RLIMIT_NOFILE, (descriptors, descriptors))
 
-        words = [program, "serve", "--workers", "4", "--tenants", "256", *words]
+        words = [program, "serve", "--workers", str(workers), "--tenants", str(tenants), *words]
         self.log = tempfile.TemporaryFile("w+")
         self.process = subprocess.Popen(
             words, stdin=stdin, stdout=subprocess.PIPE, stderr=log or self.log, text=True, preexec_fn=limit
@@ -57,7 +58,7 @@ class Server:
     def wait_for(self, told):
         """Waits until its log tells this."""
         until = time.time() + 30
-        while told not in os.pread(self.log.fileno(), 1 << 20, 0).decode():
+        while told not in self.told():
             need(time.time() < until, f"nothing tells: {told}")
             time.sleep(0.01)
 
@@ -69,6 +70,10 @@ class Server:
         if self.process.returncode != 0:
             sys.exit(f"status {self.process.returncode}: {log[-1:]}")
         return told.strip(), log
+
+    def told(self):
+        """What its log tells so far."""
+        return os.pread(self.log.fileno(), 1 << 20, 0).decode()
 
     def stop(self):
         self.process.kill()
@@ -219,6 +224,8 @@ def reset(program):
     with server.connect() as stream:
         need(say(stream, b"7 3\nend\n") == b"ok\nok\n", "the session isn't free again")
     told, _ = server.end()
+    # each session was opened and ended, and half a line is none
+    need(told == "trails 256 steps 4", told)
     print(f"a reset in the middle of a line: its session is free for the next; {told}")
 
 
@@ -252,6 +259,298 @@ def idle_end(program):
         need(say(stream, b"3 3\nend\n") == b"ok\nok\n", "its session isn't free")
     told, _ = server.end()
     print(f"--idle 1: closed after {seconds:.1f} s; {told}")
+
+
+# A condition that no two rows meet, and that looks at all its parts.
+LONG = b" or ".join([b"x.a + y.a < 0"] * 200)
+
+
+def long_statement(stream, seconds):
+    """A statement that takes so long, as told by a short one. Its table is made, and a transaction is open behind it."""
+
+    def fill(table, rows):
+        for first in range(0, rows, 256):
+            values = ", ".join(f"({a})" for a in range(first, min(rows, first + 256))).encode()
+            need(say(stream, b"insert into %s values %s\n" % (table, values)).startswith(b"ok "), "rows of a long statement")
+
+    def statement(table):
+        return b"select count(*) from %s x, %s y where %s\n" % (table, table, LONG)
+
+    say(stream, b"create table few (a int)\ncreate table many (a int)\nbegin\n")
+    fill(b"few", 256)
+    times = []
+    for _ in range(3):
+        start = time.perf_counter()
+        stream.sendall(statement(b"few"))
+        need(read_lines(stream, 2) == b"rows 1\n0\n", "a short statement")
+        times.append(time.perf_counter() - start)
+    fill(b"many", min(1_024, round(256 * (seconds / min(times)) ** 0.5)))
+    return statement(b"many")
+
+
+class Talker(threading.Thread):
+    """Makes small transactions of a tenant, one line at a time, until it is told to stop, and keeps its longest wait."""
+
+    def __init__(self, server, tenant):
+        super().__init__(daemon=True)
+        self.stream = server.connect()
+        need(say(self.stream, f"{tenant} 0\n".encode()) == b"ok\n", "a talker")
+        self.stopped = threading.Event()
+        self.longest = 0.0
+        self.wrong = None
+
+    def run(self):
+        try:
+            while not self.stopped.is_set():
+                for line, reply in [(b"begin\n", b"ok\n"), (b"commit\n", b"done 0\n")]:
+                    start = time.perf_counter()
+                    if say(self.stream, line) != reply:
+                        self.wrong = line
+                    self.longest = max(self.longest, time.perf_counter() - start)
+                time.sleep(0.05)
+        except OSError as error:
+            self.wrong = error
+
+
+class Comer(threading.Thread):
+    """Comes again and again as the last session of a tenant, and keeps its longest wait."""
+
+    def __init__(self, server, tenants):
+        super().__init__(daemon=True)
+        self.server = server
+        self.tenants = tenants
+        self.stopped = threading.Event()
+        self.longest = 0.0
+        self.wrong = None
+        self.count = 0
+
+    def run(self):
+        try:
+            while not self.stopped.is_set():
+                tenant = self.tenants[self.count % len(self.tenants)]
+                start = time.perf_counter()
+                with self.server.connect() as stream:
+                    if say(stream, f"{tenant} 7\nend\n".encode()) != b"ok\nok\n":
+                        self.wrong = f"a client of tenant {tenant}"
+                self.longest = max(self.longest, time.perf_counter() - start)
+                self.count += 1
+                time.sleep(0.05)
+        except OSError as error:
+            self.wrong = error
+
+
+def beside_a_long_statement(program, waiting):
+    server = Server(program, "--cells", "8", workers=8, tenants=64)
+    busy = server.connect()
+    say(busy, b"0 0\n")
+    statement = long_statement(busy, 3)
+    others = [tenant for tenant in range(64) if tenant % 8 != 0][:48]
+    talkers = [Talker(server, tenant) for tenant in others]
+    comer = Comer(server, others)
+    held = [server.connect() for _ in range(waiting)]
+    for session, stream in enumerate(held):
+        need(say(stream, f"0 {session + 1}\nbegin\n".encode()) == b"ok\nok\n", "a session beside the busy one")
+    busy.sendall(statement)
+    start = time.perf_counter()
+    for stream in held:
+        stream.sendall(b"select count(*) from many x, many y\n")
+    crowd = [*talkers, comer]
+    for one in crowd:
+        one.start()
+    need(read_lines(busy, 2) == b"rows 1\n0\n", "the long statement")
+    seconds = time.perf_counter() - start
+    for one in crowd:
+        one.stopped.set()
+    for one in crowd:
+        one.join()
+    longest = max(one.longest for one in talkers)
+    server.stop()
+    wrong = [one.wrong for one in crowd if one.wrong is not None]
+    need(not wrong, wrong)
+    need(seconds > 1.5, f"the long statement took {seconds:.2f} s")
+    need(longest < seconds / 10, f"a client of another cell waits {longest:.2f} s beside a statement of {seconds:.2f} s")
+    need(comer.longest < seconds / 10, f"a new client of another cell waits {comer.longest:.2f} s beside a statement of {seconds:.2f} s")
+    beside = f" and {waiting} sessions that wait for it" if waiting else ""
+    print(f"48 clients beside a statement of {seconds:.1f} s{beside}: the longest wait is {longest * 1e3:.0f} ms, that of {comer.count} new ones {comer.longest * 1e3:.0f} ms")
+
+
+def long_statement_alone(program):
+    beside_a_long_statement(program, 0)
+
+
+def long_statement_with_waiting_ones(program):
+    beside_a_long_statement(program, 7)
+
+
+def idle_beside_a_long_statement(program):
+    server = Server(program, "--idle", "2", "--cells", "4")
+    busy = server.connect()
+    say(busy, b"0 0\n")
+    statement = long_statement(busy, 5)
+    # of the same cell and of others
+    streams = [server.connect() for _ in range(21)]
+    for tenant, stream in enumerate(streams, 1):
+        need(say(stream, f"{tenant} 0\n".encode()) == b"ok\n", "a client of its own tenant")
+    busy.sendall(statement)
+    start = time.perf_counter()
+    sent = 0
+    while not select.select([busy], [], [], 1)[0]:
+        for stream in streams:
+            stream.sendall(b"begin\nrollback\n")
+        sent += 1
+    need(read_lines(busy, 2) == b"rows 1\n0\n", "the long statement")
+    seconds = time.perf_counter() - start
+    need(seconds > 2.5 and sent > 1, f"the long statement took {seconds:.2f} s")
+    for stream in streams:
+        need(read_lines(stream, 2 * sent) == b"ok\nok\n" * sent, "a client that had sent a line in time")
+    closed = [line for line in server.told().splitlines() if "closed" in line or "idle" in line]
+    server.stop()
+    need(not closed, closed)
+    print(f"--idle 2 beside a statement of {seconds:.1f} s: none of 21 clients that send a line each second is closed")
+
+
+def idle_of_all_kinds(program):
+    server = Server(program, "--idle", "2")
+    talker, silent, dripping, unnamed = [server.connect() for _ in range(4)]
+    start = time.perf_counter()
+    for session, stream in enumerate([talker, silent, dripping]):
+        need(say(stream, f"3 {session}\n".encode()) == b"ok\n", "a session")
+    ends = {}
+    while len(ends) < 3 and time.perf_counter() - start < 14:
+        for stream in select.select([each for each in (silent, dripping, unnamed) if each not in ends], [], [], 0.5)[0]:
+            try:
+                need(stream.recv(100) == b"", "an answer to nothing")
+            except ConnectionResetError:
+                pass
+            ends[stream] = time.perf_counter() - start
+        if dripping not in ends:
+            try:
+                dripping.send(b"b")
+            except OSError:
+                pass
+        need(say(talker, b"begin\nrollback\n") == b"ok\nok\n", "a client that talks")
+    need(silent in ends and ends[silent] < 5, "a silent session isn't closed")
+    need(dripping in ends and ends[dripping] < 5, "a session isn't closed that sends a byte now and then, and no line")
+    need(unnamed in ends, "a connection isn't closed that never sends a line")
+    log = server.told()
+    server.stop()
+    for session in (1, 2):
+        need(f"idle: tenant 3, session {session}" in log, log)
+    need("idle: tenant 3, session 0" not in log and "failed" not in log, log)
+    print(f"--idle 2: a talker stays; closed are a silent one after {ends[silent]:.1f} s, one that drips after {ends[dripping]:.1f} s, one that never sends after {ends[unnamed]:.1f} s")
+
+
+def idle_transaction(program):
+    server = Server(program, "--idle-transaction", "1")
+    holder, other, without = [server.connect() for _ in range(3)]
+    lines = b"2 0\ncreate table t (a int)\nbegin\ninsert into t values (1)\n"
+    need(say(holder, lines) == b"ok\nok\nok\nok 1\n", "a transaction")
+    start = time.perf_counter()
+    need(say(without, b"2 2\n") == b"ok\n", "a session without a transaction")
+    need(say(other, b"2 1\nbegin\ninsert into t values (2)\nrollback\n") == b"ok\nok\nno 40 Locked t\nok\n", "a table that is locked")
+    need(select.select([holder], [], [], 5)[0] and holder.recv(10) == b"", "a transaction that idles isn't closed")
+    seconds = time.perf_counter() - start
+    need(0.9 < seconds < 4, f"a transaction that idles is closed after {seconds:.1f} s")
+    need(say(other, b"begin\ninsert into t values (2)\nselect * from t\ncommit\n") == b"ok\nok 1\nrows 1\n2\ndone 0\n", "its locks aren't free")
+    time.sleep(2)
+    need(say(without, b"begin\nrollback\n") == b"ok\nok\n", "a session without a transaction is closed")
+    log = server.told()
+    server.stop()
+    need("idle in a transaction: tenant 2, session 0" in log, log)
+    need(log.count("idle") == 1, log)
+    print(f"--idle-transaction 1: closed after {seconds:.1f} s, its locks are free, and a session without a transaction stays")
+
+
+def slow_reader(program):
+    server = Server(program)
+    stream = server.connect()
+    say(stream, b"5 0\ncreate table t (a text, b text, c text, d text, e text, f text, g text, h text)\nbegin\n")
+    rows = [", ".join(["'" + "abcdefghijklmnop"[(row + column) % 16] * 255 + "'" for column in range(8)]) for row in range(16)]
+    for row in rows:
+        need(say(stream, f"insert into t values ({row})\n".encode()) == b"ok 1\n", "a row of texts")
+    for doubled in range(8):
+        need(say(stream, b"insert into t select * from t\n") == b"ok %d\n" % (16 << doubled), "rows twice")
+    stream.sendall(b"select * from t\n")
+    # rows stand as they were made, each text in its quotes
+    wanted = b"rows 4096\n" + (256 * "".join(row.replace("', '", "','") + "\n" for row in rows)).encode()
+    start = time.perf_counter()
+    text = b""
+    parts = 0
+    while len(text) < len(wanted):
+        part = stream.recv(65536)
+        if not part:
+            break
+        text += part
+        parts += 1
+        time.sleep(0.5 if parts % 64 == 0 else 0.005)
+    need(text == wanted, f"a large reply of {len(text)} bytes in place of {len(wanted)}, or others")
+    need(say(stream, b"rollback\nend\n") == b"ok\nok\n", "the line behind a large reply")
+    seconds = time.perf_counter() - start
+    server.stop()
+    print(f"a slow reader of {len(wanted):,} bytes: all of them in {seconds:.1f} s, and the next line is answered")
+
+
+def other_address(program):
+    addresses = [word for word in subprocess.run(["hostname", "-I"], capture_output=True, text=True).stdout.split() if "." in word]
+    if not addresses:
+        print("another address of this machine: there is none, so this is left out")
+        return
+    server = Server(program)
+    try:
+        socket.create_connection((addresses[0], server.port), timeout=5)
+        sys.exit(f"wrong: a client of {addresses[0]} is taken")
+    except OSError:
+        pass
+    server.stop()
+    print("another address of this machine: no client is taken there")
+
+
+def first_tenant(program):
+    server = Server(program, "--first-tenant", "300", "--connections", "4", tenants=2)
+    for line, reply in [
+        (b"300 0\ncreate table t (a int)\nend\n", b"ok\nok\nok\n"),
+        (b"301 0\ndrop table t\nend\n", b"ok\nno 20 NoTable\nok\n"),
+        (b"0 0\n", b"no 13 NoTenant\n"),
+        (b"302 0\n", b"no 13 NoTenant\n"),
+    ]:
+        with server.connect() as stream:
+            need(say(stream, line) == reply, f"--first-tenant 300: {line}")
+    told, log = server.end()
+    need(told == "trails 2 steps 6", told)
+    need(any("attached: tenant 300, session 0" in line for line in log), log)
+    print(f"--first-tenant 300: its tenants are served, and no others; {told}")
+
+
+def log_levels(program):
+    lines = {}
+    for level in ("error", "warning", "info"):
+        server = Server(program, "--log", level, "--connections", "2")
+        for line in (b"0 0\nend\n", b"x\n"):
+            with server.connect() as stream:
+                say(stream, line)
+        _, log = server.end()
+        lines[level] = [told_in(line) for line in log]
+    need(lines["error"] == [], lines)
+    need(len(lines["warning"]) == 1 and "turned away: BadLine" in lines["warning"][0], lines)
+    need(len(lines["info"]) > 4, lines)
+    print(f"--log: {len(lines['error'])}, {len(lines['warning'])} and {len(lines['info'])} lines at error, warning and info")
+
+
+def tenant_memory(program):
+    server = Server(program, "--tenant-memory", "1")
+    greedy, other = server.connect(), server.connect()
+    need(say(greedy, b"1 0\ncreate table t (a text)\n") == b"ok\nok\n", "a greedy tenant")
+    need(say(other, b"2 0\ncreate table t (a text)\n") == b"ok\nok\n", "a tenant beside it")
+    row = b"insert into t values ('" + b"x" * 250 + b"')\n"
+    lines = 0
+    while lines < 10_000 and say(greedy, b"begin\n" + row + b"rollback\n") == b"ok\nok 1\nok\n":
+        lines += 3
+    need(100 < lines < 10_000, f"a greedy tenant has {lines} lines")
+    need(say(greedy, b"begin\n") == b"no 92 NotBegun\n", "a line past the tenant's memory")
+    need(say(other, b"begin\n" + row + b"commit\n") == b"ok\nok 1\ndone 0\n", "a tenant beside a greedy one")
+    need(say(greedy, b"end\n") == b"ok\n", "the end of a greedy tenant's session")
+    server.stop()
+    print(f"--tenant-memory 1: a greedy tenant has {lines:,} lines, then NotBegun; the one beside it has all, and a session ends")
 
 
 def input_end(program):
@@ -340,6 +639,8 @@ def crowds():
     """Those for which there are descriptors."""
     _, most = resource.getrlimit(resource.RLIMIT_NOFILE)
     small = [silent_ones, reset, idle_end, input_end, port_closes, port_in_use, unread_log, full_trail, no_descriptors, never_reads]
+    small += [other_address, first_tenant, log_levels, slow_reader, tenant_memory, idle_transaction, idle_of_all_kinds]
+    small += [idle_beside_a_long_statement, long_statement_alone, long_statement_with_waiting_ones]
     large = [short_ones, all_at_once, idle_ones]
     if most != resource.RLIM_INFINITY and most < DESCRIPTORS:
         print(f"large crowds are left out: they want {DESCRIPTORS} descriptors, and a process has {most} at most")

@@ -1,21 +1,21 @@
 #!/usr/bin/env python3
-"""Times the reader by itself.
+"""Times the reader by itself, in the built program.
 
     parts.py [PROGRAM]
 
-PROGRAM is crates/sb_bench/out/sb_bench where no word is given; `rt run` in
-crates/sb_bench builds it. Each command has about 4,000 bytes and is read again
-and again; the best of seven runs counts. Printed are the megabytes of text that
-are read in a second. What is made is dropped in the same time.
+PROGRAM is crates/starhost/out/starhost where no word is given. Each command has about 4,000 bytes and is sent again and
+again to a session that isn't open: it is read, and then answered `no 44 NotOpen`. The time of as many lines of spaces
+behind one letter is taken off. Printed are the megabytes of text that are read in a second, by the best of seven runs.
+What is made is dropped in the same time.
 """
 
 import os
-import re
 import subprocess
 import sys
+import time
 
 RUNS = 7
-ROUNDS = 2_000
+ROUNDS = 4_000
 LENGTH = 4_080
 
 
@@ -52,25 +52,27 @@ COMMANDS = {
 }
 
 
-def nanoseconds(program, text):
-    """The best time of a round."""
-    best = None
+def seconds(program, command, answer):
+    """The best time of all rounds."""
+    text = f"0 0 {command}\n".encode() * ROUNDS
+    best = float("inf")
     for _ in range(RUNS):
-        told = subprocess.run([program, "read", str(ROUNDS)], input=text, capture_output=True, text=True, check=True).stdout
-        done, of, time = map(int, re.fullmatch(r"(\d+) of (\d+) rounds, (\d+) ns\n", told).groups())
-        if done != of:
-            sys.exit(f"{program}: {told}")
-        best = time if best is None else min(best, time)
-    return best / ROUNDS
+        start = time.perf_counter()
+        told = subprocess.run([program], input=text, stdout=subprocess.PIPE, check=True).stdout
+        best = min(best, time.perf_counter() - start)
+        if told != f"0 0 {answer}\n".encode() * ROUNDS:
+            sys.exit(f"{program}: {told[:100]!r}")
+    return best
 
 
 def main():
     here = os.path.dirname(os.path.abspath(__file__))
-    program = sys.argv[1] if len(sys.argv) > 1 else os.path.join(here, "../crates/sb_bench/out/sb_bench")
+    program = sys.argv[1] if len(sys.argv) > 1 else os.path.join(here, "../crates/starhost/out/starhost")
     print(f"{'command':18} {'read MB/s':>10}")
     for name, command in COMMANDS.items():
-        read = nanoseconds(program, command + "\n")
-        print(f"{name:18} {len(command) * 1000 / read:10.0f}")
+        read = seconds(program, command, "no 44 NotOpen")
+        other = seconds(program, "x".ljust(len(command)), "no 10 Syntax")
+        print(f"{name:18} {len(command) * ROUNDS / max(read - other, 1e-6) / 1e6:10.0f}")
 
 
 if __name__ == "__main__":

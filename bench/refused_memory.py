@@ -1,12 +1,13 @@
 #!/usr/bin/env python3
 """Plays scripts on the built program with each request for memory refused in turn.
 
-    refused_memory.py [--whole] [--built FOLDER] [NAME ..]
+    refused_memory.py [--built FOLDER] [NAME ..]
 
 The scripts are the blocks of crates/sb_scripts/stdin whose lines are a stream's, and those of refused_scripts beside
 this file; NAME is how the header of one begins, behind `# `. Each is played once for each request that the process
-makes, from the first on, with that request refused (refuse.c, compiled by cc, gcc or clang), until a run meets none. Past the 500th
-request every tenth is played, and of a script that would take long fewer of both; with --whole all of them.
+makes, from the first to the last, with that request refused (refuse.c, compiled by cc, gcc or clang). One process plays
+a script: at each request a child goes on with the refusal, and the process waits for it and goes on without. A replay
+has several threads, and is run anew for each request.
 
 What a run has to answer comes from a second run of the same lines with ample memory. There each line that was answered
 NoMemory is a `rollback` if its session had a transaction, and else a line that is refused as Syntax; each that was
@@ -15,10 +16,10 @@ NoMemory, and nothing has changed behind NotBegun. Beyond that: one refused requ
 tenant that has no such reply has the replies of a run in which nothing is refused. A run that ends with the fault
 `out of memory` has to have written a first part of what was to be written.
 
-Calls that no line makes are made by tests of sb_tests, sb_cell_tests and sb_host_tests. Those of PRESSED say what may be answered on a
-host where any request may be refused, and are run as a script is played. The others of MARKED put calls that take no
-memory between two marks: all requests from the first to the second are refused, and the tests have to pass. None of
-these calls asks for memory; one test does between its marks, so that a refusal there is seen.
+Calls that no line makes are made by tests of sb_tests, sb_cell_tests and sb_host_tests. Those of PRESSED say what may
+be answered on a host where any request may be refused, and are run anew for each request. The others of MARKED put
+calls that take no memory between two marks: all requests from the first to the second are refused, and the tests have
+to pass. None of these calls asks for memory; one test does between its marks, so that a refusal there is seen.
 
 The programs stand where `rt ci` leaves them, or in FOLDER.
 """
@@ -27,24 +28,27 @@ import argparse
 import collections
 import concurrent.futures
 import dataclasses
+import itertools
 import os
 import re
 import shutil
+import signal
 import subprocess
 import sys
 import tempfile
+import threading
 
 HERE = os.path.dirname(os.path.abspath(__file__))
 CRATES = os.path.join(HERE, "../crates")
 SCRIPTS = [os.path.join(CRATES, "sb_scripts/stdin"), os.path.join(HERE, "refused_scripts")]
 
-FIRST = 500  # each request is refused up to this one,
-STEP = 10  # and behind it each of this many,
-SECONDS = 12  # of which fewer, evenly spread, where a script's runs would take more processor time than this
 LINES = 3_000  # a script of more lines isn't played
+LONGEST = 900  # so many seconds a script may take
 MARKED = {"sb_tests": ("",), "sb_cell_tests": ("cells::",), "sb_host_tests": ("hosts::",)}
 ASKING = "cells::a_step_without_memory_is_not_begun"
 PRESSED = {"sb_host_tests": ("pressed::",)}
+TOGETHER = 32  # so many requests are refused side by side
+MOST_WRONG = 100  # no more are looked for
 SHOWN = 5  # so many wrong runs of a script are told
 
 FAULT = b"fault: out of memory\n"
@@ -94,8 +98,7 @@ class Run:
     fault: bytes
     requests: int
     refused: int
-    marks: int
-    seconds: float
+    marks: int = 0
 
 
 def reserved_words():
@@ -153,27 +156,43 @@ def compiled(folder):
     return made
 
 
-def child_seconds():
-    """The processor time of all processes that have ended; between two looks that of one, where no other runs."""
-    return sum(os.times()[2:4])
-
-
 class Player:
     """Runs of a program over the library that refuses."""
 
     def __init__(self, library):
         self.library = library
 
-    def run(self, words, text, **settings):
+    def environment(self, settings):
         given = {name: str(value) for name, value in settings.items() if value}
-        environment = {"PATH": os.environ["PATH"], "LD_PRELOAD": self.library, **given}
-        before = child_seconds()
-        ended = subprocess.run(words, input=text, env=environment, capture_output=True, timeout=120)
+        return {"PATH": os.environ["PATH"], "LD_PRELOAD": self.library, **given}
+
+    def run(self, words, text, **settings):
+        ended = subprocess.run(words, input=text, env=self.environment(settings), capture_output=True, timeout=120)
         told = re.fullmatch(rb"(.*?)(\d+) requests, (\d+) refused, (\d+) marks\n", ended.stderr, re.S)
         if told is None:
             raise Wrong(f"status {ended.returncode}: {ended.stderr[-200:]}")
-        seconds = max(child_seconds() - before, 0.001)
-        return Run(ended.returncode, ended.stdout, told[1], *map(int, told.groups()[1:]), seconds)
+        return Run(ended.returncode, ended.stdout, told[1], *map(int, told.groups()[1:]))
+
+    def each(self, words, text, **settings):
+        """Refuses each request in turn; then the run in which none is refused."""
+        told, tell = os.pipe()
+        with tempfile.TemporaryFile() as given:
+            given.write(text)
+            given.seek(0)
+            how = {"stdin": given, "stdout": subprocess.DEVNULL, "stderr": subprocess.DEVNULL, "start_new_session": True}
+            process = subprocess.Popen(words, env=self.environment({**settings, "EACH": tell}), pass_fds=[tell], **how)
+        os.close(tell)
+        late = threading.Timer(LONGEST, os.killpg, [process.pid, signal.SIGKILL])
+        late.start()
+        number = None
+        with open(told, "rb", buffering=1 << 20) as records:
+            while head := records.readline():
+                number, status, refused, out, fault = map(int, head.split())
+                yield Run(os.waitstatus_to_exitcode(status), records.read(out), records.read(fault), number, refused)
+        late.cancel()
+        process.wait()
+        if number != 0:
+            raise Wrong("it doesn't come to its end")
 
     def tests(self, program, names):
         """The tests of a program whose names begin so."""
@@ -200,6 +219,16 @@ def replies(out):
     return found, b"\n".join(lines[at:])
 
 
+def first_reply(text):
+    """The first reply of a text, if it is there whole."""
+    end = text.find(b"\n")
+    for _ in range(following(text[:end]) if end >= 0 else 0):
+        end = text.find(b"\n", end + 1)
+        if end < 0:
+            break
+    return text[: end + 1] if end >= 0 else None
+
+
 def said(reply):
     """What a reply says first, without the numbers in front."""
     return reply.split(b"\n")[0].split(b" ", 2)[2]
@@ -214,45 +243,18 @@ def whose(reply):
     return tuple(reply.split(b" ")[:2])
 
 
-class Sessions:
-    """Which sessions are open, and which have a transaction, after the lines that were answered."""
-
-    def __init__(self):
-        self.open, self.begun = set(), set()
-
-    def take(self, line, reply):
+def transactions(lines, replies):
+    """Before each line, the sessions that have a transaction."""
+    begun, found = frozenset(), []
+    for line, reply in zip(lines, replies):
+        found.append(begun)
         who, command, answer = whose(reply), line.split()[2:], said(reply)
-        if answer.startswith(b"rolledback ") or answer == NO_MEMORY:
-            self.begun.discard(who)
-        elif command == [b"open"] and answer == b"ok":
-            self.open.add(who)
-        elif command == [b"begin"] and answer == b"ok":
-            self.begun.add(who)
-        elif command in ([b"commit"], [b"rollback"], [b"end"]) and not answer.startswith(b"no "):
-            self.begun.discard(who)
-        if command == [b"end"] and answer == b"ok":
-            self.open.discard(who)
-
-    def in_place_of(self, line, reply):
-        """The line of the second run for one that was answered NoMemory."""
-        who = whose(reply)
-        if line == b" ".join(who) + b" end" and who in self.open:
-            raise Wrong("NoMemory for the end of an open session")
-        return b" ".join(who) + b" " + (b"rollback" if who in self.begun else REFUSED_TEXT)
-
-
-def second_run(lines, told):
-    """The lines of a second run, each with the reply that is known, if the line was answered for want of memory."""
-    sessions, kept = Sessions(), []
-    for line, reply in zip(lines, told):
-        if said(reply) == NO_MEMORY:
-            kept.append((sessions.in_place_of(line, reply), reply))
-        elif said(reply) == NOT_BEGUN:
-            kept.append((None, reply))
-        else:
-            kept.append((line, None))
-        sessions.take(line, reply)
-    return kept + [(line, None) for line in lines[len(told) :]]
+        if command == [b"begin"] and answer == b"ok":
+            begun |= {who}
+        is_over = command in ([b"commit"], [b"rollback"], [b"end"]) and not answer.startswith(b"no ")
+        if is_over or answer.startswith(b"rolledback "):
+            begun -= {who}
+    return found
 
 
 def of_tenant(out, tenant):
@@ -269,13 +271,21 @@ class Judge:
         self.ample = self.play(0)
         if self.ample.status != 0:
             raise Wrong(f"status {self.ample.status} where nothing is refused")
-        if any(met(reply) for reply in self.whole(self.ample.out)):
+        self.replies = self.whole(self.ample.out)
+        if any(met(reply) for reply in self.replies):
             raise Wrong("NoMemory or NotBegun where nothing is refused")
+        self.ends = list(itertools.accumulate(map(len, self.replies), initial=0))
+        self.tenants = {whose(reply)[0] for reply in self.replies}
+        self.begun = transactions(self.lines, self.replies)
 
     def play(self, number):
         text = self.script.input(self.script.lines)
         pieces = self.script.settings.get("pieces")
         return self.player.run([self.program] + self.script.words(), text, REFUSED=number, PIECES=pieces)
+
+    def each(self):
+        text = self.script.input(self.script.lines)
+        return self.player.each([self.program] + self.script.words(), text, PIECES=self.script.settings.get("pieces"))
 
     def whole(self, out):
         """The whole replies to lines; a replay's last line is none."""
@@ -283,48 +293,65 @@ class Judge:
 
     def answers(self, lines):
         """What is written for these lines with ample memory."""
-        text = self.script.input(lines)
-        if text not in self.known:
-            pieces = self.script.settings.get("pieces")
-            run = self.player.run([self.program] + self.script.words(), text, PIECES=pieces)
-            if run.status != 0:
-                raise Wrong(f"the second run has status {run.status}")
-            self.known[text] = run.out
-        return self.known[text]
+        pieces = self.script.settings.get("pieces")
+        run = self.player.run([self.program] + self.script.words(), self.script.input(lines), PIECES=pieces)
+        if run.status != 0:
+            raise Wrong(f"the second run has status {run.status}")
+        if NO_MEMORY in run.out or NOT_BEGUN in run.out:
+            raise Wrong("NoMemory or NotBegun in the second run, in which nothing is refused")
+        return run.out
 
-    def expected(self, told):
-        """The text that these replies are of, or a first part of."""
-        kept = second_run(self.lines, told)
-        sent = [line for line, _ in kept if line is not None]
-        text, rest = replies(self.answers(sent))
-        later = iter(text)
-        parts = []
-        for line, known in kept:
-            reply = next(later) if line is not None else None
-            if known is not None and line is not None and said(reply) not in (b"ok", b"no 10 Syntax"):
-                raise Wrong(f"the second run answers {line} by {reply}")
-            parts.append(reply if known is None else known)
-        return b"".join(parts) + b"".join(later) + rest
+    def first_other(self, out):
+        """The place of the first reply that isn't that of the run in which nothing is refused."""
+        low, high = 0, len(self.replies)
+        while low < high:
+            middle = (low + high + 1) // 2
+            low, high = (middle, high) if out.startswith(self.ample.out[: self.ends[middle]]) else (low, middle - 1)
+        return low
+
+    def in_place_of(self, at, reply):
+        """The line of the second run in place of one that was answered NoMemory; none for NotBegun."""
+        if said(reply) == NOT_BEGUN:
+            return []
+        who = b" ".join(whose(reply))
+        if self.lines[at] == who + b" end" and self.replies[at] == who + b" ok\n":
+            raise Wrong("NoMemory for the end of an open session")
+        return [who + b" " + (b"rollback" if whose(reply) in self.begun[at] else REFUSED_TEXT)]
+
+    def expected(self, at, reply):
+        """What is written where one line is answered for want of memory, by a second run."""
+        if (at, reply) not in self.known:
+            other = self.in_place_of(at, reply)
+            told = self.answers(self.lines[:at] + other + self.lines[at + 1 :])
+            before, later = told[: self.ends[at]], told[self.ends[at] :]
+            if other:
+                instead = first_reply(later)
+                if said(instead) not in (b"ok", b"no 10 Syntax"):
+                    raise Wrong(f"the second run answers {other[0]} by {instead}")
+                later = later[len(instead) :]
+            self.known[at, reply] = before + reply + later
+        return self.known[at, reply]
 
     def look(self, run):
         """How a run with a refused request ended, or what is wrong with it."""
         has_ended = run.status == 1 and run.fault == FAULT
         if not has_ended and (run.status != 0 or run.fault):
             raise Wrong(f"status {run.status}: {run.fault[-200:]}")
-        told = self.whole(run.out)
-        count = sum(met(reply) for reply in told)
-        if count > run.refused:
-            raise Wrong(f"{count} replies tell of {run.refused} refused requests")
-        expected = self.expected(told)
+        at = self.first_other(run.out)
+        reply = first_reply(run.out[self.ends[at] :])
+        is_met = reply is not None and at < len(self.lines) and met(reply)
+        if is_met and not run.refused:
+            raise Wrong("a reply tells of a refused request, and none was refused")
+        expected = self.expected(at, reply) if is_met else self.ample.out
         if not (expected.startswith(run.out) if has_ended else expected == run.out):
             raise Wrong(difference(run.out, expected))
-        self.look_at_tenants(run.out, told)
-        return "ended" if has_ended else "refused" if count else "same"
+        if is_met:
+            self.look_at_others(run.out, whose(reply)[0])
+        return "ended" if has_ended else "refused" if is_met else "same"
 
-    def look_at_tenants(self, out, told):
+    def look_at_others(self, out, troubled):
         """A tenant without NoMemory and NotBegun is answered as where nothing is refused."""
-        troubled = {whose(reply)[0] for reply in told if met(reply)}
-        for tenant in {whose(reply)[0] for reply in told} - troubled:
+        for tenant in self.tenants - {troubled}:
             if not of_tenant(self.ample.out, tenant).startswith(of_tenant(out, tenant)):
                 raise Wrong(f"tenant {tenant.decode()} has other replies than its own")
 
@@ -335,37 +362,45 @@ def difference(out, expected):
     return f"line {at + 1} of the replies: {pairs[at] if at < len(pairs) else 'one has no more'}"
 
 
-def numbers(ample, is_whole):
-    """The requests that are refused one by one."""
-    every = range(1, ample.requests + 1)
-    if is_whole:
-        return every
-    some = [number for number in every if number <= FIRST or number % STEP == 0]
-    most = max(1, int(SECONDS / (2 * ample.seconds)))
-    return some[:: -(-len(some) // most)] if some else some
-
-
-def sweep(play, look, ample, is_whole, pool):
-    """Plays with each request refused, until a run meets none: how the runs ended, and what was wrong."""
+def sweep(play, look, pool):
+    """Runs anew with each request refused, until a run meets none: how the runs ended, and what was wrong."""
     counts, wrong = collections.Counter(), []
 
     def one(number):
-        refused = 0
+        refused = 1
         try:
             run = play(number)
             refused = run.refused
-            return number, look(run), refused
+            return refused, look(run)
         except Wrong as why:
-            return number, why, refused
+            return refused, why
 
-    ended = list(pool.map(one, numbers(ample, is_whole)))
-    ended.append(one(ample.requests + 1))
-    while ended[-1][2]:
-        ended.append(one(ended[-1][0] + 1))
-    for number, how, refused in ended:
+    first, refused = 1, 1
+    while refused and len(wrong) < MOST_WRONG:
+        numbers = range(first, first + TOGETHER)
+        for number, (refused, how) in zip(numbers, pool.map(one, numbers)):
+            if isinstance(how, Wrong):
+                wrong.append(f"request {number}: {how}")
+            elif refused:
+                counts[how] += 1
+        first += TOGETHER
+    return counts, wrong
+
+
+def sweep_by_children(judge):
+    """The same by one process, whose child goes on with each refusal. Runs that are alike are looked at once."""
+    counts, wrong, known = collections.Counter(), [], {}
+    for run in judge.each():
+        key = run.status, run.out, run.fault, run.refused
+        if key not in known:
+            try:
+                known[key] = judge.look(run)
+            except Wrong as why:
+                known[key] = why
+        how = known[key]
         if isinstance(how, Wrong):
-            wrong.append(f"request {number}: {how}")
-        elif refused:
+            wrong.append(f"request {run.requests}: {how}")
+        elif run.refused:
             counts[how] += 1
     return counts, wrong
 
@@ -379,20 +414,26 @@ def told(name, counts, wrong):
     return len(wrong)
 
 
+def played(player, program, script, pool):
+    """How the runs of a script ended, and what was wrong."""
+    try:
+        judge = Judge(player, program, script)
+        return sweep(judge.play, judge.look, pool) if "workers" in script.settings else sweep_by_children(judge)
+    except Wrong as why:
+        return collections.Counter(), [str(why)]
+
+
 def play_scripts(player, arguments, pool):
     found = [script for path in SCRIPTS for script in scripts_of(path)]
-    played = [script for script in found if script.is_played()]
+    scripts = [script for script in found if script.is_played()]
     if arguments.names:
-        played = [script for script in played if script.name.startswith(tuple(arguments.names))]
+        scripts = [script for script in scripts if script.name.startswith(tuple(arguments.names))]
     wrong = 0
-    for script in played:
-        try:
-            judge = Judge(player, arguments.program, script)
-        except Wrong as why:
-            wrong += told(script.name, collections.Counter(), [str(why)])
-            continue
-        wrong += told(script.name, *sweep(judge.play, judge.look, judge.ample, arguments.whole, pool))
-    print(f"{len(played)} scripts of {len(found)}: the others fail at an end, are no stream, or have more than {LINES} lines")
+    with concurrent.futures.ThreadPoolExecutor(os.cpu_count()) as several:
+        results = several.map(lambda script: played(player, arguments.program, script, pool), scripts)
+        for script, result in zip(scripts, results):
+            wrong += told(script.name, *result)
+    print(f"{len(scripts)} scripts of {len(found)}: the others fail at an end, are no stream, or have more than {LINES} lines")
     return wrong
 
 
@@ -409,7 +450,7 @@ def press(player, arguments, pool):
         program = arguments.tests(name)
         for test in player.tests(program, tests):
             play = lambda number: player.run([program, test], b"", REFUSED=number)
-            wrong += told(test, *sweep(play, look_at_test, play(0), arguments.whole, pool))
+            wrong += told(test, *sweep(play, look_at_test, pool))
     return wrong
 
 
@@ -435,11 +476,10 @@ def run_marked(player, arguments):
 class Arguments:
     def __init__(self):
         parser = argparse.ArgumentParser()
-        parser.add_argument("--whole", action="store_true")
         parser.add_argument("--built")
         parser.add_argument("names", nargs="*")
         given = parser.parse_args()
-        self.whole, self.names, self.built = given.whole, given.names, given.built
+        self.names, self.built = given.names, given.built
         self.program = self.path("starhost", "starhost")
 
     def path(self, crate, file):
@@ -459,9 +499,7 @@ def main():
                 wrong += press(player, arguments, pool)
                 wrong += run_marked(player, arguments)
     spent = sum(os.times()[:4]) / 60
-    much = f"each request to the {FIRST}th, then every {STEP}th, and fewer past {SECONDS} s"
-    much = "each request" if arguments.whole else much
-    print(f"{much}; {spent:.1f} processor minutes; {wrong} runs were wrong")
+    print(f"each request refused; {spent:.1f} processor minutes; {wrong} runs were wrong")
     sys.exit(1 if wrong else 0)
 
 

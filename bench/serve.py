@@ -11,7 +11,8 @@ their own. Printed are:
   those of the same client with a small echo server, which `cc` compiles;
 - 64 lines in flight over one connection: lines per second;
 - four connections to tenants in four cells, each a client that selects, beside one:
-  how many times as many lines per second.
+  how many times as many lines per second;
+- these four on four workers, beside one worker.
 """
 
 import os
@@ -59,7 +60,7 @@ class Server:
     """A program that tells its port and then serves."""
 
     def __init__(self, words):
-        self.process = subprocess.Popen(words, stdout=subprocess.PIPE, stderr=subprocess.DEVNULL)
+        self.process = subprocess.Popen(words, stdin=subprocess.DEVNULL, stdout=subprocess.PIPE, stderr=subprocess.DEVNULL)
         self.port = int(self.process.stdout.readline().split()[1])
 
     def connect(self):
@@ -181,12 +182,23 @@ def four_beside_one(program):
     print(f"four tenants in four cells: {max(four):,.0f} lines/s, one {max(one):,.0f} lines/s: {max(four) / max(one):.2f} times")
 
 
+def four_workers_beside_one(program):
+    one, four = [], []
+    for _ in range(RUNS):
+        for workers, rates in ((1, one), (4, four)):
+            server = starhost(program, 4, workers)
+            rates.append(selecting(server, [0, 1, 2, 3]))
+            server.stop()
+    print(f"four workers: {max(four):,.0f} lines/s, one {max(one):,.0f} lines/s: {max(four) / max(one):.2f} times")
+
+
 def main():
     here = os.path.dirname(os.path.abspath(__file__))
     program = sys.argv[1] if len(sys.argv) > 1 else os.path.join(here, "../crates/starhost/out/starhost")
     one_by_one(program)
     many_in_flight(program)
     four_beside_one(program)
+    four_workers_beside_one(program)
     print(f"load {os.getloadavg()[0]:.1f}")
 
 

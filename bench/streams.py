@@ -4,7 +4,7 @@
     streams.py NAME COUNT > FILE
 
 NAME is one of the streams below, COUNT how often its part is repeated. The
-trail of a tenant has 65,536 entries at most, so a stream of more lines is
+trail of a tenant has 1,048,576 entries at most, so a stream of more lines is
 answered `no 90 TrailFull` from there on.
 """
 

@@ -1,13 +1,13 @@
 #!/usr/bin/env python3
-"""Plays clients of 32 tenants on two hosts behind a balancer, and compares with one host alone.
+"""Plays clients of 40 tenants on three hosts behind a balancer, and compares with one host alone.
 
     bench/several_hosts/several_hosts.py [PROGRAM]
 
 It needs HAProxy (2.6 or later) and the built program, crates/starhost/out/starhost where no other is given. It starts
-two servers and the balancer with haproxy.cfg, plays the same lines of each tenant through the balancer and on one
-server alone, and compares the replies, tenant by tenant. Then it moves the line of a tenant that has no session to the
-other host, and looks that the tenant is there: without its tables, since a host's data stays on it. At the end it says
-on one line what it saw."""
+three servers, the third of which has the tenants from 256 on, and the balancer with haproxy.cfg, plays the same lines of
+each tenant through the balancer and on one server alone, and compares the replies, tenant by tenant. Then it moves the
+line of a tenant that has no session to the other host, and looks that the tenant is there: without its tables, since a
+host's data stays on it. At the end it says on one line what it saw."""
 
 import os
 import shutil
@@ -20,7 +20,9 @@ import time
 
 HERE = os.path.dirname(os.path.abspath(__file__))
 ROOT = os.path.dirname(os.path.dirname(HERE))
-TENANTS = 32
+# The last eight are on the host whose tenants begin at 256.
+TENANTS = [*range(32), *range(300, 308)]
+FIRST = 256
 
 LINES = """create table dept (dno int)
 create table emp (ename text, dno int)
@@ -45,9 +47,10 @@ def free_port():
         return probe.getsockname()[1]
 
 
-def serve(program):
-    """A server of 256 tenants and its port."""
-    server = subprocess.Popen([program, "serve", "--tenants", "256"], stdout=subprocess.PIPE, stderr=subprocess.DEVNULL, text=True)
+def serve(program, first=0):
+    """A server of 256 tenants, from this one on, and its port."""
+    words = [program, "serve", "--tenants", "256", "--first-tenant", str(first)]
+    server = subprocess.Popen(words, stdin=subprocess.DEVNULL, stdout=subprocess.PIPE, stderr=subprocess.DEVNULL, text=True)
     return server, int(server.stdout.readline().split()[1])
 
 
@@ -62,14 +65,14 @@ def replies(port, tenant, lines):
         return found.decode("ascii")
 
 
-def play(port):
-    """The replies to the lines of each tenant, all at once."""
+def play(port, number=lambda tenant: tenant):
+    """The replies to the lines of each tenant, all at once; by which number the server has it."""
     found = {}
 
     def one(tenant):
-        found[tenant] = replies(port, tenant, LINES.format(tenant=tenant))
+        found[tenant] = replies(port, number(tenant), LINES.format(tenant=tenant))
 
-    threads = [threading.Thread(target=one, args=(tenant,)) for tenant in range(TENANTS)]
+    threads = [threading.Thread(target=one, args=(tenant,)) for tenant in TENANTS]
     for thread in threads:
         thread.start()
     for thread in threads:
@@ -78,11 +81,11 @@ def play(port):
 
 
 def balance(folder, front, ports):
-    """HAProxy before the servers of these ports, even tenants on the first one."""
+    """HAProxy before the servers of these ports: even tenants on the first one, those from 256 on on the third one."""
     with open(f"{folder}/tenants.map", "w", encoding="ascii") as tenants:
-        tenants.writelines(f"{tenant} host{tenant % 2}\n" for tenant in range(256))
+        tenants.writelines(f"{tenant} host{tenant % 2 if tenant < FIRST else 2}\n" for tenant in range(2 * FIRST))
     shutil.copy(f"{HERE}/haproxy.cfg", folder)
-    words = {**os.environ, "FRONT": str(front), "HOST0": str(ports[0]), "HOST1": str(ports[1])}
+    words = {**os.environ, "FRONT": str(front), **{f"HOST{host}": str(port) for host, port in enumerate(ports)}}
     balancer = subprocess.Popen(["haproxy", "-db", "-f", "haproxy.cfg"], cwd=folder, env=words, stderr=subprocess.DEVNULL)
     for _try in range(100):
         with socket.socket() as probe:
@@ -109,20 +112,22 @@ def main():
     try:
         alone, alone_port = serve(program)
         started.append(alone)
-        hosts = [serve(program) for _host in range(2)]
+        hosts = [serve(program), serve(program), serve(program, FIRST)]
         started += [host for host, _port in hosts]
         front = free_port()
         started.append(balance(folder, front, [port for _host, port in hosts]))
-        expected, found = play(alone_port), play(front)
-        wrong = [tenant for tenant in range(TENANTS) if found[tenant] != expected[tenant]]
+        expected, found = play(alone_port, lambda tenant: tenant % FIRST), play(front)
+        wrong = [tenant for tenant in TENANTS if found[tenant] != expected[tenant]]
         for tenant in wrong:
             print(f"tenant {tenant}: {found[tenant]!r} for {expected[tenant]!r}")
         tell(folder, "set map tenants.map 6 host1")
         moved = replies(front, 6, "begin\nselect * from emp\nend\n") == "ok\nok\nno 20 NoTable\nok\n"
         stayed = replies(front, 8, "begin\nselect * from dept\nend\n") == "ok\nok\nrows 1\n2\nok\n"
-        print(f"{TENANTS} tenants on two hosts, {len(wrong)} answered otherwise than on one host;", end=" ")
+        strange = replies(hosts[2][1], 6, "begin\n") == "no 13 NoTenant\n"
+        print(f"{len(TENANTS)} tenants on three hosts, {len(wrong)} answered otherwise than on one host;", end=" ")
+        print(f"tenant 6 is none of the third host: {strange};", end=" ")
         print(f"a tenant whose line moved is on the other host: {moved}; the others stay: {stayed}")
-        return 0 if not wrong and moved and stayed else 1
+        return 0 if not wrong and moved and stayed and strange else 1
     finally:
         for process in started:
             process.kill()

@@ -1,0 +1,45 @@
+#!/usr/bin/env python3
+"""The Python client on the built program: its tests, and the order system of examples/.
+
+    python_client.py [PROGRAM]
+
+PROGRAM is crates/starhost/out/starhost where no word is given. It takes some seconds. The published tests of DB-API 2.0
+are run where Debian's python3-postgresql has them, and it is said where it hasn't.
+"""
+
+import os
+import pathlib
+import subprocess
+import sys
+
+TOP = pathlib.Path(__file__).resolve().parent.parent
+TESTS = TOP / "clients" / "python" / "tests"
+
+
+def main():
+    program = os.path.abspath(sys.argv[1]) if len(sys.argv) > 1 else str(TOP / "crates/starhost/out/starhost")
+    os.environ["FILGWESHA_PROGRAM"] = program
+    tests = subprocess.run([sys.executable, "-m", "unittest", "discover", "-s", TESTS], capture_output=True, text=True, timeout=600)
+    if tests.returncode != 0:
+        sys.exit(tests.stderr)
+    told = tests.stderr.strip().splitlines()
+    print("python client:", told[-3], told[-1])
+    if "NotThere" in subprocess.run([sys.executable, "-c", "import test_dbapi20; print(test_dbapi20.Published.__mro__)"], capture_output=True, text=True, cwd=TESTS).stdout:
+        print("python client: the published tests of DB-API 2.0 aren't on this machine (Debian: python3-postgresql)")
+
+    sys.path.insert(0, str(TESTS))
+    import server
+
+    running = server.Server()
+    try:
+        orders = TOP / "examples" / "orders"
+        told = subprocess.run([sys.executable, orders / "orders.py", str(running.port)], capture_output=True, text=True, timeout=60)
+        if told.returncode != 0 or told.stdout != (orders / "orders.stdout").read_text():
+            sys.exit(f"examples/orders prints something else:\n{told.stdout}{told.stderr}")
+    finally:
+        running.stop()
+    print("examples/orders: as stored")
+
+
+if __name__ == "__main__":
+    main()

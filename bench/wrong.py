@@ -1,0 +1,89 @@
+#!/usr/bin/env python3
+"""Tries the wrong bodies that ./check doesn't try.
+
+    ./check --wrong [--since COMMIT] [CRATE ..]
+
+They stand in crates/NAME/wrong, as files of the form of those in must-fail/. The files of the work tree are copied to
+a folder that goes away again. There each crate's wrong bodies are laid beside those of its must-fail/, and `rt ci
+CRATE ..` proves the crates and tries them. It fails where a wrong body is proved, or can't be tried.
+
+Where no crate is named, it takes the crates whose files differ from those of COMMIT (origin/main), and tells which.
+A crate that is proved already, by `rt ci` on this machine, costs one proof more, and a bit for each wrong body.
+"""
+
+import argparse
+import glob
+import os
+import shutil
+import subprocess
+import sys
+import tempfile
+
+TOP = os.path.dirname(os.path.dirname(os.path.abspath(__file__)))
+
+
+def lines_of(*words):
+    return subprocess.run(["git", *words], cwd=TOP, capture_output=True, text=True, check=True).stdout.splitlines()
+
+
+def files():
+    """Those of the work tree, and no file that git leaves out."""
+    listed = lines_of("ls-files", "--cached", "--others", "--exclude-standard")
+    return [name for name in listed if os.path.isfile(os.path.join(TOP, name))]
+
+
+def changed(since):
+    """The crates with a file that isn't as it was."""
+    others = lines_of("ls-files", "--others", "--exclude-standard", "crates")
+    parts = [name.split("/") for name in lines_of("diff", "--name-only", since, "--", "crates") + others]
+    return sorted({names[1] for names in parts if len(names) > 2})
+
+
+def laid_out(folder, crates):
+    """Copies the work tree, and gives how many wrong bodies were laid out."""
+    for name in files():
+        to = os.path.join(folder, name)
+        os.makedirs(os.path.dirname(to), exist_ok=True)
+        shutil.copy2(os.path.join(TOP, name), to)
+    count = 0
+    for crate in crates:
+        for edit in glob.glob(f"{folder}/crates/{crate}/wrong/*.edit"):
+            to = f"{folder}/crates/{crate}/must-fail"
+            os.makedirs(to, exist_ok=True)
+            shutil.move(edit, to)
+            count += 1
+    return count
+
+
+def tried(folder, crates):
+    """Whether all wrong bodies were refused."""
+    is_well = True
+    with subprocess.Popen(["rt", "ci", *crates], cwd=folder, stdout=subprocess.PIPE, stderr=subprocess.STDOUT, text=True) as run:
+        for line in run.stdout:
+            print(line, end="", flush=True)
+            is_well = is_well and "BAD EDIT" not in line
+    return is_well and run.returncode == 0
+
+
+def main():
+    parser = argparse.ArgumentParser(prog="./check --wrong", description=__doc__, formatter_class=argparse.RawDescriptionHelpFormatter)
+    parser.add_argument("--since", metavar="COMMIT", default="origin/main")
+    parser.add_argument("crates", metavar="CRATE", nargs="*")
+    given = parser.parse_args()
+    named = given.crates or changed(given.since)
+    unknown = [crate for crate in given.crates if not os.path.isdir(os.path.join(TOP, "crates", crate))]
+    if unknown:
+        sys.exit(f"no crate: {' '.join(unknown)}")
+    crates = [crate for crate in named if glob.glob(os.path.join(TOP, "crates", crate, "wrong/*.edit"))]
+    if not crates:
+        print(f"no wrong bodies of {' '.join(named) or 'a crate that changed'}")
+        return 0
+    with tempfile.TemporaryDirectory(prefix="wrong-") as folder:
+        print(f"{laid_out(folder, crates)} wrong bodies of {' '.join(crates)}", flush=True)
+        is_well = tried(folder, crates)
+    print("all were refused" if is_well else "FAILED: a wrong body was proved or can't be tried, or a crate isn't proved")
+    return 0 if is_well else 1
+
+
+if __name__ == "__main__":
+    sys.exit(main())
