@@ -110,16 +110,16 @@ def play(terminal, program):
     terminal.type("rollback;")
     terminal.type("create table big (a int);")
     terminal.type("insert into big values (1);")
-    for _ in range(8):
+    for _ in range(10):
         terminal.type("insert into big select a from big;")
-    terminal.wait_for("ok, 128 rows")
+    terminal.wait_for("ok, 512 rows")
     terms = " or ".join(["x.a < y.a"] * 250)
     terminal.type(f"select count(*) from big x, big y where {terms};")
     time.sleep(0.3)
     terminal.keys("C-c")
     terminal.wait_for("interrupted: the session was ended", 60)
     terminal.type("select count(*) from big;")
-    terminal.wait_for("  256", 120)
+    terminal.wait_for(" 1024", 120)
     print("an interrupted statement, and a new session behind it")
 
     server.kill()
