@@ -39,14 +39,17 @@ class Closed(Exception):
 
 class Client:
     def __init__(self, port, tenant, session=0):
-        self.stream = socket.create_connection(("127.0.0.1", port), timeout=30)
-        self.stream.setsockopt(socket.IPPROTO_TCP, socket.TCP_NODELAY, 1)
+        try:
+            self.stream = socket.create_connection(("127.0.0.1", port), timeout=30)
+            self.stream.setsockopt(socket.IPPROTO_TCP, socket.TCP_NODELAY, 1)
+        except ConnectionResetError:  # it was taken, and closed before this side knew that it was
+            raise Closed from None
         self.file = self.stream.makefile("rb")
         self.told = self.say(b"%d %d" % (tenant, session))
 
     def line(self):
         line = self.file.readline()
-        if not line:
+        if not line.endswith(b"\n"):
             raise Closed
         return line
 
