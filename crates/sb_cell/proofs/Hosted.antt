@@ -9,7 +9,7 @@ use Rattle.sb_tenant.specs.State.{opening}
 use Rattle.sb_tenant.specs.Tenant.{Tenant}
 use Rattle.sb_tenant.specs.Trail.{state_of}
 use Rattle.sb_cell.specs.Hosting.{IsHosted}
-use Rattle.sb_cell.specs.Tenants.{Cell, hosts, states, tenant_at, trail_of}
+use Rattle.sb_cell.specs.Tenants.{Cell, IsTenantOf, hosts, states, tenant_at, trail_of}
 
 -- ---- places in a list
 
@@ -118,3 +118,10 @@ all_hosted c h place d inside =
       at.bound,
       by_place c (get_or c.tenants place d).id hosted ∙ ap (slice_get c.tenants) (ap (λ k. k / c.stride) at.id ∙ own_place c.first c.stride place h.first) ∙ slice_get-get_or c.tenants place d inside,
     )
+
+-- the one that is read is hosted under its own number
+pub hosted_at : (c : Cell) → IsHosted c → (t : ℕ) → hosts c t ≡ true → (w : Tenant) → slice_get c.tenants (t / c.stride) ≡ Some w → IsTenantOf c w
+hosted_at c h t hosted w is =
+    let at = h.tenants (t / c.stride) w is in
+    let same : w.id ≡ t = at.id ∙ number_of c.first c.stride t h.first (own_class c t hosted) in
+    (ap (hosts c) same ∙ hosted, at.bound, ap (tenant_at c) same ∙ by_place c t hosted ∙ is)

@@ -8,7 +8,7 @@ ghost use Rattle.sb_tenant.specs.State.{session_at, is_open as session_is_open, 
 ghost use Rattle.sb_cell.specs.Headline.{IsRun, RunsInTurn, RunsAlone};
 ghost use Rattle.sb_cell.specs.Hosting.{AreFresh, ArePlacesBelow, entry_count};
 ghost use Rattle.sb_cell.specs.Memory.{HoldsTransactions, HoldsRules, AreInStep};
-ghost use Rattle.sb_cell.specs.Tenants.{AnswersEvent, HasLegalTrails, HasTrail, IsNew, IsSame, IsTenantOf, hosts, states, run_of};
+ghost use Rattle.sb_cell.specs.Tenants.{AnswersEvent, HasLegalTrails, HasTrail, IsNew, IsSame, IsTenantOf, hosts, states, run_of, tenant_at};
 
 use crate::laws::{events_run_in_turn, turns_run_alone};
 use crate::{Answers, Event, StepError};
@@ -259,6 +259,18 @@ impl Cell {
     {
         if self.hosts(tenant) {
             Some(self.tenants[(tenant / self.stride) as usize].trail())
+        } else {
+            None
+        }
+    }
+
+    /// One of its tenants, to be read.
+    pub fn tenant(&self, tenant: u32) -> Option<&Tenant>
+        ensures found { option_copied result ≡ tenant_at self.now tenant }
+        ensures hosted { IfSome result (λ own. IsTenantOf self.now own.now) }
+    {
+        if self.hosts(tenant) {
+            Some(&self.tenants[(tenant / self.stride) as usize])
         } else {
             None
         }

@@ -1,9 +1,11 @@
 //! The cells of a host, each behind a lock of its own.
-ghost use Rattle.std.specs.Prelude.{◌≡◌, ◌<◌, false, IsSome, IfOk, IfErr, OnOk};
+ghost use Rattle.std.specs.Prelude.{◌≡◌, ◌<◌, false, IsFalse, IsSome, IsTrue, IfOk, IfErr, OnOk};
+ghost use Rattle.sb_tenant.specs.Tenant.{Tenant as ItsTenant};
 ghost use Rattle.sb_host.specs.Calls.{Attached, Called, IsRefused, IsNewcomer, Left, Refused};
 
 use crate::gate::Gate;
-use crate::locks::{Lock, Reach, admit_in, enter_in, leave_in};
+use crate::locks::{Lock, Reach, admit_in, enter_in, leave_in, read_in};
+use crate::reading::Reading;
 use crate::session::Session;
 use sb_desk::seats::Seats;
 use sb_desk::{AttachError, CallError, Naming, Receipts};
@@ -85,6 +87,32 @@ impl<N: Naming> Host<N> {
                 receipts,
             }),
             Err(e) => Err(e),
+        }
+    }
+
+    /// Lends a tenant to a reader, within the lock of its cell: whether there is one of that number.
+    pub fn read<R: Wait, V: Reading>(&self, rt: &R, tenant: u32, reading: &mut V) -> bool
+        ensures read { IsTrue result → (own : ItsTenant) × V.reads reading.old own reading.new }
+        ensures none { IsFalse result → reading.new ≡ reading.old }
+    {
+        match tenant % self.cells {
+            0 => read_in(rt, &self.d0, tenant, reading),
+            1 => read_in(rt, &self.d1, tenant, reading),
+            2 => read_in(rt, &self.d2, tenant, reading),
+            3 => read_in(rt, &self.d3, tenant, reading),
+            4 => read_in(rt, &self.d4, tenant, reading),
+            5 => read_in(rt, &self.d5, tenant, reading),
+            6 => read_in(rt, &self.d6, tenant, reading),
+            7 => read_in(rt, &self.d7, tenant, reading),
+            8 => read_in(rt, &self.d8, tenant, reading),
+            9 => read_in(rt, &self.d9, tenant, reading),
+            10 => read_in(rt, &self.d10, tenant, reading),
+            11 => read_in(rt, &self.d11, tenant, reading),
+            12 => read_in(rt, &self.d12, tenant, reading),
+            13 => read_in(rt, &self.d13, tenant, reading),
+            14 => read_in(rt, &self.d14, tenant, reading),
+            15 => read_in(rt, &self.d15, tenant, reading),
+            _ => unreachable!(),
         }
     }
 

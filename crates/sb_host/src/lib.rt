@@ -10,6 +10,7 @@ mod host;
 pub mod laws;
 mod locks;
 mod opening;
+mod reading;
 mod session;
 mod stub;
 
@@ -18,6 +19,7 @@ pub use finish::{FinishError, Report};
 pub use gate::{Gate, NoGate};
 pub use host::Host;
 pub use opening::Opened;
+pub use reading::Reading;
 pub use sb_desk::{AttachError, CallError, Naming, Receipt};
 pub use session::Session;
 pub use stub::Stub;

@@ -1,8 +1,10 @@
 //! The three calls of a desk, behind its lock.
-ghost use Rattle.std.specs.Prelude.{◌≡◌, ◌<◌, ◌%◌, false, IsSome, IfOk, IfErr, OnOk};
+ghost use Rattle.std.specs.Prelude.{◌≡◌, ◌<◌, ◌%◌, false, IsFalse, IsSome, IsTrue, IfOk, IfErr, OnOk};
+ghost use Rattle.sb_tenant.specs.Tenant.{Tenant as ItsTenant};
 ghost use Rattle.sb_host.specs.Calls.{Called, IsNewcomer, IsRefused, Left, Refused};
 
 use crate::gate::Gate;
+use crate::reading::Reading;
 use crossbeam_utils::CachePadded;
 use sb_desk::seats::SeatTable;
 use sb_desk::{AttachError, CallError, Desk, Naming, Receipts};
@@ -20,6 +22,26 @@ pub(crate) type Lock<N, const F: u32> = Option<CachePadded<Mutex<Desk<N, F>>>>;
 pub(crate) struct Reach<'h> {
     pub(crate) cells: u32,
     pub(crate) table: &'h SeatTable,
+}
+
+/// Lends a tenant of the cell to a reader.
+pub(crate) fn read_in<N: Naming, const F: u32, R: Wait, V: Reading>(
+    rt: &R,
+    lock: &Lock<N, F>,
+    tenant: u32,
+    reading: &mut V,
+) -> bool
+    requires there { IsSome lock.now }
+    ensures read { IsTrue result → (own : ItsTenant) × V.reads reading.old own reading.new }
+    ensures none { IsFalse result → reading.new ≡ reading.old }
+{
+    let Some(lock) = lock else { unreachable!() };
+    let desk = lock.lock(rt);
+    let Some(own) = desk.cell().tenant(tenant) else {
+        return false;
+    };
+    reading.read(own);
+    true
 }
 
 /// Makes the step of the line that is ready.

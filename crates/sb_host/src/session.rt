@@ -65,10 +65,7 @@ impl<'h, N: Naming> Session<'h, N> {
         ensures ok { OnOk result (AnswersOnce self.old line.now self.new) }
         ensures err { IfErr result (λ e. (self.new ≡ self.old) × (self.old.ended ≡ is_ended e)) }
     {
-        if self.receipts.ended() {
-            return Err(CallError::Ended);
-        }
-        if self.receipts.prepare(alloc, line).is_err() {
+        if !self.receipts.ended() && self.receipts.prepare(alloc, line).is_err() {
             return Err(CallError::NotBegun);
         }
         self.host.enter(rt, alloc, &mut self.receipts, gate)

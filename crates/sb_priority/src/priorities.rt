@@ -1,8 +1,9 @@
 //! The order of the rules of one tenant.
-ghost use Rattle.std.specs.Prelude.{◌≡◌, ℕ, ◌<◌, not, ◌&&◌, ◌==◌, nat_lt, true, false, Some, slice_get, if◌then◌else◌, MatchOption, List, [], ◌∷◌, ◌++◌, filter, length, OnOk, OnErr};
+ghost use Rattle.std.specs.Prelude.{◌≡◌, ℕ, ◌<◌, ◌≤◌, not, ◌&&◌, ◌==◌, nat_lt, true, false, Some, slice_get, if◌then◌else◌, MatchOption, List, [], ◌∷◌, ◌++◌, filter, length, OnOk, OnErr};
 ghost use Rattle.sb_value.specs.Flags.{flag_at};
 ghost use Rattle.sb_value.specs.Limits.{rule_limit};
 ghost use Rattle.sb_value.specs.Order.{precedes, chosen};
+ghost use Rattle.sb_priority.specs.Closed.{relates};
 ghost use Rattle.sb_priority.specs.Ranks.{HasOrder, HasRow, AreRanked, is_ranked, pairs_of, pairs_altered as altered};
 ghost use Rattle.sb_priority.specs.Ranks.{Alters, AltersToCycle, Gains, Loses, ClosesCycle, DecidesCycle, DecidesFree, IsEarlier, ranked};
 
@@ -140,6 +141,14 @@ impl Priorities {
         ensures { (pairs : List (ℕ × ℕ)) → HasOrder self.now pairs → result ≡ precedes pairs first second }
     {
         self.rows.predecessors(second).contains(first)
+    }
+
+    /// The rules that a pair puts before the rule.
+    pub fn direct(&self, rule: RuleId) -> RuleSet
+        ensures rules { (a : ℕ) → flag_at result a ≡ relates self.now.before a rule }
+        ensures few { length self.now.before ≤ rule_limit }
+    {
+        self.rows.direct(rule)
     }
 
     /// The earliest created rule of the set that no other rule of the set precedes.

@@ -72,6 +72,14 @@ impl Rows {
         before_in(self.rows.as_slice(), rule)
     }
 
+    /// The rules that a pair puts before the rule.
+    pub fn direct(&self, rule: RuleId) -> RuleSet
+        ensures rules { (a : ℕ) → flag_at result a ≡ relates self.now a rule }
+        ensures few { length self.now ≤ rule_limit }
+    {
+        direct_in(self.rows.as_slice(), rule)
+    }
+
     /// Takes other pairs over. Each rule that another one precedes has its row.
     pub fn store(&mut self, pairs: &Pairs)
         requires { (a b : ℕ) → relates pairs.now a b ≡ true → b < length self.old }
@@ -106,6 +114,16 @@ fn before_in(rows: &[Row], rule: RuleId) -> RuleSet
 {
     match rows.get(rule.index()) {
         Some(row) => row.before,
+        None => RuleSet::empty(),
+    }
+}
+
+/// What a pair puts before the rule.
+fn direct_in(rows: &[Row], rule: RuleId) -> RuleSet
+    ensures { (a : ℕ) → flag_at result a ≡ relates (direct_of rows.now) a rule }
+{
+    match rows.get(rule.index()) {
+        Some(row) => row.direct,
         None => RuleSet::empty(),
     }
 }

@@ -1,5 +1,6 @@
 //! All rulesets of a tenant.
-ghost use Rattle.std.specs.Prelude.{◌≡◌, [], IsTrue, IsFalse, map, unwrap_or, slice_set, false, OnOk, IfErr, OnErr};
+ghost use Rattle.std.specs.Map.Iter.{deref_pair};
+ghost use Rattle.std.specs.Prelude.{◌≡◌, [], length, option_map, slice_get, IsTrue, IsFalse, map, unwrap_or, slice_set, false, OnOk, IfErr, OnErr};
 ghost use Rattle.sb_rulesets.specs.Members.{with_rules, without_rules};
 ghost use Rattle.sb_rulesets.specs.Sets.{has_name, create_refusal, created, without_set, changed, without_rule, members_of};
 ghost use Rattle.sb_rulesets.specs.Distinct.{AreDistinct};
@@ -118,6 +119,20 @@ impl Rulesets {
         ensures distinct { AreDistinct self.now }
     {
         self.sets.get(name).copied()
+    }
+
+    /// How many rulesets there are.
+    pub fn len(&self) -> usize
+        ensures { result ≡ length self.now }
+    {
+        self.sets.len()
+    }
+
+    /// The name and the rules of the ruleset at that place in the order of creation.
+    pub fn at(&self, place: usize) -> Option<(&Name, &RuleSet)>
+        ensures { option_map deref_pair result ≡ option_map (λ s. (s.name, s.rules)) (slice_get self.now place) }
+    {
+        self.sets.get_index(place)
     }
 
     /// Whether there is a ruleset of that name.

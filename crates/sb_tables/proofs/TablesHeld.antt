@@ -3,7 +3,7 @@ use Rattle.std.proofs.Common.{◌≡◌, ◌∙◌, ℕ, zero, suc, Bool, true, 
 use Rattle.std.specs.List.{list_any}
 use Rattle.sb_tables.specs.Stored.{Stored}
 use Rattle.std.specs.Map.{lookup}
-use Rattle.std.proofs.lemmas.Option.{none-some, same_Some}
+use Rattle.std.proofs.lemmas.Option.{none-some, same_Some, slice_get-map}
 use Rattle.std.specs.Cmp.{eq_by_cmp_equiv}
 use Rattle.std.specs.Cmp.Lexicographic.{nat_list_cmp_total}
 use Rattle.std.proofs.Math.Bool.{or-true}
@@ -292,3 +292,19 @@ pub name_from : (slots : Slotted) (es : Named) (id i : ℕ) (e : List ℕ × ℕ
 name_from slots [] id i e h = absurd (none-some e h)
 name_from slots (d ∷ es) id zero e h = one_more slots d es id (nat_eq d.1 id) ∙ ap (λ (x : List ℕ × ℕ). cond (nat_eq x.1 id) (Some x.0) (name_of slots es id)) (same_Some d e h)
 name_from slots (d ∷ es) id (suc i) e h = name_from slots es id i e h
+
+-- ---- by place
+
+has_placed : (es : Named) (k : ℕ) (e : List ℕ × ℕ) → slice_get es k ≡ Some e → has es e.1 ≡ true
+has_placed [] k e h = absurd (none-some e h)
+has_placed (d ∷ es) zero e h = ap (λ (b : Bool). b || has es e.1) (eq-eqb d.1 e.1 (ap (λ (p : List ℕ × ℕ). p.1) (same_Some d e h)))
+has_placed (d ∷ es) (suc k) e h = ap (λ (b : Bool). nat_eq d.1 e.1 || b) (has_placed es k e h) ∙ or-true (nat_eq d.1 e.1)
+
+pub placed : (slots : Slotted) (es : Named) (k : ℕ) (e : List ℕ × ℕ) → AreFilled es slots → slice_get es k ≡ Some e
+    → slot_at slots e.1 ≡ option_map (λ (h : Held). h.stored) (slice_get (map (held_in slots) es) k)
+placed slots es k e filled h =
+    sym (some_there (slot_at slots e.1) (no_rows []) (filled e.1 ∙ has_placed es k e h))
+    ∙ sym (ap (option_map (λ (h : Held). h.stored)) (slice_get-map (held_in slots) es k ∙ ap (option_map (held_in slots)) h))
+
+pub none_placed : (slots : Slotted) (es : Named) (k : ℕ) → slice_get es k ≡ None → None ≡ option_map (λ (h : Held). h.stored) (slice_get (map (held_in slots) es) k)
+none_placed slots es k h = sym (ap (option_map (λ (h : Held). h.stored)) (slice_get-map (held_in slots) es k ∙ ap (option_map (held_in slots)) h))

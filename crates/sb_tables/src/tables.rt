@@ -1,5 +1,6 @@
 //! All tables of a tenant.
-ghost use Rattle.std.specs.Prelude.{◌≡◌, ◌≢◌, ◌+◌, ◌^◌, ◌-◌, ◌<◌, ◌≤◌, ◌↔◌, ℕ, [], length, Contains, IsTrue, IsFalse, IsSome, IsOk, IsErr, IfOk, OnOk, OnErr, option_map, Some};
+ghost use Rattle.std.specs.Map.Iter.{deref_pair};
+ghost use Rattle.std.specs.Prelude.{◌≡◌, ◌≢◌, ◌+◌, ◌^◌, ◌-◌, ◌<◌, ◌≤◌, ◌↔◌, ℕ, [], slice_get, length, Contains, IsTrue, IsFalse, IsSome, IsOk, IsErr, IfOk, OnOk, OnErr, option_map, Some};
 ghost use Rattle.std.specs.Borrow.{Lends, sem};
 ghost use Rattle.std.specs.Option.{option_copied};
 ghost use Rattle.sb_tables.specs.contracts.table.Table as table;
@@ -88,6 +89,23 @@ impl Tables {
     {
         match self.numbers.get(name) {
             Some(id) => self.slots.get(*id),
+            None => None,
+        }
+    }
+
+    /// The name and the number of the table at that place in the order of creation.
+    pub fn at(&self, place: usize) -> Option<(&Name, &TableId)>
+        ensures { option_map deref_pair result ≡ option_map (λ h. (h.name, h.id)) (slice_get self.now place) }
+    {
+        self.numbers.get_index(place)
+    }
+
+    /// The table at that place.
+    pub fn table_at(&self, place: usize) -> Option<&Table>
+        ensures { option_copied result ≡ option_map (λ h. h.stored) (slice_get self.now place) }
+    {
+        match self.numbers.get_index(place) {
+            Some((_, id)) => self.slots.get(*id),
             None => None,
         }
     }

@@ -10,7 +10,7 @@ use Rattle.sb_tables.specs.Undo.{stored_after}
 use Rattle.sb_process.specs.Made.{tables_after, tables_after_all, without_room}
 use Rattle.sb_tenant.specs.declared.store.Store.{Store}
 use Rattle.sb_tenant.specs.Represents.{Holds, all_changes}
-use Rattle.sb_tenant.specs.State.{State, table_seen}
+use Rattle.sb_tenant.specs.State.{State, table_seen, tables_seen}
 
 -- ---- tables with changes made are seen with them
 
@@ -42,15 +42,19 @@ find-entry (h ∷ ts) name = by (find-entry ts name) (same_name h.name name)
     by rest true = refl
     by rest false = rest
 
+-- the tables in memory are those that are seen
+pub entries_seen : (origin : List Held) (store : Store) (state : State) → Holds origin store state → entries store.database.tables ≡ tables_seen state
+entries_seen origin store state h =
+    sym (ap (after_all (all_changes state)) (sym h.committed) ∙ sym (entries-after_all (all_changes state) origin) ∙ sym (entries-room (tables_after_all (all_changes state) origin)) ∙ ap entries (sym h.made.made)
+    ∙ entries-room store.database.tables)
+
 module _ (origin : List Held) (store : Store) (state : State) (h : Holds origin store state) (name : List ℕ) where
   abbrev tables : List Held
   tables = store.database.tables
 
   seen_so : table_seen state name ≡ option_map (λ g. g.stored.table) (named tables name)
   seen_so =
-      ap (λ (es : List Entry). option_map (λ e. e.table) (find (λ e. same_name e.name name) es))
-      (ap (after_all (all_changes state)) (sym h.committed) ∙ sym (entries-after_all (all_changes state) origin) ∙ sym (entries-room (tables_after_all (all_changes state) origin)) ∙ ap entries (sym h.made.made)
-      ∙ entries-room tables)
+      ap (λ (es : List Entry). option_map (λ e. e.table) (find (λ e. same_name e.name name) es)) (sym (entries_seen origin store state h))
       ∙ find-entry tables name
 
   mapped : (o : Option Held) → option_map (λ (s : Stored). s.table) (option_map (λ (g : Held). g.stored) o) ≡ option_map (λ (g : Held). g.stored.table) o

@@ -5,7 +5,9 @@ ghost use Rattle.sb_rawlog.specs.Records.{Record};
 ghost use Rattle.sb_syntax.specs.Text.{text_limit};
 ghost use Rattle.sb_tenant.specs.declared.reply.Reply.TheVariants as told;
 ghost use Rattle.sb_tenant.specs.Limits.{entry_limit, is_session, trail_limit};
-ghost use Rattle.sb_tenant.specs.State.{session_at, is_open as session_is_open, table_seen};
+ghost use Rattle.sb_catalog.specs.Definitions.{AreOrdered};
+ghost use Rattle.sb_tables.specs.Held.{entries};
+ghost use Rattle.sb_tenant.specs.State.{session_at, is_open as session_is_open, has_transaction as session_has_transaction, table_seen, tables_seen};
 ghost use Rattle.sb_tenant.specs.Step.{is_full_for, is_end_of_open};
 ghost use Rattle.sb_tenant.specs.Tenant.{state, IsLegal, IsNew, AnswersLine, MakesStep, LeavesLine};
 ghost use Rattle.sb_tenant.specs.Lending.{InStep, HoldNothing, StaysInStep, rise_of};
@@ -18,10 +20,11 @@ use crate::places::reserve_here;
 use crate::quota::Quota;
 use crate::reply::{Answer, Entry, Line, Reply};
 use crate::store::Store;
+use sb_catalog::Definitions;
 use sb_index::RuleIndex;
 use sb_rawlog::ChangeLog;
 use sb_syntax::TEXT_LIMIT;
-use sb_tables::Table;
+use sb_tables::{Table, Tables};
 use sb_value::{Name, Refusal, SESSION_LIMIT, SessionId, TenantId};
 use std::alloc::Global;
 use std::marker::Model;
@@ -145,6 +148,34 @@ impl Tenant {
         ensures { option_map (λ t. t.table) (option_copied result) ≡ table_seen (state self.now) name.now }
     {
         self.store.database.tables.by_name(name)
+    }
+
+    /// Whether the session has a transaction.
+    pub fn has_transaction(&self, session: SessionId) -> bool
+        ensures { result ≡ session_has_transaction (session_at (state self.now) session) }
+    {
+        in_range(session);
+        match self.store.phases.get(session) {
+            Phase::Closed => false,
+            Phase::Idle => false,
+            Phase::Active => true,
+        }
+    }
+
+    /// All tables, with the changes of all sessions.
+    pub fn tables(&self) -> &Tables
+        ensures { entries result.now ≡ tables_seen (state self.now) }
+    {
+        &self.store.database.tables
+    }
+
+    /// The rules with their order, and the rulesets.
+    pub fn definitions(&self) -> &Definitions
+        ensures rules { result.now.rules ≡ (state self.now).catalog.rules }
+        ensures order { AreOrdered result.now.order (state self.now).catalog.rules (state self.now).catalog.pairs }
+        ensures rulesets { result.now.rulesets ≡ (state self.now).catalog.rulesets }
+    {
+        &self.store.definitions
     }
 
     /// Makes a step of the line, or is refused by the full trail. Where memory runs out before the step has begun, or all

@@ -1,4 +1,4 @@
-use Rattle.std.proofs.Common.{◌≡◌, ◌∙◌, ap, sym, true, not, ◌&&◌, ℕ, Option, codes}
+use Rattle.std.proofs.Common.{◌∙◌, ap, sym, not, ◌&&◌, ℕ, Option, codes}
 use Rattle.std.proofs.lemmas.Bool.{le-leb}
 use Rattle.sb_value.specs.Name.{same_name}
 use Rattle.sb_tenant.specs.Quota.{is_used_up}

@@ -1,0 +1,12 @@
+mod Numbered
+mod Walks
+mod Seeing
+mod AtRest
+mod Pairs
+mod Nets
+mod Processing
+mod Commands
+mod States
+mod Defining
+mod Performing
+mod Answering

@@ -1,0 +1,58 @@
+-- Promise: tenants that are alike at any time: but for the numbers of their tuples their states are the same.
+use Rattle.std.specs.Prelude.{◌≡◌, ℕ, ◌+◌, ◌<◌, false, List, map, IsTrue, All}
+use Rattle.sb_value.specs.declared.change.Change.{Change}
+use Rattle.sb_value.specs.declared.lock.Mode.{Mode}
+use Rattle.sb_value.specs.Table.{Table, Entry, has_table}
+use Rattle.sb_tenant.specs.Alike.{HaveSamePairs}
+use Rattle.sb_tenant.specs.Limits.{is_session}
+use Rattle.sb_tenant.specs.State.{State, Session, closed, idle, active, session_at}
+
+-- for each table and each of its tuples another number
+abbrev pub Numbering : Type 0
+Numbering = ℕ → ℕ → ℕ
+
+abbrev pub renumbered_table : (ℕ → ℕ) → Table → Table
+renumbered_table number table =
+    record table { rows = map (λ r. (number r.0, r.1)) table.rows; next = number table.next }
+
+abbrev pub renumbered_entry : Numbering → Entry → Entry
+renumbered_entry numbering e = record e { table = renumbered_table (numbering e.id) e.table }
+
+-- a change, made by the tenant of that number
+abbrev pub renumbered_change : ℕ → Numbering → Change → Change
+renumbered_change tenant numbering c = record c { tenant = tenant; tuple = numbering c.table c.tuple }
+
+-- the numbering keeps the order, new tuples of a table are numbered one after another, and a table that isn't there has
+-- its numbers as they are
+pub record IsNumbering (numbering : Numbering) (tables : List Entry) : Type 0 where
+  pub rising : (table a b : ℕ) → a < b → numbering table a < numbering table b
+  pub steady : All (λ e. (k : ℕ) → numbering e.id (e.table.next + k) ≡ numbering e.id e.table.next + k) tables
+  pub elsewhere : (table k : ℕ) → has_table tables table ≡ false → numbering table k ≡ k
+
+-- the sessions are as far, with the same changes but for the numbers
+abbrev pub IsRenumberedSession : ℕ → Numbering → Session → Session → Type 0
+IsRenumberedSession tenant numbering closed other = other ≡ closed
+IsRenumberedSession tenant numbering idle other = other ≡ idle
+IsRenumberedSession tenant numbering (active changes marks) closed = ⊥
+IsRenumberedSession tenant numbering (active changes marks) idle = ⊥
+IsRenumberedSession tenant numbering (active changes marks) (active renumbered same) =
+    (renumbered ≡ map (renumbered_change tenant numbering) changes) × ((rule : ℕ) → same rule ≡ marks rule)
+
+-- the state is the other one with its tuples numbered so, of the tenant of that number
+pub record IsRenumbered (tenant : ℕ) (numbering : Numbering) (one other : State) : Type 0 where
+  pub numbering_is : IsNumbering numbering one.catalog.tables
+  pub tables : other.catalog.tables ≡ map (renumbered_entry numbering) one.catalog.tables
+  pub rules : other.catalog.rules ≡ one.catalog.rules
+  pub rulesets : other.catalog.rulesets ≡ one.catalog.rulesets
+  pub pairs : HaveSamePairs other.catalog.pairs one.catalog.pairs
+  pub locks : (s table : ℕ) (mode : Mode) → other.locks s table mode ≡ one.locks s table mode
+  pub sessions :
+      (s : ℕ) → IsTrue (is_session s) → IsRenumberedSession tenant numbering (session_at one s) (session_at other s)
+
+-- the states of two tenants are alike: both are one state, each with numbers of its own
+pub record AreAlike (first second : ℕ) (one other : State) : Type 0 where
+  pub state : State
+  pub first_numbering : Numbering
+  pub second_numbering : Numbering
+  pub first_is : IsRenumbered first first_numbering state one
+  pub second_is : IsRenumbered second second_numbering state other
