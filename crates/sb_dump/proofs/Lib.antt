@@ -1,0 +1,4 @@
+pub mod Places
+pub mod Playing
+pub mod Resting
+pub mod Values

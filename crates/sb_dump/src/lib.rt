@@ -1,0 +1,21 @@
+//! A tenant as a script: lines that make an alike tenant of a fresh one, played before they are given.
+#![tactic(auto)]
+
+mod alike;
+mod draft;
+mod dumps;
+mod order;
+mod origins;
+mod parts;
+mod play;
+mod rows;
+mod rules;
+mod same_definitions;
+mod same_tables;
+mod script;
+mod stand_ins;
+mod tables;
+mod trees;
+
+pub use dumps::{DumpError, dump};
+pub use script::Script;
