@@ -60,7 +60,8 @@ def start(program, port):
 
 def tour():
     """The sessions of the tour: their commands without numbers, and the rows that they end with."""
-    blocks = re.findall(r"```\n(.*?)```", (TOP / "docs/TOUR.md").read_text(), re.DOTALL)
+    sessions = (TOP / "docs/TOUR.md").read_text().split("## A tenant moves")[0]
+    blocks = re.findall(r"```\n(.*?)```", sessions, re.DOTALL)
     for commands, replies in zip(blocks[::2], blocks[1::2]):
         lines = [line.split(" ", 2)[2] for line in commands.splitlines()]
         rows = [line.split(" ", 2)[2] for line in replies.splitlines()]

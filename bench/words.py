@@ -10,6 +10,7 @@ with status 1.
 import dataclasses
 import os
 import re
+import select
 import signal
 import subprocess
 import sys
@@ -19,10 +20,11 @@ HERE = os.path.dirname(os.path.abspath(__file__))
 
 # What stands behind each reason why words are refused.
 ALLOWED = (
-    b"; allowed are: run, serve, replay, parse; of all but parse --tenants 1 to 256, --bound 1 to 1000; of serve and "
-    b"replay --cells 1 to 16, --workers 1 to 16; of serve --port 0 to 65535, --connections 0 to 1000000, --idle 0 to "
+    b"; allowed are: run, serve, replay, parse, dump; of all but parse --tenants 1 to 256, --bound 1 to 1000; of dump "
+    b"--tenant 0 to 255; of serve and replay --cells 1 to 16, --workers 1 to 16; of serve --port 0 to 65535, "
+    b"--connections 0 to 1000000, --idle 0 to "
     b"86400, --idle-transaction 0 to 86400, --first-tenant 0 to 999999000, --tenant-memory 0 to 1048576, --log error, "
-    b"warning or info, --until-input-ends; --help, --version\n"
+    b"warning or info, --until-input-ends, --load a folder, --dump-to a folder; --help, --version\n"
 )
 
 # A number past its range, and the words in front of it.
@@ -45,6 +47,9 @@ PAST = [
     ("--log warn", "serve"),
     ("--tenants 4294967297", "run"),
     ("--tenants 01x", "run"),
+    ("--tenant 256", "dump"),
+    ("--tenant x", "dump"),
+    ("--tenants 0", "dump"),
 ]
 
 # An option of another command.
@@ -63,6 +68,24 @@ ELSEWHERE = [
     ("--tenants 2", "parse"),
     ("--cells 2", "parse"),
     ("--log info", "parse"),
+    ("--tenant 0", "run"),
+    ("--tenant 0", ""),
+    ("--tenant 0", "serve"),
+    ("--tenant 0", "replay"),
+    ("--tenant 0", "parse"),
+    ("--load x", "run"),
+    ("--load x", ""),
+    ("--load x", "replay"),
+    ("--load x", "parse"),
+    ("--load x", "dump"),
+    ("--dump-to x", "run"),
+    ("--dump-to x", "replay"),
+    ("--dump-to x", "parse"),
+    ("--dump-to x", "dump"),
+    ("--tenant 0", "serve --load x"),
+    ("--cells 2", "dump"),
+    ("--port 1", "dump"),
+    ("--log info", "dump"),
 ]
 
 # Words that clap refuses, with its reason.
@@ -206,6 +229,16 @@ def terminals_have_summaries(program):
     program.expect("no terminal", program.run("run", LINES), Ended(0, REPLIES, b""))
 
 
+def replies_come_at_once(program):
+    """A reply is flushed before the next line is read."""
+    with subprocess.Popen([program.path, "run"], stdin=subprocess.PIPE, stdout=subprocess.PIPE, bufsize=0) as run:
+        for line, reply in [(b"0 0 open\n", b"0 0 ok\n"), (b"0 0 selec\n", b"0 0 no 10 Syntax\n"), (b"0 0 begin\n", b"0 0 ok\n")]:
+            run.stdin.write(line)
+            is_there = select.select([run.stdout], [], [], 60)[0]
+            program.expect(f"the reply to {line}", run.stdout.read(100) if is_there else b"", reply)
+        run.stdin.close()
+
+
 def lines_are_parsed(program):
     text = b"".join(line + b"\n" for line, _ in PARSED)
     told = b"".join(told + b"\n" for _, told in PARSED)
@@ -218,7 +251,16 @@ def replays_are_alike(program):
         program.expect(words, program.run(words, SCRIPT), Ended(0, REPLAYED, b""))
 
 
-PARTS = [are_refused, are_taken, are_answered, faults_are_told, terminals_have_summaries, replays_are_alike, lines_are_parsed]
+PARTS = [
+    are_refused,
+    are_taken,
+    are_answered,
+    faults_are_told,
+    terminals_have_summaries,
+    replies_come_at_once,
+    replays_are_alike,
+    lines_are_parsed,
+]
 
 
 def main():

@@ -2,18 +2,19 @@
 use Rattle.std.proofs.Common.{◌≡◌, ℕ, List, [], ◌∷◌, ◌++◌, Option, Some, None, inl, inr, subst}
 use Rattle.std.specs.Prelude.{⊤}
 use Rattle.clap.specs.Words.{Text}
-use Rattle.sb_command.specs.Asking.{AsksBy, HasNumber, HasSeverity, HostsBy, IsParse, IsReplay, IsRun, IsServe, LacksHost, LacksServer, RunsBy, ServesBy}
+use Rattle.sb_command.specs.Asking.{AsksBy, HasNumber, HasSeverity, HostsBy, IsDump, IsParse, IsReplay, IsRun, IsServe, LacksFiles, LacksHost, LacksSaving, LacksServer, RunsBy, ServesBy}
 use Rattle.sb_command.specs.Texts.{Texts}
-use Rattle.sb_command.specs.Unfit.{IsFirstOf, IsFirstUnfit, IsForeignToHost, IsForeignToServer, IsUnfit, IsUnfitOption, LacksNumber, LacksSeverity, host_parts, parts, run_parts, server_parts}
+use Rattle.sb_command.specs.Unfit.{IsFirstOf, IsFirstUnfit, IsForeignToDump, IsForeignToHost, IsForeignToServer, IsUnfit, IsUnfitOption, LacksNumber, LacksSeverity, file_parts, host_parts, options, parts, run_parts, saving_parts, server_parts}
 use Rattle.sb_command.specs.declared.request.Hosting.{Hosting}
 use Rattle.sb_command.specs.declared.request.Request.{Request}
-use Rattle.sb_command.specs.declared.request.Request.TheVariants.{Run as run_request, Serve, Replay, Parse}
+use Rattle.sb_command.specs.declared.request.Request.TheVariants.{Run as run_request, Serve, Replay, Parse, Dump, Keep}
 use Rattle.sb_command.specs.declared.request.Run.{Run}
 use Rattle.sb_command.specs.declared.request.Serving.{Serving}
 use Rattle.sb_command.specs.declared.severity.Severity.{Severity}
 use Rattle.sb_command.specs.declared.unfit.Part.{Part}
+use Rattle.sb_command.specs.declared.unfit.Part.TheVariants.{Tenant}
 use Rattle.sb_command.specs.declared.unfit.Unfit.{Unfit}
-use Rattle.sb_command.proofs.Once.{parse_or_replay, parse_or_serve, run_or_parse, run_or_replay, run_or_serve, serve_or_replay}
+use Rattle.sb_command.proofs.Once.{dump_or_parse, dump_or_replay, dump_or_serve, parse_or_replay, parse_or_serve, run_or_dump, run_or_parse, run_or_replay, run_or_serve, serve_or_replay}
 
 -- a number that is there isn't lacking
 pub has_number : (least most usual : ℕ) (text : Option Text) (n : ℕ) → HasNumber least most usual text n → LacksNumber least most text → ⊥
@@ -53,6 +54,33 @@ replay_no_server t replay serve = serve_or_replay t.command serve replay
 pub parse_no_host : (t : Texts) → IsParse t → IsForeignToHost t
 parse_no_host t parse = (λ serve. parse_or_serve t.command parse serve, λ replay. parse_or_replay t.command parse replay)
 
+pub dump_no_parse : (t : Texts) → IsDump t → IsParse t → ⊥
+dump_no_parse t dump parse = dump_or_parse t.command dump parse
+
+pub dump_no_server : (t : Texts) → IsDump t → IsForeignToServer t
+dump_no_server t dump serve = dump_or_serve t.command dump serve
+
+pub run_no_server : (t : Texts) → IsRun t → IsForeignToServer t
+run_no_server t run serve = run_or_serve t.command run serve
+
+pub parse_no_server : (t : Texts) → IsParse t → IsForeignToServer t
+parse_no_server t parse serve = parse_or_serve t.command parse serve
+
+pub dump_no_host : (t : Texts) → IsDump t → IsForeignToHost t
+dump_no_host t dump = (λ serve. dump_or_serve t.command dump serve, λ replay. dump_or_replay t.command dump replay)
+
+pub run_no_dump : (t : Texts) → IsRun t → IsForeignToDump t
+run_no_dump t run dump = run_or_dump t.command run dump
+
+pub serve_no_dump : (t : Texts) → IsServe t → IsForeignToDump t
+serve_no_dump t serve dump = dump_or_serve t.command dump serve
+
+pub replay_no_dump : (t : Texts) → IsReplay t → IsForeignToDump t
+replay_no_dump t replay dump = dump_or_replay t.command dump replay
+
+pub parse_no_dump : (t : Texts) → IsParse t → IsForeignToDump t
+parse_no_dump t parse dump = dump_or_parse t.command dump parse
+
 -- none of these parts is at fault
 abbrev NoneOf : Texts → List Part → Type 0
 NoneOf t [] = ⊤
@@ -90,6 +118,18 @@ ungiven : (F : Type 0) (least most : ℕ) (text : Option Text) → text ≡ None
 ungiven F least most text e (inl (foreign, given)) = given e
 ungiven F least most text e (inr lacks) = subst (LacksNumber least most) e lacks
 
+pub tenant_ungiven : (t : Texts) → t.tenant ≡ None → IsUnfit t Tenant → ⊥
+tenant_ungiven t lacks = ungiven (IsForeignToDump t) 0 255 t.tenant lacks
+
+pub files_ungiven : (t : Texts) → LacksFiles t → NoneOf t file_parts
+files_ungiven t lacks = (λ x. x.1 lacks.0, (λ x. x.1 lacks.1, tt))
+
+pub saving_ungiven : (t : Texts) → LacksSaving t → NoneOf t saving_parts
+saving_ungiven t lacks = (tenant_ungiven t lacks.0, files_ungiven t lacks.1)
+
+pub serve_files : (t : Texts) → IsServe t → NoneOf t file_parts
+serve_files t serve = (λ x. x.0 serve, (λ x. x.0 serve, tt))
+
 ungiven_log : (F : Type 0) (text : Option Text) → text ≡ None → IsUnfitOption F text (LacksSeverity text) → ⊥
 ungiven_log F text e (inl (foreign, given)) = given e
 ungiven_log F text e (inr lacks) = subst LacksSeverity e lacks
@@ -109,17 +149,28 @@ server_fits : (t : Texts) (s : Serving) → IsServe t → ServesBy t s → NoneO
 server_fits t s serve has = let F = IsForeignToServer t in let own : F → ⊥ = λ not. not serve in
     (fits_number F 0 65535 0 t.port s.port own has.1, (fits_number F 0 1000000 0 t.connections s.connections own has.2, (fits_number F 0 86400 0 t.idle s.idle own has.3, (fits_number F 0 86400 0 t.idle_transaction s.idle_transaction own has.4, (fits_number F 0 999999000 0 t.first_tenant s.first_tenant own has.5, (fits_number F 0 1048576 0 t.tenant_memory s.tenant_memory own has.6, (fits F t.log (LacksSeverity t.log) own (has_severity t.log s.log has.7), (λ x. x.0 serve, tt))))))))
 
+serving_fits : (t : Texts) (s : Serving) → IsServe t → ServesBy t s → NoneOf t options
+serving_fits t s serve has = both_none t (run_parts ++ host_parts) server_parts (host_fits t s.hosting (serve_no_parse t serve) (serve_has_host t serve) has.0) (server_fits t s serve has)
+
 all_fit : (t : Texts) (a : Request) → AsksBy t a → NoneOf t parts
-all_fit t (run_request r) x = (λ y. y.0 x.0, both_none t run_parts (host_parts ++ server_parts) (run_fits t r (run_no_parse t x.0) x.2) (host_ungiven t x.1))
-all_fit t (Serve s) x = (
-  λ y. y.1 x.0,
-  both_none t (run_parts ++ host_parts) server_parts (host_fits t s.hosting (serve_no_parse t x.0) (serve_has_host t x.0) x.1.0) (server_fits t s x.0 x.1),
-)
+all_fit t (run_request r) x =
+    (λ y. y.0 x.0, both_none t saving_parts options (saving_ungiven t x.3) (both_none t run_parts (host_parts ++ server_parts) (run_fits t r (run_no_parse t x.0) x.2) (host_ungiven t x.1)))
+all_fit t (Serve s) x = (λ y. y.1 x.0, both_none t saving_parts options (saving_ungiven t x.2) (serving_fits t s x.0 x.1))
 all_fit t (Replay h) x = (
   λ y. y.2 x.0,
-  both_none t (run_parts ++ host_parts) server_parts (host_fits t h (replay_no_parse t x.0) (replay_has_host t x.0) x.2) (server_ungiven t x.1),
+  both_none t saving_parts options (saving_ungiven t x.3)
+      (both_none t (run_parts ++ host_parts) server_parts (host_fits t h (replay_no_parse t x.0) (replay_has_host t x.0) x.2) (server_ungiven t x.1)),
 )
-all_fit t Parse x = let F = IsParse t in (λ y. y.3 x.0, (ungiven F 1 256 t.tenants x.1.0, (ungiven F 1 1000 t.bound x.1.1, host_ungiven t x.1.2)))
+all_fit t Parse x = let F = IsParse t in
+    (λ y. y.3 x.0, both_none t saving_parts options (saving_ungiven t x.2) (ungiven F 1 256 t.tenants x.1.0, (ungiven F 1 1000 t.bound x.1.1, host_ungiven t x.1.2)))
+all_fit t (Dump d) x = (
+  λ y. y.4 x.0,
+  (
+    fits_number (IsForeignToDump t) 0 255 0 t.tenant d.tenant (λ foreign. foreign x.0) x.2.1,
+    both_none t file_parts options (files_ungiven t x.3) (both_none t run_parts (host_parts ++ server_parts) (run_fits t d.run (dump_no_parse t x.0) x.2.0) (host_ungiven t x.1)),
+  ),
+)
+all_fit t (Keep s) x = (λ y. y.1 x.0, (tenant_ungiven t x.2, both_none t file_parts options (serve_files t x.0) (serving_fits t s x.0 x.1)))
 
 pub asks_fit : (t : Texts) (a : Request) → AsksBy t a → (u : Unfit) → IsFirstUnfit t u → ⊥
 asks_fit t a asks u unfit = none_first t u parts (all_fit t a asks) unfit

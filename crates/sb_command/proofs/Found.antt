@@ -19,9 +19,9 @@ use Rattle.sb_command.specs.Texts.{Texts, text_of}
 use Rattle.sb_command.specs.Words.{starhost}
 
 -- by their parts
-abbrev texts : Option Text → Option Text → Option Text → Option Text → Option Text → Option Text → Option Text → Option Text → Option Text → Option Text → Option Text → Option Text → Option Text
-    → Texts
-texts c t b n w p m i j f k l u = record {
+abbrev texts : Option Text → Option Text → Option Text → Option Text → Option Text → Option Text → Option Text → Option Text → Option Text → Option Text → Option Text → Option Text → Option Text → Option Text → Option Text
+    → Option Text → Texts
+texts c t b n w p m i j f k l u x y z = record {
   command = c;
   tenants = t;
   bound = b;
@@ -35,6 +35,9 @@ texts c t b n w p m i j f k l u = record {
   tenant_memory = k;
   log = l;
   until_input_ends = u;
+  tenant = x;
+  load = y;
+  dump_to = z;
 }
 
 first_in_rows : (f : Found) (id : Text) → first_value f id ≡ first_of id (rows_of f)
@@ -70,6 +73,7 @@ text_in a words m id o e has h =
     h ∙ first_in_rows (found_of m) id ∙ ap (first_of id) rows
 
 -- texts are those of the same parts
-pub same_texts : {c c' t t' b b' n n' w w' p p' m m' i i' j j' f f' k k' l l' u u' : Option Text} → c ≡ c' → t ≡ t' → b ≡ b' → n ≡ n' → w ≡ w' → p ≡ p' → m ≡ m' → i ≡ i' → j ≡ j'
-    → f ≡ f' → k ≡ k' → l ≡ l' → u ≡ u' → texts c t b n w p m i j f k l u ≡ texts c' t' b' n' w' p' m' i' j' f' k' l' u'
-same_texts e1 e2 e3 e4 e5 e6 e7 e8 e9 e10 e11 e12 e13 = rw (e1, e2, e3, e4, e5, e6, e7, e8, e9, e10, e11, e12, e13) refl
+pub same_texts : {c c' t t' b b' n n' w w' p p' m m' i i' j j' f f' k k' l l' u u' x x' y y' z z' : Option Text} → c ≡ c' → t ≡ t' → b ≡ b' → n ≡ n' → w ≡ w' → p ≡ p' → m ≡ m' → i ≡ i' → j ≡ j'
+    → f ≡ f' → k ≡ k' → l ≡ l' → u ≡ u' → x ≡ x' → y ≡ y' → z ≡ z' → texts c t b n w p m i j f k l u x y z ≡ texts c' t' b' n' w' p' m' i' j' f' k' l' u' x' y' z'
+same_texts e1 e2 e3 e4 e5 e6 e7 e8 e9 e10 e11 e12 e13 e14 e15 e16 =
+    rw (e1, e2, e3, e4, e5, e6, e7, e8, e9, e10, e11, e12, e13, e14, e15, e16) refl

@@ -5,3 +5,4 @@ mod Runs
 mod Told
 mod Servers
 mod Commands
+mod Dumped

@@ -3,12 +3,13 @@ use Rattle.std.proofs.Common.{◌≡◌, ◌<◌, ◌∙◌, ◌⊎◌, ◌↔�
 use Rattle.std.proofs.lemmas.Bool.{false≢true}
 use Rattle.clap.specs.Words.{IsAmong, Kinds, Text}
 use Rattle.clap.specs.declared.error.kind.ErrorKind.{ErrorKind}
-use Rattle.sb_command.specs.Asking.{AsksBy, HasNumber, HasSeverity, HostsBy, RunsBy, ServesBy}
+use Rattle.sb_command.specs.Asking.{AsksBy, DumpsBy, HasFiles, LacksFiles, HasNumber, HasSeverity, HostsBy, RunsBy, ServesBy}
 use Rattle.sb_command.specs.Severities.{severity_word}
 use Rattle.sb_command.specs.Texts.{Texts}
+use Rattle.sb_command.specs.declared.request.Dumping.{Dumping}
 use Rattle.sb_command.specs.declared.request.Hosting.{Hosting}
 use Rattle.sb_command.specs.declared.request.Request.{Request}
-use Rattle.sb_command.specs.declared.request.Request.TheVariants.{Run as run_request, Serve, Replay, Parse}
+use Rattle.sb_command.specs.declared.request.Request.TheVariants.{Run as run_request, Serve, Replay, Parse, Dump, Keep}
 use Rattle.sb_command.specs.declared.request.Run.{Run}
 use Rattle.sb_command.specs.declared.request.Serving.{Serving}
 use Rattle.sb_command.specs.declared.severity.Severity.{Severity}
@@ -46,6 +47,15 @@ same_run t a b x y =
   where
     run_parts : (m n u v : ℕ) → m ≡ n → u ≡ v → run_of m u ≡ run_of n v
     run_parts m n u v e f = rw (e, f) refl
+
+same_dump : (t : Texts) (a b : Dumping) → DumpsBy t a → DumpsBy t b → a ≡ b
+same_dump t a b x y = dump_parts a.run b.run a.tenant b.tenant (same_run t a.run b.run x.0 y.0) (same_number 0 255 0 t.tenant a.tenant b.tenant x.1 y.1)
+  where
+    dump_of : Run → ℕ → Dumping
+    dump_of r m = record { run = r; tenant = m }
+
+    dump_parts : (r s : Run) (m n : ℕ) → r ≡ s → m ≡ n → dump_of r m ≡ dump_of s n
+    dump_parts r s m n d e = rw (d, e) refl
 
 same_host : (t : Texts) (a b : Hosting) → HostsBy t a → HostsBy t b → a ≡ b
 same_host t a b x y =
@@ -118,6 +128,23 @@ parse_or_serve o a b = apart 4112 4115 (omega arith) (ap word_code (sym a ∙ b)
 pub parse_or_replay : (o : Option Text) → o ≡ Some (codes "parse") → o ≡ Some (codes "replay") → ⊥
 parse_or_replay o a b = apart 4112 5114 (omega arith) (ap word_code (sym a ∙ b))
 
+pub run_or_dump : (o : Option Text) → (o ≡ None) ⊎ (o ≡ Some (codes "run")) → o ≡ Some (codes "dump") → ⊥
+run_or_dump o (inl a) b = apart 0 3100 (omega arith) (ap word_code (sym a ∙ b))
+run_or_dump o (inr a) b = apart 2114 3100 (omega arith) (ap word_code (sym a ∙ b))
+
+pub dump_or_serve : (o : Option Text) → o ≡ Some (codes "dump") → o ≡ Some (codes "serve") → ⊥
+dump_or_serve o a b = apart 3100 4115 (omega arith) (ap word_code (sym a ∙ b))
+
+pub dump_or_replay : (o : Option Text) → o ≡ Some (codes "dump") → o ≡ Some (codes "replay") → ⊥
+dump_or_replay o a b = apart 3100 5114 (omega arith) (ap word_code (sym a ∙ b))
+
+pub dump_or_parse : (o : Option Text) → o ≡ Some (codes "dump") → o ≡ Some (codes "parse") → ⊥
+dump_or_parse o a b = apart 3100 4112 (omega arith) (ap word_code (sym a ∙ b))
+
+files_or_none : (t : Texts) → LacksFiles t → HasFiles t → ⊥
+files_or_none t lacks (inl load) = load lacks.0
+files_or_none t lacks (inr to) = to lacks.1
+
 pub asks_once : (t : Texts) (a b : Request) → AsksBy t a → AsksBy t b → a ≡ b
 asks_once t (run_request a) (run_request b) x y = let e = same_run t a b x.2 y.2 in rw e refl
 asks_once t (run_request a) (Serve b) x y = absurd (run_or_serve t.command x.0 y.0)
@@ -135,6 +162,26 @@ asks_once t Parse (run_request b) x y = absurd (run_or_parse t.command y.0 x.0)
 asks_once t Parse (Serve b) x y = absurd (parse_or_serve t.command x.0 y.0)
 asks_once t Parse (Replay b) x y = absurd (parse_or_replay t.command x.0 y.0)
 asks_once t Parse Parse x y = refl
+asks_once t (run_request a) (Dump b) x y = absurd (run_or_dump t.command x.0 y.0)
+asks_once t (Serve a) (Dump b) x y = absurd (dump_or_serve t.command y.0 x.0)
+asks_once t (Replay a) (Dump b) x y = absurd (dump_or_replay t.command y.0 x.0)
+asks_once t Parse (Dump b) x y = absurd (dump_or_parse t.command y.0 x.0)
+asks_once t (Dump a) (run_request b) x y = absurd (run_or_dump t.command y.0 x.0)
+asks_once t (Dump a) (Serve b) x y = absurd (dump_or_serve t.command x.0 y.0)
+asks_once t (Dump a) (Replay b) x y = absurd (dump_or_replay t.command x.0 y.0)
+asks_once t (Dump a) Parse x y = absurd (dump_or_parse t.command x.0 y.0)
+asks_once t (Dump a) (Dump b) x y = let e = same_dump t a b x.2 y.2 in rw e refl
+asks_once t (run_request a) (Keep b) x y = absurd (run_or_serve t.command x.0 y.0)
+asks_once t (Serve a) (Keep b) x y = absurd (files_or_none t x.2.1 y.3)
+asks_once t (Replay a) (Keep b) x y = absurd (serve_or_replay t.command y.0 x.0)
+asks_once t Parse (Keep b) x y = absurd (parse_or_serve t.command x.0 y.0)
+asks_once t (Dump a) (Keep b) x y = absurd (dump_or_serve t.command x.0 y.0)
+asks_once t (Keep a) (run_request b) x y = absurd (run_or_serve t.command y.0 x.0)
+asks_once t (Keep a) (Serve b) x y = absurd (files_or_none t y.2.1 x.3)
+asks_once t (Keep a) (Replay b) x y = absurd (serve_or_replay t.command x.0 y.0)
+asks_once t (Keep a) Parse x y = absurd (parse_or_serve t.command y.0 x.0)
+asks_once t (Keep a) (Dump b) x y = absurd (dump_or_serve t.command y.0 x.0)
+asks_once t (Keep a) (Keep b) x y = let e = same_server t a b x.1 y.1 in rw e refl
 
 pub none_among : (k : ErrorKind) (ks : Kinds) → ks ≡ [] → IsAmong k ks → ⊥
 none_among k ks none h = subst (IsAmong k) none h

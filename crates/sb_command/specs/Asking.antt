@@ -1,13 +1,14 @@
 -- Promise: what texts ask for.
-use Rattle.std.specs.Prelude.{◌≡◌, ◌≤◌, ◌⊎◌, ◌↔◌, ℕ, IsTrue, Option, Some, None, codes}
+use Rattle.std.specs.Prelude.{◌≡◌, ◌≢◌, ◌≤◌, ◌⊎◌, ◌↔◌, ℕ, IsTrue, Option, Some, None, codes}
 use Rattle.std.specs.Str.Parse.{IsNumeral, digits_value, without_leading_plus}
 use Rattle.clap.specs.Words.{Text}
 use Rattle.sb_command.specs.Severities.{severity_word}
 use Rattle.sb_command.specs.Texts.{Texts, text_of}
 use Rattle.sb_command.specs.declared.request.Given.{Given}
+use Rattle.sb_command.specs.declared.request.Dumping.{Dumping}
 use Rattle.sb_command.specs.declared.request.Hosting.{Hosting}
 use Rattle.sb_command.specs.declared.request.Request.{Request}
-use Rattle.sb_command.specs.declared.request.Request.TheVariants.{Run as run_request, Serve, Replay, Parse}
+use Rattle.sb_command.specs.declared.request.Request.TheVariants.{Run as run_request, Serve, Replay, Parse, Dump, Keep}
 use Rattle.sb_command.specs.declared.request.Run.{Run}
 use Rattle.sb_command.specs.declared.request.Serving.{Serving}
 use Rattle.sb_command.specs.declared.severity.Severity.{Severity}
@@ -28,6 +29,9 @@ texts_of g = record {
   tenant_memory = text_of g.tenant_memory;
   log = text_of g.log;
   until_input_ends = text_of g.until_input_ends;
+  tenant = text_of g.tenant;
+  load = text_of g.load;
+  dump_to = text_of g.dump_to;
 }
 
 -- a text in decimal digits, of a number from the least to the most that is allowed
@@ -52,6 +56,10 @@ IsGiven text = text ≡ Some (codes "true")
 -- 1 to 256 tenants, or else 16; 1 to 1000 considerations, or else 1000
 abbrev pub RunsBy : Texts → Run → Type 0
 RunsBy t r = HasNumber 1 256 16 t.tenants r.tenants × HasNumber 1 1000 1000 t.bound r.bound
+
+-- one of 256 tenants, or else the first
+abbrev pub DumpsBy : Texts → Dumping → Type 0
+DumpsBy t d = RunsBy t d.run × HasNumber 0 255 0 t.tenant d.tenant
 
 -- 1 to 16 cells, or else 4; 1 to 16 workers, or else 4
 abbrev pub HostsBy : Texts → Hosting → Type 0
@@ -86,6 +94,21 @@ LacksHost t = (t.cells ≡ None) × (t.workers ≡ None) × LacksServer t
 abbrev pub LacksRun : Texts → Type 0
 LacksRun t = (t.tenants ≡ None) × (t.bound ≡ None) × LacksHost t
 
+-- nor that of a dump
+abbrev pub LacksTenant : Texts → Type 0
+LacksTenant t = t.tenant ≡ None
+
+-- no folder is given, to be read or to be written
+abbrev pub LacksFiles : Texts → Type 0
+LacksFiles t = (t.load ≡ None) × (t.dump_to ≡ None)
+
+-- one is
+abbrev pub HasFiles : Texts → Type 0
+HasFiles t = (t.load ≢ None) ⊎ (t.dump_to ≢ None)
+
+abbrev pub LacksSaving : Texts → Type 0
+LacksSaving t = LacksTenant t × LacksFiles t
+
 -- no command is `run`
 abbrev pub IsRun : Texts → Type 0
 IsRun t = (t.command ≡ None) ⊎ (t.command ≡ Some (codes "run"))
@@ -99,9 +122,14 @@ IsReplay t = t.command ≡ Some (codes "replay")
 abbrev pub IsParse : Texts → Type 0
 IsParse t = t.command ≡ Some (codes "parse")
 
+abbrev pub IsDump : Texts → Type 0
+IsDump t = t.command ≡ Some (codes "dump")
+
 -- these texts ask for a command with the options that it has
 abbrev pub AsksBy : Texts → Request → Type 0
-AsksBy t (run_request r) = IsRun t × LacksHost t × RunsBy t r
-AsksBy t (Serve s) = IsServe t × ServesBy t s
-AsksBy t (Replay h) = IsReplay t × LacksServer t × HostsBy t h
-AsksBy t Parse = IsParse t × LacksRun t
+AsksBy t (run_request r) = IsRun t × LacksHost t × RunsBy t r × LacksSaving t
+AsksBy t (Serve s) = IsServe t × ServesBy t s × LacksSaving t
+AsksBy t (Replay h) = IsReplay t × LacksServer t × HostsBy t h × LacksSaving t
+AsksBy t Parse = IsParse t × LacksRun t × LacksSaving t
+AsksBy t (Dump d) = IsDump t × LacksHost t × DumpsBy t d × LacksFiles t
+AsksBy t (Keep s) = IsServe t × ServesBy t s × LacksTenant t × HasFiles t

@@ -10,9 +10,13 @@ use Rattle.sb_replay.specs.declared.error.ReplayError.{ReplayError}
 use Rattle.sb_replay.specs.declared.error.ReplayError.TheVariants as replay
 use Rattle.sb_command.specs.Does.{Tells}
 use Rattle.sb_command.specs.declared.fault.Fault.{Fault}
-use Rattle.sb_command.specs.declared.fault.Fault.TheVariants.{Stream, CannotListen, CannotWait, CannotStart, WaitingFailed, BadLine, CannotAttach, TrailMissing, TrailMismatch}
+use Rattle.sb_command.specs.declared.fault.Fault.TheVariants.{Stream, CannotListen, CannotWait, CannotStart, WaitingFailed, BadLine, NoTenant, TenantBusy, NoFolder, CannotLoad, CannotWrite, CannotDump, CannotAttach, TrailMissing, TrailMismatch}
 
 -- ---- the lines
+
+-- a text with a number behind it
+abbrev pub one_number_text : List ℕ → ℕ → List ℕ
+one_number_text label number = label ++ decimal number ++ codes "\n"
 
 -- a text with the numbers of a session behind it
 abbrev pub numbered_text : List ℕ → ℕ → ℕ → List ℕ
@@ -24,7 +28,13 @@ fault_text CannotListen = codes "fault: cannot listen\n"
 fault_text CannotWait = codes "fault: cannot wait\n"
 fault_text CannotStart = codes "fault: cannot start a thread\n"
 fault_text WaitingFailed = codes "fault: waiting failed\n"
-fault_text (BadLine n) = codes "fault: bad line " ++ decimal n ++ codes "\n"
+fault_text (BadLine n) = one_number_text (codes "fault: bad line ") n
+fault_text (NoTenant t) = one_number_text (codes "fault: no tenant ") t
+fault_text (TenantBusy t) = one_number_text (codes "fault: busy tenant ") t
+fault_text (CannotDump t) = one_number_text (codes "fault: cannot dump ") t
+fault_text NoFolder = codes "fault: no folder\n"
+fault_text (CannotLoad t) = one_number_text (codes "fault: cannot load ") t
+fault_text (CannotWrite t) = one_number_text (codes "fault: cannot write ") t
 fault_text (CannotAttach t s) = numbered_text (codes "fault: cannot attach ") t s
 fault_text (TrailMissing t s) = numbered_text (codes "fault: trail missing ") t s
 fault_text (TrailMismatch t s) = numbered_text (codes "fault: trail mismatch ") t s

@@ -7,6 +7,7 @@ pub mod Within
 pub mod Terms
 pub mod Totals
 pub mod Parsing
+pub mod Dumping
 pub mod Does
 pub mod Faults
 pub mod Ends

@@ -2,7 +2,7 @@
 use Rattle.std.specs.Prelude.{ℕ, List, ◌++◌, codes}
 use Rattle.clap.specs.Words.{Text}
 use Rattle.sb_command.specs.declared.unfit.Part.{Part}
-use Rattle.sb_command.specs.declared.unfit.Part.TheVariants.{Command, Tenants, Bound, Cells, Workers, Port, Connections, Idle, IdleTransaction, FirstTenant, TenantMemory, Log, UntilInputEnds}
+use Rattle.sb_command.specs.declared.unfit.Part.TheVariants.{Command, Load, DumpTo, Tenants, Bound, Cells, Workers, Port, Connections, Idle, IdleTransaction, FirstTenant, TenantMemory, Log, UntilInputEnds, Tenant}
 use Rattle.sb_command.specs.declared.unfit.Unfit.{Unfit}
 
 -- a part, with the text that stands for it
@@ -20,6 +20,9 @@ part_text FirstTenant text = codes "--first-tenant " ++ text
 part_text TenantMemory text = codes "--tenant-memory " ++ text
 part_text Log text = codes "--log " ++ text
 part_text UntilInputEnds text = codes "--until-input-ends"
+part_text Tenant text = codes "--tenant " ++ text
+part_text Load text = codes "--load " ++ text
+part_text DumpTo text = codes "--dump-to " ++ text
 
 -- a part that isn't allowed, and what is
 abbrev pub refusal_text : List ℕ → Unfit → List ℕ

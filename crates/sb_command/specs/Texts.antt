@@ -22,3 +22,6 @@ pub record Texts : Type 0 where
   pub tenant_memory : Option Text
   pub log : Option Text
   pub until_input_ends : Option Text
+  pub tenant : Option Text
+  pub load : Option Text
+  pub dump_to : Option Text

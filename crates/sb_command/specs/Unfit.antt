@@ -1,15 +1,15 @@
 -- Promise: which part of a command line isn't allowed.
 use Rattle.std.specs.Prelude.{◌≡◌, ◌≢◌, ◌⊎◌, ℕ, List, [], ◌∷◌, ◌++◌, Option, Some, None}
 use Rattle.clap.specs.Words.{Text}
-use Rattle.sb_command.specs.Asking.{IsGiven, IsNumber, IsParse, IsReplay, IsRun, IsServe}
+use Rattle.sb_command.specs.Asking.{IsDump, IsGiven, IsNumber, IsParse, IsReplay, IsRun, IsServe}
 use Rattle.sb_command.specs.Severities.{severity_word}
 use Rattle.sb_command.specs.Texts.{Texts}
 use Rattle.sb_command.specs.declared.severity.Severity.{Severity}
 use Rattle.sb_command.specs.declared.unfit.Part.{Part}
-use Rattle.sb_command.specs.declared.unfit.Part.TheVariants.{Command, Tenants, Bound, Cells, Workers, Port, Connections, Idle, IdleTransaction, FirstTenant, TenantMemory, Log, UntilInputEnds}
+use Rattle.sb_command.specs.declared.unfit.Part.TheVariants.{Command, Load, DumpTo, Tenants, Bound, Cells, Workers, Port, Connections, Idle, IdleTransaction, FirstTenant, TenantMemory, Log, UntilInputEnds, Tenant}
 use Rattle.sb_command.specs.declared.unfit.Unfit.{Unfit}
 
--- in the order of the help: the options of a run, of a host, and of a server
+-- the options of a dump and of files first; then, in the order of the help, the options of a run, of a host, and of a server
 abbrev pub run_parts : List Part
 run_parts = Tenants ∷ Bound ∷ []
 
@@ -22,8 +22,17 @@ waiting_parts = Idle ∷ IdleTransaction ∷ FirstTenant ∷ TenantMemory ∷ Lo
 abbrev pub server_parts : List Part
 server_parts = Port ∷ Connections ∷ waiting_parts
 
+abbrev pub file_parts : List Part
+file_parts = Load ∷ DumpTo ∷ []
+
+abbrev pub saving_parts : List Part
+saving_parts = Tenant ∷ file_parts
+
+abbrev pub options : List Part
+options = run_parts ++ host_parts ++ server_parts
+
 abbrev pub parts : List Part
-parts = Command ∷ run_parts ++ host_parts ++ server_parts
+parts = Command ∷ saving_parts ++ options
 
 abbrev pub text_at : Texts → Part → Option Text
 text_at t Command = t.command
@@ -39,6 +48,9 @@ text_at t FirstTenant = t.first_tenant
 text_at t TenantMemory = t.tenant_memory
 text_at t Log = t.log
 text_at t UntilInputEnds = t.until_input_ends
+text_at t Tenant = t.tenant
+text_at t Load = t.load
+text_at t DumpTo = t.dump_to
 
 -- it is given, and no number from the least to the most
 abbrev pub LacksNumber : ℕ → ℕ → Option Text → Type 0
@@ -61,9 +73,12 @@ IsForeignToServer t = IsServe t → ⊥
 abbrev pub IsForeignToHost : Texts → Type 0
 IsForeignToHost t = (IsServe t → ⊥) × (IsReplay t → ⊥)
 
+abbrev pub IsForeignToDump : Texts → Type 0
+IsForeignToDump t = IsDump t → ⊥
+
 -- there is no such command; or an option has no number in its range, or is one of other commands
 abbrev pub IsUnfit : Texts → Part → Type 0
-IsUnfit t Command = (IsRun t → ⊥) × (IsServe t → ⊥) × (IsReplay t → ⊥) × (IsParse t → ⊥)
+IsUnfit t Command = (IsRun t → ⊥) × (IsServe t → ⊥) × (IsReplay t → ⊥) × (IsParse t → ⊥) × (IsDump t → ⊥)
 IsUnfit t Tenants = IsUnfitOption (IsParse t) t.tenants (LacksNumber 1 256 t.tenants)
 IsUnfit t Bound = IsUnfitOption (IsParse t) t.bound (LacksNumber 1 1000 t.bound)
 IsUnfit t Cells = IsUnfitOption (IsForeignToHost t) t.cells (LacksNumber 1 16 t.cells)
@@ -76,6 +91,9 @@ IsUnfit t FirstTenant = IsUnfitOption (IsForeignToServer t) t.first_tenant (Lack
 IsUnfit t TenantMemory = IsUnfitOption (IsForeignToServer t) t.tenant_memory (LacksNumber 0 1048576 t.tenant_memory)
 IsUnfit t Log = IsUnfitOption (IsForeignToServer t) t.log (LacksSeverity t.log)
 IsUnfit t UntilInputEnds = IsForeignToServer t × IsGiven t.until_input_ends
+IsUnfit t Tenant = IsUnfitOption (IsForeignToDump t) t.tenant (LacksNumber 0 255 t.tenant)
+IsUnfit t Load = IsForeignToServer t × (t.load ≢ None)
+IsUnfit t DumpTo = IsForeignToServer t × (t.dump_to ≢ None)
 
 -- of these parts it is the first that isn't allowed
 abbrev pub IsFirstOf : Texts → Unfit → List Part → Type 0

@@ -1,8 +1,9 @@
 -- Promise: the ranges of what is asked for.
 use Rattle.std.specs.Prelude.{◌≤◌, ⊤}
+use Rattle.sb_command.specs.declared.request.Dumping.{Dumping}
 use Rattle.sb_command.specs.declared.request.Hosting.{Hosting}
 use Rattle.sb_command.specs.declared.request.Request.{Request}
-use Rattle.sb_command.specs.declared.request.Request.TheVariants.{Run as run_request, Serve, Replay, Parse}
+use Rattle.sb_command.specs.declared.request.Request.TheVariants.{Run as run_request, Serve, Replay, Parse, Dump, Keep}
 use Rattle.sb_command.specs.declared.request.Run.{Run}
 use Rattle.sb_command.specs.declared.request.Serving.{Serving}
 use Rattle.sb_command.specs.declared.words.Asked.{Asked}
@@ -10,6 +11,9 @@ use Rattle.sb_command.specs.declared.words.Asked.TheVariants.{For}
 
 abbrev pub AreRun : Run → Type 0
 AreRun r = (1 ≤ r.tenants) × (r.tenants ≤ 256) × (1 ≤ r.bound) × (r.bound ≤ 1000)
+
+abbrev pub AreDump : Dumping → Type 0
+AreDump d = AreRun d.run × (d.tenant ≤ 255)
 
 abbrev pub AreHost : Hosting → Type 0
 AreHost h = AreRun h.run × (1 ≤ h.cells) × (h.cells ≤ 16) × (1 ≤ h.workers) × (h.workers ≤ 16)
@@ -24,7 +28,9 @@ IsWithin (run_request r) = AreRun r
 IsWithin (Serve s) = AreServer s
 IsWithin (Replay h) = AreHost h
 IsWithin Parse = ⊤
+IsWithin (Dump d) = AreDump d
+IsWithin (Keep s) = AreServer s
 
 abbrev pub AreWithin : Asked → Type 0
-AreWithin (For r) = IsWithin r
+AreWithin (For r f) = IsWithin r
 AreWithin other = ⊤

@@ -41,8 +41,15 @@ waiting_words = with_rule (with_rule server_words (option_of (codes "idle"))) (o
 abbrev pub tenant_words : App
 tenant_words = with_rule (with_rule waiting_words (option_of (codes "first-tenant"))) (option_of (codes "tenant-memory"))
 
+abbrev pub log_words : App
+log_words = with_rule (with_rule tenant_words (option_of (codes "log"))) (flag_of (codes "until-input-ends"))
+
+-- and those of a dump and of files
+abbrev pub dump_words : App
+dump_words = with_rule log_words (option_of (codes "tenant"))
+
 abbrev pub starhost : App
-starhost = with_rule (with_rule tenant_words (option_of (codes "log"))) (flag_of (codes "until-input-ends"))
+starhost = with_rule (with_rule dump_words (option_of (codes "load"))) (option_of (codes "dump-to"))
 
 -- what is found in them for the command and behind the options
 abbrev pub found_in : List Row → Texts
@@ -60,6 +67,9 @@ found_in rows = record {
   tenant_memory = first_of (codes "tenant-memory") rows;
   log = first_of (codes "log") rows;
   until_input_ends = first_of (codes "until-input-ends") rows;
+  tenant = first_of (codes "tenant") rows;
+  load = first_of (codes "load") rows;
+  dump_to = first_of (codes "dump-to") rows;
 }
 
 -- These words, the program's name first, ask for a command: clap finds no fault in them, and the texts that it finds do.
@@ -82,7 +92,7 @@ HaveUnfit words u = (fault_of starhost words ≡ []) × IsFirstUnfit (found_in (
 
 -- it is what the words ask for
 abbrev pub IsAsked : List Text → Asked → Type 0
-IsAsked words (For r) = AskFor words r
+IsAsked words (For r f) = AskFor words r
 IsAsked words Help = AskForHelp words
 IsAsked words Version = AskForVersion words
 IsAsked words (Refused e) = HasFault words

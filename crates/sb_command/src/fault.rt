@@ -1,6 +1,6 @@
 //! Why a server or a replay ended early, and the line that tells it.
 ghost use Rattle.std.specs.Prelude.{◌≡◌, ◌++◌, decimal, IfOk, OnOk};
-ghost use Rattle.sb_command.specs.Faults.{TellsFault, fault_text, numbered_text};
+ghost use Rattle.sb_command.specs.Faults.{TellsFault, fault_text, numbered_text, one_number_text};
 
 use crate::telling::fault;
 use sb_wire::{Sink, StreamError, push_labelled, write_bytes};
@@ -8,7 +8,7 @@ use std::alloc::{AllocError, Global};
 
 const FAULT: u8 = 1;
 
-/// Why a server or a replay ended early.
+/// Why a server, a replay or a dump ended early.
 #[derive(Clone, Copy, Debug)]
 pub enum Fault {
     /// Of the streams, or want of memory.
@@ -23,6 +23,18 @@ pub enum Fault {
     WaitingFailed,
     /// This line of the input, counted from 1, is no command for a session of the host.
     BadLine { line: u64 },
+    /// The host doesn't have the tenant.
+    NoTenant { tenant: u64 },
+    /// A session of the tenant has a transaction.
+    TenantBusy { tenant: u64 },
+    /// The tenant that its script makes isn't alike.
+    CannotDump { tenant: u64 },
+    /// A folder that is asked for isn't there.
+    NoFolder,
+    /// The tenant's file can't be read, or a line of it isn't answered as a line of a script.
+    CannotLoad { tenant: u64 },
+    /// The tenant's file can't be written.
+    CannotWrite { tenant: u64 },
     /// The session is open already, or its tenant's trail is full.
     CannotAttach { tenant: u64, session: u32 },
     /// The session has fewer receipts than its tenant's trail has entries of it.
@@ -32,7 +44,7 @@ pub enum Fault {
 }
 
 /// Tells a fault by its line, or want of memory where there is none for the line.
-pub(crate) fn tell_fault<E: Sink>(alloc: Global, why: Fault, errors: &mut E) -> u8
+pub fn tell_fault<E: Sink>(alloc: Global, why: Fault, errors: &mut E) -> u8
     ensures status { result ≡ 1 }
     ensures tells { TellsFault E.refuses E.contents errors.old errors.new why }
 {
@@ -56,10 +68,13 @@ fn line_of(alloc: Global, why: Fault) -> Result<Vec<u8>, AllocError>
         Fault::CannotWait => line.extend_from_slice(b"fault: cannot wait\n")?,
         Fault::CannotStart => line.extend_from_slice(b"fault: cannot start a thread\n")?,
         Fault::WaitingFailed => line.extend_from_slice(b"fault: waiting failed\n")?,
-        Fault::BadLine { line: number } => {
-            push_labelled(&mut line, b"fault: bad line ", number)?;
-            line.push(b'\n')?;
-        }
+        Fault::BadLine { line: number } => push_number(&mut line, b"fault: bad line ", number)?,
+        Fault::NoTenant { tenant } => push_number(&mut line, b"fault: no tenant ", tenant)?,
+        Fault::TenantBusy { tenant } => push_number(&mut line, b"fault: busy tenant ", tenant)?,
+        Fault::NoFolder => line.extend_from_slice(b"fault: no folder\n")?,
+        Fault::CannotLoad { tenant } => push_number(&mut line, b"fault: cannot load ", tenant)?,
+        Fault::CannotWrite { tenant } => push_number(&mut line, b"fault: cannot write ", tenant)?,
+        Fault::CannotDump { tenant } => push_number(&mut line, b"fault: cannot dump ", tenant)?,
         Fault::CannotAttach { tenant, session } => {
             push_session(&mut line, b"fault: cannot attach ", tenant, session)?
         }
@@ -71,6 +86,15 @@ fn line_of(alloc: Global, why: Fault) -> Result<Vec<u8>, AllocError>
         }
     }
     Ok(line)
+}
+
+/// Some text, and a number, to the end of the line.
+fn push_number(out: &mut Vec<u8>, label: &[u8], number: u64) -> Result<(), AllocError>
+    ensures { OnOk result (out.new.items ≡ out.old.items ++ one_number_text label.now number) }
+{
+    push_labelled(out, label, number)?;
+    out.push(b'\n')?;
+    Ok(())
 }
 
 /// Some text, and the numbers of a session, to the end of the line.

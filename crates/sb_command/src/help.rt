@@ -4,15 +4,16 @@ pub(crate) const VERSION: &str = "starhost 0.1\n";
 
 /// What stands behind the first words of a refusal.
 pub(crate) const ALLOWED: &str =
-    "; allowed are: run, serve, replay, parse; of all but parse --tenants 1 to 256, \
---bound 1 to 1000; of serve and replay --cells 1 to 16, --workers 1 to 16; of serve --port \
+    "; allowed are: run, serve, replay, parse, dump; of all but parse --tenants 1 to 256, \
+--bound 1 to 1000; of dump --tenant 0 to 255; of serve and replay --cells 1 to 16, --workers 1 to 16; of serve --port \
 0 to 65535, --connections 0 to 1000000, --idle 0 to 86400, --idle-transaction 0 to 86400, --first-tenant \
-0 to 999999000, --tenant-memory 0 to 1048576, --log error, warning or info, --until-input-ends; --help, --version\n";
+0 to 999999000, --tenant-memory 0 to 1048576, --log error, warning or info, --until-input-ends, --load \
+a folder, --dump-to a folder; --help, --version\n";
 
 pub(crate) const HELP: &str = "\
 starhost answers the command lines of hosted active databases.
 
-Usage: starhost [run|serve|replay|parse] [OPTIONS]
+Usage: starhost [run|serve|replay|parse|dump] [OPTIONS]
 
 Commands:
   run            answer the lines of standard input on standard output;
@@ -22,11 +23,17 @@ Commands:
                  several threads, and write the replies session by session
   parse          tell of each line of standard input whether it is a command:
                  `ok`, `syntax <place>` or `too long`; it has no options
+  dump           answer the lines of standard input as run does, and write,
+                 in place of the replies, the lines that make one of the
+                 tenants again, for a session that is open
 
-Options of run, serve and replay:
+Options of run, serve, replay and dump:
   --tenants N    host the tenants 0 to N - 1: 1 to 256, or else 16
   --bound N      the most rules that are considered at one assertion point:
                  1 to 1000, or else 1000
+
+Options of dump:
+  --tenant N     the tenant that is written: 0 to 255, or else 0
 
 Options of serve and replay:
   --cells N      groups of tenants that may wait for each other: tenant t is
@@ -53,6 +60,12 @@ Options of serve:
                  or else info, which is all
   --until-input-ends
                  stop where standard input ends
+  --load FOLDER  before any connection, play the lines of the files
+                 FOLDER/N.lines, each as the first session of tenant N; a
+                 tenant without a file is empty
+  --dump-to FOLDER
+                 behind the last connection, write each tenant N that was ever
+                 opened to FOLDER/N.lines, by the lines that make it again
 
 Other options:
   -h, --help     show this
@@ -75,9 +88,10 @@ Examples:
 
 A command ends with status 0; with 1 and a line `fault: ..` on standard error
 where reading or writing failed, memory ran out, nothing can listen at the port,
-no thread can be started, waiting for connections failed, or a line of a replay
-is no command for a session of the host. Where standard error is a terminal, a
-line before that counts lines, steps and refusals of a run. Words that aren't
-allowed are refused with status 2.
+no thread can be started, waiting for connections failed, a line of a replay is
+no command for a session of the host, or a tenant has no dump or its file can't
+be read or written. Where standard error is a terminal, a line before that
+counts lines, steps and refusals of a run. Words that aren't allowed are refused
+with status 2.
 docs/COMMANDS.md has all commands.
 ";

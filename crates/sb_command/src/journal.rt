@@ -1,5 +1,6 @@
 //! What an operator reads on standard error.
 
+use crate::loading::Unplayed;
 use crate::severity::Severity;
 use jiff::Timestamp;
 use libc::net as system;
@@ -44,6 +45,55 @@ impl<'r, T: Eprint + Clock> Journal<'r, T> {
     /// Tells why a replay refuses this line of its input.
     pub(crate) fn tell_bad_line(&self, line: u64, why: WireRefusal) {
         self.write(Severity::Error, &format_args!("bad line {line}: {why:?}"));
+    }
+
+    /// Tells why a folder isn't used.
+    pub(crate) fn tell_no_folder(&self, folder: &str, why: &io::Error) {
+        self.write(Severity::Error, &format_args!("no folder {folder}: {why}"));
+    }
+
+    /// Tells why the file of the tenant with this number isn't read.
+    pub(crate) fn tell_cannot_read(&self, number: u64, why: &io::Error) {
+        self.write(
+            Severity::Error,
+            &format_args!("can't read {number}.lines: {why}"),
+        );
+    }
+
+    /// Tells why it isn't written.
+    pub(crate) fn tell_cannot_write(&self, number: u64, why: &io::Error) {
+        self.write(
+            Severity::Error,
+            &format_args!("can't write {number}.lines: {why}"),
+        );
+    }
+
+    /// Tells that a tenant isn't in its file.
+    pub(crate) fn tell_unsaved(&self, number: u64) {
+        self.write(
+            Severity::Error,
+            &format_args!("tenant {number} isn't written"),
+        );
+    }
+
+    /// Tells why a file isn't played.
+    pub(crate) fn tell_unplayed(&self, number: u64, why: &Unplayed) {
+        match why {
+            Unplayed::NoSession => self.write(
+                Severity::Error,
+                &format_args!("{number}.lines: there is no session"),
+            ),
+            Unplayed::Stream(error) => {
+                self.write(Severity::Error, &format_args!("{number}.lines: {error}"));
+            }
+            Unplayed::Line { line, told } => {
+                let reply = first_line(told.as_slice());
+                self.write(
+                    Severity::Error,
+                    &format_args!("{number}.lines: line {line} is answered {reply}"),
+                );
+            }
+        }
     }
 
     /// Writes a line, if it is told and there is room, and before it how many were dropped.
@@ -94,6 +144,14 @@ fn level_of(severity: Severity) -> Level {
         Severity::Error => Level::Error,
         Severity::Warning => Level::Warn,
         Severity::Info => Level::Info,
+    }
+}
+
+/// The first line of a reply.
+fn first_line(reply: &[u8]) -> &str {
+    match str::from_utf8(reply) {
+        Ok(text) => text.lines().next().unwrap_or("nothing"),
+        Err(_) => "nothing",
     }
 }
 

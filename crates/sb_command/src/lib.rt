@@ -4,18 +4,23 @@
 
 mod closing;
 mod console;
+mod dumping;
 mod fault;
+mod folder;
 mod foreign;
 mod help;
 mod journal;
+mod keeping;
 mod laws;
 mod listening;
+mod loading;
 mod number;
 mod parsing;
 mod program;
 mod refusing;
 mod replaying;
 mod request;
+mod saving;
 mod server;
 mod severity;
 mod telling;
@@ -24,10 +29,11 @@ mod unfit;
 mod words;
 
 pub use console::Console;
-pub use fault::Fault;
+pub use fault::{Fault, tell_fault};
 pub use laws::words_ask_once;
 pub use program::command;
-pub use request::{Hosting, Request, Run, Serving};
+pub use replaying::unplayed;
+pub use request::{Dumping, Folders, Hosting, Request, Run, Serving};
 pub use server::serve_by;
 pub use severity::Severity;
 pub use unfit::{Part, Unfit};

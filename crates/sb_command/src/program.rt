@@ -11,6 +11,8 @@ ghost use Rattle.sb_replay.specs.Replay.{Fails, Replays};
 ghost use Rattle.sb_replay.specs.declared.error.ReplayError.{ReplayError as ItsError};
 ghost use Rattle.sb_command.specs.Faults.{unplayed_as};
 ghost use Rattle.sb_command.specs.Totals.{TellsServer};
+ghost use Rattle.sb_command.specs.Dumping.{DumpsInput, RefusesDump};
+ghost use Rattle.sb_command.specs.declared.request.Dumping.{Dumping as ItsDumping};
 ghost use Rattle.sb_command.specs.declared.request.Hosting.{Hosting as ItsHosting};
 ghost use Rattle.sb_command.specs.declared.request.Request.TheVariants as request;
 ghost use Rattle.sb_command.specs.declared.request.Run.{Run as ItsRun};
@@ -21,8 +23,10 @@ ghost use Rattle.sb_command.specs.declared.unfit.Unfit.{Unfit as ItsUnfit};
 ghost use Rattle.sb_command.specs.Refusals.{refusal_text};
 
 use crate::console::Console;
+use crate::dumping::dump_tenant;
 use crate::fault::{Fault, tell_fault};
 use crate::help::{ALLOWED, HELP, VERSION};
+use crate::keeping::keep;
 use crate::laws::words_ask_once;
 use crate::parsing::parse_lines;
 use crate::refusing::{refuse, refuse_part};
@@ -35,13 +39,19 @@ use sb_wire::{Sink, Source, StreamError, Summary, run_fresh, write_bytes};
 use std::alloc::Global;
 use std::convert::AsStr;
 use std::net::{Net, TcpListener, TcpStream};
-use std::rt::Clock;
+use std::rt::{Clock, Files};
 use std::sync::Wait;
 use std::thread::Threads;
 
 /// Does what the program's words ask for, and gives its status.
 pub fn command<
-    T: Threads + Wait + Net<Listener = TcpListener, Stream = TcpStream> + Eprint + Clock + Sync,
+    T: Threads
+        + Wait
+        + Net<Listener = TcpListener, Stream = TcpStream>
+        + Eprint
+        + Clock
+        + Files
+        + Sync,
     S: AsStr,
     R: Source,
     W: Sink,
@@ -69,7 +79,18 @@ pub fn command<
     ensures parses { AskFor (map S.text words.now) request.Parse
         → result ≡ 0 → IfSome (R.remaining reader.old) (λ input. (text : List ℕ)
         × Appends (W.contents writer.old) (W.contents writer.new) text × TellsLines input text) }
-    // whatever the status: of a run how its stream went; of a server or a replay the fault that it ended with, and why;
+    // and words that ask for a dump the script of a tenant, as the input leaves it
+    ensures dumps { (d : ItsDumping) → AskFor (map S.text words.now) (request.Dump d)
+        → result ≡ 0 → IfSome (R.remaining reader.old) (λ input. (text : List ℕ)
+        × Appends (W.contents writer.old) (W.contents writer.new) text
+        × DumpsInput d.run.tenants d.run.bound d.tenant input text) }
+    // and words that ask for a server with files what a server has
+    ensures keeps { (s : ItsServing) → AskFor (map S.text words.now) (request.Keep s)
+        → result ≡ 0 → (text : List ℕ)
+        × Appends (W.contents writer.old) (W.contents writer.new) text
+        × TellsServer s.hosting.run.bound s.hosting.run.tenants text }
+    // whatever the status: of a run how its stream went; of a server, a replay or a dump the fault that it ended with, and
+    // why;
     // how the stream of lines went of which it is told whether they are commands; help and the version, as they are asked
     // for; words with a fault; the first part that isn't allowed, by its line; and want of memory
     ensures asked { ((r : ItsRun) × AskFor (map S.text words.now) (request.Run r)
@@ -106,23 +127,38 @@ pub fn command<
         × Tells E.refuses E.contents errors.old.sink errors.new.sink (refusal_text ALLOWED.now u))
         ⊎ ((result ≡ 1) × (reader.new ≡ reader.old) × (writer.new ≡ writer.old)
         × Tells E.refuses E.contents errors.old.sink errors.new.sink
-        (fault_line StreamError.NoMemory)) }
+        (fault_line StreamError.NoMemory))
+        ⊎ ((d : ItsDumping) × AskFor (map S.text words.now) (request.Dump d) × (ended : _)
+        × TellsEnd E.refuses E.contents errors.old.sink errors.new.sink ended result
+        × IfErr ended (λ why. IfSome (R.remaining reader.old)
+        (λ input. RefusesDump d.run.tenants d.run.bound d.tenant input why)))
+        ⊎ ((s : ItsServing) × AskFor (map S.text words.now) (request.Keep s) × (ended : _)
+        × TellsEnd E.refuses E.contents errors.old.sink errors.new.sink ended result
+        × (reader.new ≡ reader.old)) }
 {
     // for the proof: words ask for one thing
     words_ask_once();
     match read_words(alloc, words) {
-        Ok(Asked::For(Request::Run(asked))) => run(alloc, asked, reader, writer, errors),
-        Ok(Asked::For(Request::Serve(asked))) => {
+        Ok(Asked::For(Request::Run(asked), _)) => run(alloc, asked, reader, writer, errors),
+        Ok(Asked::For(Request::Serve(asked), _)) => {
             let ended = serve(rt, alloc, asked, writer);
             tell_end(alloc, ended, &mut errors.sink)
         }
-        Ok(Asked::For(Request::Replay(asked))) => {
+        Ok(Asked::For(Request::Replay(asked), _)) => {
             let ended = replay(rt, alloc, asked, reader, writer);
             tell_end(alloc, ended, &mut errors.sink)
         }
-        Ok(Asked::For(Request::Parse)) => {
+        Ok(Asked::For(Request::Parse, _)) => {
             let ended = parse_lines(alloc, reader, writer);
             tell_stream_end(ended, &mut errors.sink)
+        }
+        Ok(Asked::For(Request::Keep(asked), folders)) => {
+            let ended = keep(rt, alloc, asked, folders, writer);
+            tell_end(alloc, ended, &mut errors.sink)
+        }
+        Ok(Asked::For(Request::Dump(asked), _)) => {
+            let ended = dump_tenant(alloc, asked, reader, writer);
+            tell_end(alloc, ended, &mut errors.sink)
         }
         Ok(Asked::Help) => show(HELP, writer, &mut errors.sink),
         Ok(Asked::Version) => show(VERSION, writer, &mut errors.sink),
@@ -162,7 +198,7 @@ fn run<R: Source, W: Sink, E: Sink>(
     tell_run(alloc, &summary, ended, errors)
 }
 
-/// Tells of the fault that ended a server or a replay, if one did.
+/// Tells of the fault that ended a server, a replay or a dump, if one did.
 fn tell_end<E: Sink>(alloc: Global, ended: Result<(), Fault>, errors: &mut E) -> u8
     ensures { TellsEnd E.refuses E.contents errors.old errors.new ended result }
 {

@@ -74,6 +74,9 @@ fn push_part(out: &mut Vec<u8>, unfit: Unfit<'_>) -> Result<(), AllocError>
         Part::TenantMemory => push_text(out, b"--tenant-memory ", text),
         Part::Log => push_text(out, b"--log ", text),
         Part::UntilInputEnds => push_text(out, b"--until-input-ends", ""),
+        Part::Tenant => push_text(out, b"--tenant ", text),
+        Part::Load => push_text(out, b"--load ", text),
+        Part::DumpTo => push_text(out, b"--dump-to ", text),
     }
 }
 

@@ -42,12 +42,12 @@ pub(crate) fn replay<T: Threads + Wait + Eprint + Clock + Sync, R: Source, W: Si
     };
     match replay_fresh(rt, alloc, size, reader, writer) {
         Ok(()) => Ok(()),
-        Err(error) => Err(told(rt, error)),
+        Err(error) => Err(unplayed(rt, error)),
     }
 }
 
 /// What a replay that didn't go well is told as. Why a line is bad is written in the log.
-fn told<T: Eprint + Clock>(rt: &T, error: ReplayError) -> Fault
+pub fn unplayed<T: Eprint + Clock>(rt: &T, error: ReplayError) -> Fault
     ensures { result ≡ unplayed_as error }
 {
     match error {

@@ -1,11 +1,13 @@
 //! What the texts of a command line ask for.
-ghost use Rattle.std.specs.Prelude.{IfErr, IfOk, IsTrue, ◌↔◌, ◌++◌};
-ghost use Rattle.sb_command.specs.Asking.{AsksBy, HostsBy, IsGiven, IsParse, IsReplay, IsRun, IsServe, RunsBy, ServesBy, texts_of};
+ghost use Rattle.std.specs.Prelude.{IfErr, IfOk, IsFalse, IsTrue, ◌↔◌, ◌++◌};
+ghost use Rattle.sb_command.specs.Asking.{AsksBy, HasFiles, LacksFiles, HostsBy, IsDump, IsGiven, IsParse, IsReplay, IsRun, IsServe, RunsBy, ServesBy, texts_of};
 ghost use Rattle.sb_command.specs.Texts.{text_of};
-ghost use Rattle.sb_command.specs.Unfit.{IsFirstOf, IsFirstUnfit, IsForeignToHost, host_parts, run_parts};
+ghost use Rattle.sb_command.specs.Unfit.{IsFirstOf, IsFirstUnfit, IsForeignToHost, host_parts, options, run_parts};
 ghost use Rattle.sb_command.specs.Within.{AreHost, AreRun, AreServer, IsWithin};
 
-use crate::foreign::{host_option, run_option, server_option};
+use crate::foreign::{
+    dump_option, file_option, host_option, run_option, saving_option, server_option,
+};
 use crate::number::number;
 use crate::severity::{Severity, logged_severity};
 use crate::unfit::{Part, Unfit};
@@ -17,6 +19,11 @@ const MOST_TENANTS: u32 = 256;
 const BOUND: u32 = 1000;
 
 const MOST_BOUND: u32 = 1000;
+
+/// The tenant that is written.
+const TENANT: u32 = 0;
+
+const MOST_TENANT: u32 = 255;
 
 const CELLS: u32 = 4;
 
@@ -59,6 +66,13 @@ pub struct Run {
     pub bound: u32,
 }
 
+/// A run over standard input, and the tenant whose script is written behind it.
+#[derive(Clone, Copy, Debug)]
+pub struct Dumping {
+    pub run: Run,
+    pub tenant: u32,
+}
+
 /// A host: a run's numbers, how many cells it has, and how many workers share its calls.
 #[derive(Clone, Copy, Debug)]
 pub struct Hosting {
@@ -91,6 +105,18 @@ pub enum Request {
     Serve(Serving),
     Replay(Hosting),
     Parse,
+    Dump(Dumping),
+    /// A server that reads its tenants from files, or writes them to files.
+    Keep(Serving),
+}
+
+/// The folders of a server's files.
+#[derive(Clone, Copy)]
+pub struct Folders<'a> {
+    /// Its tenants are read from there before it serves.
+    pub load: Option<&'a str>,
+    /// They are written there behind the last connection.
+    pub dump_to: Option<&'a str>,
 }
 
 /// What stands for the command and behind the options.
@@ -109,6 +135,18 @@ pub(crate) struct Given<'a> {
     pub(crate) tenant_memory: Option<&'a str>,
     pub(crate) log: Option<&'a str>,
     pub(crate) until_input_ends: Option<&'a str>,
+    pub(crate) tenant: Option<&'a str>,
+    pub(crate) load: Option<&'a str>,
+    pub(crate) dump_to: Option<&'a str>,
+}
+
+impl<'a> Given<'a> {
+    pub(crate) fn folders(self) -> Folders<'a> {
+        Folders {
+            load: self.load,
+            dump_to: self.dump_to,
+        }
+    }
 }
 
 /// The command with its options that these texts ask for, or the first part that isn't allowed.
@@ -132,6 +170,9 @@ pub(crate) fn requested<'a>(given: Given<'a>) -> Result<Request, Unfit<'a>>
     if word == "parse" {
         return find_parse(given);
     }
+    if word == "dump" {
+        return find_dump(given);
+    }
     Err(Unfit {
         part: Part::Command,
         text: word,
@@ -144,6 +185,10 @@ fn find_run<'a>(given: Given<'a>) -> Result<Request, Unfit<'a>>
     ensures unfit { IfErr result (IsFirstUnfit (texts_of given.entry)) }
     ensures within { IfOk result IsWithin }
 {
+    match saving_option(given) {
+        Some(unfit) => return Err(unfit),
+        None => {}
+    }
     let run = match run_numbers(given) {
         Ok(run) => run,
         Err(unfit) => return Err(unfit),
@@ -160,7 +205,12 @@ fn find_server<'a>(given: Given<'a>) -> Result<Request, Unfit<'a>>
     ensures unfit { IfErr result (IsFirstUnfit (texts_of given.entry)) }
     ensures within { IfOk result IsWithin }
 {
+    match dump_option(given) {
+        Some(unfit) => return Err(unfit),
+        None => {}
+    }
     match server_numbers(given) {
+        Ok(serving) if has_folder(given) => Ok(Request::Keep(serving)),
         Ok(serving) => Ok(Request::Serve(serving)),
         Err(unfit) => Err(unfit),
     }
@@ -172,6 +222,10 @@ fn find_replay<'a>(given: Given<'a>) -> Result<Request, Unfit<'a>>
     ensures unfit { IfErr result (IsFirstUnfit (texts_of given.entry)) }
     ensures within { IfOk result IsWithin }
 {
+    match saving_option(given) {
+        Some(unfit) => return Err(unfit),
+        None => {}
+    }
     let hosting = match host_numbers(given) {
         Ok(hosting) => hosting,
         Err(unfit) => return Err(unfit),
@@ -188,9 +242,51 @@ fn find_parse<'a>(given: Given<'a>) -> Result<Request, Unfit<'a>>
     ensures unfit { IfErr result (IsFirstUnfit (texts_of given.entry)) }
     ensures within { IfOk result IsWithin }
 {
+    match saving_option(given) {
+        Some(unfit) => return Err(unfit),
+        None => {}
+    }
     match run_option(given) {
         Some(unfit) => Err(unfit),
         None => Ok(Request::Parse),
+    }
+}
+
+fn find_dump<'a>(given: Given<'a>) -> Result<Request, Unfit<'a>>
+    requires { IsDump (texts_of given) }
+    ensures asked { IfOk result (AsksBy (texts_of given.entry)) }
+    ensures unfit { IfErr result (IsFirstUnfit (texts_of given.entry)) }
+    ensures within { IfOk result IsWithin }
+{
+    let tenant = match number(Part::Tenant, given.tenant, 0, MOST_TENANT, TENANT) {
+        Ok(tenant) => tenant,
+        Err(unfit) => return Err(unfit),
+    };
+    match file_option(given) {
+        Some(unfit) => return Err(unfit),
+        None => {}
+    }
+    let run = match run_numbers(given) {
+        Ok(run) => run,
+        Err(unfit) => return Err(unfit),
+    };
+    match host_option(given) {
+        Some(unfit) => Err(unfit),
+        None => Ok(Request::Dump(Dumping { run, tenant })),
+    }
+}
+
+/// Whether a folder is given.
+fn has_folder(given: Given<'_>) -> bool
+    ensures has { IsTrue result → HasFiles (texts_of given.entry) }
+    ensures lacks { IsFalse result → LacksFiles (texts_of given.entry) }
+{
+    match given.load {
+        Some(_) => true,
+        None => match given.dump_to {
+            Some(_) => true,
+            None => false,
+        },
     }
 }
 
@@ -225,7 +321,7 @@ fn host_numbers<'a>(given: Given<'a>) -> Result<Hosting, Unfit<'a>>
 fn server_numbers<'a>(given: Given<'a>) -> Result<Serving, Unfit<'a>>
     requires { IsServe (texts_of given) }
     ensures asked { IfOk result (ServesBy (texts_of given.entry)) }
-    ensures unfit { IfErr result (IsFirstUnfit (texts_of given.entry)) }
+    ensures unfit { IfErr result (λ u. IsFirstOf (texts_of given.entry) u options) }
     ensures within { IfOk result AreServer }
 {
     let hosting = host_numbers(given)?;

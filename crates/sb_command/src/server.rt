@@ -24,7 +24,7 @@ use std::rt::Clock;
 use std::sync::Wait;
 use std::thread::Threads;
 
-const OUT_OF_MEMORY: Fault = Fault::Stream(StreamError::NoMemory);
+pub(crate) const OUT_OF_MEMORY: Fault = Fault::Stream(StreamError::NoMemory);
 
 /// Serves connections over TCP on this machine, until the last one has ended.
 pub(crate) fn serve<
@@ -46,7 +46,7 @@ pub(crate) fn serve<
 }
 
 /// The parts of a server's host.
-fn opened_by(alloc: Global, plan: Plan) -> Result<Opened, AllocError>
+pub(crate) fn opened_by(alloc: Global, plan: Plan) -> Result<Opened, AllocError>
     requires tenants { (0 < plan.tenants) × (plan.tenants ≤ 256) × (plan.bound ≤ 1000) }
     requires cells { (0 < plan.cells) × (plan.cells ≤ 16) }
     ensures { IfOk result (λ o. (o.tenants ≡ plan.tenants) × (o.cells ≡ plan.cells) × (o.bound ≡ plan.bound)) }
@@ -117,7 +117,7 @@ pub fn serve_by<
 }
 
 /// What connections that aren't served are told as.
-fn unserved(error: ServeError) -> Fault
+pub(crate) fn unserved(error: ServeError) -> Fault
     ensures { result ≡ unserved_as error }
 {
     match error {

@@ -16,6 +16,9 @@ pub enum Part {
     TenantMemory,
     Log,
     UntilInputEnds,
+    Tenant,
+    Load,
+    DumpTo,
 }
 
 /// A part that isn't allowed, and the text that stands for it.

@@ -3,9 +3,9 @@ ghost use Rattle.std.specs.Prelude.{◌≡◌, IfOk, map};
 ghost use Rattle.clap.specs.Words.{FailsBy, app_of, fault_of, matches_of, with_rule};
 ghost use Rattle.sb_command.specs.Asking.{texts_of};
 ghost use Rattle.sb_command.specs.Within.{AreWithin};
-ghost use Rattle.sb_command.specs.Words.{IsAsked, flag_of, found_in, host_words, option_of, run_words, server_words, starhost, tenant_words, waiting_words};
+ghost use Rattle.sb_command.specs.Words.{IsAsked, flag_of, found_in, host_words, option_of, run_words, server_words, starhost, tenant_words, waiting_words, log_words, dump_words};
 
-use crate::request::{Given, Request, requested};
+use crate::request::{Folders, Given, Request, requested};
 use crate::unfit::Unfit;
 use clap::error::ErrorKind;
 use clap::{Arg, ArgAction, Command, Error};
@@ -15,7 +15,8 @@ use std::convert::AsStr;
 /// What a command line asks for.
 #[derive(Drop)]
 pub enum Asked<'a> {
-    For(Request),
+    /// A command, and the folders that it reads and writes.
+    For(Request, Folders<'a>),
     Help,
     Version,
     /// clap finds a fault in the words.
@@ -31,7 +32,7 @@ pub fn read_words<'a, S: AsStr>(alloc: Global, words: &'a [S]) -> Result<Asked<'
 {
     match texts_given(alloc, words) {
         Ok(given) => match requested(given) {
-            Ok(request) => Ok(Asked::For(request)),
+            Ok(request) => Ok(Asked::For(request, given.folders())),
             Err(unfit) => Ok(Asked::NotAllowed(unfit)),
         },
         Err(error) => match error.kind() {
@@ -63,6 +64,9 @@ fn texts_given<'a, S: AsStr>(alloc: Global, words: &'a [S]) -> Result<Given<'a>,
         tenant_memory: matches.get_str("tenant-memory"),
         log: matches.get_str("log"),
         until_input_ends: matches.get_str("until-input-ends"),
+        tenant: matches.get_str("tenant"),
+        load: matches.get_str("load"),
+        dump_to: matches.get_str("dump-to"),
     })
 }
 
@@ -70,11 +74,26 @@ fn texts_given<'a, S: AsStr>(alloc: Global, words: &'a [S]) -> Result<Given<'a>,
 fn program<'a>(alloc: Global) -> Result<Command<'a>, AllocError>
     ensures { IfOk result (λ c. app_of c ≡ starhost) }
 {
+    let command = with_option(alloc, dump_words(alloc)?, "load")?;
+    with_option(alloc, command, "dump-to")
+}
+
+/// All but the folders.
+fn dump_words<'a>(alloc: Global) -> Result<Command<'a>, AllocError>
+    ensures { IfOk result (λ c. app_of c ≡ dump_words) }
+{
+    with_option(alloc, log_words(alloc)?, "tenant")
+}
+
+/// All but which tenant is written.
+fn log_words<'a>(alloc: Global) -> Result<Command<'a>, AllocError>
+    ensures { IfOk result (λ c. app_of c ≡ log_words) }
+{
     let command = with_option(alloc, tenant_words(alloc)?, "log")?;
     with_flag(alloc, command, "until-input-ends")
 }
 
-/// All but what a server logs, and when it ends by itself.
+/// All but what a server logs, and when it ends by itself, too.
 fn tenant_words<'a>(alloc: Global) -> Result<Command<'a>, AllocError>
     ensures { IfOk result (λ c. app_of c ≡ tenant_words) }
 {

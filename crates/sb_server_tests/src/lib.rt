@@ -1,5 +1,7 @@
-//! Tests of connections over memory: what no client of the built program shows.
+//! Tests of connections over memory, and of faults: what no client of the built program shows.
 #![tactic(auto)]
 
 #[cfg(test)]
 mod connections;
+#[cfg(test)]
+mod faults;

@@ -3,76 +3,122 @@ use Rattle.std.specs.Io.KnownBytes.{Appends}
 use Rattle.clap.specs.declared.error.kind.ErrorKind.TheVariants.{DisplayHelp, DisplayVersion}
 use Rattle.sb_wire.specs.Stream.{AnswersFresh}
 use Rattle.sb_replay.specs.Replay.{Replays}
+use Rattle.sb_command.specs.Dumping.{DumpsInput}
 use Rattle.sb_command.specs.Totals.{TellsServer}
 use Rattle.sb_command.specs.Words.{IsAsked}
-use Rattle.sb_command.specs.declared.request.Request.TheVariants.{Run, Serve, Replay, Parse}
-use Rattle.sb_command.proofs.Runs.{asked_for, no_other, no_words, same_hosting, same_run, same_serving, went_well}
+use Rattle.sb_command.specs.declared.request.Request.TheVariants.{Run, Serve, Replay, Parse, Dump, Keep}
+use Rattle.sb_command.proofs.Runs.{asked_for, no_other, no_words, same_dumping, same_hosting, same_kept, same_run, same_serving, went_well}
 use Rattle.sb_command.proofs.Told.{at_success}
 use Rattle.sb_command.proofs.program.command.Goals as goal
 
-pub returns-in-Ok-For-Run-clause-runs : goal.returns-in-Ok-For-Run-clause-runs
-returns-in-Ok-For-Run-clause-runs g c = λ r asks ok. let words = map g.S.AsStr.text c.args.words.now in let b = c.in-Ok-For-Run in
+pub returns-in-Ok-For-Run-default-clause-runs : goal.returns-in-Ok-For-Run-default-clause-runs
+returns-in-Ok-For-Run-default-clause-runs g c = λ r asks ok. let words = map g.S.AsStr.text c.args.words.now in let b = c.in-Ok-For-Run-default in
     same_run c.words_ask_once.ensures.once words b.asked r
     (λ q. IfSome (g.R.Read.remaining c.args.reader.now)
     (λ input. (text : List ℕ) × Appends (g.W.Write.contents c.args.writer.now) (g.W.Write.contents c.run.new.writer) text × AnswersFresh q.tenants q.bound input text))
-    (asked_for words b.field-0 b.field-0-0 (Run b.asked) b.ensures.asked b.field-0-is b.field-0-0-is) asks (c.run.ensures.runs ok)
+    (asked_for words b.field-0 b.field-0-0 (Run b.asked) b.field-0-1 b.ensures.asked b.field-0-is b.field-0-0-is) asks (c.run.ensures.runs ok)
 
-pub returns-in-Ok-For-Run-clause-usual : goal.returns-in-Ok-For-Run-clause-usual
-returns-in-Ok-For-Run-clause-usual g c = λ few ok. let words = map g.S.AsStr.text c.args.words.now in let b = c.in-Ok-For-Run in
+pub returns-in-Ok-For-Run-default-clause-usual : goal.returns-in-Ok-For-Run-default-clause-usual
+returns-in-Ok-For-Run-default-clause-usual g c = λ few ok. let words = map g.S.AsStr.text c.args.words.now in let b = c.in-Ok-For-Run-default in
     same_run c.words_ask_once.ensures.once words b.asked (record { tenants = 16; bound = 1000 })
     (λ q. IfSome (g.R.Read.remaining c.args.reader.now)
     (λ input. (text : List ℕ) × Appends (g.W.Write.contents c.args.writer.now) (g.W.Write.contents c.run.new.writer) text × AnswersFresh q.tenants q.bound input text))
-    (asked_for words b.field-0 b.field-0-0 (Run b.asked) b.ensures.asked b.field-0-is b.field-0-0-is) (no_words g.S.AsStr.text c.args.words.now few) (c.run.ensures.runs ok)
+    (asked_for words b.field-0 b.field-0-0 (Run b.asked) b.field-0-1 b.ensures.asked b.field-0-is b.field-0-0-is) (no_words g.S.AsStr.text c.args.words.now few) (c.run.ensures.runs ok)
 
-pub returns-in-Ok-For-Run-clause-asked : goal.returns-in-Ok-For-Run-clause-asked
-returns-in-Ok-For-Run-clause-asked g c = let words = map g.S.AsStr.text c.args.words.now in let b = c.in-Ok-For-Run in
+pub returns-in-Ok-For-Run-default-clause-asked : goal.returns-in-Ok-For-Run-default-clause-asked
+returns-in-Ok-For-Run-default-clause-asked g c = let words = map g.S.AsStr.text c.args.words.now in let b = c.in-Ok-For-Run-default in
     let goes = c.run.ensures.goes in
-    inl (b.asked, asked_for words b.field-0 b.field-0-0 (Run b.asked) b.ensures.asked b.field-0-is b.field-0-0-is, goes.0, goes.1, goes.2, goes.3, goes.4)
+    inl (b.asked, asked_for words b.field-0 b.field-0-0 (Run b.asked) b.field-0-1 b.ensures.asked b.field-0-is b.field-0-0-is, goes.0, goes.1, goes.2, goes.3, goes.4)
 
-pub returns-in-Ok-For-Serve-clause-usual : goal.returns-in-Ok-For-Serve-clause-usual
-returns-in-Ok-For-Serve-clause-usual g c = λ few ok. let words = map g.S.AsStr.text c.args.words.now in let b = c.in-Ok-For-Serve in
+pub returns-in-Ok-For-Serve-default-clause-usual : goal.returns-in-Ok-For-Serve-default-clause-usual
+returns-in-Ok-For-Serve-default-clause-usual g c = λ few ok. let words = map g.S.AsStr.text c.args.words.now in let b = c.in-Ok-For-Serve-default in
     absurd (no_other c.words_ask_once.ensures.once words (Run (record { tenants = 16; bound = 1000 })) (Serve b.asked) (omega arith)
-    (no_words g.S.AsStr.text c.args.words.now few) (asked_for words b.field-0 b.field-0-0 (Serve b.asked) b.ensures.asked b.field-0-is b.field-0-0-is))
+    (no_words g.S.AsStr.text c.args.words.now few) (asked_for words b.field-0 b.field-0-0 (Serve b.asked) b.field-0-1 b.ensures.asked b.field-0-is b.field-0-0-is))
 
-pub returns-in-Ok-For-Serve-clause-serves : goal.returns-in-Ok-For-Serve-clause-serves
-returns-in-Ok-For-Serve-clause-serves g c = λ s asks ok. let words = map g.S.AsStr.text c.args.words.now in let b = c.in-Ok-For-Serve in
+pub returns-in-Ok-For-Serve-default-clause-serves : goal.returns-in-Ok-For-Serve-default-clause-serves
+returns-in-Ok-For-Serve-default-clause-serves g c = λ s asks ok. let words = map g.S.AsStr.text c.args.words.now in let b = c.in-Ok-For-Serve-default in
     same_serving c.words_ask_once.ensures.once words b.asked s
     (λ q. (text : List ℕ) × Appends (g.W.Write.contents c.args.writer.now) (g.W.Write.contents c.serve-ended.new.writer) text × TellsServer q.hosting.run.bound q.hosting.run.tenants text)
-    (asked_for words b.field-0 b.field-0-0 (Serve b.asked) b.ensures.asked b.field-0-is b.field-0-0-is) asks
+    (asked_for words b.field-0 b.field-0-0 (Serve b.asked) b.field-0-1 b.ensures.asked b.field-0-is b.field-0-0-is) asks
     (went_well g.E.Sink.refuses g.E.Write.contents c.args.errors.now.sink c.tell_end.new.errors c.serve-ended.result c.tell_end.result c.tell_end.ensures ok c.serve-ended.ensures.ok)
 
-pub returns-in-Ok-For-Replay-clause-usual : goal.returns-in-Ok-For-Replay-clause-usual
-returns-in-Ok-For-Replay-clause-usual g c = λ few ok. let words = map g.S.AsStr.text c.args.words.now in let b = c.in-Ok-For-Replay in
+pub returns-in-Ok-For-Replay-default-clause-usual : goal.returns-in-Ok-For-Replay-default-clause-usual
+returns-in-Ok-For-Replay-default-clause-usual g c = λ few ok. let words = map g.S.AsStr.text c.args.words.now in let b = c.in-Ok-For-Replay-default in
     absurd (no_other c.words_ask_once.ensures.once words (Run (record { tenants = 16; bound = 1000 })) (Replay b.asked) (omega arith)
-    (no_words g.S.AsStr.text c.args.words.now few) (asked_for words b.field-0 b.field-0-0 (Replay b.asked) b.ensures.asked b.field-0-is b.field-0-0-is))
+    (no_words g.S.AsStr.text c.args.words.now few) (asked_for words b.field-0 b.field-0-0 (Replay b.asked) b.field-0-1 b.ensures.asked b.field-0-is b.field-0-0-is))
 
-pub returns-in-Ok-For-Replay-clause-replays : goal.returns-in-Ok-For-Replay-clause-replays
-returns-in-Ok-For-Replay-clause-replays g c = λ h asks ok. let words = map g.S.AsStr.text c.args.words.now in let b = c.in-Ok-For-Replay in
+pub returns-in-Ok-For-Replay-default-clause-replays : goal.returns-in-Ok-For-Replay-default-clause-replays
+returns-in-Ok-For-Replay-default-clause-replays g c = λ h asks ok. let words = map g.S.AsStr.text c.args.words.now in let b = c.in-Ok-For-Replay-default in
     same_hosting c.words_ask_once.ensures.once words b.asked h
     (λ q. IfSome (g.R.Read.remaining c.args.reader.now)
     (λ input. (text : List ℕ) × Appends (g.W.Write.contents c.args.writer.now) (g.W.Write.contents c.replay-ended.new.writer) text × Replays q.run.tenants q.run.bound input text))
-    (asked_for words b.field-0 b.field-0-0 (Replay b.asked) b.ensures.asked b.field-0-is b.field-0-0-is) asks
-    (went_well g.E.Sink.refuses g.E.Write.contents c.args.errors.now.sink c.tell_end-in-Ok-For-Replay.new.errors c.replay-ended.result c.tell_end-in-Ok-For-Replay.result c.tell_end-in-Ok-For-Replay.ensures ok c.replay-ended.ensures.ok)
+    (asked_for words b.field-0 b.field-0-0 (Replay b.asked) b.field-0-1 b.ensures.asked b.field-0-is b.field-0-0-is) asks
+    (went_well g.E.Sink.refuses g.E.Write.contents c.args.errors.now.sink c.tell_end-in-Ok-For-Replay-default.new.errors c.replay-ended.result c.tell_end-in-Ok-For-Replay-default.result c.tell_end-in-Ok-For-Replay-default.ensures ok c.replay-ended.ensures.ok)
 
-pub returns-in-Ok-For-Parse-clause-usual : goal.returns-in-Ok-For-Parse-clause-usual
-returns-in-Ok-For-Parse-clause-usual g c = λ few ok. let words = map g.S.AsStr.text c.args.words.now in let b = c.in-Ok-For-Parse in
+pub returns-in-Ok-For-Parse-default-clause-usual : goal.returns-in-Ok-For-Parse-default-clause-usual
+returns-in-Ok-For-Parse-default-clause-usual g c = λ few ok. let words = map g.S.AsStr.text c.args.words.now in let b = c.in-Ok-For-Parse-default in
     absurd (no_other c.words_ask_once.ensures.once words (Run (record { tenants = 16; bound = 1000 })) Parse (omega arith)
-    (no_words g.S.AsStr.text c.args.words.now few) (asked_for words b.field-0 b.field-0-0 Parse b.ensures.asked b.field-0-is b.field-0-0-is))
+    (no_words g.S.AsStr.text c.args.words.now few) (asked_for words b.field-0 b.field-0-0 Parse b.field-0-1 b.ensures.asked b.field-0-is b.field-0-0-is))
 
-pub returns-in-Ok-For-Parse-clause-parses : goal.returns-in-Ok-For-Parse-clause-parses
-returns-in-Ok-For-Parse-clause-parses g c = λ asks zero.
+pub returns-in-Ok-For-Parse-default-clause-parses : goal.returns-in-Ok-For-Parse-default-clause-parses
+returns-in-Ok-For-Parse-default-clause-parses g c = λ asks zero.
     at_success c.parse_lines-ended.result (sym c.tell_stream_end.ensures.status ∙ zero) c.parse_lines-ended.ensures.ok
 
-pub returns-in-Ok-For-Parse-clause-asked : goal.returns-in-Ok-For-Parse-clause-asked
-returns-in-Ok-For-Parse-clause-asked g c = let words = map g.S.AsStr.text c.args.words.now in let b = c.in-Ok-For-Parse in
+pub returns-in-Ok-For-Parse-default-clause-asked : goal.returns-in-Ok-For-Parse-default-clause-asked
+returns-in-Ok-For-Parse-default-clause-asked g c = let words = map g.S.AsStr.text c.args.words.now in let b = c.in-Ok-For-Parse-default in
     inr (inr (inr (inl (
-      asked_for words b.field-0 b.field-0-0 Parse b.ensures.asked b.field-0-is b.field-0-0-is,
+      asked_for words b.field-0 b.field-0-0 Parse b.field-0-1 b.ensures.asked b.field-0-is b.field-0-0-is,
       c.parse_lines-ended.result,
       c.tell_stream_end.ensures.status,
       c.parse_lines-ended.ensures.goes,
       c.parse_lines-ended.ensures.refused,
       c.tell_stream_end.ensures.tells,
     ))))
+
+pub returns-in-Ok-For-Dump-default-clause-usual : goal.returns-in-Ok-For-Dump-default-clause-usual
+returns-in-Ok-For-Dump-default-clause-usual g c = λ few ok. let words = map g.S.AsStr.text c.args.words.now in let b = c.in-Ok-For-Dump-default in
+    absurd (no_other c.words_ask_once.ensures.once words (Run (record { tenants = 16; bound = 1000 })) (Dump b.asked) (omega arith)
+    (no_words g.S.AsStr.text c.args.words.now few) (asked_for words b.field-0 b.field-0-0 (Dump b.asked) b.field-0-1 b.ensures.asked b.field-0-is b.field-0-0-is))
+
+pub returns-in-Ok-For-Dump-default-clause-dumps : goal.returns-in-Ok-For-Dump-default-clause-dumps
+returns-in-Ok-For-Dump-default-clause-dumps g c = λ d asks ok. let words = map g.S.AsStr.text c.args.words.now in let b = c.in-Ok-For-Dump-default in
+    same_dumping c.words_ask_once.ensures.once words b.asked d
+    (λ q. IfSome (g.R.Read.remaining c.args.reader.now)
+    (λ input. (text : List ℕ) × Appends (g.W.Write.contents c.args.writer.now) (g.W.Write.contents c.dump_tenant-ended.new.writer) text × DumpsInput q.run.tenants q.run.bound q.tenant input text))
+    (asked_for words b.field-0 b.field-0-0 (Dump b.asked) b.field-0-1 b.ensures.asked b.field-0-is b.field-0-0-is) asks
+    (went_well g.E.Sink.refuses g.E.Write.contents c.args.errors.now.sink c.tell_end-in-Ok-For-Dump-default.new.errors c.dump_tenant-ended.result c.tell_end-in-Ok-For-Dump-default.result c.tell_end-in-Ok-For-Dump-default.ensures ok c.dump_tenant-ended.ensures.ok)
+
+pub returns-in-Ok-For-Dump-default-clause-asked : goal.returns-in-Ok-For-Dump-default-clause-asked
+returns-in-Ok-For-Dump-default-clause-asked g c = let words = map g.S.AsStr.text c.args.words.now in let b = c.in-Ok-For-Dump-default in
+    inr (inr (inr (inr (inr (inr (inr (inr (inr (inl (
+      b.asked,
+      asked_for words b.field-0 b.field-0-0 (Dump b.asked) b.field-0-1 b.ensures.asked b.field-0-is b.field-0-0-is,
+      c.dump_tenant-ended.result,
+      c.tell_end-in-Ok-For-Dump-default.ensures,
+      c.dump_tenant-ended.ensures.err,
+    ))))))))))
+
+pub returns-in-Ok-For-Keep-default-clause-usual : goal.returns-in-Ok-For-Keep-default-clause-usual
+returns-in-Ok-For-Keep-default-clause-usual g c = λ few ok. let words = map g.S.AsStr.text c.args.words.now in let b = c.in-Ok-For-Keep-default in
+    absurd (no_other c.words_ask_once.ensures.once words (Run (record { tenants = 16; bound = 1000 })) (Keep b.asked) (omega arith)
+    (no_words g.S.AsStr.text c.args.words.now few) (asked_for words b.field-0 b.field-0-0 (Keep b.asked) b.folders b.ensures.asked b.field-0-is b.field-0-0-is))
+
+pub returns-in-Ok-For-Keep-default-clause-keeps : goal.returns-in-Ok-For-Keep-default-clause-keeps
+returns-in-Ok-For-Keep-default-clause-keeps g c = λ s asks ok. let words = map g.S.AsStr.text c.args.words.now in let b = c.in-Ok-For-Keep-default in
+    same_kept c.words_ask_once.ensures.once words b.asked s
+    (λ q. (text : List ℕ) × Appends (g.W.Write.contents c.args.writer.now) (g.W.Write.contents c.keep-ended.new.writer) text × TellsServer q.hosting.run.bound q.hosting.run.tenants text)
+    (asked_for words b.field-0 b.field-0-0 (Keep b.asked) b.folders b.ensures.asked b.field-0-is b.field-0-0-is) asks
+    (went_well g.E.Sink.refuses g.E.Write.contents c.args.errors.now.sink c.tell_end-in-Ok-For-Keep-default.new.errors c.keep-ended.result c.tell_end-in-Ok-For-Keep-default.result c.tell_end-in-Ok-For-Keep-default.ensures ok c.keep-ended.ensures)
+
+pub returns-in-Ok-For-Keep-default-clause-asked : goal.returns-in-Ok-For-Keep-default-clause-asked
+returns-in-Ok-For-Keep-default-clause-asked g c = let words = map g.S.AsStr.text c.args.words.now in let b = c.in-Ok-For-Keep-default in
+    inr (inr (inr (inr (inr (inr (inr (inr (inr (inr (
+      b.asked,
+      asked_for words b.field-0 b.field-0-0 (Keep b.asked) b.folders b.ensures.asked b.field-0-is b.field-0-0-is,
+      c.keep-ended.result,
+      c.tell_end-in-Ok-For-Keep-default.ensures,
+      refl,
+    ))))))))))
 
 pub returns-in-Ok-Help-clause-usual : goal.returns-in-Ok-Help-clause-usual
 returns-in-Ok-Help-clause-usual g c = λ few ok. let words = map g.S.AsStr.text c.args.words.now in
@@ -101,10 +147,10 @@ returns-in-Ok-Version-clause-asked g c =
     ))))))
 
 -- why words are refused, or no memory for the line
-module _ {A B : Type 0} (asked : A) (n : ℕ) {R W Told : Type 0} (reader : R) (writer : W) where
-  refused : (n ≡ 2) ⊎ ((n ≡ 1) × Told) → (A × (n ≡ 2) × (reader ≡ reader) × (writer ≡ writer)) ⊎ (B ⊎ ((n ≡ 1) × (reader ≡ reader) × (writer ≡ writer) × Told))
+module _ {A B C : Type 0} (asked : A) (n : ℕ) {R W Told : Type 0} (reader : R) (writer : W) where
+  refused : (n ≡ 2) ⊎ ((n ≡ 1) × Told) → (A × (n ≡ 2) × (reader ≡ reader) × (writer ≡ writer)) ⊎ (B ⊎ (((n ≡ 1) × (reader ≡ reader) × (writer ≡ writer) × Told) ⊎ C))
   refused (inl two) = inl (asked, two, refl, refl)
-  refused (inr one) = inr (inr (one.0, refl, refl, one.1))
+  refused (inr one) = inr (inr (inl (one.0, refl, refl, one.1)))
 
 pub returns-in-Ok-Refused-clause-asked : goal.returns-in-Ok-Refused-clause-asked
 returns-in-Ok-Refused-clause-asked g c =
@@ -117,8 +163,8 @@ returns-in-Ok-NotAllowed-clause-asked g c =
     let unfit = c.in-Ok-NotAllowed.unfit in
     let has = subst (IsAsked (map g.S.AsStr.text c.args.words.now)) c.in-Ok-NotAllowed.field-0-is c.in-Ok-NotAllowed.ensures.asked in
     inr (inr (inr (inr (inr (inr (inr (
-    elim c.refuse_part.ensures [ inl said ↦ inl (unfit, has, said.0, refl, refl, said.1) | inr short ↦ inr (short.0, refl, refl, short.1) ]
+    elim c.refuse_part.ensures [ inl said ↦ inl (unfit, has, said.0, refl, refl, said.1) | inr short ↦ inr (inl (short.0, refl, refl, short.1)) ]
     )))))))
 
 pub returns-in-Err-clause-asked : goal.returns-in-Err-clause-asked
-returns-in-Err-clause-asked g c = inr (inr (inr (inr (inr (inr (inr (inr (c.fault.ensures.status, refl, refl, c.fault.ensures.tells))))))))
+returns-in-Err-clause-asked g c = inr (inr (inr (inr (inr (inr (inr (inr (inl (c.fault.ensures.status, refl, refl, c.fault.ensures.tells)))))))))

@@ -22,7 +22,8 @@ returns-clause-texts g c = let words = map g.S.AsStr.text c.args.words.now in le
     (is (codes "connections") c.get_str-7.result c.get_str-7.ensures) (is (codes "idle") c.get_str-8.result c.get_str-8.ensures)
     (is (codes "idle-transaction") c.get_str-9.result c.get_str-9.ensures) (is (codes "first-tenant") c.get_str-10.result c.get_str-10.ensures)
     (is (codes "tenant-memory") c.get_str-11.result c.get_str-11.ensures) (is (codes "log") c.get_str-12.result c.get_str-12.ensures)
-    (is (codes "until-input-ends") c.get_str-13.result c.get_str-13.ensures)
+    (is (codes "until-input-ends") c.get_str-13.result c.get_str-13.ensures) (is (codes "tenant") c.get_str-14.result c.get_str-14.ensures)
+    (is (codes "load") c.get_str-15.result c.get_str-15.ensures) (is (codes "dump-to") c.get_str-16.result c.get_str-16.ensures)
 
 pub returns-in_err-matches-clause-kinds : goal.returns-in_err-matches-clause-kinds
 returns-in_err-matches-clause-kinds g c =

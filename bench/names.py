@@ -1,0 +1,143 @@
+#!/usr/bin/env python3
+"""Whether what documents name is there: each function, type, clause, definition, crate and file in backticks that
+docs/PROVED.md, docs/DEFINITIONS.md, other pages on the code and the crates' READMEs name stands under that name in the
+crates' sources or specs.
+
+    bench/names.py [FILE..]
+
+`Type::call` is a function of that type. A clause is one of a function that its paragraph names, in a README one of its
+crate's. Where a paragraph of docs/PROVED.md names crates, its names are theirs. It prints one line, before it the names
+that aren't there, and fails where there is one."""
+
+import pathlib
+import re
+import sys
+from collections import defaultdict
+
+TOP = pathlib.Path(__file__).resolve().parent.parent
+PAGES = ["docs/PROVED.md", "docs/DEFINITIONS.md", "docs/DECISIONS.md", "docs/ARCHITECTURE.md", "docs/CHANGING.md"]
+# words of the language that the code is written in, and of the documents themselves
+WORDS = {"requires", "ensures", "Promise", "Machine", "None", "Some", "Copy", "Send", "Sync", "match"}
+
+BLOCK = re.compile(r"^ *(?:pub(?:\(crate\))? )?(impl|trait|struct|enum)\b(.*)")
+OWNER = re.compile(r"(?:<[^{]*?> )?(?:.* for )?(\w+)")
+FUNCTION = re.compile(r"^ *(?:pub(?:\(crate\))? )?(?:const )?(?:unsafe )?fn (\w+)")
+LABEL = re.compile(r"^ *(?:ensures|requires) (\w+) \{")
+DECLARED = re.compile(r"^ *(?:pub(?:\(crate\))? )?(?:unsafe )?(?:struct|enum|trait|type|const|mod|static) (\w+)")
+VARIANT = re.compile(r"^    (?:pub(?:\(crate\))? )?(\w+)(?: \{|\(|,|:)")
+SPEC = re.compile(r"^ *(?:(?:pub|abbrev|unfoldable|record|data) )*(\w+)(?: [({].*)? :")
+CALLED = re.compile(r"\b(\w+)::(\w+)\(")
+USED = re.compile(r"^ *(?:pub )?use ([^;]+);", re.MULTILINE)
+SPAN = re.compile(r"`([^`\n]+)`")
+PATH = re.compile(r"[\w.]+(?:/[\w.]+)+")
+NAME = re.compile(r"[A-Za-z_]\w*")
+
+
+class Code:
+    """The names of all crates, each with the crates that have it; calls by type or module; clauses by function."""
+
+    def __init__(self):
+        self.names, self.calls, self.labels = defaultdict(set), set(), defaultdict(set)
+        for crate in sorted((TOP / "crates").iterdir()):
+            self.names[crate.name].add(crate.name)
+            for file in sorted(crate.glob("src/*.rt")):
+                self.names[file.stem].add(crate.name)
+                self.read_source(crate.name, file.stem, file.read_text(encoding="utf-8"))
+            for file in sorted(crate.glob("specs/*.antt")):
+                self.names[file.stem].add(crate.name)
+                self.read_specs(crate.name, file.read_text(encoding="utf-8"))
+            for file in sorted(crate.glob("proofs/*.antt")):
+                self.names[file.stem].add(crate.name)
+
+    def read_source(self, crate, module, text):
+        owner = function = None
+        for line in text.splitlines():
+            if found := BLOCK.match(line):
+                owner = OWNER.match(found[2].strip())[1] if found[2].strip() else None
+            elif line == "}":
+                owner = None
+            if found := FUNCTION.match(line):
+                function = found[1]
+                self.names[function].add(crate)
+                self.calls.add((owner if owner and line.startswith("    ") else module, function))
+            elif found := LABEL.match(line):
+                self.labels[function].add(found[1])
+                self.labels[crate].add(found[1])
+            elif found := DECLARED.match(line) or VARIANT.match(line):
+                self.names[found[1]].add(crate)
+        self.calls |= set(CALLED.findall(text))
+        for used in USED.findall(text):
+            for name in NAME.findall(used):
+                self.names[name].add(crate)
+
+    def read_specs(self, crate, text):
+        for line in text.splitlines():
+            if found := SPEC.match(line):
+                self.names[found[1]].add(crate)
+
+
+def words_of_the_language():
+    """The words of commands, options and replies: whatever stands in backticks on their page."""
+    page = (TOP / "docs/COMMANDS.md").read_text(encoding="utf-8")
+    reserved = re.search(r"Reserved words: `([^`]+)`", page)[1]
+    return set(reserved.split()) | {word for span in SPAN.findall(page) for word in span.split()}
+
+
+def is_there(code, words, name, crates):
+    """Whether this name is one of the code, of these crates if there are any, or of the language."""
+    if "::" in name:
+        owner, call = name.split("::")[-2:]
+        return (owner, call) in code.calls
+    has = code.names.get(name, set())
+    return bool(has & crates if crates and has else has) or name in words or name in WORDS
+
+
+def has_file(page, path, spans):
+    """Whether the path leads somewhere from the top, the page or a crate that is named, with or without its ending."""
+    named = {TOP / "crates" / span.split("/")[0] for span in spans if span.startswith("sb_")}
+    for begin in (TOP, TOP / "crates", page.parent, *named):
+        if any((begin / f"{path}{end}").exists() for end in ("", ".antt", ".rt", ".md")):
+            return True
+    return False
+
+
+def faults_of(page, code, words):
+    """The names of a page that aren't there, each with the begin of its paragraph."""
+    text = page.read_text(encoding="utf-8")
+    if "](" in text:
+        text = re.sub(r"\[([^\]]*)\]\([^)]*\)", r"\1", text)
+    text = re.sub(r"^```.*?^```", "", text, flags=re.DOTALL | re.MULTILINE)
+    is_proved = page.name == "PROVED.md"
+    for part in re.split(r"\n\s*\n|\n(?=[-*|#] )", text):
+        spans = SPAN.findall(part.replace("\n", " "))
+        crates = set(re.findall(r"\[(sb_\w+)\]", part)) if is_proved else set()
+        labels = set()
+        for found in re.finditer(r"clauses? (`\w+`(?:(?:,| and|, and) `\w+`)*)", part.replace("\n", " ")):
+            labels |= set(SPAN.findall(found[1]))
+        calls = {span.split("::")[-1] for span in spans} | {page.parent.name}
+        for span in dict.fromkeys(spans):
+            if span in labels:
+                if not any(span in code.labels.get(call, ()) for call in calls):
+                    yield f"clause {span}", part
+            elif PATH.fullmatch(span):
+                if not has_file(page, span, spans):
+                    yield span, part
+            elif re.fullmatch(r"\w+(?:::\w+)*", span) and NAME.match(span):
+                if not is_there(code, words, span, crates):
+                    yield span, part
+
+
+def main():
+    pages = [pathlib.Path(name).resolve() for name in sys.argv[1:]]
+    if not pages:
+        pages = [TOP / name for name in PAGES if (TOP / name).exists()] + sorted(TOP.glob("crates/*/README.md"))
+    code, words, faults = Code(), words_of_the_language(), 0
+    for page in pages:
+        for name, part in faults_of(page, code, words):
+            faults += 1
+            print(f"{page.relative_to(TOP)}: {name}: {' '.join(part.split())[:60]}")
+    print(f"{len(pages)} pages, {faults} names that aren't there")
+    return 1 if faults else 0
+
+
+sys.exit(main())

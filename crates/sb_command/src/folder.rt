@@ -1,0 +1,76 @@
+//! Files of tenants in a folder: one file for each, named by the tenant's number.
+
+use crate::fault::Fault;
+use sb_wire::StreamError;
+use std::alloc::{AllocError, Global};
+use std::fs;
+use std::fs::OpenFile as _;
+use std::io::{self, Write as _};
+use std::rt::Files;
+
+/// A folder, and the number of the first tenant, as files are named.
+#[derive(Clone, Copy)]
+pub(crate) struct Folder<'a> {
+    pub(crate) path: &'a str,
+    pub(crate) first: u32,
+}
+
+impl<'a> Folder<'a> {
+    /// The number by which this tenant's file is named.
+    pub(crate) fn number_of(self, tenant: u32) -> u64 {
+        u64::from(self.first) + u64::from(tenant)
+    }
+
+    /// The file of the tenant with this number.
+    pub(crate) fn file_of(self, alloc: Global, number: u64) -> Result<String, AllocError> {
+        let folder = self.path;
+        format!(in alloc; "{folder}/{number}.lines")
+    }
+
+    /// The file that is written in its place, and then gets its name.
+    fn new_file_of(self, alloc: Global, number: u64) -> Result<String, AllocError> {
+        let folder = self.path;
+        format!(in alloc; "{folder}/{number}.lines.new")
+    }
+
+    /// Whether there is a folder.
+    pub(crate) fn is_there<R: Files>(self, rt: &R) -> io::Result<bool> {
+        Ok(fs::metadata(rt, self.path)?.is_dir())
+    }
+
+    /// Writes the file of the tenant with this number. There is never a part of it under its name.
+    pub(crate) fn write<R: Files>(
+        self,
+        rt: &R,
+        alloc: Global,
+        number: u64,
+        text: &[u8],
+    ) -> Result<io::Result<()>, Fault> {
+        let Ok(path) = self.file_of(alloc, number) else {
+            return Err(Fault::Stream(StreamError::NoMemory));
+        };
+        let Ok(beside) = self.new_file_of(alloc, number) else {
+            return Err(Fault::Stream(StreamError::NoMemory));
+        };
+        Ok(write_beside(rt, beside.as_str(), path.as_str(), text))
+    }
+}
+
+/// Writes a file beside its name, and then gives it the name.
+fn write_beside<R: Files>(rt: &R, beside: &str, path: &str, text: &[u8]) -> io::Result<()> {
+    match write_new(rt, beside, text) {
+        Ok(()) => fs::rename(rt, beside, path),
+        Err(error) => {
+            // what is there of it is of no use
+            let _removed = fs::remove_file(rt, beside);
+            Err(error)
+        }
+    }
+}
+
+/// Writes a file, to the disk.
+fn write_new<R: Files>(rt: &R, path: &str, text: &[u8]) -> io::Result<()> {
+    let mut file = fs::create(rt, path)?;
+    file.write_all(text)?;
+    file.sync_all()
+}

@@ -1,0 +1,122 @@
+//! The tenants of a host, written to the files of a folder.
+ghost use Rattle.std.specs.Prelude.{◌≤◌};
+
+use crate::dumping::{text_of, undumped};
+use crate::fault::Fault;
+use crate::folder::Folder;
+use crate::journal::Journal;
+use sb_dump::{DumpError, Script, dump};
+use sb_host::{Host, Naming, Reading};
+use sb_tenant::Tenant;
+use sb_wire::StreamError;
+use std::alloc::Global;
+use std::rt::{Clock, Files};
+use std::sync::Wait;
+
+/// What is noted of a tenant.
+#[derive(Drop)]
+enum Noted {
+    /// No session of it was ever opened.
+    Unused,
+    Script(Script),
+    /// It has no script.
+    Lacking(DumpError),
+}
+
+/// Notes the script of a tenant.
+#[derive(Drop)]
+struct Notes {
+    alloc: Global,
+    bound: u32,
+    noted: Noted,
+    ghost few: { bound ≤ 1000 },
+}
+
+impl Reading for Notes {
+    ghost use Rattle.std.specs.Prelude.{⊤};
+
+    ghost reads = { λ _ _ _. ⊤ };
+
+    fn read(&mut self, tenant: &Tenant) {
+        if tenant.trail().is_empty() {
+            return;
+        }
+        self.noted = match dump(self.alloc, tenant, self.bound) {
+            Ok(script) => Noted::Script(script),
+            Err(error) => Noted::Lacking(error),
+        };
+    }
+}
+
+/// Writes the file of each tenant that was ever opened. Where one isn't written the others are all the same, and the
+/// first fault is given.
+pub(crate) fn save_all<T: Wait + Eprint + Clock + Files, N: Naming>(
+    rt: &T,
+    alloc: Global,
+    host: &Host<N>,
+    bound: u32,
+    folder: Folder<'_>,
+    journal: &Journal<'_, T>,
+) -> Result<(), Fault>
+    requires { bound ≤ 1000 }
+{
+    let mut ended = Ok(());
+    for tenant in 0..host.tenants() {
+        if let Err(why) = save_one(rt, alloc, host, bound, folder, journal, tenant) {
+            journal.tell_unsaved(folder.number_of(tenant));
+            if ended.is_ok() {
+                ended = Err(why);
+            }
+        }
+    }
+    ended
+}
+
+/// Writes the file of a tenant, if it was ever opened.
+fn save_one<T: Wait + Eprint + Clock + Files, N: Naming>(
+    rt: &T,
+    alloc: Global,
+    host: &Host<N>,
+    bound: u32,
+    folder: Folder<'_>,
+    journal: &Journal<'_, T>,
+    tenant: u32,
+) -> Result<(), Fault>
+    requires { bound ≤ 1000 }
+{
+    let number = folder.number_of(tenant);
+    let mut notes = Notes {
+        alloc,
+        bound,
+        noted: Noted::Unused,
+    };
+    let _is_there = host.read(rt, tenant, &mut notes);
+    let Notes { noted, .. } = notes;
+    match noted {
+        Noted::Unused => Ok(()),
+        Noted::Lacking(error) => Err(undumped(number, error)),
+        Noted::Script(script) => write_script(rt, alloc, folder, journal, number, &script),
+    }
+}
+
+/// Writes a script to the file of the tenant with this number.
+fn write_script<T: Eprint + Clock + Files>(
+    rt: &T,
+    alloc: Global,
+    folder: Folder<'_>,
+    journal: &Journal<'_, T>,
+    number: u64,
+    script: &Script,
+) -> Result<(), Fault> {
+    let Ok(text) = text_of(alloc, script) else {
+        return Err(Fault::Stream(StreamError::NoMemory));
+    };
+    match folder.write(rt, alloc, number, text.as_slice()) {
+        Ok(Ok(())) => Ok(()),
+        Ok(Err(error)) => {
+            journal.tell_cannot_write(number, &error);
+            Err(Fault::CannotWrite { tenant: number })
+        }
+        Err(why) => Err(why),
+    }
+}
