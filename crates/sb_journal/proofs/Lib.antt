@@ -1,0 +1,9 @@
+mod Bytes
+mod Contents
+mod Crash
+mod Reading
+mod Repair
+mod Walk
+mod Places
+mod Batches
+mod Pieces

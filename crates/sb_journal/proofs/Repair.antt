@@ -1,0 +1,73 @@
+-- What a crash leaves while the end of a file is repaired.
+use Rattle.std.proofs.Common.{◌≡◌, ◌≢◌, ℕ, ◌+◌, ◌-◌, ◌<◌, ◌≤◌, List, [], ◌∷◌, ◌++◌, length, get_or, drop, refl, sym, ◌∙◌, ap, subst, inl, inr, arith, length-append, length-drop, append_assoc}
+use Rattle.std.proofs.lemmas.List.{append-nil, drop_more, drop_all}
+use Rattle.sqlite_disk.specs.Disk.{Holds, Torn, Cut}
+use Rattle.sb_journal.specs.Blocks.{blocks, IsEnd, Stands}
+use Rattle.sb_journal.specs.Log.{IsAtRest}
+use Rattle.sb_journal.specs.Ends.{EndsAt}
+use Rattle.sb_journal.proofs.Bytes.{torn_front, cut_front}
+use Rattle.sb_journal.proofs.Contents.{stands_shut}
+
+pub short_end : (bytes : List ℕ) → length bytes ≤ 1 → IsEnd bytes
+short_end [] short = tt
+short_end (gate ∷ []) short = inr refl
+short_end (gate ∷ next ∷ bytes) short = absurd (omega arith)
+
+-- behind more than a gate, the gate is shut
+pub record Gated (end : List ℕ) : Type 0 where
+  pub gate : ℕ
+  pub rest : List ℕ
+  pub shut : gate ≢ 1
+  pub whole : end ≡ gate ∷ rest
+
+gated : (end : List ℕ) → IsEnd end → 1 < length end → Gated end
+gated [] over long = absurd (omega arith)
+gated (gate ∷ rest) (inl shut) long = record { gate = gate; rest = rest; shut = shut; whole = refl }
+gated (gate ∷ rest) (inr none) long = absurd (omega (arith, ap length none))
+
+module _ (contents : List (List ℕ)) (end len : ℕ) (file : List ℕ) (ends : EndsAt contents end len file) where
+  tail_size : length ends.stands.end ≡ len - end
+  tail_size = omega (arith, ends.size, ends.at_end, ap length ends.stands.whole, length-append (blocks contents) ends.stands.end)
+
+  module _ (long : 1 < len - end) (c : List ℕ) (cut : Cut (end + 1) file c) where
+    kept : Gated ends.stands.end
+    kept = gated ends.stands.end ends.stands.over (omega (arith, tail_size, long))
+
+    after_cut : c ≡ blocks contents ++ kept.gate ∷ [] ++ drop (length (blocks contents ++ kept.gate ∷ [])) c
+    after_cut =
+        cut_front file (blocks contents ++ kept.gate ∷ []) kept.rest c (end + 1)
+        (ends.stands.whole ∙ ap (λ (l : List ℕ). blocks contents ++ l) kept.whole ∙ sym (append_assoc (blocks contents) (kept.gate ∷ []) kept.rest))
+        (omega (arith, ends.at_end, length-append (blocks contents) (kept.gate ∷ []))) cut
+
+    pub cut_keeps : Stands contents c
+    cut_keeps = stands_shut contents kept.gate _ c ends.stands.each kept.shut (after_cut ∙ append_assoc (blocks contents) (kept.gate ∷ []) _)
+
+    pub cut_rests : length c ≡ end + 1 → IsAtRest contents c
+    cut_rests size = record {
+      gate = kept.gate;
+      shut = kept.shut;
+      whole = after_cut ∙ ap (λ (l : List ℕ). blocks contents ++ kept.gate ∷ [] ++ l) (drop_all (length (blocks contents ++ kept.gate ∷ [])) c (omega (arith, size, ends.at_end, length-append (blocks contents) (kept.gate ∷ [])))) ∙ append-nil (blocks contents ++ kept.gate ∷ []);
+    }
+
+  module _ (short : len - end ≤ 1) (c : List ℕ) (torn : Torn end 1 file c) where
+    after_write : c ≡ blocks contents ++ drop (length (blocks contents)) c
+    after_write = torn_front file (blocks contents) ends.stands.end c end 1 ends.stands.whole (omega (arith, ends.at_end)) torn
+
+    few : length (drop (length (blocks contents)) c) ≤ 1
+    few = omega (arith, length-drop (length (blocks contents)) c, torn.no_longer, ends.at_end, ends.size, short, tail_size, ap length ends.stands.whole, length-append (blocks contents) ends.stands.end)
+
+    pub write_keeps : Stands contents c
+    write_keeps = record { each = ends.stands.each; end = drop (length (blocks contents)) c; whole = after_write; over = short_end (drop (length (blocks contents)) c) few }
+
+    pub write_rests : Holds c end (0 ∷ []) → IsAtRest contents c
+    write_rests holds =
+        let byte : get_or c (length (blocks contents)) 0 ≡ 0 = subst (λ n. get_or c n 0 ≡ 0) (omega (arith, ends.at_end)) (holds.each 0 (omega arith)) in
+        record {
+          gate = 0;
+          shut = omega arith;
+          whole = after_write ∙ ap (λ (l : List ℕ). blocks contents ++ l) (
+              drop_more c (length (blocks contents)) 0 (omega (arith, holds.within, ends.at_end))
+              ∙ ap (λ (b : ℕ). b ∷ drop (length (blocks contents) + 1) c) byte
+              ∙ ap (λ (l : List ℕ). 0 ∷ l) (drop_all (length (blocks contents) + 1) c (omega (arith, few, length-drop (length (blocks contents)) c)))
+              );
+        }

@@ -1,0 +1,5 @@
+use Rattle.std.proofs.Common.{refl}
+use Rattle.sb_journal.proofs.journal.Journal.over.Goals as goal
+
+pub returns : goal.returns
+returns g c head batches has = record { batches = batches; log = has; all = refl; waits = c.new.ensures.items }

@@ -1,0 +1,35 @@
+-- Promise: what a file of blocks stands for.
+use Rattle.std.specs.Prelude.{◌≡◌, ◌≢◌, ◌⊎◌, ℕ, ◌^◌, ◌≤◌, List, [], ◌∷◌, ◌++◌, length}
+use Rattle.std.specs.List.{AllByRecursion}
+use Rattle.std.specs.Int.{w32, to_be_bytes}
+
+-- four bytes of length, and that many bytes
+abbrev pub body : List ℕ → List ℕ
+body content = to_be_bytes w32 (length content) ++ content
+
+-- a block: an open gate, which is 1, and the body behind it
+abbrev pub block : List ℕ → List ℕ
+block content = 1 ∷ body content
+
+abbrev pub blocks : List (List ℕ) → List ℕ
+blocks [] = []
+blocks (content ∷ contents) = block content ++ blocks contents
+
+abbrev pub IsContent : List ℕ → Type 0
+IsContent content = length content ≤ 2 ^ 20
+
+-- No block begins here: no more than a gate, or a shut gate and whatever is behind it.
+abbrev pub IsEnd : List ℕ → Type 0
+IsEnd [] = Unit {0}
+IsEnd (gate ∷ rest) = (gate ≢ 1) ⊎ (rest ≡ [])
+
+-- The file is the blocks of these contents, and no block begins behind them.
+pub record Stands (contents : List (List ℕ)) (file : List ℕ) : Type 0 where
+  pub each : AllByRecursion IsContent contents
+  pub end : List ℕ
+  pub whole : file ≡ blocks contents ++ end
+  pub over : IsEnd end
+
+-- the file stands for what was there, or for that and one content more
+abbrev pub IsBeforeOrAfter : List (List ℕ) → List ℕ → List ℕ → Type 0
+IsBeforeOrAfter contents content file = Stands contents file ⊎ Stands (contents ++ content ∷ []) file

@@ -1,0 +1,6 @@
+pub mod Blocks
+pub mod Log
+pub mod Ends
+pub mod Records
+pub mod Journal
+pub mod Opening

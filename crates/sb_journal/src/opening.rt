@@ -1,0 +1,81 @@
+//! The head of a log, found or written.
+ghost use Rattle.std.specs.Prelude.{◌≡◌, ◌≢◌, [], ◌∷◌, List, ℕ, length, IfOk, IfErr, OnOk, OnErr, IsTrue};
+ghost use Rattle.sb_journal.specs.Blocks.{IsBeforeOrAfter};
+ghost use Rattle.sb_journal.specs.Log.{HasAll, device_of};
+ghost use Rattle.sb_journal.specs.Journal.{head_bytes};
+ghost use Rattle.sb_journal.specs.Opening.{Names};
+ghost use Rattle.sb_journal.specs.declared.head.Head.{Head as TheHead};
+
+use crate::{Head, JournalError, Log};
+use sqlite_disk::Disk;
+use std::alloc::{AllocError, Global};
+
+/// Why a log doesn't begin with a head.
+#[derive(Clone, Copy, Debug)]
+pub enum BeginError {
+    Journal(JournalError),
+    /// It begins as the log of another program, or with lines of another meaning.
+    OtherMeaning,
+    OtherTenants,
+    OtherBound,
+}
+
+/// Finds the head in a log, or writes it into an empty one. It may crash too.
+pub fn begin<D: Disk>(alloc: Global, log: &mut Log<D>, head: Head) -> Result<(), BeginError>
+    // A log that has something begins with this head, and keeps all.
+    ensures found { OnOk result (IsTrue (D.Disk.is_clean (device_of log.new)) → (first : List ℕ) (others : List (List ℕ))
+        → HasAll D.Disk.seen D.Disk.may_leave log.old (first ∷ others) → first ≡ head_bytes head) }
+    ensures kept { IsTrue (D.Disk.is_clean (device_of log.new)) → (first : List ℕ) (others : List (List ℕ))
+        → HasAll D.Disk.seen D.Disk.may_leave log.old (first ∷ others) → HasAll D.Disk.seen D.Disk.may_leave log.new (first ∷ others) }
+
+    // Of another head it is told where it differs.
+    ensures other { IfErr result (λ e. IsTrue (D.Disk.is_clean (device_of log.new)) → (other : TheHead) (others : List (List ℕ))
+        → HasAll D.Disk.seen D.Disk.may_leave log.old (head_bytes other ∷ others) → Names e other head) }
+
+    // An empty log has the head then. A crash at any moment leaves it empty, or with the whole head.
+    ensures begun { OnOk result (IsTrue (D.Disk.is_clean (device_of log.new)) → HasAll D.Disk.seen D.Disk.may_leave log.old []
+        → HasAll D.Disk.seen D.Disk.may_leave log.new (head_bytes head ∷ [])) }
+    ensures any_moment { HasAll D.Disk.seen D.Disk.may_leave log.old []
+        → (file : List ℕ) → D.Disk.may_leave (device_of log.new) file → IsBeforeOrAfter [] (head_bytes head) file }
+{
+    let Ok(ours) = bytes_of_head(alloc, head) else {
+        return Err(BeginError::Journal(JournalError::Memory));
+    };
+    let mut first = Vec::new(alloc);
+    match log.read(0, &mut first) {
+        Ok(Some(_)) => compare(&first, &ours),
+        Ok(None) => match log.append(alloc, &ours) {
+            Ok(()) => Ok(()),
+            Err(error) => Err(BeginError::Journal(error)),
+        },
+        Err(error) => Err(BeginError::Journal(error)),
+    }
+}
+
+/// Whether two heads are the same, and else in which field they differ.
+fn compare(first: &[u8], ours: &[u8]) -> Result<(), BeginError>
+    requires { length ours.now ≡ 20 }
+    ensures same { OnOk result (first.now ≡ ours.now) }
+    ensures other { IfErr result (λ e. (other head : TheHead) → first.now ≡ head_bytes other → ours.now ≡ head_bytes head → Names e other head) }
+{
+    if first == ours {
+        return Ok(());
+    }
+    if first.len() != 20 || first[..8] != ours[..8] {
+        return Err(BeginError::OtherMeaning);
+    }
+    if first[8..12] != ours[8..12] {
+        return Err(BeginError::OtherTenants);
+    }
+    Err(BeginError::OtherBound)
+}
+
+fn bytes_of_head(alloc: Global, head: Head) -> Result<Vec<u8>, AllocError>
+    ensures { IfOk result (λ bytes. bytes.items ≡ head_bytes head) }
+{
+    let mut bytes = Vec::with_capacity(alloc, 20)?;
+    bytes.extend_from_slice(b"FILGJRN1")?;
+    bytes.extend_from_slice(&head.tenants.to_be_bytes())?;
+    bytes.extend_from_slice(&head.bound.to_be_bytes())?;
+    Ok(bytes)
+}
