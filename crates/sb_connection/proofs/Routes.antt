@@ -14,7 +14,7 @@ begins_line bytes taken rest has_ended old new fresh split completes = inl (take
 pub begins_last : (bytes : List ℕ) (has_ended : Bool) (old new : Piece) → old ≡ line [] → has_ended ≡ true → Completes old bytes [] new → Begins bytes has_ended new
 begins_last bytes has_ended old new fresh ended completes = inr (ended, (completes.behind [] fresh).0, (completes.behind [] fresh).1)
 
-pub routes_by : (hosted : Hosted) (bytes : List ℕ) (has_ended : Bool) (first : Piece) (r : Route) → Begins bytes has_ended first → RoutesBy hosted (named_by first) r → Routes hosted bytes has_ended r
+pub routes_by : (hosted : Hosted) (bytes : List ℕ) (has_ended : Bool) (first : Piece) (r : Route) → Begins bytes has_ended first → RoutesBy hosted (named_by hosted.keyed first) r → Routes hosted bytes has_ended r
 routes_by hosted bytes has_ended first Unknown begins by = absurd by
 routes_by hosted bytes has_ended first (To tenant) begins by = (first, begins, by)
 routes_by hosted bytes has_ended first Away begins by = inl (first, begins, by)

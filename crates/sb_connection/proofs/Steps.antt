@@ -1,5 +1,5 @@
 -- What a connection does keeps what holds of it.
-use Rattle.std.proofs.Common.{◌≡◌, ◌≤◌, ◌-◌, ◌∙◌, ◌==◌, MatchBool, arith, length, length-append, sym, ap, subst, refl, inl, inr, ℕ, Bool, true, false, List, [], ◌∷◌, ◌++◌, take, drop, append_assoc, append-nil, None}
+use Rattle.std.proofs.Common.{◌≡◌, ◌⊎◌, ◌<◌, ◌≤◌, ◌+◌, ◌-◌, ◌∙◌, ◌==◌, MatchBool, arith, length, length-append, sym, ap, subst, refl, inl, inr, ℕ, Bool, true, false, List, [], ◌∷◌, ◌++◌, take, drop, append_assoc, append-nil, Option, Some, None}
 use Rattle.std.proofs.lemmas.Bool.{eqb-false, eqb-true, false≢true}
 use Rattle.std.proofs.lemmas.List.{length-drop, take-append-drop}
 use Rattle.std.proofs.Math.Seq.{drop-append_seam, drop-length}
@@ -8,10 +8,14 @@ use Rattle.sb_wire.specs.Responses.{AreAnswered}
 use Rattle.sb_connection.specs.declared.state.State.TheVariants.{Open, Answered, Over, Failed}
 use Rattle.sb_connection.specs.declared.state.State as stands
 use Rattle.sb_connection.specs.Conversation.{Hosted}
-use Rattle.sb_connection.specs.History.{AreAll, AreComplete, History, MayReceive, Stands, Tells, after_end, after_receiving, after_sending, nothing_yet}
+use Rattle.sb_connection.specs.History.{AreAll, AreComplete, History, IsSettled, MayReceive, Stands, Tells, after_end, after_receiving, after_sending, nothing_yet}
 use Rattle.sb_connection.specs.Machine.{Adds, AddsLast, Answers, Finishes, Holds, Steps, Talking}
-use Rattle.sb_connection.specs.Responding.{Responds, State, over}
+use Rattle.sb_connection.specs.Responding.{Admits, Greets, Responds, RespondsBy, State, anyone, over}
+use Rattle.sb_connection.specs.Admission.{BringsKey}
 use Rattle.sb_connection.specs.Standing.{is_open}
+use Rattle.sb_host.specs.Calls.{Session}
+use Rattle.sb_connection.proofs.Admitting.{all_to_anyone, last_cases, none_before, none_from, some_from, to_anyone}
+use Rattle.sb_connection.proofs.Whole.{admitted}
 
 pub nothing_holds : (hosted : Hosted) → Holds (record { history = nothing_yet hosted; opened = line []; talk = (None, false) })
 nothing_holds hosted = record {
@@ -19,6 +23,7 @@ nothing_holds hosted = record {
   text = [];
   tells = record { taken = []; split = refl; lost = []; whole = refl; stands = (refl, refl, refl) };
   is_open = refl;
+  attached = refl;
   answered = (refl, refl);
 }
 
@@ -58,10 +63,13 @@ drop_behind n bytes fed behind is =
     subst (λ (t : List ℕ). drop (length t - length behind) t ≡ behind) (sym whole)
     (ap (λ (m : ℕ). drop m (front ++ behind)) count ∙ drop-append_seam front behind)
 
+abbrev AreSaid : Hosted → State → List Piece → List ℕ → State → Type 0
+AreSaid hosted old ps text new = AreAnswered (Responds anyone hosted) over old ps text new
+
 -- some lines, and then others
-answered_then : (hosted : Hosted) (a b c : State) (ps qs : List Piece) (text more : List ℕ) → AreAnswered (Responds hosted) over a ps text b → AreAnswered (Responds hosted) over b qs more c → AreAnswered (Responds hosted) over a (ps ++ qs) (text ++ more) c
+answered_then : (hosted : Hosted) (a b c : State) (ps qs : List Piece) (text more : List ℕ) → AreSaid hosted a ps text b → AreSaid hosted b qs more c → AreSaid hosted a (ps ++ qs) (text ++ more) c
 answered_then hosted a b c [] qs text more (none, same) others =
-    subst (λ (t : List ℕ). AreAnswered (Responds hosted) over a qs t c) (ap (λ (t : List ℕ). t ++ more) (sym none)) (subst (λ (s : State). AreAnswered (Responds hosted) over s qs more c) same others)
+    subst (λ (t : List ℕ). AreSaid hosted a qs t c) (ap (λ (t : List ℕ). t ++ more) (sym none)) (subst (λ (s : State). AreSaid hosted s qs more c) same others)
 answered_then hosted a b c (p ∷ ps) qs text more (first, rest, mid, is, going, own, first-others) others =
     (first, rest ++ more, mid, ap (λ (t : List ℕ). t ++ more) is ∙ append_assoc first rest more, going, own, answered_then hosted mid b c ps qs rest more first-others others)
 
@@ -100,6 +108,7 @@ module _ (k : Talking) (holds : Holds k) where
           stands = stands_sent h.state count holds.pieces holds.tells.lost (over k.talk) holds.tells.stands;
         };
         is_open = holds.is_open;
+        attached = holds.attached;
         answered = holds.answered;
       }
 
@@ -125,6 +134,7 @@ module _ (k : Talking) (holds : Holds k) where
         stands = stands_open (after_receiving h bytes) taken refl standing.0;
       };
       is_open = holds.is_open;
+      attached = holds.attached;
       answered = holds.answered;
     }
 
@@ -140,6 +150,7 @@ module _ (k : Talking) (holds : Holds k) where
         stands = stands_open (after_end h) taken refl standing.0;
       };
       is_open = holds.is_open;
+      attached = holds.attached;
       answered = holds.answered;
     }
 
@@ -159,11 +170,12 @@ module _ (k : Talking) (holds : Holds k) where
             stands = stands_open (record h { waiting = [] }) (taken ++ h.waiting) refl (standing.0 ∙ sym (more.0 ∙ append-nil (complete_pieces taken)));
           };
           is_open = more.1;
+          attached = holds.attached;
           answered = holds.answered;
         }
 
     -- the line that the first bytes complete is answered
-    module _ (fed behind : List ℕ) (split : h.waiting ≡ fed ++ behind) (p : Piece) (completes : Completes k.opened fed (p ∷ []) (line [])) (new : Talking) (a : Answers (record { history = record h { waiting = behind }; opened = p; talk = k.talk }) new) where
+    module _ (fed behind : List ℕ) (split : h.waiting ≡ fed ++ behind) (p : Piece) (completes : Completes k.opened fed (p ∷ []) (line [])) (admits : Admits) (new : Talking) (a : Answers admits (record { history = record h { waiting = behind }; opened = p; talk = k.talk }) new) where
       abbrev pieces : List Piece
       pieces = holds.pieces ++ p ∷ []
 
@@ -217,13 +229,45 @@ module _ (k : Talking) (holds : Holds k) where
             text = holds.text ++ a.text;
             tells = t.0;
             is_open = (completes.behind taken holds.is_open).1 ∙ ap (λ (bytes : List ℕ). piece_of (open_line bytes)) (sym t.1);
+            attached = a.attached;
             answered =
-                subst (λ (n : Hosted). AreAnswered (Responds n) over (None, false) pieces (holds.text ++ a.text) new.talk) (sym a.streams.0)
-                (answered_then h.hosted (None, false) k.talk new.talk holds.pieces (p ∷ []) holds.text a.text holds.answered (a.text, [], new.talk, sym (append-nil a.text), standing.2, a.responds, (refl, refl)));
+                subst (λ (n : Hosted). AreSaid n (None, false) pieces (holds.text ++ a.text) new.talk) (sym a.streams.0)
+                (answered_then h.hosted (None, false) k.talk new.talk holds.pieces (p ∷ []) holds.text a.text holds.answered (a.text, [], new.talk, sym (append-nil a.text), standing.2, to_anyone admits h.hosted k.talk p a.text new.talk a.responds, (refl, refl)));
+          }
+
+      -- it took bytes
+      pub took : length new.history.waiting < length h.waiting
+      took = fed_by fed refl
+        where
+          fed_by : (bytes : List ℕ) → fed ≡ bytes → length new.history.waiting < length h.waiting
+          fed_by [] none =
+              let same : complete_pieces taken ++ p ∷ [] ≡ complete_pieces taken = sym (completes.behind taken holds.is_open).0 ∙ ap complete_pieces (ap (λ (t : List ℕ). taken ++ t) none ∙ append-nil taken) in
+              let count = ap length same in
+              let sum = length-append (complete_pieces taken) (p ∷ []) in
+              absurd (omega (arith, count, sum))
+          fed_by (b ∷ bytes) some =
+              let whole : length h.waiting ≡ length (b ∷ bytes) + length behind = ap length (split ∙ ap (λ (t : List ℕ). t ++ behind) some) ∙ length-append (b ∷ bytes) behind in
+              let left : length new.history.waiting ≡ length behind = ap length a.waiting in
+              omega (arith, whole, left)
+
+      -- a session that it opens
+      pub brings : new.history.hosted.keyed ≡ true → h.attached ≡ false → new.history.attached ≡ true → BringsKey admits new.history
+      brings keyed before after =
+          let none : k.talk.0 ≡ None = none_from k.talk.0 (sym holds.attached ∙ before) in
+          let alone : holds.pieces ≡ [] = none_before anyone h.hosted holds.pieces holds.text k.talk holds.answered none standing.2 in
+          let greets : Greets admits h.hosted p a.text new.talk.0 new.talk.1 = subst (λ (s : Option Session). RespondsBy admits h.hosted s p a.text new.talk) none a.responds in
+          let one = some_from new.talk.0 (sym a.attached ∙ after) in
+          let visitor = admitted admits h.hosted p a.text one.0 new.talk.1 (ap (λ (n : Hosted). n.keyed) (sym a.streams.0) ∙ keyed)
+          (subst (λ (s : Option Session). Greets admits h.hosted p a.text s new.talk.1) one.1 greets) in record {
+            first = p;
+            begins = inl (taken ++ fed, new.history.waiting, new_split, sym complete ∙ ap (λ (ps : List Piece). ps ++ p ∷ []) alone);
+            visitor = visitor.0;
+            is = visitor.1;
+            admitted = visitor.2;
           }
 
     -- the line that stands open at the end is answered
-    module _ (none : h.waiting ≡ []) (at_end : h.at_end ≡ true) (new : Talking) (a : Finishes k new) where
+    module _ (none : h.waiting ≡ []) (at_end : h.at_end ≡ true) (admits : Admits) (new : Talking) (a : Finishes admits k new) where
       abbrev all : List Piece
       all = holds.pieces ++ last_piece k.opened
 
@@ -271,38 +315,95 @@ module _ (k : Talking) (holds : Holds k) where
             text = holds.text ++ a.text;
             tells = t.0;
             is_open = a.opened ∙ holds.is_open ∙ ap (λ (bytes : List ℕ). piece_of (open_line bytes)) (sym t.1);
+            attached = a.attached;
             answered =
-                subst (λ (n : Hosted). AreAnswered (Responds n) over (None, false) all (holds.text ++ a.text) new.talk) (sym a.streams.0)
-                (answered_then h.hosted (None, false) k.talk new.talk holds.pieces (last_piece k.opened) holds.text a.text holds.answered a.answered);
+                subst (λ (n : Hosted). AreSaid n (None, false) all (holds.text ++ a.text) new.talk) (sym a.streams.0)
+                (answered_then h.hosted (None, false) k.talk new.talk holds.pieces (last_piece k.opened) holds.text a.text holds.answered (all_to_anyone admits h.hosted k.talk (last_piece k.opened) a.text new.talk a.answered));
           }
 
+      -- a session that it opens
+      pub brings_last : new.history.hosted.keyed ≡ true → h.attached ≡ false → new.history.attached ≡ true → BringsKey admits new.history
+      brings_last keyed before after = by (last_cases k.opened)
+        where
+          closed : k.talk.0 ≡ None
+          closed = none_from k.talk.0 (sym holds.attached ∙ before)
+
+          one : (s : Session) × (new.talk.0 ≡ Some s)
+          one = some_from new.talk.0 (sym a.attached ∙ after)
+
+          alone : holds.pieces ≡ []
+          alone = none_before anyone h.hosted holds.pieces holds.text k.talk holds.answered closed standing.2
+
+          by : (last_piece k.opened ≡ []) ⊎ (last_piece k.opened ≡ k.opened ∷ []) → BringsKey admits new.history
+          by (inl no_line) =
+              let same = (subst (λ (ps : List Piece). AreAnswered (Responds admits h.hosted) over k.talk ps a.text new.talk) no_line a.answered).1 in
+              absurd (let e : Some one.0 ≡ None = sym one.1 ∙ ap (λ (x : State). x.0) same ∙ closed in cc)
+          by (inr is) =
+              let are = subst (λ (ps : List Piece). AreAnswered (Responds admits h.hosted) over k.talk ps a.text new.talk) is a.answered in
+              let mid = are.2 in
+              let now : mid ≡ new.talk = sym are.6.1 in
+              let greets : Greets admits h.hosted k.opened are.0 mid.0 mid.1 = subst (λ (s : Option Session). RespondsBy admits h.hosted s k.opened are.0 mid) closed are.5 in
+              let visitor = admitted admits h.hosted k.opened are.0 one.0 mid.1 (ap (λ (n : Hosted). n.keyed) (sym a.streams.0) ∙ keyed)
+              (subst (λ (s : Option Session). Greets admits h.hosted k.opened are.0 s mid.1) (ap (λ (x : State). x.0) now ∙ one.1) greets) in record {
+                first = k.opened;
+                begins = inr (a.streams.1 ∙ at_end, ap complete_pieces same_bytes ∙ sym standing.0 ∙ alone, holds.is_open ∙ ap (λ (t : List ℕ). piece_of (open_line t)) (sym same_bytes));
+                visitor = visitor.0;
+                is = visitor.1;
+                admitted = visitor.2;
+              }
+
 -- ---- steps, from the fields of a connection
+
+-- no line is answered
+pub still : (admits : Admits) (k : Talking) → IsSettled k.history → Steps admits k false k
+still admits k settled = record {
+  holds = λ holds. holds;
+  lets = λ holds keyed before after. absurd (false≢true (sym before ∙ after));
+  goes = λ holds more. absurd (false≢true more);
+  streams = (refl, refl, refl, refl);
+  settles = λ over. settled;
+}
 
 abbrev with_waiting : Talking → List ℕ → Piece → Talking
 with_waiting k waiting opened = record { history = record k.history { waiting = waiting }; opened = opened; talk = k.talk }
 
-module _ (k0 k : Talking) (is : k0 ≡ k) (going : is_open k0.history.state ≡ true) (waiting : List ℕ) where
+module _ (admits : Admits) (k0 k : Talking) (is : k0 ≡ k) (going : is_open k0.history.state ≡ true) (waiting : List ℕ) where
   pub line_step : (fed behind : List ℕ) (p q : Piece) (new0 new : Talking) → k0.history.waiting ≡ fed ++ behind → waiting ≡ behind → Completes k0.opened fed (p ∷ []) (line []) → q ≡ line [] → new0 ≡ new
-      → Answers (with_waiting k0 waiting p) new → Steps k true (record new0 { opened = q })
+      → Answers admits (with_waiting k0 waiting p) new → Steps admits k true (record new0 { opened = q })
   line_step fed behind p q new0 new split left completes cleared view_is a =
-      let answers : Answers (with_waiting k0 behind p) new = subst (λ (t : List ℕ). Answers (with_waiting k0 t p) new) left a in
-      subst (λ (m : Talking). Steps m true (record new0 { opened = q })) is
-      (subst (λ (n : Talking). Steps k0 true (record n { opened = q })) (sym view_is)
-      (subst (λ (r : Piece). Steps k0 true (record new { opened = r })) (sym cleared)
-      (record { holds = λ holds. holds_line k0 holds going fed behind split p completes new answers; streams = a.streams; settles = λ more. absurd (false≢true (sym more)) })))
-
-  pub none_step : (q : Piece) → waiting ≡ [] → Completes k0.opened k0.history.waiting [] q → k0.history.at_end ≡ false → Steps k false (with_waiting k0 waiting q)
-  none_step q none completes more =
-      subst (λ (m : Talking). Steps m false (with_waiting k0 waiting q)) is
-      (subst (λ (t : List ℕ). Steps k0 false (with_waiting k0 t q)) (sym none)
-      (record { holds = λ holds. holds_none k0 holds going q completes; streams = (refl, refl, refl, refl); settles = λ over. inr (inr (refl, more)) }))
-
-  pub last_step : (q : Piece) (new : Talking) → waiting ≡ [] → Completes k0.opened k0.history.waiting [] q → k0.history.at_end ≡ true → Finishes (with_waiting k0 waiting q) new → Steps k false new
-  last_step q new none completes at_end a =
-      let finishes : Finishes (with_waiting k0 [] q) new = subst (λ (t : List ℕ). Finishes (with_waiting k0 t q) new) none a in
-      subst (λ (m : Talking). Steps m false new) is
+      let answers : Answers admits (with_waiting k0 behind p) new = subst (λ (t : List ℕ). Answers admits (with_waiting k0 t p) new) left a in
+      subst (λ (m : Talking). Steps admits m true (record new0 { opened = q })) is
+      (subst (λ (n : Talking). Steps admits k0 true (record n { opened = q })) (sym view_is)
+      (subst (λ (r : Piece). Steps admits k0 true (record new { opened = r })) (sym cleared)
       (record {
-        holds = λ holds. holds_last (with_waiting k0 [] q) (holds_none k0 holds going q completes) going refl at_end new finishes;
+        holds = λ holds. holds_line k0 holds going fed behind split p completes admits new answers;
+        lets = λ holds. brings k0 holds going fed behind split p completes admits new answers;
+        goes = λ holds more. took k0 holds going fed behind split p completes admits new answers;
+        streams = a.streams;
+        settles = λ more. absurd (false≢true (sym more));
+      })))
+
+  pub none_step : (q : Piece) → waiting ≡ [] → Completes k0.opened k0.history.waiting [] q → k0.history.at_end ≡ false → Steps admits k false (with_waiting k0 waiting q)
+  none_step q none completes more =
+      subst (λ (m : Talking). Steps admits m false (with_waiting k0 waiting q)) is
+      (subst (λ (t : List ℕ). Steps admits k0 false (with_waiting k0 t q)) (sym none)
+      (record {
+        holds = λ holds. holds_none k0 holds going q completes;
+        lets = λ holds keyed before after. absurd (false≢true (sym before ∙ after));
+        goes = λ holds more. absurd (false≢true more);
+        streams = (refl, refl, refl, refl);
+        settles = λ over. inr (inr (refl, more));
+      }))
+
+  pub last_step : (q : Piece) (new : Talking) → waiting ≡ [] → Completes k0.opened k0.history.waiting [] q → k0.history.at_end ≡ true → Finishes admits (with_waiting k0 waiting q) new → Steps admits k false new
+  last_step q new none completes at_end a =
+      let finishes : Finishes admits (with_waiting k0 [] q) new = subst (λ (t : List ℕ). Finishes admits (with_waiting k0 t q) new) none a in
+      let open_yet : Holds k0 → Holds (with_waiting k0 [] q) = λ holds. holds_none k0 holds going q completes in
+      subst (λ (m : Talking). Steps admits m false new) is
+      (record {
+        holds = λ holds. holds_last (with_waiting k0 [] q) (open_yet holds) going refl at_end admits new finishes;
+        lets = λ holds. brings_last (with_waiting k0 [] q) (open_yet holds) going refl at_end admits new finishes;
+        goes = λ holds more. absurd (false≢true more);
         streams = a.streams;
         settles = λ over. inl (closed_last new.history.state _ _ _ a.adds);
       })

@@ -10,7 +10,7 @@ use Rattle.sb_desk.specs.Receipts.{list_after, list_by}
 use Rattle.sb_host.specs.Calls.{Session}
 use Rattle.sb_connection.specs.Conversation.{Hosted}
 use Rattle.sb_connection.specs.Exchanges.{AreCalls, Exchange, IsCall, answered, ends, has_ended, line_in, overlong, receipt_of, receipts_of, said_text, unbegun}
-use Rattle.sb_connection.specs.Responding.{Exchanges, Responds, State, over}
+use Rattle.sb_connection.specs.Responding.{Admits, Exchanges, Responds, State, over}
 
 pub by_cases : {A : Type 0} (b : Bool) → (b ≡ true → A) → (b ≡ false → A) → A
 by_cases true f g = f refl
@@ -59,9 +59,9 @@ pub record MovesBy (old : Session) (pieces : List Piece) (text : List ℕ) (stat
   pub list : new.list ≡ old.list ++ receipts_of exchanges
   pub ended : new.ended ≡ has_ended exchanges
 
-module _ (hosted : Hosted) where
+module _ (admits : Admits) (hosted : Hosted) where
   abbrev Answered : State → List Piece → List ℕ → State → Type 0
-  Answered old pieces text new = AreAnswered (Responds hosted) over old pieces text new
+  Answered old pieces text new = AreAnswered (Responds admits hosted) over old pieces text new
 
   -- an exchange that ends the session is the last one
   last_call : (s after : Session) (e : Exchange) (away : Bool) (p : Piece) (ps : List Piece) (text first rest : List ℕ) (new : State) → Moves s e after → p ≡ line_in e → first ≡ said_text e → text ≡ first ++ rest

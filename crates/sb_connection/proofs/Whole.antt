@@ -1,6 +1,6 @@
 -- The first line, and the connection as a whole.
-use Rattle.std.proofs.Common.{◌≡◌, ◌∙◌, sym, ap, subst, refl, ℕ, Bool, true, false, List, [], ◌∷◌, ◌++◌, append-nil, Option, Some, None, Ok}
-use Rattle.std.specs.Prelude.{IfSome}
+use Rattle.std.proofs.Common.{◌≡◌, ◌∙◌, sym, ap, subst, refl, inl, inr, ℕ, Bool, true, false, List, [], ◌∷◌, ◌++◌, append-nil, Option, Some, None, Ok}
+use Rattle.std.specs.Prelude.{IfSome, option_map}
 use Rattle.std.proofs.lemmas.Bool.{false≢true}
 use Rattle.sb_wire.specs.Lines.{Piece, line, too_long}
 use Rattle.sb_wire.specs.Output.{ended_lines}
@@ -9,43 +9,79 @@ use Rattle.sb_wire.specs.Seen.{refusal_line}
 use Rattle.sb_wire.specs.declared.refusal.WireRefusal.TheVariants as wire
 use Rattle.sb_host.specs.Calls.{Attached, Session}
 use Rattle.sb_host.specs.declared.stub.Stub.{Stub}
-use Rattle.sb_connection.specs.Conversation.{Hosted, Talks, TurnsAway, TurnsAwayFrom, attach_lines, named_by, named_of, tenant_at, welcome}
+use Rattle.sb_connection.specs.Conversation.{Hosted, Talks, TurnsAway, TurnsAwayFrom, TurnsAwayLine, TurnsAwayVisitor, Visitor, attach_lines, named_by, named_in, named_of, tenant_at, visitor_in, visitor_of, welcome}
 use Rattle.sb_connection.specs.declared.greeting.Named.{Named}
 use Rattle.sb_connection.specs.Exchanges.{IsClosed, has_ended, receipts_of}
-use Rattle.sb_connection.specs.Responding.{Greets, GreetsBy, LeavesSome, Responds, State, is_over, over}
+use Rattle.sb_connection.specs.Responding.{Admits, Greets, GreetsBy, GreetsLine, GreetsVisitor, LeavesSome, Responds, State, is_over, over}
 use Rattle.sb_connection.proofs.Closing.{left_receipts}
 use Rattle.sb_connection.proofs.Talks.{MovesBy, calls}
 
-module _ (hosted : Hosted) where
+module _ (admits : Admits) (hosted : Hosted) where
   -- ---- the first line
 
   turned_by : (named : Option Named) (text : List ℕ) (away : Bool) → GreetsBy hosted named text None away → (away ≡ true) × ((said : List (List ℕ)) × TurnsAwayFrom hosted named said × (text ≡ ended_lines said))
   turned_by None text away (none, is_away, is) = (is_away, (refusal_line wire.BadLine ∷ [], refl, is))
   turned_by (Some n) text away (is_away, e, attached, is) = (is_away, (attach_lines e, (e, attached, refl), is))
 
-  turned : (p : Piece) (text : List ℕ) (away : Bool) → Greets hosted p text None away → (away ≡ true) × ((said : List (List ℕ)) × TurnsAway hosted p said × (text ≡ ended_lines said))
-  turned too_long text away (none, is_away, is) = (is_away, (refusal_line wire.TooLong ∷ [], refl, is))
-  turned (line bytes) text away greets = turned_by (named_of bytes) text away greets
+  turned_visitor : (visitor : Option Visitor) (text : List ℕ) (away : Bool) → GreetsVisitor admits hosted visitor text None away
+      → (away ≡ true) × ((said : List (List ℕ)) × TurnsAwayVisitor hosted visitor said × (text ≡ ended_lines said))
+  turned_visitor None text away (none, is_away, is) = (is_away, (refusal_line wire.BadKey ∷ [], refl, is))
+  turned_visitor (Some v) text away (inl (none, is_away, is)) = (is_away, (refusal_line wire.BadKey ∷ [], inl refl, is))
+  turned_visitor (Some v) text away (inr (admitted, greets)) =
+      let t = turned_by (Some v.named) text away greets in
+      let said = t.1 in (t.0, (said.0, inr said.1, said.2))
 
-  opened_by : (named : Option Named) (text : List ℕ) (s : Session) (away : Bool) → GreetsBy hosted named text (Some s) away → (n : Named) × (named ≡ Some n) × Attached hosted.tenants (tenant_at hosted n.tenant) n.session (Ok s) × (text ≡ welcome)
+  turned_line : (keyed : Bool) (bytes text : List ℕ) (away : Bool) → GreetsLine admits keyed hosted bytes text None away → (away ≡ true) × ((said : List (List ℕ)) × TurnsAwayLine keyed hosted bytes said × (text ≡ ended_lines said))
+  turned_line false bytes text away greets = turned_by (named_of bytes) text away greets
+  turned_line true bytes text away greets = turned_visitor (visitor_of bytes) text away greets
+
+  pub turned : (p : Piece) (text : List ℕ) (away : Bool) → Greets admits hosted p text None away → (away ≡ true) × ((said : List (List ℕ)) × TurnsAway hosted p said × (text ≡ ended_lines said))
+  turned too_long text away (none, is_away, is) = (is_away, (refusal_line wire.TooLong ∷ [], refl, is))
+  turned (line bytes) text away greets = turned_line hosted.keyed bytes text away greets
+
+  -- the session that was opened
+  abbrev Opens : Option Named → List ℕ → Session → Type 0
+  Opens named text s = (n : Named) × (named ≡ Some n) × Attached hosted.tenants (tenant_at hosted n.tenant) n.session (Ok s) × (text ≡ welcome)
+
+  opened_by : (named : Option Named) (text : List ℕ) (s : Session) (away : Bool) → GreetsBy hosted named text (Some s) away → Opens named text s
   opened_by None text s away (none, is_away, is) = absurd cc
   opened_by (Some n) text s away (attached, is) = (n, refl, attached, is)
 
-  opened : (p : Piece) (text : List ℕ) (s : Session) (away : Bool) → Greets hosted p text (Some s) away → (n : Named) × (named_by p ≡ Some n) × Attached hosted.tenants (tenant_at hosted n.tenant) n.session (Ok s) × (text ≡ welcome)
+  opened_visitor : (visitor : Option Visitor) (text : List ℕ) (s : Session) (away : Bool) → GreetsVisitor admits hosted visitor text (Some s) away → Opens (option_map (λ (v : Visitor). v.named) visitor) text s
+  opened_visitor None text s away (none, is_away, is) = absurd cc
+  opened_visitor (Some v) text s away (inl (none, is_away, is)) = absurd cc
+  opened_visitor (Some v) text s away (inr (admitted, greets)) = opened_by (Some v.named) text s away greets
+
+  opened_line : (keyed : Bool) (bytes text : List ℕ) (s : Session) (away : Bool) → GreetsLine admits keyed hosted bytes text (Some s) away → Opens (named_in keyed bytes) text s
+  opened_line false bytes text s away greets = opened_by (named_of bytes) text s away greets
+  opened_line true bytes text s away greets = opened_visitor (visitor_of bytes) text s away greets
+
+  opened : (p : Piece) (text : List ℕ) (s : Session) (away : Bool) → Greets admits hosted p text (Some s) away → Opens (named_by hosted.keyed p) text s
   opened too_long text s away (none, is_away, is) = absurd cc
-  opened (line bytes) text s away greets = opened_by (named_of bytes) text s away greets
+  opened (line bytes) text s away greets = opened_line hosted.keyed bytes text s away greets
+
+  -- with keys, only to whom the key admits
+  admitted_visitor : (visitor : Option Visitor) (text : List ℕ) (s : Session) (away : Bool) → GreetsVisitor admits hosted visitor text (Some s) away → (v : Visitor) × (visitor ≡ Some v) × admits v.named.tenant v.key
+  admitted_visitor None text s away (none, is_away, is) = absurd cc
+  admitted_visitor (Some v) text s away (inl (none, is_away, is)) = absurd cc
+  admitted_visitor (Some v) text s away (inr (admitted, greets)) = (v, refl, admitted)
+
+  pub admitted : (p : Piece) (text : List ℕ) (s : Session) (away : Bool) → hosted.keyed ≡ true → Greets admits hosted p text (Some s) away → (v : Visitor) × (visitor_in p ≡ Some v) × admits v.named.tenant v.key
+  admitted too_long text s away keyed (none, is_away, is) = absurd cc
+  admitted (line bytes) text s away keyed greets =
+      admitted_visitor (visitor_of bytes) text s away (subst (λ (k : Bool). GreetsLine admits k hosted bytes text (Some s) away) keyed greets)
 
   -- ---- the lines behind
 
   abbrev Answered : State → List Piece → List ℕ → State → Type 0
-  Answered old pieces text new = AreAnswered (Responds hosted) over old pieces text new
+  Answered old pieces text new = AreAnswered (Responds admits hosted) over old pieces text new
 
   -- what is to be shown
   abbrev Whole : List Piece → List ℕ → Option Stub → Bool → Type 0
   Whole pieces text stub is_over = Talks hosted pieces text stub is_over × IfSome stub (λ s. IsClosed s.receipts.items)
 
   -- none, where the connection was turned away
-  after_turning : (p : Piece) (ps : List Piece) (text first rest : List ℕ) (away : Bool) (new : State) (stub : Option Stub) → text ≡ first ++ rest → Greets hosted p first None away
+  after_turning : (p : Piece) (ps : List Piece) (text first rest : List ℕ) (away : Bool) (new : State) (stub : Option Stub) → text ≡ first ++ rest → Greets admits hosted p first None away
       → Answered (None, away) ps rest new → LeavesSome new.0 stub → Whole (p ∷ ps) text stub (over new)
   after_turning p [] text first rest away new stub is greets (none, same) leaves =
       let t = turned p first away greets in
@@ -56,7 +92,7 @@ module _ (hosted : Hosted) where
   after_turning p (q ∷ ps) text first rest away new stub is greets (f, r, mid, same, going, own, later) leaves = absurd (false≢true (sym going ∙ (turned p first away greets).0))
 
   -- calls of the session that was opened
-  after_opening : (p : Piece) (ps : List Piece) (text first rest : List ℕ) (s : Session) (away : Bool) (new : State) (stub : Stub) → text ≡ first ++ rest → Greets hosted p first (Some s) away
+  after_opening : (p : Piece) (ps : List Piece) (text first rest : List ℕ) (s : Session) (away : Bool) (new : State) (stub : Stub) → text ≡ first ++ rest → Greets admits hosted p first (Some s) away
       → (r : MovesBy s ps rest new) → LeavesSome (Some r.new) (Some stub) → Whole (p ∷ ps) text (Some stub) (over new)
   after_opening p ps text first rest s away new stub is greets r (of_tenant, of_session, same, more) =
       let o = opened p first s away greets in
@@ -81,12 +117,12 @@ module _ (hosted : Hosted) where
         left.1,
       )
 
-  first_line : (p : Piece) (ps : List Piece) (text first rest : List ℕ) (session : Option Session) (away : Bool) (new : State) (stub : Option Stub) → text ≡ first ++ rest → Greets hosted p first session away
+  first_line : (p : Piece) (ps : List Piece) (text first rest : List ℕ) (session : Option Session) (away : Bool) (new : State) (stub : Option Stub) → text ≡ first ++ rest → Greets admits hosted p first session away
       → Answered (session, away) ps rest new → LeavesSome new.0 stub → Whole (p ∷ ps) text stub (over new)
   first_line p ps text first rest None away new stub is greets others leaves = after_turning p ps text first rest away new stub is greets others leaves
   first_line p ps text first rest (Some s) away new stub is greets others leaves =
       let open_yet : s.ended ≡ false = ap (λ (x : Session). x.ended) (opened p first s away greets).2.2.1 in
-      let r = calls hosted s away ps rest new open_yet others in
+      let r = calls admits hosted s away ps rest new open_yet others in
       by_stub stub r (subst (λ (x : Option Session). LeavesSome x stub) r.is leaves)
     where
       by_stub : (k : Option Stub) (r : MovesBy s ps rest new) → LeavesSome (Some r.new) k → Whole (p ∷ ps) text k (over new)

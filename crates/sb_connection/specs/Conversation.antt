@@ -1,10 +1,10 @@
 -- Promise: a connection: its first line names a session, and the lines behind that are its calls.
-use Rattle.std.specs.Prelude.{◌≡◌, ◌<◌, ◌-◌, nat_lt, if◌then◌else◌, ℕ, Bool, true, false, List, [], ◌∷◌, ◌++◌, map, flat_map, codes, Option, Some, None, option_and_then, option_map, Err}
+use Rattle.std.specs.Prelude.{◌≡◌, ◌⊎◌, ◌<◌, ◌-◌, nat_lt, if◌then◌else◌, ℕ, Bool, true, false, List, [], ◌∷◌, ◌++◌, map, flat_map, codes, Option, Some, None, option_and_then, option_map, Err}
 use Rattle.std.specs.Io.KnownBytes.{Appends, Consumes}
 use Rattle.sb_value.specs.declared.refusal.Refusal.TheVariants as refusal
 use Rattle.sb_tenant.specs.declared.reply.Reply.TheVariants as told
 use Rattle.sb_tenant.specs.Limits.{session_count}
-use Rattle.sb_wire.specs.Lines.{Piece, line, too_long, number_before, number_of}
+use Rattle.sb_wire.specs.Lines.{Addressed, Piece, addressed_of, line, too_long, number_before, number_of}
 use Rattle.sb_wire.specs.Output.{ended_lines}
 use Rattle.sb_wire.specs.ReplyText.{reply_lines}
 use Rattle.sb_wire.specs.Seen.{refusal_line}
@@ -18,13 +18,18 @@ use Rattle.sb_connection.specs.Exchanges.{AreCalls, AreReceipts, Exchange, has_e
 
 -- ---- the tenants of a host, as lines name them
 
--- the number of the first one, and how many there are
+-- the number of the first one, and how many there are; and whether a first line brings a key
 pub record Hosted : Type 0 where
   pub first : ℕ
   pub tenants : ℕ
+  pub keyed : Bool
 
+abbrev pub hosting_by : Bool → ℕ → ℕ → Hosted
+hosting_by keyed first tenants = record { first = first; tenants = tenants; keyed = keyed }
+
+-- without keys
 abbrev pub hosting : ℕ → ℕ → Hosted
-hosting first tenants = record { first = first; tenants = tenants }
+hosting first tenants = hosting_by false first tenants
 
 -- which of them a number names, counted from the first one; a lower number is none of them
 abbrev pub tenant_at : Hosted → ℕ → ℕ
@@ -36,9 +41,31 @@ tenant_at hosted t = if nat_lt t hosted.first then hosted.tenants else t - hoste
 abbrev pub named_of : List ℕ → Option Named
 named_of bytes = option_and_then (λ t. option_map (λ s. record { tenant = t.0; session = s }) (number_of t.1)) (number_before bytes)
 
-abbrev pub named_by : Piece → Option Named
-named_by too_long = None
-named_by (line bytes) = named_of bytes
+-- whom a line with a key names
+pub record Visitor : Type 0 where
+  pub named : Named
+  pub key : List ℕ
+
+abbrev pub visitor_by : Option Addressed → Option Visitor
+visitor_by a = option_map (λ (a : Addressed). record { named = record { tenant = a.tenant; session = a.session }; key = a.command }) a
+
+-- the two numbers, a space, and the key
+abbrev pub visitor_of : List ℕ → Option Visitor
+visitor_of bytes = visitor_by (addressed_of bytes)
+
+-- the session that a first line names, with a key where there are keys
+abbrev pub named_in : Bool → List ℕ → Option Named
+named_in false bytes = named_of bytes
+named_in true bytes = option_map (λ (v : Visitor). v.named) (visitor_of bytes)
+
+abbrev pub named_by : Bool → Piece → Option Named
+named_by keyed too_long = None
+named_by keyed (line bytes) = named_in keyed bytes
+
+-- a first line that brings a key
+abbrev pub visitor_in : Piece → Option Visitor
+visitor_in too_long = None
+visitor_in (line bytes) = visitor_of bytes
 
 -- why no session was opened
 abbrev pub attach_lines : AttachError → List (List ℕ)
@@ -53,10 +80,19 @@ abbrev pub TurnsAwayFrom : Hosted → Option Named → List (List ℕ) → Type 
 TurnsAwayFrom hosted None said = said ≡ refusal_line wire.BadLine ∷ []
 TurnsAwayFrom hosted (Some n) said = (e : AttachError) × Attached hosted.tenants (tenant_at hosted n.tenant) n.session (Err e) × (said ≡ attach_lines e)
 
+-- with keys: its key is none of the tenant's, or it has none; or the session isn't opened
+abbrev pub TurnsAwayVisitor : Hosted → Option Visitor → List (List ℕ) → Type 0
+TurnsAwayVisitor hosted None said = said ≡ refusal_line wire.BadKey ∷ []
+TurnsAwayVisitor hosted (Some v) said = (said ≡ refusal_line wire.BadKey ∷ []) ⊎ TurnsAwayFrom hosted (Some v.named) said
+
+abbrev pub TurnsAwayLine : Bool → Hosted → List ℕ → List (List ℕ) → Type 0
+TurnsAwayLine false hosted bytes said = TurnsAwayFrom hosted (named_of bytes) said
+TurnsAwayLine true hosted bytes said = TurnsAwayVisitor hosted (visitor_of bytes) said
+
 -- the line that answers a first line which opens no session
 abbrev pub TurnsAway : Hosted → Piece → List (List ℕ) → Type 0
 TurnsAway hosted too_long said = said ≡ refusal_line wire.TooLong ∷ []
-TurnsAway hosted (line bytes) said = TurnsAwayFrom hosted (named_of bytes) said
+TurnsAway hosted (line bytes) said = TurnsAwayLine hosted.keyed hosted bytes said
 
 -- the answer to one that does
 abbrev pub welcome : List ℕ
@@ -67,7 +103,7 @@ welcome = ended_lines (codes "ok" ∷ [])
 -- The session that the first line names was opened, called with the lines behind, and closed; it is over where one of them ended it.
 pub record Serves (hosted : Hosted) (first : Piece) (behind : List Piece) (text : List ℕ) (stub : Stub) (over : Bool) : Type 0 where
   pub named : Named
-  pub is_named : named_by first ≡ Some named
+  pub is_named : named_by hosted.keyed first ≡ Some named
   pub within : (tenant_at hosted named.tenant < hosted.tenants) × (named.session < session_count)
   pub exchanges : List Exchange
   pub are_calls : AreCalls exchanges

@@ -11,6 +11,8 @@ pub record History : Type 0 where
   -- those of the host
   pub hosted : Hosted
   pub state : State
+  -- a session was opened
+  pub attached : Bool
   -- the client sends no more
   pub at_end : Bool
   -- all bytes that came, and those of them that aren't looked at yet
@@ -23,7 +25,7 @@ pub record History : Type 0 where
 -- ---- what is done from outside
 
 abbrev pub nothing_yet : Hosted → History
-nothing_yet hosted = record { hosted = hosted; state = Open; at_end = false; received = []; waiting = []; handed = []; pending = [] }
+nothing_yet hosted = record { hosted = hosted; state = Open; attached = false; at_end = false; received = []; waiting = []; handed = []; pending = [] }
 
 abbrev pub after_receiving : History → List ℕ → History
 after_receiving h bytes = record h { received = h.received ++ bytes; waiting = h.waiting ++ bytes }

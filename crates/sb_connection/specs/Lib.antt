@@ -1,9 +1,11 @@
 pub mod Exchanges
 pub mod Conversation
 pub mod Responding
+pub mod Seen
 pub mod Watching
 pub mod Standing
 pub mod History
+pub mod Admission
 pub mod Machine
 pub mod Routing
 pub mod Traffic

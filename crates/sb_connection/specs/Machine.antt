@@ -1,11 +1,12 @@
 -- Machine: what holds of a connection between its steps.
-use Rattle.std.specs.Prelude.{◌≡◌, ℕ, Bool, true, false, List, ◌++◌, None}
+use Rattle.std.specs.Prelude.{◌≡◌, ◌<◌, ℕ, Bool, true, false, List, ◌++◌, length, None, is_some}
 use Rattle.sb_wire.specs.Lines.{Piece, last_piece, open_line, piece_of}
 use Rattle.sb_wire.specs.Responses.{AreAnswered}
 use Rattle.sb_connection.specs.declared.state.State.TheVariants.{Open, Answered, Over, Failed}
 use Rattle.sb_connection.specs.declared.state.State as stands
 use Rattle.sb_connection.specs.History.{History, IsSettled, SameStreams, Tells}
-use Rattle.sb_connection.specs.Responding.{Responds, State, over}
+use Rattle.sb_connection.specs.Responding.{Admits, Responds, State, anyone, over}
+use Rattle.sb_connection.specs.Admission.{LetsIn}
 
 -- its history, the line that stands open, and the session
 pub record Talking : Type 0 where
@@ -19,11 +20,14 @@ pub record Holds (k : Talking) : Type 0 where
   pub text : List ℕ
   pub tells : Tells k.history pieces text (over k.talk)
   pub is_open : k.opened ≡ piece_of (open_line tells.taken)
-  pub answered : AreAnswered (Responds k.history.hosted) over (None, false) pieces text k.talk
+  pub attached : k.history.attached ≡ is_some k.talk.0
+  pub answered : AreAnswered (Responds anyone k.history.hosted) over (None, false) pieces text k.talk
 
--- a step keeps what holds, and receives and sends nothing
-pub record Steps (old : Talking) (more : Bool) (new : Talking) : Type 0 where
+-- A step keeps what holds, and receives and sends nothing. It opens a session only to whom it may; where there may be more, it took bytes.
+pub record Steps (admits : Admits) (old : Talking) (more : Bool) (new : Talking) : Type 0 where
   pub holds : Holds old → Holds new
+  pub lets : Holds old → LetsIn admits old.history new.history
+  pub goes : Holds old → more ≡ true → length new.history.waiting < length old.history.waiting
   pub streams : SameStreams old.history new.history
   pub settles : more ≡ false → IsSettled new.history
 
@@ -37,10 +41,11 @@ Adds Over old text new is_over = (new ≡ old ++ text) × (is_over ≡ true)
 Adds Failed old text new is_over = new ≡ old
 
 -- the open line is answered, and all else stays
-pub record Answers (old new : Talking) : Type 0 where
+pub record Answers (admits : Admits) (old new : Talking) : Type 0 where
   pub text : List ℕ
-  pub responds : Responds old.history.hosted old.talk old.opened text new.talk
+  pub responds : Responds admits old.history.hosted old.talk old.opened text new.talk
   pub adds : Adds new.history.state old.history.pending text new.history.pending (over new.talk)
+  pub attached : new.history.attached ≡ is_some new.talk.0
   pub streams : SameStreams old.history new.history
   pub waiting : new.history.waiting ≡ old.history.waiting
   pub opened : new.opened ≡ old.opened
@@ -53,10 +58,11 @@ AddsLast Over old text new = ⊥
 AddsLast Failed old text new = new ≡ old
 
 -- the line that stands open at the end is answered, if it has a byte, and no other one is
-pub record Finishes (old new : Talking) : Type 0 where
+pub record Finishes (admits : Admits) (old new : Talking) : Type 0 where
   pub text : List ℕ
-  pub answered : AreAnswered (Responds old.history.hosted) over old.talk (last_piece old.opened) text new.talk
+  pub answered : AreAnswered (Responds admits old.history.hosted) over old.talk (last_piece old.opened) text new.talk
   pub adds : AddsLast new.history.state old.history.pending text new.history.pending
+  pub attached : new.history.attached ≡ is_some new.talk.0
   pub streams : SameStreams old.history new.history
   pub waiting : new.history.waiting ≡ old.history.waiting
   pub opened : new.opened ≡ old.opened

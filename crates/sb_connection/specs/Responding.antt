@@ -1,5 +1,5 @@
 -- Machine: how a connection answers one line.
-use Rattle.std.specs.Prelude.{◌≡◌, ℕ, Bool, true, List, [], ◌∷◌, Option, Some, None, Ok, Err}
+use Rattle.std.specs.Prelude.{◌≡◌, ◌⊎◌, ⊤, ℕ, Bool, true, false, List, [], ◌∷◌, Option, Some, None, Ok, Err}
 use Rattle.sb_wire.specs.Lines.{Piece, line, too_long}
 use Rattle.sb_wire.specs.Output.{ended_lines}
 use Rattle.sb_wire.specs.Seen.{refusal_line}
@@ -10,7 +10,7 @@ use Rattle.sb_desk.specs.declared.desk.CallError.TheVariants as call
 use Rattle.sb_host.specs.Calls.{Attached, Calls, Session}
 use Rattle.sb_host.specs.Stubs.{LeavesStub}
 use Rattle.sb_host.specs.declared.stub.Stub.{Stub}
-use Rattle.sb_connection.specs.Conversation.{Hosted, attach_lines, named_of, tenant_at, welcome}
+use Rattle.sb_connection.specs.Conversation.{Hosted, Visitor, attach_lines, named_of, tenant_at, visitor_of, welcome}
 use Rattle.sb_connection.specs.declared.greeting.Named.{Named}
 use Rattle.sb_connection.specs.Exchanges.{Exchange, line_in, said_text}
 use Rattle.sb_connection.specs.Exchanges as exchange
@@ -45,17 +45,34 @@ abbrev pub GreetsBy : Hosted → Option Named → List ℕ → Option Session �
 GreetsBy hosted None text s away = TurnsAwayBy wire.BadLine text s away
 GreetsBy hosted (Some named) text s away = GreetsNamed hosted named text s away
 
-abbrev pub Greets : Hosted → Piece → List ℕ → Option Session → Bool → Type 0
-Greets hosted too_long text s away = TurnsAwayBy wire.TooLong text s away
-Greets hosted (line bytes) text s away = GreetsBy hosted (named_of bytes) text s away
+-- which key opens which tenant
+abbrev pub Admits : Type 1
+Admits = ℕ → List ℕ → Type 0
+
+abbrev pub anyone : Admits
+anyone tenant key = ⊤
+
+-- only whoever brings a key of the tenant
+abbrev pub GreetsVisitor : Admits → Hosted → Option Visitor → List ℕ → Option Session → Bool → Type 0
+GreetsVisitor admits hosted None text s away = TurnsAwayBy wire.BadKey text s away
+GreetsVisitor admits hosted (Some v) text s away =
+    TurnsAwayBy wire.BadKey text s away ⊎ (admits v.named.tenant v.key × GreetsNamed hosted v.named text s away)
+
+abbrev pub GreetsLine : Admits → Bool → Hosted → List ℕ → List ℕ → Option Session → Bool → Type 0
+GreetsLine admits false hosted bytes text s away = GreetsBy hosted (named_of bytes) text s away
+GreetsLine admits true hosted bytes text s away = GreetsVisitor admits hosted (visitor_of bytes) text s away
+
+abbrev pub Greets : Admits → Hosted → Piece → List ℕ → Option Session → Bool → Type 0
+Greets admits hosted too_long text s away = TurnsAwayBy wire.TooLong text s away
+Greets admits hosted (line bytes) text s away = GreetsLine admits hosted.keyed hosted bytes text s away
 
 -- the first line is greeted, and any other is an exchange of the session
-abbrev pub RespondsBy : Hosted → Option Session → Piece → List ℕ → State → Type 0
-RespondsBy hosted None p text new = Greets hosted p text new.0 new.1
-RespondsBy hosted (Some s) p text new = (e : Exchange) × (after : Session) × (p ≡ line_in e) × (text ≡ said_text e) × Exchanges s e after × (new.0 ≡ Some after)
+abbrev pub RespondsBy : Admits → Hosted → Option Session → Piece → List ℕ → State → Type 0
+RespondsBy admits hosted None p text new = Greets admits hosted p text new.0 new.1
+RespondsBy admits hosted (Some s) p text new = (e : Exchange) × (after : Session) × (p ≡ line_in e) × (text ≡ said_text e) × Exchanges s e after × (new.0 ≡ Some after)
 
-abbrev pub Responds : Hosted → State → Piece → List ℕ → State → Type 0
-Responds hosted old p text new = RespondsBy hosted old.0 p text new
+abbrev pub Responds : Admits → Hosted → State → Piece → List ℕ → State → Type 0
+Responds admits hosted old p text new = RespondsBy admits hosted old.0 p text new
 
 -- a session is closed, if there is one
 abbrev pub LeavesSome : Option Session → Option Stub → Type 0

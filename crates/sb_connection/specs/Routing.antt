@@ -32,6 +32,6 @@ RoutesBy hosted named Away = NamesNone hosted named
 -- no line is complete yet; or the first one names a tenant's session; or none, or it is too long
 abbrev pub Routes : Hosted → List ℕ → Bool → Route → Type 0
 Routes hosted bytes has_ended Unknown = complete_pieces bytes ≡ []
-Routes hosted bytes has_ended (To tenant) = (first : Piece) × Begins bytes has_ended first × Names hosted (named_by first) tenant
+Routes hosted bytes has_ended (To tenant) = (first : Piece) × Begins bytes has_ended first × Names hosted (named_by hosted.keyed first) tenant
 Routes hosted bytes has_ended Away =
-    ((first : Piece) × Begins bytes has_ended first × NamesNone hosted (named_by first)) ⊎ (piece_of (open_line bytes) ≡ too_long)
+    ((first : Piece) × Begins bytes has_ended first × NamesNone hosted (named_by hosted.keyed first)) ⊎ (piece_of (open_line bytes) ≡ too_long)

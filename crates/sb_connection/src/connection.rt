@@ -1,11 +1,13 @@
 //! A connection as a value over bytes: bytes come in and bytes go out, and it makes no system call.
-ghost use Rattle.std.specs.Prelude.{◌≡◌, ◌<◌, ◌≤◌, ◌↔◌, length, IfOk, IfSome, IsFalse, IsTrue, OnErr, OnOk, [], false};
-ghost use Rattle.sb_connection.specs.Conversation.{hosting};
+ghost use Rattle.std.specs.Prelude.{◌≡◌, ◌<◌, ◌≤◌, ◌↔◌, length, IfOk, IfSome, IsFalse, IsTrue, OnErr, OnOk, [], false, is_some};
+ghost use Rattle.sb_connection.specs.Conversation.{hosting_by};
+ghost use Rattle.sb_connection.specs.Admission.{LetsIn};
 ghost use Rattle.sb_connection.specs.Exchanges.{IsClosed};
 ghost use Rattle.sb_connection.specs.History.{Converses, IsSettled, MayReceive, SameStreams, after_end, after_receiving, after_sending, nothing_yet};
 ghost use Rattle.sb_connection.specs.Standing.{is_open};
 ghost use Rattle.sb_connection.specs.Traffic.{after_write};
 
+use crate::admission::Admission;
 use crate::ending::Ending;
 use crate::machine::Machine;
 use crate::serve::{close, tell_end};
@@ -40,12 +42,13 @@ impl<'h, N: Naming> Model for Connection<'h, N> {
 }
 
 impl<'h, N: Naming> Connection<'h, N> {
-    /// Before its first byte; the host's first tenant has this number. It allocates nothing.
-    pub fn new(alloc: Global, host: &'h Host<N>, first: u32) -> Connection<'h, N>
-        ensures { result ≡ nothing_yet (hosting first host.now) }
+    /// Before its first byte; the host's first tenant has this number, and its first line brings a key or doesn't. It
+    /// allocates nothing.
+    pub fn new(alloc: Global, host: &'h Host<N>, first: u32, keyed: bool) -> Connection<'h, N>
+        ensures { result ≡ nothing_yet (hosting_by keyed first host.now) }
     {
         Connection {
-            machine: Machine::new(alloc, host, first),
+            machine: Machine::new(alloc, host, first, keyed),
         }
     }
 
@@ -75,12 +78,19 @@ impl<'h, N: Naming> Connection<'h, N> {
     }
 
     /// Answers the lines that came, as many as there are for one turn. Whether there may be more to answer at once.
-    pub fn advance<T: Wait, V: Watch>(&mut self, rt: &T, watch: &V) -> bool
+    pub fn advance<T: Wait, V: Watch, A: Admission>(
+        &mut self,
+        rt: &T,
+        watch: &V,
+        admission: &A,
+    ) -> bool
         ensures streams { SameStreams self.old self.new }
         ensures settles { IsFalse result → IsSettled self.new }
+        ensures goes { IsTrue result → length self.new.waiting < length self.old.waiting }
+        ensures lets { LetsIn (A.admits admission.now) self.old self.new }
     {
         for _line in 0..LINES_A_TURN {
-            if !self.machine.step(rt, watch) {
+            if !self.machine.step(rt, watch, admission) {
                 return false;
             }
         }
@@ -134,6 +144,7 @@ impl<'h, N: Naming> Connection<'h, N> {
     pub fn close<T: Wait, V: Watch>(self, rt: &T, watch: &V, ended: Ending) -> Option<Stub>
         ensures conversation { Converses self.entry result }
         ensures closed { IfSome result (λ stub. IsClosed stub.receipts.items) }
+        ensures attached { self.entry.attached ≡ is_some result }
     {
         let Connection { machine } = self;
         let first = machine.first;

@@ -2,16 +2,18 @@
 ghost use Rattle.std.specs.Prelude.{◌≡◌, ◌++◌, ◌∷◌, [], List, ℕ, None, OnOk, OnErr, true};
 ghost use Rattle.sb_wire.specs.Output.{ended_lines};
 ghost use Rattle.sb_wire.specs.Seen.{piece_seen, refusal_line};
-ghost use Rattle.sb_connection.specs.Conversation.{attach_lines, hosting, named_by, named_of, tenant_at};
-ghost use Rattle.sb_connection.specs.Responding.{Greets, GreetsNamed};
+ghost use Rattle.sb_connection.specs.Conversation.{attach_lines, hosting, hosting_by, named_by, named_of, tenant_at, visitor_of};
+ghost use Rattle.sb_connection.specs.Responding.{Greets, GreetsNamed, GreetsVisitor};
 
+use crate::admission::Admission;
 use crate::talking::Talk;
 use crate::watch::{Event, Watch};
 use sb_host::{AttachError, Naming, Session};
 use sb_tenant::Reply;
 use sb_value::Refusal;
 use sb_wire::{
-    Piece, WireRefusal, number, number_before_space, write_bare_refusal, write_bare_reply,
+    Addressed, Piece, WireRefusal, number, number_before_space, write_bare_refusal,
+    write_bare_reply,
 };
 use std::alloc::{AllocError, Global};
 use std::sync::Wait;
@@ -34,11 +36,42 @@ impl Named {
     }
 }
 
-/// What a first line names.
-pub(crate) fn named_in(piece: Piece<'_>) -> Option<Named>
-    ensures { result ≡ named_by (piece_seen piece.entry) }
+/// Whom a first line names that brings a key.
+#[derive(Clone, Copy)]
+pub(crate) struct Visitor<'a> {
+    pub(crate) named: Named,
+    pub(crate) key: &'a [u8],
+}
+
+impl<'a> Visitor<'a> {
+    ghost use Rattle.std.specs.Prelude.{option_map};
+    ghost use Rattle.sb_connection.specs.Seen.{visitor_seen};
+
+    /// The two numbers of a line and its key, if it is that.
+    fn split(line: &'a [u8]) -> Option<Visitor<'a>>
+        ensures { option_map visitor_seen result ≡ visitor_of line.now }
+    {
+        let Addressed {
+            tenant,
+            session,
+            command,
+        } = Addressed::split(line)?;
+        Some(Visitor {
+            named: Named { tenant, session },
+            key: command,
+        })
+    }
+}
+
+/// What a first line names, with a key where there are keys.
+pub(crate) fn named_in(piece: Piece<'_>, keyed: bool) -> Option<Named>
+    ensures { result ≡ named_by keyed (piece_seen piece.entry) }
 {
     match piece {
+        Piece::Line(line) if keyed => match Visitor::split(line) {
+            Some(visitor) => Some(visitor.named),
+            None => None,
+        },
         Piece::Line(line) => Named::split(line),
         Piece::TooLong => None,
     }
@@ -60,8 +93,8 @@ pub(crate) fn number_of(first: u32, tenant: u32) -> u32 {
 }
 
 /// Opens the session that a first line names, or turns the connection away.
-pub(crate) fn greet<'h, T: Wait, N: Naming, V: Watch>(
-    talk: &Talk<'_, 'h, T, N, V>,
+pub(crate) fn greet<'h, T: Wait, N: Naming, V: Watch, A: Admission>(
+    talk: &Talk<'_, 'h, T, N, V, A>,
     alloc: Global,
     piece: Piece<'_>,
     out: &mut Vec<u8>,
@@ -69,17 +102,48 @@ pub(crate) fn greet<'h, T: Wait, N: Naming, V: Watch>(
     away: &mut bool,
 ) -> Result<(), AllocError>
     requires { session.old ≡ None }
-    ensures { (text : List ℕ) × Greets (hosting talk.now.first talk.now.host.now) (piece_seen piece.entry) text session.new away.new
+    ensures { (text : List ℕ)
+        × Greets (A.admits talk.now.admission.now) (hosting_by talk.now.keyed talk.now.first talk.now.host.now) (piece_seen piece.entry)
+        text session.new away.new
         × OnOk result (out.new.items ≡ out.old.items ++ text)
         × OnErr result (out.new.items ≡ out.old.items) }
 {
     match piece {
         Piece::TooLong => turn_away(talk.watch, out, away, WireRefusal::TooLong),
+        Piece::Line(line) if talk.keyed => greet_visitor(talk, alloc, line, out, session, away),
         Piece::Line(line) => match Named::split(line) {
             Some(named) => open(talk, alloc, named, out, session, away),
             None => turn_away(talk.watch, out, away, WireRefusal::BadLine),
         },
     }
+}
+
+/// Opens the session that a first line with a key names, if it is a key of the tenant.
+fn greet_visitor<'h, T: Wait, N: Naming, V: Watch, A: Admission>(
+    talk: &Talk<'_, 'h, T, N, V, A>,
+    alloc: Global,
+    line: &[u8],
+    out: &mut Vec<u8>,
+    session: &mut Option<Session<'h, N>>,
+    away: &mut bool,
+) -> Result<(), AllocError>
+    requires { session.old ≡ None }
+    ensures { (text : List ℕ)
+        × GreetsVisitor (A.admits talk.now.admission.now) (hosting_by talk.now.keyed talk.now.first talk.now.host.now)
+        (visitor_of line.now) text session.new away.new
+        × OnOk result (out.new.items ≡ out.old.items ++ text)
+        × OnErr result (out.new.items ≡ out.old.items) }
+{
+    let Some(visitor) = Visitor::split(line) else {
+        return turn_away(talk.watch, out, away, WireRefusal::BadKey);
+    };
+    let Visitor { named, key } = visitor;
+    if !talk.admission.admits(talk.rt, named.tenant, key) {
+        talk.watch.see(Event::Barred(named));
+        *away = true;
+        return write_bare_refusal(out, WireRefusal::BadKey);
+    }
+    open(talk, alloc, named, out, session, away)
 }
 
 /// Turns a connection away whose first line names no session.
@@ -99,8 +163,8 @@ fn turn_away<V: Watch>(
 }
 
 /// Opens this session, or turns the connection away.
-fn open<'h, T: Wait, N: Naming, V: Watch>(
-    talk: &Talk<'_, 'h, T, N, V>,
+fn open<'h, T: Wait, N: Naming, V: Watch, A: Admission>(
+    talk: &Talk<'_, 'h, T, N, V, A>,
     alloc: Global,
     named: Named,
     out: &mut Vec<u8>,
@@ -108,7 +172,8 @@ fn open<'h, T: Wait, N: Naming, V: Watch>(
     away: &mut bool,
 ) -> Result<(), AllocError>
     requires { session.old ≡ None }
-    ensures { (text : List ℕ) × GreetsNamed (hosting talk.now.first talk.now.host.now) named text session.new away.new
+    ensures { (text : List ℕ)
+        × GreetsNamed (hosting_by talk.now.keyed talk.now.first talk.now.host.now) named text session.new away.new
         × OnOk result (out.new.items ≡ out.old.items ++ text)
         × OnErr result (out.new.items ≡ out.old.items) }
 {

@@ -2,6 +2,7 @@
 //! end.
 #![tactic(auto)]
 
+mod admission;
 mod connection;
 mod ending;
 mod greeting;
@@ -15,6 +16,7 @@ mod talking;
 mod transactions;
 mod watch;
 
+pub use admission::{Admission, Open};
 pub use connection::Connection;
 pub use ending::Ending;
 pub use greeting::Named;

@@ -1,13 +1,14 @@
 //! The steps of a connection, each of which answers a line.
 ghost use Rattle.std.specs.Prelude.{◌≡◌, ◌≤◌, [], false, true, None, length, ◌⊎◌, IfOk, IsFalse, IsTrue, MatchBool, OnErr, OnOk};
 ghost use Rattle.sb_wire.specs.Lines.{line};
-ghost use Rattle.sb_connection.specs.Conversation.{hosting};
+ghost use Rattle.sb_connection.specs.Conversation.{hosting_by};
 ghost use Rattle.sb_connection.specs.History.{MayReceive, after_end, after_receiving, after_sending, nothing_yet};
 ghost use Rattle.sb_connection.specs.Machine.{Answers, Finishes, Steps};
 ghost use Rattle.sb_connection.specs.Responding.{over};
 ghost use Rattle.sb_connection.specs.Standing.{is_open};
 ghost use Rattle.sb_connection.specs.Traffic.{after_write};
 
+use crate::admission::Admission;
 use crate::greeting::{Named, named_in};
 use crate::room::{newest_step, tell_room, was_unbegun};
 use crate::state::State;
@@ -33,6 +34,8 @@ pub(crate) struct Machine<'h, N: Naming> {
     pub(crate) host: &'h Host<N>,
     /// The number of the host's first tenant.
     pub(crate) first: u32,
+    /// The first line brings a key.
+    pub(crate) keyed: bool,
     pub(crate) state: State,
     /// The client sends no more.
     pub(crate) at_end: bool,
@@ -58,16 +61,17 @@ pub(crate) struct Machine<'h, N: Naming> {
 }
 
 impl<'h, N: Naming> Model for Machine<'h, N> {
-    ghost use Rattle.std.specs.Prelude.{◌≤◌, flat_map, take, drop, vec_len};
-    ghost use Rattle.sb_connection.specs.Conversation.{hosting};
+    ghost use Rattle.std.specs.Prelude.{◌≤◌, flat_map, is_some, take, drop, vec_len};
+    ghost use Rattle.sb_connection.specs.Conversation.{hosting_by};
     ghost use Rattle.sb_connection.specs.Machine.{Talking};
 
     ghost Value = { Talking };
 
     ghost view = { λ m. record {
       history = record {
-        hosted = hosting m.first m.host.now;
+        hosted = hosting_by m.keyed m.first m.host.now;
         state = m.state;
+        attached = is_some m.session;
         at_end = m.at_end;
         received = flat_map (λ r. r.0.items) m.reads.items;
         waiting = drop m.taken m.input.items;
@@ -82,13 +86,14 @@ impl<'h, N: Naming> Model for Machine<'h, N> {
 }
 
 impl<'h, N: Naming> Machine<'h, N> {
-    pub(crate) fn new(alloc: Global, host: &'h Host<N>, first: u32) -> Machine<'h, N>
-        ensures { result ≡ record { history = nothing_yet (hosting first host.now); opened = line []; talk = (None, false) } }
+    pub(crate) fn new(alloc: Global, host: &'h Host<N>, first: u32, keyed: bool) -> Machine<'h, N>
+        ensures { result ≡ record { history = nothing_yet (hosting_by keyed first host.now); opened = line []; talk = (None, false) } }
     {
         Machine {
             alloc,
             host,
             first,
+            keyed,
             state: State::Open,
             at_end: false,
             session: None,
@@ -127,9 +132,14 @@ impl<'h, N: Naming> Machine<'h, N> {
     }
 
     /// Answers the next line, if one is complete and there is room for its reply. Whether there may be another one.
-    pub(crate) fn step<T: Wait, V: Watch>(&mut self, rt: &T, watch: &V) -> bool
+    pub(crate) fn step<T: Wait, V: Watch, A: Admission>(
+        &mut self,
+        rt: &T,
+        watch: &V,
+        admission: &A,
+    ) -> bool
         requires { is_open self.old.history.state ≡ true → over self.old.talk ≡ false }
-        ensures { Steps self.old result self.new }
+        ensures { Steps (A.admits admission.now) self.old result self.new }
     {
         if !self.may_answer() {
             return false;
@@ -139,7 +149,7 @@ impl<'h, N: Naming> Machine<'h, N> {
             Some(behind) => {
                 let left = behind.len();
                 self.taken = self.input.len() - left;
-                self.answer(rt, watch);
+                self.answer(rt, watch, admission);
                 self.lines.clear();
                 true
             }
@@ -148,7 +158,7 @@ impl<'h, N: Naming> Machine<'h, N> {
                 self.input = Vec::new(self.alloc);
                 self.taken = 0;
                 if self.at_end {
-                    self.answer_last(rt, watch);
+                    self.answer_last(rt, watch, admission);
                 }
                 false
             }
@@ -156,16 +166,16 @@ impl<'h, N: Naming> Machine<'h, N> {
     }
 
     /// Answers the line that is complete. A trail that fills up is told.
-    fn answer<T: Wait, V: Watch>(&mut self, rt: &T, watch: &V)
+    fn answer<T: Wait, V: Watch, A: Admission>(&mut self, rt: &T, watch: &V, admission: &A)
         requires { over self.old.talk ≡ false }
-        ensures { Answers self.old self.new }
+        ensures { Answers (A.admits admission.now) self.old self.new }
     {
         let had_session = self.session.is_some();
         if !had_session {
-            self.named = named_in(self.lines.line());
+            self.named = named_in(self.lines.line(), self.keyed);
         }
         let before = newest_step(&self.session);
-        self.respond(rt, watch);
+        self.respond(rt, watch, admission);
         match newest_step(&self.session) {
             Some(step) if before != Some(step) => self.note_step(watch, step),
             step if had_session => self.note_none(watch, step),
@@ -207,15 +217,17 @@ impl<'h, N: Naming> Machine<'h, N> {
         }
     }
 
-    fn respond<T: Wait, V: Watch>(&mut self, rt: &T, watch: &V)
+    fn respond<T: Wait, V: Watch, A: Admission>(&mut self, rt: &T, watch: &V, admission: &A)
         requires { over self.old.talk ≡ false }
-        ensures { Answers self.old self.new }
+        ensures { Answers (A.admits admission.now) self.old self.new }
     {
         let talk = Talk {
             rt,
             host: self.host,
             watch,
             first: self.first,
+            keyed: self.keyed,
+            admission,
         };
         let answered = talk.respond(
             self.alloc,
@@ -232,15 +244,15 @@ impl<'h, N: Naming> Machine<'h, N> {
     }
 
     /// Answers the line that stands open at the end, if it has a byte.
-    fn answer_last<T: Wait, V: Watch>(&mut self, rt: &T, watch: &V)
+    fn answer_last<T: Wait, V: Watch, A: Admission>(&mut self, rt: &T, watch: &V, admission: &A)
         requires { over self.old.talk ≡ false }
-        ensures { Finishes self.old self.new }
+        ensures { Finishes (A.admits admission.now) self.old self.new }
     {
         let Some(_) = self.lines.finish() else {
             self.state = State::Answered;
             return;
         };
-        self.answer(rt, watch);
+        self.answer(rt, watch, admission);
         match self.state {
             State::Failed => {}
             _ => self.state = State::Answered,

@@ -1,6 +1,6 @@
 //! Where a connection goes, before its first line is answered.
 ghost use Rattle.std.specs.Prelude.{◌≡◌};
-ghost use Rattle.sb_connection.specs.Conversation.{hosting};
+ghost use Rattle.sb_connection.specs.Conversation.{hosting, hosting_by};
 ghost use Rattle.sb_connection.specs.Routing.{Routes, RoutesBy};
 
 use crate::greeting::{Named, named_in, tenant_at};
@@ -19,13 +19,13 @@ pub enum Route {
 }
 
 /// Where a connection goes by the bytes that have come of it; and whether no more come.
-pub fn route_of(bytes: &[u8], has_ended: bool, first: u32, tenants: u32) -> Route
-    ensures { Routes (hosting first tenants) bytes.now has_ended result }
+pub fn route_of(bytes: &[u8], has_ended: bool, first: u32, tenants: u32, keyed: bool) -> Route
+    ensures { Routes (hosting_by keyed first tenants) bytes.now has_ended result }
 {
     let mut lines = Lines::new();
     match lines.feed(bytes) {
-        Some(_) => route_by(named_in(lines.line()), first, tenants),
-        None if has_ended => route_by(named_in(lines.line()), first, tenants),
+        Some(_) => route_by(named_in(lines.line(), keyed), first, tenants),
+        None if has_ended => route_by(named_in(lines.line(), keyed), first, tenants),
         None => match lines.line() {
             Piece::TooLong => Route::Away,
             Piece::Line(_) => Route::Unknown,

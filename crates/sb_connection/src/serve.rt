@@ -6,6 +6,7 @@ ghost use Rattle.sb_connection.specs.Responding.{LeavesSome};
 ghost use Rattle.sb_wire.specs.Responses.{StopsBy};
 ghost use Rattle.sb_wire.specs.Stream.{MayFail, OnWriteFault};
 
+use crate::admission::Open;
 use crate::ending::Ending;
 use crate::greeting::{Named, number_of};
 use crate::room::steps_left;
@@ -61,6 +62,8 @@ pub fn serve_one_with<T: Wait, N: Naming, R: Source, W: Sink, V: Watch>(
         host,
         watch,
         first: 0,
+        keyed: false,
+        admission: &Open,
     };
     let mut session = None;
     let mut away = false;

@@ -4,6 +4,7 @@ ghost use Rattle.sb_wire.specs.Seen.{piece_seen};
 ghost use Rattle.sb_connection.specs.Exchanges.{Exchange, line_in, said_text};
 ghost use Rattle.sb_connection.specs.Responding.{Exchanges};
 
+use crate::admission::Admission;
 use crate::greeting::greet;
 use crate::watch::Watch;
 use sb_host::{CallError, Host, Naming, Session};
@@ -13,20 +14,23 @@ use std::sync::Wait;
 
 /// Answers the lines of a connection: the first one on the host, the others by the session that it opened.
 #[derive(Drop)]
-pub(crate) struct Talk<'r, 'h, T, N: Naming, V> {
+pub(crate) struct Talk<'r, 'h, T, N: Naming, V, A> {
     pub(crate) rt: &'r T,
     pub(crate) host: &'h Host<N>,
     pub(crate) watch: &'r V,
     /// The number of the host's first tenant.
     pub(crate) first: u32,
+    /// The first line brings a key.
+    pub(crate) keyed: bool,
+    pub(crate) admission: &'r A,
 }
 
-impl<'r, 'h, T: Wait, N: Naming, V: Watch> Responder<Option<Session<'h, N>>, bool>
-    for Talk<'r, 'h, T, N, V> {
-    ghost use Rattle.sb_connection.specs.Conversation.{hosting};
+impl<'r, 'h, T: Wait, N: Naming, V: Watch, A: Admission> Responder<Option<Session<'h, N>>, bool>
+    for Talk<'r, 'h, T, N, V, A> {
+    ghost use Rattle.sb_connection.specs.Conversation.{hosting_by};
     ghost use Rattle.sb_connection.specs.Responding.{Responds, over};
 
-    ghost responds = { λ talk. Responds (hosting talk.first talk.host.now) };
+    ghost responds = { λ talk. Responds (A.admits talk.admission.now) (hosting_by talk.keyed talk.first talk.host.now) };
 
     ghost over = { over };
 

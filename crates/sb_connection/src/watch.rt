@@ -23,6 +23,8 @@ pub enum Event {
     },
     /// A first line names no session.
     Unnamed(WireRefusal),
+    /// Its key is none of the tenant's.
+    Barred(Named),
     /// The trail of a tenant has room for so few steps more, or for none. Each is told once.
     Fills {
         tenant: u32,
@@ -97,6 +99,7 @@ impl Display for Event {
             Event::Attached(named) => write!(f, "attached: {named}"),
             Event::TurnedAway { named, why } => write!(f, "turned away: {named}: {why:?}"),
             Event::Unnamed(why) => write!(f, "turned away: {why:?}"),
+            Event::Barred(named) => write!(f, "turned away: {named}: BadKey"),
             Event::Failed { named, why, reason } => write_failed(f, named, *why, reason),
             Event::NotBegun(named) => { write!(f, "no memory for {named}: lines aren't begun") }
             Event::Idle(Some(named)) => write!(f, "idle: {named}"),

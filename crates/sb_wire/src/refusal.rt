@@ -8,6 +8,8 @@ pub enum WireRefusal {
     BadLine,
     NoTenant,
     NoSession,
+    /// The key is none of the tenant's, or there is none.
+    BadKey,
     /// Memory ran out in the step, which was aborted.
     NoMemory,
     /// Memory ran out before the step was begun.
@@ -27,6 +29,7 @@ impl WireRefusal {
             WireRefusal::BadLine => (12, "BadLine"),
             WireRefusal::NoTenant => (13, "NoTenant"),
             WireRefusal::NoSession => (14, "NoSession"),
+            WireRefusal::BadKey => (15, "BadKey"),
             WireRefusal::NoMemory => (91, "NoMemory"),
             WireRefusal::NotBegun => (92, "NotBegun"),
         }
@@ -48,6 +51,7 @@ impl WireRefusal {
             WireRefusal::BadLine => "no 12 BadLine",
             WireRefusal::NoTenant => "no 13 NoTenant",
             WireRefusal::NoSession => "no 14 NoSession",
+            WireRefusal::BadKey => "no 15 BadKey",
             WireRefusal::NoMemory => "no 91 NoMemory",
             WireRefusal::NotBegun => "no 92 NotBegun",
         }

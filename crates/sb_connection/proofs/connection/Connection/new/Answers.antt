@@ -1,8 +1,8 @@
 use Rattle.std.proofs.Common.{sym, subst}
-use Rattle.sb_connection.specs.Conversation.{hosting}
+use Rattle.sb_connection.specs.Conversation.{hosting_by}
 use Rattle.sb_connection.specs.Machine.{Holds}
 use Rattle.sb_connection.proofs.Steps.{nothing_holds}
 use Rattle.sb_connection.proofs.connection.Connection.new.Goals as goal
 
 pub invariant_of-result : goal.invariant_of-result
-invariant_of-result g c = subst Holds (sym c.new.ensures) (nothing_holds (hosting c.args.first c.args.host.now))
+invariant_of-result g c = subst Holds (sym c.new.ensures) (nothing_holds (hosting_by c.args.keyed c.args.first c.args.host.now))

@@ -1,0 +1,21 @@
+-- one line more
+use Rattle.std.proofs.Common.{◌<◌, ◌∙◌, arith, length, refl}
+use Rattle.sb_connection.proofs.Admitting.{lets_then}
+use Rattle.sb_connection.proofs.connection.Connection.advance.Goals as goal
+
+pub returns-then-not-step-clause-lets : goal.returns-then-not-step-clause-lets
+returns-then-not-step-clause-lets g c =
+    let so_far = c.loop-line.invariant in
+    lets_then (g.A.Admission.admits c.args.admission.now) c.args.self.now c.loop-line.self-inside.machine.history c.step.new.self.history c.step.ensures.streams so_far.lets (c.step.ensures.lets so_far.holds)
+
+pub loop-line-preserved : goal.loop-line-preserved
+loop-line-preserved g c =
+    let so_far = c.loop-line.invariant in
+    let same = c.step.ensures.streams in
+    let fewer : length c.step.new.self.history.waiting < length c.loop-line.self-inside.machine.history.waiting = c.if-not-step.ensures.goes so_far.holds refl in
+    record {
+      streams = (same.0 ∙ so_far.streams.0, same.1 ∙ so_far.streams.1, same.2 ∙ so_far.streams.2, same.3 ∙ so_far.streams.3);
+      holds = c.step.ensures.holds so_far.holds;
+      lets = lets_then (g.A.Admission.admits c.args.admission.now) c.args.self.now c.loop-line.self-inside.machine.history c.step.new.self.history same so_far.lets (c.step.ensures.lets so_far.holds);
+      goes = omega (arith, fewer, so_far.goes);
+    }

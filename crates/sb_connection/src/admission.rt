@@ -1,0 +1,34 @@
+//! Who is admitted to a tenant.
+ghost use Rattle.std.specs.Prelude.{ℕ, List, IsTrue};
+
+use std::sync::Wait;
+
+/// Says by which key a tenant is opened.
+pub trait Admission {
+    // the key is one of the tenant's
+    ghost admits: { Self → ℕ → List ℕ → Type 0 };
+
+    /// Whether first lines bring a key.
+    fn wants_key(&self) -> bool;
+
+    /// Whether the key is one of the tenant's, by the number that a line names.
+    fn admits<T: Wait>(&self, rt: &T, tenant: u32, key: &[u8]) -> bool
+        ensures { IsTrue result → admits self.now tenant key.now };
+}
+
+/// Every tenant is open, and first lines bring no key.
+pub struct Open;
+
+impl Admission for Open {
+    ghost use Rattle.std.specs.Prelude.{⊤};
+
+    ghost admits = { λ _ _ _. ⊤ };
+
+    fn wants_key(&self) -> bool {
+        false
+    }
+
+    fn admits<T: Wait>(&self, _rt: &T, _tenant: u32, _key: &[u8]) -> bool {
+        true
+    }
+}

@@ -1,0 +1,4 @@
+mod Cuts
+mod Lines
+mod Members
+mod Numbers

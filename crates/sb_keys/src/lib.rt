@@ -1,0 +1,11 @@
+//! The keys of tenants: a table of digests, read from a text.
+#![tactic(auto)]
+
+mod compare;
+mod cut;
+mod digest;
+mod keys;
+mod line;
+
+pub use digest::{Digest, digest_line, is_key};
+pub use keys::{Keys, KeysError};
