@@ -1,4 +1,4 @@
--- What the threads share may be used by all of them: a host may, the mailboxes, who watches, and the clock.
+-- What the threads share may be used by all of them: a host may, the mailboxes, who watches, admits and keeps, and the clock.
 use denote.RattleType.{RattleType}
 use denote.Ref.{NamedLft}
 use denote.Param.Send.{IsSync, sendable}
@@ -10,5 +10,6 @@ use Rattle.sb_server.proofs.mailbox.Mailbox.TheSendSync as mailbox
 use Rattle.sb_server.specs.contracts.server.Serving as Serving
 
 module _ (N : RattleType) (n : naming.Ghosts N.Denot) (l : ledger.Ghosts N.Denot) where
-  pub serving_sync : (κ : NamedLft) (V C : RattleType) → IsSync V → IsSync C → IsSync (Serving.the_row κ N V C n l)
-  serving_sync κ V C watch clock = search (sendable, crosses, host_sync, mailbox.the_sync) depth 40
+  pub serving_sync : (κ : NamedLft) (V A K C : RattleType) → IsSync V → IsSync A → IsSync K → IsSync C
+      → IsSync (Serving.the_row κ N V A K C n l)
+  serving_sync κ V A K C watch admission keeper clock = search (sendable, crosses, host_sync, mailbox.the_sync) depth 44

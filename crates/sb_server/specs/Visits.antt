@@ -7,8 +7,6 @@ use Rattle.sb_connection.specs.declared.state.State.TheVariants.{Failed}
 use Rattle.sb_connection.specs.History.{History}
 use Rattle.sb_connection.specs.Standing.{is_open}
 use Rattle.sb_connection.specs.Traffic.{Traffic, reading_failed, writing_failed}
-use Rattle.sb_server.specs.declared.visit.Heard.{Heard}
-use Rattle.sb_server.specs.declared.visit.Heard.TheVariants as heard
 use Rattle.sb_server.specs.declared.visit.Next.{Next}
 use Rattle.sb_server.specs.declared.visit.Next.TheVariants.{Waits, GoesOn, Ends}
 
@@ -27,10 +25,6 @@ abbrev pub TellsEnd : Traffic → History → Bool → Next → Type 0
 TellsEnd t h is_cut Waits = ⊤
 TellsEnd t h is_cut GoesOn = ⊤
 TellsEnd t h is_cut (Ends ending) = EndsBy t h is_cut ending
-
-abbrev pub TellsFault : Traffic → History → Bool → Heard → Type 0
-TellsFault t h is_cut (heard.Fault ending) = EndsBy t h is_cut ending
-TellsFault t h is_cut other = ⊤
 
 -- nothing is lost of what was to be sent, and nothing else changes
 abbrev pub SendsSome : History → History → Type 0

@@ -5,6 +5,7 @@
 mod beside;
 mod door;
 mod input;
+mod keeper;
 mod mailbox;
 mod newcomer;
 mod porter;
@@ -14,4 +15,5 @@ mod told;
 mod visit;
 mod worker;
 
+pub use keeper::{Keeper, Kept, Unkept};
 pub use server::{Acceptor, ServeError, Terms, serve_all};

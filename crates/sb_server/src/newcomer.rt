@@ -38,6 +38,16 @@ pub(crate) enum Heard {
     NoMemory,
 }
 
+/// By what first lines are read.
+#[derive(Clone, Copy)]
+pub(crate) struct Reception {
+    /// The number of the host's first tenant, as lines name it.
+    pub(crate) first: u32,
+    pub(crate) tenants: u32,
+    /// A first line brings a key.
+    pub(crate) keyed: bool,
+}
+
 /// How often a newcomer is read at most in one turn.
 const MOST_READS: usize = 16;
 
@@ -56,9 +66,9 @@ impl Newcomer {
     }
 
     /// Reads until its first line is known, or nothing more is there.
-    pub(crate) fn hear(&mut self, buffer: &mut Vec<u8>, first: u32, tenants: u32) -> Heard {
+    pub(crate) fn hear(&mut self, buffer: &mut Vec<u8>, by: Reception) -> Heard {
         for _read in 0..MOST_READS {
-            if let Some(heard) = self.hear_once(buffer, first, tenants) {
+            if let Some(heard) = self.hear_once(buffer, by) {
                 return heard;
             }
         }
@@ -66,14 +76,14 @@ impl Newcomer {
     }
 
     /// Reads once. None where it is to be read again.
-    fn hear_once(&mut self, buffer: &mut Vec<u8>, first: u32, tenants: u32) -> Option<Heard> {
+    fn hear_once(&mut self, buffer: &mut Vec<u8>, by: Reception) -> Option<Heard> {
         if self.is_cut {
             return Some(Heard::NoMemory);
         }
         match self.read(buffer) {
             Ok(_) if self.is_cut => Some(Heard::NoMemory),
             Ok(0) if self.bytes.is_empty() => Some(Heard::Left),
-            Ok(count) => match route_of(self.bytes.as_slice(), count == 0, first, tenants) {
+            Ok(count) => match self.route(count == 0, by) {
                 Route::Unknown => None,
                 known => Some(Heard::Route(known)),
             },
@@ -83,6 +93,17 @@ impl Newcomer {
                 why => Some(Heard::Fault(why)),
             },
         }
+    }
+
+    /// Where it goes by what has come of it, and whether no more comes.
+    fn route(&self, has_ended: bool, by: Reception) -> Route {
+        route_of(
+            self.bytes.as_slice(),
+            has_ended,
+            by.first,
+            by.tenants,
+            by.keyed,
+        )
     }
 
     /// Reads once, and keeps what came.

@@ -3,6 +3,7 @@ ghost use Rattle.std.specs.Prelude.{◌≡◌};
 ghost use Rattle.sb_server.specs.Closed.{GainsClosed};
 
 use crate::door::{Client, Door};
+use crate::keeper::Keeper;
 use crate::mailbox::Letter;
 use crate::newcomer::{Heard, Newcomer};
 use crate::server::Serving;
@@ -10,7 +11,7 @@ use crate::socket::Socket;
 use crate::worker::{SWEEP, Worker, is_time};
 use mio::event::Event as Ready;
 use mio::{Events, Token};
-use sb_connection::{Event, Route, Watch};
+use sb_connection::{Admission, Event, Route, Watch};
 use sb_host::{Naming, Stub};
 use sb_wire::StreamError;
 use slab::Slab;
@@ -34,8 +35,8 @@ pub(crate) const FIRST_LINE: u32 = 10;
 
 /// The door with the newcomers, and a worker of its own for those that open no session.
 #[derive(Drop)]
-pub(crate) struct Porter<'s, N: Naming, V, C> {
-    lobby: Worker<'s, N, V, C>,
+pub(crate) struct Porter<'s, N: Naming, V, A, K, C> {
+    lobby: Worker<'s, N, V, A, K, C>,
     door: Door<'s>,
     newcomers: Slab<Box<Newcomer>>,
     /// When late newcomers were looked for.
@@ -44,8 +45,8 @@ pub(crate) struct Porter<'s, N: Naming, V, C> {
     has_told: bool,
 }
 
-impl<'s, N: Naming, V: Watch, C: Clock> Porter<'s, N, V, C> {
-    pub(crate) fn new(lobby: Worker<'s, N, V, C>, door: Door<'s>) -> Porter<'s, N, V, C>
+impl<'s, N: Naming, V: Watch, A: Admission, K: Keeper, C: Clock> Porter<'s, N, V, A, K, C> {
+    pub(crate) fn new(lobby: Worker<'s, N, V, A, K, C>, door: Door<'s>) -> Porter<'s, N, V, A, K, C>
         ensures { result.lobby.stubs.items ≡ lobby.entry.stubs.items }
     {
         let newcomers = Slab::new(lobby.serving.alloc);
@@ -204,7 +205,7 @@ impl<'s, N: Naming, V: Watch, C: Clock> Porter<'s, N, V, C> {
             Heard::Route(Route::To(tenant)) => self.hand_over(rt, tenant, newcomer),
             Heard::Route(Route::Away) => {
                 newcomer.unwatch(self.lobby.poll.registry());
-                self.lobby.admit(Box::into_inner(newcomer));
+                self.lobby.admit(Box::into_inner(newcomer), None);
             }
             Heard::Left => self.tell(port, Event::Left),
             Heard::Fault(reason) => {

@@ -7,12 +7,14 @@ ghost use Rattle.sb_server.specs.Places.{place_of};
 
 use crate::beside::run_beside;
 use crate::door::Door;
+use crate::keeper::{Keeper, Kept};
 use crate::mailbox::{Letter, Mailbox};
+use crate::newcomer::Reception;
 use crate::porter::{FIRST_LINE, Porter};
 use crate::visit::Limits;
 use crate::worker::{Seat, WAKER, Worker};
 use mio::{Events, Poll, Waker};
-use sb_connection::Watch;
+use sb_connection::{Admission, Watch};
 use sb_host::{Host, Naming, Stub};
 use sb_workers::Work;
 use std::alloc::{AllocError, Global};
@@ -46,11 +48,13 @@ pub struct Terms {
     pub until_input_ends: bool,
 }
 
-/// Where connections are taken, who is told of them, and by which terms they are served.
+/// Where connections are taken, who is told of them, whom they admit, what is kept, and by which terms they are served.
 #[derive(Drop)]
-pub struct Acceptor<'s, V> {
+pub struct Acceptor<'s, V, A, K> {
     pub listener: &'s TcpListener,
     pub watch: &'s V,
+    pub admission: &'s A,
+    pub keeper: &'s K,
     pub terms: Terms,
 }
 
@@ -64,6 +68,8 @@ pub enum ServeError {
     NoThread,
     /// The system doesn't tell any more what happens to connections.
     PollFailed,
+    /// What was answered couldn't be kept. Its replies weren't sent.
+    NotKept,
 }
 
 impl From<AllocError> for ServeError {
@@ -74,10 +80,12 @@ impl From<AllocError> for ServeError {
 
 /// What all threads share.
 #[derive(Drop)]
-pub(crate) struct Serving<'s, N: Naming, V, C> {
+pub(crate) struct Serving<'s, N: Naming, V, A, K, C> {
     pub(crate) alloc: Global,
     pub(crate) host: &'s Host<N>,
     pub(crate) watch: &'s V,
+    pub(crate) admission: &'s A,
+    pub(crate) keeper: &'s K,
     pub(crate) clock: &'s C,
     pub(crate) first_tenant: u32,
     listener: &'s TcpListener,
@@ -92,11 +100,12 @@ pub(crate) struct Serving<'s, N: Naming, V, C> {
     stopping: AtomicBool,
     lacks_thread: AtomicBool,
     has_failed: AtomicBool,
+    has_lost: AtomicBool,
     ghost some: { 0 < vec_len mailboxes },
     ghost placed: { ArePlaced mailboxes.items },
 }
 
-impl<'s, N: Naming, V, C> Serving<'s, N, V, C> {
+impl<'s, N: Naming, V, A, K, C> Serving<'s, N, V, A, K, C> {
     /// The place of the worker that has a tenant's cell.
     pub(crate) fn place_of(&self, tenant: u32) -> usize
         ensures { result ≡ place_of N.cells (vec_len self.now.mailboxes) tenant }
@@ -168,6 +177,17 @@ impl<'s, N: Naming, V, C> Serving<'s, N, V, C> {
         self.stop();
     }
 
+    /// Ends it since something wasn't kept.
+    pub(crate) fn lose(&self) {
+        self.has_lost.store(true, Ordering::SeqCst);
+        self.stop();
+    }
+
+    /// Whether something wasn't kept.
+    pub(crate) fn has_lost(&self) -> bool {
+        self.has_lost.load(Ordering::SeqCst)
+    }
+
     fn wake_all(&self) {
         let _told = self.door.wake();
         for mailbox in &self.mailboxes {
@@ -182,6 +202,9 @@ impl<'s, N: Naming, V, C> Serving<'s, N, V, C> {
         }
         if self.has_failed.load(Ordering::SeqCst) {
             return Some(ServeError::PollFailed);
+        }
+        if self.has_lost() {
+            return Some(ServeError::NotKept);
         }
         None
     }
@@ -203,7 +226,8 @@ pub(crate) struct Post {
     seat: Seat,
 }
 
-impl<'s, N: Naming, V: Watch, C: Clock> Work<Post, Vec<Stub>> for Serving<'s, N, V, C> {
+impl<'s, N: Naming, V: Watch, A: Admission, K: Keeper, C: Clock> Work<Post, Vec<Stub>>
+    for Serving<'s, N, V, A, K, C> {
     ghost use Rattle.sb_server.specs.Closed.{LeaveClosed};
 
     ghost does = { λ _ stubs. LeaveClosed stubs };
@@ -216,7 +240,28 @@ impl<'s, N: Naming, V: Watch, C: Clock> Work<Post, Vec<Stub>> for Serving<'s, N,
     }
 }
 
-impl<'s, N: Naming, V: Watch, C: Clock> Serving<'s, N, V, C> {
+impl<'s, N: Naming, V: Watch, A: Admission, K: Keeper, C: Clock> Serving<'s, N, V, A, K, C> {
+    /// By what first lines are read.
+    pub(crate) fn reception(&self) -> Reception {
+        Reception {
+            first: self.first_tenant,
+            tenants: self.host.tenants(),
+            keyed: self.admission.wants_key(),
+        }
+    }
+
+    /// Keeps what these tenants were answered. Whether it is kept; where nothing can be kept any more, the service ends.
+    pub(crate) fn keep<T: Wait>(&self, rt: &T, tenants: &[u32]) -> bool {
+        match self.keeper.keep(rt, tenants) {
+            Kept::All => !self.has_lost(),
+            Kept::NotYet => false,
+            Kept::Failed => {
+                self.lose();
+                false
+            }
+        }
+    }
+
     /// Takes connections at the door, and closes those that open no session.
     fn keep_door<R: Wait>(&self, rt: &R, seat: Seat) -> Vec<Stub>
         ensures { LeaveClosed result }
@@ -265,10 +310,16 @@ impl<'s, N: Naming, V: Watch, C: Clock> Serving<'s, N, V, C> {
 }
 
 /// Serves the connections that are taken, and leaves the receipts of all sessions.
-pub fn serve_all<N: Naming + Send + Sync, V: Watch + Sync, R: Threads + Wait + Net + Clock + Sync>(
+pub fn serve_all<
+    N: Naming + Send + Sync,
+    V: Watch + Sync,
+    A: Admission + Sync,
+    K: Keeper + Sync,
+    R: Threads + Wait + Net + Clock + Sync,
+>(
     rt: &R,
     alloc: Global,
-    acceptor: &Acceptor<'_, V>,
+    acceptor: &Acceptor<'_, V, A, K>,
     host: &Host<N>,
 ) -> Result<Vec<Stub>, ServeError>
     requires workers { (0 < acceptor.now.terms.workers) × (acceptor.now.terms.workers ≤ 16) }
@@ -285,6 +336,8 @@ pub fn serve_all<N: Naming + Send + Sync, V: Watch + Sync, R: Threads + Wait + N
         alloc,
         host,
         watch: acceptor.watch,
+        admission: acceptor.admission,
+        keeper: acceptor.keeper,
         clock: rt,
         first_tenant: terms.first_tenant,
         listener: acceptor.listener,
@@ -296,6 +349,7 @@ pub fn serve_all<N: Naming + Send + Sync, V: Watch + Sync, R: Threads + Wait + N
         stopping: AtomicBool::new(false),
         lacks_thread: AtomicBool::new(false),
         has_failed: AtomicBool::new(false),
+        has_lost: AtomicBool::new(false),
     };
     let door = Post {
         role: Role::Door,

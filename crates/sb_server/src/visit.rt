@@ -4,13 +4,13 @@ ghost use Rattle.sb_connection.specs.History.{SameStreams, after_sending};
 ghost use Rattle.sb_connection.specs.Traffic.{after_write};
 ghost use Rattle.sb_server.specs.Carried.{Carries};
 ghost use Rattle.sb_server.specs.Closed.{Leaves};
-ghost use Rattle.sb_server.specs.Visits.{EndsBy, SendsSome, TellsEnd, TellsFault};
+ghost use Rattle.sb_server.specs.Visits.{EndsBy, SendsSome, TellsEnd};
 
-use crate::newcomer::Newcomer;
+use crate::newcomer::{Newcomer, Reception};
 use crate::socket::Socket;
 use crate::told::Told;
 use mio::{Interest, Registry, Token};
-use sb_connection::{Connection, Ending, Stream, Watch};
+use sb_connection::{Admission, Connection, Ending, Stream, Watch};
 use sb_host::{Host, Naming, Stub};
 use sb_wire::StreamError;
 use std::alloc::Global;
@@ -24,9 +24,15 @@ pub(crate) struct Visit<'h, N: Naming, S: Stream + Drop> {
     pub(crate) stream: S,
     /// The client's.
     pub(crate) port: u16,
+    /// The one that its first line names, if it opens a session.
+    pub(crate) tenant: Option<u32>,
     pub(crate) connection: Connection<'h, N>,
     /// When its last whole line came, or was answered.
     pub(crate) heard: Option<Instant>,
+    /// What the newest read found.
+    came: Came,
+    /// A whole line came or was answered in the newest turn.
+    is_active: bool,
     /// It has a place among those that are served next.
     pub(crate) is_due: bool,
     /// The client has told that it sends no more.
@@ -46,82 +52,73 @@ pub(crate) enum Next {
     Ends(Ending),
 }
 
-/// A turn: what follows on it, and whether a whole line came or was answered in it.
-#[derive(Clone, Copy)]
-pub(crate) struct Turn {
-    pub(crate) next: Next,
-    pub(crate) is_active: bool,
-}
-
 /// What a read found.
 #[derive(Clone, Copy)]
-pub(crate) enum Heard {
+pub(crate) enum Came {
     /// None was made, or it is to be made again.
     Unread,
     Nothing,
     /// Bytes: whether a newline was among them, and whether those were all.
     Bytes { has_line: bool, all: bool },
-    Fault(Ending),
 }
 
 /// How often a client that has hung up is read in one turn, so that its session is soon closed.
 const LAST_READS: usize = 4;
 
 impl<'h, N: Naming, S: Stream + Drop> Visit<'h, N, S> {
-    /// One turn.
-    pub(crate) fn serve<T: Wait, V: Watch>(
+    /// The first part of a turn: what waits is sent, and what comes is read and answered. It gives the fault, if there is
+    /// one.
+    pub(crate) fn take_in<T: Wait, V: Watch, A: Admission>(
         &mut self,
         rt: &T,
         watch: &V,
+        admission: &A,
         buffer: &mut Vec<u8>,
-    ) -> Turn
-        ensures { TellsEnd (S.traffic self.new.stream) self.new.connection self.new.is_cut result.next }
+    ) -> Option<Ending>
+        ensures { IfSome result (EndsBy (S.traffic self.new.stream) self.new.connection self.new.is_cut) }
     {
-        let mut is_active = false;
+        self.is_active = false;
+        if let Some(fault) = self.send() {
+            return Some(fault);
+        }
         for _read in 0..LAST_READS {
-            let turn = self.serve_once(rt, watch, buffer);
-            is_active |= turn.is_active;
-            if self.rests(turn.next) {
-                return Turn {
-                    next: turn.next,
-                    is_active,
-                };
+            if let Some(fault) = self.hear(buffer) {
+                return Some(fault);
+            }
+            self.answer(rt, watch, admission);
+            if !self.has_more() {
+                return None;
             }
         }
-        Turn {
-            next: Next::GoesOn,
-            is_active,
+        None
+    }
+
+    /// The second part: the replies are sent. What follows.
+    pub(crate) fn give_out(&mut self) -> Next
+        ensures { TellsEnd (S.traffic self.new.stream) self.new.connection self.new.is_cut result }
+    {
+        match self.send() {
+            Some(fault) => Next::Ends(fault),
+            None => self.next(),
         }
     }
 
-    /// Whether a turn is over, unless the client has hung up and there is more of it.
-    fn rests(&self, next: Next) -> bool {
-        !self.hung_up || !matches!(next, Next::GoesOn)
+    /// Whether the client has hung up, and there may be more of it.
+    fn has_more(&self) -> bool {
+        self.hung_up && matches!(self.came, Came::Bytes { .. }) && self.connection.wants_read()
     }
 
-    /// What waits is sent, a read is made, its lines are answered and the replies sent.
-    fn serve_once<T: Wait, V: Watch>(&mut self, rt: &T, watch: &V, buffer: &mut Vec<u8>) -> Turn
-        ensures { TellsEnd (S.traffic self.new.stream) self.new.connection self.new.is_cut result.next }
-    {
-        let mut is_active = false;
-        let next = match self.send() {
-            Some(fault) => Next::Ends(fault),
-            None => match self.hear(buffer) {
-                Heard::Fault(fault) => Next::Ends(fault),
-                heard => {
-                    is_active = self.answer(rt, watch, heard);
-                    match self.send() {
-                        Some(fault) => Next::Ends(fault),
-                        None => self.next(heard),
-                    }
-                }
-            },
-        };
-        Turn { next, is_active }
+    /// The tenant whose steps its replies tell of, if there are any to send.
+    pub(crate) fn answered(&self) -> Option<u32> {
+        if self.connection.wants_write() {
+            self.tenant
+        } else {
+            None
+        }
     }
 
-    /// Answers what came. Whether a whole line was there.
-    fn answer<T: Wait, V: Watch>(&mut self, rt: &T, watch: &V, heard: Heard) -> bool
+    /// Answers what came.
+    fn answer<T: Wait, V: Watch, A: Admission>(&mut self, rt: &T, watch: &V, admission: &A)
         ensures streams { SameStreams self.old.connection self.new.connection }
         ensures others { (self.new.stream ≡ self.old.stream) × (self.new.is_cut ≡ self.old.is_cut) }
     {
@@ -130,15 +127,15 @@ impl<'h, N: Naming, S: Stream + Drop> Visit<'h, N, S> {
             watch,
             port: self.port,
         };
-        self.connection.advance(rt, &told);
-        match heard {
-            Heard::Bytes { has_line, .. } => has_line,
+        self.connection.advance(rt, &told, admission);
+        self.is_active |= match self.came {
+            Came::Bytes { has_line, .. } => has_line,
             _ => self.connection.waiting() < before,
-        }
+        };
     }
 
     /// What follows on a turn.
-    fn next(&self, heard: Heard) -> Next
+    fn next(&self) -> Next
         ensures { TellsEnd (S.traffic self.now.stream) self.now.connection self.now.is_cut result }
     {
         if self.connection.has_failed() {
@@ -150,49 +147,55 @@ impl<'h, N: Naming, S: Stream + Drop> Visit<'h, N, S> {
         if self.connection.wants_write() {
             return Next::Waits;
         }
-        match heard {
-            Heard::Nothing | Heard::Bytes { all: true, .. } if self.connection.wants_read() => {
+        match self.came {
+            Came::Nothing | Came::Bytes { all: true, .. } if self.connection.wants_read() => {
                 Next::Waits
             }
             _ => Next::GoesOn,
         }
     }
 
-    /// Reads once, if the connection wants it.
-    fn hear(&mut self, buffer: &mut Vec<u8>) -> Heard
-        ensures { TellsFault (S.traffic self.new.stream) self.new.connection self.new.is_cut result }
+    /// Reads once, if the connection wants it. It gives the fault, if there is one.
+    fn hear(&mut self, buffer: &mut Vec<u8>) -> Option<Ending>
+        ensures { IfSome result (EndsBy (S.traffic self.new.stream) self.new.connection self.new.is_cut) }
     {
         if self.is_cut {
-            return Heard::Fault(out_of_memory());
+            return Some(out_of_memory());
         }
+        self.came = Came::Unread;
         if !self.connection.wants_read() {
-            return Heard::Unread;
+            return None;
         }
         match self.stream.read(buffer) {
             // a read into no room says nothing
-            Ok(0) if buffer.is_empty() => Heard::Unread,
+            Ok(0) if buffer.is_empty() => None,
             Ok(0) => {
                 self.connection.receive_end();
-                Heard::Bytes {
+                self.came = Came::Bytes {
                     has_line: false,
                     all: true,
-                }
+                };
+                None
             }
             Ok(count) => {
                 let bytes = &buffer[..count];
                 if self.connection.receive(bytes).is_err() {
                     self.is_cut = true;
-                    return Heard::Fault(out_of_memory());
+                    return Some(out_of_memory());
                 }
-                Heard::Bytes {
+                self.came = Came::Bytes {
                     has_line: bytes.contains(&b'\n'),
                     all: count < buffer.len() && !self.hung_up,
-                }
+                };
+                None
             }
             Err(error) => match error.kind() {
-                ErrorKind::WouldBlock => Heard::Nothing,
-                ErrorKind::Interrupted => Heard::Unread,
-                why => Heard::Fault(fault(StreamError::ReadFault, why)),
+                ErrorKind::WouldBlock => {
+                    self.came = Came::Nothing;
+                    None
+                }
+                ErrorKind::Interrupted => None,
+                why => Some(fault(StreamError::ReadFault, why)),
             },
         }
     }
@@ -231,9 +234,9 @@ impl<'h, N: Naming, S: Stream + Drop> Visit<'h, N, S> {
         self.connection.send(&mut self.stream)
     }
 
-    /// Takes note of a turn at this time.
-    pub(crate) fn note_turn(&mut self, turn: Turn, now: Option<Instant>) {
-        if turn.is_active {
+    /// Takes note of its newest turn at this time.
+    pub(crate) fn note_turn(&mut self, now: Option<Instant>) {
+        if self.is_active {
             self.heard = now;
         }
     }
@@ -271,8 +274,9 @@ impl<'h, N: Naming> Visit<'h, N, Socket> {
     pub(crate) fn begin(
         alloc: Global,
         host: &'h Host<N>,
-        first: u32,
+        by: Reception,
         newcomer: Newcomer,
+        tenant: Option<u32>,
         heard: Option<Instant>,
     ) -> Visit<'h, N, Socket> {
         let Newcomer {
@@ -282,13 +286,16 @@ impl<'h, N: Naming> Visit<'h, N, Socket> {
             is_cut,
             ..
         } = newcomer;
-        let mut connection = Connection::new(alloc, host, first);
+        let mut connection = Connection::new(alloc, host, by.first, by.keyed);
         let is_lost = connection.receive(bytes.as_slice()).is_err();
         Visit {
             stream: socket,
             port,
+            tenant,
             connection,
             heard,
+            came: Came::Unread,
+            is_active: false,
             is_due: false,
             hung_up: false,
             is_cut: is_cut || is_lost,

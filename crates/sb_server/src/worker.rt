@@ -7,6 +7,7 @@ ghost use Rattle.sb_server.specs.Places.{place_of};
 ghost use Rattle.sb_server.specs.Sockets.{traffic};
 
 use crate::input::{has_ended, watch_input};
+use crate::keeper::Keeper;
 use crate::mailbox::Letter;
 use crate::newcomer::{Heard, Newcomer};
 use crate::server::Serving;
@@ -15,7 +16,7 @@ use crate::visit::{Limits, Next, Visit};
 use mio::event::Event as Ready;
 use mio::unix::SourceFd;
 use mio::{Events, Interest, Poll, Token};
-use sb_connection::{Ending, Event, Watch};
+use sb_connection::{Admission, Ending, Event, Watch};
 use sb_host::{Naming, Stub};
 use slab::Slab;
 use std::mem;
@@ -33,6 +34,9 @@ const LOOKS: usize = 100;
 
 const LOOK: u64 = 100;
 
+/// Where there was no memory to keep answers, it is tried again after so many milliseconds.
+const PAUSE: u64 = 100;
+
 /// What a worker begins with.
 #[derive(Drop)]
 pub(crate) struct Seat {
@@ -43,8 +47,8 @@ pub(crate) struct Seat {
 
 /// A worker with its connections, by their tokens.
 #[derive(Drop)]
-pub(crate) struct Worker<'s, N: Naming, V, C> {
-    pub(crate) serving: &'s Serving<'s, N, V, C>,
+pub(crate) struct Worker<'s, N: Naming, V, A, K, C> {
+    pub(crate) serving: &'s Serving<'s, N, V, A, K, C>,
     limits: Limits,
     pub(crate) poll: Poll,
     pub(crate) buffer: Vec<u8>,
@@ -53,6 +57,8 @@ pub(crate) struct Worker<'s, N: Naming, V, C> {
     due: Vec<usize>,
     /// There was no place for one of them: all connections are served next.
     all_due: bool,
+    /// The tenants that were answered something which isn't kept yet. None is asked for more meanwhile.
+    answered: Vec<u32>,
     stubs: Vec<Stub>,
     /// It was woken.
     is_called: bool,
@@ -62,10 +68,10 @@ pub(crate) struct Worker<'s, N: Naming, V, C> {
     ghost room: { vec_len stubs + slab_len visits ≤ vec_capacity stubs },
 }
 
-impl<'s, N: Naming, V: Watch, C: Clock> Worker<'s, N, V, C> {
+impl<'s, N: Naming, V: Watch, A: Admission, K: Keeper, C: Clock> Worker<'s, N, V, A, K, C> {
     /// A worker at its seat, which has no connection yet.
     pub(crate) fn new(
-        serving: &'s Serving<'s, N, V, C>,
+        serving: &'s Serving<'s, N, V, A, K, C>,
         limits: Limits,
         poll: Poll,
         buffer: Vec<u8>,
@@ -80,6 +86,7 @@ impl<'s, N: Naming, V: Watch, C: Clock> Worker<'s, N, V, C> {
             visits: Slab::new(serving.alloc),
             due: Vec::new(serving.alloc),
             all_due: false,
+            answered: Vec::new(serving.alloc),
             stubs: Vec::new(serving.alloc),
             is_called: true,
             swept: None,
@@ -182,11 +189,7 @@ impl<'s, N: Naming, V: Watch, C: Clock> Worker<'s, N, V, C> {
         ensures { self.new.stubs ≡ self.old.stubs }
     {
         let serving = self.serving;
-        newcomer.hear(
-            &mut self.buffer,
-            serving.first_tenant,
-            serving.host.tenants(),
-        )
+        newcomer.hear(&mut self.buffer, serving.reception())
     }
 
     /// Whether it has no connection.
@@ -196,6 +199,9 @@ impl<'s, N: Naming, V: Watch, C: Clock> Worker<'s, N, V, C> {
 
     /// How long it may wait for events.
     pub(crate) fn patience(&self) -> Option<Duration> {
+        if !self.answered.is_empty() {
+            return Some(Duration::from_millis(PAUSE));
+        }
         if self.all_due || !self.due.is_empty() {
             return Some(Duration::ZERO);
         }
@@ -272,8 +278,8 @@ impl<'s, N: Naming, V: Watch, C: Clock> Worker<'s, N, V, C> {
         requires { place ≡ place_of N.cells (vec_len self.old.serving.now.mailboxes) letter.tenant }
         ensures { self.new.stubs.items ≡ self.old.stubs.items }
     {
-        let Letter { newcomer, .. } = letter;
-        self.admit(Box::into_inner(newcomer));
+        let Letter { tenant, newcomer } = letter;
+        self.admit(Box::into_inner(newcomer), Some(tenant));
     }
 
     /// Tells a client that isn't served.
@@ -281,12 +287,17 @@ impl<'s, N: Naming, V: Watch, C: Clock> Worker<'s, N, V, C> {
         self.serving.watch.see_client(port, why);
     }
 
-    /// Takes a connection. One that has no place isn't served.
-    pub(crate) fn admit(&mut self, newcomer: Newcomer)
+    /// Takes a connection, whose first line names this tenant if it opens a session. One that has no place isn't served.
+    pub(crate) fn admit(&mut self, newcomer: Newcomer, tenant: Option<u32>)
         ensures { self.new.stubs.items ≡ self.old.stubs.items }
     {
         let port = newcomer.port;
         if self.stubs.reserve(self.visits.len() + 1).is_err() || self.visits.reserve(1).is_err() {
+            self.refuse(port, Event::NoPlace);
+            return;
+        }
+        // one is noted at most once among those that are due, and once among all
+        if self.answered.reserve(2 * (self.visits.len() + 1)).is_err() {
             self.refuse(port, Event::NoPlace);
             return;
         }
@@ -295,8 +306,9 @@ impl<'s, N: Naming, V: Watch, C: Clock> Worker<'s, N, V, C> {
         let visit = Visit::begin(
             serving.alloc,
             serving.host,
-            serving.first_tenant,
+            serving.reception(),
             newcomer,
+            tenant,
             heard,
         );
         match Box::new(serving.alloc, visit) {
@@ -318,46 +330,171 @@ impl<'s, N: Naming, V: Watch, C: Clock> Worker<'s, N, V, C> {
         }
     }
 
-    /// Gives each connection that is due its turn.
+    /// Gives each connection that is due its turn. Where something is kept, a turn has three parts: all that came is
+    /// answered, all answers are kept at once, and then they are sent.
     pub(crate) fn serve_due<T: Wait>(&mut self, rt: &T)
         ensures { GainsClosed self.old.stubs.items self.new.stubs.items }
     {
-        let due = mem::replace(&mut self.due, Vec::new(self.serving.alloc));
-        for key in due {
-            self.serve_turn(rt, key);
+        if !self.keep(rt) {
+            return;
         }
-        if self.all_due {
-            self.all_due = false;
-            self.serve_all(rt);
+        let due = mem::replace(&mut self.due, Vec::new(self.serving.alloc));
+        let all_due = mem::replace(&mut self.all_due, false);
+        self.take_in_due(rt, &due, all_due);
+        self.finish_due(rt, &due, all_due);
+    }
+
+    /// What is left of a turn behind its first part, of those that are due or of all.
+    fn finish_due<T: Wait>(&mut self, rt: &T, due: &[usize], all_due: bool)
+        ensures { GainsClosed self.old.stubs.items self.new.stubs.items }
+    {
+        if !self.serving.keeper.is_set() {
+            return;
+        }
+        if self.keep(rt) {
+            self.give_out_due(rt, due, all_due);
+        } else {
+            self.all_due = true;
         }
     }
 
-    /// Gives each connection its turn.
-    fn serve_all<T: Wait>(&mut self, rt: &T)
+    /// The first part of a turn, of those that are due or of all. Where nothing is kept, it is the whole turn.
+    fn take_in_due<T: Wait>(&mut self, rt: &T, due: &[usize], all_due: bool)
+        ensures { GainsClosed self.old.stubs.items self.new.stubs.items }
+    {
+        for key in due {
+            self.begin_turn(rt, *key);
+        }
+        if all_due {
+            self.take_in_all(rt);
+        }
+    }
+
+    fn take_in_all<T: Wait>(&mut self, rt: &T)
         ensures { GainsClosed self.old.stubs.items self.new.stubs.items }
     {
         for key in 0..self.visits.capacity() {
-            self.serve_turn(rt, key);
+            self.begin_turn(rt, key);
         }
     }
 
-    /// Gives a connection its turn.
-    fn serve_turn<T: Wait>(&mut self, rt: &T, key: usize)
+    /// The last part of a turn, of those that are due or of all.
+    fn give_out_due<T: Wait>(&mut self, rt: &T, due: &[usize], all_due: bool)
+        ensures { GainsClosed self.old.stubs.items self.new.stubs.items }
+    {
+        for key in due {
+            self.give_out(rt, *key);
+        }
+        if all_due {
+            self.give_out_all(rt);
+        }
+    }
+
+    fn give_out_all<T: Wait>(&mut self, rt: &T)
+        ensures { GainsClosed self.old.stubs.items self.new.stubs.items }
+    {
+        for key in 0..self.visits.capacity() {
+            self.give_out(rt, key);
+        }
+    }
+
+    /// The whole turn of a connection, apart from those of others.
+    fn serve_apart<T: Wait>(&mut self, rt: &T, key: usize)
+        ensures { GainsClosed self.old.stubs.items self.new.stubs.items }
+    {
+        if !self.keep(rt) {
+            return;
+        }
+        self.begin_turn(rt, key);
+        self.finish_apart(rt, key);
+    }
+
+    /// What is left of a connection's turn behind its first part.
+    fn finish_apart<T: Wait>(&mut self, rt: &T, key: usize)
+        ensures { GainsClosed self.old.stubs.items self.new.stubs.items }
+    {
+        if !self.serving.keeper.is_set() {
+            return;
+        }
+        if self.keep(rt) {
+            self.give_out(rt, key);
+        } else {
+            self.all_due = true;
+        }
+    }
+
+    /// The first part of a connection's turn. Where nothing is kept, it is the whole turn.
+    fn begin_turn<T: Wait>(&mut self, rt: &T, key: usize)
+        ensures { GainsClosed self.old.stubs.items self.new.stubs.items }
+    {
+        self.take_in(rt, key);
+        if !self.serving.keeper.is_set() {
+            self.give_out(rt, key);
+        }
+    }
+
+    /// Reads and answers what came of a connection.
+    fn take_in<T: Wait>(&mut self, rt: &T, key: usize)
         ensures { GainsClosed self.old.stubs.items self.new.stubs.items }
     {
         let Some(mut visit) = self.visits.try_remove(key) else {
             return;
         };
         visit.is_due = false;
-        let turn = visit.serve(rt, self.serving.watch, &mut self.buffer);
-        visit.note_turn(turn, self.now());
-        match turn.next {
+        let serving = self.serving;
+        match visit.take_in(rt, serving.watch, serving.admission, &mut self.buffer) {
+            Some(fault) => self.settle(rt, Box::into_inner(visit), fault),
+            None => {
+                let answered = visit.answered();
+                self.visits.insert_reserved(visit);
+                self.note_answered(answered);
+            }
+        }
+    }
+
+    /// Sends the replies of a connection.
+    fn give_out<T: Wait>(&mut self, rt: &T, key: usize)
+        ensures { GainsClosed self.old.stubs.items self.new.stubs.items }
+    {
+        let Some(mut visit) = self.visits.try_remove(key) else {
+            return;
+        };
+        let next = visit.give_out();
+        visit.note_turn(self.now());
+        match next {
             Next::Waits => {
                 self.visits.insert_reserved(visit);
             }
             Next::GoesOn => self.put_due(visit),
             Next::Ends(ending) => self.settle(rt, Box::into_inner(visit), ending),
         }
+    }
+
+    /// Has what this tenant was answered kept behind the turn.
+    fn note_answered(&mut self, tenant: Option<u32>)
+        ensures { self.new.stubs.items ≡ self.old.stubs.items }
+    {
+        let Some(tenant) = tenant else {
+            return;
+        };
+        // there is a place for it since its connection was taken
+        if self.serving.keeper.is_set() && self.answered.push(tenant).is_err() {
+            self.serving.lose();
+        }
+    }
+
+    /// Keeps what tenants were answered. Whether all is kept, and replies may be sent.
+    fn keep<T: Wait>(&mut self, rt: &T) -> bool
+        ensures { self.new.stubs.items ≡ self.old.stubs.items }
+    {
+        if self.answered.is_empty() {
+            return !self.serving.has_lost();
+        }
+        let is_kept = self.serving.keep(rt, &self.answered);
+        if is_kept {
+            self.answered.clear();
+        }
+        is_kept
     }
 
     /// Closes the connections that have been silent for too long.
@@ -383,7 +520,7 @@ impl<'s, N: Naming, V: Watch, C: Clock> Worker<'s, N, V, C> {
         if self.silence(key, now).is_none() {
             return;
         }
-        self.serve_turn(rt, key);
+        self.serve_apart(rt, key);
         if let Some(ending) = self.silence(key, now) {
             self.end(rt, key, ending);
         }

@@ -1,9 +1,9 @@
-use Rattle.sb_server.proofs.Gains.{gains_then}
+use Rattle.sb_server.proofs.Gains.{gains_nothing, gains_then}
 use Rattle.sb_server.proofs.worker.Worker.serve_due.Goals as goal
 
-pub loop-key-preserved : goal.loop-key-preserved
-loop-key-preserved g c = gains_then c.args.self.now.stubs.items c.loop-key.self.stubs.items c.serve_turn.new.self.stubs.items c.loop-key.invariant c.serve_turn.ensures
-
--- all have their turn behind those that were due
-pub returns-then-self : goal.returns-then-self
-returns-then-self g c = gains_then c.args.self.now.stubs.items c.loop-key.self.stubs.items c.serve_all.new.self.stubs.items c.loop-key.invariant c.serve_all.ensures
+pub returns : goal.returns
+returns g c =
+    let old = c.args.self.now.stubs.items in
+    let kept = c.keep.new.self.stubs.items in
+    let begun = c.take_in_due.new.self.stubs.items in
+    gains_then old begun c.finish_due.new.self.stubs.items (gains_then old kept begun (gains_nothing old kept c.keep.ensures) c.take_in_due.ensures) c.finish_due.ensures

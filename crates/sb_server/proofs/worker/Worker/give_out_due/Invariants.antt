@@ -1,5 +1,5 @@
 use Rattle.sb_server.specs.Closed.{GainsClosed}
-use Rattle.sb_server.proofs.worker.Worker.serve_all.Given as goal
+use Rattle.sb_server.proofs.worker.Worker.give_out_due.Given as goal
 
 abbrev pub invariant-loop-key : goal.invariant-loop-key
 invariant-loop-key g l = GainsClosed l.fn.self.stubs.items l.self.stubs.items

@@ -1,0 +1,36 @@
+//! What is done before replies are sent.
+
+use std::sync::Wait;
+
+/// How it went to keep something.
+#[derive(Clone, Copy, Debug, PartialEq, Eq)]
+pub enum Kept {
+    All,
+    /// There was no memory for it. The replies wait, and it is tried again.
+    NotYet,
+    /// Nothing can be kept any more. The server ends, and the replies aren't sent.
+    Failed,
+}
+
+/// Keeps what tenants were answered, before their clients are told.
+pub trait Keeper {
+    /// Whether anything is kept. Where nothing is, each connection is served by itself.
+    fn is_set(&self) -> bool;
+
+    /// Keeps all that these tenants were answered so far.
+    fn keep<T: Wait>(&self, rt: &T, tenants: &[u32]) -> Kept;
+}
+
+/// Nothing is kept.
+#[derive(Clone, Copy, Debug)]
+pub struct Unkept;
+
+impl Keeper for Unkept {
+    fn is_set(&self) -> bool {
+        false
+    }
+
+    fn keep<T: Wait>(&self, _rt: &T, _tenants: &[u32]) -> Kept {
+        Kept::All
+    }
+}
