@@ -4,3 +4,5 @@ pub mod Ends
 pub mod Records
 pub mod Journal
 pub mod Opening
+pub mod Noted
+pub mod File

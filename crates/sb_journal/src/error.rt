@@ -3,7 +3,7 @@ ghost use Rattle.std.specs.Prelude.{◌≡◌};
 ghost use Rattle.sb_journal.specs.declared.error.JournalError.TheVariants.{Device, Memory};
 
 use std::alloc::{AllocError, AllocFailed};
-use std::io;
+use std::{fmt, io};
 
 #[derive(Clone, Copy, Debug)]
 pub enum JournalError {
@@ -39,5 +39,17 @@ impl<T: Drop> From<AllocFailed<T>> for JournalError {
 
     fn from(_: AllocFailed<T>) -> Self {
         JournalError::Memory
+    }
+}
+
+impl fmt::Display for JournalError {
+    fn fmt<W: fmt::Write>(&self, f: &mut fmt::Formatter<W>) -> fmt::Result {
+        match self {
+            JournalError::Device(error) => write!(f, "{error}"),
+            JournalError::Memory => f.write_str("there is no memory"),
+            JournalError::Damaged => f.write_str("it is damaged"),
+            JournalError::Spent => f.write_str("a write of it has failed before"),
+            JournalError::Full => f.write_str("there is no room in it"),
+        }
     }
 }

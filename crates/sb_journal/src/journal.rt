@@ -1,6 +1,6 @@
 //! A journal: a head, and then records in batches. What is staged waits in memory until it is committed.
-ghost use Rattle.std.specs.Prelude.{◌≡◌, ◌⊎◌, ◌≤◌, ◌^◌, ◌++◌, [], ◌∷◌, List, ℕ, length, IfOk, OnOk, OnErr, IsTrue};
-ghost use Rattle.sb_journal.specs.Log.{HasAll};
+ghost use Rattle.std.specs.Prelude.{◌≡◌, ◌⊎◌, ◌≤◌, ◌^◌, ◌++◌, ◌↔◌, [], ◌∷◌, List, ℕ, length, IfOk, OnOk, OnErr, IsTrue};
+ghost use Rattle.sb_journal.specs.Log.{HasAll, IsSpent, device_of};
 ghost use Rattle.sb_journal.specs.Records.{Entry, entry_of};
 
 use crate::record::record_bytes;
@@ -23,8 +23,9 @@ impl<D: Disk> Journal<D> {
 
     /// A journal over a log that has its head already. Nothing waits yet.
     pub fn over(alloc: Global, log: Log<D>) -> Journal<D>
-        ensures { (head : TheHead) (batches : List (List Entry)) → HasAll D.Disk.seen D.Disk.may_leave log (head_bytes head ∷ contents_of batches)
+        ensures has { (head : TheHead) (batches : List (List Entry)) → HasAll D.Disk.seen D.Disk.may_leave log (head_bytes head ∷ contents_of batches)
             → Has D.Disk.seen D.Disk.may_leave result head (all_of batches) [] }
+        ensures disk { disk_of result ≡ device_of log }
     {
         Journal {
             alloc,
@@ -75,10 +76,34 @@ impl<D: Disk> Journal<D> {
         Ok(())
     }
 
+    /// Whatever a crash leaves of the file as it is has the records.
+    pub fn is_kept(&self)
+        ensures { (head : TheHead) (entries waiting : List Entry) → Has D.Disk.seen D.Disk.may_leave self.now head entries waiting
+            → (file : List ℕ) → D.Disk.may_leave (disk_of self.now) file → Keeps head entries file }
+    {}
+
+    /// Whether a write or a sync of it has failed, so that it isn't written to any more.
+    pub fn is_spent(&self) -> bool
+        ensures { IsTrue result ↔ IsSpent self.now.log }
+    {
+        self.log.is_spent()
+    }
+
+    /// How many bytes more may wait.
+    pub fn room(&self) -> usize
+        ensures { result ≤ 2 ^ 20 }
+    {
+        MAX_CONTENT - self.waiting.len()
+    }
+
     /// Brings what waits to the disk, as one batch.
     pub fn commit(&mut self) -> Result<(), JournalError>
         ensures ok { OnOk result ((head : TheHead) (entries waiting : List Entry) → Has D.Disk.seen D.Disk.may_leave self.old head entries waiting
             → Has D.Disk.seen D.Disk.may_leave self.new head (entries ++ waiting) []) }
+
+        // Nothing was done, or it isn't used any more.
+        ensures err { OnErr result (((head : TheHead) (entries waiting : List Entry) → Has D.Disk.seen D.Disk.may_leave self.old head entries waiting
+            → Has D.Disk.seen D.Disk.may_leave self.new head entries waiting) ⊎ IsSpent self.new.log) }
 
         // A crash at any moment of the call leaves what was there, or that and all that waited.
         ensures any_moment { (head : TheHead) (entries waiting : List Entry) → Has D.Disk.seen D.Disk.may_leave self.old head entries waiting

@@ -1,6 +1,6 @@
 //! A file of blocks. A block counts if its gate is open, and it is whole; a shut gate stands behind the last, on the
 //! disk before anything is written behind it.
-ghost use Rattle.std.specs.Prelude.{◌≡◌, ◌≢◌, ◌⊎◌, ◌+◌, ◌<◌, ◌≤◌, ◌^◌, ◌++◌, [], ◌∷◌, List, ℕ, length, IfOk, IfErr, OnOk, OnErr, IsErr, IsTrue};
+ghost use Rattle.std.specs.Prelude.{◌≡◌, ◌≢◌, ◌⊎◌, ◌+◌, ◌<◌, ◌≤◌, ◌^◌, ◌++◌, ◌↔◌, [], ◌∷◌, List, ℕ, length, IfOk, IfErr, OnOk, OnErr, IsErr, IsTrue};
 ghost use Rattle.sqlite_disk.specs.Disk.{Only, Holds};
 ghost use Rattle.sb_journal.specs.Blocks.{body, blocks, IsContent, IsBeforeOrAfter, Stands};
 ghost use Rattle.sb_journal.specs.Log.{HasAll, IsSpent, device_of, Reads};
@@ -54,6 +54,13 @@ impl<D: Disk> Log<D> {
         ensures { result ≡ device_of self }
     {
         self.device
+    }
+
+    /// Whether a write or a sync has failed.
+    pub fn is_spent(&self) -> bool
+        ensures { IsTrue result ↔ IsSpent self.now }
+    {
+        self.is_spent
     }
 
     /// Reads the content whose block begins at `at`, and says where the next block begins.

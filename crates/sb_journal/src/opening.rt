@@ -1,14 +1,16 @@
 //! The head of a log, found or written.
 ghost use Rattle.std.specs.Prelude.{◌≡◌, ◌≢◌, [], ◌∷◌, List, ℕ, length, IfOk, IfErr, OnOk, OnErr, IsTrue};
-ghost use Rattle.sb_journal.specs.Blocks.{IsBeforeOrAfter};
+ghost use Rattle.sb_journal.specs.Blocks.{IsBeforeOrAfter, Stands};
 ghost use Rattle.sb_journal.specs.Log.{HasAll, device_of};
-ghost use Rattle.sb_journal.specs.Journal.{head_bytes};
+ghost use Rattle.sb_journal.specs.Records.{Entry};
+ghost use Rattle.sb_journal.specs.Journal.{head_bytes, disk_of, Has, Keeps};
 ghost use Rattle.sb_journal.specs.Opening.{Names};
 ghost use Rattle.sb_journal.specs.declared.head.Head.{Head as TheHead};
 
-use crate::{Head, JournalError, Log};
+use crate::{Head, Journal, JournalError, Log};
 use sqlite_disk::Disk;
 use std::alloc::{AllocError, Global};
+use std::fmt;
 
 /// Why a log doesn't begin with a head.
 #[derive(Clone, Copy, Debug)]
@@ -20,6 +22,39 @@ pub enum BeginError {
     OtherBound,
 }
 
+impl fmt::Display for BeginError {
+    fn fmt<W: fmt::Write>(&self, f: &mut fmt::Formatter<W>) -> fmt::Result {
+        match self {
+            BeginError::Journal(error) => write!(f, "{error}"),
+            BeginError::OtherMeaning => f.write_str("it is no journal of this version"),
+            BeginError::OtherTenants => f.write_str("it has another number of tenants"),
+            BeginError::OtherBound => f.write_str("it has another bound on considerations"),
+        }
+    }
+}
+
+/// Opens the journal of a file that a crash may have left, or begins one in an empty file. It may crash too.
+pub fn open_journal<D: Disk + Drop>(
+    alloc: Global,
+    disk: D,
+    head: Head,
+) -> Result<Journal<D>, BeginError>
+    requires { IsTrue (D.Disk.is_usable disk) }
+    ensures there { IfOk result (λ journal. IsTrue (D.Disk.is_clean (disk_of journal)) → (other : TheHead) (entries : List Entry)
+        → Keeps other entries (D.Disk.seen disk) → Has D.Disk.seen D.Disk.may_leave journal head entries []) }
+    ensures begun { IfOk result (λ journal. IsTrue (D.Disk.is_clean (disk_of journal))
+        → Stands [] (D.Disk.seen disk) → Has D.Disk.seen D.Disk.may_leave journal head [] []) }
+{
+    let mut log = match Log::open(disk) {
+        Ok(log) => log,
+        Err((error, _disk)) => return Err(BeginError::Journal(error)),
+    };
+    match begin(alloc, &mut log, head) {
+        Ok(()) => Ok(Journal::over(alloc, log)),
+        Err(error) => Err(error),
+    }
+}
+
 /// Finds the head in a log, or writes it into an empty one. It may crash too.
 pub fn begin<D: Disk>(alloc: Global, log: &mut Log<D>, head: Head) -> Result<(), BeginError>
     // A log that has something begins with this head, and keeps all.
@@ -27,6 +62,8 @@ pub fn begin<D: Disk>(alloc: Global, log: &mut Log<D>, head: Head) -> Result<(),
         → HasAll D.Disk.seen D.Disk.may_leave log.old (first ∷ others) → first ≡ head_bytes head) }
     ensures kept { IsTrue (D.Disk.is_clean (device_of log.new)) → (first : List ℕ) (others : List (List ℕ))
         → HasAll D.Disk.seen D.Disk.may_leave log.old (first ∷ others) → HasAll D.Disk.seen D.Disk.may_leave log.new (first ∷ others) }
+
+    ensures clean { IsTrue (D.Disk.is_clean (device_of log.new)) → IsTrue (D.Disk.is_clean (device_of log.old)) }
 
     // Of another head it is told where it differs.
     ensures other { IfErr result (λ e. IsTrue (D.Disk.is_clean (device_of log.new)) → (other : TheHead) (others : List (List ℕ))

@@ -1,0 +1,264 @@
+-- Parts that are recorded one after the other.
+use Rattle.std.proofs.Common.{◌≡◌, ◌⊎◌, ℕ, ◌+◌, ◌≤◌, ◌<◌, Bool, true, List, [], ◌∷◌, ◌++◌, length, map, take, drop, slice_set, slice_index, cond, codes, None, Some, Option, unwrap_or, refl, sym, ap, ◌∙◌, subst, inl, inr, arith, append_assoc, length-drop, length-take-le, IsTrue, IsFalse, OnErr, IfOk, is_ok, Result, Ok, Err, false}
+use Rattle.std.specs.Prelude.{Contains}
+use Rattle.std.proofs.lemmas.List.{append-nil, get_or_default, length-map, take-map, take-take}
+use Rattle.std.proofs.lemmas.Bool.{cases_lt}
+use Rattle.sqlite_disk.specs.declared.Disk.{Ghosts}
+use Rattle.sb_journal.specs.Log.{IsSpent}
+use Rattle.sb_journal.specs.Records.{Entry as Record}
+use Rattle.sb_journal.specs.Journal.{Has, Keeps, disk_of}
+use Rattle.sb_journal.specs.declared.head.Head.{Head}
+use Rattle.sb_tenant.specs.declared.reply.Entry.{Entry}
+use Rattle.sb_tenant.specs.Tenant.{Tenant, IsLegal}
+use Rattle.sb_tenant.specs.Trail.{is_no_memory}
+use Rattle.sb_durable.specs.declared.book.Book.{Book}
+use Rattle.sb_journal.specs.declared.error.JournalError.{JournalError}
+use Rattle.sb_durable.specs.declared.noting.Note.{Note}
+use Rattle.sb_durable.specs.declared.noting.Notes.{Notes}
+use Rattle.sb_durable.specs.declared.noting.Reach.{Reach}
+use Rattle.sb_durable.specs.declared.noting.Reach.TheVariants.{Nowhere, Part as OfPart, End, NoMemory}
+use Rattle.sb_durable.specs.Noting.{note_of, record_of_note, IsFront, IsStaged, NotesBehind, Reads}
+use Rattle.sb_durable.specs.Recording.{Part, entries_of, record_of, records_of, AreAmong, AreOf, Counts, Reaches}
+use Rattle.sb_durable.specs.Keeping.{HasFront, KeepsFront, Stages, StagesBy, StagesFront, StagesNoted, Takes}
+
+-- ---- lists of parts
+
+counts-append : (counts mid new : List ℕ) (ps qs : List Part) → Counts counts ps mid → Counts mid qs new → Counts counts (ps ++ qs) new
+counts-append counts mid new [] qs first then = subst (λ (c : List ℕ). Counts c qs new) first then
+counts-append counts mid new (p ∷ ps) qs first then = (first.0, counts-append (slice_set counts p.tenant (p.from + p.count)) mid new ps qs first.1 then)
+
+records-append : (ps qs : List Part) → records_of (ps ++ qs) ≡ records_of ps ++ records_of qs
+records-append [] qs = refl
+records-append (p ∷ ps) qs = ap (λ (rs : List Record). map (record_of p.tenant) (entries_of p) ++ rs) (records-append ps qs) ∙ sym (append_assoc (map (record_of p.tenant) (entries_of p)) (records_of ps) (records_of qs))
+
+pub reaches_first : (ps qs : List Part) (t : ℕ) → Reaches ps t → Reaches (ps ++ qs) t
+reaches_first [] qs t reach = absurd reach
+reaches_first (p ∷ ps) qs t (inl here) = inl here
+reaches_first (p ∷ ps) qs t (inr later) = inr (reaches_first ps qs t later)
+
+pub reaches_then : (ps qs : List Part) (t : ℕ) → Reaches qs t → Reaches (ps ++ qs) t
+reaches_then [] qs t reach = reach
+reaches_then (p ∷ ps) qs t reach = inr (reaches_then ps qs t reach)
+
+pub of-append : (ps qs : List Part) (t : ℕ) → AreOf t ps → AreOf t qs → AreOf t (ps ++ qs)
+of-append [] qs t first then = then
+of-append (p ∷ ps) qs t first then = (first.0, of-append ps qs t first.1 then)
+
+pub among-append : (tenants : List ℕ) (ps qs : List Part) → AreAmong tenants ps → AreAmong tenants qs → AreAmong tenants (ps ++ qs)
+among-append tenants [] qs first then = then
+among-append tenants (p ∷ ps) qs first then = (first.0, among-append tenants ps qs first.1 then)
+
+pub among_one : (tenants : List ℕ) (ps : List Part) (t : ℕ) → Contains tenants t → AreOf t ps → AreAmong tenants ps
+among_one tenants [] t there are = tt
+among_one tenants (p ∷ ps) t there are = (subst (λ n. Contains tenants n) (sym are.0) there, among_one tenants ps t there are.1)
+
+pub contains_at : (xs : List ℕ) (k : ℕ) → k < length xs → Contains xs (slice_index xs k)
+contains_at xs k below = (k, below, get_or_default xs k (slice_index xs k) 0 below)
+
+-- one more tenant's trail is reached
+pub reaches_on : (tenants : List ℕ) (i : ℕ) (ps qs : List Part) → ((k : ℕ) → k < i → Reaches ps (slice_index tenants k)) → Reaches qs (slice_index tenants i) → (k : ℕ) → k < i + 1 → Reaches (ps ++ qs) (slice_index tenants k)
+reaches_on tenants i ps qs first then k below = elim (cases_lt k i) [
+  | inl low ↦ reaches_first ps qs (slice_index tenants k) (first k low)
+  | inr high ↦ let here : i ≡ k = omega (arith, below, high) in subst (λ n. Reaches (ps ++ qs) (slice_index tenants n)) here (reaches_then ps qs (slice_index tenants i) then)
+]
+
+-- ---- notes
+
+-- the first of the entries are noted
+pub front_at : (entries : List Entry) (notes : List Note) (k : ℕ) → k ≤ length entries → notes ≡ map note_of (take k entries) → IsFront entries notes
+front_at entries notes k few is =
+    let long : length notes ≡ k = ap length is ∙ length-map (take k entries) note_of ∙ length-take-le k entries few in
+    (omega (arith, few, long), is ∙ ap (λ n. map note_of (take n entries)) (sym long))
+
+note_is : (t : ℕ) (e : Entry) → record_of_note t (note_of e) ≡ record_of t e
+note_is t e = by (is_no_memory e.reply)
+  where
+    by : (b : Bool) → record_of_note t (record { session = e.session; line = cond b None (Some e.line) }) ≡ record { tenant = t; session = e.session; line = cond b (codes "rollback") e.line }
+    by true = refl
+    by false = refl
+
+notes_are : (t : ℕ) (es : List Entry) → map (record_of_note t) (map note_of es) ≡ map (record_of t) es
+notes_are t [] = refl
+notes_are t (e ∷ es) = (λ i. note_is t e i ∷ notes_are t es i)
+
+-- so many of the notes are recorded as the entries
+pub front_is : (t n : ℕ) (entries : List Entry) (notes : List Note) → IsFront entries notes → n ≤ length notes → map (record_of_note t) (take n notes) ≡ map (record_of t) (take n entries)
+front_is t n entries notes front few =
+    ap (λ (l : List Note). map (record_of_note t) (take n l)) front.1
+    ∙ ap (map (record_of_note t)) (take-map note_of n (take (length notes) entries) ∙ ap (map note_of) (take-take n (length notes) entries few))
+    ∙ notes_are t (take n entries)
+
+-- ---- what a book has
+
+joined : (w a b front back f2 b2 : List Record) → w ++ a ≡ front ++ back → back ++ b ≡ f2 ++ b2 → w ++ (a ++ b) ≡ (front ++ f2) ++ b2
+joined w a b front back f2 b2 one other =
+    sym (append_assoc w a b) ∙ ap (λ (l : List Record). l ++ b) one ∙ append_assoc front back b ∙ ap (λ (l : List Record). front ++ l) other ∙ sym (append_assoc front f2 b2)
+
+pub on_err : {T E P : Type 0} (r : Result T E) → P → OnErr r P
+on_err (Ok x) p = tt
+on_err (Err e) p = p
+
+-- all was staged only where the end was reached
+pub whole_reach : (reach : Reach) (whole : Bool) → IsStaged reach whole → IsTrue whole → reach ≡ End
+whole_reach Nowhere whole staged is = absurd staged
+whole_reach NoMemory whole staged is = absurd staged
+whole_reach OfPart whole staged is = absurd (cc (staged, is))
+whole_reach End whole staged is = refl
+
+-- the file has the records, or those that waited, too
+kept_by : (head : Head) (records waiting : List Record) (file : List ℕ) → Keeps head records file ⊎ Keeps head (records ++ waiting) file → KeepsFront head records (waiting ++ []) file
+kept_by head records waiting file (inl before) = record { front = []; back = waiting; all = append-nil waiting; keeps = subst (λ (r : List Record). Keeps head r file) (sym (append-nil records)) before }
+kept_by head records waiting file (inr after) = record { front = waiting; back = []; all = refl; keeps = after }
+
+module _ {D : Type 0} {g : Ghosts D} (seen : D → List ℕ) (may_leave : D → List ℕ → Type 0) where
+  -- nothing is recorded yet
+  pub takes_none : (G : Type 0) (old new : Book D g) (head : Head) (records waiting : List Record) → new.recorded.items ≡ old.recorded.items → Has seen may_leave new.journal head records waiting
+      → ((file : List ℕ) → may_leave (disk_of new.journal) file → Keeps head records file) → Takes seen may_leave G old new head records waiting []
+  takes_none G old new head records waiting same has kept = record {
+    counts = same;
+    has = inr (record { front = []; back = waiting; all = append-nil waiting; has = subst (λ (r : List Record). Has seen may_leave new.journal head r waiting) (sym (append-nil records)) has });
+    crash = λ file left. record { front = []; back = waiting; all = append-nil waiting; keeps = subst (λ (r : List Record). Keeps head r file) (sym (append-nil records)) (kept file left) };
+  }
+
+  -- what is known of the journal then
+  pub front_of : (old new : Book D g) (head : Head) (records waiting : List Record) (ps : List Part) → Takes seen may_leave ⊥ old new head records waiting ps
+      → HasFront seen may_leave new.journal head records (waiting ++ records_of ps)
+  front_of old new head records waiting ps takes = by takes.has
+    where
+      by : ⊥ ⊎ HasFront seen may_leave new.journal head records (waiting ++ records_of ps) → HasFront seen may_leave new.journal head records (waiting ++ records_of ps)
+      by (inl none) = absurd none
+      by (inr has) = has
+
+  -- one after the other
+  pub takes_more : (G : Type 0) (old mid new : Book D g) (head : Head) (records waiting : List Record) (ps qs : List Part) (first : Takes seen may_leave ⊥ old mid head records waiting ps)
+      (has : HasFront seen may_leave mid.journal head records (waiting ++ records_of ps)) → Takes seen may_leave G mid new head (records ++ has.front) has.back qs → Takes seen may_leave G old new head records waiting (ps ++ qs)
+  takes_more G old mid new head records waiting ps qs first has then = record {
+    counts = counts-append old.recorded.items mid.recorded.items new.recorded.items ps qs first.counts then.counts;
+    has = by then.has;
+    crash = λ file left. let k = then.crash file left in record {
+      front = has.front ++ k.front;
+      back = k.back;
+      all = ap (λ (l : List Record). waiting ++ l) (records-append ps qs) ∙ joined waiting (records_of ps) (records_of qs) has.front has.back k.front k.back has.all k.all;
+      keeps = subst (λ (r : List Record). Keeps head r file) (append_assoc records has.front k.front) k.keeps;
+    };
+  }
+    where
+      by : G ⊎ HasFront seen may_leave new.journal head (records ++ has.front) (has.back ++ records_of qs) → G ⊎ HasFront seen may_leave new.journal head records (waiting ++ records_of (ps ++ qs))
+      by (inl given_up) = inl given_up
+      by (inr h) = inr (record {
+        front = has.front ++ h.front;
+        back = h.back;
+        all = ap (λ (l : List Record). waiting ++ l) (records-append ps qs) ∙ joined waiting (records_of ps) (records_of qs) has.front has.back h.front h.back has.all h.all;
+        has = subst (λ (r : List Record). Has seen may_leave new.journal head r h.back) (append_assoc records has.front h.front) h.has;
+      })
+
+  pub takes_last : (G : Type 0) (old mid new : Book D g) (head : Head) (records waiting : List Record) (ps : List Part) (first : Takes seen may_leave ⊥ old mid head records waiting ps)
+      (has : HasFront seen may_leave mid.journal head records (waiting ++ records_of ps)) → Takes seen may_leave G mid new head (records ++ has.front) has.back [] → Takes seen may_leave G old new head records waiting ps
+  takes_last G old mid new head records waiting ps first has then =
+      subst (λ (l : List Part). Takes seen may_leave G old new head records waiting l) (append-nil ps) (takes_more G old mid new head records waiting ps [] first has then)
+
+  -- a part of a trail is staged
+  pub takes_part : (G : Type 0) (old new : Book D g) (head : Head) (records waiting : List Record) (t n from : ℕ) (own : Tenant) (notes : List Note)
+      → t < length old.recorded.items → from ≡ slice_index old.recorded.items t → IsLegal own → from + n ≤ length own.trail
+      → IsFront (drop from own.trail) notes → n ≤ length notes → length (take n notes) ≡ n → Stages seen may_leave old new t (take n notes)
+      → Has seen may_leave old.journal head records waiting → ((head : Head) (records waiting : List Record) → Has seen may_leave new.journal head records waiting → (file : List ℕ) → may_leave (disk_of new.journal) file → Keeps head records file)
+      → Takes seen may_leave G old new head records waiting (record { tenant = t; own = own; from = from; count = n } ∷ [])
+  takes_part G old new head records waiting t n from own notes there start legal within front few long stages has kept =
+      let part : Part = record { tenant = t; own = own; from = from; count = n } in
+      let all : waiting ++ map (record_of_note t) (take n notes) ≡ waiting ++ records_of (part ∷ []) =
+      ap (λ (l : List Record). waiting ++ l) (front_is t n (drop from own.trail) notes front few ∙ sym (append-nil (map (record_of t) (entries_of part)))) in
+      let now = subst (λ (w : List Record). Has seen may_leave new.journal head records w) all (stages.has head records waiting has) in
+      let counts : new.recorded.items ≡ slice_set old.recorded.items t (from + n) = stages.counts ∙ (λ i. slice_set old.recorded.items t (sym start i + long i)) in
+      record {
+        counts = ((there, start, within, legal), counts);
+        has = inr (record { front = []; back = waiting ++ records_of (part ∷ []); all = refl; has = subst (λ (r : List Record). Has seen may_leave new.journal head r (waiting ++ records_of (part ∷ []))) (sym (append-nil records)) now });
+        crash = λ file left. record { front = []; back = waiting ++ records_of (part ∷ []); all = refl; keeps = subst (λ (r : List Record). Keeps head r file) (sym (append-nil records)) (kept head records (waiting ++ records_of (part ∷ [])) now file left) };
+      }
+
+  -- what waited is on the disk
+  pub takes_all : (old new : Book D g) (head : Head) (records waiting : List Record) → new.recorded.items ≡ old.recorded.items → Has seen may_leave new.journal head (records ++ waiting) []
+      → ((file : List ℕ) → may_leave (disk_of new.journal) file → Keeps head records file ⊎ Keeps head (records ++ waiting) file) → Takes seen may_leave ⊥ old new head records waiting []
+  takes_all old new head records waiting same has left = record {
+    counts = same;
+    has = inr (record { front = waiting; back = []; all = refl; has = has });
+    crash = λ file may. kept_by head records waiting file (left file may);
+  }
+
+  -- or it isn't, and the journal may be spent
+  pub takes_some : (old new : Book D g) (head : Head) (records waiting : List Record) → new.recorded.items ≡ old.recorded.items
+      → ((head : Head) (records waiting : List Record) → Has seen may_leave old.journal head records waiting → Has seen may_leave new.journal head records waiting) ⊎ IsSpent new.journal.log
+      → Has seen may_leave old.journal head records waiting
+      → ((file : List ℕ) → may_leave (disk_of new.journal) file → Keeps head records file ⊎ Keeps head (records ++ waiting) file) → Takes seen may_leave (IsSpent new.journal.log) old new head records waiting []
+  takes_some old new head records waiting same stays has left = record { counts = same; has = by stays; crash = λ file may. kept_by head records waiting file (left file may) }
+    where
+      by : ((head : Head) (records waiting : List Record) → Has seen may_leave old.journal head records waiting → Has seen may_leave new.journal head records waiting) ⊎ IsSpent new.journal.log
+          → IsSpent new.journal.log ⊎ HasFront seen may_leave new.journal head records (waiting ++ [])
+      by (inl same) = inr (record { front = []; back = waiting; all = append-nil waiting; has = subst (λ (r : List Record). Has seen may_leave new.journal head r waiting) (sym (append-nil records)) (same head records waiting has) })
+      by (inr spent) = inl spent
+
+  -- what was noted is staged
+  abbrev pub Kept : Book D g → Type 0
+  Kept new = (head : Head) (records waiting : List Record) → Has seen may_leave new.journal head records waiting → (file : List ℕ) → may_leave (disk_of new.journal) file → Keeps head records file
+
+  abbrev Taken : Type 0 → Book D g → Book D g → ℕ → Type 0 → Type 0
+  Taken G old new t whole =
+      (head : Head) (records waiting : List Record) → Has seen may_leave old.journal head records waiting → (parts : List Part) × Takes seen may_leave G old new head records waiting parts × AreOf t parts × (whole → Reaches parts t)
+
+  taken_front : (G : Type 0) (old new : Book D g) (t from : ℕ) (own : Tenant) (notes : List Note) (all : Bool) (whole : Type 0) → t < length old.recorded.items → from ≡ slice_index old.recorded.items t → IsLegal own
+      → from ≤ length own.trail → IsFront (drop from own.trail) notes → (whole → (length notes ≡ length (drop from own.trail)) × IsTrue all) → StagesFront seen may_leave old new t notes all → Kept new → Taken G old new t whole
+  taken_front G old new t from own notes all whole there start legal within front to_end staged kept head records waiting has =
+      let part : Part = record { tenant = t; own = own; from = from; count = staged.count } in (
+        part ∷ [],
+        takes_part G old new head records waiting t staged.count from own notes there start legal (omega (arith, within, front.0, staged.few, length-drop from own.trail)) front staged.few (length-take-le staged.count notes staged.few) staged.stages has kept,
+        (refl, tt),
+        λ w. inl (refl, omega (arith, within, (to_end w).0, staged.whole (to_end w).1, length-drop from own.trail)),
+      )
+
+  taken_none : (G : Type 0) (old new : Book D g) (t : ℕ) (whole : Type 0) → new ≡ old → (whole → ⊥) → Kept new → Taken G old new t whole
+  taken_none G old new t whole same none kept head records waiting has =
+      let now = subst (λ (b : Book D g). Has seen may_leave b.journal head records waiting) (sym same) has in
+      ([], takes_none G old new head records waiting (ap (λ (b : Book D g). b.recorded.items) same) now (kept head records waiting now), tt, λ w. absurd (none w))
+
+  -- by how far the notes go, and whether all of them were taken
+  pub taken : (G : Type 0) (old new : Book D g) (t from : ℕ) (own : Tenant) (notes : List Note) (reach : Reach) (all : Bool) (whole : Type 0) → t < length old.recorded.items → from ≡ slice_index old.recorded.items t → IsLegal own
+      → NotesBehind from own.trail notes reach → (whole → (reach ≡ End) × IsTrue all) → StagesBy seen may_leave old new t notes all reach → Kept new → Taken G old new t whole
+  taken G old new t from own notes Nowhere all whole there start legal behind to_end staged kept = taken_none G old new t whole staged (λ w. absurd (cc ((to_end w).0))) kept
+  taken G old new t from own notes NoMemory all whole there start legal behind to_end staged kept = taken_none G old new t whole staged (λ w. absurd (cc ((to_end w).0))) kept
+  taken G old new t from own notes OfPart all whole there start legal behind to_end staged kept =
+      taken_front G old new t from own notes all whole there start legal behind.0 behind.1 (λ w. absurd (cc ((to_end w).0))) staged kept
+  taken G old new t from own notes End all whole there start legal behind to_end staged kept =
+      taken_front G old new t from own notes all whole there start legal behind.0 behind.1 (λ w. (behind.2, (to_end w).1)) staged kept
+
+  -- a reading, and what was staged of it
+  pub taken_ok : (old new : Book D g) (t : ℕ) (blank notes : Notes) (there : Bool) (r : Result Bool JournalError) → t < length old.recorded.items → blank.from ≡ slice_index old.recorded.items t → blank.reach ≡ Nowhere
+      → (IsTrue there → (own : Tenant) × Reads blank own notes) → (IsFalse there → notes ≡ blank) → IfOk r (λ w. IsStaged notes.reach w) → StagesNoted seen may_leave old new t notes (is_ok r) → Kept new
+      → IfOk r (λ w. Taken ⊥ old new t (IsTrue w))
+  taken_ok old new t blank notes there (Err e) has start nowhere read none whole staged kept = tt
+  taken_ok old new t blank notes true (Ok w) has start nowhere read none whole staged kept =
+      let own = read refl in
+      taken ⊥ old new t blank.from own.0 notes.list.items notes.reach true (IsTrue w) has start own.1.0 own.1.1 (λ is. (whole_reach notes.reach w whole is, refl)) staged kept
+  taken_ok old new t blank notes false (Ok w) has start nowhere read none whole staged kept =
+      let is : notes.reach ≡ Nowhere = ap (λ (n : Notes). n.reach) (none refl) ∙ nowhere in
+      taken_none ⊥ old new t (IsTrue w) (subst (λ (r : Reach). StagesBy seen may_leave old new t notes.list.items true r) is staged) (λ _. subst (λ (r : Reach). IsStaged r w) is whole) kept
+
+  pub taken_err : (G : Type 0) (old new : Book D g) (t : ℕ) (blank notes : Notes) (there : Bool) (r : Result Bool JournalError) → t < length old.recorded.items → blank.from ≡ slice_index old.recorded.items t → blank.reach ≡ Nowhere
+      → (IsTrue there → (own : Tenant) × Reads blank own notes) → (IsFalse there → notes ≡ blank) → StagesNoted seen may_leave old new t notes (is_ok r) → Kept new → OnErr r (Taken G old new t ⊥)
+  taken_err G old new t blank notes there (Ok w) has start nowhere read none staged kept = tt
+  taken_err G old new t blank notes true (Err e) has start nowhere read none staged kept =
+      let own = read refl in
+      taken G old new t blank.from own.0 notes.list.items notes.reach false ⊥ has start own.1.0 own.1.1 (λ is. absurd is) staged kept
+  taken_err G old new t blank notes false (Err e) has start nowhere read none staged kept =
+      let is : notes.reach ≡ Nowhere = ap (λ (n : Notes). n.reach) (none refl) ∙ nowhere in
+      taken_none G old new t ⊥ (subst (λ (r : Reach). StagesBy seen may_leave old new t notes.list.items false r) is staged) (λ is. is) kept
+
+  -- one step after the other, from whatever the journal has
+  abbrev pub TakesWith : Type 0 → (List Part → Type 0) → Book D g → Book D g → Type 0
+  TakesWith G P old new =
+      (head : Head) (records waiting : List Record) → Has seen may_leave old.journal head records waiting → (ps : List Part) × Takes seen may_leave G old new head records waiting ps × P ps
+
+  pub takes_then : (G : Type 0) (P Q R : List Part → Type 0) (old mid new : Book D g) → TakesWith ⊥ P old mid → TakesWith G Q mid new → ((ps qs : List Part) → P ps → Q qs → R (ps ++ qs)) → TakesWith G R old new
+  takes_then G P Q R old mid new first then both head records waiting has =
+      let a = first head records waiting has in
+      let h = front_of old mid head records waiting a.0 a.1 in
+      let b = then head (records ++ h.front) h.back h.has in
+      (a.0 ++ b.0, takes_more G old mid new head records waiting a.0 b.0 a.1 h b.1, both a.0 b.0 a.2 b.2)

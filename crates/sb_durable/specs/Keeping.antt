@@ -1,0 +1,62 @@
+-- Promise: what a journal and its counts are after parts of trails were recorded.
+use Rattle.std.specs.Prelude.{◌≡◌, ◌⊎◌, ℕ, ◌+◌, ◌<◌, ◌≤◌, Bool, IsTrue, List, ◌++◌, length, map, take, slice_index, slice_set}
+use Rattle.sqlite_disk.specs.declared.Disk.{Ghosts}
+use Rattle.sb_journal.specs.Records.{Entry as Record}
+use Rattle.sb_journal.specs.Journal.{Has, Keeps, disk_of}
+use Rattle.sb_journal.specs.declared.head.Head.{Head}
+use Rattle.sb_journal.specs.declared.journal.Journal.{Journal}
+use Rattle.sb_durable.specs.Noting.{record_of_note}
+use Rattle.sb_durable.specs.Recording.{Part, records_of, Counts, Reaches, AreAmong}
+use Rattle.sb_durable.specs.declared.noting.Note.{Note}
+use Rattle.sb_durable.specs.declared.noting.Notes.{Notes}
+use Rattle.sb_durable.specs.declared.noting.Reach.{Reach}
+use Rattle.sb_durable.specs.declared.noting.Reach.TheVariants as reach
+use Rattle.sb_durable.specs.declared.book.Book.{Book}
+
+-- The file has these records, and a first part of those behind them.
+pub record KeepsFront (head : Head) (records more : List Record) (file : List ℕ) : Type 0 where
+  pub front : List Record
+  pub back : List Record
+  pub all : more ≡ front ++ back
+  pub keeps : Keeps head (records ++ front) file
+
+-- The journal has these records and a first part of those behind them; the others wait.
+pub record HasFront {D : Type 0} {g : Ghosts D} (seen : D → List ℕ) (may_leave : D → List ℕ → Type 0) (journal : Journal D g) (head : Head) (records more : List Record) : Type 0 where
+  pub front : List Record
+  pub back : List Record
+  pub all : more ≡ front ++ back
+  pub has : Has seen may_leave journal head (records ++ front) back
+
+-- Beside these records and those that waited, the book has recorded these parts, unless it is given up. A crash leaves a first part of them.
+pub record Takes {D : Type 0} {g : Ghosts D} (seen : D → List ℕ) (may_leave : D → List ℕ → Type 0) (given_up : Type 0) (old new : Book D g) (head : Head) (records waiting : List Record) (parts : List Part) : Type 0 where
+  pub counts : Counts old.recorded.items parts new.recorded.items
+  pub has : given_up ⊎ HasFront seen may_leave new.journal head records (waiting ++ records_of parts)
+  pub crash : (file : List ℕ) → may_leave (disk_of new.journal) file → KeepsFront head records (waiting ++ records_of parts) file
+
+-- These steps of a tenant wait then, too, and are counted.
+pub record Stages {D : Type 0} {g : Ghosts D} (seen : D → List ℕ) (may_leave : D → List ℕ → Type 0) (old new : Book D g) (tenant : ℕ) (notes : List Note) : Type 0 where
+  pub counts : new.recorded.items ≡ slice_set old.recorded.items tenant (slice_index old.recorded.items tenant + length notes)
+  pub has : (head : Head) (records waiting : List Record) → Has seen may_leave old.journal head records waiting
+      → Has seen may_leave new.journal head records (waiting ++ map (record_of_note tenant) notes)
+
+-- the parts are of these tenants, and some part goes to the end of each one's trail
+pub record Brings (tenants : List ℕ) (parts : List Part) : Type 0 where
+  pub each : (k : ℕ) → k < length tenants → Reaches parts (slice_index tenants k)
+  pub no_others : AreAmong tenants parts
+
+-- The first of these steps wait, and all of them where all were taken.
+pub record StagesFront {D : Type 0} {g : Ghosts D} (seen : D → List ℕ) (may_leave : D → List ℕ → Type 0) (old new : Book D g) (tenant : ℕ) (notes : List Note) (all : Bool) : Type 0 where
+  pub count : ℕ
+  pub few : count ≤ length notes
+  pub whole : IsTrue all → count ≡ length notes
+  pub stages : Stages seen may_leave old new tenant (take count notes)
+
+-- What was noted waits; nothing does where nothing was reached.
+abbrev pub StagesBy : {D : Type 0} {g : Ghosts D} → (D → List ℕ) → (D → List ℕ → Type 0) → Book D g → Book D g → ℕ → List Note → Bool → Reach → Type 0
+StagesBy seen may_leave old new tenant notes all reach.Nowhere = new ≡ old
+StagesBy seen may_leave old new tenant notes all reach.NoMemory = new ≡ old
+StagesBy seen may_leave old new tenant notes all reach.Part = StagesFront seen may_leave old new tenant notes all
+StagesBy seen may_leave old new tenant notes all reach.End = StagesFront seen may_leave old new tenant notes all
+
+abbrev pub StagesNoted : {D : Type 0} {g : Ghosts D} → (D → List ℕ) → (D → List ℕ → Type 0) → Book D g → Book D g → ℕ → Notes → Bool → Type 0
+StagesNoted seen may_leave old new tenant notes all = StagesBy seen may_leave old new tenant notes.list.items all notes.reach

@@ -1,0 +1,149 @@
+//! A journal's records, played to a host that is new.
+use crate::player::Player;
+use sb_host::{AttachError, Host, Naming, Stub};
+use sb_journal::{Disk, Journal, JournalError, first_record};
+use std::alloc::Global;
+use std::fmt;
+use std::sync::Wait;
+
+/// Who is told how far the playing is.
+pub trait Progress {
+    /// So many records were played, and so many bytes of the file were read.
+    fn tell(&mut self, records: u64, bytes: u64);
+}
+
+/// What playing leaves.
+#[derive(Drop)]
+pub struct Played {
+    /// What the sessions left, which are all closed.
+    pub stubs: Vec<Stub>,
+    pub records: u64,
+    /// How many entries of each tenant's trail are recorded: all but those of the sessions that were closed at the end.
+    pub recorded: Vec<u32>,
+}
+
+/// Why a record isn't played.
+#[derive(Clone, Copy, Debug)]
+pub enum PlayFault {
+    Journal(JournalError),
+    /// Its bytes are no record.
+    NoRecord,
+    NoTenant,
+    NoSession,
+    /// Its session isn't open.
+    NotOpen,
+    Refused(AttachError),
+    NoMemory,
+    TrailFull,
+}
+
+/// Why a journal isn't played, and the number of the record, from 1.
+#[derive(Clone, Copy, Debug)]
+pub struct PlayError {
+    pub record: u64,
+    pub why: PlayFault,
+}
+
+impl fmt::Display for PlayFault {
+    fn fmt<W: fmt::Write>(&self, f: &mut fmt::Formatter<W>) -> fmt::Result {
+        match self {
+            PlayFault::Journal(error) => write!(f, "{error}"),
+            PlayFault::NoRecord => f.write_str("it is damaged"),
+            PlayFault::NoTenant => f.write_str("the tenant isn't there"),
+            PlayFault::NoSession => f.write_str("a tenant has no session of this number"),
+            PlayFault::NotOpen => f.write_str("its session isn't open"),
+            PlayFault::Refused(_) => f.write_str("its session can't be opened"),
+            PlayFault::NoMemory => f.write_str("there is no memory for it"),
+            PlayFault::TrailFull => f.write_str("the tenant's trail is full"),
+        }
+    }
+}
+
+impl fmt::Display for PlayError {
+    fn fmt<W: fmt::Write>(&self, f: &mut fmt::Formatter<W>) -> fmt::Result {
+        let (record, why) = (self.record, self.why);
+        write!(f, "record {record}: {why}")
+    }
+}
+
+/// Plays the records of a journal to a host without steps, and ends the sessions that are open then.
+pub fn play<T: Wait, N: Naming, D: Disk, P: Progress>(
+    rt: &T,
+    alloc: Global,
+    host: &Host<N>,
+    journal: &mut Journal<D>,
+    progress: &mut P,
+) -> Result<Played, PlayError> {
+    let Ok(mut player) = Player::new(alloc, host) else {
+        return Err(PlayError {
+            record: 1,
+            why: PlayFault::NoMemory,
+        });
+    };
+    let mut records = 0;
+    let mut batch = Vec::new(alloc);
+    let mut place = journal.first_place();
+    for _ in rt.forever() {
+        match journal.read(place, &mut batch) {
+            Ok(Some(next)) => {
+                if let Err(why) = play_batch(rt, &mut player, &mut records, &batch) {
+                    return Err(PlayError {
+                        record: records,
+                        why,
+                    });
+                }
+                place = next;
+                progress.tell(records, next as u64);
+            }
+            Ok(None) => return leave(rt, player, records),
+            Err(error) => {
+                return Err(PlayError {
+                    record: records,
+                    why: PlayFault::Journal(error),
+                });
+            }
+        }
+    }
+    unreachable!()
+}
+
+/// Plays a batch of records, and counts them.
+fn play_batch<T: Wait, N: Naming>(
+    rt: &T,
+    player: &mut Player<'_, N>,
+    records: &mut u64,
+    batch: &[u8],
+) -> Result<(), PlayFault> {
+    let mut left = batch;
+    while !left.is_empty() {
+        let Some((line, behind)) = first_record(left) else {
+            return Err(PlayFault::NoRecord);
+        };
+        let Some(number) = records.checked_add(1) else {
+            return Err(PlayFault::Journal(JournalError::Full));
+        };
+        *records = number;
+        player.play(rt, line)?;
+        left = behind;
+    }
+    Ok(())
+}
+
+/// Ends the sessions that are open.
+fn leave<T: Wait, N: Naming>(
+    rt: &T,
+    player: Player<'_, N>,
+    records: u64,
+) -> Result<Played, PlayError> {
+    match player.end_all(rt) {
+        Ok((stubs, recorded)) => Ok(Played {
+            stubs,
+            records,
+            recorded,
+        }),
+        Err(_) => Err(PlayError {
+            record: records,
+            why: PlayFault::NoMemory,
+        }),
+    }
+}

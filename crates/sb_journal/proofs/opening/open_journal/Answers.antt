@@ -1,0 +1,20 @@
+use Rattle.std.proofs.Common.{[], ◌∷◌, List, ℕ, sym, subst, IsTrue}
+use Rattle.sb_journal.specs.Log.{HasAll}
+use Rattle.sb_journal.specs.Records.{Entry}
+use Rattle.sb_journal.specs.Journal.{Has, contents_of}
+use Rattle.sb_journal.proofs.opening.open_journal.Goals as goal
+
+-- a head is there, and it is this one
+pub returns-in-Ok-begin-clause-there : goal.returns-in-Ok-begin-clause-there
+returns-in-Ok-begin-clause-there g c clean other entries keeps =
+    let disk = g.D.Disk in
+    let begun = subst (λ (d : g.row.D.Denot). IsTrue (disk.is_clean d)) c.over.ensures.disk clean in
+    let opened = c.in-Ok.ensures.ok (c.begin.ensures.clean begun) _ keeps.stands in
+    let log = subst (λ (h : List ℕ). HasAll disk.seen disk.may_leave c.begin.new.log (h ∷ contents_of keeps.batches)) (c.in-Ok-begin.ensures.found begun _ _ opened) (c.begin.ensures.kept begun _ _ opened) in
+    subst (λ (es : List Entry). Has disk.seen disk.may_leave c.over.result c.args.head es []) (sym keeps.all) (c.over.ensures.has _ _ log)
+
+-- none is there, and this one is written
+pub returns-in-Ok-begin-clause-begun : goal.returns-in-Ok-begin-clause-begun
+returns-in-Ok-begin-clause-begun g c clean empty =
+    let begun = subst (λ (d : g.row.D.Denot). IsTrue (g.D.Disk.is_clean d)) c.over.ensures.disk clean in
+    c.over.ensures.has _ [] (c.in-Ok-begin.ensures.begun begun (c.in-Ok.ensures.ok (c.begin.ensures.clean begun) [] empty))

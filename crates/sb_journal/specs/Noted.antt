@@ -1,0 +1,13 @@
+-- Machine: a call of a file, as it is noted.
+use Rattle.std.specs.Prelude.{ℕ, List, ◌∷◌, slice_index, ◌==◌, if◌then◌else◌}
+use Rattle.sqlite_disk.specs.Events.{Event}
+
+-- which call, an offset or a length, a count, whether it succeeded, and bytes; a read under a digest has its key and the digest in front of them
+abbrev pub event_of : List ℕ → List ℕ → Event
+event_of numbers bytes = (
+  slice_index numbers 0,
+  slice_index numbers 1,
+  slice_index numbers 2,
+  slice_index numbers 3 == 1,
+  if slice_index numbers 0 == 6 then slice_index numbers 4 ∷ slice_index numbers 5 ∷ bytes else bytes,
+)
