@@ -1,0 +1,36 @@
+-- What no words ask for.
+use Rattle.std.proofs.Common.{◌≡◌, ◌≤◌, Bool, true, false, ◌&&◌, List, [], ◌∷◌, length, Option, Some, None, is_none, ap, sym, refl, arith}
+use Rattle.std.proofs.lemmas.Bool.{false≢true}
+use Rattle.clap.proofs.OnLiterals.{clap_on_literals}
+use Rattle.clap.specs.Words.{Row, Text, matches_of}
+use Rattle.sb_words.specs.Asking.{AllFit, text_at}
+use Rattle.sb_words.specs.Parts.{parts}
+use Rattle.sb_words.specs.Words.{AskFor, starhost}
+use Rattle.sb_words.specs.declared.part.Part.{Part}
+use Rattle.sb_words.specs.declared.part.Verb.TheVariants as verb
+use Rattle.sb_words.specs.declared.request.Request.TheVariants.{Run}
+use Rattle.sb_words.proofs.Fitting.{all_allowed}
+
+-- none of these parts is given
+abbrev none_given : List Row → List Part → Bool
+none_given rows [] = true
+none_given rows (p ∷ ps) = is_none (text_at rows p) && none_given rows ps
+
+ungiven : {X : Type 0} (text : Option Text) (t : Text) → is_none text ≡ true → (text ≡ Some t) × X → ⊥
+ungiven None t none (is, x) = absurd (false≢true (ap is_none (sym is)))
+ungiven (Some s) t none (is, x) = absurd (false≢true none)
+
+both : (a b : Bool) → (a && b) ≡ true → (a ≡ true) × (b ≡ true)
+both true b h = (refl, h)
+both false b h = absurd (false≢true h)
+
+all_fit : (rows : List Row) (ps : List Part) → none_given rows ps ≡ true → AllFit rows ps
+all_fit rows [] none = tt
+all_fit rows (p ∷ ps) none = let each = both (is_none (text_at rows p)) (none_given rows ps) none in
+    (λ text unfit. ungiven (text_at rows p) text each.0 unfit, all_fit rows ps each.1)
+
+pub no_word : (words : List Text) → length words ≤ 1 → AskFor words (Run (record { tenants = 16; bound = 1000 }))
+unfolding clap_on_literals
+no_word [] few = let rows = matches_of starhost [] in (refl, (all_allowed rows (all_fit rows parts refl), (verb.Run, refl, refl)))
+no_word (w ∷ []) few = let rows = matches_of starhost (w ∷ []) in (refl, (all_allowed rows (all_fit rows parts refl), (verb.Run, refl, refl)))
+no_word (w ∷ v ∷ rest) few = absurd (omega arith)

@@ -1,0 +1,8 @@
+use Rattle.std.proofs.Common.{◌≡◌, ◌∙◌, inl, inr, sym, ap, subst}
+use Rattle.sb_words.specs.Asking.{LacksNumber, text_of}
+use Rattle.sb_words.proofs.given.number_at.Goals as goal
+
+pub unreachable-requires : goal.unreachable-requires
+unreachable-requires c =
+    let text = c.in-Some-text_at.text.now in
+    c.requires text (sym c.in-Some-text_at.ensures, inr (inl (subst (λ r. LacksNumber r text) c.in-Some.ensures.is c.in-None.ensures)))

@@ -1,0 +1,174 @@
+-- Promise: what the parts of a command line ask for, and which of them isn't allowed.
+use Rattle.std.specs.Prelude.{◌≡◌, ◌≢◌, ◌≤◌, ◌⊎◌, ◌||◌, ⊤, ℕ, Bool, true, false, if◌then◌else◌, bytes_eq, List, [], ◌∷◌, Option, Some, None, option_map, is_some, unwrap_or, codes}
+use Rattle.std.specs.Borrow.{Bor}
+use Rattle.std.specs.Str.Parse.{IsNumeral, digits_value, without_leading_plus}
+use Rattle.clap.specs.Words.{Row, Text, first_of}
+use Rattle.sb_words.specs.Parts.{has, name_of, parts, range_of, verb_in, verb_of}
+use Rattle.sb_words.specs.Severities.{severity_of}
+use Rattle.sb_words.specs.declared.part.Part.{Part}
+use Rattle.sb_words.specs.declared.part.Part.TheVariants as part
+use Rattle.sb_words.specs.declared.part.Range.{Range}
+use Rattle.sb_words.specs.declared.part.Unfit.{Unfit}
+use Rattle.sb_words.specs.declared.part.Verb.{Verb}
+use Rattle.sb_words.specs.declared.part.Verb.TheVariants as verb
+use Rattle.sb_words.specs.declared.request.Dumping.{Dumping}
+use Rattle.sb_words.specs.declared.request.Paths.{Paths}
+use Rattle.sb_words.specs.declared.request.Hosting.{Hosting}
+use Rattle.sb_words.specs.declared.request.Request.{Request}
+use Rattle.sb_words.specs.declared.request.Request.TheVariants as request
+use Rattle.sb_words.specs.declared.request.Run.{Run}
+use Rattle.sb_words.specs.declared.request.Serving.{Serving}
+use Rattle.sb_words.specs.declared.severity.Severity.{Severity}
+use Rattle.sb_words.specs.declared.severity.Severity.TheVariants.{Info}
+
+-- the text behind a reference that may be there
+abbrev pub text_of : Option (Bor Text) → Option Text
+text_of s = option_map (λ r. r.now) s
+
+-- an option without a value is `false` where it isn't given
+abbrev pub given_flag : Option Text → Option Text
+given_flag None = None
+given_flag (Some text) = if bytes_eq text (codes "true") then Some text else None
+
+abbrev pub text_by : Part → Option Text → Option Text
+text_by part.UntilInputEnds text = given_flag text
+text_by p text = text
+
+-- the text of a part, if it is given, in what clap finds
+abbrev pub text_at : List Row → Part → Option Text
+text_at rows p = text_by p (first_of (name_of p) rows)
+
+-- whether each of the journal's records is synced before it is answered
+abbrev pub sync_of : Text → Option Bool
+sync_of word = if bytes_eq word (codes "always") then Some true else if bytes_eq word (codes "never") then Some false else None
+
+abbrev pub is_synced : Option Text → Bool
+is_synced None = true
+is_synced (Some word) = unwrap_or (sync_of word) true
+
+-- ---- what is allowed
+
+abbrev pub value_of : Text → ℕ
+value_of text = digits_value 10 (without_leading_plus text)
+
+-- a text in decimal digits, of a number from the least to the most
+abbrev pub IsNumber : Range → Text → Type 0
+IsNumber range text = IsNumeral 10 (without_leading_plus text) × (range.least ≤ value_of text) × (value_of text ≤ range.most)
+
+abbrev pub LacksNumber : Option Range → Text → Type 0
+LacksNumber None text = ⊥
+LacksNumber (Some range) text = IsNumber range text → ⊥
+
+-- there is no such command, or it lacks its files
+abbrev pub LacksCommand : List Row → Option Verb → Type 0
+LacksCommand rows None = ⊤
+LacksCommand rows (Some verb.Compact) = text_at rows part.New ≡ None
+LacksCommand rows (Some v) = ⊥
+
+-- there is no such word, or it doesn't go with what else is given: one tenant with all, files with a journal, a sync without one
+abbrev pub LacksWord : List Row → Part → Text → Type 0
+LacksWord rows part.Command word = LacksCommand rows (verb_of word)
+LacksWord rows part.Log word = severity_of word ≡ None
+LacksWord rows part.Into folder = text_at rows part.Tenant ≢ None
+LacksWord rows part.Journal file = text_at rows part.Load ≢ None
+LacksWord rows part.Sync word = (sync_of word ≡ None) ⊎ (text_at rows part.Journal ≡ None)
+LacksWord rows p text = ⊥
+
+-- the text isn't what the part has to be
+abbrev pub IsWrong : List Row → Part → Text → Type 0
+IsWrong rows p text = LacksNumber (range_of p) text ⊎ LacksWord rows p text
+
+-- the command doesn't have the part
+abbrev pub IsForeign : List Row → Part → Type 0
+IsForeign rows p = (v : Verb) × (verb_in (text_at rows part.Command) ≡ Some v) × (has p v ≡ false)
+
+-- it is given, and isn't allowed
+abbrev pub IsUnfit : List Row → Part → Text → Type 0
+IsUnfit rows p text = (text_at rows p ≡ Some text) × (IsForeign rows p ⊎ IsWrong rows p text)
+
+abbrev pub Fits : List Row → Part → Type 0
+Fits rows p = (text : Text) → IsUnfit rows p text → ⊥
+
+-- all parts that are given are allowed
+abbrev pub AreAllowed : List Row → Type 0
+AreAllowed rows = (p : Part) → Fits rows p
+
+-- of these parts it is the first that isn't allowed
+abbrev pub IsFirstOf : List Row → Unfit → List Part → Type 0
+IsFirstOf rows u [] = ⊥
+IsFirstOf rows u (p ∷ ps) = (IsUnfit rows p u.text.now × (u.part ≡ p)) ⊎ (Fits rows p × IsFirstOf rows u ps)
+
+abbrev pub AllFit : List Row → List Part → Type 0
+AllFit rows [] = ⊤
+AllFit rows (p ∷ ps) = Fits rows p × AllFit rows ps
+
+abbrev pub IsFirstUnfit : List Row → Unfit → Type 0
+IsFirstUnfit rows u = IsFirstOf rows u parts
+
+-- ---- what is asked for
+
+-- the number of an option, which is the usual one where the option isn't given
+abbrev pub number_by : Option Range → Option Text → ℕ
+number_by None text = 0
+number_by (Some range) None = range.usual
+number_by (Some range) (Some text) = value_of text
+
+abbrev pub number_in : List Row → Part → ℕ
+number_in rows p = number_by (range_of p) (text_at rows p)
+
+-- all is logged where the option isn't given
+abbrev pub severity_in : Option Text → Severity
+severity_in None = Info
+severity_in (Some word) = unwrap_or (severity_of word) Info
+
+abbrev pub run_in : List Row → Run
+run_in rows = record { tenants = number_in rows part.Tenants; bound = number_in rows part.Bound }
+
+abbrev pub dumping_in : List Row → Dumping
+dumping_in rows = record { run = run_in rows; tenant = number_in rows part.Tenant }
+
+abbrev pub hosting_in : List Row → Hosting
+hosting_in rows = record { run = run_in rows; cells = number_in rows part.Cells; workers = number_in rows part.Workers }
+
+abbrev pub serving_in : List Row → Serving
+serving_in rows = record {
+  hosting = hosting_in rows;
+  port = number_in rows part.Port;
+  connections = number_in rows part.Connections;
+  idle = number_in rows part.Idle;
+  idle_transaction = number_in rows part.IdleTransaction;
+  first_tenant = number_in rows part.FirstTenant;
+  tenant_memory = number_in rows part.TenantMemory;
+  log = severity_in (text_at rows part.Log);
+  until_input_ends = is_some (text_at rows part.UntilInputEnds);
+}
+
+-- whether a server has files
+abbrev pub has_files : List Row → Bool
+has_files rows =
+    is_some (text_at rows part.Load) || is_some (text_at rows part.DumpTo) || is_some (text_at rows part.Journal) || is_some (text_at rows part.Keys)
+
+-- what a command asks for: files make others of a run, a server and a dump
+abbrev pub asked_by : Verb → List Row → Request
+asked_by verb.Run rows = if is_some (text_at rows part.Load) then request.Load (run_in rows) else request.Run (run_in rows)
+asked_by verb.Serve rows = if has_files rows then request.Keep (serving_in rows) else request.Serve (serving_in rows)
+asked_by verb.Replay rows = request.Replay (hosting_in rows)
+asked_by verb.Parse rows = request.Parse
+asked_by verb.Dump rows = if is_some (text_at rows part.Into) then request.DumpAll (run_in rows) else request.Dump (dumping_in rows)
+asked_by verb.Compact rows = request.Compact (run_in rows)
+asked_by verb.Key rows = request.Key
+
+-- all parts are allowed, and it is what the command asks for
+abbrev pub AsksBy : List Row → Request → Type 0
+AsksBy rows r = AreAllowed rows × ((v : Verb) × (verb_in (text_at rows part.Command) ≡ Some v) × (r ≡ asked_by v rows))
+
+-- the folders and files that are given
+pub record ArePaths (rows : List Row) (paths : Paths) : Type 0 where
+  pub load : text_of paths.load ≡ text_at rows part.Load
+  pub dump_to : text_of paths.dump_to ≡ text_at rows part.DumpTo
+  pub into : text_of paths.into ≡ text_at rows part.Into
+  pub journal : text_of paths.journal ≡ text_at rows part.Journal
+  pub synced : paths.is_synced ≡ is_synced (text_at rows part.Sync)
+  pub keys : text_of paths.keys ≡ text_at rows part.Keys
+  pub old : text_of paths.old ≡ text_at rows part.Old
+  pub new : text_of paths.new ≡ text_at rows part.New

@@ -1,0 +1,6 @@
+pub mod Severities
+pub mod Parts
+pub mod Within
+pub mod Asking
+pub mod Words
+pub mod Refusals

@@ -1,0 +1,117 @@
+-- Promise: the parts of a command line: their names, the commands that have them, and the ranges of numbers.
+use Rattle.std.specs.Prelude.{ℕ, Bool, true, false, if◌then◌else◌, bytes_eq, List, [], ◌∷◌, Option, Some, None, codes}
+use Rattle.clap.specs.Words.{Text}
+use Rattle.sb_words.specs.declared.part.Part.{Part}
+use Rattle.sb_words.specs.declared.part.Part.TheVariants.{Command, Old, New, Tenant, Load, DumpTo, Into, Journal, Sync, Keys, Tenants, Bound, Cells, Workers, Port, Connections, Idle, IdleTransaction, FirstTenant, TenantMemory, Log, UntilInputEnds}
+use Rattle.sb_words.specs.declared.part.Range.{Range}
+use Rattle.sb_words.specs.declared.part.Verb.{Verb}
+use Rattle.sb_words.specs.declared.part.Verb.TheVariants.{Run, Serve, Replay, Parse, Dump, Compact, Key}
+
+-- the command of a word
+abbrev pub verb_of : Text → Option Verb
+verb_of word =
+    if bytes_eq word (codes "run") then Some Run
+    else if bytes_eq word (codes "serve") then Some Serve
+    else if bytes_eq word (codes "replay") then Some Replay
+    else if bytes_eq word (codes "parse") then Some Parse
+    else if bytes_eq word (codes "dump") then Some Dump
+    else if bytes_eq word (codes "compact") then Some Compact
+    else if bytes_eq word (codes "key") then Some Key
+    else None
+
+-- no word is `run`
+abbrev pub verb_in : Option Text → Option Verb
+verb_in None = Some Run
+verb_in (Some word) = verb_of word
+
+-- the command first, files behind it, then options in the order in which they are looked at
+abbrev pub parts : List Part
+parts = Command ∷ Old ∷ New ∷ Tenant ∷ Load ∷ DumpTo ∷ Into ∷ Journal ∷ Sync ∷ Keys ∷ Tenants ∷ Bound ∷ Cells ∷ Workers ∷ Port ∷ Connections ∷ Idle ∷ IdleTransaction ∷ FirstTenant
+    ∷ TenantMemory ∷ Log ∷ UntilInputEnds ∷ []
+
+abbrev pub name_of : Part → Text
+name_of Command = codes "command"
+name_of Old = codes "old"
+name_of New = codes "new"
+name_of Tenant = codes "tenant"
+name_of Load = codes "load"
+name_of DumpTo = codes "dump-to"
+name_of Into = codes "into"
+name_of Journal = codes "journal"
+name_of Sync = codes "sync"
+name_of Keys = codes "keys"
+name_of Tenants = codes "tenants"
+name_of Bound = codes "bound"
+name_of Cells = codes "cells"
+name_of Workers = codes "workers"
+name_of Port = codes "port"
+name_of Connections = codes "connections"
+name_of Idle = codes "idle"
+name_of IdleTransaction = codes "idle-transaction"
+name_of FirstTenant = codes "first-tenant"
+name_of TenantMemory = codes "tenant-memory"
+name_of Log = codes "log"
+name_of UntilInputEnds = codes "until-input-ends"
+
+-- commands on tenants
+abbrev pub has_tenants : Verb → Bool
+has_tenants Parse = false
+has_tenants Key = false
+has_tenants verb = true
+
+abbrev pub is_dump : Verb → Bool
+is_dump Dump = true
+is_dump verb = false
+
+abbrev pub is_compact : Verb → Bool
+is_compact Compact = true
+is_compact verb = false
+
+abbrev pub is_serve : Verb → Bool
+is_serve Serve = true
+is_serve verb = false
+
+-- commands on a host
+abbrev pub has_host : Verb → Bool
+has_host Serve = true
+has_host Replay = true
+has_host verb = false
+
+-- commands that may begin with files
+abbrev pub may_load : Verb → Bool
+may_load Run = true
+may_load Serve = true
+may_load verb = false
+
+-- whether a command has the part; what isn't named is a server's
+abbrev pub has : Part → Verb → Bool
+has Command verb = true
+has Old verb = is_compact verb
+has New verb = is_compact verb
+has Tenants verb = has_tenants verb
+has Bound verb = has_tenants verb
+has Tenant verb = is_dump verb
+has Into verb = is_dump verb
+has Load verb = may_load verb
+has Cells verb = has_host verb
+has Workers verb = has_host verb
+has option verb = is_serve verb
+
+-- the numbers from the least to the most, and the usual one
+abbrev pub range : ℕ → ℕ → ℕ → Option Range
+range least most usual = Some (record { least = least; most = most; usual = usual })
+
+-- which numbers an option may have, if it has one
+abbrev pub range_of : Part → Option Range
+range_of Tenant = range 0 255 0
+range_of Tenants = range 1 256 16
+range_of Bound = range 1 1000 1000
+range_of Cells = range 1 16 4
+range_of Workers = range 1 16 4
+range_of Port = range 0 65535 0
+range_of Connections = range 0 1000000 0
+range_of Idle = range 0 86400 0
+range_of IdleTransaction = range 0 86400 0
+range_of FirstTenant = range 0 999999000 0
+range_of TenantMemory = range 0 1048576 0
+range_of other = None

@@ -1,0 +1,19 @@
+-- Promise: how severe it is what the log tells.
+use Rattle.std.specs.Prelude.{ℕ, if◌then◌else◌, bytes_eq, Option, Some, None, codes}
+use Rattle.clap.specs.Words.{Text}
+use Rattle.sb_words.specs.declared.severity.Severity.{Severity}
+use Rattle.sb_words.specs.declared.severity.Severity.TheVariants.{Error, Warning, Info}
+
+-- the most severe first
+abbrev pub rank : Severity → ℕ
+rank Error = 0
+rank Warning = 1
+rank Info = 2
+
+-- by the word on the command line
+abbrev pub severity_of : Text → Option Severity
+severity_of word =
+    if bytes_eq word (codes "error") then Some Error
+    else if bytes_eq word (codes "warning") then Some Warning
+    else if bytes_eq word (codes "info") then Some Info
+    else None

@@ -1,0 +1,118 @@
+//! The first part of a command line that isn't allowed.
+ghost use Rattle.std.specs.Prelude.{◌≡◌, ◌↔◌, ◌⊎◌, IfErr, IfOk, IsTrue, MatchOption, Some};
+ghost use Rattle.clap.specs.Words.{rows_of, found_of};
+ghost use Rattle.sb_words.specs.Asking as spec;
+ghost use Rattle.sb_words.specs.Asking.{AllFit, AreAllowed, Fits, IsFirstOf, IsFirstUnfit, IsForeign, IsUnfit, IsWrong, LacksCommand, LacksNumber, LacksWord};
+ghost use Rattle.sb_words.specs.Parts.{range_of, verb_in};
+ghost use Rattle.sb_words.specs.declared.part.Part.TheVariants as named;
+
+use crate::given::{sync_of, text_at};
+use crate::number::number;
+use crate::part::{PARTS, Part, Unfit, Verb};
+use crate::severity::Severity;
+use clap::ArgMatches;
+
+/// The command, if all parts are allowed; or the first that isn't.
+pub(crate) fn first_unfit<'a>(matches: &ArgMatches<'a>) -> Result<Verb, Unfit<'a>>
+    ensures verb { IfOk result (λ v. verb_in (spec.text_at (rows_of (found_of matches.now)) named.Command) ≡ Some v) }
+    ensures allowed { IfOk result (λ v. AreAllowed (rows_of (found_of matches.now))) }
+    ensures unfit { IfErr result (IsFirstUnfit (rows_of (found_of matches.now))) }
+{
+    let verb = match verb_at(matches) {
+        Ok(verb) => verb,
+        Err(unfit) => return Err(unfit),
+    };
+    match first_among(matches, verb, &PARTS) {
+        Some(unfit) => Err(unfit),
+        None => Ok(verb),
+    }
+}
+
+/// The command, if there is one of its word.
+fn verb_at<'a>(matches: &ArgMatches<'a>) -> Result<Verb, Unfit<'a>>
+    ensures is { IfOk result (λ v. verb_in (spec.text_at (rows_of (found_of matches.now)) named.Command) ≡ Some v) }
+    ensures unfit { IfErr result (λ u. IsUnfit (rows_of (found_of matches.now)) named.Command u.text.now × (u.part ≡ named.Command)) }
+{
+    let Some(text) = text_at(matches, Part::Command) else {
+        return Ok(Verb::Run);
+    };
+    match Verb::of(text) {
+        Some(verb) => Ok(verb),
+        None => Err(Unfit {
+            part: Part::Command,
+            text,
+        }),
+    }
+}
+
+/// The first of these parts that isn't allowed.
+fn first_among<'a>(matches: &ArgMatches<'a>, verb: Verb, parts: &[Part]) -> Option<Unfit<'a>>
+    requires { verb_in (spec.text_at (rows_of (found_of matches.now)) named.Command) ≡ Some verb }
+    ensures { MatchOption result (AllFit (rows_of (found_of matches.now)) parts.now)
+        (λ u. IsFirstOf (rows_of (found_of matches.now)) u parts.now) }
+{
+    for part in parts {
+        match unfit_at(matches, verb, *part) {
+            Some(unfit) => return Some(unfit),
+            None => {}
+        }
+    }
+    None
+}
+
+/// The part, if it isn't allowed.
+fn unfit_at<'a>(matches: &ArgMatches<'a>, verb: Verb, part: Part) -> Option<Unfit<'a>>
+    requires { verb_in (spec.text_at (rows_of (found_of matches.now)) named.Command) ≡ Some verb }
+    ensures { MatchOption result (Fits (rows_of (found_of matches.now)) part)
+        (λ u. IsUnfit (rows_of (found_of matches.now)) part u.text.now × (u.part ≡ part)) }
+{
+    let Some(text) = text_at(matches, part) else {
+        return None;
+    };
+    if part.is_of(verb) && !is_wrong(matches, part, text) {
+        return None;
+    }
+    Some(Unfit { part, text })
+}
+
+/// Whether a text isn't what the part has to be.
+fn is_wrong(matches: &ArgMatches<'_>, part: Part, text: &str) -> bool
+    ensures { IsTrue result ↔ IsWrong (rows_of (found_of matches.now)) part text.now }
+{
+    lacks_number(part, text) || lacks_word(matches, part, text)
+}
+
+/// Whether it is no number of the part's range, if there is one.
+fn lacks_number(part: Part, text: &str) -> bool
+    ensures { IsTrue result ↔ LacksNumber (range_of part) text.now }
+{
+    match part.range() {
+        Some(range) => number(text, range).is_none(),
+        None => false,
+    }
+}
+
+/// Whether it is no word that the part may be, or doesn't go with what else is given.
+fn lacks_word(matches: &ArgMatches<'_>, part: Part, text: &str) -> bool
+    ensures { IsTrue result ↔ LacksWord (rows_of (found_of matches.now)) part text.now }
+{
+    match part {
+        Part::Command => lacks_command(matches, Verb::of(text)),
+        Part::Log => Severity::of(text).is_none(),
+        Part::Into => text_at(matches, Part::Tenant).is_some(),
+        Part::Journal => text_at(matches, Part::Load).is_some(),
+        Part::Sync => sync_of(text).is_none() || text_at(matches, Part::Journal).is_none(),
+        _ => false,
+    }
+}
+
+/// Whether there is no such command, or it lacks its files.
+fn lacks_command(matches: &ArgMatches<'_>, verb: Option<Verb>) -> bool
+    ensures { IsTrue result ↔ LacksCommand (rows_of (found_of matches.now)) verb }
+{
+    match verb {
+        None => true,
+        Some(Verb::Compact) => text_at(matches, Part::New).is_none(),
+        Some(_) => false,
+    }
+}

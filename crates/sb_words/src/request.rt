@@ -1,0 +1,231 @@
+//! What a command line asks for.
+ghost use Rattle.std.specs.Prelude.{◌≡◌, ◌≤◌, IfErr, IfOk, None, Some};
+ghost use Rattle.clap.specs.Words.{rows_of, found_of};
+ghost use Rattle.sb_words.specs.Asking as spec;
+ghost use Rattle.sb_words.specs.Asking.{AreAllowed, AsksBy, IsFirstUnfit, text_at};
+ghost use Rattle.sb_words.specs.Parts.{verb_in};
+ghost use Rattle.sb_words.specs.Within.{AreHost, AreRun, AreServer, IsWithin};
+ghost use Rattle.sb_words.specs.declared.part.Part.TheVariants as named;
+
+use crate::fit::first_unfit;
+use crate::given::{number_at, sync_of, text_at};
+use crate::part::{Part, Unfit, Verb};
+use crate::severity::Severity;
+use clap::ArgMatches;
+
+/// A run over standard input: how many tenants are hosted, and their consideration limit.
+#[derive(Clone, Copy, Debug)]
+pub struct Run {
+    pub tenants: u32,
+    pub bound: u32,
+}
+
+/// A run over standard input, and the tenant whose script is written behind it.
+#[derive(Clone, Copy, Debug)]
+pub struct Dumping {
+    pub run: Run,
+    pub tenant: u32,
+}
+
+/// A host: a run's numbers, how many cells it has, and how many workers share its calls.
+#[derive(Clone, Copy, Debug)]
+pub struct Hosting {
+    pub run: Run,
+    pub cells: u32,
+    pub workers: u32,
+}
+
+/// A server: a host, the port that it listens at (0: any free one), how many connections it serves
+/// (0: without end), after how many idle seconds it closes one, and one with a transaction (0: never),
+/// the number of its first tenant, how many megabytes each tenant may take (0: any number), what it logs, and whether it
+/// stops where its input ends.
+#[derive(Clone, Copy, Debug)]
+pub struct Serving {
+    pub hosting: Hosting,
+    pub port: u32,
+    pub connections: u32,
+    pub idle: u32,
+    pub idle_transaction: u32,
+    pub first_tenant: u32,
+    pub tenant_memory: u32,
+    pub log: Severity,
+    pub until_input_ends: bool,
+}
+
+/// A command with its options.
+#[derive(Clone, Copy, Debug)]
+pub enum Request {
+    Run(Run),
+    /// A run on tenants that are read from files.
+    Load(Run),
+    Serve(Serving),
+    /// A server that reads its tenants from files, writes them to files, or has a journal or keys.
+    Keep(Serving),
+    Replay(Hosting),
+    Parse,
+    Dump(Dumping),
+    /// A dump of each tenant that the input opened, to files.
+    DumpAll(Run),
+    /// A journal of so many tenants, written anew.
+    Compact(Run),
+    /// The digest of a key.
+    Key,
+}
+
+/// Folders and files.
+#[derive(Clone, Copy)]
+pub struct Paths<'a> {
+    /// Tenants are read from this folder first.
+    pub load: Option<&'a str>,
+    /// A server's are written there behind the last connection.
+    pub dump_to: Option<&'a str>,
+    /// Those of an input are written there.
+    pub into: Option<&'a str>,
+    /// The file of a server's journal.
+    pub journal: Option<&'a str>,
+    /// Each of its records is on the disk before its line is answered.
+    pub is_synced: bool,
+    /// The file of the keys that clients need.
+    pub keys: Option<&'a str>,
+    /// The journal that is written anew.
+    pub old: Option<&'a str>,
+    /// Where it is written.
+    pub new: Option<&'a str>,
+}
+
+/// The command with its options that is asked for, or the first part that isn't allowed.
+pub(crate) fn requested<'a>(matches: &ArgMatches<'a>) -> Result<Request, Unfit<'a>>
+    ensures asked { IfOk result (AsksBy (rows_of (found_of matches.now))) }
+    ensures unfit { IfErr result (IsFirstUnfit (rows_of (found_of matches.now))) }
+    ensures within { IfOk result IsWithin }
+{
+    match first_unfit(matches) {
+        Ok(verb) => Ok(asked_by(matches, verb)),
+        Err(unfit) => Err(unfit),
+    }
+}
+
+/// What a command asks for by its options.
+fn asked_by(matches: &ArgMatches<'_>, verb: Verb) -> Request
+    requires { AreAllowed (rows_of (found_of matches.now)) }
+    ensures asked { result ≡ spec.asked_by verb (rows_of (found_of matches.now)) }
+    ensures within { IsWithin result }
+{
+    match verb {
+        Verb::Run => match text_at(matches, Part::Load) {
+            Some(_) => Request::Load(run_of(matches)),
+            None => Request::Run(run_of(matches)),
+        },
+        Verb::Serve => match has_files(matches) {
+            true => Request::Keep(serving_of(matches)),
+            false => Request::Serve(serving_of(matches)),
+        },
+        Verb::Replay => Request::Replay(hosting_of(matches)),
+        Verb::Parse => Request::Parse,
+        Verb::Dump => match text_at(matches, Part::Into) {
+            Some(_) => Request::DumpAll(run_of(matches)),
+            None => Request::Dump(dumping_of(matches)),
+        },
+        Verb::Compact => Request::Compact(run_of(matches)),
+        Verb::Key => Request::Key,
+    }
+}
+
+/// Whether a server has files.
+fn has_files(matches: &ArgMatches<'_>) -> bool
+    ensures { result ≡ spec.has_files (rows_of (found_of matches.now)) }
+{
+    text_at(matches, Part::Load).is_some()
+        || text_at(matches, Part::DumpTo).is_some()
+        || text_at(matches, Part::Journal).is_some()
+        || text_at(matches, Part::Keys).is_some()
+}
+
+fn run_of(matches: &ArgMatches<'_>) -> Run
+    requires { AreAllowed (rows_of (found_of matches.now)) }
+    ensures is { result ≡ spec.run_in (rows_of (found_of matches.now)) }
+    ensures within { AreRun result }
+{
+    Run {
+        tenants: number_at(matches, Part::Tenants),
+        bound: number_at(matches, Part::Bound),
+    }
+}
+
+fn dumping_of(matches: &ArgMatches<'_>) -> Dumping
+    requires { AreAllowed (rows_of (found_of matches.now)) }
+    ensures is { result ≡ spec.dumping_in (rows_of (found_of matches.now)) }
+    ensures run { AreRun result.run }
+    ensures tenant { result.tenant ≤ 255 }
+{
+    Dumping {
+        run: run_of(matches),
+        tenant: number_at(matches, Part::Tenant),
+    }
+}
+
+fn hosting_of(matches: &ArgMatches<'_>) -> Hosting
+    requires { AreAllowed (rows_of (found_of matches.now)) }
+    ensures is { result ≡ spec.hosting_in (rows_of (found_of matches.now)) }
+    ensures within { AreHost result }
+{
+    Hosting {
+        run: run_of(matches),
+        cells: number_at(matches, Part::Cells),
+        workers: number_at(matches, Part::Workers),
+    }
+}
+
+fn serving_of(matches: &ArgMatches<'_>) -> Serving
+    requires { AreAllowed (rows_of (found_of matches.now)) }
+    ensures is { result ≡ spec.serving_in (rows_of (found_of matches.now)) }
+    ensures within { AreServer result }
+{
+    Serving {
+        hosting: hosting_of(matches),
+        port: number_at(matches, Part::Port),
+        connections: number_at(matches, Part::Connections),
+        idle: number_at(matches, Part::Idle),
+        idle_transaction: number_at(matches, Part::IdleTransaction),
+        first_tenant: number_at(matches, Part::FirstTenant),
+        tenant_memory: number_at(matches, Part::TenantMemory),
+        log: severity_at(matches),
+        until_input_ends: text_at(matches, Part::UntilInputEnds).is_some(),
+    }
+}
+
+/// What is logged.
+fn severity_at(matches: &ArgMatches<'_>) -> Severity
+    ensures { result ≡ spec.severity_in (text_at (rows_of (found_of matches.now)) named.Log) }
+{
+    match text_at(matches, Part::Log) {
+        Some(word) => Severity::of(word).unwrap_or(Severity::Info),
+        None => Severity::Info,
+    }
+}
+
+/// The folders and files that are given.
+pub(crate) fn paths_of<'a>(matches: &ArgMatches<'a>) -> Paths<'a>
+    ensures { spec.ArePaths (rows_of (found_of matches.now)) result }
+{
+    Paths {
+        load: text_at(matches, Part::Load),
+        dump_to: text_at(matches, Part::DumpTo),
+        into: text_at(matches, Part::Into),
+        journal: text_at(matches, Part::Journal),
+        is_synced: is_synced(text_at(matches, Part::Sync)),
+        keys: text_at(matches, Part::Keys),
+        old: text_at(matches, Part::Old),
+        new: text_at(matches, Part::New),
+    }
+}
+
+/// Whether each record of a journal is synced.
+fn is_synced(word: Option<&str>) -> bool
+    ensures { result ≡ spec.is_synced (spec.text_of word.entry) }
+{
+    match word {
+        Some(word) => sync_of(word).unwrap_or(true),
+        None => true,
+    }
+}
