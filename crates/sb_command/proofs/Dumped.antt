@@ -10,7 +10,7 @@ use Rattle.sb_tenant.specs.Tenant.{Tenant, state}
 use Rattle.sb_wire.specs.Stream.{AnswersInput}
 use Rattle.sb_command.specs.Dumping.{DumpsInput, IsUndumped, LeavesTenants, RefusesDump, script_text, undumped_as}
 use Rattle.sb_command.specs.declared.fault.Fault.{Fault}
-use Rattle.sb_command.specs.declared.fault.Fault.TheVariants.{Stream, CannotListen, CannotWait, CannotStart, WaitingFailed, BadLine, NoTenant, TenantBusy, CannotDump, NoFolder, CannotLoad, CannotWrite, CannotAttach, TrailMissing, TrailMismatch}
+use Rattle.sb_command.specs.declared.fault.Fault.TheVariants.{Stream, CannotListen, CannotWait, CannotStart, WaitingFailed, CannotOpenJournal, JournalFailed, BadLine, NoTenant, TenantBusy, CannotDump, NoFolder, CannotLoad, CannotWrite, CannotAttach, TrailMissing, TrailMismatch, CannotWriteJournal, NoKeys, BadKeys, BadKey}
 
 pub undumped : (cell : Cell) (t : ℕ) (own : Tenant) (e : DumpError) → Some own ≡ tenant_at cell t → (e ≡ Busy → is_busy (state own) ≡ true)
     → IsUndumped cell t (undumped_as t e)
@@ -19,7 +19,7 @@ undumped cell t own NotAlike found busy = tt
 undumped cell t own NoMemory found busy = tt
 
 -- the cell that the input leaves
-abbrev Leaves : ℕ → ℕ → Cell → List ℕ → Type 0
+abbrev pub Leaves : ℕ → ℕ → Cell → List ℕ → Type 0
 Leaves tenants bound cell input = (leaves : LeavesTenants tenants bound input) × (leaves.cell ≡ cell)
 
 pub leaves : (tenants bound : ℕ) (fresh cell : Cell) (held holds input : Option (List ℕ)) → IsNew 0 1 tenants bound fresh
@@ -29,17 +29,23 @@ leaves tenants bound fresh cell held holds (Some bytes) new answers =
     (record { fresh = fresh; is_new = new; told = answers.0; cell = cell; answered = answers.2 }, refl)
 
 module _ (tenants bound t : ℕ) (cell : Cell) where
-  refused : (input : List ℕ) (why : Fault) → Leaves tenants bound cell input → IsUndumped cell t why → RefusesDump tenants bound t input why
+  pub refused : (input : List ℕ) (why : Fault) → Leaves tenants bound cell input → IsUndumped cell t why → RefusesDump tenants bound t input why
   refused input (Stream e) l un = tt
   refused input CannotListen l un = (l.0, tt)
   refused input CannotWait l un = (l.0, tt)
   refused input CannotStart l un = (l.0, tt)
   refused input WaitingFailed l un = (l.0, tt)
+  refused input CannotOpenJournal l un = (l.0, tt)
+  refused input JournalFailed l un = (l.0, tt)
+  refused input CannotWriteJournal l un = (l.0, tt)
   refused input (BadLine n) l un = (l.0, tt)
   refused input (NoTenant n) l un = (l.0, subst (λ c. IsUndumped c t (NoTenant n)) (sym l.1) un)
   refused input (TenantBusy n) l un = (l.0, subst (λ c. IsUndumped c t (TenantBusy n)) (sym l.1) un)
   refused input (CannotDump n) l un = (l.0, tt)
   refused input NoFolder l un = (l.0, tt)
+  refused input NoKeys l un = (l.0, tt)
+  refused input (BadKeys n) l un = (l.0, tt)
+  refused input BadKey l un = (l.0, tt)
   refused input (CannotLoad n) l un = (l.0, tt)
   refused input (CannotWrite n) l un = (l.0, tt)
   refused input (CannotAttach n s) l un = (l.0, tt)

@@ -1,8 +1,9 @@
-mod Once
-mod First
-mod Found
 mod Runs
 mod Told
 mod Servers
 mod Commands
 mod Dumped
+mod Loaded
+mod Written
+mod Digests
+mod Sending

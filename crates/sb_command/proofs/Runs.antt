@@ -1,40 +1,28 @@
--- What words ask for at no words, and statuses.
-use Rattle.std.proofs.Common.{◌≡◌, ◌≤◌, ℕ, nat_eq, Bool, false, codes, List, [], ◌∷◌, length, Option, Some, None, Result, Ok, Err, refl, subst, ap, inl, arith, map, ◌<◌}
-use Rattle.std.proofs.lemmas.Bool.{false≢true}
+-- What words ask for, and statuses.
+use Rattle.std.proofs.Common.{◌≡◌, ◌≤◌, ◌<◌, ℕ, List, length, Option, Result, Ok, Err, subst, sym, ap, arith, map}
+use Rattle.std.proofs.lemmas.List.{length-map}
 use Rattle.std.specs.Prelude.{OnOk}
 use Rattle.clap.specs.Words.{Text}
-use Rattle.clap.proofs.OnLiterals.{clap_on_literals}
-use Rattle.sb_command.specs.Words.{AskFor, AskOnce, IsAsked}
-use Rattle.sb_command.specs.declared.request.Dumping.{Dumping}
-use Rattle.sb_command.specs.declared.request.Folders.{Folders}
-use Rattle.sb_command.specs.declared.request.Hosting.{Hosting}
-use Rattle.sb_command.specs.declared.request.Request.{Request}
-use Rattle.sb_command.specs.declared.request.Request.TheVariants.{Run as run_request, Serve, Replay, Parse, Dump, Keep}
-use Rattle.sb_command.specs.declared.request.Run.{Run}
-use Rattle.sb_command.specs.declared.request.Serving.{Serving}
-use Rattle.sb_command.specs.declared.words.Asked.{Asked}
-use Rattle.sb_command.specs.declared.words.Asked.TheVariants.{For}
+use Rattle.sb_words.specs.Words.{AskFor, AskOnce, IsAsked}
+use Rattle.sb_words.specs.declared.request.Dumping.{Dumping}
+use Rattle.sb_words.specs.declared.request.Paths.{Paths}
+use Rattle.sb_words.specs.declared.request.Hosting.{Hosting}
+use Rattle.sb_words.specs.declared.request.Request.{Request}
+use Rattle.sb_words.specs.declared.request.Request.TheVariants.{Run as run_request, Load, Serve, Keep, Replay, Parse, Dump, DumpAll, Compact, Key}
+use Rattle.sb_words.specs.declared.request.Run.{Run}
+use Rattle.sb_words.specs.declared.request.Serving.{Serving}
+use Rattle.sb_words.specs.declared.words.Asked.{Asked}
+use Rattle.sb_words.specs.declared.words.Asked.TheVariants.{For}
 use Rattle.sb_command.specs.Faults.{TellsEnd}
 use Rattle.sb_command.specs.declared.fault.Fault.{Fault}
 
-abbrev begins_with_t : Option Text → Bool
-begins_with_t None = false
-begins_with_t (Some []) = false
-begins_with_t (Some (c ∷ rest)) = nat_eq c 116
-
--- a word that isn't given is `false`
-not_given : Some (codes "false") ≡ Some (codes "true") → ⊥
-not_given is = false≢true (ap begins_with_t is)
-
-pub no_words : {A : Type 0} (f : A → Text) (words : List A) → length words ≤ 1 → AskFor (map f words) (run_request (record { tenants = 16; bound = 1000 }))
-unfolding clap_on_literals
-no_words f [] h = (refl, (inl refl, (refl, refl, (refl, refl, (refl, refl, refl, refl, refl, not_given))), (refl, refl), (refl, (refl, refl))))
-no_words f (w ∷ []) h = (refl, (inl refl, (refl, refl, (refl, refl, (refl, refl, refl, refl, refl, not_given))), (refl, refl), (refl, (refl, refl))))
-no_words f (w ∷ v ∷ rest) h = absurd (omega arith)
+-- texts are as many as words
+pub few_texts : {A : Type 0} (f : A → Text) (words : List A) → length words ≤ 1 → length (map f words) ≤ 1
+few_texts f words few = subst (λ (n : ℕ). n ≤ 1) (sym (length-map words f)) few
 
 -- what is read is what the words ask for
-pub asked_for : (words : List Text) (a : Asked) (r s : Request) (f : Folders) → IsAsked words a → a ≡ For r f → r ≡ s → AskFor words s
-asked_for words a r s f h is same = subst (AskFor words) same (subst (IsAsked words) is h)
+pub asked_for : (words : List Text) (a : Asked) (r s : Request) (f : Paths) → IsAsked words a → a ≡ For r f → r ≡ s → AskFor words s
+asked_for words a r s f h is same = subst (AskFor words) same (subst (IsAsked words) is h).0
 
 abbrev run_in : Run → Request → Run
 run_in d (run_request r) = r
@@ -56,6 +44,14 @@ abbrev dumping_in : Dumping → Request → Dumping
 dumping_in d (Dump e) = e
 dumping_in d other = d
 
+abbrev loaded_in : Run → Request → Run
+loaded_in d (Load r) = r
+loaded_in d other = d
+
+abbrev dumped_in : Run → Request → Run
+dumped_in d (DumpAll r) = r
+dumped_in d other = d
+
 abbrev kind_of : Request → ℕ
 kind_of (run_request r) = 0
 kind_of (Serve s) = 1
@@ -63,6 +59,10 @@ kind_of (Replay h) = 2
 kind_of Parse = 3
 kind_of (Dump d) = 4
 kind_of (Keep s) = 5
+kind_of (Load r) = 6
+kind_of (DumpAll r) = 7
+kind_of (Compact r) = 8
+kind_of Key = 9
 
 -- words that ask for two requests ask for one
 module _ (once : AskOnce) (words : List Text) where
@@ -80,6 +80,12 @@ module _ (once : AskOnce) (words : List Text) where
 
   pub same_dumping : (r q : Dumping) (P : Dumping → Type 0) → AskFor words (Dump r) → AskFor words (Dump q) → P r → P q
   same_dumping r q P a b h = subst P (ap (dumping_in r) (once words (Dump r) (Dump q) a b)) h
+
+  pub same_loaded : (r q : Run) (P : Run → Type 0) → AskFor words (Load r) → AskFor words (Load q) → P r → P q
+  same_loaded r q P a b h = subst P (ap (loaded_in r) (once words (Load r) (Load q) a b)) h
+
+  pub same_dumped : (r q : Run) (P : Run → Type 0) → AskFor words (DumpAll r) → AskFor words (DumpAll q) → P r → P q
+  same_dumped r q P a b h = subst P (ap (dumped_in r) (once words (DumpAll r) (DumpAll q) a b)) h
 
   pub no_other : (r q : Request) → kind_of r < kind_of q → AskFor words r → AskFor words q → ⊥
   no_other r q less a b = apart (kind_of r) (kind_of q) less (ap kind_of (once words r q a b))

@@ -36,7 +36,7 @@ pub at_success : {P : Type 0} (ended : Result (Unit {0}) StreamError) → status
 at_success (Ok value) zero holds = holds
 at_success (Err error) zero holds = absurd (omega arith)
 
-summarizes : (lines : List Piece) (text : List ℕ) (old new : Summary) → IsSummary [] old → Counts lines text old new → Summarizes lines text new
+pub summarizes : (lines : List Piece) (text : List ℕ) (old new : Summary) → IsSummary [] old → Counts lines text old new → Summarizes lines text new
 summarizes lines text old new none counts =
     record { responses = counts.responses; each = counts.each; whole = counts.whole; is = counts.adds.behind [] none }
 

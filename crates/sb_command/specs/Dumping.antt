@@ -1,6 +1,6 @@
 -- Promise: what a dump writes of an input.
-use Rattle.std.specs.Prelude.{◌≡◌, ℕ, true, List, [], ◌∷◌, ◌++◌, Some, None}
-use Rattle.sb_cell.specs.Tenants.{IsNew, Cell as ItsCell, tenant_at}
+use Rattle.std.specs.Prelude.{◌≡◌, ◌⊎◌, ◌<◌, ℕ, true, List, [], ◌∷◌, ◌++◌, Some, None}
+use Rattle.sb_cell.specs.Tenants.{IsNew, Cell as ItsCell, tenant_at, trails}
 use Rattle.sb_dump.specs.Dumps.{Dumps, is_busy}
 use Rattle.sb_dump.specs.declared.dumps.DumpError.{DumpError}
 use Rattle.sb_dump.specs.declared.dumps.DumpError.TheVariants.{Busy, NotAlike, NoMemory}
@@ -8,7 +8,7 @@ use Rattle.sb_wire.specs.declared.fault.StreamError.TheVariants as stream
 use Rattle.sb_tenant.specs.Tenant.{Tenant, state}
 use Rattle.sb_wire.specs.Stream.{AnswersInput}
 use Rattle.sb_command.specs.declared.fault.Fault.{Fault}
-use Rattle.sb_command.specs.declared.fault.Fault.TheVariants.{CannotDump, NoTenant, Stream, TenantBusy}
+use Rattle.sb_command.specs.declared.fault.Fault.TheVariants.{CannotDump, NoFolder, NoTenant, Stream, TenantBusy}
 
 -- each line, and its end
 abbrev pub script_text : List (List ℕ) → List ℕ
@@ -48,3 +48,19 @@ IsUndumped cell tenant other = Unit {0}
 abbrev pub RefusesDump : ℕ → ℕ → ℕ → List ℕ → Fault → Type 0
 RefusesDump tenants bound tenant input (Stream e) = Unit {0}
 RefusesDump tenants bound tenant input why = (leaves : LeavesTenants tenants bound input) × IsUndumped leaves.cell tenant why
+
+-- ---- all tenants
+
+-- a tenant was never opened, or it has a script
+abbrev pub HasScript : ℕ → ItsCell → ℕ → Type 0
+HasScript bound cell t =
+    (trails cell t ≡ []) ⊎ ((own : Tenant) × (tenant_at cell t ≡ Some own) × (script : List (List ℕ)) × Dumps bound own script)
+
+-- so it is of each, as the input leaves them
+pub record HaveScripts (tenants bound : ℕ) (input : List ℕ) : Type 0 where
+  pub leaves : LeavesTenants tenants bound input
+  pub each : (t : ℕ) → t < tenants → HasScript bound leaves.cell t
+
+-- the folder isn't there; or it is told that one of them has a transaction where it is so
+abbrev pub RefusesDumps : ℕ → ℕ → List ℕ → Fault → Type 0
+RefusesDumps tenants bound input why = (why ≡ NoFolder) ⊎ ((t : ℕ) × RefusesDump tenants bound t input why)

@@ -10,7 +10,7 @@ use Rattle.sb_replay.specs.declared.error.ReplayError.{ReplayError}
 use Rattle.sb_replay.specs.declared.error.ReplayError.TheVariants as replay
 use Rattle.sb_command.specs.Does.{Tells}
 use Rattle.sb_command.specs.declared.fault.Fault.{Fault}
-use Rattle.sb_command.specs.declared.fault.Fault.TheVariants.{Stream, CannotListen, CannotWait, CannotStart, WaitingFailed, BadLine, NoTenant, TenantBusy, NoFolder, CannotLoad, CannotWrite, CannotDump, CannotAttach, TrailMissing, TrailMismatch}
+use Rattle.sb_command.specs.declared.fault.Fault.TheVariants.{Stream, CannotListen, CannotWait, CannotStart, WaitingFailed, CannotOpenJournal, JournalFailed, BadLine, NoTenant, TenantBusy, NoFolder, CannotLoad, CannotWrite, CannotDump, CannotAttach, TrailMissing, TrailMismatch, CannotWriteJournal, NoKeys, BadKeys, BadKey}
 
 -- ---- the lines
 
@@ -28,11 +28,17 @@ fault_text CannotListen = codes "fault: cannot listen\n"
 fault_text CannotWait = codes "fault: cannot wait\n"
 fault_text CannotStart = codes "fault: cannot start a thread\n"
 fault_text WaitingFailed = codes "fault: waiting failed\n"
+fault_text CannotOpenJournal = codes "fault: cannot open journal\n"
+fault_text JournalFailed = codes "fault: journal failed\n"
+fault_text CannotWriteJournal = codes "fault: cannot write journal\n"
 fault_text (BadLine n) = one_number_text (codes "fault: bad line ") n
 fault_text (NoTenant t) = one_number_text (codes "fault: no tenant ") t
 fault_text (TenantBusy t) = one_number_text (codes "fault: busy tenant ") t
 fault_text (CannotDump t) = one_number_text (codes "fault: cannot dump ") t
 fault_text NoFolder = codes "fault: no folder\n"
+fault_text NoKeys = codes "fault: no keys\n"
+fault_text (BadKeys n) = one_number_text (codes "fault: bad keys ") n
+fault_text BadKey = codes "fault: bad key\n"
 fault_text (CannotLoad t) = one_number_text (codes "fault: cannot load ") t
 fault_text (CannotWrite t) = one_number_text (codes "fault: cannot write ") t
 fault_text (CannotAttach t s) = numbered_text (codes "fault: cannot attach ") t s
@@ -72,3 +78,4 @@ unserved_as serve.NoMemory = Stream stream.NoMemory
 unserved_as serve.NoPlace = CannotWait
 unserved_as serve.NoThread = CannotStart
 unserved_as serve.PollFailed = WaitingFailed
+unserved_as serve.NotKept = JournalFailed

@@ -1,14 +1,10 @@
-pub mod Severities
-pub mod Texts
-pub mod Asking
-pub mod Unfit
-pub mod Words
-pub mod Within
 pub mod Terms
 pub mod Totals
 pub mod Parsing
+pub mod Digesting
 pub mod Dumping
+pub mod Loading
+pub mod Playing
 pub mod Does
 pub mod Faults
 pub mod Ends
-pub mod Refusals

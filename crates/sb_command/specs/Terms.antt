@@ -8,7 +8,7 @@ use Rattle.std.specs.declared.net.ipv4_addr.Ipv4Addr.{Ipv4Addr}
 use Rattle.std.specs.declared.net.ip_addr.IpAddr.TheVariants.{V4}
 use Rattle.std.specs.declared.net.socket_addr.SocketAddr.{SocketAddr}
 use Rattle.sb_server.specs.declared.server.Terms.{Terms}
-use Rattle.sb_command.specs.declared.request.Serving.{Serving}
+use Rattle.sb_words.specs.declared.request.Serving.{Serving}
 use Rattle.sb_command.specs.declared.terms.Plan.{Plan}
 
 -- this port of 127.0.0.1

@@ -5,13 +5,13 @@ ghost use Rattle.sb_cell.specs.Tenants.{tenant_at};
 ghost use Rattle.sb_dump.specs.Dumps.{Dumps};
 ghost use Rattle.sb_tenant.specs.Tenant.{Tenant as ItsTenant};
 ghost use Rattle.sb_command.specs.Dumping.{DumpsInput, IsUndumped, LeavesTenants, RefusesDump, script_text, undumped_as};
-ghost use Rattle.sb_command.specs.Within.{AreDump, AreRun};
+ghost use Rattle.sb_words.specs.Within.{AreDump, AreRun};
 
 use crate::fault::Fault;
-use crate::request::{Dumping, Run};
 use sb_cell::{Cell, ample_buckets};
 use sb_dump::{DumpError, Script, dump};
 use sb_wire::{Sink, Source, StreamError, Summary, run_stream, write_and_flush};
+use sb_words::{Dumping, Run};
 use std::alloc::{AllocError, Global};
 use std::io::{self, Write};
 
@@ -72,7 +72,11 @@ pub(crate) fn dump_tenant<R: Source, W: Sink>(
 }
 
 /// The cell that the lines of the input leave, whose replies are thrown away.
-fn answered<R: Source>(alloc: Global, run: Run, reader: &mut R) -> Result<Cell, StreamError>
+pub(crate) fn answered<R: Source>(
+    alloc: Global,
+    run: Run,
+    reader: &mut R,
+) -> Result<Cell, StreamError>
     requires { AreRun run }
     ensures { IfOk result (λ cell. IfSome (R.remaining reader.old) (λ input.
         (leaves : LeavesTenants run.tenants run.bound input) × (leaves.cell ≡ cell))) }

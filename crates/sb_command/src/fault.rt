@@ -21,6 +21,12 @@ pub enum Fault {
     CannotStart,
     /// It doesn't tell any more what comes.
     WaitingFailed,
+    /// The journal can't be opened, is another server's, or can't be played.
+    CannotOpenJournal,
+    /// What was answered couldn't be written to the journal.
+    JournalFailed,
+    /// A journal can't be written anew.
+    CannotWriteJournal,
     /// This line of the input, counted from 1, is no command for a session of the host.
     BadLine { line: u64 },
     /// The host doesn't have the tenant.
@@ -31,6 +37,12 @@ pub enum Fault {
     CannotDump { tenant: u64 },
     /// A folder that is asked for isn't there.
     NoFolder,
+    /// The file of keys can't be read.
+    NoKeys,
+    /// This line of the file of keys, counted from 1, names no key.
+    BadKeys { line: u64 },
+    /// The line of the input is no key.
+    BadKey,
     /// The tenant's file can't be read, or a line of it isn't answered as a line of a script.
     CannotLoad { tenant: u64 },
     /// The tenant's file can't be written.
@@ -68,10 +80,16 @@ fn line_of(alloc: Global, why: Fault) -> Result<Vec<u8>, AllocError>
         Fault::CannotWait => line.extend_from_slice(b"fault: cannot wait\n")?,
         Fault::CannotStart => line.extend_from_slice(b"fault: cannot start a thread\n")?,
         Fault::WaitingFailed => line.extend_from_slice(b"fault: waiting failed\n")?,
+        Fault::CannotOpenJournal => line.extend_from_slice(b"fault: cannot open journal\n")?,
+        Fault::JournalFailed => line.extend_from_slice(b"fault: journal failed\n")?,
+        Fault::CannotWriteJournal => line.extend_from_slice(b"fault: cannot write journal\n")?,
         Fault::BadLine { line: number } => push_number(&mut line, b"fault: bad line ", number)?,
         Fault::NoTenant { tenant } => push_number(&mut line, b"fault: no tenant ", tenant)?,
         Fault::TenantBusy { tenant } => push_number(&mut line, b"fault: busy tenant ", tenant)?,
         Fault::NoFolder => line.extend_from_slice(b"fault: no folder\n")?,
+        Fault::NoKeys => line.extend_from_slice(b"fault: no keys\n")?,
+        Fault::BadKeys { line: number } => push_number(&mut line, b"fault: bad keys ", number)?,
+        Fault::BadKey => line.extend_from_slice(b"fault: bad key\n")?,
         Fault::CannotLoad { tenant } => push_number(&mut line, b"fault: cannot load ", tenant)?,
         Fault::CannotWrite { tenant } => push_number(&mut line, b"fault: cannot write ", tenant)?,
         Fault::CannotDump { tenant } => push_number(&mut line, b"fault: cannot dump ", tenant)?,

@@ -1,12 +1,14 @@
 //! Files of tenants in a folder: one file for each, named by the tenant's number.
+ghost use Rattle.std.specs.Prelude.{◌≡◌, ◌+◌};
 
 use crate::fault::Fault;
+use crate::journal::Journal;
 use sb_wire::StreamError;
 use std::alloc::{AllocError, Global};
 use std::fs;
 use std::fs::OpenFile as _;
 use std::io::{self, Write as _};
-use std::rt::Files;
+use std::rt::{Clock, Files};
 
 /// A folder, and the number of the first tenant, as files are named.
 #[derive(Clone, Copy)]
@@ -17,7 +19,9 @@ pub(crate) struct Folder<'a> {
 
 impl<'a> Folder<'a> {
     /// The number by which this tenant's file is named.
-    pub(crate) fn number_of(self, tenant: u32) -> u64 {
+    pub(crate) fn number_of(self, tenant: u32) -> u64
+        ensures { result ≡ self.entry.first + tenant }
+    {
         u64::from(self.first) + u64::from(tenant)
     }
 
@@ -38,6 +42,21 @@ impl<'a> Folder<'a> {
         Ok(fs::metadata(rt, self.path)?.is_dir())
     }
 
+    /// The same. Why there is none is written in the log.
+    pub(crate) fn is_found<R: Eprint + Clock + Files>(
+        self,
+        rt: &R,
+        journal: &Journal<'_, R>,
+    ) -> bool {
+        match self.is_there(rt) {
+            Ok(is_there) => is_there,
+            Err(error) => {
+                journal.tell_no_folder(self.path, &error);
+                false
+            }
+        }
+    }
+
     /// Writes the file of the tenant with this number. There is never a part of it under its name.
     pub(crate) fn write<R: Files>(
         self,
@@ -52,20 +71,34 @@ impl<'a> Folder<'a> {
         let Ok(beside) = self.new_file_of(alloc, number) else {
             return Err(Fault::Stream(StreamError::NoMemory));
         };
-        Ok(write_beside(rt, beside.as_str(), path.as_str(), text))
+        Ok(write_beside(rt, self.path, beside.as_str(), path.as_str(), text))
     }
 }
 
-/// Writes a file beside its name, and then gives it the name.
-fn write_beside<R: Files>(rt: &R, beside: &str, path: &str, text: &[u8]) -> io::Result<()> {
+/// Writes a file of a folder beside its name, and then gives it the name.
+fn write_beside<R: Files>(
+    rt: &R,
+    folder: &str,
+    beside: &str,
+    path: &str,
+    text: &[u8],
+) -> io::Result<()> {
     match write_new(rt, beside, text) {
-        Ok(()) => fs::rename(rt, beside, path),
+        Ok(()) => {
+            fs::rename(rt, beside, path)?;
+            sync_folder(rt, folder)
+        }
         Err(error) => {
             // what is there of it is of no use
             let _removed = fs::remove_file(rt, beside);
             Err(error)
         }
     }
+}
+
+/// Brings the names of a folder to the disk.
+fn sync_folder<R: Files>(rt: &R, folder: &str) -> io::Result<()> {
+    fs::open(rt, folder)?.sync_all()
 }
 
 /// Writes a file, to the disk.

@@ -1,14 +1,17 @@
 //! What an operator reads on standard error.
 
-use crate::loading::Unplayed;
-use crate::severity::Severity;
+use crate::keys::Unread;
+use crate::playing::Unplayed;
 use jiff::Timestamp;
 use libc::net as system;
 use libc::types::pollfd;
 use log::sink::Console;
 use log::{Level, LevelFilter, Logged, log};
 use sb_connection::{Event, Watch};
+use sb_durable::PlayError;
+use sb_journal::{JournalError, StartError};
 use sb_wire::WireRefusal;
+use sb_words::Severity;
 use std::fmt::Display;
 use std::io;
 use std::rt::Clock;
@@ -76,6 +79,47 @@ impl<'r, T: Eprint + Clock> Journal<'r, T> {
         );
     }
 
+    /// Tells why the keys of the file at this path aren't read.
+    pub(crate) fn tell_no_keys(&self, path: &str, why: &Unread) {
+        self.write(Severity::Error, &format_args!("keys {path}: {why}"));
+    }
+
+    /// Tells why the journal at this path isn't used.
+    pub(crate) fn tell_not_opened(&self, path: &str, why: StartError) {
+        self.write(Severity::Error, &format_args!("journal {path}: {why}"));
+    }
+
+    /// Tells why the journal at this path isn't played.
+    pub(crate) fn tell_not_played(&self, path: &str, why: PlayError) {
+        self.write(Severity::Error, &format_args!("journal {path}: {why}"));
+    }
+
+    /// Tells why nothing is done with a journal at this path.
+    pub(crate) fn tell_no_journal(&self, path: &str, why: &io::Error) {
+        self.write(Severity::Error, &format_args!("journal {path}: {why}"));
+    }
+
+    /// Tells that a file isn't written over.
+    pub(crate) fn tell_there_already(&self, path: &str) {
+        self.write(
+            Severity::Error,
+            &format_args!("journal {path}: it is there already"),
+        );
+    }
+
+    /// Tells how far a journal is played.
+    pub(crate) fn tell_played(&self, records: u64, bytes: u64) {
+        self.write(
+            Severity::Info,
+            &format_args!("journal: {records} lines, {bytes} bytes are played"),
+        );
+    }
+
+    /// Tells why nothing is recorded any more.
+    pub(crate) fn tell_not_recorded(&self, why: JournalError) {
+        self.write(Severity::Error, &format_args!("journal: {why}"));
+    }
+
     /// Tells why a file isn't played.
     pub(crate) fn tell_unplayed(&self, number: u64, why: &Unplayed) {
         match why {
@@ -86,6 +130,14 @@ impl<'r, T: Eprint + Clock> Journal<'r, T> {
             Unplayed::Stream(error) => {
                 self.write(Severity::Error, &format_args!("{number}.lines: {error}"));
             }
+            Unplayed::InTransaction => self.write(
+                Severity::Error,
+                &format_args!("{number}.lines: it stops inside a transaction"),
+            ),
+            Unplayed::Ended => self.write(
+                Severity::Error,
+                &format_args!("{number}.lines: it ends its session"),
+            ),
             Unplayed::Line { line, told } => {
                 let reply = first_line(told.as_slice());
                 self.write(

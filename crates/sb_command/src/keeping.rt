@@ -1,9 +1,9 @@
-//! A server that reads its tenants from files, and writes them to files.
+//! A server that keeps its tenants: in a journal, or in files that it reads before and writes behind.
 ghost use Rattle.std.specs.Prelude.{◌≡◌, ◌<◌, ◌≤◌, List, ℕ, OnOk};
 ghost use Rattle.std.specs.Io.KnownBytes.{Appends};
 ghost use Rattle.sb_host.specs.Opening.{AreNames};
-ghost use Rattle.sb_command.specs.Totals.{TellsServer, TellsTrails};
-ghost use Rattle.sb_command.specs.Within.{AreServer};
+ghost use Rattle.sb_command.specs.Totals.{TellsServer, TellsTrails, listening_line};
+ghost use Rattle.sb_words.specs.Within.{AreServer};
 
 use crate::closing::finish;
 use crate::fault::Fault;
@@ -11,37 +11,33 @@ use crate::folder::Folder;
 use crate::journal::Journal;
 use crate::listening::listen;
 use crate::loading::load_all;
-use crate::request::{Folders, Serving};
 use crate::saving::save_all;
 use crate::server::{OUT_OF_MEMORY, opened_by, unserved};
 use crate::terms::{Plan, plan_of};
+use sb_connection::{Admission, Open};
 use sb_host::{Host, Naming, Opened, Stub};
-use sb_server::{Acceptor, serve_all};
+use sb_server::{Acceptor, Keeper, Unkept, serve_all};
 use sb_wire::Sink;
+use sb_words::{Paths, Serving};
 use std::alloc::{AllocError, Global};
+use std::fs::File;
 use std::marker::Brand;
 use std::net::{Net, TcpListener, TcpStream};
 use std::rt::{Clock, Files};
 use std::sync::Wait;
 use std::thread::Threads;
 
-/// Serves connections as a server does, on tenants that are read from files before or written to files behind.
+/// Serves connections as a server does, on tenants that a journal or files keep.
 pub(crate) fn keep<
     T: Threads
         + Wait
         + Net<Listener = TcpListener, Stream = TcpStream>
         + Eprint
         + Clock
-        + Files
+        + Files<File = File>
         + Sync,
     W: Sink,
->(
-    rt: &T,
-    alloc: Global,
-    serving: Serving,
-    folders: Folders<'_>,
-    writer: &mut W,
-) -> Result<(), Fault>
+>(rt: &T, alloc: Global, serving: Serving, paths: Paths<'_>, writer: &mut W) -> Result<(), Fault>
     requires { AreServer serving }
     ensures { OnOk result ((text : List ℕ)
         × Appends (W.contents writer.old) (W.contents writer.new) text
@@ -49,7 +45,7 @@ pub(crate) fn keep<
 {
     let plan = plan_of(serving);
     match opened_by(alloc, plan) {
-        Ok(opened) => keep_host::<Brand, T, W>(rt, alloc, opened, plan, folders, writer),
+        Ok(opened) => keep_host::<Brand, T, W>(rt, alloc, opened, plan, paths, writer),
         Err(_) => Err(OUT_OF_MEMORY),
     }
 }
@@ -62,7 +58,7 @@ fn keep_host<
         + Net<Listener = TcpListener, Stream = TcpStream>
         + Eprint
         + Clock
-        + Files
+        + Files<File = File>
         + Sync,
     W: Sink,
 >(
@@ -70,7 +66,7 @@ fn keep_host<
     alloc: Global,
     opened: Opened,
     plan: Plan,
-    folders: Folders<'_>,
+    paths: Paths<'_>,
     writer: &mut W,
 ) -> Result<(), Fault>
     requires named { AreNames N.table N.tenants N.cells N.bound N.name N.parts opened }
@@ -85,107 +81,187 @@ fn keep_host<
         return Err(OUT_OF_MEMORY);
     };
     let journal = Journal::new(rt, plan.log);
-    let loaded = match prepare(rt, alloc, &host, plan, folders, &journal) {
-        Ok(stubs) => stubs,
+    let keeping = Keeping {
+        rt,
+        alloc,
+        host: &host,
+        plan,
+        paths,
+        journal: &journal,
+    };
+    let served = match keeping.serve(writer) {
+        Ok(served) => served,
         Err(why) => return Err(why),
     };
-    let listener = match listen(rt, alloc, plan.address, &journal, writer) {
-        Ok(listener) => listener,
-        Err(why) => return Err(why),
-    };
-    let acceptor = Acceptor {
-        listener: &listener,
-        watch: &journal,
-        terms: plan.terms,
-    };
-    keep_by(rt, alloc, &acceptor, host, plan, folders, loaded, writer)
+    finish_served(alloc, host, plan.terms.first_tenant, served, writer)
 }
 
-/// Looks for the folders, and makes the tenants from their files.
-fn prepare<N: Naming, T: Wait + Eprint + Clock + Files>(
-    rt: &T,
+/// Finishes the host with what its sessions left. Where that goes well and the files weren't written, that is the fault.
+fn finish_served<N: Naming, W: Sink>(
     alloc: Global,
-    host: &Host<N>,
-    plan: Plan,
-    folders: Folders<'_>,
-    journal: &Journal<'_, T>,
-) -> Result<Vec<Stub>, Fault> {
-    if let Some(path) = folders.dump_to {
-        if !has_folder(rt, folder_at(path, plan), journal) {
-            return Err(Fault::NoFolder);
-        }
-    }
-    let Some(path) = folders.load else {
-        return Ok(Vec::new(alloc));
-    };
-    let folder = folder_at(path, plan);
-    if !has_folder(rt, folder, journal) {
-        return Err(Fault::NoFolder);
-    }
-    load_all(rt, alloc, host, folder, journal)
-}
-
-fn folder_at<'a>(path: &'a str, plan: Plan) -> Folder<'a> {
-    Folder {
-        path,
-        first: plan.terms.first_tenant,
-    }
-}
-
-/// Whether the folder is there. Why not is written in the log.
-fn has_folder<T: Eprint + Clock + Files>(
-    rt: &T,
-    folder: Folder<'_>,
-    journal: &Journal<'_, T>,
-) -> bool {
-    match folder.is_there(rt) {
-        Ok(is_there) => is_there,
-        Err(error) => {
-            journal.tell_no_folder(folder.path, &error);
-            false
-        }
-    }
-}
-
-/// Serves the connections that are taken. Behind the last one the tenants are written, and the host's trails are told.
-fn keep_by<
-    N: Naming + Send + Sync,
-    T: Threads + Wait + Net + Eprint + Clock + Files + Sync,
-    W: Sink,
->(
-    rt: &T,
-    alloc: Global,
-    acceptor: &Acceptor<'_, Journal<'_, T>>,
     host: Host<N>,
-    plan: Plan,
-    folders: Folders<'_>,
-    loaded: Vec<Stub>,
+    first_tenant: u32,
+    served: Served,
     writer: &mut W,
 ) -> Result<(), Fault>
-    requires bound { plan.bound ≤ 1000 }
-    requires workers { (0 < acceptor.now.terms.workers) × (acceptor.now.terms.workers ≤ 16) }
     ensures { OnOk result ((line : List ℕ)
         × Appends (W.contents writer.old) (W.contents writer.new) line
         × TellsTrails N.bound host line) }
 {
-    let first_tenant = acceptor.terms.first_tenant;
-    let stubs = match serve_all(rt, alloc, acceptor, &host) {
-        Ok(stubs) => stubs,
-        Err(error) => return Err(unserved(error)),
-    };
-    let Ok(stubs) = together(loaded, stubs) else {
-        return Err(OUT_OF_MEMORY);
-    };
-    let saved = match folders.dump_to {
-        Some(path) => {
-            let folder = folder_at(path, plan);
-            save_all(rt, alloc, &host, plan.bound, folder, acceptor.watch)
-        }
-        None => Ok(()),
-    };
+    let Served { stubs, saved } = served;
     match finish(alloc, host, first_tenant, stubs, writer) {
         Ok(()) => saved,
         Err(why) => Err(why),
+    }
+}
+
+/// What is at hand while a server keeps its tenants.
+#[derive(Drop)]
+pub(crate) struct Keeping<'k, N: Naming, T> {
+    pub(crate) rt: &'k T,
+    pub(crate) alloc: Global,
+    pub(crate) host: &'k Host<N>,
+    pub(crate) plan: Plan,
+    pub(crate) paths: Paths<'k>,
+    pub(crate) journal: &'k Journal<'k, T>,
+    ghost bound: { plan.bound ≤ 1000 },
+    ghost workers: { (0 < plan.terms.workers) × (plan.terms.workers ≤ 16) },
+}
+
+/// What is left where no connection comes any more.
+#[derive(Drop)]
+pub(crate) struct Served {
+    /// The receipts of all sessions.
+    stubs: Vec<Stub>,
+    /// Whether the files were written.
+    saved: Result<(), Fault>,
+}
+
+impl<
+    'k,
+    N: Naming + Send + Sync,
+    T: Threads
+        + Wait
+        + Net<Listener = TcpListener, Stream = TcpStream>
+        + Eprint
+        + Clock
+        + Files<File = File>
+        + Sync,
+> Keeping<'k, N, T> {
+    /// Has the tenants as they were kept, and serves connections until none comes any more.
+    fn serve<W: Sink>(&self, writer: &mut W) -> Result<Served, Fault>
+        ensures { OnOk result ((port : ℕ)
+            × Appends (W.contents writer.old) (W.contents writer.new) (listening_line port)) }
+    {
+        let loaded = match self.prepare() {
+            Ok(stubs) => stubs,
+            Err(why) => return Err(why),
+        };
+        match self.paths.keys {
+            Some(path) => self.with_keys(path, loaded, writer),
+            None => self.admit(&Open, loaded, writer),
+        }
+    }
+
+    /// Serves whom this admits, with the journal that is asked for.
+    pub(crate) fn admit<A: Admission + Sync, W: Sink>(
+        &self,
+        admission: &A,
+        loaded: Vec<Stub>,
+        writer: &mut W,
+    ) -> Result<Served, Fault>
+        ensures { OnOk result ((port : ℕ)
+            × Appends (W.contents writer.old) (W.contents writer.new) (listening_line port)) }
+    {
+        match self.paths.journal {
+            Some(path) => self.record(path, admission, writer),
+            None => self.serve_with(admission, &Unkept, loaded, writer),
+        }
+    }
+
+    /// Serves whom this admits, with this keeper. Behind the last connection the tenants are written to their files.
+    pub(crate) fn serve_with<A: Admission + Sync, K: Keeper + Sync, W: Sink>(
+        &self,
+        admission: &A,
+        keeper: &K,
+        loaded: Vec<Stub>,
+        writer: &mut W,
+    ) -> Result<Served, Fault>
+        ensures { OnOk result ((port : ℕ)
+            × Appends (W.contents writer.old) (W.contents writer.new) (listening_line port)) }
+    {
+        let listener = match listen(self.rt, self.alloc, self.plan.address, self.journal, writer) {
+            Ok(listener) => listener,
+            Err(why) => return Err(why),
+        };
+        let acceptor = Acceptor {
+            listener: &listener,
+            watch: self.journal,
+            admission,
+            keeper,
+            terms: self.plan.terms,
+        };
+        let stubs = match serve_all(self.rt, self.alloc, &acceptor, self.host) {
+            Ok(stubs) => stubs,
+            Err(error) => return Err(unserved(error)),
+        };
+        match together(loaded, stubs) {
+            Ok(stubs) => Ok(Served {
+                stubs,
+                saved: self.save(),
+            }),
+            Err(_) => Err(OUT_OF_MEMORY),
+        }
+    }
+
+    /// Looks for the folders, and makes the tenants from their files.
+    fn prepare(&self) -> Result<Vec<Stub>, Fault> {
+        if let Some(path) = self.paths.dump_to {
+            if !self.has_folder(self.folder_at(path)) {
+                return Err(Fault::NoFolder);
+            }
+        }
+        let Some(path) = self.paths.load else {
+            return Ok(Vec::new(self.alloc));
+        };
+        let folder = self.folder_at(path);
+        if !self.has_folder(folder) {
+            return Err(Fault::NoFolder);
+        }
+        load_all(self.rt, self.alloc, self.host, folder, self.journal)
+    }
+
+    /// Writes the tenants to their files, if that is asked for.
+    fn save(&self) -> Result<(), Fault> {
+        match self.paths.dump_to {
+            Some(path) => save_all(
+                self.rt,
+                self.alloc,
+                self.host,
+                self.plan.bound,
+                self.folder_at(path),
+                self.journal,
+            ),
+            None => Ok(()),
+        }
+    }
+
+    fn folder_at<'p>(&self, path: &'p str) -> Folder<'p> {
+        Folder {
+            path,
+            first: self.plan.terms.first_tenant,
+        }
+    }
+
+    /// Whether the folder is there. Why not is written in the log.
+    fn has_folder(&self, folder: Folder<'_>) -> bool {
+        match folder.is_there(self.rt) {
+            Ok(is_there) => is_there,
+            Err(error) => {
+                self.journal.tell_no_folder(folder.path, &error);
+                false
+            }
+        }
     }
 }
 

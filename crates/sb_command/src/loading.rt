@@ -5,8 +5,9 @@ use crate::dumping::Nowhere;
 use crate::fault::Fault;
 use crate::folder::Folder;
 use crate::journal::Journal;
-use sb_host::{Host, Naming, Session, Stub};
-use sb_tenant::Reply;
+use crate::playing::{Progress, Unplayed, is_taken, unsettled};
+use sb_host::{Host, Naming, Reading, Session, Stub};
+use sb_tenant::Tenant;
 use sb_wire::{Fallible, Piece, Responder, StreamError, answer_stream, write_bare_reply};
 use std::alloc::{AllocError, Global};
 use std::fs;
@@ -15,17 +16,6 @@ use std::rt::{Clock, Files};
 use std::sync::Wait;
 
 const OUT_OF_MEMORY: Fault = Fault::Stream(StreamError::NoMemory);
-
-/// How far a file is played.
-#[derive(Drop)]
-struct Progress {
-    /// The newest line, counted from 1.
-    line: u64,
-    /// It wasn't answered as a line of a script is.
-    is_bad: bool,
-    /// What it was answered then.
-    told: Vec<u8>,
-}
 
 /// Calls a session with the lines of a file, until one isn't answered as a line of a script is.
 #[derive(Drop)]
@@ -81,15 +71,6 @@ fn play_line<T: Wait, N: Naming>(
     }
 }
 
-/// Whether a line of a script is answered so.
-fn is_taken(reply: &Reply) -> bool {
-    match reply {
-        Reply::Ok | Reply::Count(_) => true,
-        Reply::Done(trace) => trace.as_slice().is_empty(),
-        _ => false,
-    }
-}
-
 /// Plays the file of each tenant that has one, and leaves the receipts of the sessions.
 pub(crate) fn load_all<T: Wait + Eprint + Clock + Files, N: Naming>(
     rt: &T,
@@ -142,15 +123,20 @@ fn load_one<T: Wait + Eprint + Clock + Files, N: Naming>(
     }
 }
 
-/// Why a file wasn't played to its end.
+/// Notes why a script may not end where its session stands so.
 #[derive(Drop)]
-pub(crate) enum Unplayed {
-    /// There is no session for it.
-    NoSession,
-    /// The file can't be read, or memory ran out.
-    Stream(StreamError),
-    /// A line, counted from 1, was answered so.
-    Line { line: u64, told: Vec<u8> },
+struct Ending {
+    why: Option<Unplayed>,
+}
+
+impl Reading for Ending {
+    ghost use Rattle.std.specs.Prelude.{⊤};
+
+    ghost reads = { λ _ _ _. ⊤ };
+
+    fn read(&mut self, tenant: &Tenant) {
+        self.why = unsettled(tenant);
+    }
 }
 
 /// Plays a file in the first session of a tenant.
@@ -165,11 +151,7 @@ fn play<T: Wait, N: Naming, F: Read + Drop>(
         return Err(Unplayed::NoSession);
     };
     let mut reader = Fallible { inner: file };
-    let mut progress = Progress {
-        line: 0,
-        is_bad: false,
-        told: Vec::new(alloc),
-    };
+    let mut progress = Progress::new(alloc);
     let player = Player { rt };
     let ended = answer_stream(
         alloc,
@@ -179,13 +161,18 @@ fn play<T: Wait, N: Naming, F: Read + Drop>(
         &mut session,
         &mut progress,
     );
+    let mut ending = Ending { why: None };
+    let _is_there = host.read(rt, tenant, &mut ending);
     let stub = session.close(rt);
     let Progress { line, is_bad, told } = progress;
     if is_bad {
         return Err(Unplayed::Line { line, told });
     }
-    match ended {
-        Ok(()) => Ok(stub),
-        Err(error) => Err(Unplayed::Stream(error)),
+    if let Err(error) = ended {
+        return Err(Unplayed::Stream(error));
+    }
+    match ending.why {
+        Some(why) => Err(why),
+        None => Ok(stub),
     }
 }

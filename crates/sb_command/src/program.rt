@@ -5,39 +5,44 @@ ghost use Rattle.sb_wire.specs.Stream.{AnswersFresh, MayFail, OnWriteFault};
 ghost use Rattle.sb_command.specs.Does.{GoesFresh, Shows, Tells, TellsRun, line_of, status_of};
 ghost use Rattle.sb_wire.specs.Faults.{fault_line};
 ghost use Rattle.sb_command.specs.Ends.{EndsEarly};
-ghost use Rattle.sb_command.specs.Faults.{TellsEnd};
+ghost use Rattle.sb_command.specs.Faults.{TellsEnd, TellsFault};
 ghost use Rattle.sb_command.specs.Parsing.{ParsesStream, TellsLines};
 ghost use Rattle.sb_replay.specs.Replay.{Fails, Replays};
 ghost use Rattle.sb_replay.specs.declared.error.ReplayError.{ReplayError as ItsError};
 ghost use Rattle.sb_command.specs.Faults.{unplayed_as};
 ghost use Rattle.sb_command.specs.Totals.{TellsServer};
-ghost use Rattle.sb_command.specs.Dumping.{DumpsInput, RefusesDump};
-ghost use Rattle.sb_command.specs.declared.request.Dumping.{Dumping as ItsDumping};
-ghost use Rattle.sb_command.specs.declared.request.Hosting.{Hosting as ItsHosting};
-ghost use Rattle.sb_command.specs.declared.request.Request.TheVariants as request;
-ghost use Rattle.sb_command.specs.declared.request.Run.{Run as ItsRun};
-ghost use Rattle.sb_command.specs.declared.request.Serving.{Serving as ItsServing};
-ghost use Rattle.sb_command.specs.Within.{AreRun};
-ghost use Rattle.sb_command.specs.Words.{AskFor, AskForHelp, AskForVersion, HasFault, HaveUnfit};
-ghost use Rattle.sb_command.specs.declared.unfit.Unfit.{Unfit as ItsUnfit};
-ghost use Rattle.sb_command.specs.Refusals.{refusal_text};
+ghost use Rattle.sb_command.specs.Digesting.{TellsDigest};
+ghost use Rattle.sb_command.specs.Dumping.{DumpsInput, HaveScripts, RefusesDump, RefusesDumps};
+ghost use Rattle.sb_command.specs.Loading.{AnswersLoaded, GoesLoaded, IsUnloaded};
+ghost use Rattle.sb_command.specs.declared.fault.Fault.{Fault as ItsFault};
+ghost use Rattle.sb_words.specs.declared.request.Dumping.{Dumping as ItsDumping};
+ghost use Rattle.sb_words.specs.declared.request.Hosting.{Hosting as ItsHosting};
+ghost use Rattle.sb_words.specs.declared.request.Request.TheVariants as request;
+ghost use Rattle.sb_words.specs.declared.request.Run.{Run as ItsRun};
+ghost use Rattle.sb_words.specs.declared.request.Serving.{Serving as ItsServing};
+ghost use Rattle.sb_words.specs.Within.{AreRun};
+ghost use Rattle.sb_words.specs.Words.{AskFor, AskForHelp, AskForVersion, HasFault, HaveUnfit};
+ghost use Rattle.sb_words.specs.declared.part.Unfit.{Unfit as ItsUnfit};
+ghost use Rattle.sb_words.specs.Refusals.{refusal_text};
 
+use crate::compacting::compact;
 use crate::console::Console;
+use crate::digesting::tell_digest;
 use crate::dumping::dump_tenant;
 use crate::fault::{Fault, tell_fault};
-use crate::help::{ALLOWED, HELP, VERSION};
 use crate::keeping::keep;
-use crate::laws::words_ask_once;
 use crate::parsing::parse_lines;
 use crate::refusing::{refuse, refuse_part};
 use crate::replaying::replay;
-use crate::request::{Request, Run};
+use crate::running::run_loaded;
 use crate::server::serve;
 use crate::telling::{SUCCESS, fault, tell_run, tell_stream_end};
-use crate::words::{Asked, read_words};
+use crate::writing::dump_all;
 use sb_wire::{Sink, Source, StreamError, Summary, run_fresh, write_bytes};
+use sb_words::{ALLOWED, Asked, HELP, Request, Run, VERSION, read_words, words_ask_once};
 use std::alloc::Global;
 use std::convert::AsStr;
+use std::fs::File;
 use std::net::{Net, TcpListener, TcpStream};
 use std::rt::{Clock, Files};
 use std::sync::Wait;
@@ -50,7 +55,7 @@ pub fn command<
         + Net<Listener = TcpListener, Stream = TcpStream>
         + Eprint
         + Clock
-        + Files
+        + Files<File = File>
         + Sync,
     S: AsStr,
     R: Source,
@@ -89,6 +94,19 @@ pub fn command<
         → result ≡ 0 → (text : List ℕ)
         × Appends (W.contents writer.old) (W.contents writer.new) text
         × TellsServer s.hosting.run.bound s.hosting.run.tenants text }
+    // and words that ask for a run on files what it is answered on tenants that scripts made
+    ensures loads { (r : ItsRun) → AskFor (map S.text words.now) (request.Load r)
+        → result ≡ 0 → IfSome (R.remaining reader.old) (λ input. (text : List ℕ)
+        × Appends (W.contents writer.old) (W.contents writer.new) text
+        × AnswersLoaded r.tenants r.bound input text) }
+    // and words that ask for a dump of all nothing, where each tenant has a script as the input leaves it
+    ensures dumps_all { (r : ItsRun) → AskFor (map S.text words.now) (request.DumpAll r)
+        → result ≡ 0 → (writer.new ≡ writer.old)
+        × IfSome (R.remaining reader.old) (HaveScripts r.tenants r.bound) }
+    // and words that ask for it the digest of the key that the input's first line is
+    ensures digests { AskFor (map S.text words.now) request.Key
+        → result ≡ 0 → TellsDigest (R.remaining reader.old) (R.remaining reader.new)
+        (W.contents writer.old) (W.contents writer.new) }
     // whatever the status: of a run how its stream went; of a server, a replay or a dump the fault that it ended with, and
     // why;
     // how the stream of lines went of which it is told whether they are commands; help and the version, as they are asked
@@ -134,7 +152,26 @@ pub fn command<
         (λ input. RefusesDump d.run.tenants d.run.bound d.tenant input why)))
         ⊎ ((s : ItsServing) × AskFor (map S.text words.now) (request.Keep s) × (ended : _)
         × TellsEnd E.refuses E.contents errors.old.sink errors.new.sink ended result
-        × (reader.new ≡ reader.old)) }
+        × (reader.new ≡ reader.old))
+        ⊎ ((r : ItsRun) × AskFor (map S.text words.now) (request.Load r)
+        × (((why : ItsFault) × IsUnloaded r.tenants why × (result ≡ 1) × (reader.new ≡ reader.old)
+        × (writer.new ≡ writer.old)
+        × TellsFault E.refuses E.contents errors.old.sink errors.new.sink why)
+        ⊎ ((ended : _) × (summary : _) × (result ≡ status_of ended)
+        × GoesLoaded R.fails R.remaining W.refuses W.contents r.tenants r.bound reader.old reader.new
+        writer.old writer.new ended summary
+        × TellsRun E.refuses E.contents errors.old.is_terminal errors.old.sink errors.new.sink
+        summary ended)))
+        ⊎ ((r : ItsRun) × AskFor (map S.text words.now) (request.DumpAll r) × (ended : _)
+        × TellsEnd E.refuses E.contents errors.old.sink errors.new.sink ended result
+        × (writer.new ≡ writer.old)
+        × IfErr ended (λ why. IfSome (R.remaining reader.old)
+        (λ input. RefusesDumps r.tenants r.bound input why)))
+        ⊎ ((r : ItsRun) × AskFor (map S.text words.now) (request.Compact r) × (ended : _)
+        × TellsEnd E.refuses E.contents errors.old.sink errors.new.sink ended result
+        × (reader.new ≡ reader.old) × (writer.new ≡ writer.old))
+        ⊎ (AskFor (map S.text words.now) request.Key × (ended : _)
+        × TellsEnd E.refuses E.contents errors.old.sink errors.new.sink ended result) }
 {
     // for the proof: words ask for one thing
     words_ask_once();
@@ -152,12 +189,27 @@ pub fn command<
             let ended = parse_lines(alloc, reader, writer);
             tell_stream_end(ended, &mut errors.sink)
         }
-        Ok(Asked::For(Request::Keep(asked), folders)) => {
-            let ended = keep(rt, alloc, asked, folders, writer);
+        Ok(Asked::For(Request::Load(asked), paths)) => {
+            run_loaded(rt, alloc, asked, paths.load, reader, writer, errors)
+        }
+        Ok(Asked::For(Request::Keep(asked), paths)) => {
+            let ended = keep(rt, alloc, asked, paths, writer);
             tell_end(alloc, ended, &mut errors.sink)
         }
         Ok(Asked::For(Request::Dump(asked), _)) => {
             let ended = dump_tenant(alloc, asked, reader, writer);
+            tell_end(alloc, ended, &mut errors.sink)
+        }
+        Ok(Asked::For(Request::DumpAll(asked), paths)) => {
+            let ended = dump_all(rt, alloc, asked, paths.into, reader);
+            tell_end(alloc, ended, &mut errors.sink)
+        }
+        Ok(Asked::For(Request::Compact(asked), paths)) => {
+            let ended = compact(rt, alloc, asked, paths.old, paths.new);
+            tell_end(alloc, ended, &mut errors.sink)
+        }
+        Ok(Asked::For(Request::Key, _)) => {
+            let ended = tell_digest(alloc, reader, writer);
             tell_end(alloc, ended, &mut errors.sink)
         }
         Ok(Asked::Help) => show(HELP, writer, &mut errors.sink),

@@ -4,15 +4,14 @@ ghost use Rattle.std.specs.Io.KnownBytes.{Appends};
 ghost use Rattle.sb_replay.specs.Replay.{Fails, Replays};
 ghost use Rattle.sb_replay.specs.declared.error.ReplayError.{ReplayError as ItsError};
 ghost use Rattle.sb_command.specs.Faults.{unplayed_as};
-ghost use Rattle.sb_command.specs.Within.{AreHost};
+ghost use Rattle.sb_words.specs.Within.{AreHost};
 
 use crate::closing::fault_of;
 use crate::fault::Fault;
 use crate::journal::Journal;
-use crate::request::Hosting;
-use crate::severity::Severity;
 use sb_replay::{ReplayError, Size, replay_fresh};
 use sb_wire::{Sink, Source, StreamError};
+use sb_words::{Hosting, Severity};
 use std::alloc::Global;
 use std::rt::Clock;
 use std::sync::Wait;

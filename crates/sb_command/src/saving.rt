@@ -1,5 +1,7 @@
 //! The tenants of a host, written to the files of a folder.
-ghost use Rattle.std.specs.Prelude.{◌≤◌};
+ghost use Rattle.std.specs.Prelude.{◌≡◌, ◌⊎◌, ◌≤◌, IfErr};
+ghost use Rattle.sb_command.specs.declared.fault.Fault.TheVariants as fault;
+ghost use Rattle.sb_wire.specs.declared.fault.StreamError.TheVariants as stream;
 
 use crate::dumping::{text_of, undumped};
 use crate::fault::Fault;
@@ -15,7 +17,7 @@ use std::sync::Wait;
 
 /// What is noted of a tenant.
 #[derive(Drop)]
-enum Noted {
+pub(crate) enum Noted {
     /// No session of it was ever opened.
     Unused,
     Script(Script),
@@ -85,6 +87,23 @@ fn save_one<T: Wait + Eprint + Clock + Files, N: Naming>(
     requires { bound ≤ 1000 }
 {
     let number = folder.number_of(tenant);
+    match noted_of(rt, alloc, host, bound, tenant) {
+        Noted::Unused => Ok(()),
+        Noted::Lacking(error) => Err(undumped(number, error)),
+        Noted::Script(script) => write_script(rt, alloc, folder, journal, number, &script),
+    }
+}
+
+/// The script of a tenant.
+pub(crate) fn noted_of<T: Wait, N: Naming>(
+    rt: &T,
+    alloc: Global,
+    host: &Host<N>,
+    bound: u32,
+    tenant: u32,
+) -> Noted
+    requires { bound ≤ 1000 }
+{
     let mut notes = Notes {
         alloc,
         bound,
@@ -92,22 +111,20 @@ fn save_one<T: Wait + Eprint + Clock + Files, N: Naming>(
     };
     let _is_there = host.read(rt, tenant, &mut notes);
     let Notes { noted, .. } = notes;
-    match noted {
-        Noted::Unused => Ok(()),
-        Noted::Lacking(error) => Err(undumped(number, error)),
-        Noted::Script(script) => write_script(rt, alloc, folder, journal, number, &script),
-    }
+    noted
 }
 
 /// Writes a script to the file of the tenant with this number.
-fn write_script<T: Eprint + Clock + Files>(
+pub(crate) fn write_script<T: Eprint + Clock + Files>(
     rt: &T,
     alloc: Global,
     folder: Folder<'_>,
     journal: &Journal<'_, T>,
     number: u64,
     script: &Script,
-) -> Result<(), Fault> {
+) -> Result<(), Fault>
+    ensures { IfErr result (λ why. (why ≡ fault.Stream stream.NoMemory) ⊎ (why ≡ fault.CannotWrite number)) }
+{
     let Ok(text) = text_of(alloc, script) else {
         return Err(Fault::Stream(StreamError::NoMemory));
     };
@@ -117,6 +134,6 @@ fn write_script<T: Eprint + Clock + Files>(
             journal.tell_cannot_write(number, &error);
             Err(Fault::CannotWrite { tenant: number })
         }
-        Err(why) => Err(why),
+        Err(_) => Err(Fault::Stream(StreamError::NoMemory)),
     }
 }

@@ -5,18 +5,18 @@ ghost use Rattle.sb_host.specs.Opening.{AreNames};
 ghost use Rattle.sb_command.specs.Ends.{EndsEarly, FailsToServe};
 ghost use Rattle.sb_command.specs.Faults.{unserved_as};
 ghost use Rattle.sb_command.specs.Totals.{TellsServer, TellsTrails};
-ghost use Rattle.sb_command.specs.Within.{AreServer};
+ghost use Rattle.sb_words.specs.Within.{AreServer};
 
 use crate::closing::finish;
 use crate::fault::Fault;
 use crate::journal::Journal;
 use crate::listening::listen;
-use crate::request::Serving;
 use crate::terms::{Plan, plan_of};
-use sb_connection::Watch;
+use sb_connection::{Admission, Open, Watch};
 use sb_host::{Host, Naming, Opened};
-use sb_server::{Acceptor, ServeError, serve_all};
+use sb_server::{Acceptor, Keeper, ServeError, Unkept, serve_all};
 use sb_wire::{Sink, StreamError};
+use sb_words::Serving;
 use std::alloc::{AllocError, Global};
 use std::marker::Brand;
 use std::net::{Net, TcpListener, TcpStream};
@@ -84,6 +84,8 @@ fn serve_host<
     let acceptor = Acceptor {
         listener: &listener,
         watch: &journal,
+        admission: &Open,
+        keeper: &Unkept,
         terms: plan.terms,
     };
     serve_by(rt, alloc, &acceptor, host, writer)
@@ -93,12 +95,14 @@ fn serve_host<
 pub fn serve_by<
     N: Naming + Send + Sync,
     V: Watch + Sync,
+    A: Admission + Sync,
+    K: Keeper + Sync,
     T: Threads + Wait + Net + Clock + Sync,
     W: Sink,
 >(
     rt: &T,
     alloc: Global,
-    acceptor: &Acceptor<'_, V>,
+    acceptor: &Acceptor<'_, V, A, K>,
     host: Host<N>,
     writer: &mut W,
 ) -> Result<(), Fault>
@@ -125,5 +129,6 @@ pub(crate) fn unserved(error: ServeError) -> Fault
         ServeError::NoPlace => Fault::CannotWait,
         ServeError::NoThread => Fault::CannotStart,
         ServeError::PollFailed => Fault::WaitingFailed,
+        ServeError::NotKept => Fault::JournalFailed,
     }
 }

@@ -1,11 +1,10 @@
 //! What a server's words say of it, as the server takes it.
 ghost use Rattle.std.specs.Prelude.{◌≤◌};
 ghost use Rattle.sb_command.specs.Terms.{AreMegabytes, AreTermsOf, IsHere, IsPlanOf, IsSeconds};
-ghost use Rattle.sb_command.specs.Within.{AreServer};
+ghost use Rattle.sb_words.specs.Within.{AreServer};
 
-use crate::request::Serving;
-use crate::severity::Severity;
 use sb_server::Terms;
+use sb_words::{Serving, Severity};
 use std::net::{IpAddr, Ipv4Addr, SocketAddr};
 use std::time::Duration;
 

@@ -3,11 +3,12 @@ use Rattle.std.specs.Io.KnownBytes.{Appends}
 use Rattle.clap.specs.declared.error.kind.ErrorKind.TheVariants.{DisplayHelp, DisplayVersion}
 use Rattle.sb_wire.specs.Stream.{AnswersFresh}
 use Rattle.sb_replay.specs.Replay.{Replays}
-use Rattle.sb_command.specs.Dumping.{DumpsInput}
+use Rattle.sb_command.specs.Dumping.{DumpsInput, HaveScripts}
+use Rattle.sb_command.specs.Loading.{AnswersLoaded}
 use Rattle.sb_command.specs.Totals.{TellsServer}
-use Rattle.sb_command.specs.Words.{IsAsked}
-use Rattle.sb_command.specs.declared.request.Request.TheVariants.{Run, Serve, Replay, Parse, Dump, Keep}
-use Rattle.sb_command.proofs.Runs.{asked_for, no_other, no_words, same_dumping, same_hosting, same_kept, same_run, same_serving, went_well}
+use Rattle.sb_words.specs.Words.{IsAsked}
+use Rattle.sb_words.specs.declared.request.Request.TheVariants.{Run, Load, Serve, Keep, Replay, Parse, Dump, DumpAll, Compact, Key}
+use Rattle.sb_command.proofs.Runs.{asked_for, few_texts, no_other, same_dumped, same_dumping, same_hosting, same_kept, same_loaded, same_run, same_serving, went_well}
 use Rattle.sb_command.proofs.Told.{at_success}
 use Rattle.sb_command.proofs.program.command.Goals as goal
 
@@ -23,7 +24,7 @@ returns-in-Ok-For-Run-default-clause-usual g c = λ few ok. let words = map g.S.
     same_run c.words_ask_once.ensures.once words b.asked (record { tenants = 16; bound = 1000 })
     (λ q. IfSome (g.R.Read.remaining c.args.reader.now)
     (λ input. (text : List ℕ) × Appends (g.W.Write.contents c.args.writer.now) (g.W.Write.contents c.run.new.writer) text × AnswersFresh q.tenants q.bound input text))
-    (asked_for words b.field-0 b.field-0-0 (Run b.asked) b.field-0-1 b.ensures.asked b.field-0-is b.field-0-0-is) (no_words g.S.AsStr.text c.args.words.now few) (c.run.ensures.runs ok)
+    (asked_for words b.field-0 b.field-0-0 (Run b.asked) b.field-0-1 b.ensures.asked b.field-0-is b.field-0-0-is) (c.words_ask_once.ensures.usual words (few_texts g.S.AsStr.text c.args.words.now few)) (c.run.ensures.runs ok)
 
 pub returns-in-Ok-For-Run-default-clause-asked : goal.returns-in-Ok-For-Run-default-clause-asked
 returns-in-Ok-For-Run-default-clause-asked g c = let words = map g.S.AsStr.text c.args.words.now in let b = c.in-Ok-For-Run-default in
@@ -33,7 +34,7 @@ returns-in-Ok-For-Run-default-clause-asked g c = let words = map g.S.AsStr.text 
 pub returns-in-Ok-For-Serve-default-clause-usual : goal.returns-in-Ok-For-Serve-default-clause-usual
 returns-in-Ok-For-Serve-default-clause-usual g c = λ few ok. let words = map g.S.AsStr.text c.args.words.now in let b = c.in-Ok-For-Serve-default in
     absurd (no_other c.words_ask_once.ensures.once words (Run (record { tenants = 16; bound = 1000 })) (Serve b.asked) (omega arith)
-    (no_words g.S.AsStr.text c.args.words.now few) (asked_for words b.field-0 b.field-0-0 (Serve b.asked) b.field-0-1 b.ensures.asked b.field-0-is b.field-0-0-is))
+    (c.words_ask_once.ensures.usual words (few_texts g.S.AsStr.text c.args.words.now few)) (asked_for words b.field-0 b.field-0-0 (Serve b.asked) b.field-0-1 b.ensures.asked b.field-0-is b.field-0-0-is))
 
 pub returns-in-Ok-For-Serve-default-clause-serves : goal.returns-in-Ok-For-Serve-default-clause-serves
 returns-in-Ok-For-Serve-default-clause-serves g c = λ s asks ok. let words = map g.S.AsStr.text c.args.words.now in let b = c.in-Ok-For-Serve-default in
@@ -42,10 +43,21 @@ returns-in-Ok-For-Serve-default-clause-serves g c = λ s asks ok. let words = ma
     (asked_for words b.field-0 b.field-0-0 (Serve b.asked) b.field-0-1 b.ensures.asked b.field-0-is b.field-0-0-is) asks
     (went_well g.E.Sink.refuses g.E.Write.contents c.args.errors.now.sink c.tell_end.new.errors c.serve-ended.result c.tell_end.result c.tell_end.ensures ok c.serve-ended.ensures.ok)
 
+pub returns-in-Ok-For-Serve-default-clause-asked : goal.returns-in-Ok-For-Serve-default-clause-asked
+returns-in-Ok-For-Serve-default-clause-asked g c = let words = map g.S.AsStr.text c.args.words.now in let b = c.in-Ok-For-Serve-default in
+    inr (inl (
+      b.asked,
+      asked_for words b.field-0 b.field-0-0 (Serve b.asked) b.field-0-1 b.ensures.asked b.field-0-is b.field-0-0-is,
+      c.serve-ended.result,
+      c.tell_end.ensures,
+      refl,
+      c.serve-ended.ensures.err,
+    ))
+
 pub returns-in-Ok-For-Replay-default-clause-usual : goal.returns-in-Ok-For-Replay-default-clause-usual
 returns-in-Ok-For-Replay-default-clause-usual g c = λ few ok. let words = map g.S.AsStr.text c.args.words.now in let b = c.in-Ok-For-Replay-default in
     absurd (no_other c.words_ask_once.ensures.once words (Run (record { tenants = 16; bound = 1000 })) (Replay b.asked) (omega arith)
-    (no_words g.S.AsStr.text c.args.words.now few) (asked_for words b.field-0 b.field-0-0 (Replay b.asked) b.field-0-1 b.ensures.asked b.field-0-is b.field-0-0-is))
+    (c.words_ask_once.ensures.usual words (few_texts g.S.AsStr.text c.args.words.now few)) (asked_for words b.field-0 b.field-0-0 (Replay b.asked) b.field-0-1 b.ensures.asked b.field-0-is b.field-0-0-is))
 
 pub returns-in-Ok-For-Replay-default-clause-replays : goal.returns-in-Ok-For-Replay-default-clause-replays
 returns-in-Ok-For-Replay-default-clause-replays g c = λ h asks ok. let words = map g.S.AsStr.text c.args.words.now in let b = c.in-Ok-For-Replay-default in
@@ -55,10 +67,20 @@ returns-in-Ok-For-Replay-default-clause-replays g c = λ h asks ok. let words = 
     (asked_for words b.field-0 b.field-0-0 (Replay b.asked) b.field-0-1 b.ensures.asked b.field-0-is b.field-0-0-is) asks
     (went_well g.E.Sink.refuses g.E.Write.contents c.args.errors.now.sink c.tell_end-in-Ok-For-Replay-default.new.errors c.replay-ended.result c.tell_end-in-Ok-For-Replay-default.result c.tell_end-in-Ok-For-Replay-default.ensures ok c.replay-ended.ensures.ok)
 
+pub returns-in-Ok-For-Replay-default-clause-asked : goal.returns-in-Ok-For-Replay-default-clause-asked
+returns-in-Ok-For-Replay-default-clause-asked g c = let words = map g.S.AsStr.text c.args.words.now in let b = c.in-Ok-For-Replay-default in
+    inr (inr (inl (
+      b.asked,
+      asked_for words b.field-0 b.field-0-0 (Replay b.asked) b.field-0-1 b.ensures.asked b.field-0-is b.field-0-0-is,
+      c.replay-ended.result,
+      c.tell_end-in-Ok-For-Replay-default.ensures,
+      c.replay-ended.ensures.err,
+    )))
+
 pub returns-in-Ok-For-Parse-default-clause-usual : goal.returns-in-Ok-For-Parse-default-clause-usual
 returns-in-Ok-For-Parse-default-clause-usual g c = λ few ok. let words = map g.S.AsStr.text c.args.words.now in let b = c.in-Ok-For-Parse-default in
     absurd (no_other c.words_ask_once.ensures.once words (Run (record { tenants = 16; bound = 1000 })) Parse (omega arith)
-    (no_words g.S.AsStr.text c.args.words.now few) (asked_for words b.field-0 b.field-0-0 Parse b.field-0-1 b.ensures.asked b.field-0-is b.field-0-0-is))
+    (c.words_ask_once.ensures.usual words (few_texts g.S.AsStr.text c.args.words.now few)) (asked_for words b.field-0 b.field-0-0 Parse b.field-0-1 b.ensures.asked b.field-0-is b.field-0-0-is))
 
 pub returns-in-Ok-For-Parse-default-clause-parses : goal.returns-in-Ok-For-Parse-default-clause-parses
 returns-in-Ok-For-Parse-default-clause-parses g c = λ asks zero.
@@ -78,7 +100,7 @@ returns-in-Ok-For-Parse-default-clause-asked g c = let words = map g.S.AsStr.tex
 pub returns-in-Ok-For-Dump-default-clause-usual : goal.returns-in-Ok-For-Dump-default-clause-usual
 returns-in-Ok-For-Dump-default-clause-usual g c = λ few ok. let words = map g.S.AsStr.text c.args.words.now in let b = c.in-Ok-For-Dump-default in
     absurd (no_other c.words_ask_once.ensures.once words (Run (record { tenants = 16; bound = 1000 })) (Dump b.asked) (omega arith)
-    (no_words g.S.AsStr.text c.args.words.now few) (asked_for words b.field-0 b.field-0-0 (Dump b.asked) b.field-0-1 b.ensures.asked b.field-0-is b.field-0-0-is))
+    (c.words_ask_once.ensures.usual words (few_texts g.S.AsStr.text c.args.words.now few)) (asked_for words b.field-0 b.field-0-0 (Dump b.asked) b.field-0-1 b.ensures.asked b.field-0-is b.field-0-0-is))
 
 pub returns-in-Ok-For-Dump-default-clause-dumps : goal.returns-in-Ok-For-Dump-default-clause-dumps
 returns-in-Ok-For-Dump-default-clause-dumps g c = λ d asks ok. let words = map g.S.AsStr.text c.args.words.now in let b = c.in-Ok-For-Dump-default in
@@ -101,28 +123,104 @@ returns-in-Ok-For-Dump-default-clause-asked g c = let words = map g.S.AsStr.text
 pub returns-in-Ok-For-Keep-default-clause-usual : goal.returns-in-Ok-For-Keep-default-clause-usual
 returns-in-Ok-For-Keep-default-clause-usual g c = λ few ok. let words = map g.S.AsStr.text c.args.words.now in let b = c.in-Ok-For-Keep-default in
     absurd (no_other c.words_ask_once.ensures.once words (Run (record { tenants = 16; bound = 1000 })) (Keep b.asked) (omega arith)
-    (no_words g.S.AsStr.text c.args.words.now few) (asked_for words b.field-0 b.field-0-0 (Keep b.asked) b.folders b.ensures.asked b.field-0-is b.field-0-0-is))
+    (c.words_ask_once.ensures.usual words (few_texts g.S.AsStr.text c.args.words.now few)) (asked_for words b.field-0 b.field-0-0 (Keep b.asked) b.paths b.ensures.asked b.field-0-is b.field-0-0-is))
 
 pub returns-in-Ok-For-Keep-default-clause-keeps : goal.returns-in-Ok-For-Keep-default-clause-keeps
 returns-in-Ok-For-Keep-default-clause-keeps g c = λ s asks ok. let words = map g.S.AsStr.text c.args.words.now in let b = c.in-Ok-For-Keep-default in
     same_kept c.words_ask_once.ensures.once words b.asked s
     (λ q. (text : List ℕ) × Appends (g.W.Write.contents c.args.writer.now) (g.W.Write.contents c.keep-ended.new.writer) text × TellsServer q.hosting.run.bound q.hosting.run.tenants text)
-    (asked_for words b.field-0 b.field-0-0 (Keep b.asked) b.folders b.ensures.asked b.field-0-is b.field-0-0-is) asks
+    (asked_for words b.field-0 b.field-0-0 (Keep b.asked) b.paths b.ensures.asked b.field-0-is b.field-0-0-is) asks
     (went_well g.E.Sink.refuses g.E.Write.contents c.args.errors.now.sink c.tell_end-in-Ok-For-Keep-default.new.errors c.keep-ended.result c.tell_end-in-Ok-For-Keep-default.result c.tell_end-in-Ok-For-Keep-default.ensures ok c.keep-ended.ensures)
 
 pub returns-in-Ok-For-Keep-default-clause-asked : goal.returns-in-Ok-For-Keep-default-clause-asked
 returns-in-Ok-For-Keep-default-clause-asked g c = let words = map g.S.AsStr.text c.args.words.now in let b = c.in-Ok-For-Keep-default in
-    inr (inr (inr (inr (inr (inr (inr (inr (inr (inr (
+    inr (inr (inr (inr (inr (inr (inr (inr (inr (inr (inl (
       b.asked,
-      asked_for words b.field-0 b.field-0-0 (Keep b.asked) b.folders b.ensures.asked b.field-0-is b.field-0-0-is,
+      asked_for words b.field-0 b.field-0-0 (Keep b.asked) b.paths b.ensures.asked b.field-0-is b.field-0-0-is,
       c.keep-ended.result,
       c.tell_end-in-Ok-For-Keep-default.ensures,
       refl,
-    ))))))))))
+    )))))))))))
+
+pub returns-in-Ok-For-Load-default-clause-usual : goal.returns-in-Ok-For-Load-default-clause-usual
+returns-in-Ok-For-Load-default-clause-usual g c = λ few ok. let words = map g.S.AsStr.text c.args.words.now in let b = c.in-Ok-For-Load-default in
+    absurd (no_other c.words_ask_once.ensures.once words (Run (record { tenants = 16; bound = 1000 })) (Load b.asked) (omega arith)
+    (c.words_ask_once.ensures.usual words (few_texts g.S.AsStr.text c.args.words.now few)) (asked_for words b.field-0 b.field-0-0 (Load b.asked) b.paths b.ensures.asked b.field-0-is b.field-0-0-is))
+
+pub returns-in-Ok-For-Load-default-clause-loads : goal.returns-in-Ok-For-Load-default-clause-loads
+returns-in-Ok-For-Load-default-clause-loads g c = λ r asks ok. let words = map g.S.AsStr.text c.args.words.now in let b = c.in-Ok-For-Load-default in
+    same_loaded c.words_ask_once.ensures.once words b.asked r
+    (λ q. IfSome (g.R.Read.remaining c.args.reader.now)
+    (λ input. (text : List ℕ) × Appends (g.W.Write.contents c.args.writer.now) (g.W.Write.contents c.run_loaded.new.writer) text × AnswersLoaded q.tenants q.bound input text))
+    (asked_for words b.field-0 b.field-0-0 (Load b.asked) b.paths b.ensures.asked b.field-0-is b.field-0-0-is) asks (c.run_loaded.ensures.loads ok)
+
+pub returns-in-Ok-For-Load-default-clause-asked : goal.returns-in-Ok-For-Load-default-clause-asked
+returns-in-Ok-For-Load-default-clause-asked g c = let words = map g.S.AsStr.text c.args.words.now in let b = c.in-Ok-For-Load-default in
+    inr (inr (inr (inr (inr (inr (inr (inr (inr (inr (inr (inl (
+      b.asked,
+      asked_for words b.field-0 b.field-0-0 (Load b.asked) b.paths b.ensures.asked b.field-0-is b.field-0-0-is,
+      c.run_loaded.ensures.goes,
+    ))))))))))))
+
+pub returns-in-Ok-For-DumpAll-default-clause-usual : goal.returns-in-Ok-For-DumpAll-default-clause-usual
+returns-in-Ok-For-DumpAll-default-clause-usual g c = λ few ok. let words = map g.S.AsStr.text c.args.words.now in let b = c.in-Ok-For-DumpAll-default in
+    absurd (no_other c.words_ask_once.ensures.once words (Run (record { tenants = 16; bound = 1000 })) (DumpAll b.asked) (omega arith)
+    (c.words_ask_once.ensures.usual words (few_texts g.S.AsStr.text c.args.words.now few)) (asked_for words b.field-0 b.field-0-0 (DumpAll b.asked) b.paths b.ensures.asked b.field-0-is b.field-0-0-is))
+
+pub returns-in-Ok-For-DumpAll-default-clause-dumps_all : goal.returns-in-Ok-For-DumpAll-default-clause-dumps_all
+returns-in-Ok-For-DumpAll-default-clause-dumps_all g c = λ r asks ok. let words = map g.S.AsStr.text c.args.words.now in let b = c.in-Ok-For-DumpAll-default in
+    same_dumped c.words_ask_once.ensures.once words b.asked r
+    (λ q. (c.args.writer.now ≡ c.args.writer.now) × IfSome (g.R.Read.remaining c.args.reader.now) (HaveScripts q.tenants q.bound))
+    (asked_for words b.field-0 b.field-0-0 (DumpAll b.asked) b.paths b.ensures.asked b.field-0-is b.field-0-0-is) asks
+    (refl, went_well g.E.Sink.refuses g.E.Write.contents c.args.errors.now.sink c.tell_end-in-Ok-For-DumpAll-default.new.errors c.dump_all-ended.result c.tell_end-in-Ok-For-DumpAll-default.result c.tell_end-in-Ok-For-DumpAll-default.ensures ok c.dump_all-ended.ensures.ok)
+
+pub returns-in-Ok-For-DumpAll-default-clause-asked : goal.returns-in-Ok-For-DumpAll-default-clause-asked
+returns-in-Ok-For-DumpAll-default-clause-asked g c = let words = map g.S.AsStr.text c.args.words.now in let b = c.in-Ok-For-DumpAll-default in
+    inr (inr (inr (inr (inr (inr (inr (inr (inr (inr (inr (inr (inl (
+      b.asked,
+      asked_for words b.field-0 b.field-0-0 (DumpAll b.asked) b.paths b.ensures.asked b.field-0-is b.field-0-0-is,
+      c.dump_all-ended.result,
+      c.tell_end-in-Ok-For-DumpAll-default.ensures,
+      refl,
+      c.dump_all-ended.ensures.err,
+    )))))))))))))
+
+pub returns-in-Ok-For-Compact-default-clause-usual : goal.returns-in-Ok-For-Compact-default-clause-usual
+returns-in-Ok-For-Compact-default-clause-usual g c = λ few ok. let words = map g.S.AsStr.text c.args.words.now in let b = c.in-Ok-For-Compact-default in
+    absurd (no_other c.words_ask_once.ensures.once words (Run (record { tenants = 16; bound = 1000 })) (Compact b.asked) (omega arith)
+    (c.words_ask_once.ensures.usual words (few_texts g.S.AsStr.text c.args.words.now few)) (asked_for words b.field-0 b.field-0-0 (Compact b.asked) b.paths b.ensures.asked b.field-0-is b.field-0-0-is))
+
+pub returns-in-Ok-For-Compact-default-clause-asked : goal.returns-in-Ok-For-Compact-default-clause-asked
+returns-in-Ok-For-Compact-default-clause-asked g c = let words = map g.S.AsStr.text c.args.words.now in let b = c.in-Ok-For-Compact-default in
+    inr (inr (inr (inr (inr (inr (inr (inr (inr (inr (inr (inr (inr (inl (
+      b.asked,
+      asked_for words b.field-0 b.field-0-0 (Compact b.asked) b.paths b.ensures.asked b.field-0-is b.field-0-0-is,
+      c.compact-ended.result,
+      c.tell_end-in-Ok-For-Compact-default.ensures,
+      refl,
+      refl,
+    ))))))))))))))
+
+pub returns-in-Ok-For-Key-default-clause-usual : goal.returns-in-Ok-For-Key-default-clause-usual
+returns-in-Ok-For-Key-default-clause-usual g c = λ few ok. let words = map g.S.AsStr.text c.args.words.now in let b = c.in-Ok-For-Key-default in
+    absurd (no_other c.words_ask_once.ensures.once words (Run (record { tenants = 16; bound = 1000 })) Key (omega arith)
+    (c.words_ask_once.ensures.usual words (few_texts g.S.AsStr.text c.args.words.now few)) (asked_for words b.field-0 b.field-0-0 Key b.field-0-1 b.ensures.asked b.field-0-is b.field-0-0-is))
+
+pub returns-in-Ok-For-Key-default-clause-digests : goal.returns-in-Ok-For-Key-default-clause-digests
+returns-in-Ok-For-Key-default-clause-digests g c = λ asks ok.
+    went_well g.E.Sink.refuses g.E.Write.contents c.args.errors.now.sink c.tell_end-in-Ok-For-Key-default.new.errors c.tell_digest-ended.result c.tell_end-in-Ok-For-Key-default.result c.tell_end-in-Ok-For-Key-default.ensures ok c.tell_digest-ended.ensures
+
+pub returns-in-Ok-For-Key-default-clause-asked : goal.returns-in-Ok-For-Key-default-clause-asked
+returns-in-Ok-For-Key-default-clause-asked g c = let words = map g.S.AsStr.text c.args.words.now in let b = c.in-Ok-For-Key-default in
+    inr (inr (inr (inr (inr (inr (inr (inr (inr (inr (inr (inr (inr (inr (
+      asked_for words b.field-0 b.field-0-0 Key b.field-0-1 b.ensures.asked b.field-0-is b.field-0-0-is,
+      c.tell_digest-ended.result,
+      c.tell_end-in-Ok-For-Key-default.ensures,
+    ))))))))))))))
 
 pub returns-in-Ok-Help-clause-usual : goal.returns-in-Ok-Help-clause-usual
 returns-in-Ok-Help-clause-usual g c = λ few ok. let words = map g.S.AsStr.text c.args.words.now in
-    absurd (c.words_ask_once.ensures.one_thing words (Run (record { tenants = 16; bound = 1000 })) (no_words g.S.AsStr.text c.args.words.now few) DisplayHelp
+    absurd (c.words_ask_once.ensures.one_thing words (Run (record { tenants = 16; bound = 1000 })) (c.words_ask_once.ensures.usual words (few_texts g.S.AsStr.text c.args.words.now few)) DisplayHelp
     (subst (IsAsked words) c.in-Ok-Help.field-0-is c.in-Ok-Help.ensures.asked))
 
 pub returns-in-Ok-Help-clause-asked : goal.returns-in-Ok-Help-clause-asked
@@ -135,7 +233,7 @@ returns-in-Ok-Help-clause-asked g c =
 
 pub returns-in-Ok-Version-clause-usual : goal.returns-in-Ok-Version-clause-usual
 returns-in-Ok-Version-clause-usual g c = λ few ok. let words = map g.S.AsStr.text c.args.words.now in
-    absurd (c.words_ask_once.ensures.one_thing words (Run (record { tenants = 16; bound = 1000 })) (no_words g.S.AsStr.text c.args.words.now few) DisplayVersion
+    absurd (c.words_ask_once.ensures.one_thing words (Run (record { tenants = 16; bound = 1000 })) (c.words_ask_once.ensures.usual words (few_texts g.S.AsStr.text c.args.words.now few)) DisplayVersion
     (subst (IsAsked words) c.in-Ok-Version.field-0-is c.in-Ok-Version.ensures.asked))
 
 pub returns-in-Ok-Version-clause-asked : goal.returns-in-Ok-Version-clause-asked

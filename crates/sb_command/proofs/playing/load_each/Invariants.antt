@@ -1,0 +1,6 @@
+use Rattle.sb_command.proofs.Loaded.{LoadedTo}
+use Rattle.sb_command.proofs.playing.load_each.Given as goal
+
+-- the tenants so far are made
+abbrev pub invariant-loop-tenant : goal.invariant-loop-tenant
+invariant-loop-tenant g l = LoadedTo l.fn.run.bound l.tenant l.fn.cell l.cell

@@ -1,0 +1,17 @@
+use Rattle.std.proofs.Common.{◌∷◌, ◌++◌, [], codes}
+use Rattle.sb_command.proofs.Loaded.{sends_both, where_ok}
+use Rattle.sb_command.proofs.playing.play.Goals as goal
+
+-- the session is opened, the lines are sent, and it is ended
+pub returns : goal.returns
+returns g c =
+    let t = c.args.tenant in
+    let lines = c.in-Ok-play_lines.ensures.0 in
+    let ended = c.send_own-2.new.cell in
+    where_ok c.send_own-2.result
+    (λ end. (
+      lines,
+      sends_both c.args.cell.now c.send_own.new.cell ended t (codes "open" ∷ []) (lines ++ codes "end" ∷ []) c.in-Ok.ensures
+          (sends_both c.send_own.new.cell c.play_lines.new.cell ended t lines (codes "end" ∷ []) c.in-Ok-play_lines.ensures.1 end),
+    ))
+    c.send_own-2.ensures
