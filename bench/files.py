@@ -1,5 +1,5 @@
 #!/usr/bin/env python3
-"""Tries a server that writes its tenants to files, and one that reads them.
+"""Tries what writes tenants to files, and what reads them: a server, a dump of all, and a run.
 
     files.py [PROGRAM] [--tenants N] [--seed N]
 
@@ -8,7 +8,8 @@ generated lines over connections to a server that writes them to a folder when i
 that `dump` writes of the same lines. A server that reads the folder answers a tail of generated lines as `run` does behind
 the first ones, and writes the same files. Then what goes wrong: a line that isn't a script's, a file that can't be read,
 folders that aren't there, a file that may have so many bytes and no more, and a server that is killed while it writes:
-there is never a part of a file under its name. The first thing that isn't as it is to be ends this with status 1.
+there is never a part of a file under its name. The same of `dump --into` and `run --load`: each tenant that the input
+opened is written, but one with a transaction, and a run on the files answers as one that goes on. The first thing that isn't as it is to be ends this with status 1.
 """
 
 import argparse
@@ -116,26 +117,47 @@ def are_kept(program, tenants, seed, room):
 def loads_fail(program, room):
     folder = os.path.join(room, "bad")
     os.mkdir(folder)
-    path = os.path.join(folder, f"{FIRST + 5}.lines")
-    bad = [("create table t (a int)\nnonsense\n", "line 2 is answered no 10 Syntax"), ("x" * 5000 + "\n", "line 1 is answered nothing")]
-    bad += [("begin\ninsert into t values (1)\n", "line 2 is answered no 20 NoTable"), ("\n", "line 1 is answered no 10 Syntax")]
-    for text, why in bad:
-        with open(path, "w", encoding="ascii") as file:
-            file.write(text)
-        status, last, log = fault_of(Server(program, ["--load", folder]).stop())
-        if (status, last) != (1, f"fault: cannot load {FIRST + 5}") or not re.search(r"line \d+ is answered ", log):
-            fail(f"{text[:40]!r}: {status}, {last}, {log}")
-        if why.split()[-1] != "NoTable" and why not in log:
-            fail(f"{text[:40]!r} is logged as {log}")
-    os.remove(path)
-    os.mkdir(path)
-    status, last, _ = fault_of(Server(program, ["--load", folder]).stop())
-    if (status, last) != (1, f"fault: cannot load {FIRST + 5}"):
-        fail(f"a folder for a file: {status}, {last}")
+    for kind, number in [("serve", FIRST), ("run", 0)]:
+        a_load_fails(program, kind, folder, number + 5)
     for words in (["--load", folder + "/none"], ["--dump-to", folder + "/none"], ["--load", __file__], ["--dump-to", __file__]):
         ended = Server(program, words).stop()
         if fault_of(ended)[:2] != (1, "fault: no folder") or ended[1]:
             fail(f"{words}: {ended}")
+    for words in (f"run --load {folder}/none", f"run --load {__file__}", f"dump --into {folder}/none", f"dump --into {__file__}"):
+        ended = run(program, words, ["0 0 open"])
+        if fault_of(ended)[:2] != (1, "fault: no folder") or ended[1]:
+            fail(f"{words}: {ended}")
+
+
+def a_load_fails(program, kind, folder, number):
+    """A server or a run on a folder whose one file is bad."""
+
+    def ended():
+        return Server(program, ["--load", folder]).stop() if kind == "serve" else run(program, f"run --load {folder}", ["0 0 open"])
+
+    path = os.path.join(folder, f"{number}.lines")
+    bad = [("create table t (a int)\nnonsense\n", "line 2 is answered no 10 Syntax"), ("x" * 5000 + "\n", "line 1 is answered nothing")]
+    bad += [("begin\ninsert into t values (1)\n", "line 2 is answered no "), ("\n", "line 1 is answered no 10 Syntax")]
+    bad += [("create table t (a int)\nbegin\n", "it stops inside a transaction"), ("create table t (a int)\nend\n", "it ends its session")]
+    for text, why in bad:
+        with open(path, "w", encoding="ascii") as file:
+            file.write(text)
+        out = ended()
+        status, last, log = fault_of(out)
+        if (status, last, out[1]) != (1, f"fault: cannot load {number}", "") or why not in log:
+            fail(f"{kind} on {text[:40]!r}: {status}, {last}, {log}")
+    os.remove(path)
+    os.mkdir(path)
+    status, last, _ = fault_of(ended())
+    if (status, last) != (1, f"fault: cannot load {number}"):
+        fail(f"{kind} on a folder for a file: {status}, {last}")
+    os.rmdir(path)
+    # a last line without an end is a line
+    with open(path, "w", encoding="ascii") as file:
+        file.write("create table t (a int)")
+    if ended()[0] != 0:
+        fail(f"{kind} on a line without an end")
+    os.remove(path)
 
 
 def writes_fail(program, room):
@@ -153,6 +175,67 @@ def writes_fail(program, room):
         fail(f"a full disk: {ended}")
     if files_in(folder) != {names[0]: "create table t (a int)\n", names[1]: "create table before (a int)\n"}:
         fail(f"files on a full disk: {files_in(folder)}")
+
+
+def dumps_are_run(program, tenants, seed, room):
+    """All tenants of an input are written, and a run on the files answers a tail as one that goes on."""
+    folder = os.path.join(room, "into")
+    os.mkdir(folder)
+    makers = [Maker(seed * 1000 + 500 + tenant) for tenant in range(tenants)]
+    # tenant 1 isn't opened
+    opened = [tenant for tenant in range(tenants) if tenant != 1]
+    before = [line for tenant in opened for line in of_tenant(tenant, makers[tenant].lines(20))]
+    words = f"dump --into {folder}"
+    ended = run(program, words, before)
+    wanted = {f"{tenant}.lines": run(program, f"dump --tenant {tenant}", before)[1] for tenant in opened}
+    if ended != (0, "", "") or files_in(folder) != wanted:
+        fail(f"a dump of all: {ended}")
+    tail = [line for tenant in range(tenants) for line in of_tenant(tenant, makers[tenant].tail())]
+    told, whole = run(program, f"run --load {folder}", tail), run(program, "run", before + tail)
+    if told[0] != 0 or not whole[1].endswith(told[1]) or len(told[1].splitlines()) < len(tail):
+        fail(f"a run on files: {told}")
+    # a transaction at the end
+    busy = before + of_tenant(2, ["open", "begin"], 3)
+    os.remove(os.path.join(folder, "0.lines"))
+    ended = run(program, words, busy)
+    if fault_of(ended)[:2] != (1, "fault: busy tenant 2") or "tenant 2 isn't written" not in ended[2] or ended[1] != "":
+        fail(f"a dump of a busy tenant: {ended}")
+    if files_in(folder) != wanted:
+        fail("a busy tenant leaves its file, and the others are written")
+    return sum(len(text) for text in wanted.values())
+
+
+def limited_dump(program, folder, lines, limit):
+    """A dump of all where no file may have more bytes."""
+
+    def limited():
+        signal.signal(signal.SIGXFSZ, signal.SIG_IGN)
+        resource.setrlimit(resource.RLIMIT_FSIZE, (limit, limit))
+
+    text = "".join(line + "\n" for line in lines).encode()
+    words = [program, "dump", "--into", folder]
+    ended = subprocess.run(words, input=text, stdout=subprocess.PIPE, stderr=subprocess.PIPE, preexec_fn=limited, timeout=300)
+    return ended.returncode, ended.stdout.decode(), ended.stderr.decode()
+
+
+def dumps_fail(program, room):
+    """A file may have so many bytes, for each number of them: it is there as a whole, or as it was before."""
+    folder = os.path.join(room, "limited")
+    os.mkdir(folder)
+    lines = of_tenant(0, ["open", "create table t (a int)", "end"]) + of_tenant(1, ["open", "create table long (a int, b text)", "end"])
+    whole = {"0.lines": "create table t (a int)\n", "1.lines": "create table long (a int, b text)\n"}
+    before = {name: "create table before (a int)\n" for name in whole}
+    for limit in range(0, 40, 3):
+        for name, text in before.items():
+            with open(os.path.join(folder, name), "w", encoding="ascii") as file:
+                file.write(text)
+        ended = limited_dump(program, folder, lines, limit)
+        wanted = {name: text if len(text) <= limit else before[name] for name, text in whole.items()}
+        lacking = [name for name, text in whole.items() if len(text) > limit]
+        if files_in(folder) != wanted or ended[0] != (1 if lacking else 0):
+            fail(f"files of at most {limit} bytes: {ended}, {files_in(folder)}")
+        if lacking and fault_of(ended)[1] != f"fault: cannot write {lacking[0].split('.')[0]}":
+            fail(f"files of at most {limit} bytes: {ended}")
 
 
 def kills_leave_whole_files(program, room, count):
@@ -192,6 +275,8 @@ def main():
         count = are_kept(program, min(asked.tenants, 16), asked.seed, room)
         loads_fail(program, room)
         writes_fail(program, room)
+        count += dumps_are_run(program, min(asked.tenants, 16), asked.seed, room)
+        dumps_fail(program, room)
         whole = kills_leave_whole_files(program, room, 20)
     print(f"files of tenants: {count} bytes are written and read, {whole} files stand whole behind kills")
 

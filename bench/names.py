@@ -21,6 +21,8 @@ WORDS = {"requires", "ensures", "Promise", "Machine", "None", "Some", "Copy", "S
 
 BLOCK = re.compile(r"^ *(?:pub(?:\(crate\))? )?(impl|trait|struct|enum)\b(.*)")
 OWNER = re.compile(r"(?:<[^{]*?> )?(?:.* for )?(\w+)")
+# behind the parameters of a block that stand on lines of their own
+LONG_OWNER = re.compile(r"^> (?:.* for )?(\w+)")
 FUNCTION = re.compile(r"^ *(?:pub(?:\(crate\))? )?(?:const )?(?:unsafe )?fn (\w+)")
 LABEL = re.compile(r"^ *(?:ensures|requires) (\w+) \{")
 DECLARED = re.compile(r"^ *(?:pub(?:\(crate\))? )?(?:unsafe )?(?:struct|enum|trait|type|const|mod|static) (\w+)")
@@ -52,7 +54,9 @@ class Code:
     def read_source(self, crate, module, text):
         owner = function = None
         for line in text.splitlines():
-            if found := BLOCK.match(line):
+            if found := LONG_OWNER.match(line):
+                owner = found[1]
+            elif line != "impl<" and (found := BLOCK.match(line)):
                 owner = OWNER.match(found[2].strip())[1] if found[2].strip() else None
             elif line == "}":
                 owner = None

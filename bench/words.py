@@ -20,11 +20,12 @@ HERE = os.path.dirname(os.path.abspath(__file__))
 
 # What stands behind each reason why words are refused.
 ALLOWED = (
-    b"; allowed are: run, serve, replay, parse, dump; of all but parse --tenants 1 to 256, --bound 1 to 1000; of dump "
-    b"--tenant 0 to 255; of serve and replay --cells 1 to 16, --workers 1 to 16; of serve --port 0 to 65535, "
-    b"--connections 0 to 1000000, --idle 0 to "
-    b"86400, --idle-transaction 0 to 86400, --first-tenant 0 to 999999000, --tenant-memory 0 to 1048576, --log error, "
-    b"warning or info, --until-input-ends, --load a folder, --dump-to a folder; --help, --version\n"
+    b"; allowed are: run, serve, replay, parse, dump, compact OLD NEW, key; of all but parse and key --tenants 1 "
+    b"to 256, --bound 1 to 1000; of run and serve --load a folder; of dump --tenant 0 to 255, or --into a folder; "
+    b"of serve and replay --cells 1 to 16, --workers 1 to 16; of serve --port 0 to 65535, --connections 0 to "
+    b"1000000, --idle 0 to 86400, --idle-transaction 0 to 86400, --first-tenant 0 to 999999000, --tenant-memory 0 "
+    b"to 1048576, --log error, warning or info, --until-input-ends, --dump-to a folder, --journal a file but not "
+    b"with --load, --sync always or never with --journal, --keys a file; --help, --version\n"
 )
 
 # A number past its range, and the words in front of it.
@@ -73,8 +74,6 @@ ELSEWHERE = [
     ("--tenant 0", "serve"),
     ("--tenant 0", "replay"),
     ("--tenant 0", "parse"),
-    ("--load x", "run"),
-    ("--load x", ""),
     ("--load x", "replay"),
     ("--load x", "parse"),
     ("--load x", "dump"),
@@ -82,6 +81,23 @@ ELSEWHERE = [
     ("--dump-to x", "replay"),
     ("--dump-to x", "parse"),
     ("--dump-to x", "dump"),
+    ("--into x", "run"),
+    ("--into x", ""),
+    ("--into x", "serve"),
+    ("--into x", "replay"),
+    ("--into x", "parse"),
+    ("--into x", "dump --tenant 0"),
+    ("--journal x", "run"),
+    ("--journal x", "dump"),
+    ("--journal x", "serve --load y"),
+    ("--sync always", "replay"),
+    ("--sync always", "serve"),
+    ("--sync often", "serve --journal x"),
+    ("--keys x", "run"),
+    ("--keys x", "key"),
+    ("--tenants 2", "key"),
+    ("--cells 2", "compact x y"),
+    ("--load x", "compact x y"),
     ("--tenant 0", "serve --load x"),
     ("--cells 2", "dump"),
     ("--port 1", "dump"),
@@ -90,7 +106,7 @@ ELSEWHERE = [
 
 # Words that clap refuses, with its reason.
 UNREAD = [
-    ("run x", "unexpected argument 'x' found"),
+    ("run x y z", "unexpected argument 'z' found"),
     ("serve --port -1", "unexpected argument '-1' found"),
     ("--nix", "unexpected argument '--nix' found"),
     ("--bound", "a value is required for '--bound <bound>' but none was supplied"),
@@ -187,6 +203,10 @@ def are_refused(program):
     # the first part in the order of the options is told, whatever stands first in the line
     words = "replay --workers x --cells 0"
     program.expect(words, program.run(words), Ended(2, b"", b"error: --cells 0 isn't allowed" + ALLOWED))
+    for words in ("serve x", "key x y", "x", "compact", "compact x"):
+        told = words.split()[0] if words in ("x", "compact", "compact x") else "x"
+        wanted = f"error: the word {told} isn't allowed".encode() + ALLOWED
+        program.expect(words, program.run(words), Ended(2, b"", wanted))
     program.expect("serves", program.run("serves"), Ended(2, b"", b"error: the word serves isn't allowed" + ALLOWED))
     for words, why in UNREAD:
         program.expect(words, program.run(words), Ended(2, b"", f"error: {why}".encode() + ALLOWED))

@@ -1,0 +1,271 @@
+#!/usr/bin/env python3
+"""Visits a server whose tenants have keys.
+
+    keys.py [PROGRAM] [--guesses N]
+
+PROGRAM is crates/starhost/out/starhost where no word is given. Told in one line each: who is let in and who isn't, and that
+it makes no step; N guesses (10,000), one connection after another, while a client of another cell goes on; a file of
+100,000 keys; files that no server begins with; and `starhost key`. No log may have a key in it. The first thing that isn't
+as it is to be ends this with status 1.
+"""
+
+import argparse
+import hashlib
+import os
+import re
+import socket
+import subprocess
+import sys
+import tempfile
+import threading
+import time
+
+HERE = os.path.dirname(os.path.abspath(__file__))
+BAD_KEY = "no 15 BadKey\n"
+LIMIT = 64
+# how long something may take on a busy machine, in seconds
+PATIENCE = 60
+
+
+def digest(key):
+    return hashlib.sha256(key.encode()).hexdigest()
+
+
+def line_of(tenant, key):
+    return f"{tenant} {digest(key)}\n"
+
+
+def key_of(name):
+    """A key of its own for each name, which no log has by chance."""
+    return f"key-of-{name}-{hashlib.sha256(name.encode()).hexdigest()[:16]}"
+
+
+def expect(what, seen, wanted):
+    if seen != wanted:
+        sys.exit(f"{what}: {seen!r} in place of {wanted!r}")
+
+
+def write(path, text):
+    """Gives the file this text at once, and another time of change."""
+    beside = f"{path}.new"
+    with open(beside, "w") as file:
+        file.write(text)
+    before = os.stat(path).st_mtime_ns if os.path.exists(path) else 0
+    if os.stat(beside).st_mtime_ns == before:
+        os.utime(beside, ns=(before + 1_000_000, before + 1_000_000))
+    os.rename(beside, path)
+
+
+class Server:
+    """A server with a file of keys, which stops where its input ends."""
+
+    def __init__(self, program, path, *words, log="info"):
+        self.log = tempfile.TemporaryFile("w+")
+        words = [program, "serve", "--until-input-ends", "--tenants", "16", "--log", log, *words]
+        if path:
+            words += ["--keys", path]
+        self.process = subprocess.Popen(words, stdin=subprocess.PIPE, stdout=subprocess.PIPE, stderr=self.log, text=True)
+        told = re.fullmatch(r"listening (\d+)\n", self.process.stdout.readline())
+        self.port = int(told.group(1)) if told else None
+
+    def connect(self):
+        return socket.create_connection(("127.0.0.1", self.port), timeout=PATIENCE)
+
+    def ask(self, first, lines=""):
+        """What a client reads that sends this first line, these lines, and no more."""
+        with self.connect() as stream:
+            try:
+                stream.sendall(f"{first}\n{lines}".encode())
+                stream.shutdown(socket.SHUT_WR)
+            except ConnectionError:  # it was turned away before all was sent
+                pass
+            text = b""
+            try:
+                while part := stream.recv(65536):
+                    text += part
+            except ConnectionResetError:
+                pass
+            return text.decode()
+
+    def told(self):
+        """The log so far."""
+        self.log.seek(0)
+        return self.log.read()
+
+    def end(self, keys=()):
+        """Its last line, and its log, in which none of these keys may stand."""
+        out = self.process.communicate(timeout=PATIENCE)[0]
+        log = self.told()
+        if self.process.returncode != 0:
+            sys.exit(f"status {self.process.returncode}: {out!r} {log[-500:]}")
+        for key in keys:
+            expect(f"the log has {key}", key in log, False)
+        return out, log
+
+
+def until(what, holds):
+    """Waits until this holds."""
+    end = time.time() + PATIENCE
+    while not holds():
+        if time.time() > end:
+            sys.exit(f"{what}: not in {PATIENCE} s")
+        time.sleep(0.05)
+
+
+def who_is_let_in(program, folder):
+    path = os.path.join(folder, "keys")
+    one, other, more, late = (key_of(name) for name in ("one", "other", "more", "late"))
+    longest = "x" * 128
+    write(path, f"# those of two tenants\n\n{line_of(3, one)}  {line_of(3, more)}5 {digest(other).upper()} # the fifth\r\n"
+                f"4 {digest(longest)}\n4 {digest('')}\n40 {digest(late)}\n")
+    server = Server(program, path)
+    begins = "begin\nend\n"
+    expect("the right key", server.ask(f"3 0 {one}", begins), "ok\nok\nok\n")
+    expect("another of its keys", server.ask(f"3 1 {more}", begins), "ok\nok\nok\n")
+    expect("the key of another tenant of its own", server.ask(f"5 0 {other}", begins), "ok\nok\nok\n")
+    expect("the longest key", server.ask(f"4 0 {longest}", begins), "ok\nok\nok\n")
+    refused = {
+        "a wrong key": f"3 0 {one}x", "a part of the key": f"3 0 {one[:-1]}", "no key": "3 0", "an empty key": "4 0 ",
+        "the digest for the key": f"3 0 {digest(one)}", "the key of another tenant": f"3 0 {other}", "two spaces": f"3 0  {one}",
+        "a word behind the key": f"3 0 {one} x", "a key that is too long": f"3 0 {one}{'x' * 200}", "no names": "x",
+        "a tenant without a line": f"0 0 {one}", "a tenant past the host's number": f"16 0 {one}", "a far one": f"999999999 0 {one}",
+        "a session that no tenant has, with a wrong key": f"3 8 {other}", "an empty line": "",
+    }
+    for what, first in refused.items():
+        expect(what, server.ask(first, begins), BAD_KEY)
+    expect("a line that is too long", server.ask(f"3 0 {'x' * 5000}"), "no 11 TooLong\n")
+    # who has a key learns what is wrong with the rest
+    expect("a session that no tenant has", server.ask(f"3 8 {one}"), "no 14 NoSession\n")
+    expect("a tenant that the host doesn't have, with its key", server.ask(f"40 0 {late}"), "no 13 NoTenant\n")
+    with server.connect() as stream:
+        stream.sendall(f"3 2 {one}\n".encode())
+        until("a session", lambda: stream.recv(3) == b"ok\n")
+        expect("a session that is open", server.ask(f"3 2 {one}"), "no 45 AlreadyOpen\n")
+        expect("the same, with a wrong key", server.ask(f"3 2 {other}"), BAD_KEY)
+    told, log = server.end([one, other, more, late, longest])
+    # four sessions of three steps, and one of two
+    expect("the steps", told, "trails 16 steps 14\n")
+    expect("who was turned away", len(re.findall(r"port \d+: turned away: tenant 3, session 0: BadKey", log)) >= 4, True)
+    return f"{len(refused)} refused"
+
+
+def without_keys(program, folder):
+    server = Server(program, None)
+    expect("no key is asked for", server.ask("3 0", "end\n"), "ok\nok\n")
+    expect("a key that isn't asked for", server.ask(f"3 0 {key_of('one')}"), "no 12 BadLine\n")
+    expect("the steps", server.end()[0], "trails 16 steps 2\n")
+    return "as before"
+
+
+class Client(threading.Thread):
+    """It sends a line, and then waits for its answer, until it is told to stop."""
+
+    def __init__(self, server, tenant, key):
+        super().__init__()
+        self.stream, self.goes, self.answered = server.connect(), True, 0
+        self.stream.setsockopt(socket.IPPROTO_TCP, socket.TCP_NODELAY, 1)
+        self.file = self.stream.makefile("rb")
+        self.say(f"{tenant} 0 {key}")
+
+    def say(self, line):
+        self.stream.sendall(line.encode() + b"\n")
+        expect("a client of another tenant", self.file.readline(), b"ok\n")
+
+    def run(self):
+        while self.goes:
+            self.say("begin")
+            self.say("rollback")
+            self.answered += 2
+
+    def rate(self, seconds, work):
+        """Its answers a second while this is done."""
+        before, begun = self.answered, time.time()
+        work()
+        return (self.answered - before) / max(time.time() - begun, seconds)
+
+
+def guesses(program, folder, count):
+    path = os.path.join(folder, "guessed")
+    own, wanted = key_of("own"), key_of("wanted")
+    write(path, line_of(0, own) + line_of(1, wanted))
+    server = Server(program, path, "--cells", "2", "--workers", "2", log="error")
+    client = Client(server, 0, own)
+    client.start()
+    alone = client.rate(1.0, lambda: time.sleep(1.0))
+
+    def guess():
+        for i in range(count):
+            expect("a guess", server.ask(f"1 0 guess-{i}"), BAD_KEY)
+
+    beside = client.rate(0.001, guess)
+    client.goes = False
+    client.join()
+    expect("it goes on beside", beside > 0, True)
+    expect("the key after all guesses", server.ask(f"1 0 {wanted}", "end\n"), "ok\nok\n")
+    client.stream.close()
+    server.end([own, wanted])
+    return f"{count:,} guesses; a client beside has {beside:,.0f} answers/s, alone {alone:,.0f}"
+
+
+def many_keys(program, folder):
+    path = os.path.join(folder, "many")
+    tenants, own = 100_000 // LIMIT, key_of("own-of-many")
+    with open(path, "w") as file:
+        for tenant in range(tenants):
+            file.writelines(line_of(tenant, f"{tenant}.{i}") for i in range(LIMIT if tenant else LIMIT - 1))
+        file.write(line_of(0, own))
+    begun = time.time()
+    server = Server(program, path)
+    started = time.time() - begun
+    expect("the last of its keys", server.ask(f"0 0 {own}", "end\n"), "ok\nok\n")
+    expect("the first of another tenant", server.ask("15 0 15.0", "end\n"), "ok\nok\n")
+    expect("a key of another tenant", server.ask("15 0 14.0"), BAD_KEY)
+    server.end([own])
+    return f"{tenants * LIMIT:,} keys, begun after {started:.1f} s"
+
+
+def bad_files(program, folder):
+    path, good = os.path.join(folder, "bad"), line_of(0, key_of("good"))
+    texts = {
+        f"{good}\n3 00\n": 3, "x\n": 1, f"# 1\n{good}0\n": 3, f"0\t{digest('tab')}\n": 1, f"0  {digest('two spaces')}\n": 1,
+        f"-1 {digest('minus')}\n": 1, f"1234567890 {digest('ten digits')}\n": 1, f"{good}0 {digest('cut')[:-1]}\n": 2,
+        f"0 {digest('long')}0\n": 1, "".join(line_of(7, str(i)) for i in range(LIMIT + 1)): LIMIT + 1,
+    }
+    words = [program, "serve", "--connections", "1", "--keys", path]
+    for text, number in texts.items():
+        write(path, text)
+        ended = subprocess.run(words, capture_output=True, text=True, timeout=PATIENCE)
+        expect(f"status of {text[:60]!r}", ended.returncode, 1)
+        expect(f"fault of {text[:60]!r}", f"fault: bad keys {number}\n" in ended.stderr, True)
+    os.remove(path)
+    ended = subprocess.run(words, capture_output=True, text=True, timeout=PATIENCE)
+    expect("no file", (ended.returncode, "fault: no keys\n" in ended.stderr), (1, True))
+    return f"{len(texts) + 1} refused"
+
+
+def digests(program, folder):
+    for key in ("abc", "x", "!~", "x" * 128):
+        for text in (key, f"{key}\n", f"{key}\nsecond line\n"):
+            told = subprocess.run([program, "key"], input=text, capture_output=True, text=True, timeout=PATIENCE)
+            expect(f"the digest of {text!r}", (told.returncode, told.stdout), (0, f"{digest(key)}\n"))
+    for text in ("", "\n", "two words\n", "x" * 129, "tab\t\n", "é\n", "carriage\r\n", "x" * 5000):
+        told = subprocess.run([program, "key"], input=text, capture_output=True, text=True, timeout=PATIENCE)
+        expect(f"no key: {text[:60]!r}", (told.returncode, told.stdout, told.stderr), (1, "", "fault: bad key\n"))
+    return "as sha256 has them"
+
+
+def main():
+    words = argparse.ArgumentParser()
+    words.add_argument("program", nargs="?", default=os.path.join(HERE, "../crates/starhost/out/starhost"))
+    words.add_argument("--guesses", type=int, default=10_000)
+    asked = words.parse_args()
+    program = os.path.abspath(asked.program)
+    visits = [who_is_let_in, without_keys, lambda *given: guesses(*given, asked.guesses), many_keys, bad_files, digests]
+    names = ["who is let in", "without keys", "guesses", "many keys", "bad files", "digests"]
+    with tempfile.TemporaryDirectory() as folder:
+        for name, visit in zip(names, visits):
+            print(f"{name}: {visit(program, folder)}", flush=True)
+
+
+if __name__ == "__main__":
+    main()
