@@ -1,5 +1,5 @@
 -- Blocks, and what stands behind them.
-use Rattle.std.proofs.Common.{◌≡◌, ◌≢◌, ℕ, List, [], ◌∷◌, ◌++◌, refl, sym, ◌∙◌, ap, inl, inr, append_assoc}
+use Rattle.std.proofs.Common.{arith, ◌≡◌, ◌≢◌, ℕ, List, [], ◌∷◌, ◌++◌, sym, ◌∙◌, ap, inl, inr, append_assoc}
 use Rattle.std.specs.List.{AllByRecursion}
 use Rattle.std.proofs.lemmas.Bool.{cases_eq}
 use Rattle.std.proofs.lemmas.List.{append-nil}
@@ -28,7 +28,7 @@ stands_gate contents content gate file each one is = elim (cases_eq gate 1) [
     each = each-push contents content each one;
     end = 0 ∷ [];
     whole = is ∙ ap (λ (g : ℕ). blocks contents ++ g ∷ (body content ++ 0 ∷ [])) opened ∙ sym (blocks-push contents content (0 ∷ []));
-    over = inr refl;
+    over = inl (omega arith);
   })
   | inr shut ↦ inl (stands_shut contents gate (body content ++ 0 ∷ []) file each shut is)
 ]

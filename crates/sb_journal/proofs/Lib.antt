@@ -7,3 +7,4 @@ mod Walk
 mod Places
 mod Batches
 mod Pieces
+mod Shortened

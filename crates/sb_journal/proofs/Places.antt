@@ -30,14 +30,14 @@ content_read file bytes at size begins long holds = elim (cases_lt 0 size) [
   | inr none ↦ nil_from_length bytes (omega (arith, long, none)) ∙ sym (nil_from_length begins.content (omega (arith, begins.long, none)))
 ]
 
-none_read : (front back : List (List ℕ)) (bytes rest : List ℕ) (gate : ℕ) → rest ≡ blocks back ++ gate ∷ [] → IsEnd rest → Reads front back bytes None
-none_read front [] bytes rest gate is over = refl
-none_read front (c ∷ back) bytes rest gate is over = absurd (no_block_at_end c (blocks back ++ gate ∷ []) rest over (is ∙ append_assoc (block c) (blocks back) (gate ∷ [])))
+none_read : (front back : List (List ℕ)) (bytes rest : List ℕ) (gate : ℕ) → AllByRecursion IsContent back → rest ≡ blocks back ++ gate ∷ [] → IsEnd rest → Reads front back bytes None
+none_read front [] bytes rest gate each is over = refl
+none_read front (c ∷ back) bytes rest gate each is over = absurd (no_block_at_end c (blocks back ++ gate ∷ []) rest each.0 over (is ∙ append_assoc (block c) (blocks back) (gate ∷ [])))
 
 some_read : (front back : List (List ℕ)) (file bytes : List ℕ) (at size gate : ℕ) → AllByRecursion IsContent back → gate ≢ 1 → drop at file ≡ blocks back ++ gate ∷ [] → at ≡ length (blocks front)
     → BeginsWith (drop at file) size → length bytes ≡ size → (0 < size → Holds file (at + 5) bytes) → Reads front back bytes (Some (at + 5 + size))
 some_read front [] file bytes at size gate each shut is here begins long holds =
-    absurd (no_block_at_end begins.content begins.more (gate ∷ []) (inl shut) (sym is ∙ begins.whole))
+    absurd (no_block_at_end begins.content begins.more (gate ∷ []) begins.small (inl shut) (sym is ∙ begins.whole))
 some_read front (c ∷ back) file bytes at size gate each shut is here begins long holds =
     let parts = one_block begins.content c begins.more (blocks back ++ gate ∷ []) begins.small each.0 (sym begins.whole ∙ is ∙ append_assoc (block c) (blocks back) (gate ∷ [])) in
     let count : length c ≡ size = ap length (sym parts.0) ∙ begins.long in (
@@ -59,7 +59,7 @@ module _ {D : Type 0} (seen : D → List ℕ) (may_leave : D → List ℕ → Ty
   place_stands = record { each = each_back front back has.each; end = has.file.gate ∷ []; whole = rest; over = inl has.file.shut }
 
   pub place_none : (bytes : List ℕ) → IsEnd (drop at (seen log.device)) → Reads front back bytes None
-  place_none bytes over = none_read front back bytes (drop at (seen log.device)) has.file.gate rest over
+  place_none bytes over = none_read front back bytes (drop at (seen log.device)) has.file.gate (each_back front back has.each) rest over
 
   pub place_some : (bytes : List ℕ) (size : ℕ) → BeginsWith (drop at (seen log.device)) size → length bytes ≡ size → (0 < size → Holds (seen log.device) (at + 5) bytes) → Reads front back bytes (Some (at + 5 + size))
   place_some bytes size begins long holds = some_read front back (seen log.device) bytes at size has.file.gate (each_back front back has.each) has.file.shut rest here begins long holds

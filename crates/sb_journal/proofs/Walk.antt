@@ -1,14 +1,14 @@
 -- Blocks that are found one after the other.
-use Rattle.std.proofs.Common.{◌≡◌, ℕ, ◌+◌, ◌<◌, ◌≤◌, ◌^◌, List, [], ◌∷◌, ◌++◌, length, get_or, take, drop, refl, sym, ◌∙◌, ap, inl, inr, arith, length-append, length-drop, append_assoc, take-append-drop, length-take-le, get_or-drop, drop-drop}
+use Rattle.std.proofs.Common.{◌≡◌, ℕ, ◌+◌, ◌<◌, ◌≤◌, ◌^◌, List, [], ◌∷◌, ◌++◌, length, get_or, take, drop, refl, sym, ◌∙◌, ap, subst, inl, inr, arith, length-append, length-drop, append_assoc, take-append-drop, length-take-le, get_or-drop, drop-drop}
 use Rattle.std.specs.Int.{w32, to_be_bytes, from_be_bytes}
 use Rattle.std.proofs.lemmas.Nat.{from_be_bytes-to_be_bytes_4}
-use Rattle.std.proofs.lemmas.List.{append-nil, take_at, drop_at, get_or_append_left}
+use Rattle.std.proofs.lemmas.List.{append-nil, drop_at, get_or_append_left}
 use Rattle.sqlite_disk.specs.Disk.{Holds}
-use Rattle.sb_journal.specs.Blocks.{block, blocks, IsContent, IsEnd, Stands}
+use Rattle.sb_journal.specs.Blocks.{block, blocks, IsCutShort, IsEnd, Stands}
 use Rattle.sb_journal.specs.Ends.{BeginsWith, Walked}
 use Rattle.sb_journal.proofs.Bytes.{same_front}
 use Rattle.sb_journal.proofs.Contents.{each-push, blocks-push}
-use Rattle.sb_journal.proofs.Reading.{stands_rest, one_reading}
+use Rattle.sb_journal.proofs.Reading.{same_parts, stands_rest, one_reading}
 
 -- what is read is there
 pub held_front : (file bytes : List ℕ) (at : ℕ) → Holds file at bytes → drop at file ≡ bytes ++ drop (at + length bytes) file
@@ -21,34 +21,30 @@ gate_there file [] at holds one opened = absurd (omega (arith, one))
 gate_there file (gate ∷ []) at holds one opened = held_front file (gate ∷ []) at holds ∙ ap (λ (n : ℕ). n ∷ drop (at + 1) file) opened
 gate_there file (gate ∷ next ∷ buf) at holds one opened = absurd (omega (arith, one))
 
--- where a gate is open and more stands behind it, no blocks end
-not_over : (bytes more : List ℕ) → IsEnd bytes → bytes ≡ 1 ∷ more → 0 < length more → ⊥
-not_over [] more over is some = absurd (omega (arith, ap length is))
-not_over (gate ∷ rest) more (inl shut) is some = shut (ap (λ (l : List ℕ). get_or l 0 0) is)
-not_over (gate ∷ rest) more (inr none) is some = absurd (omega (arith, some, ap length is, ap length none))
+-- the end of the file cuts a body short
+pub cut_end : (bytes more : List ℕ) → bytes ≡ 1 ∷ more → IsCutShort more → IsEnd bytes
+cut_end bytes more is cut = subst IsEnd (sym is) (inr cut)
 
-pub first_block : (contents : List (List ℕ)) (bytes more : List ℕ) → Stands contents bytes → bytes ≡ 1 ∷ more → 0 < length more → (content tail : List ℕ) × IsContent content × (bytes ≡ block content ++ tail)
-first_block [] bytes more stands is some = absurd (not_over stands.end more stands.over (sym stands.whole ∙ is) some)
-first_block (c ∷ contents) bytes more stands is some = (c, blocks contents ++ stands.end, stands.each.0, stands.whole ∙ append_assoc (block c) (blocks contents) stands.end)
-
--- too few bytes for a block
-pub no_short_block : (contents : List (List ℕ)) (bytes more : List ℕ) → Stands contents bytes → bytes ≡ 1 ∷ more → 1 < length bytes → length bytes < 5 → ⊥
-no_short_block contents bytes more stands is long short =
-    let first = first_block contents bytes more stands is (omega (arith, long, ap length is)) in
-    absurd (omega (arith, short, ap length first.3, length-append (block first.0) first.1))
+-- a length that no content has, behind an open gate, is no end
+not_over : (size more : List ℕ) (n : ℕ) → length size ≡ 4 → n ≡ from_be_bytes w32 size → 2 ^ 20 < n → IsEnd (1 ∷ (size ++ more)) → ⊥
+not_over size more n four reads large (inl shut) = shut refl
+not_over size more n four reads large (inr (inl short)) = absurd (omega (arith, four, short, length-append size more))
+not_over size more n four reads large (inr (inr (m, content, few, less, is))) =
+    let parts = same_parts size (to_be_bytes w32 m) more content four is in
+    let long : n ≡ m = reads ∙ ap (from_be_bytes w32) parts.0 ∙ from_be_bytes-to_be_bytes_4 m (omega (arith, few)) in
+    absurd (omega (arith, long, few, large))
 
 module _ (bytes size more : List ℕ) (n : ℕ) (is : bytes ≡ 1 ∷ (size ++ more)) (four : length size ≡ 4) (reads : n ≡ from_be_bytes w32 size) where
-  -- a length that no content has, or that is longer than the file
-  pub no_long_block : (contents : List (List ℕ)) → Stands contents bytes → (n ≤ 2 ^ 20 → n + 5 ≤ length bytes → ⊥) → ⊥
-  no_long_block contents stands none =
-      let first = first_block contents bytes (size ++ more) stands is (omega (arith, four, length-append size more)) in
-      let content = first.0 in
-      let same : size ++ more ≡ to_be_bytes w32 (length content) ++ (content ++ first.1) =
-      ap (λ (l : List ℕ). drop 1 l) (sym is ∙ first.3) ∙ append_assoc (to_be_bytes w32 (length content)) content first.1 in
-      let sizes : size ≡ to_be_bytes w32 (length content) =
-      sym (take_at size more 4 four) ∙ ap (λ (l : List ℕ). take 4 l) same ∙ take_at (to_be_bytes w32 (length content)) (content ++ first.1) 4 refl in
-      let long : n ≡ length content = reads ∙ ap (from_be_bytes w32) sizes ∙ from_be_bytes-to_be_bytes_4 (length content) (omega (arith, first.2)) in
-      none (omega (arith, long, first.2)) (omega (arith, long, ap length first.3, length-append (block content) first.1))
+  -- a length that no content has
+  pub no_long_block : (contents : List (List ℕ)) → Stands contents bytes → 2 ^ 20 < n → ⊥
+  no_long_block [] stands large = not_over size more n four reads large (subst IsEnd (sym stands.whole ∙ is) stands.over)
+  no_long_block (c ∷ contents) stands large =
+      let rest = blocks contents ++ stands.end in
+      let same : size ++ more ≡ to_be_bytes w32 (length c) ++ (c ++ rest) =
+      ap (λ (l : List ℕ). drop 1 l) (sym is ∙ stands.whole ∙ append_assoc (block c) (blocks contents) stands.end) ∙ append_assoc (to_be_bytes w32 (length c)) c rest in
+      let parts = same_parts size (to_be_bytes w32 (length c)) more (c ++ rest) four same in
+      let long : n ≡ length c = reads ∙ ap (from_be_bytes w32) parts.0 ∙ from_be_bytes-to_be_bytes_4 (length c) (omega (arith, stands.each.0)) in
+      absurd (omega (arith, long, large, stands.each.0))
 
   pub block_found : to_be_bytes w32 n ≡ size → n ≤ 2 ^ 20 → n + 5 ≤ length bytes → BeginsWith bytes n
   block_found sized few fits =

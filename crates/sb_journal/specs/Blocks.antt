@@ -1,5 +1,5 @@
 -- Promise: what a file of blocks stands for.
-use Rattle.std.specs.Prelude.{◌≡◌, ◌≢◌, ◌⊎◌, ℕ, ◌^◌, ◌≤◌, List, [], ◌∷◌, ◌++◌, length}
+use Rattle.std.specs.Prelude.{◌≡◌, ◌≢◌, ◌⊎◌, ℕ, ◌^◌, ◌<◌, ◌≤◌, List, [], ◌∷◌, ◌++◌, length}
 use Rattle.std.specs.List.{AllByRecursion}
 use Rattle.std.specs.Int.{w32, to_be_bytes}
 
@@ -18,10 +18,15 @@ blocks (content ∷ contents) = block content ++ blocks contents
 abbrev pub IsContent : List ℕ → Type 0
 IsContent content = length content ≤ 2 ^ 20
 
--- No block begins here: no more than a gate, or a shut gate and whatever is behind it.
+-- the file ends within a body: it has less than four bytes of length, or less content than a length that may be one says
+abbrev pub IsCutShort : List ℕ → Type 0
+IsCutShort rest =
+    (length rest < 4) ⊎ ((size : ℕ) × (content : List ℕ) × (size ≤ 2 ^ 20) × (length content < size) × (rest ≡ to_be_bytes w32 size ++ content))
+
+-- No block begins here: there is nothing, a shut gate and whatever is behind it, or an open gate and a body that is cut short.
 abbrev pub IsEnd : List ℕ → Type 0
 IsEnd [] = Unit {0}
-IsEnd (gate ∷ rest) = (gate ≢ 1) ⊎ (rest ≡ [])
+IsEnd (gate ∷ rest) = (gate ≢ 1) ⊎ IsCutShort rest
 
 -- The file is the blocks of these contents, and no block begins behind them.
 pub record Stands (contents : List (List ℕ)) (file : List ℕ) : Type 0 where

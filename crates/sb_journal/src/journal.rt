@@ -56,6 +56,7 @@ impl<D: Disk> Journal<D> {
             → Gives (IsAt D.Disk.seen D.Disk.may_leave self.new head) entries batch.new.items next) }
         ensures same { (head : TheHead) (entries waiting : List Entry) → Has D.Disk.seen D.Disk.may_leave self.old head entries waiting
             → Has D.Disk.seen D.Disk.may_leave self.new head entries waiting }
+        ensures clean { IsTrue (D.Disk.is_clean (disk_of self.new)) → IsTrue (D.Disk.is_clean (disk_of self.old)) }
     {
         self.log.read(place, batch)
     }
@@ -67,6 +68,7 @@ impl<D: Disk> Journal<D> {
             → Has D.Disk.seen D.Disk.may_leave self.new head entries (waiting ++ entry_of line.entry ∷ [])) }
         ensures err { OnErr result ((head : TheHead) (entries waiting : List Entry) → Has D.Disk.seen D.Disk.may_leave self.old head entries waiting
             → Has D.Disk.seen D.Disk.may_leave self.new head entries waiting) }
+        ensures disk { disk_of self.new ≡ disk_of self.old }
     {
         let bytes = record_bytes(self.alloc, line)?;
         if bytes.len() > MAX_CONTENT - self.waiting.len() {
@@ -108,6 +110,7 @@ impl<D: Disk> Journal<D> {
         // A crash at any moment of the call leaves what was there, or that and all that waited.
         ensures any_moment { (head : TheHead) (entries waiting : List Entry) → Has D.Disk.seen D.Disk.may_leave self.old head entries waiting
             → (file : List ℕ) → D.Disk.may_leave (disk_of self.new) file → Keeps head entries file ⊎ Keeps head (entries ++ waiting) file }
+        ensures clean { IsTrue (D.Disk.is_clean (disk_of self.new)) → IsTrue (D.Disk.is_clean (disk_of self.old)) }
     {
         if self.waiting.is_empty() {
             return Ok(());

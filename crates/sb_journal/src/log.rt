@@ -1,6 +1,6 @@
 //! A file of blocks. A block counts if its gate is open, and it is whole; a shut gate stands behind the last, on the
 //! disk before anything is written behind it.
-ghost use Rattle.std.specs.Prelude.{◌≡◌, ◌≢◌, ◌⊎◌, ◌+◌, ◌<◌, ◌≤◌, ◌^◌, ◌++◌, ◌↔◌, [], ◌∷◌, List, ℕ, length, IfOk, IfErr, OnOk, OnErr, IsErr, IsTrue};
+ghost use Rattle.std.specs.Prelude.{◌≡◌, ◌≢◌, ◌⊎◌, ◌+◌, ◌<◌, ◌≤◌, ◌^◌, ◌++◌, ◌↔◌, [], ◌∷◌, List, ℕ, length, take, IfOk, IfErr, OnOk, OnErr, IsErr, IsTrue};
 ghost use Rattle.sqlite_disk.specs.Disk.{Only, Holds};
 ghost use Rattle.sb_journal.specs.Blocks.{body, blocks, IsContent, IsBeforeOrAfter, Stands};
 ghost use Rattle.sb_journal.specs.Log.{HasAll, IsSpent, device_of, Reads};
@@ -34,9 +34,11 @@ impl<D: Disk> Log<D> {
         ensures any_moment_err { IfErr result (λ e. IsTrue (D.Disk.is_clean e.1) → Only (D.Disk.seen device) (D.Disk.may_leave device)
             → (contents : List (List ℕ)) → Stands contents (D.Disk.seen device) → (file : List ℕ) → D.Disk.may_leave e.1 file → Stands contents file) }
 
-        // A file that stands for a list isn't called damaged.
+        // A file that stands for a list isn't called damaged, cut at any byte or whole.
         ensures damaged { IfErr result (λ e. e.0 ≡ JournalError.Damaged → IsTrue (D.Disk.is_clean e.1)
             → (contents : List (List ℕ)) → Stands contents (D.Disk.seen device) → ⊥) }
+        ensures cut { IfErr result (λ e. e.0 ≡ JournalError.Damaged → IsTrue (D.Disk.is_clean e.1)
+            → (contents : List (List ℕ)) (file : List ℕ) (n : ℕ) → Stands contents file → D.Disk.seen device ≡ take n file → ⊥) }
     {
         let mut device = device;
         match recover(&mut device) {

@@ -1,5 +1,5 @@
 //! The head of a log, found or written.
-ghost use Rattle.std.specs.Prelude.{◌≡◌, ◌≢◌, [], ◌∷◌, List, ℕ, length, IfOk, IfErr, OnOk, OnErr, IsTrue};
+ghost use Rattle.std.specs.Prelude.{◌≡◌, ◌≢◌, ◌++◌, [], ◌∷◌, List, ℕ, length, take, IfOk, IfErr, OnOk, OnErr, IsTrue};
 ghost use Rattle.sb_journal.specs.Blocks.{IsBeforeOrAfter, Stands};
 ghost use Rattle.sb_journal.specs.Log.{HasAll, device_of};
 ghost use Rattle.sb_journal.specs.Records.{Entry};
@@ -44,6 +44,11 @@ pub fn open_journal<D: Disk + Drop>(
         → Keeps other entries (D.Disk.seen disk) → Has D.Disk.seen D.Disk.may_leave journal head entries []) }
     ensures begun { IfOk result (λ journal. IsTrue (D.Disk.is_clean (disk_of journal))
         → Stands [] (D.Disk.seen disk) → Has D.Disk.seen D.Disk.may_leave journal head [] []) }
+
+    // A file that was cut at any byte has the first of its records.
+    ensures cut { IfOk result (λ journal. IsTrue (D.Disk.is_clean (disk_of journal)) → (other : TheHead) (entries : List Entry) (file : List ℕ) (n : ℕ)
+        → Keeps other entries file → D.Disk.seen disk ≡ take n file
+        → (first others : List Entry) × (entries ≡ first ++ others) × Has D.Disk.seen D.Disk.may_leave journal head first []) }
 {
     let mut log = match Log::open(disk) {
         Ok(log) => log,

@@ -1,5 +1,5 @@
 //! What a crash may have left: the end of its blocks is found, and what is torn behind them is cut off.
-ghost use Rattle.std.specs.Prelude.{◌≡◌, ◌+◌, ◌<◌, ◌≤◌, ◌^◌, List, ℕ, length, drop, IfOk, IfErr, IfSome, OnOk, IsTrue};
+ghost use Rattle.std.specs.Prelude.{◌≡◌, ◌≢◌, ◌+◌, ◌-◌, ◌<◌, ◌≤◌, ◌^◌, List, ℕ, length, drop, slice_index, IfOk, IfErr, IfSome, OnOk, IsTrue};
 ghost use Rattle.std.specs.Int.{w32, to_be_bytes, from_be_bytes};
 ghost use Rattle.sqlite_disk.specs.Disk.{Only};
 ghost use Rattle.sb_journal.specs.Blocks.{blocks, Stands};
@@ -38,18 +38,41 @@ pub(crate) fn recover<D: Disk>(disk: &mut D) -> Result<usize, JournalError>
 fn leave_gate<D: Disk>(disk: &mut D, end: usize, len: usize) -> io::Result<()>
     requires usable { IsTrue (D.Disk.is_usable disk.old) }
     requires within { end ≤ len }
-    ensures at_rest { OnOk result ((contents : List (List ℕ)) → EndsAt contents end len (D.Disk.seen disk.old) → IsAtRest contents (D.Disk.seen disk.new)) }
-    ensures any_moment { Only (D.Disk.seen disk.old) (D.Disk.may_leave disk.old)
+    ensures at_rest { OnOk result (IsTrue (D.Disk.is_clean disk.new)
+        → (contents : List (List ℕ)) → EndsAt contents end len (D.Disk.seen disk.old) → IsAtRest contents (D.Disk.seen disk.new)) }
+    ensures any_moment { IsTrue (D.Disk.is_clean disk.new) → Only (D.Disk.seen disk.old) (D.Disk.may_leave disk.old)
         → (contents : List (List ℕ)) → EndsAt contents end len (D.Disk.seen disk.old) → (file : List ℕ) → D.Disk.may_leave disk.new file → Stands contents file }
     ensures clean { IsTrue (D.Disk.is_clean disk.new) → IsTrue (D.Disk.is_clean disk.old) }
-    ensures usable { IsTrue (D.Disk.is_usable disk.new) }
+    ensures usable { OnOk result (IsTrue (D.Disk.is_usable disk.new)) }
 {
-    // A shut gate is left as it is, since a torn write might open it before what is behind it.
-    if len - end > 1 {
-        disk.set_len(end + 1)
-    } else {
-        disk.write_at(end, &[0])
+    if len - end <= 1 {
+        return disk.write_at(end, &[0]);
     }
+    shut_gate(disk, end)?;
+    disk.set_len(end + 1)
+}
+
+/// Shuts the gate at `end` if it is open, before what is behind it is cut off. A shut gate is left as it is, since a
+/// torn write might open it.
+fn shut_gate<D: Disk>(disk: &mut D, end: usize) -> io::Result<()>
+    requires { IsTrue (D.Disk.is_usable disk.old) }
+    ensures shut { OnOk result (IsTrue (D.Disk.is_clean disk.new) → slice_index (D.Disk.seen disk.new) end ≢ 1) }
+    ensures stays { OnOk result (IsTrue (D.Disk.is_clean disk.new) → (contents : List (List ℕ)) (len : ℕ) → 1 < len - end
+        → EndsAt contents end len (D.Disk.seen disk.old) → EndsAt contents end len (D.Disk.seen disk.new)) }
+    ensures durable { OnOk result (Only (D.Disk.seen disk.old) (D.Disk.may_leave disk.old) → Only (D.Disk.seen disk.new) (D.Disk.may_leave disk.new)) }
+    ensures any_moment { IsTrue (D.Disk.is_clean disk.new) → Only (D.Disk.seen disk.old) (D.Disk.may_leave disk.old)
+        → (contents : List (List ℕ)) (len : ℕ) → 1 < len - end → EndsAt contents end len (D.Disk.seen disk.old)
+        → (file : List ℕ) → D.Disk.may_leave disk.new file → Stands contents file }
+    ensures clean { IsTrue (D.Disk.is_clean disk.new) → IsTrue (D.Disk.is_clean disk.old) }
+    ensures usable { OnOk result (IsTrue (D.Disk.is_usable disk.new)) }
+{
+    let mut gate = [0];
+    disk.read_at(end, &mut gate)?;
+    if gate[0] != 1 {
+        return Ok(());
+    }
+    disk.write_at(end, &[0])?;
+    disk.sync()
 }
 
 /// Where the blocks of a file end. No content is read.
@@ -103,13 +126,16 @@ pub(crate) fn block_at<D: Disk>(
         return Ok(None);
     }
     if len - at < 5 {
-        return Err(JournalError::Damaged);
+        return Ok(None);
     }
     let mut size = [0; 4];
     disk.read_at(at + 1, &mut size)?;
     let size = number_of(size);
-    if size > MAX_CONTENT || size > len - at - 5 {
+    if size > MAX_CONTENT {
         return Err(JournalError::Damaged);
+    }
+    if size > len - at - 5 {
+        return Ok(None);
     }
     Ok(Some(size))
 }

@@ -1,7 +1,9 @@
-use Rattle.std.proofs.Common.{[], ◌∷◌, List, ℕ, sym, subst, IsTrue}
+use Rattle.std.proofs.Common.{[], ◌∷◌, List, ℕ, refl, sym, subst, inl, inr, IsTrue}
+use Rattle.sb_journal.specs.Blocks.{Stands}
 use Rattle.sb_journal.specs.Log.{HasAll}
 use Rattle.sb_journal.specs.Records.{Entry}
-use Rattle.sb_journal.specs.Journal.{Has, contents_of}
+use Rattle.sb_journal.specs.Journal.{Has, Keeps, contents_of}
+use Rattle.sb_journal.proofs.Shortened.{keeps_first}
 use Rattle.sb_journal.proofs.opening.open_journal.Goals as goal
 
 -- a head is there, and it is this one
@@ -18,3 +20,10 @@ pub returns-in-Ok-begin-clause-begun : goal.returns-in-Ok-begin-clause-begun
 returns-in-Ok-begin-clause-begun g c clean empty =
     let begun = subst (λ (d : g.row.D.Denot). IsTrue (g.D.Disk.is_clean d)) c.over.ensures.disk clean in
     c.over.ensures.has _ [] (c.in-Ok-begin.ensures.begun begun (c.in-Ok.ensures.ok (c.begin.ensures.clean begun) [] empty))
+
+-- of a file that was cut, the head is there with the first records, or nothing is
+pub returns-in-Ok-begin-clause-cut : goal.returns-in-Ok-begin-clause-cut
+returns-in-Ok-begin-clause-cut g c clean other entries file n keeps cut = elim (keeps_first n other entries file keeps) [
+  | inl none ↦ ([], entries, refl, returns-in-Ok-begin-clause-begun g c clean (subst (λ (f : List ℕ). Stands [] f) (sym cut) none))
+  | inr (first, others, parts, kept) ↦ (first, others, parts, returns-in-Ok-begin-clause-there g c clean other first (subst (λ (f : List ℕ). Keeps other first f) (sym cut) kept))
+]
