@@ -11,4 +11,4 @@ abbrev pub table_of : Keys → Table
 table_of keys t = option_map_or (λ digests. digests.items) (get nat_eq keys.by_tenant t) []
 
 abbrev pub key_seen : Named → Key
-key_seen named = record { tenant = named.tenant; digest = named.digest }
+key_seen named = record { holder = named.holder; digest = named.digest }

@@ -1,5 +1,5 @@
 -- Promise: the keys that a text names, one a line.
-use Rattle.std.specs.Prelude.{ℕ, ◌+◌, ◌-◌, ◌==◌, nat_le, nat_lt, ◌&&◌, if◌then◌else◌, Bool, List, [], ◌∷◌, length, take, drop, Option, Some, None, option_and_then, option_map, Result, Ok, Err}
+use Rattle.std.specs.Prelude.{ℕ, ◌+◌, ◌-◌, ◌==◌, nat_le, nat_lt, bytes_eq, codes, ◌&&◌, if◌then◌else◌, Bool, List, [], ◌∷◌, length, take, drop, Option, Some, None, option_and_then, option_map, Result, Ok, Err}
 use Rattle.std.specs.Char.{is_ascii_digit, is_ascii_whitespace}
 use Rattle.std.specs.List.{after_first, before_first, list_all, prefix_len, slice_split, suffix_len}
 use Rattle.std.specs.Option.{option_map_or}
@@ -33,28 +33,36 @@ said line = trimmed (before_first (is_byte hash) line)
 -- ---- one key
 
 pub record Key : Type 0 where
-  pub tenant : ℕ
+  pub holder : ℕ
   pub digest : List ℕ
 
 -- 1 to 9 digits
 abbrev pub number_of : List ℕ → Option ℕ
 number_of bytes = if nat_le 1 (length bytes) && nat_le (length bytes) 9 && list_all is_ascii_digit bytes then Some (digits_value 10 bytes) else None
 
+-- who looks at the status pages: no tenant has so large a number
+abbrev pub status_holder : ℕ
+status_holder = 1_000_000_000
+
+-- a tenant by its number, or `status`
+abbrev pub holder_of : List ℕ → Option ℕ
+holder_of word = if bytes_eq word (codes "status") then Some status_holder else number_of word
+
 -- 32 bytes in hex
 abbrev pub digest_of : List ℕ → Option (List ℕ)
 digest_of bytes = result_ok (decode_sized bytes 32)
 
--- a tenant's number, a space and a digest
+-- a holder, a space and a digest
 abbrev pub key_of : List ℕ → Option Key
 key_of bytes =
-    option_and_then (λ t. option_map (λ d. record { tenant = t; digest = d }) (digest_of (after_first (is_byte space) bytes)))
-    (number_of (before_first (is_byte space) bytes))
+    option_and_then (λ h. option_map (λ d. record { holder = h; digest = d }) (digest_of (after_first (is_byte space) bytes)))
+    (holder_of (before_first (is_byte space) bytes))
 
 -- ---- the lines
 
 -- there is room for so many keys of one tenant
 abbrev pub with_named : Table → Key → Option Table
-with_named table key = if nat_lt (length (table key.tenant)) keys_limit then Some (with_key table key.tenant key.digest) else None
+with_named table key = if nat_lt (length (table key.holder)) keys_limit then Some (with_key table key.holder key.digest) else None
 
 -- a line that says nothing adds none
 abbrev pub with_said : Table → List ℕ → Option Table

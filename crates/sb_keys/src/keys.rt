@@ -86,10 +86,10 @@ impl Keys {
         let Some(named) = Named::read(said) else {
             return Err(KeysError::BadLine { line: number });
         };
-        if self.digests(named.tenant).len() >= MOST {
+        if self.digests(named.holder).len() >= MOST {
             return Err(KeysError::BadLine { line: number });
         }
-        match self.add(alloc, named.tenant, named.digest) {
+        match self.add(alloc, named.holder, named.digest) {
             Ok(()) => Ok(()),
             Err(AllocError) => Err(KeysError::NoMemory),
         }

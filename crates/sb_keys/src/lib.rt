@@ -1,4 +1,4 @@
-//! The keys of tenants: a table of digests, read from a text.
+//! The keys of tenants, and of status pages: a table of digests, read from a text.
 #![tactic(auto)]
 
 mod compare;
@@ -9,3 +9,4 @@ mod line;
 
 pub use digest::{Digest, digest_line, is_key};
 pub use keys::{Keys, KeysError};
+pub use line::STATUS;

@@ -3,19 +3,22 @@ ghost use Rattle.std.specs.Prelude.{◌≡◌, ◌≤◌, length, if◌then◌el
 ghost use Rattle.std.specs.Char.{is_ascii_digit};
 ghost use Rattle.std.specs.List.{list_all};
 ghost use Rattle.std.specs.Str.Parse.{digits_value};
-ghost use Rattle.sb_keys.specs.Text.{digest_of, key_of, number_of, said};
+ghost use Rattle.sb_keys.specs.Text.{digest_of, holder_of, key_of, number_of, said};
 
 use crate::cut::Cut;
 use crate::digest::Digest;
 use hex::FromHex;
 
+/// Who looks at the status pages, as the holder of keys: no tenant has so large a number.
+pub const STATUS: u32 = 1_000_000_000;
+
 /// The most digits of a tenant's number.
 const DIGITS: usize = 9;
 
-/// A tenant and the digest of one of its keys.
+/// The holder of a key, and its digest.
 #[derive(Clone, Copy)]
 pub(crate) struct Named {
-    pub(crate) tenant: u32,
+    pub(crate) holder: u32,
     pub(crate) digest: Digest,
 }
 
@@ -27,9 +30,9 @@ impl Named {
         ensures { option_map key_seen result ≡ key_of said.now }
     {
         let cut = Cut::at(b' ', said);
-        let tenant = number(cut.before)?;
+        let holder = holder(cut.before)?;
         let digest = digest_in(cut.behind)?;
-        Some(Named { tenant, digest })
+        Some(Named { holder, digest })
     }
 }
 
@@ -45,6 +48,16 @@ fn digest_in(bytes: &[u8]) -> Option<Digest>
     ensures { result ≡ digest_of bytes.now }
 {
     <Digest as FromHex>::from_hex(bytes).ok()
+}
+
+/// A tenant by its number, or who looks at status pages by that word.
+fn holder(word: &[u8]) -> Option<u32>
+    ensures { result ≡ holder_of word.now }
+{
+    if word == b"status".as_slice() {
+        return Some(STATUS);
+    }
+    number(word)
 }
 
 /// The number that these bytes are.

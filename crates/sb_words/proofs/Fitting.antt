@@ -4,7 +4,7 @@ use Rattle.clap.specs.Words.{Row}
 use Rattle.sb_words.specs.Asking.{AllFit, AreAllowed, AsksBy, Fits, IsFirstOf, IsFirstUnfit, IsUnfit}
 use Rattle.sb_words.specs.Parts.{parts}
 use Rattle.sb_words.specs.declared.part.Part.{Part}
-use Rattle.sb_words.specs.declared.part.Part.TheVariants.{Command, Old, New, Tenant, Load, DumpTo, Into, Journal, Sync, Keys, Tenants, Bound, Cells, Workers, Port, Connections, Idle, IdleTransaction, FirstTenant, TenantMemory, Log, UntilInputEnds}
+use Rattle.sb_words.specs.declared.part.Part.TheVariants.{Command, Old, New, Tenant, Load, DumpTo, Into, Journal, Sync, Keys, Status, Tenants, Bound, Cells, Workers, Port, Connections, Idle, IdleTransaction, FirstTenant, TenantMemory, Log, UntilInputEnds}
 use Rattle.sb_words.specs.declared.part.Unfit.{Unfit}
 use Rattle.sb_words.specs.declared.request.Request.{Request}
 
@@ -28,18 +28,19 @@ all_allowed rows a Into = a.1.1.1.1.1.1.0
 all_allowed rows a Journal = a.1.1.1.1.1.1.1.0
 all_allowed rows a Sync = a.1.1.1.1.1.1.1.1.0
 all_allowed rows a Keys = a.1.1.1.1.1.1.1.1.1.0
-all_allowed rows a Tenants = a.1.1.1.1.1.1.1.1.1.1.0
-all_allowed rows a Bound = a.1.1.1.1.1.1.1.1.1.1.1.0
-all_allowed rows a Cells = a.1.1.1.1.1.1.1.1.1.1.1.1.0
-all_allowed rows a Workers = a.1.1.1.1.1.1.1.1.1.1.1.1.1.0
-all_allowed rows a Port = a.1.1.1.1.1.1.1.1.1.1.1.1.1.1.0
-all_allowed rows a Connections = a.1.1.1.1.1.1.1.1.1.1.1.1.1.1.1.0
-all_allowed rows a Idle = a.1.1.1.1.1.1.1.1.1.1.1.1.1.1.1.1.0
-all_allowed rows a IdleTransaction = a.1.1.1.1.1.1.1.1.1.1.1.1.1.1.1.1.1.0
-all_allowed rows a FirstTenant = a.1.1.1.1.1.1.1.1.1.1.1.1.1.1.1.1.1.1.0
-all_allowed rows a TenantMemory = a.1.1.1.1.1.1.1.1.1.1.1.1.1.1.1.1.1.1.1.0
-all_allowed rows a Log = a.1.1.1.1.1.1.1.1.1.1.1.1.1.1.1.1.1.1.1.1.0
-all_allowed rows a UntilInputEnds = a.1.1.1.1.1.1.1.1.1.1.1.1.1.1.1.1.1.1.1.1.1.0
+all_allowed rows a Status = a.1.1.1.1.1.1.1.1.1.1.0
+all_allowed rows a Tenants = a.1.1.1.1.1.1.1.1.1.1.1.0
+all_allowed rows a Bound = a.1.1.1.1.1.1.1.1.1.1.1.1.0
+all_allowed rows a Cells = a.1.1.1.1.1.1.1.1.1.1.1.1.1.0
+all_allowed rows a Workers = a.1.1.1.1.1.1.1.1.1.1.1.1.1.1.0
+all_allowed rows a Port = a.1.1.1.1.1.1.1.1.1.1.1.1.1.1.1.0
+all_allowed rows a Connections = a.1.1.1.1.1.1.1.1.1.1.1.1.1.1.1.1.0
+all_allowed rows a Idle = a.1.1.1.1.1.1.1.1.1.1.1.1.1.1.1.1.1.0
+all_allowed rows a IdleTransaction = a.1.1.1.1.1.1.1.1.1.1.1.1.1.1.1.1.1.1.0
+all_allowed rows a FirstTenant = a.1.1.1.1.1.1.1.1.1.1.1.1.1.1.1.1.1.1.1.0
+all_allowed rows a TenantMemory = a.1.1.1.1.1.1.1.1.1.1.1.1.1.1.1.1.1.1.1.1.0
+all_allowed rows a Log = a.1.1.1.1.1.1.1.1.1.1.1.1.1.1.1.1.1.1.1.1.1.0
+all_allowed rows a UntilInputEnds = a.1.1.1.1.1.1.1.1.1.1.1.1.1.1.1.1.1.1.1.1.1.1.0
 
 -- ---- a part of a list
 

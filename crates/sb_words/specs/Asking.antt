@@ -1,10 +1,11 @@
 -- Promise: what the parts of a command line ask for, and which of them isn't allowed.
-use Rattle.std.specs.Prelude.{◌≡◌, ◌≢◌, ◌≤◌, ◌⊎◌, ◌||◌, ⊤, ℕ, Bool, true, false, if◌then◌else◌, bytes_eq, List, [], ◌∷◌, Option, Some, None, option_map, is_some, unwrap_or, codes}
+use Rattle.std.specs.Prelude.{◌≡◌, ◌≢◌, ◌≤◌, ◌⊎◌, ◌||◌, ⊤, ℕ, Bool, false, if◌then◌else◌, bytes_eq, List, [], ◌∷◌, Option, Some, None, option_map, is_some, unwrap_or, codes}
 use Rattle.std.specs.Borrow.{Bor}
 use Rattle.std.specs.Str.Parse.{IsNumeral, digits_value, without_leading_plus}
 use Rattle.clap.specs.Words.{Row, Text, first_of}
 use Rattle.sb_words.specs.Parts.{has, name_of, parts, range_of, verb_in, verb_of}
 use Rattle.sb_words.specs.Severities.{severity_of}
+use Rattle.sb_words.specs.Syncs.{syncs_of}
 use Rattle.sb_words.specs.declared.part.Part.{Part}
 use Rattle.sb_words.specs.declared.part.Part.TheVariants as part
 use Rattle.sb_words.specs.declared.part.Range.{Range}
@@ -20,6 +21,8 @@ use Rattle.sb_words.specs.declared.request.Run.{Run}
 use Rattle.sb_words.specs.declared.request.Serving.{Serving}
 use Rattle.sb_words.specs.declared.severity.Severity.{Severity}
 use Rattle.sb_words.specs.declared.severity.Severity.TheVariants.{Info}
+use Rattle.sb_words.specs.declared.syncs.Syncs.{Syncs}
+use Rattle.sb_words.specs.declared.syncs.Syncs.TheVariants.{Always}
 
 -- the text behind a reference that may be there
 abbrev pub text_of : Option (Bor Text) → Option Text
@@ -38,13 +41,10 @@ text_by p text = text
 abbrev pub text_at : List Row → Part → Option Text
 text_at rows p = text_by p (first_of (name_of p) rows)
 
--- whether each of the journal's records is synced before it is answered
-abbrev pub sync_of : Text → Option Bool
-sync_of word = if bytes_eq word (codes "always") then Some true else if bytes_eq word (codes "never") then Some false else None
-
-abbrev pub is_synced : Option Text → Bool
-is_synced None = true
-is_synced (Some word) = unwrap_or (sync_of word) true
+-- when a journal's records are brought to the disk: before they are answered where the option isn't given
+abbrev pub syncs_in : Option Text → Syncs
+syncs_in None = Always
+syncs_in (Some word) = unwrap_or (syncs_of word) Always
 
 -- ---- what is allowed
 
@@ -71,7 +71,7 @@ LacksWord rows part.Command word = LacksCommand rows (verb_of word)
 LacksWord rows part.Log word = severity_of word ≡ None
 LacksWord rows part.Into folder = text_at rows part.Tenant ≢ None
 LacksWord rows part.Journal file = text_at rows part.Load ≢ None
-LacksWord rows part.Sync word = (sync_of word ≡ None) ⊎ (text_at rows part.Journal ≡ None)
+LacksWord rows part.Sync word = (syncs_of word ≡ None) ⊎ (text_at rows part.Journal ≡ None)
 LacksWord rows p text = ⊥
 
 -- the text isn't what the part has to be
@@ -130,6 +130,10 @@ dumping_in rows = record { run = run_in rows; tenant = number_in rows part.Tenan
 abbrev pub hosting_in : List Row → Hosting
 hosting_in rows = record { run = run_in rows; cells = number_in rows part.Cells; workers = number_in rows part.Workers }
 
+-- the port of the status pages, if there are to be some
+abbrev pub status_in : List Row → Option ℕ
+status_in rows = option_map (λ text. number_in rows part.Status) (text_at rows part.Status)
+
 abbrev pub serving_in : List Row → Serving
 serving_in rows = record {
   hosting = hosting_in rows;
@@ -141,17 +145,23 @@ serving_in rows = record {
   tenant_memory = number_in rows part.TenantMemory;
   log = severity_in (text_at rows part.Log);
   until_input_ends = is_some (text_at rows part.UntilInputEnds);
+  status = status_in rows;
 }
 
--- whether a server has files
-abbrev pub has_files : List Row → Bool
-has_files rows =
+-- whether a server has files or status pages
+abbrev pub has_more : List Row → Bool
+has_more rows =
     is_some (text_at rows part.Load) || is_some (text_at rows part.DumpTo) || is_some (text_at rows part.Journal) || is_some (text_at rows part.Keys)
+    || is_some (text_at rows part.Status)
 
--- what a command asks for: files make others of a run, a server and a dump
+-- a run without files: a journal makes another of it
+abbrev pub recorded_by : List Row → Request
+recorded_by rows = if is_some (text_at rows part.Journal) then request.Record (run_in rows) else request.Run (run_in rows)
+
+-- what a command asks for: files and status pages make others of a run, a server and a dump
 abbrev pub asked_by : Verb → List Row → Request
-asked_by verb.Run rows = if is_some (text_at rows part.Load) then request.Load (run_in rows) else request.Run (run_in rows)
-asked_by verb.Serve rows = if has_files rows then request.Keep (serving_in rows) else request.Serve (serving_in rows)
+asked_by verb.Run rows = if is_some (text_at rows part.Load) then request.Load (run_in rows) else recorded_by rows
+asked_by verb.Serve rows = if has_more rows then request.Keep (serving_in rows) else request.Serve (serving_in rows)
 asked_by verb.Replay rows = request.Replay (hosting_in rows)
 asked_by verb.Parse rows = request.Parse
 asked_by verb.Dump rows = if is_some (text_at rows part.Into) then request.DumpAll (run_in rows) else request.Dump (dumping_in rows)
@@ -168,7 +178,7 @@ pub record ArePaths (rows : List Row) (paths : Paths) : Type 0 where
   pub dump_to : text_of paths.dump_to ≡ text_at rows part.DumpTo
   pub into : text_of paths.into ≡ text_at rows part.Into
   pub journal : text_of paths.journal ≡ text_at rows part.Journal
-  pub synced : paths.is_synced ≡ is_synced (text_at rows part.Sync)
+  pub syncs : paths.syncs ≡ syncs_in (text_at rows part.Sync)
   pub keys : text_of paths.keys ≡ text_at rows part.Keys
   pub old : text_of paths.old ≡ text_at rows part.Old
   pub new : text_of paths.new ≡ text_at rows part.New

@@ -1,4 +1,5 @@
 pub mod Severities
+pub mod Syncs
 pub mod Parts
 pub mod Within
 pub mod Asking

@@ -2,7 +2,7 @@
 use Rattle.std.specs.Prelude.{ℕ, Bool, true, false, if◌then◌else◌, bytes_eq, List, [], ◌∷◌, Option, Some, None, codes}
 use Rattle.clap.specs.Words.{Text}
 use Rattle.sb_words.specs.declared.part.Part.{Part}
-use Rattle.sb_words.specs.declared.part.Part.TheVariants.{Command, Old, New, Tenant, Load, DumpTo, Into, Journal, Sync, Keys, Tenants, Bound, Cells, Workers, Port, Connections, Idle, IdleTransaction, FirstTenant, TenantMemory, Log, UntilInputEnds}
+use Rattle.sb_words.specs.declared.part.Part.TheVariants.{Command, Old, New, Tenant, Load, DumpTo, Into, Journal, Sync, Keys, Status, Tenants, Bound, Cells, Workers, Port, Connections, Idle, IdleTransaction, FirstTenant, TenantMemory, Log, UntilInputEnds}
 use Rattle.sb_words.specs.declared.part.Range.{Range}
 use Rattle.sb_words.specs.declared.part.Verb.{Verb}
 use Rattle.sb_words.specs.declared.part.Verb.TheVariants.{Run, Serve, Replay, Parse, Dump, Compact, Key}
@@ -26,7 +26,7 @@ verb_in (Some word) = verb_of word
 
 -- the command first, files behind it, then options in the order in which they are looked at
 abbrev pub parts : List Part
-parts = Command ∷ Old ∷ New ∷ Tenant ∷ Load ∷ DumpTo ∷ Into ∷ Journal ∷ Sync ∷ Keys ∷ Tenants ∷ Bound ∷ Cells ∷ Workers ∷ Port ∷ Connections ∷ Idle ∷ IdleTransaction ∷ FirstTenant
+parts = Command ∷ Old ∷ New ∷ Tenant ∷ Load ∷ DumpTo ∷ Into ∷ Journal ∷ Sync ∷ Keys ∷ Status ∷ Tenants ∷ Bound ∷ Cells ∷ Workers ∷ Port ∷ Connections ∷ Idle ∷ IdleTransaction ∷ FirstTenant
     ∷ TenantMemory ∷ Log ∷ UntilInputEnds ∷ []
 
 abbrev pub name_of : Part → Text
@@ -40,6 +40,7 @@ name_of Into = codes "into"
 name_of Journal = codes "journal"
 name_of Sync = codes "sync"
 name_of Keys = codes "keys"
+name_of Status = codes "status"
 name_of Tenants = codes "tenants"
 name_of Bound = codes "bound"
 name_of Cells = codes "cells"
@@ -77,7 +78,7 @@ has_host Serve = true
 has_host Replay = true
 has_host verb = false
 
--- commands that may begin with files
+-- commands that may begin with files, or with a journal
 abbrev pub may_load : Verb → Bool
 may_load Run = true
 may_load Serve = true
@@ -93,6 +94,8 @@ has Bound verb = has_tenants verb
 has Tenant verb = is_dump verb
 has Into verb = is_dump verb
 has Load verb = may_load verb
+has Journal verb = may_load verb
+has Sync verb = may_load verb
 has Cells verb = has_host verb
 has Workers verb = has_host verb
 has option verb = is_serve verb
@@ -109,6 +112,7 @@ range_of Bound = range 1 1000 1000
 range_of Cells = range 1 16 4
 range_of Workers = range 1 16 4
 range_of Port = range 0 65535 0
+range_of Status = range 0 65535 0
 range_of Connections = range 0 1000000 0
 range_of Idle = range 0 86400 0
 range_of IdleTransaction = range 0 86400 0

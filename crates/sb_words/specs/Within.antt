@@ -1,9 +1,9 @@
 -- Promise: the ranges of what is asked for.
-use Rattle.std.specs.Prelude.{◌≤◌, ⊤}
+use Rattle.std.specs.Prelude.{◌≤◌, IfSome, ⊤}
 use Rattle.sb_words.specs.declared.request.Dumping.{Dumping}
 use Rattle.sb_words.specs.declared.request.Hosting.{Hosting}
 use Rattle.sb_words.specs.declared.request.Request.{Request}
-use Rattle.sb_words.specs.declared.request.Request.TheVariants.{Run as run_request, Load, Serve, Keep, Replay, Parse, Dump, DumpAll, Compact, Key}
+use Rattle.sb_words.specs.declared.request.Request.TheVariants.{Run as run_request, Load, Record, Serve, Keep, Replay, Parse, Dump, DumpAll, Compact, Key}
 use Rattle.sb_words.specs.declared.request.Run.{Run}
 use Rattle.sb_words.specs.declared.request.Serving.{Serving}
 use Rattle.sb_words.specs.declared.words.Asked.{Asked}
@@ -21,11 +21,12 @@ AreHost h = AreRun h.run × (1 ≤ h.cells) × (h.cells ≤ 16) × (1 ≤ h.work
 abbrev pub AreServer : Serving → Type 0
 AreServer s =
     AreHost s.hosting × (s.port ≤ 65535) × (s.connections ≤ 1000000) × (s.idle ≤ 86400) × (s.idle_transaction ≤ 86400)
-    × (s.first_tenant ≤ 999999000) × (s.tenant_memory ≤ 1048576)
+    × (s.first_tenant ≤ 999999000) × (s.tenant_memory ≤ 1048576) × IfSome s.status (λ port. port ≤ 65535)
 
 abbrev pub IsWithin : Request → Type 0
 IsWithin (run_request r) = AreRun r
 IsWithin (Load r) = AreRun r
+IsWithin (Record r) = AreRun r
 IsWithin (Serve s) = AreServer s
 IsWithin (Keep s) = AreServer s
 IsWithin (Replay h) = AreHost h

@@ -6,10 +6,11 @@ ghost use Rattle.sb_words.specs.Asking.{AllFit, AreAllowed, Fits, IsFirstOf, IsF
 ghost use Rattle.sb_words.specs.Parts.{range_of, verb_in};
 ghost use Rattle.sb_words.specs.declared.part.Part.TheVariants as named;
 
-use crate::given::{sync_of, text_at};
+use crate::given::text_at;
 use crate::number::number;
 use crate::part::{PARTS, Part, Unfit, Verb};
 use crate::severity::Severity;
+use crate::syncs::Syncs;
 use clap::ArgMatches;
 
 /// The command, if all parts are allowed; or the first that isn't.
@@ -101,7 +102,7 @@ fn lacks_word(matches: &ArgMatches<'_>, part: Part, text: &str) -> bool
         Part::Log => Severity::of(text).is_none(),
         Part::Into => text_at(matches, Part::Tenant).is_some(),
         Part::Journal => text_at(matches, Part::Load).is_some(),
-        Part::Sync => sync_of(text).is_none() || text_at(matches, Part::Journal).is_none(),
+        Part::Sync => Syncs::of(text).is_none() || text_at(matches, Part::Journal).is_none(),
         _ => false,
     }
 }

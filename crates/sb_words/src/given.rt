@@ -53,16 +53,3 @@ pub(crate) fn number_at(matches: &ArgMatches<'_>, part: Part) -> u32
         None => unreachable!(),
     }
 }
-
-/// Whether each record of a journal is synced, by the word for it.
-pub(crate) fn sync_of(word: &str) -> Option<bool>
-    ensures { result ≡ spec.sync_of word.now }
-{
-    if word == "always" {
-        return Some(true);
-    }
-    if word == "never" {
-        return Some(false);
-    }
-    None
-}

@@ -5,11 +5,11 @@ pub const VERSION: &str = "starhost 0.1\n";
 /// What stands behind the first words of a refusal.
 pub const ALLOWED: &str =
     "; allowed are: run, serve, replay, parse, dump, compact OLD NEW, key; of all but parse and key --tenants 1 to 256, \
---bound 1 to 1000; of run and serve --load a folder; of dump --tenant 0 to 255, or --into a folder; of serve and \
-replay --cells 1 to 16, --workers 1 to 16; of serve --port 0 to 65535, --connections 0 to 1000000, --idle 0 to 86400, \
---idle-transaction 0 to 86400, --first-tenant 0 to 999999000, --tenant-memory 0 to 1048576, --log error, warning or \
-info, --until-input-ends, --dump-to a folder, --journal a file but not with --load, --sync always or never with \
---journal, --keys a file; --help, --version\n";
+--bound 1 to 1000; of run and serve --load a folder, --journal a file but not with --load, --sync always, second or \
+never with --journal; of dump --tenant 0 to 255, or --into a folder; of serve and replay --cells 1 to 16, --workers 1 \
+to 16; of serve --port 0 to 65535, --connections 0 to 1000000, --idle 0 to 86400, --idle-transaction 0 to 86400, \
+--first-tenant 0 to 999999000, --tenant-memory 0 to 1048576, --log error, warning or info, --until-input-ends, \
+--dump-to a folder, --keys a file, --status 0 to 65535; --help, --version\n";
 
 pub const HELP: &str = "\
 starhost answers the command lines of hosted active databases.
@@ -42,6 +42,12 @@ Options of run and serve:
   --load FOLDER  play the lines of the files FOLDER/N.lines first, each as the
                  first session of tenant N; a tenant without a file is empty.
                  The lines of a file that are played aren't counted as a run's
+  --journal FILE what a client was answered is there after a restart: each line
+                 is written to FILE, and played from it at the start; not with
+                 --load
+  --sync WORD    always: a line is on the disk before it is answered; second: a
+                 second behind that, at most, and in run at its end; never: it
+                 is left to the system; always where this isn't given
 
 Options of dump:
   --tenant N     the tenant that is written: 0 to 255, or else 0
@@ -76,13 +82,10 @@ Options of serve:
   --dump-to FOLDER
                  behind the last connection, write each tenant N that was ever
                  opened to FOLDER/N.lines, by the lines that make it again
-  --journal FILE what a client was answered is there after a restart: each line
-                 is written to FILE, and played from it at the start; not with
-                 --load
-  --sync WORD    always: a line is on the disk before it is answered; never: it
-                 is left to the system; always where this isn't given
   --keys FILE    a first line has a key behind its numbers, whose digest stands
                  in FILE for its tenant
+  --status N     pages for a browser and numbers for Prometheus at this port:
+                 0 to 65535, of which 0 is any free one
 
 Other options:
   -h, --help     show this

@@ -10,6 +10,7 @@ mod part;
 mod refusal;
 mod request;
 mod severity;
+mod syncs;
 mod words;
 
 pub use help::{ALLOWED, HELP, VERSION};
@@ -18,4 +19,5 @@ pub use part::{Part, Range, Unfit, Verb};
 pub use refusal::refusal_line;
 pub use request::{Dumping, Hosting, Paths, Request, Run, Serving};
 pub use severity::Severity;
+pub use syncs::Syncs;
 pub use words::{Asked, read_words};

@@ -57,6 +57,7 @@ pub enum Part {
     Journal,
     Sync,
     Keys,
+    Status,
     Tenants,
     Bound,
     Cells,
@@ -72,7 +73,7 @@ pub enum Part {
 }
 
 /// The parts, in the order in which they are looked at.
-pub(crate) const PARTS: [Part; 22] = [
+pub(crate) const PARTS: [Part; 23] = [
     Part::Command,
     Part::Old,
     Part::New,
@@ -83,6 +84,7 @@ pub(crate) const PARTS: [Part; 22] = [
     Part::Journal,
     Part::Sync,
     Part::Keys,
+    Part::Status,
     Part::Tenants,
     Part::Bound,
     Part::Cells,
@@ -121,6 +123,7 @@ impl Part {
             Part::Journal => "journal",
             Part::Sync => "sync",
             Part::Keys => "keys",
+            Part::Status => "status",
             Part::Tenants => "tenants",
             Part::Bound => "bound",
             Part::Cells => "cells",
@@ -145,7 +148,7 @@ impl Part {
             Part::Old | Part::New => matches!(verb, Verb::Compact),
             Part::Tenants | Part::Bound => !matches!(verb, Verb::Parse | Verb::Key),
             Part::Tenant | Part::Into => matches!(verb, Verb::Dump),
-            Part::Load => matches!(verb, Verb::Run | Verb::Serve),
+            Part::Load | Part::Journal | Part::Sync => matches!(verb, Verb::Run | Verb::Serve),
             Part::Cells | Part::Workers => matches!(verb, Verb::Serve | Verb::Replay),
             _ => matches!(verb, Verb::Serve),
         }
@@ -163,6 +166,7 @@ impl Part {
             Part::Cells => numbers(1, 16, 4),
             Part::Workers => numbers(1, 16, 4),
             Part::Port => numbers(0, 65_535, 0),
+            Part::Status => numbers(0, 65_535, 0),
             Part::Connections => numbers(0, 1_000_000, 0),
             Part::Idle => numbers(0, 86_400, 0),
             Part::IdleTransaction => numbers(0, 86_400, 0),

@@ -1,5 +1,5 @@
 //! What a command line asks for.
-ghost use Rattle.std.specs.Prelude.{◌≡◌, ◌≤◌, IfErr, IfOk, None, Some};
+ghost use Rattle.std.specs.Prelude.{◌≡◌, ◌≤◌, IfErr, IfOk, IfSome, None, Some};
 ghost use Rattle.clap.specs.Words.{rows_of, found_of};
 ghost use Rattle.sb_words.specs.Asking as spec;
 ghost use Rattle.sb_words.specs.Asking.{AreAllowed, AsksBy, IsFirstUnfit, text_at};
@@ -8,9 +8,10 @@ ghost use Rattle.sb_words.specs.Within.{AreHost, AreRun, AreServer, IsWithin};
 ghost use Rattle.sb_words.specs.declared.part.Part.TheVariants as named;
 
 use crate::fit::first_unfit;
-use crate::given::{number_at, sync_of, text_at};
+use crate::given::{number_at, text_at};
 use crate::part::{Part, Unfit, Verb};
 use crate::severity::Severity;
+use crate::syncs::Syncs;
 use clap::ArgMatches;
 
 /// A run over standard input: how many tenants are hosted, and their consideration limit.
@@ -37,8 +38,8 @@ pub struct Hosting {
 
 /// A server: a host, the port that it listens at (0: any free one), how many connections it serves
 /// (0: without end), after how many idle seconds it closes one, and one with a transaction (0: never),
-/// the number of its first tenant, how many megabytes each tenant may take (0: any number), what it logs, and whether it
-/// stops where its input ends.
+/// the number of its first tenant, how many megabytes each tenant may take (0: any number), what it logs, whether it stops
+/// where its input ends, and the port of its status pages (0: any free one), if it has some.
 #[derive(Clone, Copy, Debug)]
 pub struct Serving {
     pub hosting: Hosting,
@@ -50,6 +51,7 @@ pub struct Serving {
     pub tenant_memory: u32,
     pub log: Severity,
     pub until_input_ends: bool,
+    pub status: Option<u32>,
 }
 
 /// A command with its options.
@@ -58,8 +60,10 @@ pub enum Request {
     Run(Run),
     /// A run on tenants that are read from files.
     Load(Run),
+    /// A run whose lines are recorded in a journal.
+    Record(Run),
     Serve(Serving),
-    /// A server that reads its tenants from files, writes them to files, or has a journal or keys.
+    /// A server that reads its tenants from files, writes them to files, or has a journal, keys or status pages.
     Keep(Serving),
     Replay(Hosting),
     Parse,
@@ -81,10 +85,10 @@ pub struct Paths<'a> {
     pub dump_to: Option<&'a str>,
     /// Those of an input are written there.
     pub into: Option<&'a str>,
-    /// The file of a server's journal.
+    /// The file of a journal.
     pub journal: Option<&'a str>,
-    /// Each of its records is on the disk before its line is answered.
-    pub is_synced: bool,
+    /// When each of its records is brought to the disk.
+    pub syncs: Syncs,
     /// The file of the keys that clients need.
     pub keys: Option<&'a str>,
     /// The journal that is written anew.
@@ -114,9 +118,9 @@ fn asked_by(matches: &ArgMatches<'_>, verb: Verb) -> Request
     match verb {
         Verb::Run => match text_at(matches, Part::Load) {
             Some(_) => Request::Load(run_of(matches)),
-            None => Request::Run(run_of(matches)),
+            None => recorded_by(matches),
         },
-        Verb::Serve => match has_files(matches) {
+        Verb::Serve => match has_more(matches) {
             true => Request::Keep(serving_of(matches)),
             false => Request::Serve(serving_of(matches)),
         },
@@ -131,14 +135,27 @@ fn asked_by(matches: &ArgMatches<'_>, verb: Verb) -> Request
     }
 }
 
-/// Whether a server has files.
-fn has_files(matches: &ArgMatches<'_>) -> bool
-    ensures { result ≡ spec.has_files (rows_of (found_of matches.now)) }
+/// What a run asks for that reads no tenants from files.
+fn recorded_by(matches: &ArgMatches<'_>) -> Request
+    requires { AreAllowed (rows_of (found_of matches.now)) }
+    ensures asked { result ≡ spec.recorded_by (rows_of (found_of matches.now)) }
+    ensures within { IsWithin result }
+{
+    match text_at(matches, Part::Journal) {
+        Some(_) => Request::Record(run_of(matches)),
+        None => Request::Run(run_of(matches)),
+    }
+}
+
+/// Whether a server has files or status pages.
+fn has_more(matches: &ArgMatches<'_>) -> bool
+    ensures { result ≡ spec.has_more (rows_of (found_of matches.now)) }
 {
     text_at(matches, Part::Load).is_some()
         || text_at(matches, Part::DumpTo).is_some()
         || text_at(matches, Part::Journal).is_some()
         || text_at(matches, Part::Keys).is_some()
+        || text_at(matches, Part::Status).is_some()
 }
 
 fn run_of(matches: &ArgMatches<'_>) -> Run
@@ -191,6 +208,19 @@ fn serving_of(matches: &ArgMatches<'_>) -> Serving
         tenant_memory: number_at(matches, Part::TenantMemory),
         log: severity_at(matches),
         until_input_ends: text_at(matches, Part::UntilInputEnds).is_some(),
+        status: status_at(matches),
+    }
+}
+
+/// The port of the status pages, if there are to be some.
+fn status_at(matches: &ArgMatches<'_>) -> Option<u32>
+    requires { AreAllowed (rows_of (found_of matches.now)) }
+    ensures is { result ≡ spec.status_in (rows_of (found_of matches.now)) }
+    ensures within { IfSome result (λ port. port ≤ 65535) }
+{
+    match text_at(matches, Part::Status) {
+        Some(_) => Some(number_at(matches, Part::Status)),
+        None => None,
     }
 }
 
@@ -213,19 +243,19 @@ pub(crate) fn paths_of<'a>(matches: &ArgMatches<'a>) -> Paths<'a>
         dump_to: text_at(matches, Part::DumpTo),
         into: text_at(matches, Part::Into),
         journal: text_at(matches, Part::Journal),
-        is_synced: is_synced(text_at(matches, Part::Sync)),
+        syncs: syncs_in(text_at(matches, Part::Sync)),
         keys: text_at(matches, Part::Keys),
         old: text_at(matches, Part::Old),
         new: text_at(matches, Part::New),
     }
 }
 
-/// Whether each record of a journal is synced.
-fn is_synced(word: Option<&str>) -> bool
-    ensures { result ≡ spec.is_synced (spec.text_of word.entry) }
+/// When a journal's records are brought to the disk.
+fn syncs_in(word: Option<&str>) -> Syncs
+    ensures { result ≡ spec.syncs_in (spec.text_of word.entry) }
 {
     match word {
-        Some(word) => sync_of(word).unwrap_or(true),
-        None => true,
+        Some(word) => Syncs::of(word).unwrap_or(Syncs::Always),
+        None => Syncs::Always,
     }
 }

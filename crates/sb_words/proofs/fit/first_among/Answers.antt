@@ -1,6 +1,4 @@
-use Rattle.std.proofs.Common.{◌≡◌, ◌∷◌, List, ℕ, ◌+◌, drop, add-one, sym, suc, ap, drop-cons}
 use Rattle.clap.specs.Words.{rows_of, found_of}
-use Rattle.sb_words.specs.declared.part.Part.{Part}
 use Rattle.sb_words.proofs.Fitting.{here_first, next_first, next_fits, split_at}
 use Rattle.sb_words.proofs.fit.first_among.Goals as goal
 

@@ -1,5 +1,5 @@
-use Rattle.std.proofs.Common.{◌≡◌, ◌∙◌, inl, inr, sym, ap, subst}
-use Rattle.sb_words.specs.Asking.{LacksNumber, text_of}
+use Rattle.std.proofs.Common.{inl, inr, sym, subst}
+use Rattle.sb_words.specs.Asking.{LacksNumber}
 use Rattle.sb_words.proofs.given.number_at.Goals as goal
 
 pub unreachable-requires : goal.unreachable-requires

@@ -1,4 +1,4 @@
-use Rattle.std.proofs.Common.{◌≡◌, ◌∙◌, ap}
+use Rattle.std.proofs.Common.{◌∙◌, ap}
 use Rattle.clap.specs.Matches.{first_value}
 use Rattle.clap.specs.Words.{found_of}
 use Rattle.sb_words.specs.Asking.{text_by}
