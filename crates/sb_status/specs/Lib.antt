@@ -1,0 +1,7 @@
+pub mod Escape
+pub mod Marks
+pub mod Pages
+pub mod Laws
+pub mod Requests
+pub mod Routes
+pub mod Responses

@@ -1,0 +1,21 @@
+-- Promise: what a page is: its own marks, numbers, and texts of others, which are escaped.
+use Rattle.std.specs.Prelude.{◌≡◌, ℕ, List, decimal}
+use Rattle.std.specs.List.{flat_map}
+use Rattle.sb_status.specs.Escape.{escaped}
+use Rattle.sb_status.specs.Marks.{mark_text}
+use Rattle.sb_status.specs.declared.piece.Piece.{Piece}
+use Rattle.sb_status.specs.declared.piece.Piece.TheVariants.{Mark, Text, Number}
+use Rattle.sb_status.specs.declared.text.Escaping.{Escaping}
+
+abbrev pub piece_text : Escaping → Piece → List ℕ
+piece_text e (Mark m) = mark_text m
+piece_text e (Text t) = escaped e t.now
+piece_text e (Number n) = decimal n
+
+-- one behind the other
+abbrev pub rendered : Escaping → List Piece → List ℕ
+rendered e pieces = flat_map (piece_text e) pieces
+
+-- these bytes are a page: some pieces, each as it is to stand
+abbrev pub IsPage : Escaping → List ℕ → Type 0
+IsPage e bytes = (pieces : List Piece) × (bytes ≡ rendered e pieces)

@@ -1,0 +1,78 @@
+//! The page of a server.
+ghost use Rattle.std.specs.Prelude.{IfOk};
+ghost use Rattle.sb_status.specs.Pages.{IsPage};
+ghost use Rattle.sb_status.specs.declared.text.Escaping.TheVariants as escaping;
+
+use crate::mark::Mark;
+use crate::page::Page;
+use crate::text::Escaping;
+use crate::view::{HostNumbers, TenantNumbers};
+use std::alloc::{AllocError, Global};
+
+const MINUTE: u64 = 60;
+
+const HOUR: u64 = 60 * MINUTE;
+
+const DAY: u64 = 24 * HOUR;
+
+const KILOBYTE: u64 = 1024;
+
+/// The host's numbers, and a row for each of these tenants.
+pub fn host_page(
+    alloc: Global,
+    host: HostNumbers<'_>,
+    tenants: &[TenantNumbers],
+) -> Result<Vec<u8>, AllocError>
+    ensures { IfOk result (λ page. IsPage escaping.Html page.items) }
+{
+    let mut page = Page::new(alloc);
+    page.mark(Mark::Head)?;
+    write_facts(&mut page, host)?;
+    write_tenants(&mut page, tenants)?;
+    page.mark(Mark::Foot)?;
+    page.render(alloc, Escaping::Html)
+}
+
+fn write_facts<'v>(page: &mut Page<'v>, host: HostNumbers<'v>) -> Result<(), AllocError> {
+    page.mark(Mark::HostTitle)?;
+    page.text(host.version.as_bytes())?;
+    write_uptime(page, host.uptime)?;
+    if let Some(bytes) = host.memory {
+        page.count(Mark::FactMemory, bytes / KILOBYTE)?;
+        page.mark(Mark::Kilobytes)?;
+    }
+    page.count(Mark::FactTenants, host.tenants)?;
+    page.count(Mark::FactCells, host.cells)?;
+    page.count(Mark::FactBound, host.bound)?;
+    page.mark(Mark::FactsEnd)
+}
+
+fn write_uptime(page: &mut Page<'_>, seconds: u64) -> Result<(), AllocError> {
+    page.count(Mark::FactUptime, seconds / DAY)?;
+    page.count(Mark::Days, seconds % DAY / HOUR)?;
+    page.count(Mark::Hours, seconds % HOUR / MINUTE)?;
+    page.count(Mark::Minutes, seconds % MINUTE)?;
+    page.mark(Mark::Seconds)
+}
+
+fn write_tenants(page: &mut Page<'_>, tenants: &[TenantNumbers]) -> Result<(), AllocError> {
+    page.mark(Mark::TenantsHead)?;
+    for tenant in tenants {
+        write_tenant(page, *tenant)?;
+    }
+    page.mark(Mark::TableEnd)
+}
+
+fn write_tenant(page: &mut Page<'_>, tenant: TenantNumbers) -> Result<(), AllocError> {
+    page.count(Mark::TenantLink, tenant.tenant)?;
+    page.count(Mark::LinkText, tenant.tenant)?;
+    page.mark(Mark::LinkEnd)?;
+    page.count(Mark::NumberCell, tenant.steps)?;
+    page.count(Mark::NumberCell, tenant.room)?;
+    page.count(Mark::NumberCell, tenant.tables)?;
+    page.count(Mark::NumberCell, tenant.rows)?;
+    page.count(Mark::NumberCell, tenant.rules)?;
+    page.count(Mark::NumberCell, tenant.open)?;
+    page.count(Mark::NumberCell, tenant.active)?;
+    page.mark(Mark::RowEnd)
+}

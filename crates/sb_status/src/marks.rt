@@ -1,0 +1,344 @@
+//! The markup of pages, and the fixed parts of samples.
+
+// What begins and ends each page.
+
+pub(crate) const HEAD: &str = "\
+<!DOCTYPE html>
+<html lang=\"en\">
+<head>
+<meta charset=\"utf-8\">
+<meta http-equiv=\"refresh\" content=\"5\">
+<meta name=\"viewport\" content=\"width=device-width\">
+<title>Filgwesha</title>
+<style>
+:root { color-scheme: light }
+body { font: 15px/1.45 system-ui, sans-serif; color: #1c2430; background: #fafbfc; margin: 2rem auto; max-width: 75rem; padding: 0 1.5rem }
+h1 { font-size: 1.6rem; margin: 0 0 1rem }
+h2 { font-size: 1.1rem; margin: 2.2rem 0 .6rem; color: #33415c }
+a { color: #0b5cad }
+.hint { color: #5a6678; margin: 0 0 .8rem }
+.facts { display: flex; flex-wrap: wrap; gap: .8rem; margin: 0 }
+.facts div { background: #fff; border: 1px solid #dde3ea; border-radius: 6px; padding: .5rem .9rem }
+dt { color: #5a6678; font-size: .8rem }
+dd { margin: 0; font-size: 1.15rem; font-variant-numeric: tabular-nums }
+.wide { overflow-x: auto }
+table { border-collapse: collapse; background: #fff; border: 1px solid #dde3ea }
+th, td { text-align: left; vertical-align: top; padding: .35rem .8rem; border-bottom: 1px solid #e8edf2 }
+th { color: #5a6678; font-weight: 600; font-size: .85rem; background: #f3f6f9; white-space: nowrap }
+.n { text-align: right; font-variant-numeric: tabular-nums }
+.off { color: #9a5b00 }
+pre { margin: 0; font: 13px/1.4 ui-monospace, monospace; white-space: pre-wrap; max-width: 34rem }
+svg { background: #fff; border: 1px solid #dde3ea }
+svg text { font: 13px ui-monospace, monospace; fill: #1c2430 }
+.rule { fill: #eef4fb; stroke: #4a6fa5 }
+.cycle { fill: #fdecea; stroke: #c0392b }
+.inactive { stroke-dasharray: 4 3; fill: #f3f3f3 }
+svg .word { fill: #c0392b; font-size: 11px }
+path { fill: none }
+.may { stroke: #33415c; stroke-width: 1.4 }
+.loop { stroke: #c0392b; stroke-width: 1.8 }
+.order { stroke: #7d8da3; stroke-width: 1.2; stroke-dasharray: 5 4 }
+</style>
+</head>
+<body>
+";
+
+pub(crate) const FOOT: &str = "\
+</body>
+</html>
+";
+
+// What stands between parts.
+
+pub(crate) const BLANK: &str = " ";
+
+pub(crate) const COMMA: &str = ", ";
+
+pub(crate) const NEW_LINE: &str = "\n";
+
+// Tables.
+
+pub(crate) const ROW: &str = "<tr><td>";
+
+pub(crate) const CELL: &str = "</td><td>";
+
+pub(crate) const NUMBER_CELL: &str = "</td><td class=\"n\">";
+
+pub(crate) const ROW_END: &str = "</td></tr>\n";
+
+pub(crate) const TABLE_END: &str = "\
+</tbody>
+</table></div>
+";
+
+// The page of a server.
+
+pub(crate) const HOST_TITLE: &str = "\
+<h1>Filgwesha</h1>
+<dl class=\"facts\">
+<div><dt>version</dt><dd>";
+
+pub(crate) const FACT_UPTIME: &str = "</dd></div>\n<div><dt>up</dt><dd>";
+
+pub(crate) const DAYS: &str = " d ";
+
+pub(crate) const HOURS: &str = " h ";
+
+pub(crate) const MINUTES: &str = " min ";
+
+pub(crate) const SECONDS: &str = " s";
+
+pub(crate) const FACT_MEMORY: &str = "</dd></div>\n<div><dt>memory</dt><dd>";
+
+pub(crate) const KILOBYTES: &str = " KB";
+
+pub(crate) const FACT_TENANTS: &str = "</dd></div>\n<div><dt>tenants at most</dt><dd>";
+
+pub(crate) const FACT_CELLS: &str = "</dd></div>\n<div><dt>cells</dt><dd>";
+
+pub(crate) const FACT_BOUND: &str = "</dd></div>\n<div><dt>considerations at most</dt><dd>";
+
+pub(crate) const FACTS_END: &str = "\
+</dd></div>
+</dl>
+";
+
+pub(crate) const TENANTS_HEAD: &str = "\
+<h2>Tenants</h2>
+<p class=\"hint\">Those of which a session was ever opened. <a href=\"/metrics\">The same for Prometheus</a>.</p>
+<div class=\"wide\"><table>
+<thead><tr><th>tenant</th><th class=\"n\">steps</th><th class=\"n\">room in the trail</th><th class=\"n\">tables</th><th class=\"n\">rows</th><th class=\"n\">rules</th><th class=\"n\">sessions open</th><th class=\"n\">in a transaction</th></tr></thead>
+<tbody>
+";
+
+pub(crate) const TENANT_LINK: &str = "<tr><td><a href=\"/tenants/";
+
+pub(crate) const LINK_TEXT: &str = "\">";
+
+pub(crate) const LINK_END: &str = "</a>";
+
+// The page of a tenant.
+
+pub(crate) const TENANT_TITLE: &str = "<p><a href=\"/\">all tenants</a></p>\n<h1>Tenant ";
+
+pub(crate) const FACT_STEPS: &str = "\
+</h1>
+<dl class=\"facts\">
+<div><dt>steps</dt><dd>";
+
+pub(crate) const FACT_ROOM: &str = "</dd></div>\n<div><dt>room in the trail</dt><dd>";
+
+pub(crate) const FACT_ROWS: &str = "</dd></div>\n<div><dt>rows</dt><dd>";
+
+pub(crate) const FACT_OPEN: &str = "</dd></div>\n<div><dt>sessions open</dt><dd>";
+
+pub(crate) const FACT_ACTIVE: &str = "</dd></div>\n<div><dt>in a transaction</dt><dd>";
+
+pub(crate) const TABLES_HEAD: &str = "\
+<h2>Tables</h2>
+<div class=\"wide\"><table>
+<thead><tr><th>table</th><th>columns</th><th class=\"n\">rows</th></tr></thead>
+<tbody>
+";
+
+pub(crate) const INT_TYPE: &str = " int<br>";
+
+pub(crate) const TEXT_TYPE: &str = " text<br>";
+
+pub(crate) const RULESETS_HEAD: &str = "\
+<h2>Rulesets</h2>
+<div class=\"wide\"><table>
+<thead><tr><th>ruleset</th><th>rules</th></tr></thead>
+<tbody>
+";
+
+pub(crate) const SESSIONS_HEAD: &str = "\
+<h2>Sessions</h2>
+<div class=\"wide\"><table>
+<thead><tr><th>session</th><th>state</th></tr></thead>
+<tbody>
+";
+
+pub(crate) const CLOSED_ROW: &str = "</td><td class=\"hint\">closed</td></tr>\n";
+
+pub(crate) const IDLE_ROW: &str = "</td><td>open</td></tr>\n";
+
+pub(crate) const ACTIVE_ROW: &str = "</td><td>in a transaction</td></tr>\n";
+
+// The rules of a tenant.
+
+pub(crate) const RULES_HEAD: &str = "\
+<h2>Rules</h2>
+<p class=\"hint\">In order of creation.</p>
+<div class=\"wide\"><table>
+<thead><tr><th>rule</th><th>on</th><th>when</th><th>state</th><th>may trigger</th><th>precedes</th><th>made by</th></tr></thead>
+<tbody>
+";
+
+pub(crate) const INSERTED: &str = "inserted";
+
+pub(crate) const DELETED: &str = "deleted";
+
+pub(crate) const UPDATED: &str = "updated";
+
+pub(crate) const UPDATED_OF: &str = "updated(";
+
+pub(crate) const UPDATED_END: &str = ")";
+
+pub(crate) const ACTIVE_CELL: &str = "</td><td>active";
+
+pub(crate) const INACTIVE_CELL: &str = "</td><td class=\"off\">inactive";
+
+pub(crate) const LINES_BEGIN: &str = "</td><td><pre>";
+
+pub(crate) const LINES_END: &str = "</pre></td></tr>\n";
+
+// The picture of the rules.
+
+pub(crate) const PICTURE_HEAD: &str = "\
+<h2>The picture of the rules</h2>
+<p class=\"hint\">A solid arrow: the actions of a rule may trigger another one. A dashed arrow: a rule precedes another one. Red: on a cycle, where the bound on considerations may be met.</p>
+";
+
+pub(crate) const SVG_WIDTH: &str = "\
+<div class=\"wide\"><svg xmlns=\"http://www.w3.org/2000/svg\" role=\"img\" aria-label=\"the rules\" width=\"";
+
+pub(crate) const SVG_HEIGHT: &str = "\" height=\"";
+
+pub(crate) const SVG_BOX: &str = "\" viewBox=\"0 0 ";
+
+pub(crate) const SVG_HEAD: &str = "\
+\">
+<defs>
+<marker id=\"may\" viewBox=\"0 0 8 8\" refX=\"8\" refY=\"4\" markerWidth=\"8\" markerHeight=\"8\" orient=\"auto\"><path d=\"M0 0 L8 4 L0 8 Z\" style=\"fill:#33415c\"/></marker>
+<marker id=\"loop\" viewBox=\"0 0 8 8\" refX=\"8\" refY=\"4\" markerWidth=\"8\" markerHeight=\"8\" orient=\"auto\"><path d=\"M0 0 L8 4 L0 8 Z\" style=\"fill:#c0392b\"/></marker>
+<marker id=\"order\" viewBox=\"0 0 8 8\" refX=\"8\" refY=\"4\" markerWidth=\"8\" markerHeight=\"8\" orient=\"auto\"><path d=\"M0 0 L8 4 L0 8 Z\" style=\"fill:#7d8da3\"/></marker>
+</defs>
+";
+
+pub(crate) const ARROW: &str = "<path class=\"may\" marker-end=\"url(#may)\" d=\"M";
+
+pub(crate) const CYCLE_ARROW: &str = "<path class=\"loop\" marker-end=\"url(#loop)\" d=\"M";
+
+pub(crate) const ORDER_ARROW: &str = "<path class=\"order\" marker-end=\"url(#order)\" d=\"M";
+
+pub(crate) const CURVE_BY: &str = " C";
+
+pub(crate) const ARROW_END: &str = "\"/>\n";
+
+pub(crate) const RULE_BOX: &str = "<rect rx=\"6\" class=\"rule\" x=\"";
+
+pub(crate) const CYCLE_BOX: &str = "<rect rx=\"6\" class=\"cycle\" x=\"";
+
+pub(crate) const INACTIVE_BOX: &str = "<rect rx=\"6\" class=\"rule inactive\" x=\"";
+
+pub(crate) const INACTIVE_CYCLE_BOX: &str = "<rect rx=\"6\" class=\"cycle inactive\" x=\"";
+
+pub(crate) const BOX_TOP: &str = "\" y=\"";
+
+pub(crate) const BOX_WIDTH: &str = "\" width=\"";
+
+pub(crate) const BOX_HEIGHT: &str = "\" height=\"";
+
+pub(crate) const NAME_AT: &str = "\"/>\n<text x=\"";
+
+pub(crate) const TEXT_TOP: &str = "\" y=\"";
+
+pub(crate) const TEXT_BEGIN: &str = "\">";
+
+pub(crate) const TEXT_END: &str = "</text>\n";
+
+pub(crate) const WORD_AT: &str = "<text class=\"word\" x=\"";
+
+pub(crate) const CYCLE_WORD: &str = "\">on a cycle</text>\n";
+
+pub(crate) const SVG_END: &str = "</svg></div>\n";
+
+pub(crate) const LEFT_OUT: &str = "<p class=\"hint\">";
+
+pub(crate) const LEFT_OUT_END: &str = " arrows more aren&#39;t drawn; the table names them.</p>\n";
+
+// Samples of Prometheus.
+
+pub(crate) const VERSION_SAMPLE: &str = "\
+# HELP filgwesha_build_info The version of the program.
+# TYPE filgwesha_build_info gauge
+filgwesha_build_info{version=\"";
+
+pub(crate) const VERSION_END: &str = "\"} 1";
+
+pub(crate) const UPTIME_SAMPLE: &str = "\n\
+# HELP filgwesha_uptime_seconds Seconds since the server began to listen.
+# TYPE filgwesha_uptime_seconds gauge
+filgwesha_uptime_seconds ";
+
+pub(crate) const MEMORY_SAMPLE: &str = "\n\
+# HELP process_resident_memory_bytes Memory that the process has.
+# TYPE process_resident_memory_bytes gauge
+process_resident_memory_bytes ";
+
+pub(crate) const TENANTS_SAMPLE: &str = "\n\
+# HELP filgwesha_tenants Tenants that the server hosts.
+# TYPE filgwesha_tenants gauge
+filgwesha_tenants ";
+
+pub(crate) const CELLS_SAMPLE: &str = "\n\
+# HELP filgwesha_cells Groups of tenants behind one lock.
+# TYPE filgwesha_cells gauge
+filgwesha_cells ";
+
+pub(crate) const BOUND_SAMPLE: &str = "\n\
+# HELP filgwesha_considerations_limit The most rules that are considered at one assertion point.
+# TYPE filgwesha_considerations_limit gauge
+filgwesha_considerations_limit ";
+
+pub(crate) const SAMPLE_END: &str = "\"} ";
+
+pub(crate) const STEPS_FAMILY: &str = "\
+# HELP filgwesha_tenant_steps_total Steps of a tenant.
+# TYPE filgwesha_tenant_steps_total counter
+";
+
+pub(crate) const STEPS_SAMPLE: &str = "filgwesha_tenant_steps_total{tenant=\"";
+
+pub(crate) const ROOM_FAMILY: &str = "\
+# HELP filgwesha_tenant_trail_room Steps for which its trail has room still.
+# TYPE filgwesha_tenant_trail_room gauge
+";
+
+pub(crate) const ROOM_SAMPLE: &str = "filgwesha_tenant_trail_room{tenant=\"";
+
+pub(crate) const TABLES_FAMILY: &str = "\
+# HELP filgwesha_tenant_tables Its tables.
+# TYPE filgwesha_tenant_tables gauge
+";
+
+pub(crate) const TABLES_SAMPLE: &str = "filgwesha_tenant_tables{tenant=\"";
+
+pub(crate) const ROWS_FAMILY: &str = "\
+# HELP filgwesha_tenant_rows Rows of its tables, with the changes of open transactions.
+# TYPE filgwesha_tenant_rows gauge
+";
+
+pub(crate) const ROWS_SAMPLE: &str = "filgwesha_tenant_rows{tenant=\"";
+
+pub(crate) const RULES_FAMILY: &str = "\
+# HELP filgwesha_tenant_rules Its rules.
+# TYPE filgwesha_tenant_rules gauge
+";
+
+pub(crate) const RULES_SAMPLE: &str = "filgwesha_tenant_rules{tenant=\"";
+
+pub(crate) const OPEN_FAMILY: &str = "\
+# HELP filgwesha_tenant_sessions_open Sessions that are open.
+# TYPE filgwesha_tenant_sessions_open gauge
+";
+
+pub(crate) const OPEN_SAMPLE: &str = "filgwesha_tenant_sessions_open{tenant=\"";
+
+pub(crate) const ACTIVE_FAMILY: &str = "\
+# HELP filgwesha_tenant_sessions_in_transaction Sessions that have a transaction.
+# TYPE filgwesha_tenant_sessions_in_transaction gauge
+";
+
+pub(crate) const ACTIVE_SAMPLE: &str = "filgwesha_tenant_sessions_in_transaction{tenant=\"";

@@ -1,0 +1,50 @@
+//! A page that is being written.
+ghost use Rattle.std.specs.Prelude.{IfOk};
+ghost use Rattle.sb_status.specs.Pages.{IsPage};
+
+use crate::mark::Mark;
+use crate::piece::{Piece, render};
+use crate::text::Escaping;
+use std::alloc::{AllocError, Global};
+
+/// The pieces so far.
+#[derive(Drop)]
+pub(crate) struct Page<'a> {
+    pieces: Vec<Piece<'a>>,
+}
+
+impl<'a> Page<'a> {
+    pub(crate) fn new(alloc: Global) -> Page<'a> {
+        Page {
+            pieces: Vec::new(alloc),
+        }
+    }
+
+    pub(crate) fn mark(&mut self, mark: Mark) -> Result<(), AllocError> {
+        self.pieces.push(Piece::Mark(mark))?;
+        Ok(())
+    }
+
+    pub(crate) fn text(&mut self, text: &'a [u8]) -> Result<(), AllocError> {
+        self.pieces.push(Piece::Text(text))?;
+        Ok(())
+    }
+
+    pub(crate) fn number(&mut self, number: u64) -> Result<(), AllocError> {
+        self.pieces.push(Piece::Number(number))?;
+        Ok(())
+    }
+
+    /// A mark and a number behind it.
+    pub(crate) fn count(&mut self, mark: Mark, number: u64) -> Result<(), AllocError> {
+        self.mark(mark)?;
+        self.number(number)
+    }
+
+    /// The bytes of all pieces.
+    pub(crate) fn render(&self, alloc: Global, escaping: Escaping) -> Result<Vec<u8>, AllocError>
+        ensures { IfOk result (λ page. IsPage escaping page.items) }
+    {
+        render(alloc, escaping, self.pieces.as_slice())
+    }
+}

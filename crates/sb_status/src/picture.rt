@@ -1,0 +1,261 @@
+//! The picture of a tenant's rules.
+
+use crate::graph::Graph;
+use crate::layers::{Layout, Place};
+use crate::mark::Mark;
+use crate::nodes::Nodes;
+use crate::page::Page;
+use crate::view::{RuleView, TenantView};
+use std::alloc::{AllocError, Global};
+
+/// The most arrows that are drawn.
+const MOST_ARROWS: u64 = 4096;
+
+/// The sizes of the picture, in pixels.
+const MARGIN: u64 = 40;
+
+const GAP: u64 = 90;
+
+const ROW: u64 = 56;
+
+const HEIGHT: u64 = 30;
+
+const LETTER: u64 = 8;
+
+/// How far an arrow goes straight on before it bends.
+const BEND: u64 = 40;
+
+/// Where a node's box is.
+#[derive(Clone, Copy)]
+struct Spot {
+    place: Place,
+    left: u64,
+    right: u64,
+    top: u64,
+    middle: u64,
+}
+
+/// From where to where an arrow goes, and where its curve bends.
+#[derive(Clone, Copy)]
+struct Curve {
+    from: (u64, u64),
+    first: (u64, u64),
+    second: (u64, u64),
+    to: (u64, u64),
+}
+
+/// A picture that is being drawn.
+#[derive(Drop)]
+struct Drawing<'d, 'v> {
+    page: &'d mut Page<'v>,
+    layout: &'d Layout,
+    width: u64,
+    arrows: u64,
+}
+
+/// Draws the rules of a tenant, with an arrow from each to those that it may trigger, and to those that it precedes.
+pub(crate) fn draw<'v>(
+    alloc: Global,
+    page: &mut Page<'v>,
+    view: &'v TenantView,
+) -> Result<(), AllocError> {
+    let layout = Layout::of(alloc, view.graph.triggers.as_slice())?;
+    let width = width_of(view.rules.as_slice());
+    page.mark(Mark::PictureHead)?;
+    begin(page, &layout, width)?;
+    let mut drawing = Drawing {
+        page,
+        layout: &layout,
+        width,
+        arrows: 0,
+    };
+    drawing.all_arrows(view.graph.precedes.as_slice(), true)?;
+    drawing.all_arrows(view.graph.triggers.as_slice(), false)?;
+    drawing.all_rules(view.rules.as_slice())?;
+    drawing.end()
+}
+
+/// The width of a box that has room for the longest name.
+fn width_of(rules: &[RuleView]) -> u64 {
+    let mut longest = 4;
+    for rule in rules {
+        longest = longest.max(rule.name.as_slice().len());
+    }
+    (longest as u64).saturating_add(3).saturating_mul(LETTER)
+}
+
+/// The head of the drawing, whose size is that of all its layers and rows.
+fn begin(page: &mut Page<'_>, layout: &Layout, width: u64) -> Result<(), AllocError> {
+    let mut right: u64 = 0;
+    let mut bottom: u64 = 0;
+    for place in layout.places.as_slice() {
+        let spot = spot_of(*place, width);
+        right = right.max(spot.right.saturating_add(GAP));
+        bottom = bottom.max(spot.top.saturating_add(ROW));
+    }
+    page.count(Mark::SvgWidth, right)?;
+    page.count(Mark::SvgHeight, bottom)?;
+    page.count(Mark::SvgBox, right)?;
+    page.count(Mark::Blank, bottom)?;
+    page.mark(Mark::SvgHead)
+}
+
+fn spot_of(place: Place, width: u64) -> Spot {
+    let left = MARGIN.saturating_add(place.layer.saturating_mul(width.saturating_add(GAP)));
+    let top = MARGIN.saturating_add(place.row.saturating_mul(ROW));
+    Spot {
+        place,
+        left,
+        right: left.saturating_add(width),
+        top,
+        middle: top.saturating_add(HEIGHT / 2),
+    }
+}
+
+/// The way from one box to another.
+fn curve_of(from: Spot, to: Spot) -> Curve {
+    let layers = to.place.layer.saturating_sub(from.place.layer);
+    if layers > 0 {
+        // where it passes other layers it goes below their boxes
+        let fall = if layers > 1 { BEND } else { 0 };
+        return Curve {
+            from: (from.right, from.middle),
+            first: (
+                from.right.saturating_add(BEND),
+                from.middle.saturating_add(fall),
+            ),
+            second: (to.left.saturating_sub(BEND), to.middle.saturating_add(fall)),
+            to: (to.left, to.middle),
+        };
+    }
+    if from.place.layer == to.place.layer {
+        let rise = if from.place.row == to.place.row {
+            HEIGHT
+        } else {
+            0
+        };
+        return Curve {
+            from: (from.right, from.middle.saturating_sub(rise / 4)),
+            first: (
+                from.right.saturating_add(BEND),
+                from.middle.saturating_sub(rise),
+            ),
+            second: (
+                to.right.saturating_add(BEND),
+                to.middle.saturating_add(rise),
+            ),
+            to: (to.right, to.middle.saturating_add(rise / 4)),
+        };
+    }
+    Curve {
+        from: (from.left, from.middle),
+        first: (from.left.saturating_sub(BEND), from.middle),
+        second: (to.right.saturating_add(BEND), to.middle),
+        to: (to.right, to.middle),
+    }
+}
+
+impl<'d, 'v> Drawing<'d, 'v> {
+    /// Draws all arrows of a kind, as long as there are not too many.
+    fn all_arrows(&mut self, arrows: &[Nodes], is_order: bool) -> Result<(), AllocError> {
+        for (from, nodes) in arrows.iter().enumerate() {
+            self.arrows_from(from, nodes, is_order)?;
+        }
+        Ok(())
+    }
+
+    fn arrows_from(
+        &mut self,
+        from: usize,
+        nodes: &Nodes,
+        is_order: bool,
+    ) -> Result<(), AllocError> {
+        for to in 0..self.layout.places.len() {
+            if nodes.has(to) {
+                self.arrow(from, to, is_order)?;
+            }
+        }
+        Ok(())
+    }
+
+    fn arrow(&mut self, from: usize, to: usize, is_order: bool) -> Result<(), AllocError> {
+        self.arrows = self.arrows.saturating_add(1);
+        if self.arrows > MOST_ARROWS {
+            return Ok(());
+        }
+        let places = self.layout.places.as_slice();
+        let (Some(start), Some(end)) = (places.get(from), places.get(to)) else {
+            return Ok(());
+        };
+        let curve = curve_of(spot_of(*start, self.width), spot_of(*end, self.width));
+        let mark = if is_order {
+            Mark::OrderArrow
+        } else if self.layout.reaches(to, from) {
+            Mark::CycleArrow
+        } else {
+            Mark::Arrow
+        };
+        self.curve(mark, curve)
+    }
+
+    fn curve(&mut self, mark: Mark, curve: Curve) -> Result<(), AllocError> {
+        self.point(mark, curve.from)?;
+        self.point(Mark::CurveBy, curve.first)?;
+        self.point(Mark::Blank, curve.second)?;
+        self.point(Mark::Blank, curve.to)?;
+        self.page.mark(Mark::ArrowEnd)
+    }
+
+    fn point(&mut self, mark: Mark, point: (u64, u64)) -> Result<(), AllocError> {
+        self.page.count(mark, point.0)?;
+        self.page.count(Mark::Blank, point.1)
+    }
+
+    fn all_rules(&mut self, rules: &'v [RuleView]) -> Result<(), AllocError> {
+        for (node, rule) in rules.iter().enumerate() {
+            if let Some(place) = self.layout.places.as_slice().get(node) {
+                self.rule(spot_of(*place, self.width), rule)?;
+            }
+        }
+        Ok(())
+    }
+
+    /// The box of a rule with its name, and a word where it is on a cycle.
+    fn rule(&mut self, spot: Spot, rule: &'v RuleView) -> Result<(), AllocError> {
+        let mark = match (spot.place.is_on_cycle, rule.is_active) {
+            (true, true) => Mark::CycleBox,
+            (true, false) => Mark::InactiveCycleBox,
+            (false, true) => Mark::RuleBox,
+            (false, false) => Mark::InactiveBox,
+        };
+        self.page.count(mark, spot.left)?;
+        self.page.count(Mark::BoxTop, spot.top)?;
+        self.page.count(Mark::BoxWidth, self.width)?;
+        self.page.count(Mark::BoxHeight, HEIGHT)?;
+        self.page
+            .count(Mark::NameAt, spot.left.saturating_add(LETTER))?;
+        self.page
+            .count(Mark::TextTop, spot.middle.saturating_add(5))?;
+        self.page.mark(Mark::TextBegin)?;
+        self.page.text(rule.name.as_slice())?;
+        self.page.mark(Mark::TextEnd)?;
+        if spot.place.is_on_cycle {
+            self.page
+                .count(Mark::WordAt, spot.left.saturating_add(LETTER))?;
+            self.page.count(Mark::TextTop, spot.top.saturating_sub(4))?;
+            self.page.mark(Mark::CycleWord)?;
+        }
+        Ok(())
+    }
+
+    /// Ends the drawing, and tells of arrows that it lacks.
+    fn end(self) -> Result<(), AllocError> {
+        let Drawing { page, arrows, .. } = self;
+        page.mark(Mark::SvgEnd)?;
+        if arrows > MOST_ARROWS {
+            page.count(Mark::LeftOut, arrows.saturating_sub(MOST_ARROWS))?;
+            page.mark(Mark::LeftOutEnd)?;
+        }
+        Ok(())
+    }
+}

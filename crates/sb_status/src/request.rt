@@ -1,0 +1,74 @@
+//! The head of a request.
+ghost use Rattle.std.specs.Prelude.{◌≡◌, ◌<◌, ◌↔◌, length};
+ghost use Rattle.sb_status.specs.Requests.{IfWhole, IsHeadOf, head_limit};
+ghost use Rattle.httparse.specs.Grammar.{HasNoRequest};
+
+use httparse::Status;
+use httparse::spans::{EMPTY_HEADER_SPAN, HeaderSpan, Span, parse_request};
+
+/// The most bytes that are read of a request.
+pub const HEAD_LIMIT: usize = 8192;
+
+/// The most headers of a request.
+const HEADERS: usize = 64;
+
+/// A request: its method, what it asks for, and what it says of who asks.
+#[derive(Clone, Copy)]
+pub struct Request<'a> {
+    pub method: &'a [u8],
+    pub target: &'a [u8],
+    pub authorization: Option<&'a [u8]>,
+}
+
+/// What has come of a request.
+#[derive(Clone, Copy)]
+pub enum Incoming<'a> {
+    /// Its head isn't whole.
+    Partial,
+    /// There are more bytes than are read.
+    TooLong,
+    /// It is no head of a request, or has too many headers.
+    Malformed,
+    Whole(Request<'a>),
+}
+
+/// Reads the request that these bytes begin with.
+pub fn read_request(bytes: &[u8]) -> Incoming<'_>
+    ensures too_long { (result ≡ Incoming.TooLong) ↔ (head_limit < length bytes.now) }
+    ensures whole { IfWhole result (IsHeadOf bytes.now) }
+    ensures partial { result ≡ Incoming.Partial → HasNoRequest bytes.now }
+{
+    if bytes.len() > HEAD_LIMIT {
+        return Incoming::TooLong;
+    }
+    let mut headers = [EMPTY_HEADER_SPAN; HEADERS];
+    match parse_request(bytes, &mut headers) {
+        Ok(Status::Complete(spans)) => Incoming::Whole(Request {
+            method: spans.method.of(bytes),
+            target: spans.path.of(bytes),
+            authorization: authorization(bytes, &headers),
+        }),
+        Ok(Status::Partial) => Incoming::Partial,
+        Err(_) => Incoming::Malformed,
+    }
+}
+
+/// The value of the first header of that name.
+fn authorization<'a>(bytes: &'a [u8], headers: &[HeaderSpan]) -> Option<&'a [u8]> {
+    for header in headers {
+        let name = piece(bytes, header.name);
+        if name.eq_ignore_ascii_case(b"authorization") {
+            return Some(piece(bytes, header.value));
+        }
+    }
+    None
+}
+
+/// The bytes of a part, if it is within the others.
+fn piece<'a>(bytes: &'a [u8], span: Span) -> &'a [u8] {
+    if span.start <= span.end && span.end <= bytes.len() {
+        &bytes[span.start..span.end]
+    } else {
+        &[]
+    }
+}

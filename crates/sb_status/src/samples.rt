@@ -1,0 +1,90 @@
+//! The numbers of a server and its tenants as samples of Prometheus.
+ghost use Rattle.std.specs.Prelude.{IfOk};
+ghost use Rattle.sb_status.specs.Pages.{IsPage};
+ghost use Rattle.sb_status.specs.declared.text.Escaping.TheVariants as escaping;
+
+use crate::mark::Mark;
+use crate::page::Page;
+use crate::text::Escaping;
+use crate::view::{HostNumbers, TenantNumbers};
+use std::alloc::{AllocError, Global};
+
+/// A number that each tenant has.
+#[derive(Clone, Copy)]
+struct Family {
+    head: Mark,
+    sample: Mark,
+    number: u64,
+}
+
+/// How many numbers each tenant has.
+const FAMILIES: usize = 7;
+
+/// All samples, in the text format 0.0.4.
+pub fn metrics(
+    alloc: Global,
+    host: HostNumbers<'_>,
+    tenants: &[TenantNumbers],
+) -> Result<Vec<u8>, AllocError>
+    ensures { IfOk result (λ page. IsPage escaping.Label page.items) }
+{
+    let mut page = Page::new(alloc);
+    write_host(&mut page, host)?;
+    for place in 0..FAMILIES {
+        write_family(&mut page, place, tenants)?;
+    }
+    page.render(alloc, Escaping::Label)
+}
+
+fn write_host<'v>(page: &mut Page<'v>, host: HostNumbers<'v>) -> Result<(), AllocError> {
+    page.mark(Mark::VersionSample)?;
+    page.text(host.version.as_bytes())?;
+    page.mark(Mark::VersionEnd)?;
+    page.count(Mark::UptimeSample, host.uptime)?;
+    if let Some(bytes) = host.memory {
+        page.count(Mark::MemorySample, bytes)?;
+    }
+    page.count(Mark::TenantsSample, host.tenants)?;
+    page.count(Mark::CellsSample, host.cells)?;
+    page.count(Mark::BoundSample, host.bound)?;
+    page.mark(Mark::NewLine)
+}
+
+/// Writes the samples of a family, one for each tenant.
+fn write_family(
+    page: &mut Page<'_>,
+    place: usize,
+    tenants: &[TenantNumbers],
+) -> Result<(), AllocError> {
+    for (index, tenant) in tenants.iter().enumerate() {
+        let family = family_at(place, tenant);
+        if index == 0 {
+            page.mark(family.head)?;
+        }
+        page.count(family.sample, tenant.tenant)?;
+        page.count(Mark::SampleEnd, family.number)?;
+        page.mark(Mark::NewLine)?;
+    }
+    Ok(())
+}
+
+/// The number of a tenant at this place.
+fn family_at(place: usize, tenant: &TenantNumbers) -> Family {
+    match place {
+        0 => made(Mark::StepsFamily, Mark::StepsSample, tenant.steps),
+        1 => made(Mark::RoomFamily, Mark::RoomSample, tenant.room),
+        2 => made(Mark::TablesFamily, Mark::TablesSample, tenant.tables),
+        3 => made(Mark::RowsFamily, Mark::RowsSample, tenant.rows),
+        4 => made(Mark::RulesFamily, Mark::RulesSample, tenant.rules),
+        5 => made(Mark::OpenFamily, Mark::OpenSample, tenant.open),
+        _ => made(Mark::ActiveFamily, Mark::ActiveSample, tenant.active),
+    }
+}
+
+fn made(head: Mark, sample: Mark, number: u64) -> Family {
+    Family {
+        head,
+        sample,
+        number,
+    }
+}

@@ -1,0 +1,97 @@
+//! The page of a tenant.
+ghost use Rattle.std.specs.Prelude.{IfOk};
+ghost use Rattle.sb_status.specs.Pages.{IsPage};
+ghost use Rattle.sb_status.specs.declared.text.Escaping.TheVariants as escaping;
+
+use crate::mark::Mark;
+use crate::page::Page;
+use crate::picture::draw;
+use crate::rule_rows::{write_names, write_rules};
+use crate::text::Escaping;
+use crate::view::{RulesetView, SessionState, TableView, TenantNumbers, TenantView};
+use std::alloc::{AllocError, Global};
+
+/// Its tables, its rules with their picture, its rulesets and its sessions.
+pub fn tenant_page(alloc: Global, view: &TenantView) -> Result<Vec<u8>, AllocError>
+    ensures { IfOk result (λ page. IsPage escaping.Html page.items) }
+{
+    let mut page = Page::new(alloc);
+    write(alloc, &mut page, view)?;
+    page.render(alloc, Escaping::Html)
+}
+
+fn write<'v>(alloc: Global, page: &mut Page<'v>, view: &'v TenantView) -> Result<(), AllocError> {
+    page.mark(Mark::Head)?;
+    write_numbers(page, view.numbers)?;
+    write_tables(page, view.tables.as_slice())?;
+    if !view.rules.is_empty() {
+        write_rules(page, view)?;
+        draw(alloc, page, view)?;
+    }
+    write_rulesets(page, view.rulesets.as_slice())?;
+    write_sessions(page, view.sessions.as_slice())?;
+    page.mark(Mark::Foot)
+}
+
+fn write_numbers(page: &mut Page<'_>, numbers: TenantNumbers) -> Result<(), AllocError> {
+    page.count(Mark::TenantTitle, numbers.tenant)?;
+    page.count(Mark::FactSteps, numbers.steps)?;
+    page.count(Mark::FactRoom, numbers.room)?;
+    page.count(Mark::FactRows, numbers.rows)?;
+    page.count(Mark::FactOpen, numbers.open)?;
+    page.count(Mark::FactActive, numbers.active)?;
+    page.mark(Mark::FactsEnd)
+}
+
+fn write_tables<'v>(page: &mut Page<'v>, tables: &'v [TableView]) -> Result<(), AllocError> {
+    page.mark(Mark::TablesHead)?;
+    for table in tables {
+        page.mark(Mark::Row)?;
+        page.text(table.name.as_slice())?;
+        page.mark(Mark::Cell)?;
+        write_columns(page, table)?;
+        page.count(Mark::NumberCell, table.rows)?;
+        page.mark(Mark::RowEnd)?;
+    }
+    page.mark(Mark::TableEnd)
+}
+
+fn write_columns<'v>(page: &mut Page<'v>, table: &'v TableView) -> Result<(), AllocError> {
+    for column in table.columns.as_slice() {
+        page.text(column.name.as_slice())?;
+        page.mark(if column.is_text {
+            Mark::TextType
+        } else {
+            Mark::IntType
+        })?;
+    }
+    Ok(())
+}
+
+fn write_rulesets<'v>(page: &mut Page<'v>, rulesets: &'v [RulesetView]) -> Result<(), AllocError> {
+    if rulesets.is_empty() {
+        return Ok(());
+    }
+    page.mark(Mark::RulesetsHead)?;
+    for ruleset in rulesets {
+        page.mark(Mark::Row)?;
+        page.text(ruleset.name.as_slice())?;
+        page.mark(Mark::Cell)?;
+        write_names(page, ruleset.rules.as_slice())?;
+        page.mark(Mark::RowEnd)?;
+    }
+    page.mark(Mark::TableEnd)
+}
+
+fn write_sessions(page: &mut Page<'_>, sessions: &[SessionState]) -> Result<(), AllocError> {
+    page.mark(Mark::SessionsHead)?;
+    for (number, state) in sessions.iter().enumerate() {
+        page.count(Mark::Row, number as u64)?;
+        page.mark(match state {
+            SessionState::Closed => Mark::ClosedRow,
+            SessionState::Idle => Mark::IdleRow,
+            SessionState::Active => Mark::ActiveRow,
+        })?;
+    }
+    page.mark(Mark::TableEnd)
+}
