@@ -1,2 +1,5 @@
 pub mod Replaying
 pub mod Parts
+pub mod Steps
+pub mod Crashes
+pub mod Records

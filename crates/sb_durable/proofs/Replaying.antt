@@ -58,7 +58,7 @@ module _ (tenant bound : ℕ) where
       ∙ ap (λ (x : State). record x { steps = st.steps + 1 }) (rolls st s)
 
   -- what an entry is recorded as leads where the entry does
-  one : (before after : State) (e : Entry) → IsStep tenant bound before e after ⊎ IsAbort tenant bound before e after →
+  pub one : (before after : State) (e : Entry) → IsStep tenant bound before e after ⊎ IsAbort tenant bound before e after →
       ((step tenant bound before e.session (line_of e)).0 ≡ after) × (after_entry tenant bound before e ≡ after)
   one before after e (inl made) =
       let is = no_want e.reply made.0 in

@@ -7,6 +7,10 @@ mod noting;
 mod player;
 mod playing;
 mod recorder;
+mod restarting;
+mod run;
 
 pub use playing::{PlayError, PlayFault, Played, Progress, play};
 pub use recorder::Recorder;
+pub use restarting::restart;
+pub use run::{Recording, run_recorded};

@@ -1,8 +1,9 @@
 //! Plays records: each is a call of a host.
-ghost use Rattle.std.specs.Prelude.{◌≡◌, ◌<◌, ◌*◌, length};
+ghost use Rattle.std.specs.Prelude.{◌≡◌, ◌<◌, ◌*◌, length, false, IfOk, Some};
+ghost use Rattle.sb_tenant.specs.Trail.{is_no_memory};
 
 use crate::noting::ROLLBACK;
-use crate::playing::PlayFault;
+use crate::playing::{PlayFault, Plays};
 use sb_host::{CallError, Host, Naming, Session, Stub};
 use sb_journal::Record;
 use sb_tenant::{Answer, Reply};
@@ -45,7 +46,7 @@ impl<'h, N: Naming> Player<'h, N> {
     }
 
     /// Makes the call of a record.
-    pub(crate) fn play<T: Wait>(&mut self, rt: &T, line: Record) -> Result<(), PlayFault> {
+    fn play_record<T: Wait>(&mut self, rt: &T, line: Record) -> Result<(), PlayFault> {
         let tenant = line.tenant as usize;
         if tenant >= self.steps.len() {
             return Err(PlayFault::NoTenant);
@@ -124,6 +125,16 @@ impl<'h, N: Naming> Player<'h, N> {
     }
 }
 
+impl<'h, N: Naming> Plays for Player<'h, N> {
+    ghost use Rattle.std.specs.Prelude.{⊤};
+
+    ghost plays = { λ _ _ _. ⊤ };
+
+    fn play<T: Wait>(&mut self, rt: &T, _alloc: Global, line: Record) -> Result<(), PlayFault> {
+        self.play_record(rt, line)
+    }
+}
+
 /// The number of the step that opened a session.
 fn opened_by<N: Naming>(session: &Session<'_, N>) -> u32 {
     match session.list().first() {
@@ -147,7 +158,9 @@ fn step<N: Naming, T: Wait>(
 }
 
 /// The number of a step that was made in full.
-fn number_of(answer: &Answer) -> Result<u32, PlayFault> {
+pub(crate) fn number_of(answer: &Answer) -> Result<u32, PlayFault>
+    ensures { IfOk result (λ number. (answer.now.number ≡ Some number) × (is_no_memory answer.now.reply ≡ false)) }
+{
     match &answer.reply {
         Reply::No(Refusal::NoMemory) => Err(PlayFault::NoMemory),
         _ => answer.number.ok_or(PlayFault::TrailFull),

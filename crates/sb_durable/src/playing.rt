@@ -1,7 +1,14 @@
-//! A journal's records, played to a host that is new.
+//! A journal's records, played to what is new.
+ghost use Rattle.std.specs.Prelude.{◌≡◌, List, [], OnOk, IsTrue};
+ghost use Rattle.sb_journal.specs.Journal.{Has, disk_of};
+ghost use Rattle.sb_journal.specs.Records.{Entry, bytes_of, entry_of};
+ghost use Rattle.sb_journal.specs.declared.head.Head.{Head};
+ghost use Rattle.sb_durable.specs.Played.{PlaysAll};
+ghost use Rattle.sb_durable.specs.Restart.{AreRecords};
+
 use crate::player::Player;
 use sb_host::{AttachError, Host, Naming, Stub};
-use sb_journal::{Disk, Journal, JournalError, first_record};
+use sb_journal::{Disk, Journal, JournalError, Record, first_record};
 use std::alloc::Global;
 use std::fmt;
 use std::sync::Wait;
@@ -80,13 +87,42 @@ pub fn play<T: Wait, N: Naming, D: Disk, P: Progress>(
             why: PlayFault::NoMemory,
         });
     };
+    match play_all(rt, alloc, &mut player, journal, progress) {
+        Ok(records) => leave(rt, player, records),
+        Err(error) => Err(error),
+    }
+}
+
+/// What records are played to.
+pub(crate) trait Plays {
+    // what one record makes of it
+    ghost plays: { Self → Entry → Self → Type 0 };
+
+    /// Makes the call of a record.
+    fn play<T: Wait>(&mut self, rt: &T, alloc: Global, line: Record) -> Result<(), PlayFault>
+        ensures { OnOk result (plays self.old (entry_of line.entry) self.new) };
+}
+
+/// Plays all records of a journal, one after another. How many there were.
+pub(crate) fn play_all<T: Wait, S: Plays, D: Disk, P: Progress>(
+    rt: &T,
+    alloc: Global,
+    player: &mut S,
+    journal: &mut Journal<D>,
+    progress: &mut P,
+) -> Result<u64, PlayError>
+    ensures { OnOk result ((played : List Entry) × PlaysAll S.plays player.old played player.new
+        × (IsTrue (D.Disk.is_clean (disk_of journal.new)) → (head : Head) (records : List Entry)
+        → Has D.Disk.seen D.Disk.may_leave journal.old head records [] → AreRecords records
+        → (played ≡ records) × Has D.Disk.seen D.Disk.may_leave journal.new head records [])) }
+{
     let mut records = 0;
     let mut batch = Vec::new(alloc);
     let mut place = journal.first_place();
     for _ in rt.forever() {
         match journal.read(place, &mut batch) {
             Ok(Some(next)) => {
-                if let Err(why) = play_batch(rt, &mut player, &mut records, &batch) {
+                if let Err(why) = play_batch(rt, alloc, player, &mut records, &batch) {
                     return Err(PlayError {
                         record: records,
                         why,
@@ -95,7 +131,7 @@ pub fn play<T: Wait, N: Naming, D: Disk, P: Progress>(
                 place = next;
                 progress.tell(records, next as u64);
             }
-            Ok(None) => return leave(rt, player, records),
+            Ok(None) => return Ok(records),
             Err(error) => {
                 return Err(PlayError {
                     record: records,
@@ -108,12 +144,16 @@ pub fn play<T: Wait, N: Naming, D: Disk, P: Progress>(
 }
 
 /// Plays a batch of records, and counts them.
-fn play_batch<T: Wait, N: Naming>(
+fn play_batch<T: Wait, S: Plays>(
     rt: &T,
-    player: &mut Player<'_, N>,
+    alloc: Global,
+    player: &mut S,
     records: &mut u64,
     batch: &[u8],
-) -> Result<(), PlayFault> {
+) -> Result<(), PlayFault>
+    ensures { OnOk result ((played : List Entry) × PlaysAll S.plays player.old played player.new
+        × ((entries : List Entry) → AreRecords entries → batch.now ≡ bytes_of entries → played ≡ entries)) }
+{
     let mut left = batch;
     while !left.is_empty() {
         let Some((line, behind)) = first_record(left) else {
@@ -123,7 +163,7 @@ fn play_batch<T: Wait, N: Naming>(
             return Err(PlayFault::Journal(JournalError::Full));
         };
         *records = number;
-        player.play(rt, line)?;
+        player.play(rt, alloc, line)?;
         left = behind;
     }
     Ok(())

@@ -3,13 +3,24 @@ use crate::book::Book;
 use sb_host::{Host, Naming};
 use sb_journal::{Disk, Journal, JournalError};
 use std::alloc::Global;
+use std::mem;
 use std::sync::{Mutex, Wait};
 
 /// Records the trails of a host's tenants in a journal.
 #[derive(Drop)]
 pub struct Recorder<'h, N: Naming, D: Disk> {
+    alloc: Global,
     host: &'h Host<N>,
     book: Mutex<Book<D>>,
+    callers: Mutex<Callers>,
+}
+
+/// The tenants of all calls that wait for the book.
+#[derive(Drop)]
+struct Callers {
+    tenants: Vec<u32>,
+    /// How many times they were taken.
+    round: u64,
 }
 
 impl<'h, N: Naming, D: Disk> Recorder<'h, N, D> {
@@ -21,11 +32,16 @@ impl<'h, N: Naming, D: Disk> Recorder<'h, N, D> {
         recorded: Vec<u32>,
     ) -> Recorder<'h, N, D> {
         Recorder {
+            alloc,
             host,
             book: Mutex::new(Book {
                 alloc,
                 journal,
                 recorded,
+            }),
+            callers: Mutex::new(Callers {
+                tenants: Vec::new(alloc),
+                round: 0,
             }),
         }
     }
@@ -33,12 +49,43 @@ impl<'h, N: Naming, D: Disk> Recorder<'h, N, D> {
     /// Brings the file up to the trails of these tenants, and to the disk. After an error each further call is one, and
     /// writes nothing.
     pub fn keep<T: Wait>(&self, rt: &T, tenants: &[u32]) -> Result<(), JournalError> {
-        self.book.lock(rt).bring_up(rt, self.host, tenants)
+        let round = self.join(rt, tenants);
+        let mut book = self.book.lock(rt);
+        // one commit serves all that wait
+        let callers = self.take(rt);
+        match book.bring_up(rt, self.host, &callers.tenants) {
+            Ok(()) => {}
+            Err(error) => return Err(error),
+        }
+        if round == Some(callers.round) {
+            return Ok(());
+        }
+        // another call has taken them, and may have lacked memory
+        book.bring_up(rt, self.host, tenants)
+    }
+
+    /// Has these tenants wait with the others, and says in which round; `None` where there is no memory for that.
+    fn join<T: Wait>(&self, rt: &T, tenants: &[u32]) -> Option<u64> {
+        let mut callers = self.callers.lock(rt);
+        match callers.tenants.extend_from_slice(tenants) {
+            Ok(()) => Some(callers.round),
+            Err(_) => None,
+        }
+    }
+
+    /// The tenants that wait, and their round.
+    fn take<T: Wait>(&self, rt: &T) -> Callers {
+        let mut callers = self.callers.lock(rt);
+        let next = Callers {
+            tenants: Vec::new(self.alloc),
+            round: callers.round.wrapping_add(1),
+        };
+        mem::replace(&mut *callers, next)
     }
 
     /// Gives the file back.
     pub fn close(self) -> D {
-        let Recorder { host: _, book } = self;
+        let Recorder { book, .. } = self;
         let Book { journal, .. } = book.into_inner();
         journal.close()
     }
