@@ -8,7 +8,7 @@ use Rattle.sb_words.specs.declared.request.Dumping.{Dumping}
 use Rattle.sb_words.specs.declared.request.Paths.{Paths}
 use Rattle.sb_words.specs.declared.request.Hosting.{Hosting}
 use Rattle.sb_words.specs.declared.request.Request.{Request}
-use Rattle.sb_words.specs.declared.request.Request.TheVariants.{Run as run_request, Load, Serve, Keep, Replay, Parse, Dump, DumpAll, Compact, Key}
+use Rattle.sb_words.specs.declared.request.Request.TheVariants.{Run as run_request, Load, Serve, Keep, Replay, Parse, Dump, DumpAll, Compact, Key, Record}
 use Rattle.sb_words.specs.declared.request.Run.{Run}
 use Rattle.sb_words.specs.declared.request.Serving.{Serving}
 use Rattle.sb_words.specs.declared.words.Asked.{Asked}
@@ -52,6 +52,10 @@ abbrev dumped_in : Run → Request → Run
 dumped_in d (DumpAll r) = r
 dumped_in d other = d
 
+abbrev recorded_in : Run → Request → Run
+recorded_in d (Record r) = r
+recorded_in d other = d
+
 abbrev kind_of : Request → ℕ
 kind_of (run_request r) = 0
 kind_of (Serve s) = 1
@@ -63,6 +67,7 @@ kind_of (Load r) = 6
 kind_of (DumpAll r) = 7
 kind_of (Compact r) = 8
 kind_of Key = 9
+kind_of (Record r) = 10
 
 -- words that ask for two requests ask for one
 module _ (once : AskOnce) (words : List Text) where
@@ -86,6 +91,9 @@ module _ (once : AskOnce) (words : List Text) where
 
   pub same_dumped : (r q : Run) (P : Run → Type 0) → AskFor words (DumpAll r) → AskFor words (DumpAll q) → P r → P q
   same_dumped r q P a b h = subst P (ap (dumped_in r) (once words (DumpAll r) (DumpAll q) a b)) h
+
+  pub same_recorded : (r q : Run) (P : Run → Type 0) → AskFor words (Record r) → AskFor words (Record q) → P r → P q
+  same_recorded r q P a b h = subst P (ap (recorded_in r) (once words (Record r) (Record q) a b)) h
 
   pub no_other : (r q : Request) → kind_of r < kind_of q → AskFor words r → AskFor words q → ⊥
   no_other r q less a b = apart (kind_of r) (kind_of q) less (ap kind_of (once words r q a b))

@@ -8,3 +8,5 @@ pub mod Playing
 pub mod Does
 pub mod Faults
 pub mod Ends
+pub mod Journaled
+pub mod Showing

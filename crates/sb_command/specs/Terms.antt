@@ -1,5 +1,5 @@
 -- Promise: what a server's words say of it.
-use Rattle.std.specs.Prelude.{◌≡◌, ◌<◌, ◌*◌, ℕ, [], ◌∷◌, Option, Some, None}
+use Rattle.std.specs.Prelude.{◌≡◌, ◌<◌, ◌*◌, ℕ, [], ◌∷◌, Option, Some, None, ⊤}
 use Rattle.std.specs.Duration.{as_nanos}
 use Rattle.std.specs.declared.time.Duration.{Duration}
 use Rattle.std.specs.Net.Addr.{ipv4_octets}
@@ -31,8 +31,15 @@ AreTermsOf s t =
     (t.workers ≡ s.hosting.workers) × (t.first_tenant ≡ s.first_tenant) × (t.connections ≡ s.connections) × IsSeconds s.idle t.idle
     × IsSeconds s.idle_transaction t.idle_transaction × (t.until_input_ends ≡ s.until_input_ends)
 
+-- that port of 127.0.0.1, if there is one
+abbrev pub IsStatusOf : Option ℕ → Option SocketAddr → Type 0
+IsStatusOf None None = ⊤
+IsStatusOf (Some port) (Some address) = IsHere port address
+IsStatusOf None (Some address) = ⊥
+IsStatusOf (Some port) None = ⊥
+
 -- so does all of the plan
 abbrev pub IsPlanOf : Serving → Plan → Type 0
 IsPlanOf s p =
     IsHere s.port p.address × (p.tenants ≡ s.hosting.run.tenants) × (p.cells ≡ s.hosting.cells) × (p.bound ≡ s.hosting.run.bound)
-    × AreMegabytes s.tenant_memory p.tenant_memory × AreTermsOf s p.terms × (p.log ≡ s.log)
+    × AreMegabytes s.tenant_memory p.tenant_memory × AreTermsOf s p.terms × (p.log ≡ s.log) × IsStatusOf s.status p.status

@@ -133,20 +133,30 @@ impl<'c, N: Naming, T: Wait + Eprint + Clock + Files<File = File>> Compaction<'c
         let Ok(beside) = format!(in self.alloc; "{path}.new") else {
             return Err(OUT_OF_MEMORY);
         };
-        // what an earlier try left is of no use
-        let _removed = fs::remove_file(self.rt, beside.as_str());
-        let mut journal = match self.open(beside.as_str()) {
+        let written = self.write_beside(beside.as_str(), path);
+        if written.is_err() {
+            // half a journal is of no use
+            let _removed = fs::remove_file(self.rt, beside.as_str());
+        }
+        written
+    }
+
+    /// Writes a journal as `beside`, and then gives it the name.
+    fn write_beside(&self, beside: &str, path: &str) -> Result<(), Fault> {
+        // nor is what an earlier try left
+        let _removed = fs::remove_file(self.rt, beside);
+        let mut journal = match self.open(beside) {
             Ok(journal) => journal,
             Err(error) => {
-                self.log.tell_not_opened(beside.as_str(), error);
+                self.log.tell_not_opened(beside, error);
                 return Err(Fault::CannotWriteJournal);
             }
         };
-        if let Err(why) = self.write_all(&mut journal) {
-            let _removed = fs::remove_file(self.rt, beside.as_str());
-            return Err(why);
+        match self.write_all(&mut journal) {
+            Ok(()) => {}
+            Err(why) => return Err(why),
         }
-        match self.give_name(beside.as_str(), path) {
+        match self.give_name(beside, path) {
             Ok(()) => Ok(()),
             Err(error) => {
                 self.log.tell_no_journal(path, &error);

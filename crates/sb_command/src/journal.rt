@@ -45,6 +45,11 @@ impl<'r, T: Eprint + Clock> Journal<'r, T> {
         );
     }
 
+    /// Tells at which port the status pages are.
+    pub(crate) fn tell_status(&self, port: u16) {
+        self.write(Severity::Info, &format_args!("status pages at port {port}"));
+    }
+
     /// Tells why a replay refuses this line of its input.
     pub(crate) fn tell_bad_line(&self, line: u64, why: WireRefusal) {
         self.write(Severity::Error, &format_args!("bad line {line}: {why:?}"));
@@ -117,6 +122,11 @@ impl<'r, T: Eprint + Clock> Journal<'r, T> {
 
     /// Tells why nothing is recorded any more.
     pub(crate) fn tell_not_recorded(&self, why: JournalError) {
+        self.write(Severity::Error, &format_args!("journal: {why}"));
+    }
+
+    /// Tells why what was recorded isn't on the disk.
+    pub(crate) fn tell_not_synced(&self, why: &io::Error) {
         self.write(Severity::Error, &format_args!("journal: {why}"));
     }
 

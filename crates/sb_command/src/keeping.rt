@@ -11,9 +11,12 @@ use crate::folder::Folder;
 use crate::journal::Journal;
 use crate::listening::listen;
 use crate::loading::load_all;
+use crate::memory::memory_file;
 use crate::saving::save_all;
 use crate::server::{OUT_OF_MEMORY, opened_by, unserved};
+use crate::showing::Pages;
 use crate::terms::{Plan, plan_of};
+use crate::watching::{StatusPort, bound_to, serve_beside};
 use sb_connection::{Admission, Open};
 use sb_host::{Host, Naming, Opened, Stub};
 use sb_server::{Acceptor, Keeper, Unkept, serve_all};
@@ -26,6 +29,7 @@ use std::net::{Net, TcpListener, TcpStream};
 use std::rt::{Clock, Files};
 use std::sync::Wait;
 use std::thread::Threads;
+use std::time::Instant;
 
 /// Serves connections as a server does, on tenants that a journal or files keep.
 pub(crate) fn keep<
@@ -190,18 +194,38 @@ impl<
         ensures { OnOk result ((port : ℕ)
             × Appends (W.contents writer.old) (W.contents writer.new) (listening_line port)) }
     {
+        let port = match self.status_port(admission) {
+            Ok(port) => port,
+            Err(why) => return Err(why),
+        };
         let listener = match listen(self.rt, self.alloc, self.plan.address, self.journal, writer) {
             Ok(listener) => listener,
             Err(why) => return Err(why),
         };
+        self.serve_at(&listener, &port, admission, keeper, loaded)
+    }
+
+    /// Serves the connections of this port, and shows what there is at the other one.
+    pub(crate) fn serve_at<A: Admission + Sync, K: Keeper + Sync>(
+        &self,
+        listener: &TcpListener,
+        port: &Option<StatusPort<Pages<'_, N, A, T>>>,
+        admission: &A,
+        keeper: &K,
+        loaded: Vec<Stub>,
+    ) -> Result<Served, Fault> {
         let acceptor = Acceptor {
-            listener: &listener,
+            listener,
             watch: self.journal,
             admission,
             keeper,
             terms: self.plan.terms,
         };
-        let stubs = match serve_all(self.rt, self.alloc, &acceptor, self.host) {
+        let served = match port {
+            Some(port) => serve_beside(self.rt, self.alloc, &acceptor, self.host, port),
+            None => serve_all(self.rt, self.alloc, &acceptor, self.host),
+        };
+        let stubs = match served {
             Ok(stubs) => stubs,
             Err(error) => return Err(unserved(error)),
         };
@@ -211,6 +235,40 @@ impl<
                 saved: self.save(),
             }),
             Err(_) => Err(OUT_OF_MEMORY),
+        }
+    }
+
+    /// Listens at the status port, if there is to be one.
+    pub(crate) fn status_port<'a, A: Admission>(
+        &'a self,
+        admission: &'a A,
+    ) -> Result<Option<StatusPort<Pages<'a, N, A, T>>>, Fault> {
+        let Some(address) = self.plan.status else {
+            return Ok(None);
+        };
+        match bound_to(self.rt, address) {
+            Ok((listener, port)) => {
+                self.journal.tell_status(port);
+                Ok(Some(StatusPort::new(listener, self.pages(admission))))
+            }
+            Err(error) => {
+                self.journal.tell_cannot_listen(address.port(), &error);
+                Err(Fault::CannotListen)
+            }
+        }
+    }
+
+    /// What is shown at the status port.
+    fn pages<'a, A: Admission>(&'a self, admission: &'a A) -> Pages<'a, N, A, T> {
+        Pages {
+            rt: self.rt,
+            alloc: self.alloc,
+            host: self.host,
+            admission,
+            first_tenant: self.plan.terms.first_tenant,
+            bound: self.plan.bound,
+            began: Instant::now(self.rt).ok(),
+            memory: memory_file(self.rt),
         }
     }
 

@@ -13,6 +13,7 @@ ghost use Rattle.sb_command.specs.Faults.{unplayed_as};
 ghost use Rattle.sb_command.specs.Totals.{TellsServer};
 ghost use Rattle.sb_command.specs.Digesting.{TellsDigest};
 ghost use Rattle.sb_command.specs.Dumping.{DumpsInput, HaveScripts, RefusesDump, RefusesDumps};
+ghost use Rattle.sb_command.specs.Journaled.{AnswersJournaled};
 ghost use Rattle.sb_command.specs.Loading.{AnswersLoaded, GoesLoaded, IsUnloaded};
 ghost use Rattle.sb_command.specs.declared.fault.Fault.{Fault as ItsFault};
 ghost use Rattle.sb_words.specs.declared.request.Dumping.{Dumping as ItsDumping};
@@ -30,6 +31,7 @@ use crate::console::Console;
 use crate::digesting::tell_digest;
 use crate::dumping::dump_tenant;
 use crate::fault::{Fault, tell_fault};
+use crate::journaled::run_journaled;
 use crate::keeping::keep;
 use crate::parsing::parse_lines;
 use crate::refusing::{refuse, refuse_part};
@@ -103,6 +105,11 @@ pub fn command<
     ensures dumps_all { (r : ItsRun) → AskFor (map S.text words.now) (request.DumpAll r)
         → result ≡ 0 → (writer.new ≡ writer.old)
         × IfSome (R.remaining reader.old) (HaveScripts r.tenants r.bound) }
+    // and words that ask for a run with a journal what it is answered on tenants that a journal made
+    ensures records { (r : ItsRun) → AskFor (map S.text words.now) (request.Record r)
+        → result ≡ 0 → IfSome (R.remaining reader.old) (λ input. (text : List ℕ)
+        × Appends (W.contents writer.old) (W.contents writer.new) text
+        × AnswersJournaled r.tenants r.bound input text) }
     // and words that ask for it the digest of the key that the input's first line is
     ensures digests { AskFor (map S.text words.now) request.Key
         → result ≡ 0 → TellsDigest (R.remaining reader.old) (R.remaining reader.new)
@@ -171,6 +178,8 @@ pub fn command<
         × TellsEnd E.refuses E.contents errors.old.sink errors.new.sink ended result
         × (reader.new ≡ reader.old) × (writer.new ≡ writer.old))
         ⊎ (AskFor (map S.text words.now) request.Key × (ended : _)
+        × TellsEnd E.refuses E.contents errors.old.sink errors.new.sink ended result)
+        ⊎ ((r : ItsRun) × AskFor (map S.text words.now) (request.Record r) × (ended : _)
         × TellsEnd E.refuses E.contents errors.old.sink errors.new.sink ended result) }
 {
     // for the proof: words ask for one thing
@@ -191,6 +200,10 @@ pub fn command<
         }
         Ok(Asked::For(Request::Load(asked), paths)) => {
             run_loaded(rt, alloc, asked, paths.load, reader, writer, errors)
+        }
+        Ok(Asked::For(Request::Record(asked), paths)) => {
+            let ended = run_journaled(rt, alloc, asked, paths, reader, writer);
+            tell_end(alloc, ended, &mut errors.sink)
         }
         Ok(Asked::For(Request::Keep(asked), paths)) => {
             let ended = keep(rt, alloc, asked, paths, writer);

@@ -1,22 +1,29 @@
 //! A server with a journal: it begins as the journal leaves it, and what is answered is recorded before it is sent.
 ghost use Rattle.std.specs.Prelude.{◌≡◌, ℕ, OnOk};
 ghost use Rattle.std.specs.Io.KnownBytes.{Appends};
+ghost use Rattle.std.specs.Thread.{IsSend, IsSync};
 ghost use Rattle.sb_command.specs.Totals.{listening_line};
 
 use crate::fault::Fault;
+use crate::flushing::Flusher;
 use crate::journal::Journal;
 use crate::keeping::{Keeping, Served};
+use crate::listening::listen;
+use crate::showing::Pages;
+use crate::watching::StatusPort;
 use sb_connection::Admission;
 use sb_durable::{Played, Progress, Recorder, play};
-use sb_host::Naming;
+use sb_host::{Naming, Stub};
 use sb_journal::{File as JournalFile, Head, JournalError, Syncing, Wary, open_path};
 use sb_server::{Keeper, Kept};
 use sb_wire::Sink;
+use sb_words::Syncs;
 use std::fs::File;
 use std::net::{Net, TcpListener, TcpStream};
 use std::rt::{Clock, Files};
 use std::sync::Wait;
 use std::sync::atomic::{AtomicBool, Ordering};
+use std::thread;
 use std::thread::Threads;
 use std::time::{Duration, Instant};
 
@@ -31,6 +38,36 @@ struct Recording<'k, R, T> {
     /// There was no memory the last time.
     lacks_memory: AtomicBool,
     has_failed: AtomicBool,
+    /// It syncs what is written, where that isn't done with each record.
+    flusher: Option<&'k Flusher<'k, T>>,
+}
+
+impl<'k, R, T: Eprint + Clock> Recording<'k, R, T> {
+    fn new(
+        recorder: R,
+        journal: &'k Journal<'k, T>,
+        flusher: Option<&'k Flusher<'k, T>>,
+    ) -> Recording<'k, R, T> {
+        Recording {
+            recorder,
+            journal,
+            lacks_memory: AtomicBool::new(false),
+            has_failed: AtomicBool::new(false),
+            flusher,
+        }
+    }
+
+    /// Notes that something was written, unless an earlier sync has failed.
+    fn written(&self) -> Kept {
+        match self.flusher {
+            Some(flusher) if flusher.has_failed() => Kept::Failed,
+            Some(flusher) => {
+                flusher.note();
+                Kept::All
+            }
+            None => Kept::All,
+        }
+    }
 }
 
 impl<'k, N: Naming, T: Eprint + Clock> Keeper
@@ -43,7 +80,7 @@ impl<'k, N: Naming, T: Eprint + Clock> Keeper
         match self.recorder.keep(rt, tenants) {
             Ok(()) => {
                 self.lacks_memory.store(false, Ordering::SeqCst);
-                Kept::All
+                self.written()
             }
             Err(JournalError::Memory) => {
                 if !self.lacks_memory.swap(true, Ordering::SeqCst) {
@@ -59,6 +96,14 @@ impl<'k, N: Naming, T: Eprint + Clock> Keeper
                 Kept::Failed
             }
         }
+    }
+}
+
+/// Whether what is written is synced at once.
+pub(crate) fn syncing_of(syncs: Syncs) -> Syncing {
+    match syncs {
+        Syncs::Always => Syncing::Always,
+        Syncs::Second | Syncs::Never => Syncing::Never,
     }
 }
 
@@ -117,15 +162,89 @@ impl<
         ensures { OnOk result ((port : ℕ)
             × Appends (W.contents writer.old) (W.contents writer.new) (listening_line port)) }
     {
+        let (recorder, stubs) = match self.restart(path) {
+            Ok(restarted) => restarted,
+            Err(why) => return Err(why),
+        };
+        if let Syncs::Second = self.paths.syncs {
+            return self.record_by_seconds(path, admission, recorder, stubs, writer);
+        }
+        let recording = Recording::new(recorder, self.journal, None);
+        self.serve_with(admission, &recording, stubs, writer)
+    }
+
+    /// The same, where a thread of its own syncs what is recorded.
+    fn record_by_seconds<A: Admission + Sync, W: Sink>(
+        &self,
+        path: &str,
+        admission: &A,
+        recorder: Recorder<'k, N, JournalFile<Wary>>,
+        stubs: Vec<Stub>,
+        writer: &mut W,
+    ) -> Result<Served, Fault>
+        ensures { OnOk result ((port : ℕ)
+            × Appends (W.contents writer.old) (W.contents writer.new) (listening_line port)) }
+    {
+        let flusher = match Flusher::open(self.rt, path, self.journal) {
+            Ok(flusher) => flusher,
+            Err(error) => {
+                self.journal.tell_no_journal(path, &error);
+                return Err(Fault::CannotOpenJournal);
+            }
+        };
+        let recording = Recording::new(recorder, self.journal, Some(&flusher));
+        let port = match self.status_port(admission) {
+            Ok(port) => port,
+            Err(why) => return Err(why),
+        };
+        let listener = match listen(self.rt, self.alloc, self.plan.address, self.journal, writer) {
+            Ok(listener) => listener,
+            Err(why) => return Err(why),
+        };
+        let served = self.serve_beside(&flusher, (&listener, &port), admission, &recording, stubs);
+        if flusher.has_failed() {
+            return Err(Fault::JournalFailed);
+        }
+        served
+    }
+
+    /// Serves the connections of this port, and syncs beside them.
+    fn serve_beside<A: Admission + Sync, K: Keeper + Sync>(
+        &self,
+        flusher: &Flusher<'k, T>,
+        ports: (&TcpListener, &Option<StatusPort<Pages<'_, N, A, T>>>),
+        admission: &A,
+        keeper: &K,
+        stubs: Vec<Stub>,
+    ) -> Result<Served, Fault> {
+        let rt = self.rt;
+        thread::scope(
+            thread::scope_env(),
+            rt,
+            |scope| -> Result<Served, Fault>
+                requires { IsSend N.row × IsSync N.row × IsSync T.row × IsSync A.row × IsSync K.row }
+            {
+                if scope.spawn(move || flusher.run(rt)).is_err() {
+                    return Err(Fault::CannotStart);
+                }
+                let (listener, port) = ports;
+                let served = self.serve_at(listener, port, admission, keeper, stubs);
+                flusher.end();
+                served
+            },
+        )
+    }
+
+    /// Has the tenants as the journal at this path leaves them: what records, and what the sessions of the file left.
+    fn restart(
+        &self,
+        path: &str,
+    ) -> Result<(Recorder<'k, N, JournalFile<Wary>>, Vec<Stub>), Fault> {
         let head = Head {
             tenants: self.plan.tenants,
             bound: u64::from(self.plan.bound),
         };
-        let syncing = if self.paths.is_synced {
-            Syncing::Always
-        } else {
-            Syncing::Never
-        };
+        let syncing = syncing_of(self.paths.syncs);
         let mut file = match open_path(self.rt, self.alloc, path, syncing, head) {
             Ok(file) => file,
             Err(error) => {
@@ -134,24 +253,18 @@ impl<
             }
         };
         let mut playing = Playing::new(self.rt, self.journal);
-        let played = match play(self.rt, self.alloc, self.host, &mut file, &mut playing) {
-            Ok(played) => played,
+        match play(self.rt, self.alloc, self.host, &mut file, &mut playing) {
+            Ok(
+                Played {
+                    stubs,
+                    recorded,
+                    ..
+                },
+            ) => Ok((Recorder::new(self.alloc, self.host, file, recorded), stubs)),
             Err(error) => {
                 self.journal.tell_not_played(path, error);
-                return Err(Fault::CannotOpenJournal);
+                Err(Fault::CannotOpenJournal)
             }
-        };
-        let Played {
-            stubs,
-            recorded,
-            ..
-        } = played;
-        let recording = Recording {
-            recorder: Recorder::new(self.alloc, self.host, file, recorded),
-            journal: self.journal,
-            lacks_memory: AtomicBool::new(false),
-            has_failed: AtomicBool::new(false),
-        };
-        self.serve_with(admission, &recording, stubs, writer)
+        }
     }
 }

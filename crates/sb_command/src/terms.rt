@@ -1,6 +1,6 @@
 //! What a server's words say of it, as the server takes it.
 ghost use Rattle.std.specs.Prelude.{◌≤◌};
-ghost use Rattle.sb_command.specs.Terms.{AreMegabytes, AreTermsOf, IsHere, IsPlanOf, IsSeconds};
+ghost use Rattle.sb_command.specs.Terms.{AreMegabytes, AreTermsOf, IsHere, IsPlanOf, IsSeconds, IsStatusOf};
 ghost use Rattle.sb_words.specs.Within.{AreServer};
 
 use sb_server::Terms;
@@ -21,6 +21,8 @@ pub(crate) struct Plan {
     pub(crate) tenant_memory: Option<u64>,
     pub(crate) terms: Terms,
     pub(crate) log: Severity,
+    /// Where the status pages are, if there are some.
+    pub(crate) status: Option<SocketAddr>,
 }
 
 /// The plan that these words are for.
@@ -36,6 +38,18 @@ pub(crate) fn plan_of(serving: Serving) -> Plan
         tenant_memory: megabytes(serving.tenant_memory),
         terms: terms_of(serving),
         log: serving.log,
+        status: status_of(serving),
+    }
+}
+
+/// Where the status pages are to be, if there are to be some.
+fn status_of(serving: Serving) -> Option<SocketAddr>
+    requires { AreServer serving }
+    ensures { IsStatusOf serving.status result }
+{
+    match serving.status {
+        Some(port) => Some(here(port as u16)),
+        None => None,
     }
 }
 

@@ -4,11 +4,12 @@ use Rattle.clap.specs.declared.error.kind.ErrorKind.TheVariants.{DisplayHelp, Di
 use Rattle.sb_wire.specs.Stream.{AnswersFresh}
 use Rattle.sb_replay.specs.Replay.{Replays}
 use Rattle.sb_command.specs.Dumping.{DumpsInput, HaveScripts}
+use Rattle.sb_command.specs.Journaled.{AnswersJournaled}
 use Rattle.sb_command.specs.Loading.{AnswersLoaded}
 use Rattle.sb_command.specs.Totals.{TellsServer}
 use Rattle.sb_words.specs.Words.{IsAsked}
-use Rattle.sb_words.specs.declared.request.Request.TheVariants.{Run, Load, Serve, Keep, Replay, Parse, Dump, DumpAll, Compact, Key}
-use Rattle.sb_command.proofs.Runs.{asked_for, few_texts, no_other, same_dumped, same_dumping, same_hosting, same_kept, same_loaded, same_run, same_serving, went_well}
+use Rattle.sb_words.specs.declared.request.Request.TheVariants.{Run, Load, Serve, Keep, Replay, Parse, Dump, DumpAll, Compact, Key, Record}
+use Rattle.sb_command.proofs.Runs.{asked_for, few_texts, no_other, same_dumped, same_dumping, same_hosting, same_kept, same_loaded, same_recorded, same_run, same_serving, went_well}
 use Rattle.sb_command.proofs.Told.{at_success}
 use Rattle.sb_command.proofs.program.command.Goals as goal
 
@@ -212,11 +213,32 @@ returns-in-Ok-For-Key-default-clause-digests g c = λ asks ok.
 
 pub returns-in-Ok-For-Key-default-clause-asked : goal.returns-in-Ok-For-Key-default-clause-asked
 returns-in-Ok-For-Key-default-clause-asked g c = let words = map g.S.AsStr.text c.args.words.now in let b = c.in-Ok-For-Key-default in
-    inr (inr (inr (inr (inr (inr (inr (inr (inr (inr (inr (inr (inr (inr (
+    inr (inr (inr (inr (inr (inr (inr (inr (inr (inr (inr (inr (inr (inr (inl (
       asked_for words b.field-0 b.field-0-0 Key b.field-0-1 b.ensures.asked b.field-0-is b.field-0-0-is,
       c.tell_digest-ended.result,
       c.tell_end-in-Ok-For-Key-default.ensures,
-    ))))))))))))))
+    )))))))))))))))
+
+pub returns-in-Ok-For-Record-default-clause-usual : goal.returns-in-Ok-For-Record-default-clause-usual
+returns-in-Ok-For-Record-default-clause-usual g c = λ few ok. let words = map g.S.AsStr.text c.args.words.now in let b = c.in-Ok-For-Record-default in
+    absurd (no_other c.words_ask_once.ensures.once words (Run (record { tenants = 16; bound = 1000 })) (Record b.asked) (omega arith)
+    (c.words_ask_once.ensures.usual words (few_texts g.S.AsStr.text c.args.words.now few)) (asked_for words b.field-0 b.field-0-0 (Record b.asked) b.paths b.ensures.asked b.field-0-is b.field-0-0-is))
+
+pub returns-in-Ok-For-Record-default-clause-records : goal.returns-in-Ok-For-Record-default-clause-records
+returns-in-Ok-For-Record-default-clause-records g c = λ r asks ok. let words = map g.S.AsStr.text c.args.words.now in let b = c.in-Ok-For-Record-default in
+    same_recorded c.words_ask_once.ensures.once words b.asked r
+    (λ q. IfSome (g.R.Read.remaining c.args.reader.now) (λ input. (text : List ℕ) × Appends (g.W.Write.contents c.args.writer.now) (g.W.Write.contents c.run_journaled-ended.new.writer) text × AnswersJournaled q.tenants q.bound input text))
+    (asked_for words b.field-0 b.field-0-0 (Record b.asked) b.paths b.ensures.asked b.field-0-is b.field-0-0-is) asks
+    (went_well g.E.Sink.refuses g.E.Write.contents c.args.errors.now.sink c.tell_end-in-Ok-For-Record-default.new.errors c.run_journaled-ended.result c.tell_end-in-Ok-For-Record-default.result c.tell_end-in-Ok-For-Record-default.ensures ok c.run_journaled-ended.ensures)
+
+pub returns-in-Ok-For-Record-default-clause-asked : goal.returns-in-Ok-For-Record-default-clause-asked
+returns-in-Ok-For-Record-default-clause-asked g c = let words = map g.S.AsStr.text c.args.words.now in let b = c.in-Ok-For-Record-default in
+    inr (inr (inr (inr (inr (inr (inr (inr (inr (inr (inr (inr (inr (inr (inr (
+      b.asked,
+      asked_for words b.field-0 b.field-0-0 (Record b.asked) b.paths b.ensures.asked b.field-0-is b.field-0-0-is,
+      c.run_journaled-ended.result,
+      c.tell_end-in-Ok-For-Record-default.ensures,
+    )))))))))))))))
 
 pub returns-in-Ok-Help-clause-usual : goal.returns-in-Ok-Help-clause-usual
 returns-in-Ok-Help-clause-usual g c = λ few ok. let words = map g.S.AsStr.text c.args.words.now in

@@ -1,0 +1,93 @@
+//! The numbers of a tenant, copied within the lock of its cell.
+ghost use Rattle.std.specs.Prelude.{◌≡◌, ◌+◌, ◌-◌, length};
+ghost use Rattle.sb_tenant.specs.Limits.{trail_limit};
+ghost use Rattle.sb_tenant.specs.Tenant.{state};
+
+use sb_host::{Host, Naming, Reading};
+use sb_status::TenantNumbers;
+use sb_tables::Tables;
+use sb_tenant::{TRAIL_LIMIT, Tenant};
+use sb_value::{SESSION_LIMIT, SessionId};
+use std::sync::Wait;
+
+/// Copies the numbers of a tenant of which a session was ever opened.
+#[derive(Drop)]
+struct Counting {
+    first_tenant: u32,
+    numbers: Option<TenantNumbers>,
+}
+
+impl Reading for Counting {
+    ghost use Rattle.std.specs.Prelude.{⊤};
+
+    ghost reads = { λ _ _ _. ⊤ };
+
+    fn read(&mut self, tenant: &Tenant) {
+        if !tenant.trail().is_empty() {
+            self.numbers = Some(numbers_of(self.first_tenant, tenant));
+        }
+    }
+}
+
+/// The numbers of a tenant, if a session of it was ever opened.
+pub(crate) fn numbers_at<T: Wait, N: Naming>(
+    rt: &T,
+    host: &Host<N>,
+    first_tenant: u32,
+    tenant: u32,
+) -> Option<TenantNumbers> {
+    let mut counting = Counting {
+        first_tenant,
+        numbers: None,
+    };
+    let _is_there = host.read(rt, tenant, &mut counting);
+    counting.numbers
+}
+
+/// The numbers of a tenant, as clients name it.
+pub(crate) fn numbers_of(first_tenant: u32, tenant: &Tenant) -> TenantNumbers
+    ensures tenant { result.tenant ≡ first_tenant + tenant.now.id }
+    ensures steps { result.steps ≡ length tenant.now.trail }
+    ensures room { result.room ≡ trail_limit - length tenant.now.trail }
+    ensures rules { result.rules ≡ length (state tenant.now).catalog.rules }
+{
+    let steps = tenant.trail().len();
+    TenantNumbers {
+        tenant: u64::from(first_tenant) + u64::from(tenant.id().number()),
+        steps: steps as u64,
+        room: TRAIL_LIMIT.saturating_sub(steps) as u64,
+        tables: tenant.tables().len() as u64,
+        rules: tenant.definitions().rules.rules().len() as u64,
+        rows: rows_in(tenant.tables()),
+        open: sessions_in(tenant, false),
+        active: sessions_in(tenant, true),
+    }
+}
+
+/// How many rows all tables have, with the changes of all sessions.
+fn rows_in(tables: &Tables) -> u64 {
+    let mut rows: u64 = 0;
+    for place in 0..tables.len() {
+        if let Some(table) = tables.table_at(place) {
+            rows = rows.saturating_add(table.len() as u64);
+        }
+    }
+    rows
+}
+
+/// How many sessions are open, or of these how many have a transaction.
+fn sessions_in(tenant: &Tenant, with_transaction: bool) -> u64 {
+    let mut count: u64 = 0;
+    for number in 0..SESSION_LIMIT {
+        let session = SessionId::new(number as u8);
+        let is_counted = if with_transaction {
+            tenant.has_transaction(session)
+        } else {
+            tenant.is_open(session)
+        };
+        if is_counted {
+            count = count.saturating_add(1);
+        }
+    }
+    count
+}

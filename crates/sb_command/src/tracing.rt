@@ -1,0 +1,188 @@
+//! The lines of a trail that made its tenant's rules.
+
+use memchr::memchr;
+use sb_catalog::Catalog;
+use sb_host::{Host, Naming, Reading};
+use sb_tenant::{Entry, Reply, Tenant};
+use sb_value::{NAME_LIMIT, Name, RULE_LIMIT};
+use std::alloc::{AllocError, Global};
+use std::mem;
+use std::sync::Wait;
+
+/// How many entries are looked at before the lock is let go.
+const PIECE: usize = 4096;
+
+/// The most lines that are kept of a rule.
+const MOST: usize = 8;
+
+/// The lines of a rule that are found so far.
+#[derive(Drop)]
+struct Found {
+    /// The newest first.
+    lines: Vec<Vec<u8>>,
+    /// The line that created it is found.
+    is_whole: bool,
+}
+
+/// Looks for the lines that made the rules, from the newest entry of a trail to the first. Entries never change, so the
+/// lock is let go between pieces of the trail.
+#[derive(Drop)]
+pub(crate) struct RuleLines {
+    alloc: Global,
+    /// How many entries aren't looked at yet.
+    left: usize,
+    /// By the numbers of rules.
+    found: Vec<Found>,
+    lacks_memory: bool,
+}
+
+impl Reading for RuleLines {
+    ghost use Rattle.std.specs.Prelude.{⊤};
+
+    ghost reads = { λ _ _ _. ⊤ };
+
+    fn read(&mut self, tenant: &Tenant) {
+        let rules = &tenant.definitions().rules;
+        for _ in 0..PIECE {
+            if self.left == 0 || self.lacks_memory {
+                return;
+            }
+            self.left -= 1;
+            if let Some(entry) = tenant.trail().get(self.left) {
+                self.look_at(rules, entry);
+            }
+        }
+    }
+}
+
+impl RuleLines {
+    /// Nothing is found yet in a trail of so many entries.
+    pub(crate) fn new(alloc: Global, steps: usize) -> Result<RuleLines, AllocError> {
+        let mut found = Vec::new(alloc);
+        for _ in 0..RULE_LIMIT {
+            found.push(Found {
+                lines: Vec::new(alloc),
+                is_whole: false,
+            })?;
+        }
+        Ok(RuleLines {
+            alloc,
+            left: steps,
+            found,
+            lacks_memory: false,
+        })
+    }
+
+    /// Looks at all entries.
+    pub(crate) fn trace<T: Wait, N: Naming>(
+        &mut self,
+        rt: &T,
+        host: &Host<N>,
+        tenant: u32,
+    ) -> Result<(), AllocError> {
+        for _ in 0..self.left / PIECE + 1 {
+            if self.left == 0 || self.lacks_memory {
+                break;
+            }
+            let _is_there = host.read(rt, tenant, self);
+        }
+        if self.lacks_memory {
+            return Err(AllocError);
+        }
+        Ok(())
+    }
+
+    /// The lines of the rule with this number, the oldest first.
+    pub(crate) fn take(&mut self, number: usize) -> Vec<Vec<u8>> {
+        let Some(found) = self.found.get_mut(number) else {
+            return Vec::new(self.alloc);
+        };
+        found.lines.as_mut_slice().reverse();
+        mem::replace(&mut found.lines, Vec::new(self.alloc))
+    }
+
+    /// Keeps the line of an entry if it created or altered a rule that there is.
+    fn look_at(&mut self, rules: &Catalog, entry: &Entry) {
+        let Reply::Ok = &entry.reply else {
+            return;
+        };
+        let line = entry.line.as_slice();
+        let Some(deed) = deed_of(line) else {
+            return;
+        };
+        let Some(rule) = rules.find(&deed.rule) else {
+            return;
+        };
+        if let Some(found) = self.found.get_mut(rule.id.index()) {
+            if found.add(self.alloc, line, deed.creates).is_err() {
+                self.lacks_memory = true;
+            }
+        }
+    }
+}
+
+impl Found {
+    /// Adds an older line, unless it is of an earlier rule of the name, or there are too many.
+    fn add(&mut self, alloc: Global, line: &[u8], creates: bool) -> Result<(), AllocError> {
+        if self.is_whole {
+            return Ok(());
+        }
+        self.is_whole = creates;
+        if creates || self.lines.len() < MOST {
+            self.lines.push(line.to_vec(alloc)?)?;
+        }
+        Ok(())
+    }
+}
+
+/// What a line does to a rule.
+#[derive(Clone, Copy)]
+struct Deed {
+    rule: Name,
+    /// It creates the rule, and otherwise alters it.
+    creates: bool,
+}
+
+/// What a line does to a rule, if it may create or alter one.
+fn deed_of(line: &[u8]) -> Option<Deed> {
+    let first = Cut::of(line);
+    let creates = first.word == b"create".as_slice();
+    if !creates && first.word != b"alter".as_slice() {
+        return None;
+    }
+    let second = Cut::of(first.rest);
+    if second.word != b"rule".as_slice() {
+        return None;
+    }
+    let name = Cut::of(second.rest).word;
+    if name.is_empty() || name.len() > NAME_LIMIT {
+        return None;
+    }
+    Some(Deed {
+        rule: Name::new(name),
+        creates,
+    })
+}
+
+/// The first word of a text, and what stands behind it.
+#[derive(Clone, Copy)]
+struct Cut<'a> {
+    word: &'a [u8],
+    rest: &'a [u8],
+}
+
+impl<'a> Cut<'a> {
+    fn of(text: &'a [u8]) -> Cut<'a> {
+        let text = text.trim_ascii_start();
+        match memchr(b' ', text) {
+            Some(place) => Cut {
+                word: &text[..place],
+                rest: &text[place..],
+            },
+            None => Cut {
+                word: text,
+                rest: &[],
+            },
+        }
+    }
+}

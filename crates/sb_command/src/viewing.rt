@@ -1,0 +1,198 @@
+//! What a tenant is, copied within the lock of its cell.
+
+use crate::counting::numbers_of;
+use crate::graphing::graph_of;
+use crate::tracing::RuleLines;
+use sb_catalog::{Definitions, Rule};
+use sb_host::{Host, Naming, Reading};
+use sb_status::{
+    ColumnView, RuleView, RulesetView, SessionState, TableView, TenantView, TriggersView,
+};
+use sb_tables::{Table, Tables};
+use sb_tenant::Tenant;
+use sb_value::{ColumnDefinition, ColumnType, Columns, Name, RuleSet, SESSION_LIMIT, SessionId};
+use std::alloc::{AllocError, Global};
+use std::sync::Wait;
+
+/// Copies what a tenant is.
+#[derive(Drop)]
+struct Viewing {
+    alloc: Global,
+    first_tenant: u32,
+    view: Result<Option<TenantView>, AllocError>,
+}
+
+impl Reading for Viewing {
+    ghost use Rattle.std.specs.Prelude.{⊤};
+
+    ghost reads = { λ _ _ _. ⊤ };
+
+    fn read(&mut self, tenant: &Tenant) {
+        self.view = match view_of(self.alloc, self.first_tenant, tenant) {
+            Ok(view) => Ok(Some(view)),
+            Err(error) => Err(error),
+        };
+    }
+}
+
+/// What a tenant is, if there is one of that number, with the lines that made its rules.
+pub(crate) fn view_at<T: Wait, N: Naming>(
+    rt: &T,
+    alloc: Global,
+    host: &Host<N>,
+    first_tenant: u32,
+    tenant: u32,
+) -> Result<Option<TenantView>, AllocError> {
+    let mut viewing = Viewing {
+        alloc,
+        first_tenant,
+        view: Ok(None),
+    };
+    let _is_there = host.read(rt, tenant, &mut viewing);
+    let Viewing { view, .. } = viewing;
+    let Some(mut view) = view? else {
+        return Ok(None);
+    };
+    let mut lines = RuleLines::new(alloc, view.numbers.steps as usize)?;
+    lines.trace(rt, host, tenant)?;
+    for rule in view.rules.iter_mut() {
+        rule.lines = lines.take(rule.number);
+    }
+    Ok(Some(view))
+}
+
+/// All of a tenant but the lines that made its rules.
+fn view_of(alloc: Global, first_tenant: u32, tenant: &Tenant) -> Result<TenantView, AllocError> {
+    let definitions = tenant.definitions();
+    let tables = tables_of(alloc, tenant.tables())?;
+    let rules = rules_of(alloc, tenant.tables(), definitions.rules.rules())?;
+    let rulesets = rulesets_of(alloc, definitions)?;
+    let sessions = sessions_of(alloc, tenant)?;
+    let graph = graph_of(alloc, definitions)?;
+    Ok(TenantView {
+        numbers: numbers_of(first_tenant, tenant),
+        tables,
+        rules,
+        rulesets,
+        sessions,
+        graph,
+    })
+}
+
+fn copied(alloc: Global, name: &Name) -> Result<Vec<u8>, AllocError> {
+    name.as_slice().to_vec(alloc)
+}
+
+fn tables_of(alloc: Global, tables: &Tables) -> Result<Vec<TableView>, AllocError> {
+    let mut views = Vec::new(alloc);
+    for place in 0..tables.len() {
+        if let (Some((name, _)), Some(table)) = (tables.at(place), tables.table_at(place)) {
+            views.push(table_view(alloc, name, table)?)?;
+        }
+    }
+    Ok(views)
+}
+
+fn table_view(alloc: Global, name: &Name, table: &Table) -> Result<TableView, AllocError> {
+    let mut columns = Vec::new(alloc);
+    for column in table.columns() {
+        columns.push(ColumnView {
+            name: copied(alloc, &column.name)?,
+            is_text: match column.of {
+                ColumnType::Int => false,
+                ColumnType::Text => true,
+            },
+        })?;
+    }
+    Ok(TableView {
+        name: copied(alloc, name)?,
+        columns,
+        rows: table.len() as u64,
+    })
+}
+
+fn rules_of(alloc: Global, tables: &Tables, rules: &[Rule]) -> Result<Vec<RuleView>, AllocError> {
+    let mut views = Vec::new(alloc);
+    for rule in rules {
+        views.push(rule_view(alloc, tables, rule)?)?;
+    }
+    Ok(views)
+}
+
+fn rule_view(alloc: Global, tables: &Tables, rule: &Rule) -> Result<RuleView, AllocError> {
+    let table = match tables.name(rule.table) {
+        Some(name) => copied(alloc, name)?,
+        None => Vec::new(alloc),
+    };
+    let columns = match tables.get(rule.table) {
+        Some(table) => named_columns(alloc, table.columns(), rule.triggers.columns)?,
+        None => Vec::new(alloc),
+    };
+    Ok(RuleView {
+        number: rule.id.index(),
+        name: copied(alloc, &rule.name)?,
+        table,
+        triggers: TriggersView {
+            inserted: rule.triggers.inserted,
+            deleted: rule.triggers.deleted,
+            updated: rule.triggers.updated,
+            columns,
+        },
+        is_active: rule.active,
+        lines: Vec::new(alloc),
+    })
+}
+
+/// The names of the columns of a set.
+fn named_columns(
+    alloc: Global,
+    columns: &[ColumnDefinition],
+    set: Columns,
+) -> Result<Vec<Vec<u8>>, AllocError> {
+    let mut names = Vec::new(alloc);
+    for (place, column) in columns.iter().enumerate() {
+        if place < 8 && set.contains(place as u8) {
+            names.push(copied(alloc, &column.name)?)?;
+        }
+    }
+    Ok(names)
+}
+
+fn rulesets_of(alloc: Global, definitions: &Definitions) -> Result<Vec<RulesetView>, AllocError> {
+    let mut views = Vec::new(alloc);
+    for place in 0..definitions.rulesets.len() {
+        if let Some((name, set)) = definitions.rulesets.at(place) {
+            views.push(RulesetView {
+                name: copied(alloc, name)?,
+                rules: members_of(alloc, definitions.rules.rules(), *set)?,
+            })?;
+        }
+    }
+    Ok(views)
+}
+
+/// The names of the rules of a set.
+fn members_of(alloc: Global, rules: &[Rule], set: RuleSet) -> Result<Vec<Vec<u8>>, AllocError> {
+    let mut names = Vec::new(alloc);
+    for rule in rules {
+        if set.contains(rule.id) {
+            names.push(copied(alloc, &rule.name)?)?;
+        }
+    }
+    Ok(names)
+}
+
+fn sessions_of(alloc: Global, tenant: &Tenant) -> Result<Vec<SessionState>, AllocError> {
+    let mut states = Vec::new(alloc);
+    for number in 0..SESSION_LIMIT {
+        let session = SessionId::new(number as u8);
+        states.push(if tenant.has_transaction(session) {
+            SessionState::Active
+        } else if tenant.is_open(session) {
+            SessionState::Idle
+        } else {
+            SessionState::Closed
+        })?;
+    }
+    Ok(states)
+}
