@@ -1,15 +1,19 @@
 #!/usr/bin/env python3
 """Tries a server with a journal: what was answered is there after a restart.
 
-    journal.py [PROGRAM] [--kills N] [--cuts N] [--calls N] [--seed N]
+    journal.py [PROGRAM] [--kills N] [--cuts N] [--each] [--requests N] [--calls N] [--seed N]
 
 PROGRAM is crates/starhost/out/starhost where no word is given. Eight clients make transactions while the server is killed
-at some moment, N times (12); then it is started with the same file. Each line that was answered has to be a record, in
-its order, and each tenant's dump has to be that of `run` over the records, with the sessions that were open ended. Then
-the file is cut at N places (60) and has other bytes behind it: a first part of the records is found. Each of N calls on
-files (40) fails in turn (refuse_disk.c, compiled by cc): the server ends with a fault, and what it answered is there.
-Then what can't be: two servers on one file, another number of tenants, another bound, a full disk. The first thing that
-isn't as it is to be ends this with status 1.
+at some moment, N times (12), with each --sync in turn; then it is started with the same file. Each line that was answered
+has to be a record, in its order, and each tenant's dump has to be that of `run` over the records, with the sessions that
+were open ended. Then the file is cut at N places (60), or at each of its first 3,000 bytes (--each): a first part of the
+records is found. So it is where other bytes stand behind the last record. Other bytes behind a cut may look like a
+record; no more is refused then than the file. N requests for memory (60) are refused in turn, alone or with those behind
+them (refuse.c, compiled by cc): where a record lacks memory, replies wait. Each of N calls on files (40) fails in turn
+(refuse_disk.c), with --sync always and second: the server ends with a fault, and what it answered is there. With second
+there is a sync each second under load and one behind the last line, none of it while nothing comes, and one that fails
+ends the server before its next reply. Then what can't be: two servers on one file, another number of tenants, another
+bound, a full disk. The first thing that isn't as it is to be ends this with status 1.
 """
 
 import argparse
@@ -30,6 +34,8 @@ from dump import Maker, fail, run
 HERE = os.path.dirname(os.path.abspath(__file__))
 CLIENTS = 8
 HEAD = 25
+SYNCS = ("always", "second", "never")
+EACH = 3000
 
 
 class Server:
@@ -64,12 +70,12 @@ class Server:
 
 
 class Client(threading.Thread):
-    """It sends a line, and then waits for its answer. It notes the lines that were answered."""
+    """It sends a line, and then waits for its answer. It notes the lines that were answered, and made."""
 
     def __init__(self, server, tenant, session, lines):
         super().__init__()
         self.port, self.tenant, self.session, self.lines = server.port, tenant, session, lines
-        self.answered = []
+        self.answered, self.answers = [], 0
 
     def run(self):
         try:
@@ -83,18 +89,22 @@ class Client(threading.Thread):
             file = stream.makefile("rb")
             for line in [f"{self.tenant} {self.session}", *self.lines]:
                 stream.sendall(line.encode() + b"\n")
-                if not self.has_answer(file):
+                first = self.answer(file)
+                if first is None:
                     return
-                self.answered.append(line)
+                self.answers += 1
+                # what lacked memory is recorded as what it did, if at all
+                if not first.startswith((b"no 91", b"no 92")):
+                    self.answered.append(line)
 
     @staticmethod
-    def has_answer(file):
-        """Reads a reply. Whether all of it came."""
+    def answer(file):
+        """The first line of a reply, if all of it comes."""
         first = file.readline()
         words = first.split()
         more = int(words[-1]) if words and words[0] in (b"rows", b"done", b"rolledback") else 0
         lines = [first] + [file.readline() for _ in range(more)]
-        return all(line.endswith(b"\n") for line in lines)
+        return first if all(line.endswith(b"\n") for line in lines) else None
 
 
 def records(path):
@@ -138,12 +148,12 @@ def has_in_order(lines, part):
     return all(line in left for line in part)
 
 
-def states(program, file, room, may_refuse=False):
+def states(program, file, room, may_refuse=False, tenants=16):
     """What a server that starts with the file has of each tenant, as scripts; None where it refuses the file."""
     folder = os.path.join(room, "states")
     shutil.rmtree(folder, ignore_errors=True)
     os.mkdir(folder)
-    status, told, log = Server(program, file, "--dump-to", folder).end()
+    status, told, log = Server(program, file, "--dump-to", folder, tenants=tenants).end()
     if may_refuse and status == 1 and log.splitlines()[-1] == "fault: cannot open journal":
         return None
     need(status == 0, f"a start: {status}, {told}, {log[-500:]}")
@@ -183,8 +193,8 @@ def survives_kills(program, room, kills, seed):
     file = os.path.join(room, "killed")
     makers = [Maker(seed * 100 + at) for at in range(CLIENTS)]
     answered, found = 0, []
-    for _ in range(kills):
-        server = Server(program, file)
+    for at in range(kills):
+        server = Server(program, file, "--sync", SYNCS[at % len(SYNCS)])
         clients = [Client(server, at // 2, at % 2, makers[at].lines(60)[1:-1] + ["begin"]) for at in range(CLIENTS)]
         for client in clients:
             client.start()
@@ -218,38 +228,42 @@ def crashed(data, dice):
     return data[:places[at]] + dice.choice([b"", b"\x00" + part, b"\x01"])
 
 
-def survives_cuts(program, room, file, cuts, seed):
-    """A file as a crash leaves it has a first part of its records. One that is cut anywhere has, too, or it is refused."""
+def survives_cuts(program, room, file, cuts, each, seed):
+    """A file as a crash leaves it, or that is cut at any byte, has a first part of its records."""
     dice = random.Random(seed)
     with open(file, "rb") as whole:
         data = whole.read()
     found, cut, refused = records(file), os.path.join(room, "cut"), 0
     places = [0, 1, 4, 5, HEAD - 1, HEAD, HEAD + 1, HEAD + 7, len(data) - 1, len(data)]
-    parts = [data[:place] for place in places + [dice.randrange(len(data)) for _ in range(cuts // 2)]]
+    places += range(EACH) if each else [dice.randrange(len(data)) for _ in range(cuts // 2)]
+    parts = [data[:place] for place in places]
     parts += [crashed(data, dice) for _ in range(cuts // 2)] + [data + dice.randbytes(9)]
     for at, part in enumerate(parts):
-        is_whole = len(part) - blocks(part)[-1] <= 1 or part[blocks(part)[-1]] == 0
         with open(cut, "wb") as file:
             file.write(part)
         kept = records(cut)
         need(kept == found[:len(kept)], "a part of the file has other records")
-        has = states(program, cut, room, may_refuse=not is_whole)
-        if has is None:
-            refused += 1
-        else:
-            need(has == states_of(program, kept, room), f"part {at} of {len(part)} bytes has another state")
-    return len(parts), refused
+        need(states(program, cut, room) == states_of(program, kept, room), f"part {at} of {len(part)} bytes has another state")
+    written = [data[:dice.randrange(len(data))] + dice.randbytes(dice.choice([1, 9, 300, 5000])) for _ in range(cuts // 2)]
+    for at, part in enumerate(written):
+        with open(cut, "wb") as file:
+            file.write(part)
+        kept = records(cut)
+        is_open = len(part) > blocks(part)[-1] and part[blocks(part)[-1]] == 1
+        has = states(program, cut, room, may_refuse=is_open or kept != found[:len(kept)])
+        refused += has is None
+        if has is not None and kept == found[:len(kept)]:
+            need(has == states_of(program, kept, room), f"part {at} with other bytes behind it has another state")
+    return len(parts), len(written), refused
 
 
-def fails_well(program, room, calls):
+def fails_well(program, room, library, calls, sync):
     """A call on a file that fails ends the server, with a fault; what it answered is there."""
-    library = os.path.join(room, "refuse_disk.so")
-    subprocess.run(["cc", "-O2", "-shared", "-fPIC", "-o", library, os.path.join(HERE, "refuse_disk.c"), "-ldl"], check=True)
     felt = 0
     for at in range(1, calls + 1):
-        file = os.path.join(room, f"failed{at}")
+        file = os.path.join(room, f"failed{at}{sync}")
         words = {"SHORT": 1} if at % 3 == 0 else {"REASON": 28} if at % 3 == 1 else {}
-        server = Server(program, file, library=library, FAILED=at, **words)
+        server = Server(program, file, "--sync", sync, library=library, FAILED=at, **words)
         clients = []
         if server.port is not None:
             clients = [Client(server, tenant, 0, Maker(at * 10 + tenant).lines(5)[1:-1]) for tenant in range(3)]
@@ -271,6 +285,93 @@ def fails_well(program, room, calls):
     return felt
 
 
+LACKING = "journal: there is no memory"
+
+
+def lacks_memory(program, room, many):
+    """Where memory is lacking for a record, replies wait and are sent later; that is logged once."""
+    library = os.path.join(room, "refuse.so")
+    subprocess.run(["cc", "-O2", "-shared", "-fPIC", "-o", library, os.path.join(HERE, "refuse.c")], check=True)
+
+    def served(name, **refused):
+        """The file, the clients, and the log."""
+        file = os.path.join(room, f"lacking{name}")
+        server = Server(program, file, "--sync", "never", library=library, **refused)
+        clients = [Client(server, tenant, 0, Maker(tenant).lines(12)[1:-1]) for tenant in range(3)]
+        for client in clients:
+            client.run()
+        status, told, log = server.end()
+        need(status == 0 or "fault: out of memory\n" in log, f"{refused}: status {status}: {log[-300:]}")
+        return file, clients, told, log
+
+    def requests(name, clients):
+        server = Server(program, os.path.join(room, name), "--sync", "never", library=library)
+        return server.end()[2] if not clients else served(name)[3]
+
+    first, last = (int(requests(name, clients).split(" requests")[0].split()[-1]) for name, clients in (("few", False), ("all", True)))
+    waited = 0
+    for at in range(many):
+        request = first + (last - first) * at // many
+        file, clients, told, log = served(at, REFUSED=request, UNTIL=request + (at % 4) * 20)
+        found = are_records(file, clients)
+        need(states(program, file, room) == states_of(program, found, room), f"request {request} is refused: another state behind it")
+        if LACKING in log:
+            waited += 1
+            if at % 4 == 0:
+                need(log.count(LACKING) == 1 and all(client.answers == len(client.lines) + 1 for client in clients), f"request {request} is refused: {log[-400:]}")
+    need(waited > 0, "no record lacked memory")
+    return waited
+
+
+def syncs_in(noted):
+    """When each sync was made, and when each write."""
+    with open(noted) as file:
+        calls = [line.split() for line in file]
+    return [float(at) for name, at in calls if name == "fdatasync"], [float(at) for name, at in calls if name == "pwrite"]
+
+
+def syncs_by_seconds(program, room, library):
+    """With --sync second: a sync each second while lines come, and one behind the last."""
+    file, noted = os.path.join(room, "seconds"), os.path.join(room, "noted")
+    server = Server(program, file, "--sync", "second", library=library, NOTED=noted)
+    client = Client(server, 0, 0, ["create table t (a int)"])
+    client.run()
+    until = time.monotonic() + 4
+    with socket.create_connection(("127.0.0.1", server.port), timeout=60) as stream:
+        lines = stream.makefile("rb")
+        stream.sendall(b"1 0\n")
+        need(lines.readline() == b"ok\n", "a session")
+        while time.monotonic() < until:
+            stream.sendall(b"selec\n")
+            need(lines.readline().startswith(b"no "), "a line that isn't one")
+            time.sleep(0.005)
+        time.sleep(3)
+        syncs, writes = syncs_in(noted)
+        between = [later - sooner for sooner, later in zip(syncs, syncs[1:])]
+        need(len(syncs) >= 4 and all(0.9 < passed < 2 for passed in between), f"syncs under load: {between}")
+        need(len(writes) > 20 * len(syncs), f"{len(writes)} writes, {len(syncs)} syncs")
+        need(0 <= syncs[-1] - writes[-1] < 2, f"the last sync came {syncs[-1] - writes[-1]} seconds behind the last write")
+    need(server.end()[0] == 0, "a server with --sync second")
+    return len(syncs)
+
+
+def feels_late_sync(program, room, library):
+    """With --sync second: a sync that fails is told at once, and ends the server before its next reply."""
+    file = os.path.join(room, "late")
+    server = Server(program, file, "--sync", "second", library=library, ONLY="fdatasync", FAILED=2, UNTIL=99)
+    with socket.create_connection(("127.0.0.1", server.port), timeout=60) as stream:
+        lines = stream.makefile("rb")
+        time.sleep(1.5)
+        stream.sendall(b"0 0\n")
+        need(lines.readline() == b"ok\n", "a session")
+        time.sleep(2.5)
+        stream.sendall(b"begin\n")
+        need(lines.readline() == b"", "a reply behind a sync that failed")
+    status, _, log = server.end()
+    told = [line for line in log.splitlines() if "calls on files" not in line]
+    need(status == 1 and told[-1] == "fault: journal failed" and "journal: " in log, f"a sync that failed: {status}, {log[-400:]}")
+
+
 def fault(ended):
     status, out, log = ended
     need(status == 1 and out == "", f"status {status}, {out}, {log}")
@@ -278,22 +379,33 @@ def fault(ended):
 
 
 def cannot_be(program, room):
-    file = os.path.join(room, "one")
+    file, other = os.path.join(room, "one"), os.path.join(room, "other")
     server = Server(program, file)
     client = Client(server, 0, 0, ["create table t (a int)"])
     client.start()
     client.join()
-    for words, why in ((("--bound", "7"), {}), ((), {"tenants": 15}), ((), {})):
-        told, log = fault(Server(program, file, *words, **why).end())
-        need(told == "fault: cannot open journal" and log, f"{words}, {why}: {told}, {log}")
+
+    def refuses(why, path, *words, **shape):
+        told, log = fault(Server(program, path, *words, **shape).end())
+        need(told == "fault: cannot open journal" and why in log, f"{path}, {words}, {shape}: {told}, {log}")
+
+    for words, shape in ((("--bound", "7"), {}), ((), {"tenants": 15}), ((), {})):
+        refuses("another server has it open", file, *words, **shape)
     need(server.end()[0] == 0, "a server beside whom others were refused")
-    for words, why in ((("--bound", "7"), {}), ((), {"tenants": 15})):
-        told, log = fault(Server(program, file, *words, **why).end())
-        need(told == "fault: cannot open journal" and log, f"{words}, {why}: {told}, {log}")
-    told, log = fault(Server(program, room).end())
-    need(told == "fault: cannot open journal" and log, f"a folder: {told}, {log}")
-    told, log = fault(Server(program, room + "/none/one").end())
-    need(told == "fault: cannot open journal" and log, f"no folder: {told}, {log}")
+    refuses("it has another bound on considerations", file, "--bound", "7")
+    refuses("it has another number of tenants", file, tenants=15)
+    with open(file, "rb") as whole:
+        data = whole.read()
+    for why, begins in (("it is no journal of this version", data[:12] + b"2" + data[13:]), ("it is damaged", b"\x01\xff" + data)):
+        with open(other, "wb") as written:
+            written.write(begins)
+        refuses(why, other)
+        with open(other, "rb") as left:
+            need(left.read() == begins, f"{why}, and it is another file")
+    refuses("Is a directory", room)
+    os.mkfifo(os.path.join(room, "pipe"))
+    refuses("it is no file", os.path.join(room, "pipe"))
+    refuses("No such file", room + "/none/one")
     need(states(program, file, room)[0] == "create table t (a int)\n", "a file that others couldn't open")
 
 
@@ -315,16 +427,27 @@ def main():
     parser.add_argument("program", nargs="?", default=os.path.join(HERE, "../crates/starhost/out/starhost"))
     parser.add_argument("--kills", type=int, default=12)
     parser.add_argument("--cuts", type=int, default=60)
+    parser.add_argument("--each", action="store_true")
     parser.add_argument("--calls", type=int, default=40)
+    parser.add_argument("--requests", type=int, default=60)
     parser.add_argument("--seed", type=int, default=1)
     asked = parser.parse_args()
     program = os.path.abspath(asked.program)
     with tempfile.TemporaryDirectory() as room:
         answered, kept, file = survives_kills(program, room, asked.kills, asked.seed)
         print(f"{asked.kills} kills: {answered} lines were answered, and all are there; {kept} records")
-        parts, refused = survives_cuts(program, room, file, asked.cuts, asked.seed)
-        print(f"{parts} parts of a file: a first part of the records is found; {refused} were refused, which no crash leaves")
-        print(f"each of {asked.calls} calls on files fails in turn: {fails_well(program, room, asked.calls)} ended the server, and what it answered is there")
+        parts, others, refused = survives_cuts(program, room, file, asked.cuts, asked.each, asked.seed)
+        print(f"{parts} parts of a file: a first part of the records is found")
+        print(f"{others} that were written over behind it: a first part is found, or what they look like; {refused} were refused")
+        library = os.path.join(room, "refuse_disk.so")
+        subprocess.run(["cc", "-O2", "-shared", "-fPIC", "-o", library, os.path.join(HERE, "refuse_disk.c"), "-ldl"], check=True)
+        waited = lacks_memory(program, room, asked.requests)
+        print(f"{asked.requests} requests for memory are refused in turn: what was answered is there; {waited} times replies waited for a record's")
+        for sync in ("always", "second"):
+            ended = fails_well(program, room, library, asked.calls, sync)
+            print(f"--sync {sync}: each of {asked.calls} calls on files fails in turn: {ended} ended the server, and what it answered is there")
+        print(f"--sync second: {syncs_by_seconds(program, room, library)} syncs in 7 seconds, a second apart, the last behind the last line")
+        feels_late_sync(program, room, library)
         cannot_be(program, room)
         print(f"a full disk ends the server behind {full_disk(program, room)} answers, and they are there")
 

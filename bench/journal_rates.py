@@ -4,8 +4,9 @@
     journal_rates.py [PROGRAM] [--folder FOLDER] [--lines N] [--start LINES]
 
 PROGRAM is crates/starhost/out/starhost where no word is given; FOLDER is where the journals lie (a temporary one, whose
-disk is measured, too: how many syncs of a few bytes it does in a second). Each load is made of N lines, transactions of
-one insert and its delete, so that nothing grows but the trail:
+disk is measured, too: how many syncs of a few bytes it does in a second). Each load is made of N lines (64,000), or eight
+times as many where no line waits for a sync, transactions of one insert and its delete, so that nothing grows but the
+trail:
 
 - one line at a time over one connection: lines per second;
 - 64 lines in flight over one connection, and over sixteen connections of as many tenants.
@@ -27,7 +28,7 @@ import time
 
 TOP = pathlib.Path(__file__).resolve().parent.parent
 TURN = [b"begin\n", b"insert into t values (1)\n", b"delete from t\n", b"commit\n"]
-REDIS = [b"set a 1\r\n", b"get a\r\n", b"set a 2\r\n", b"get a\r\n"]
+REDIS = [b"set a 1\r\n", b"set a 2\r\n", b"set a 3\r\n", b"set a 4\r\n"]
 
 
 class Starhost:
@@ -163,13 +164,14 @@ def main():
         numbers = iter(range(1000))
         print(f"the disk: {syncs(room):,.0f} syncs a second")
         print(f"{'lines a second':28} {'one by one':>12} {'64 in flight':>12} {'16 times 64':>12}")
-        measure("no journal", lambda: Starhost(words.program), words.lines)
-        for sync in ("never", "always"):
-            measure(f"--sync {sync}", lambda: Starhost(words.program, "--journal", f"{room}/{next(numbers)}", "--sync", sync), words.lines)
+        many = 8 * words.lines
+        measure("no journal", lambda: Starhost(words.program), many)
+        for sync, lines in (("never", many), ("second", many), ("always", words.lines)):
+            measure(f"--sync {sync}", lambda: Starhost(words.program, "--journal", f"{room}/{next(numbers)}", "--sync", sync), lines)
         if shutil.which("redis-server"):
-            measure("Redis, no file", lambda: Redis(room), words.lines)
-            for sync in ("no", "always"):
-                measure(f"Redis, appendfsync {sync}", lambda: Redis(room, "--appendonly", "yes", "--appendfilename", f"{next(numbers)}.aof", "--appendfsync", sync), words.lines)
+            measure("Redis, no file", lambda: Redis(room), many)
+            for sync, lines in (("no", many), ("everysec", many), ("always", words.lines)):
+                measure(f"Redis, appendfsync {sync}", lambda: Redis(room, "--appendonly", "yes", "--appendfilename", f"{next(numbers)}.aof", "--appendfsync", sync), lines)
         start_of(words.program, room, words.start)
 
 

@@ -21,11 +21,11 @@ HERE = os.path.dirname(os.path.abspath(__file__))
 # What stands behind each reason why words are refused.
 ALLOWED = (
     b"; allowed are: run, serve, replay, parse, dump, compact OLD NEW, key; of all but parse and key --tenants 1 "
-    b"to 256, --bound 1 to 1000; of run and serve --load a folder; of dump --tenant 0 to 255, or --into a folder; "
-    b"of serve and replay --cells 1 to 16, --workers 1 to 16; of serve --port 0 to 65535, --connections 0 to "
-    b"1000000, --idle 0 to 86400, --idle-transaction 0 to 86400, --first-tenant 0 to 999999000, --tenant-memory 0 "
-    b"to 1048576, --log error, warning or info, --until-input-ends, --dump-to a folder, --journal a file but not "
-    b"with --load, --sync always or never with --journal, --keys a file; --help, --version\n"
+    b"to 256, --bound 1 to 1000; of run and serve --load a folder, --journal a file but not with --load, --sync "
+    b"always, second or never with --journal; of dump --tenant 0 to 255, or --into a folder; of serve and replay "
+    b"--cells 1 to 16, --workers 1 to 16; of serve --port 0 to 65535, --connections 0 to 1000000, --idle 0 to 86400, "
+    b"--idle-transaction 0 to 86400, --first-tenant 0 to 999999000, --tenant-memory 0 to 1048576, --log error, "
+    b"warning or info, --until-input-ends, --dump-to a folder, --keys a file, --status 0 to 65535; --help, --version\n"
 )
 
 # A number past its range, and the words in front of it.
@@ -46,6 +46,7 @@ PAST = [
     ("--first-tenant 999999001", "serve"),
     ("--tenant-memory 1048577", "serve"),
     ("--log warn", "serve"),
+    ("--status 65536", "serve"),
     ("--tenants 4294967297", "run"),
     ("--tenants 01x", "run"),
     ("--tenant 256", "dump"),
@@ -65,6 +66,7 @@ ELSEWHERE = [
     ("--idle-transaction 1", "replay"),
     ("--first-tenant 1", ""),
     ("--tenant-memory 1", "run"),
+    ("--status 0", "run"),
     ("--log info", "run"),
     ("--tenants 2", "parse"),
     ("--cells 2", "parse"),
@@ -87,12 +89,15 @@ ELSEWHERE = [
     ("--into x", "replay"),
     ("--into x", "parse"),
     ("--into x", "dump --tenant 0"),
-    ("--journal x", "run"),
+    ("--journal x", "run --load y"),
+    ("--journal x", "replay"),
     ("--journal x", "dump"),
     ("--journal x", "serve --load y"),
     ("--sync always", "replay"),
     ("--sync always", "serve"),
+    ("--sync second", "run"),
     ("--sync often", "serve --journal x"),
+    ("--sync seconds", "run --journal x"),
     ("--keys x", "run"),
     ("--keys x", "key"),
     ("--tenants 2", "key"),

@@ -1,0 +1,263 @@
+#!/usr/bin/env python3
+"""Looks at the status pages of a server.
+
+    status.py [PROGRAM] [--write] [--shots FOLDER]
+
+PROGRAM is crates/starhost/out/starhost where no word is given. Told in one line each: the pages of a small tenant and the
+samples, byte by byte as bench/status_pages has them (numbers that vary are written as N); what Prometheus' `promtool` says
+of the samples, where it is installed; hostile requests, and silent connections while a client of the server goes on; whom
+keys let in. The first thing that isn't as it is to be ends this with status 1. With --write the files of
+bench/status_pages are written anew, and with --shots a headless Chromium draws the pages to that folder.
+"""
+
+import argparse
+import base64
+import hashlib
+import os
+import re
+import shutil
+import socket
+import subprocess
+import sys
+import tempfile
+import time
+
+HERE = os.path.dirname(os.path.abspath(__file__))
+PAGES = os.path.join(HERE, "status_pages")
+# how long something may take on a busy machine, in seconds
+PATIENCE = 60
+LINES = """create table card (id int, balance int)
+create table log (id int, was int, note text)
+create rule note on card when updated(balance) then insert into log select o.id, o.balance, '<script>alert("1 & 2")</script>' from old-updated o
+create rule trim on log when inserted then delete from log where was < 0
+create rule back on log when deleted then update card set balance = 0 where balance < 0
+create rule guard on card when inserted, deleted if select * from card where balance > 1000 then rollback
+create rule sleeper on log when inserted then insert into card values (9, 9)
+alter rule guard precedes note
+alter rule trim follows note
+deactivate rule sleeper
+create ruleset nightly
+alter ruleset nightly addrules note, trim
+begin
+insert into card values (1, 100), (2, 50)
+commit
+begin
+update card set balance = balance - 30 where id = 1
+"""
+VARYING = [
+    (rb"<dt>up</dt><dd>[^<]*", b"<dt>up</dt><dd>N"),
+    (rb"<dt>memory</dt><dd>\d+", b"<dt>memory</dt><dd>N"),
+    (rb"(?m)^filgwesha_uptime_seconds \d+", b"filgwesha_uptime_seconds N"),
+    (rb"(?m)^process_resident_memory_bytes \d+", b"process_resident_memory_bytes N"),
+]
+
+
+def expect(what, seen, wanted):
+    if seen != wanted:
+        sys.exit(f"{what}: {seen!r} in place of {wanted!r}")
+
+
+class Server:
+    """A server with status pages, which stops where its input ends."""
+
+    def __init__(self, program, *words):
+        self.log = tempfile.NamedTemporaryFile("w+")
+        words = [program, "serve", "--until-input-ends", "--tenants", "16", "--status", "0", *words]
+        self.process = subprocess.Popen(words, stdin=subprocess.PIPE, stdout=subprocess.PIPE, stderr=self.log, text=True)
+        self.port = int(re.fullmatch(r"listening (\d+)\n", self.process.stdout.readline()).group(1))
+        with open(self.log.name) as log:
+            self.status = int(re.search(r"status pages at port (\d+)", log.read()).group(1))
+
+    def client(self, first):
+        """A connection whose first line is this one, as a file of lines."""
+        stream = socket.create_connection(("127.0.0.1", self.port), timeout=PATIENCE)
+        file = stream.makefile("rw")
+        file.write(f"{first}\n")
+        file.flush()
+        return stream, file
+
+    def knock(self):
+        return socket.create_connection(("127.0.0.1", self.status), timeout=PATIENCE)
+
+    def stand_silent(self):
+        """A connection that says nothing, also where it waits to be taken."""
+        stream = socket.socket()
+        stream.setblocking(False)
+        stream.connect_ex(("127.0.0.1", self.status))
+        return stream
+
+    def raw(self, request, whole=True):
+        """What is answered to these bytes."""
+        with self.knock() as stream:
+            try:
+                stream.sendall(request)
+                if whole:
+                    stream.shutdown(socket.SHUT_WR)
+                answer = b""
+                while piece := stream.recv(65536):
+                    answer += piece
+                return answer
+            except ConnectionResetError:
+                return answer
+
+    def get(self, path, method="GET", user=None, key=None):
+        """The status and the body of a page, whose length and end are as they are to be."""
+        head = f"{method} {path} HTTP/1.1\r\nHost: here\r\n"
+        if user is not None:
+            head += f"Authorization: Basic {base64.b64encode(f'{user}:{key}'.encode()).decode()}\r\n"
+        answer = self.raw(f"{head}\r\n".encode(), whole=False)
+        head, body = answer.split(b"\r\n\r\n", 1)
+        length = int(re.search(rb"\r\nContent-Length: (\d+)\r\n", head + b"\r\n").group(1))
+        expect(f"length of {path}", len(body), 0 if method == "HEAD" else length)
+        expect(f"{path} is closed", b"\r\nConnection: close" in head, True)
+        return int(head.split()[1]), body
+
+    def stop(self):
+        """Ends it, and gives what it wrote."""
+        self.process.stdin.close()
+        told = self.process.stdout.read()
+        expect("status of a server", self.process.wait(PATIENCE), 0)
+        return told
+
+
+def run(file, lines):
+    """Sends lines, each of which is done."""
+    for line in lines.splitlines():
+        file.write(f"{line}\n")
+        file.flush()
+        reply = file.readline()
+        if not reply.startswith(("ok", "done")):
+            sys.exit(f"{line}: {reply!r}")
+        for _ in range(int(reply.split()[1].rstrip(",")) if reply.startswith("done") else 0):
+            file.readline()
+
+
+def look(server, name, path, write):
+    """Compares a page with the file of that name."""
+    status, page = server.get(path)
+    expect(f"status of {path}", status, 200)
+    for pattern, text in VARYING:
+        page = re.sub(pattern, text, page)
+    file = os.path.join(PAGES, name)
+    if write:
+        os.makedirs(PAGES, exist_ok=True)
+        with open(file, "wb") as out:
+            out.write(page)
+    with open(file, "rb") as kept:
+        expect(f"page {path}", page, kept.read())
+    return page
+
+
+def pages(program, write, shots):
+    server = Server(program)
+    stream, file = server.client("0 0")
+    run(file, LINES)
+    look(server, "host.html", "/", write)
+    page = look(server, "tenant.html", "/tenants/0", write)
+    expect("a text in a page", (b"<script" in page, b"&lt;script&gt;alert(&quot;1 &amp; 2&quot;)&lt;/script&gt;" in page), (False, True))
+    samples = look(server, "metrics.txt", "/metrics", write)
+    expect("a tenant that isn't hosted", server.get("/tenants/16")[0], 404)
+    expect("an unused tenant's script", server.get("/tenants/3/dump"), (200, b""))
+    expect("a busy tenant's script", server.get("/tenants/0/dump")[0], 409)
+    run(file, "rollback")
+    status, script = server.get("/tenants/0/dump")
+    expect("a script", (status, script.splitlines()[0]), (200, b"create table card (id int, balance int)"))
+    expect("HEAD", server.get("/", method="HEAD"), (200, b""))
+    expect("POST", server.get("/", method="POST")[0], 405)
+    if shots:
+        shoot(server, shots)
+    stream.close()
+    file.close()
+    server.stop()
+    if shutil.which("promtool"):
+        checked = subprocess.run(["promtool", "check", "metrics"], input=samples.replace(b" N\n", b" 1\n"), capture_output=True)
+        expect("promtool", (checked.returncode, checked.stdout + checked.stderr), (0, b""))
+        print("pages, samples and scripts: as they are to be; promtool finds nothing")
+    else:
+        print("pages, samples and scripts: as they are to be; promtool isn't here, so nobody else read the samples")
+
+
+def shoot(server, folder):
+    os.makedirs(folder, exist_ok=True)
+    for name, path in (("host", "/"), ("tenant", "/tenants/0")):
+        address = f"http://127.0.0.1:{server.status}{path}"
+        words = ["chromium", "--headless", "--no-sandbox", "--disable-gpu", "--window-size=1300,1500", f"--screenshot={folder}/{name}.png", address]
+        subprocess.run(words, check=True, capture_output=True, timeout=PATIENCE)
+
+
+def hostile(program):
+    server = Server(program)
+    wanted = [
+        ("no request", b"\x00\x01\x02\r\n\r\n", b"400"),
+        ("half a request", b"GET / HT", b""),
+        ("no end of headers", b"GET / HTTP/1.1\r\n" + b"A: b\r\n" * 40, b""),
+        ("too many headers", b"GET / HTTP/1.1\r\n" + b"A: b\r\n" * 80 + b"\r\n", b"400"),
+        ("too long", b"GET /" + b"a" * 9000, b"431"),
+        ("long headers", b"GET / HTTP/1.1\r\nA: " + b"b" * 60_000, b"431"),
+        ("another method", b"DELETE / HTTP/1.1\r\n\r\n", b"405"),
+        ("another page", b"GET /../../etc/passwd HTTP/1.1\r\n\r\n", b"404"),
+        ("a large number", b"GET /tenants/99999999999999999999 HTTP/1.1\r\n\r\n", b"404"),
+        ("a negative number", b"GET /tenants/-1 HTTP/1.1\r\n\r\n", b"404"),
+        ("HTTP/1.0", b"GET / HTTP/1.0\r\n\r\n", b"200"),
+        ("a page asked for twice", b"GET / HTTP/1.1\r\n\r\nGET / HTTP/1.1\r\n\r\n", b"200"),
+    ]
+    for what, request, status in wanted:
+        expect(what, server.raw(request)[9:12], status)
+    stream, file = server.client("1 0")
+    run(file, "create table t (a int)\nbegin")
+    silent = [server.stand_silent() for _ in range(200)]
+    slow = 0
+    for number in range(2_000):
+        began = time.monotonic()
+        run(file, f"insert into t values ({number})")
+        slow = max(slow, time.monotonic() - began)
+    for knock in silent:
+        knock.close()
+    began = time.monotonic()
+    expect("a page behind silent connections", server.get("/metrics")[0], 200)
+    if slow > 1 or time.monotonic() - began > PATIENCE:
+        sys.exit(f"a line took {slow:.3f} s beside silent connections")
+    run(file, "commit")
+    stream.close()
+    file.close()
+    server.stop()
+    print(f"{len(wanted)} hostile requests, {len(silent)} silent connections: a client's lines took at most {slow * 1000:.0f} ms")
+
+
+def keys(program):
+    with tempfile.TemporaryDirectory() as folder:
+        path = os.path.join(folder, "keys")
+        with open(path, "w") as file:
+            for who, key in ((0, "key-of-0"), (1, "key-of-1"), ("status", "key-of-status")):
+                file.write(f"{who} {hashlib.sha256(key.encode()).hexdigest()}\n")
+        server = Server(program, "--keys", path)
+        for page in ("/", "/metrics", "/nowhere"):
+            expect(f"{page} without a key", server.get(page)[0], 401)
+            expect(f"{page} with a tenant's key", server.get(page, user="0", key="key-of-0")[0], 401)
+            expect(f"{page} with a tenant's key as status", server.get(page, user="status", key="key-of-0")[0], 401)
+            expect(f"{page} with its key", server.get(page, user="status", key="key-of-status")[0], 404 if page == "/nowhere" else 200)
+        for page in ("/tenants/0", "/tenants/0/dump"):
+            expect(f"{page} without a key", server.get(page)[0], 401)
+            expect(f"{page} with another key", server.get(page, user="0", key="key-of-1")[0], 401)
+            expect(f"{page} as another tenant", server.get(page, user="1", key="key-of-1")[0], 401)
+            expect(f"{page} as status", server.get(page, user="status", key="key-of-status")[0], 401)
+            expect(f"{page} with its key", server.get(page, user="0", key="key-of-0")[0], 200)
+        expect("a tenant without keys", server.get("/tenants/5", user="5", key="key-of-0")[0], 401)
+        told = server.raw(b"GET / HTTP/1.1\r\nAuthorization: Basic !!!\r\n\r\n")
+        expect("no base64", (told[9:12], b'WWW-Authenticate: Basic realm="filgwesha"' in told), (b"401", True))
+        server.stop()
+    print("keys: a tenant's pages by its own keys, the others by those of status, none otherwise")
+
+
+def main():
+    words = argparse.ArgumentParser(description=__doc__, formatter_class=argparse.RawDescriptionHelpFormatter)
+    words.add_argument("program", nargs="?", default=os.path.join(HERE, "../crates/starhost/out/starhost"))
+    words.add_argument("--write", action="store_true")
+    words.add_argument("--shots")
+    asked = words.parse_args()
+    pages(asked.program, asked.write, asked.shots)
+    hostile(asked.program)
+    keys(asked.program)
+
+
+main()
