@@ -16,7 +16,7 @@ NoMemory, and nothing has changed behind NotBegun. Beyond that: one refused requ
 tenant that has no such reply has the replies of a run in which nothing is refused. A run that ends with the fault
 `out of memory` has to have written a first part of what was to be written.
 
-Calls that no line makes are made by tests of sb_tests, sb_cell_tests and sb_host_tests. Those of PRESSED say what may
+Calls that no line makes are made by tests of sb_tests and sb_server_tests. Those of PRESSED say what may
 be answered on a host where any request may be refused, and are run anew for each request. The others of MARKED put
 calls that take no memory between two marks: all requests from the first to the second are refused, and the tests have
 to pass. None of these calls asks for memory; one test does between its marks, so that a refusal there is seen.
@@ -44,9 +44,9 @@ SCRIPTS = [os.path.join(CRATES, "sb_scripts/stdin"), os.path.join(HERE, "refused
 
 LINES = 3_000  # a script of more lines isn't played
 LONGEST = 900  # so many seconds a script may take
-MARKED = {"sb_tests": ("",), "sb_cell_tests": ("cells::",), "sb_host_tests": ("hosts::",)}
+MARKED = {"sb_tests": ("",), "sb_server_tests": ("hosts::",)}
 ASKING = "cells::a_step_without_memory_is_not_begun"
-PRESSED = {"sb_host_tests": ("pressed::",)}
+PRESSED = {"sb_server_tests": ("pressed::",)}
 TOGETHER = 32  # so many requests are refused side by side
 MOST_WRONG = 100  # no more are looked for
 SHOWN = 5  # so many wrong runs of a script are told

@@ -1,4 +1,4 @@
-use Rattle.sb_host_tests.proofs.hosts.a_session_is_served.Given as goal
+use Rattle.sb_server_tests.proofs.hosts.a_session_is_served.Given as goal
 
 -- the names of the host that was just opened
 abbrev pub ghosts-serve-N-Ledger : goal.ghosts-serve-N-Ledger

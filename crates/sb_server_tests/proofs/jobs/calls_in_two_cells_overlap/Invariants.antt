@@ -1,4 +1,4 @@
-use Rattle.sb_host_tests.proofs.jobs.calls_in_two_cells_overlap.Given as goal
+use Rattle.sb_server_tests.proofs.jobs.calls_in_two_cells_overlap.Given as goal
 
 -- the names of the host that was just opened
 abbrev pub ghosts-overlap-N-Ledger : goal.ghosts-overlap-N-Ledger

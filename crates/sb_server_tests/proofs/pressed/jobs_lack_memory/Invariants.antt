@@ -1,4 +1,4 @@
-use Rattle.sb_host_tests.proofs.pressed.jobs_lack_memory.Given as goal
+use Rattle.sb_server_tests.proofs.pressed.jobs_lack_memory.Given as goal
 
 -- the names of the host that was just opened
 abbrev pub ghosts-run_new-N-Ledger : goal.ghosts-run_new-N-Ledger
