@@ -1,5 +1,5 @@
 -- What the grammar has, the reader reads.
-use Rattle.std.proofs.Common.{◌∙◌, sym, ◌≡◌, ◌≤◌, ◌^◌, ◌&&◌, ℕ, Bool, true, false, cond, List, ◌∷◌, length, Option, Some, None, ap, refl, arith}
+use Rattle.std.proofs.Common.{◌∙◌, sym, ◌≡◌, ◌≤◌, ◌^◌, ℕ, Bool, true, false, cond, List, ◌∷◌, length, Option, Some, None, ap, refl, arith}
 use Rattle.std.proofs.lemmas.Bool.{lt-ltb, le-leb, and_from}
 use Rattle.std.proofs.lemmas.List.Sums.{list_all-from_AllPass}
 use Rattle.sb_value.specs.Printable.{is_printable}

@@ -1,5 +1,5 @@
 -- The text of a value is read as that value.
-use Rattle.std.proofs.Common.{◌≡◌, ℕ, zero, suc, ◌+◌, ◌-◌, ◌*◌, ◌^◌, ◌<◌, ◌≤◌, ◌==◌, Bool, true, false, cond, List, [], ◌∷◌, ◌++◌, length, take, drop, fold, flat_map, pos, negsuc, refl, sym, ap, ◌∙◌, subst, arith, append-nil, length-append, is_some, ◌&&◌}
+use Rattle.std.proofs.Common.{◌≡◌, ℕ, suc, ◌+◌, ◌-◌, ◌*◌, ◌<◌, ◌≤◌, ◌==◌, Bool, true, false, cond, List, [], ◌∷◌, ◌++◌, length, fold, flat_map, pos, negsuc, refl, sym, ap, ◌∙◌, subst, arith, append-nil, length-append, is_some, ◌&&◌}
 use Rattle.std.specs.List.{AllPass, list_all}
 use Rattle.std.specs.Prelude.{slice_range}
 use Rattle.std.proofs.lemmas.List.Sums.{list_all-from_AllPass}
@@ -15,13 +15,12 @@ use Rattle.sb_value.specs.Literal as printed
 use Rattle.sb_value.specs.Printable.{is_printable}
 use Rattle.sb_value.specs.declared.value.Value.{Value}
 use Rattle.sb_value.specs.declared.value.Value.TheVariants.{Int, Text}
-use Rattle.sb_syntax.specs.declared.cursor.Token.{Token}
 use Rattle.sb_syntax.specs.declared.kind.Kind.{Kind}
 use Rattle.sb_syntax.specs.declared.kind.Kind.TheVariants as k
 use Rattle.sb_syntax.specs.Cursor.{lexemes}
 use Rattle.sb_syntax.specs.Grammar as g
 use Rattle.sb_syntax.specs.Grammar.{IsLiteral}
-use Rattle.sb_syntax.specs.Input.{Is, Input, Lexeme}
+use Rattle.sb_syntax.specs.Input.{Is}
 use Rattle.sb_syntax.specs.Lex as lex
 use Rattle.sb_syntax.specs.Lex.{IsToken, AreTokens, is_digit, all, begins, doubled, two_bytes}
 use Rattle.sb_syntax.specs.Literal.{decimal, inner, negative, unquoted}

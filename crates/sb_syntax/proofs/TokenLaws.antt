@@ -1,6 +1,6 @@
 -- Tokens: what a test on them says, and what a token's presence decides.
 use Rattle.std.proofs.Common.{◌≡◌, ◌≤◌, ◌<◌, ℕ, Bool, true, false, cond, List, [], ◌∷◌, length, Option, Some, None, ap, sym, ◌∙◌, refl, subst, inl, inr, ◌⊎◌, rules, arith}
-use Rattle.std.proofs.lemmas.Option.{same_Some, cond_some}
+use Rattle.std.proofs.lemmas.Option.{cond_some}
 use denote.Enum.Bare.{same_true, true_same}
 use Rattle.sb_syntax.specs.declared.kind.Kind.{Kind}
 use Rattle.sb_syntax.specs.contracts.kind.Kind.{the_type}

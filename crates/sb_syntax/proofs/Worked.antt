@@ -12,6 +12,14 @@ open_is : command_of (codes " open ") ≡ Some tree.open_session
 unfolding command_of
 open_is = refl
 
+pub begin_is : command_of (codes "begin") ≡ Some tree.begin
+unfolding command_of
+begin_is = refl
+
+pub commit_is : command_of (codes "commit") ≡ Some tree.commit
+unfolding command_of
+commit_is = refl
+
 insert_is : command_of (codes "insert into t values (1, 'it''s')") ≡ Some (tree.change (tree.insert_rows (codes "t") ((Int (pos 1) ∷ Text (codes "it's") ∷ []) ∷ [])))
 unfolding command_of
 insert_is = refl

@@ -1,6 +1,6 @@
 //! The tokens of a text, and its command.
 
-ghost use Rattle.std.specs.Prelude.{◌≡◌, ◌≤◌, ◌↔◌, length, IfOk, IfErr, List, ℕ, Some};
+ghost use Rattle.std.specs.Prelude.{◌≡◌, ◌≤◌, ◌↔◌, length, IfOk, IfErr, IfSome, List, ℕ, Some};
 ghost use Rattle.sb_syntax.specs.Cursor.{AllWithin, lexemes};
 ghost use Rattle.sb_syntax.specs.Lex.{AreTokens};
 ghost use Rattle.sb_syntax.specs.Scan.{scan};
@@ -57,9 +57,26 @@ pub fn tokens(alloc: Global, text: &[u8]) -> Result<Vec<Token>, ParseError>
     cut(alloc, text)
 }
 
+const BEGIN: &[u8] = b"begin";
+
+const COMMIT: &[u8] = b"commit";
+
 /// The most bytes of a command's text. A tree is as deep as a sum in its text is long, and so bounded, it is
 /// read, resolved, evaluated and released in less than 1 MB of the stack.
 pub const TEXT_LIMIT: usize = 4096;
+
+/// The shortest commands of a transaction, which need no list of tokens.
+fn one_word(text: &[u8]) -> Option<Command>
+    ensures { IfSome result (λ c. command_of text.now ≡ Some (view.command c)) }
+{
+    if text == BEGIN {
+        return Some(Command::Begin);
+    }
+    if text == COMMIT {
+        return Some(Command::Commit);
+    }
+    None
+}
 
 /// The command that the text is.
 pub fn parse(alloc: Global, text: &[u8]) -> Result<Command, ParseError>
@@ -69,6 +86,11 @@ pub fn parse(alloc: Global, text: &[u8]) -> Result<Command, ParseError>
     // Syntax says that no command has the text.
     ensures none { IfErr result (NoCommand text.now) }
 {
+    if let Some(command) = one_word(text) {
+        // for the proof: what is computed is the grammar's
+        command_of_is_the_grammar();
+        return Ok(command);
+    }
     let tokens = tokens(alloc, text)?;
     let mut cursor = Cursor::new(text, tokens.as_slice());
     match command(alloc, &mut cursor) {
