@@ -1,0 +1,121 @@
+-- Codes: texts in order, and how many come before one.
+use Rattle.std.proofs.Common.{◌≡◌, ◌≤◌, ◌<◌, ℕ, zero, suc, ◌+◌, pos, Bool, true, false, cond, Bor, List, [], ◌∷◌, length, get_or, map, Ordering, Less, Equal, Greater, refl, sym, ap, ◌∙◌, arith}
+use Rattle.std.specs.Cmp.{IsStrictWeakOrder, int_cmp_is}
+use Rattle.std.specs.Cmp.Lexicographic.{slice_cmp}
+use Rattle.std.specs.List.{Contains, count_by}
+use Rattle.std.specs.List.Sorted.{IsPartitionedBy, IsPartitionPoint}
+use Rattle.std.specs.Ordering.{int_cmp, is_lt, nat_cmp, ordering_index, ordering_reverse}
+use Rattle.std.proofs.lemmas.Bool.{false≢true}
+use Rattle.std.proofs.lemmas.Cmp.{nat_list_cmp_total, tied_itself}
+use Rattle.std.proofs.lemmas.Int.{ints}
+use Rattle.std.proofs.lemmas.List.Sorted.{ranks_by, searchable_from_sorted}
+use Rattle.std.proofs.lemmas.List.Sums.{sum_by-cons}
+use Rattle.sb_columns.specs.Codes.{InOrder, code_of, precedes}
+
+abbrev text_cmp : List ℕ → List ℕ → Ordering
+text_cmp = slice_cmp nat_cmp
+
+-- the order of texts
+pub ordered : IsStrictWeakOrder (λ (a b : Bor (List ℕ)). precedes a.now b.now)
+ordered = ranks_by nat_list_cmp_total (λ (a : Bor (List ℕ)). a.now)
+
+-- what an order tells of those before it
+lower : (o r : Ordering) → ordering_index o ≤ ordering_index r → is_lt r ≡ true → is_lt o ≡ true
+lower Less r h t = refl
+lower Equal Less h t = absurd (omega arith)
+lower Equal Equal h t = t
+lower Equal Greater h t = t
+lower Greater Less h t = absurd (omega arith)
+lower Greater Equal h t = t
+lower Greater Greater h t = t
+
+-- texts in order are those before a text, and the others
+pub parted : (text : List ℕ) (texts : List (Bor (List ℕ))) → InOrder texts → IsPartitionedBy (λ other. precedes other.now text) texts
+parted text texts up i j d le lt h =
+    lower (text_cmp (get_or texts i d).now text) (text_cmp (get_or texts j d).now text)
+    (searchable_from_sorted nat_list_cmp_total (λ (a : Bor (List ℕ)). a.now) texts text up i j d le lt) h
+
+-- how many stand before a place
+pub count_parted : {X : Type 0} (p : X → Bool) (xs : List X) (n : ℕ) → n ≤ length xs → IsPartitionPoint (λ x. p x ≡ true) (λ x. p x ≡ false) xs n → count_by p xs ≡ n
+count_parted p [] n le parts = omega arith
+count_parted p (x ∷ xs) zero le parts =
+    sum_by-cons (λ y. cond (p y) 1 0) x xs
+    ∙ ap (λ b. cond b 1 0 + count_by p xs) (parts.1 0 x (omega arith) (omega arith))
+    ∙ omega (arith, count_parted p xs zero (omega arith) ((λ k d h j. absurd (omega arith)), (λ k d h j. parts.1 (suc k) d (omega arith) (omega arith))))
+count_parted p (x ∷ xs) (suc n) le parts =
+    sum_by-cons (λ y. cond (p y) 1 0) x xs
+    ∙ ap (λ b. cond b 1 0 + count_by p xs) (parts.0 0 x (omega arith) (omega arith))
+    ∙ omega (arith, count_parted p xs n (omega arith) ((λ k d h j. parts.0 (suc k) d (omega arith) (omega arith)), (λ k d h j. parts.1 (suc k) d (omega arith) (omega arith))))
+
+pub count_seen : (text : List ℕ) (texts : List (Bor (List ℕ))) → count_by (λ other. precedes other.now text) texts ≡ code_of (map (λ t. t.now) texts) text
+count_seen text [] = refl
+count_seen text (t ∷ texts) =
+    sum_by-cons (λ (y : Bor (List ℕ)). cond (precedes y.now text) 1 0) t texts
+    ∙ ap (λ n. cond (precedes t.now text) 1 0 + n) (count_seen text texts)
+    ∙ sym (sum_by-cons (λ y. cond (precedes y text) 1 0) t.now (map (λ u. u.now) texts))
+
+-- ---- codes compare as texts do
+
+-- what a test is worth in a count
+abbrev bit : Bool → ℕ
+bit b = cond b 1 0
+
+bit_le : (a b : Bool) → (a ≡ true → b ≡ true) → cond a 1 0 ≤ cond b 1 0
+bit_le true true h = omega arith
+bit_le true false h = absurd (false≢true (h refl))
+bit_le false b h = omega arith
+
+count_le : {X : Type 0} (p q : X → Bool) (xs : List X) → ((x : X) → p x ≡ true → q x ≡ true) → count_by p xs ≤ count_by q xs
+count_le p q [] more = omega arith
+count_le p q (x ∷ xs) more =
+    omega (arith, count_le p q xs more, bit_le (p x) (q x) (more x), sum_by-cons (λ y. cond (p y) 1 0) x xs, sum_by-cons (λ y. cond (q y) 1 0) x xs)
+
+-- an element that only the second test takes
+count_lt : {X : Type 0} (p q : X → Bool) (xs : List X) (k : ℕ) (one : X) → ((x : X) → p x ≡ true → q x ≡ true) → k < length xs → get_or xs k one ≡ one → p one ≡ false → q one ≡ true → count_by p xs < count_by q xs
+count_lt p q [] k one more within is misses takes = absurd (omega arith)
+count_lt p q (x ∷ xs) zero one more within is misses takes =
+    omega (
+      arith,
+      count_le p q xs more,
+      sum_by-cons (λ y. cond (p y) 1 0) x xs,
+      sum_by-cons (λ y. cond (q y) 1 0) x xs,
+      ap (λ y. bit (p y)) is,
+      ap bit misses,
+      ap (λ y. bit (q y)) is,
+      ap bit takes,
+    )
+count_lt p q (x ∷ xs) (suc k) one more within is misses takes =
+    omega (arith, count_lt p q xs k one more (omega arith) is misses takes, bit_le (p x) (q x) (more x), sum_by-cons (λ y. cond (p y) 1 0) x xs, sum_by-cons (λ y. cond (q y) 1 0) x xs)
+
+count_same : {X : Type 0} (p q : X → Bool) (xs : List X) → ((x : X) → p x ≡ q x) → count_by p xs ≡ count_by q xs
+count_same p q [] same = refl
+count_same p q (x ∷ xs) same =
+    omega (arith, count_same p q xs same, ap bit (same x), sum_by-cons (λ y. cond (p y) 1 0) x xs, sum_by-cons (λ y. cond (q y) 1 0) x xs)
+
+less_from : (o : Ordering) → is_lt o ≡ true → o ≡ Less
+less_from Less h = refl
+less_from Equal h = absurd (false≢true h)
+less_from Greater h = absurd (false≢true h)
+
+-- a text that comes before another has a lower code
+code_lower : (texts : List (List ℕ)) (a b : List ℕ) → Contains texts a → text_cmp a b ≡ Less → code_of texts a < code_of texts b
+code_lower texts a b one is =
+    count_lt (λ other. precedes other a) (λ other. precedes other b) texts one.0 a
+    (λ other h. ap is_lt (nat_list_cmp_total.trans other a b (less_from (text_cmp other a) h) is))
+    one.1 one.2 (ap is_lt (tied_itself nat_list_cmp_total a)) (ap is_lt is)
+
+-- equal texts have one code
+code_same : (texts : List (List ℕ)) (a b : List ℕ) → text_cmp a b ≡ Equal → code_of texts a ≡ code_of texts b
+code_same texts a b is =
+    count_same (λ other. precedes other a) (λ other. precedes other b) texts (λ other.
+    ap is_lt (nat_list_cmp_total.antisymm other a ∙ ap ordering_reverse (nat_list_cmp_total.congr a b other is) ∙ sym (nat_list_cmp_total.antisymm other b)))
+
+by_order : (texts : List (List ℕ)) (a b : List ℕ) → Contains texts a → Contains texts b → (o : Ordering) → text_cmp a b ≡ o → o ≡ int_cmp (pos (code_of texts a)) (pos (code_of texts b))
+by_order texts a b one two Less is = int_cmp_is (pos (code_of texts a)) (pos (code_of texts b)) Less (omega (arith, ints, code_lower texts a b one is))
+by_order texts a b one two Equal is = int_cmp_is (pos (code_of texts a)) (pos (code_of texts b)) Equal (ap pos (code_same texts a b is))
+by_order texts a b one two Greater is =
+    int_cmp_is (pos (code_of texts a)) (pos (code_of texts b)) Greater
+    (omega (arith, ints, code_lower texts b a two (nat_list_cmp_total.antisymm b a ∙ ap ordering_reverse is)))
+
+pub codes_in_order : (texts : List (List ℕ)) (a b : List ℕ) → Contains texts a → Contains texts b → int_cmp (pos (code_of texts a)) (pos (code_of texts b)) ≡ text_cmp a b
+codes_in_order texts a b one two = sym (by_order texts a b one two (text_cmp a b) refl)

@@ -1,0 +1,11 @@
+pub mod Words
+pub mod Flags
+pub mod CodeLaws
+pub mod Ranges
+pub mod Totals
+pub mod Depth
+pub mod ByRows
+pub mod Counts
+pub mod NextBits
+pub mod Steps
+pub mod Chunks
