@@ -1,0 +1,2 @@
+mod Compiling
+mod Gathering

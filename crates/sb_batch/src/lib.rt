@@ -1,0 +1,12 @@
+//! A query's last source in batches: its condition over columns, and which of its rows pass at once, specified by the
+//! meaning of the condition in each row.
+#![tactic(auto)]
+
+mod batch;
+mod compile;
+mod gather;
+mod names;
+mod parts;
+
+pub use batch::{BATCHED, Batch};
+pub use gather::Gathered;
