@@ -4,8 +4,8 @@ ghost use Rattle.sb_tenant.specs.Tenant.{Tenant as ItsTenant};
 ghost use Rattle.sb_host.specs.Calls.{Attached, Called, IsRefused, IsNewcomer, Left, Refused};
 
 use crate::gate::Gate;
-use crate::locks::{Lock, Reach, admit_in, enter_in, leave_in, read_in};
-use crate::reading::Reading;
+use crate::locks::{Lock, Reach, admit_in, enter_in, leave_in, read_in, try_read_in};
+use crate::reading::{Reading, Tried};
 use crate::session::Session;
 use sb_desk::seats::Seats;
 use sb_desk::{AttachError, CallError, Naming, Receipts};
@@ -112,6 +112,32 @@ impl<N: Naming> Host<N> {
             13 => read_in(rt, &self.d13, tenant, reading),
             14 => read_in(rt, &self.d14, tenant, reading),
             15 => read_in(rt, &self.d15, tenant, reading),
+            _ => unreachable!(),
+        }
+    }
+
+    /// Does the same, but where the lock is held it doesn't wait.
+    pub fn try_read<V: Reading>(&self, tenant: u32, reading: &mut V) -> Tried
+        ensures read { result ≡ Tried.Read → (own : ItsTenant) × V.reads reading.old own reading.new }
+        ensures none { (result ≡ Tried.Read → ⊥) → reading.new ≡ reading.old }
+    {
+        match tenant % self.cells {
+            0 => try_read_in(&self.d0, tenant, reading),
+            1 => try_read_in(&self.d1, tenant, reading),
+            2 => try_read_in(&self.d2, tenant, reading),
+            3 => try_read_in(&self.d3, tenant, reading),
+            4 => try_read_in(&self.d4, tenant, reading),
+            5 => try_read_in(&self.d5, tenant, reading),
+            6 => try_read_in(&self.d6, tenant, reading),
+            7 => try_read_in(&self.d7, tenant, reading),
+            8 => try_read_in(&self.d8, tenant, reading),
+            9 => try_read_in(&self.d9, tenant, reading),
+            10 => try_read_in(&self.d10, tenant, reading),
+            11 => try_read_in(&self.d11, tenant, reading),
+            12 => try_read_in(&self.d12, tenant, reading),
+            13 => try_read_in(&self.d13, tenant, reading),
+            14 => try_read_in(&self.d14, tenant, reading),
+            15 => try_read_in(&self.d15, tenant, reading),
             _ => unreachable!(),
         }
     }

@@ -19,7 +19,7 @@ pub use finish::{FinishError, Report};
 pub use gate::{Gate, NoGate};
 pub use host::Host;
 pub use opening::Opened;
-pub use reading::Reading;
+pub use reading::{Reading, Tried};
 pub use sb_desk::{AttachError, CallError, Naming, Receipt};
 pub use session::Session;
 pub use stub::Stub;

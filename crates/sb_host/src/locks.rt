@@ -4,7 +4,7 @@ ghost use Rattle.sb_tenant.specs.Tenant.{Tenant as ItsTenant};
 ghost use Rattle.sb_host.specs.Calls.{Called, IsNewcomer, IsRefused, Left, Refused};
 
 use crate::gate::Gate;
-use crate::reading::Reading;
+use crate::reading::{Reading, Tried};
 use crossbeam_utils::CachePadded;
 use sb_desk::seats::SeatTable;
 use sb_desk::{AttachError, CallError, Desk, Naming, Receipts};
@@ -42,6 +42,27 @@ pub(crate) fn read_in<N: Naming, const F: u32, R: Wait, V: Reading>(
     };
     reading.read(own);
     true
+}
+
+/// Lends a tenant of the cell to a reader, unless the lock is held.
+pub(crate) fn try_read_in<N: Naming, const F: u32, V: Reading>(
+    lock: &Lock<N, F>,
+    tenant: u32,
+    reading: &mut V,
+) -> Tried
+    requires there { IsSome lock.now }
+    ensures read { result ≡ Tried.Read → (own : ItsTenant) × V.reads reading.old own reading.new }
+    ensures none { (result ≡ Tried.Read → ⊥) → reading.new ≡ reading.old }
+{
+    let Some(lock) = lock else { unreachable!() };
+    let Some(desk) = lock.try_lock() else {
+        return Tried::Held;
+    };
+    let Some(own) = desk.cell().tenant(tenant) else {
+        return Tried::NoTenant;
+    };
+    reading.read(own);
+    Tried::Read
 }
 
 /// Makes the step of the line that is ready.

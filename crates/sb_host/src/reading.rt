@@ -12,3 +12,13 @@ pub trait Reading {
     fn read(&mut self, tenant: &Tenant)
         ensures { Self.reads self.old tenant.now self.new };
 }
+
+/// What became of a read that doesn't wait.
+#[derive(Clone, Copy, Debug, PartialEq, Eq)]
+pub enum Tried {
+    Read,
+    /// There is no tenant of that number.
+    NoTenant,
+    /// The lock of its cell is held.
+    Held,
+}

@@ -36,7 +36,7 @@ impl WireRefusal {
     }
 
     /// Its number in a reply.
-    pub(crate) fn number(&self) -> u8
+    pub fn number(&self) -> u8
         ensures { result ≡ wire_number self.now }
     {
         self.number_and_name().0
