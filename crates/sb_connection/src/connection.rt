@@ -1,5 +1,5 @@
 //! A connection as a value over bytes: bytes come in and bytes go out, and it makes no system call.
-ghost use Rattle.std.specs.Prelude.{◌≡◌, ◌<◌, ◌≤◌, ◌↔◌, length, IfOk, IfSome, IsFalse, IsTrue, OnErr, OnOk, [], false, is_some};
+ghost use Rattle.std.specs.Prelude.{◌≡◌, ◌<◌, ◌≤◌, ◌↔◌, length, IfOk, IfSome, IsFalse, IsSome, IsTrue, OnErr, OnOk, [], false, is_some, true};
 ghost use Rattle.sb_connection.specs.Conversation.{hosting_by};
 ghost use Rattle.sb_connection.specs.Admission.{LetsIn};
 ghost use Rattle.sb_connection.specs.Exchanges.{IsClosed};
@@ -9,6 +9,7 @@ ghost use Rattle.sb_connection.specs.Traffic.{after_write};
 
 use crate::admission::Admission;
 use crate::ending::Ending;
+use crate::greeting::Named;
 use crate::machine::Machine;
 use crate::serve::{close, tell_end};
 use crate::state::State;
@@ -138,6 +139,16 @@ impl<'h, N: Naming> Connection<'h, N> {
     /// Whether its session has a transaction, by what it was answered.
     pub fn transacts(&self) -> bool {
         self.machine.transacts
+    }
+
+    /// The session that it opened, if it did.
+    pub fn session(&self) -> Option<Named>
+        ensures { IsSome result → self.now.attached ≡ true }
+    {
+        match self.machine.session {
+            Some(_) => self.machine.named,
+            None => None,
+        }
     }
 
     /// Closes the session, if one was opened, and tells of it.

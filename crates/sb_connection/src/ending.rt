@@ -17,6 +17,8 @@ pub enum Ending {
     Idle,
     /// No line came for too long in a transaction.
     IdleTransaction,
+    /// An operator ended its session.
+    ByOperator,
 }
 
 impl Ending {

@@ -24,4 +24,4 @@ pub use routing::{Route, route_of};
 pub use serve::{Served, serve_one, serve_one_with};
 pub use state::State;
 pub use stream::Stream;
-pub use watch::{Event, NoWatch, Watch};
+pub use watch::{Answered, Event, NoWatch, Said, Slow, Watch};

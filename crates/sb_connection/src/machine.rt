@@ -10,7 +10,7 @@ ghost use Rattle.sb_connection.specs.Traffic.{after_write};
 
 use crate::admission::Admission;
 use crate::greeting::{Named, named_in};
-use crate::room::{newest_step, tell_room, was_unbegun};
+use crate::room::{newest_step, tell_refusal, tell_reply, tell_room, was_unbegun};
 use crate::state::State;
 use crate::stream::Stream;
 use crate::talking::Talk;
@@ -18,11 +18,14 @@ use crate::transactions::transacts_after;
 use crate::watch::{Event, Watch};
 use http_server::Log;
 use sb_host::{Host, Naming, Session};
-use sb_wire::{Lines, Piece, Responder};
+use sb_wire::{Lines, Piece, Responder, WireRefusal};
 use std::alloc::{AllocError, Global};
 use std::io;
 use std::marker::Model;
 use std::sync::Wait;
+
+/// What is told of a first line.
+const OPEN: &[u8] = b"open";
 
 /// While so many bytes or more wait to be sent, no line is answered.
 const MOST_PENDING: usize = 65_536;
@@ -177,30 +180,47 @@ impl<'h, N: Naming> Machine<'h, N> {
         let before = newest_step(&self.session);
         self.respond(rt, watch, admission);
         match newest_step(&self.session) {
-            Some(step) if before != Some(step) => self.note_step(watch, step),
-            step if had_session => self.note_none(watch, step),
+            Some(step) if before != Some(step) => self.note_step(rt, watch, step, had_session),
+            step if had_session => self.note_none(rt, watch, step),
             _ => {}
         }
     }
 
     /// The line was answered by this step.
-    fn note_step<V: Watch>(&mut self, watch: &V, step: u32)
+    fn note_step<T: Wait, V: Watch>(&mut self, rt: &T, watch: &V, step: u32, had_session: bool)
         ensures { self.new ≡ self.old }
     {
+        let transacted = self.transacts;
         self.transacts = self.transacts_now();
-        if let Some(named) = self.named {
-            tell_room(watch, named.tenant, step);
+        let Some(named) = self.named else {
+            return;
+        };
+        tell_room(watch, named.tenant, step);
+        match self.lines.line() {
+            Piece::Line(line) if had_session => {
+                tell_reply(rt, watch, &self.session, named, line, transacted);
+            }
+            _ => tell_reply(rt, watch, &self.session, named, OPEN, transacted),
         }
     }
 
     /// The line was answered by no step, and the newest one is still this. Where it wasn't begun, that is told once.
-    fn note_none<V: Watch>(&mut self, watch: &V, newest: Option<u32>)
+    fn note_none<T: Wait, V: Watch>(&mut self, rt: &T, watch: &V, newest: Option<u32>)
         ensures { self.new ≡ self.old }
     {
-        if self.tells_unbegun || !was_unbegun(&self.session, newest) {
+        let Some(named) = self.named else {
+            return;
+        };
+        let Piece::Line(line) = self.lines.line() else {
+            tell_refusal(rt, watch, named, WireRefusal::TooLong, self.transacts);
+            return;
+        };
+        if !was_unbegun(&self.session, newest) {
+            tell_reply(rt, watch, &self.session, named, line, self.transacts);
             return;
         }
-        if let (Some(named), Piece::Line(_)) = (self.named, self.lines.line()) {
+        tell_refusal(rt, watch, named, WireRefusal::NotBegun, self.transacts);
+        if !self.tells_unbegun {
             self.tells_unbegun = true;
             watch.see(Event::NotBegun(named));
         }

@@ -1,8 +1,11 @@
-//! The room of a tenant's trail, as far as it is told.
+//! What is told of the answers of a session, and of the room of its tenant's trail.
 
-use crate::watch::{Event, Watch};
+use crate::greeting::Named;
+use crate::watch::{Answered, Event, Said, Watch};
 use sb_host::{Naming, Session};
 use sb_tenant::TRAIL_LIMIT;
+use sb_wire::WireRefusal;
+use std::sync::Wait;
 
 /// The most steps of a trail.
 const MOST_STEPS: u32 = TRAIL_LIMIT as u32;
@@ -47,4 +50,49 @@ pub(crate) fn tell_room<V: Watch>(watch: &V, tenant: u32, step: u32) {
     if left == 0 || left == FEW_STEPS {
         watch.see(Event::Fills { tenant, left });
     }
+}
+
+/// Tells the newest answer of a session, to this line.
+pub(crate) fn tell_reply<T: Wait, V: Watch, N: Naming>(
+    rt: &T,
+    watch: &V,
+    session: &Option<Session<'_, N>>,
+    named: Named,
+    line: &[u8],
+    transacted: bool,
+) {
+    let Some(session) = session else {
+        return;
+    };
+    let Some(answer) = session.last() else {
+        return;
+    };
+    watch.hear(
+        rt,
+        Answered {
+            named,
+            line,
+            said: Said::Reply(&answer.reply),
+            transacted,
+        },
+    );
+}
+
+/// Tells that a line of a session was no step.
+pub(crate) fn tell_refusal<T: Wait, V: Watch>(
+    rt: &T,
+    watch: &V,
+    named: Named,
+    why: WireRefusal,
+    transacted: bool,
+) {
+    watch.hear(
+        rt,
+        Answered {
+            named,
+            line: &[],
+            said: Said::Refusal(why),
+            transacted,
+        },
+    );
 }

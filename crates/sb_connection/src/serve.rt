@@ -90,9 +90,10 @@ pub(crate) fn tell_end<V: Watch>(watch: &V, first: u32, stub: &Option<Stub>, end
         None => None,
     };
     match (ended, named) {
-        (Ending::Well, _) => {}
+        (Ending::Well, _) | (Ending::ByOperator, None) => {}
         (Ending::Fault { why, reason }, _) => watch.see(Event::Failed { named, why, reason }),
         (Ending::IdleTransaction, Some(named)) => watch.see(Event::IdleTransaction(named)),
+        (Ending::ByOperator, Some(named)) => watch.see(Event::Ended(named)),
         (Ending::Idle | Ending::IdleTransaction, _) => watch.see(Event::Idle(named)),
     }
     match stub {

@@ -4,10 +4,12 @@ ghost use Rattle.sb_connection.specs.Watching.{is_warning};
 
 use crate::greeting::Named;
 use sb_host::AttachError;
+use sb_tenant::Reply;
 use sb_wire::{StreamError, WireRefusal};
 use std::fmt;
 use std::fmt::{Display, Formatter};
 use std::io::ErrorKind;
+use std::sync::Wait;
 
 /// What happens to connections.
 #[derive(Clone, Copy)]
@@ -42,6 +44,8 @@ pub enum Event {
     Idle(Option<Named>),
     /// So is one whose session has a transaction.
     IdleTransaction(Named),
+    /// So is one whose session an operator ends.
+    Ended(Named),
     /// A connection is closed whose first line didn't come in time.
     Late,
     /// A session made so many steps, and its tenant's trail has room for so many more.
@@ -105,6 +109,7 @@ impl Display for Event {
             Event::Idle(Some(named)) => write!(f, "idle: {named}"),
             Event::Idle(None) => f.write_str("idle"),
             Event::IdleTransaction(named) => write!(f, "idle in a transaction: {named}"),
+            Event::Ended(named) => write!(f, "ended by an operator: {named}"),
             Event::Late => f.write_str("no first line in time"),
             Event::Fills { tenant, left: 0 } => write!(f, "the trail of tenant {tenant} is full"),
             Event::Fills { tenant, left } => {
@@ -120,12 +125,45 @@ impl Display for Event {
     }
 }
 
+/// A line of a session, and what it was answered.
+#[derive(Clone, Copy)]
+pub struct Answered<'a> {
+    pub named: Named,
+    /// The first line of a connection, which may bring a key, isn't told: it is `open` here.
+    pub line: &'a [u8],
+    pub said: Said<'a>,
+    /// The session had a transaction before.
+    pub transacted: bool,
+}
+
+/// What a line was answered.
+#[derive(Clone, Copy)]
+pub enum Said<'a> {
+    Reply(&'a Reply),
+    /// It was no step.
+    Refusal(WireRefusal),
+}
+
+/// A line that took long.
+#[derive(Clone, Copy)]
+pub struct Slow<'a> {
+    pub named: Named,
+    pub line: &'a [u8],
+    pub millis: u64,
+}
+
 /// Is told what happens to connections.
 pub trait Watch {
     fn see(&self, event: Event);
 
     /// What happens to the connection of the client at this port.
     fn see_client(&self, port: u16, event: Event);
+
+    /// What a line was answered.
+    fn hear<T: Wait>(&self, rt: &T, answered: Answered<'_>);
+
+    /// A line of the client at this port took long.
+    fn see_slow(&self, port: u16, slow: Slow<'_>);
 }
 
 /// Nobody is told.
@@ -135,4 +173,8 @@ impl Watch for NoWatch {
     fn see(&self, _event: Event) {}
 
     fn see_client(&self, _port: u16, _event: Event) {}
+
+    fn hear<T: Wait>(&self, _rt: &T, _answered: Answered<'_>) {}
+
+    fn see_slow(&self, _port: u16, _slow: Slow<'_>) {}
 }
