@@ -3,7 +3,10 @@
 #![tactic(auto)]
 
 mod beside;
+mod board;
+mod counts;
 mod door;
+mod hearing;
 mod input;
 mod keeper;
 mod mailbox;
@@ -15,5 +18,7 @@ mod told;
 mod visit;
 mod worker;
 
+pub use board::{Board, SlowLine};
+pub use counts::{Cause, Count, LIMITS};
 pub use keeper::{Keeper, Kept, Unkept};
 pub use server::{Acceptor, ServeError, Terms, serve_all};

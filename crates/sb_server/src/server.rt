@@ -6,6 +6,7 @@ ghost use Rattle.sb_server.specs.Mailboxes.{ArePlaced};
 ghost use Rattle.sb_server.specs.Places.{place_of};
 
 use crate::beside::run_beside;
+use crate::board::Board;
 use crate::door::Door;
 use crate::keeper::{Keeper, Kept};
 use crate::mailbox::{Letter, Mailbox};
@@ -23,7 +24,7 @@ use std::rt::Clock;
 use std::sync::Wait;
 use std::sync::atomic::{AtomicBool, AtomicUsize, Ordering};
 use std::thread::Threads;
-use std::time::Duration;
+use std::time::{Duration, Instant};
 
 /// How many events a worker is told of at once.
 const EVENTS: usize = 256;
@@ -46,15 +47,20 @@ pub struct Terms {
     pub idle_transaction: Option<Duration>,
     /// It stops where the program's input ends.
     pub until_input_ends: bool,
+    /// A line that takes so long is told.
+    pub slow: Option<Duration>,
 }
 
-/// Where connections are taken, who is told of them, whom they admit, what is kept, and by which terms they are served.
+/// Where connections are taken, who is told of them, whom they admit, what is kept and counted, and by which terms they
+/// are served.
 #[derive(Drop)]
 pub struct Acceptor<'s, V, A, K> {
     pub listener: &'s TcpListener,
     pub watch: &'s V,
     pub admission: &'s A,
     pub keeper: &'s K,
+    /// Where its workers count, and are told whose sessions end.
+    pub board: &'s Board,
     pub terms: Terms,
 }
 
@@ -86,6 +92,7 @@ pub(crate) struct Serving<'s, N: Naming, V, A, K, C> {
     pub(crate) watch: &'s V,
     pub(crate) admission: &'s A,
     pub(crate) keeper: &'s K,
+    pub(crate) board: &'s Board,
     pub(crate) clock: &'s C,
     pub(crate) first_tenant: u32,
     listener: &'s TcpListener,
@@ -262,6 +269,19 @@ impl<'s, N: Naming, V: Watch, A: Admission, K: Keeper, C: Clock> Serving<'s, N, 
         }
     }
 
+    /// How long a line takes that is told.
+    pub(crate) fn slow(&self) -> Option<Duration> {
+        self.terms.slow
+    }
+
+    /// The time, where lines are timed.
+    pub(crate) fn time(&self) -> Option<Instant> {
+        if self.terms.slow.is_none() && !self.board.is_set() {
+            return None;
+        }
+        Instant::now(self.clock).ok()
+    }
+
     /// Takes connections at the door, and closes those that open no session.
     fn keep_door<R: Wait>(&self, rt: &R, seat: Seat) -> Vec<Stub>
         ensures { LeaveClosed result }
@@ -271,7 +291,8 @@ impl<'s, N: Naming, V: Watch, A: Admission, K: Keeper, C: Clock> Serving<'s, N, 
             mut events,
             buffer,
         } = seat;
-        let lobby = Worker::new(self, self.lobby_limits(), poll, buffer);
+        let place = self.mailboxes.len();
+        let lobby = Worker::new(self, place, self.lobby_limits(), poll, buffer);
         let door = Door::new(self.listener, self.terms.connections);
         let mut porter = Porter::new(lobby, door);
         porter.run(rt, &mut events, self.terms.until_input_ends);
@@ -287,7 +308,7 @@ impl<'s, N: Naming, V: Watch, A: Admission, K: Keeper, C: Clock> Serving<'s, N, 
             mut events,
             buffer,
         } = seat;
-        let mut worker = Worker::new(self, self.limits(), poll, buffer);
+        let mut worker = Worker::new(self, place, self.limits(), poll, buffer);
         worker.run(rt, place, &mut events);
         worker.into_stubs()
     }
@@ -331,13 +352,14 @@ pub fn serve_all<
     }
     let (seat, waker) = take_seat(rt, alloc)?;
     let mut mailboxes = Vec::new(alloc);
-    let posts = posts(rt, alloc, terms.workers, &mut mailboxes)?;
+    let posts = posts(rt, alloc, acceptor.board, terms.workers, &mut mailboxes)?;
     let serving = Serving {
         alloc,
         host,
         watch: acceptor.watch,
         admission: acceptor.admission,
         keeper: acceptor.keeper,
+        board: acceptor.board,
         clock: rt,
         first_tenant: terms.first_tenant,
         listener: acceptor.listener,
@@ -387,9 +409,10 @@ fn take_seat<R: Net>(rt: &R, alloc: Global) -> Result<(Seat, Waker), ServeError>
 }
 
 /// A post for each worker, and its mailbox.
-fn posts<R: Net>(
+fn posts<R: Net + Wait>(
     rt: &R,
     alloc: Global,
+    board: &Board,
     workers: usize,
     mailboxes: &mut Vec<Mailbox>,
 ) -> Result<Vec<Post>, ServeError>
@@ -400,6 +423,9 @@ fn posts<R: Net>(
     let mut posts = Vec::new(alloc);
     for number in 0..workers {
         let (seat, waker) = take_seat(rt, alloc)?;
+        if board.hang_bell(rt, number, &seat.poll).is_err() {
+            return Err(ServeError::NoPlace);
+        }
         if mailboxes.push(Mailbox::new(alloc, number, waker)).is_err()
             || posts.push(worker_post(number, seat)).is_err()
         {

@@ -1,6 +1,7 @@
 //! What is told of one client.
 
-use sb_connection::{Event, Watch};
+use sb_connection::{Answered, Event, Slow, Watch};
+use std::sync::Wait;
 
 /// Who is told what happens to the connection of the client at this port.
 #[derive(Drop)]
@@ -16,5 +17,13 @@ impl<'w, V: Watch> Watch for Told<'w, V> {
 
     fn see_client(&self, port: u16, event: Event) {
         self.watch.see_client(port, event);
+    }
+
+    fn hear<T: Wait>(&self, rt: &T, answered: Answered<'_>) {
+        self.watch.hear(rt, answered);
+    }
+
+    fn see_slow(&self, port: u16, slow: Slow<'_>) {
+        self.watch.see_slow(port, slow);
     }
 }

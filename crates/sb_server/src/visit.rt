@@ -6,15 +6,17 @@ ghost use Rattle.sb_server.specs.Carried.{Carries};
 ghost use Rattle.sb_server.specs.Closed.{Leaves};
 ghost use Rattle.sb_server.specs.Visits.{EndsBy, SendsSome, TellsEnd};
 
+use crate::hearing::{Ears, Hearing};
 use crate::newcomer::{Newcomer, Reception};
 use crate::socket::Socket;
 use crate::told::Told;
 use mio::{Interest, Registry, Token};
-use sb_connection::{Admission, Connection, Ending, Stream, Watch};
+use sb_connection::{Admission, Connection, Ending, Named, Stream, Watch};
 use sb_host::{Host, Naming, Stub};
 use sb_wire::StreamError;
 use std::alloc::Global;
 use std::io::{self, ErrorKind};
+use std::rt::Clock;
 use std::sync::Wait;
 use std::time::{Duration, Instant};
 
@@ -39,6 +41,8 @@ pub(crate) struct Visit<'h, N: Naming, S: Stream + Drop> {
     pub(crate) hung_up: bool,
     /// Memory ran out for what was read last.
     pub(crate) is_cut: bool,
+    /// An operator ends its session.
+    pub(crate) is_ended: bool,
     ghost carries: { Carries (S.traffic stream) connection is_cut },
 }
 
@@ -68,16 +72,19 @@ const LAST_READS: usize = 4;
 impl<'h, N: Naming, S: Stream + Drop> Visit<'h, N, S> {
     /// The first part of a turn: what waits is sent, and what comes is read and answered. It gives the fault, if there is
     /// one.
-    pub(crate) fn take_in<T: Wait, V: Watch, A: Admission>(
+    pub(crate) fn take_in<T: Wait, V: Watch, C: Clock, A: Admission>(
         &mut self,
         rt: &T,
-        watch: &V,
+        ears: &Ears<'_, V, C>,
         admission: &A,
         buffer: &mut Vec<u8>,
     ) -> Option<Ending>
         ensures { IfSome result (EndsBy (S.traffic self.new.stream) self.new.connection self.new.is_cut) }
     {
         self.is_active = false;
+        if self.is_ended {
+            return None;
+        }
         if let Some(fault) = self.send() {
             return Some(fault);
         }
@@ -85,7 +92,7 @@ impl<'h, N: Naming, S: Stream + Drop> Visit<'h, N, S> {
             if let Some(fault) = self.hear(buffer) {
                 return Some(fault);
             }
-            self.answer(rt, watch, admission);
+            self.answer(rt, ears, admission);
             if !self.has_more() {
                 return None;
             }
@@ -118,16 +125,18 @@ impl<'h, N: Naming, S: Stream + Drop> Visit<'h, N, S> {
     }
 
     /// Answers what came.
-    fn answer<T: Wait, V: Watch, A: Admission>(&mut self, rt: &T, watch: &V, admission: &A)
+    fn answer<T: Wait, V: Watch, C: Clock, A: Admission>(
+        &mut self,
+        rt: &T,
+        ears: &Ears<'_, V, C>,
+        admission: &A,
+    )
         ensures streams { SameStreams self.old.connection self.new.connection }
         ensures others { (self.new.stream ≡ self.old.stream) × (self.new.is_cut ≡ self.old.is_cut) }
     {
         let before = self.connection.waiting();
-        let told = Told {
-            watch,
-            port: self.port,
-        };
-        self.connection.advance(rt, &told, admission);
+        let hearing = Hearing::new(ears, self.port);
+        self.connection.advance(rt, &hearing, admission);
         self.is_active |= match self.came {
             Came::Bytes { has_line, .. } => has_line,
             _ => self.connection.waiting() < before,
@@ -143,6 +152,9 @@ impl<'h, N: Naming, S: Stream + Drop> Visit<'h, N, S> {
         }
         if self.connection.is_done() {
             return Next::Ends(Ending::Well);
+        }
+        if self.is_ended {
+            return Next::Ends(Ending::ByOperator);
         }
         if self.connection.wants_write() {
             return Next::Waits;
@@ -256,6 +268,19 @@ impl<'h, N: Naming, S: Stream + Drop> Visit<'h, N, S> {
         None
     }
 
+    /// Whether it has this session.
+    pub(crate) fn has_session(&self, named: Named) -> bool {
+        match self.connection.session() {
+            Some(own) => own.tenant == named.tenant && own.session == named.session,
+            None => false,
+        }
+    }
+
+    /// Whether its session has a transaction.
+    pub(crate) fn has_transaction(&self) -> bool {
+        self.connection.session().is_some() && self.connection.transacts()
+    }
+
     /// Closes the connection with its session, whose receipts are left.
     pub(crate) fn leave<T: Wait, V: Watch>(self, rt: &T, watch: &V, ending: Ending) -> Option<Stub>
         ensures { Leaves (S.traffic self.entry.stream) self.entry.connection self.entry.is_cut result }
@@ -299,6 +324,7 @@ impl<'h, N: Naming> Visit<'h, N, Socket> {
             is_due: false,
             hung_up: false,
             is_cut: is_cut || is_lost,
+            is_ended: false,
         }
     }
 

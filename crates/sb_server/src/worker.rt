@@ -6,6 +6,8 @@ ghost use Rattle.sb_server.specs.Closed.{GainsClosed, Leaves};
 ghost use Rattle.sb_server.specs.Places.{place_of};
 ghost use Rattle.sb_server.specs.Sockets.{traffic};
 
+use crate::counts::{Cause, Count};
+use crate::hearing::Ears;
 use crate::input::{has_ended, watch_input};
 use crate::keeper::Keeper;
 use crate::mailbox::Letter;
@@ -16,7 +18,7 @@ use crate::visit::{Limits, Next, Visit};
 use mio::event::Event as Ready;
 use mio::unix::SourceFd;
 use mio::{Events, Interest, Poll, Token};
-use sb_connection::{Admission, Ending, Event, Watch};
+use sb_connection::{Admission, Ending, Event, Named, Watch};
 use sb_host::{Naming, Stub};
 use slab::Slab;
 use std::mem;
@@ -49,6 +51,8 @@ pub(crate) struct Seat {
 #[derive(Drop)]
 pub(crate) struct Worker<'s, N: Naming, V, A, K, C> {
     pub(crate) serving: &'s Serving<'s, N, V, A, K, C>,
+    /// Where it counts.
+    place: usize,
     limits: Limits,
     pub(crate) poll: Poll,
     pub(crate) buffer: Vec<u8>,
@@ -62,6 +66,8 @@ pub(crate) struct Worker<'s, N: Naming, V, A, K, C> {
     stubs: Vec<Stub>,
     /// It was woken.
     is_called: bool,
+    /// When it was told of events, where lines are timed.
+    woke: Option<Instant>,
     /// When silent connections were looked for.
     swept: Option<Instant>,
     /// Each connection has a place for its receipts.
@@ -72,6 +78,7 @@ impl<'s, N: Naming, V: Watch, A: Admission, K: Keeper, C: Clock> Worker<'s, N, V
     /// A worker at its seat, which has no connection yet.
     pub(crate) fn new(
         serving: &'s Serving<'s, N, V, A, K, C>,
+        place: usize,
         limits: Limits,
         poll: Poll,
         buffer: Vec<u8>,
@@ -80,6 +87,7 @@ impl<'s, N: Naming, V: Watch, A: Admission, K: Keeper, C: Clock> Worker<'s, N, V
     {
         Worker {
             serving,
+            place,
             limits,
             poll,
             buffer,
@@ -89,6 +97,7 @@ impl<'s, N: Naming, V: Watch, A: Admission, K: Keeper, C: Clock> Worker<'s, N, V
             answered: Vec::new(serving.alloc),
             stubs: Vec::new(serving.alloc),
             is_called: true,
+            woke: None,
             swept: None,
         }
     }
@@ -157,11 +166,30 @@ impl<'s, N: Naming, V: Watch, A: Admission, K: Keeper, C: Clock> Worker<'s, N, V
     pub(crate) fn wait(&mut self, events: &mut Events, patience: Option<Duration>) -> bool
         ensures { self.new.stubs ≡ self.old.stubs }
     {
+        self.note_busy();
         if self.poll.poll(events, patience).is_err() {
             self.serving.fail_poll();
             return false;
         }
+        self.woke = self.serving.time();
         true
+    }
+
+    /// Counts the time since it was told of events.
+    fn note_busy(&self) {
+        let serving = self.serving;
+        if !serving.board.is_set() {
+            return;
+        }
+        let Some(woke) = self.woke else {
+            return;
+        };
+        let Some(now) = serving.time() else {
+            return;
+        };
+        if let Ok(nanos) = u64::try_from(now.duration_since(woke).as_nanos()) {
+            serving.board.add(self.place, Count::Busy, nanos);
+        }
     }
 
     /// Has what comes at a descriptor reported under this token.
@@ -271,6 +299,40 @@ impl<'s, N: Naming, V: Watch, A: Admission, K: Keeper, C: Clock> Worker<'s, N, V
                 self.refuse(letter.newcomer.port, Event::NoPlace);
             }
         }
+        self.obey(rt, place);
+    }
+
+    /// Has the sessions end that the worker of this place is told to end.
+    fn obey<T: Wait>(&mut self, rt: &T, place: usize)
+        ensures { self.new.stubs.items ≡ self.old.stubs.items }
+    {
+        for named in self.serving.board.take_ends(rt, self.serving.alloc, place) {
+            self.end_session(named);
+        }
+    }
+
+    /// Has a session end in its next turn, if one of its connections has it.
+    fn end_session(&mut self, named: Named)
+        ensures { self.new.stubs.items ≡ self.old.stubs.items }
+    {
+        for key in 0..self.visits.capacity() {
+            self.end_if(key, named);
+        }
+    }
+
+    /// Has a connection end in its next turn, if it has this session.
+    fn end_if(&mut self, key: usize, named: Named)
+        ensures { self.new.stubs ≡ self.old.stubs }
+    {
+        let Some(mut visit) = self.visits.try_remove(key) else {
+            return;
+        };
+        if visit.has_session(named) {
+            visit.is_ended = true;
+            self.put_due(visit);
+        } else {
+            self.visits.insert_reserved(visit);
+        }
     }
 
     /// Takes over a connection of this place.
@@ -325,7 +387,10 @@ impl<'s, N: Naming, V: Watch, A: Admission, K: Keeper, C: Clock> Worker<'s, N, V
     {
         let token = Token(self.visits.vacant_key());
         match visit.register(self.poll.registry(), token) {
-            Ok(()) => self.put_due(visit),
+            Ok(()) => {
+                self.serving.board.add(self.place, Count::Connections, 1);
+                self.put_due(visit);
+            }
             Err(error) => self.refuse(visit.port, Event::NotAccepted(error.kind())),
         }
     }
@@ -442,13 +507,27 @@ impl<'s, N: Naming, V: Watch, A: Admission, K: Keeper, C: Clock> Worker<'s, N, V
         };
         visit.is_due = false;
         let serving = self.serving;
-        match visit.take_in(rt, serving.watch, serving.admission, &mut self.buffer) {
+        let ears = self.ears();
+        match visit.take_in(rt, &ears, serving.admission, &mut self.buffer) {
             Some(fault) => self.settle(rt, Box::into_inner(visit), fault),
             None => {
                 let answered = visit.answered();
                 self.visits.insert_reserved(visit);
                 self.note_answered(answered);
             }
+        }
+    }
+
+    /// Where it counts, and who is told of slow lines.
+    fn ears(&self) -> Ears<'s, V, C> {
+        let serving = self.serving;
+        Ears {
+            watch: serving.watch,
+            clock: serving.clock,
+            board: serving.board,
+            place: self.place,
+            slow: serving.slow(),
+            woke: self.woke,
         }
     }
 
@@ -554,6 +633,15 @@ impl<'s, N: Naming, V: Watch, A: Admission, K: Keeper, C: Clock> Worker<'s, N, V
         }
     }
 
+    /// Counts the end of a connection, and that of its transaction, if it has one.
+    fn note_end(&self, has_transaction: bool) {
+        let board = self.serving.board;
+        board.add(self.place, Count::Closed, 1);
+        if has_transaction {
+            board.add(self.place, Count::Rollback(Cause::End), 1);
+        }
+    }
+
     /// Closes a connection, and keeps the receipts of its session.
     fn settle<T: Wait>(&mut self, rt: &T, visit: Visit<'s, N, Socket>, ending: Ending)
         requires { vec_len self.old.stubs + (slab_len self.old.visits + 1) ≤ vec_capacity self.old.stubs }
@@ -562,6 +650,7 @@ impl<'s, N: Naming, V: Watch, A: Admission, K: Keeper, C: Clock> Worker<'s, N, V
         ensures others { self.new.visits ≡ self.old.visits }
         ensures gains { GainsClosed self.old.stubs.items self.new.stubs.items }
     {
+        self.note_end(visit.has_transaction());
         if let Some(stub) = visit.leave(rt, self.serving.watch, ending) {
             self.stubs.push_reserved(stub);
         }

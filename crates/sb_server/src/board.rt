@@ -1,0 +1,234 @@
+//! What is known of a server while it serves: counts of its workers and the slowest lines. And what it is told: whose
+//! sessions are to end.
+ghost use Rattle.std.specs.Prelude.{◌≤◌, ◌<◌, vec_len};
+
+use crate::counts::{Count, Tally};
+use crate::worker::WAKER;
+use mio::{Poll, Waker};
+use sb_connection::Named;
+use std::alloc::{AllocError, Global};
+use std::sync::atomic::{AtomicU64, Ordering};
+use std::sync::{Mutex, Wait};
+use std::{io, mem};
+
+/// How many of the slowest lines are kept.
+const MOST_LINES: usize = 10;
+
+/// How many bytes are kept of a slow line.
+const MOST_BYTES: usize = 200;
+
+/// How many sessions may be told to a worker before it looks.
+const MOST_ORDERS: usize = 64;
+
+/// A line that took long.
+#[derive(Clone, Copy)]
+pub struct SlowLine {
+    pub named: Named,
+    pub nanos: u64,
+    text: [u8; MOST_BYTES],
+    len: usize,
+}
+
+impl SlowLine {
+    fn new(named: Named, line: &[u8], nanos: u64) -> SlowLine {
+        let mut text = [0u8; MOST_BYTES];
+        let len = line.len().min(MOST_BYTES);
+        text[..len].copy_from_slice(&line[..len]);
+        SlowLine {
+            named,
+            nanos,
+            text,
+            len,
+        }
+    }
+
+    /// The first bytes of the line.
+    pub fn text(&self) -> &[u8] {
+        if self.len <= MOST_BYTES {
+            &self.text[..self.len]
+        } else {
+            &[]
+        }
+    }
+}
+
+/// What a worker is told.
+#[derive(Drop)]
+struct Desk {
+    /// What wakes it, once it works.
+    waker: Option<Waker>,
+    /// Sessions that are to end.
+    ends: Vec<Named>,
+}
+
+/// What is known of a server, and what its workers are told. Each worker has a place, and the door the last one.
+#[derive(Drop)]
+pub struct Board {
+    tallies: Vec<Tally>,
+    desks: Vec<Mutex<Desk>>,
+    /// The slowest lines so far.
+    slowest: Mutex<Vec<SlowLine>>,
+    /// A line that took no more than so many nanoseconds isn't one of them.
+    floor: AtomicU64,
+}
+
+impl Board {
+    /// One on which nothing is counted.
+    pub fn blank(alloc: Global) -> Board {
+        Board {
+            tallies: Vec::new(alloc),
+            desks: Vec::new(alloc),
+            slowest: Mutex::new(Vec::new(alloc)),
+            floor: AtomicU64::new(u64::MAX),
+        }
+    }
+
+    /// That of so many workers and the door.
+    pub fn new(alloc: Global, workers: usize) -> Result<Board, AllocError> {
+        let mut tallies = Vec::new(alloc);
+        let mut desks = Vec::new(alloc);
+        for _ in 0..workers {
+            tallies.push(Tally::new(alloc)?)?;
+            desks.push(Mutex::new(Desk {
+                waker: None,
+                ends: Vec::new(alloc),
+            }))?;
+        }
+        tallies.push(Tally::new(alloc)?)?;
+        Ok(Board {
+            tallies,
+            desks,
+            slowest: Mutex::new(Vec::with_capacity(alloc, MOST_LINES)?),
+            floor: AtomicU64::new(0),
+        })
+    }
+
+    /// Whether something is counted.
+    pub(crate) fn is_set(&self) -> bool {
+        !self.tallies.is_empty()
+    }
+
+    /// How many places there are: those of the workers and the door's.
+    pub fn places(&self) -> usize {
+        self.tallies.len()
+    }
+
+    /// How often it was counted at a place.
+    pub fn count_at(&self, place: usize, what: Count) -> u64 {
+        match self.tallies.get(place) {
+            Some(tally) => tally.get(what),
+            None => 0,
+        }
+    }
+
+    /// How often it was counted.
+    pub fn count(&self, what: Count) -> u64 {
+        let mut sum: u64 = 0;
+        for tally in &self.tallies {
+            sum = sum.saturating_add(tally.get(what));
+        }
+        sum
+    }
+
+    pub(crate) fn add(&self, place: usize, what: Count, more: u64) {
+        if let Some(tally) = self.tallies.get(place) {
+            tally.add(what, more);
+        }
+    }
+
+    /// Keeps a line if it is one of the slowest.
+    pub(crate) fn note_line<T: Wait>(&self, rt: &T, named: Named, line: &[u8], nanos: u64) {
+        if nanos <= self.floor.load(Ordering::SeqCst) {
+            return;
+        }
+        let mut lines = self.slowest.lock(rt);
+        let lines = &mut *lines;
+        keep_slowest(lines, SlowLine::new(named, line, nanos));
+        if lines.len() >= MOST_LINES {
+            self.floor
+                .store(least_of(lines.as_slice()), Ordering::SeqCst);
+        }
+    }
+
+    /// The slowest lines, the slowest first.
+    pub fn slowest<T: Wait>(&self, rt: &T, alloc: Global) -> Result<Vec<SlowLine>, AllocError> {
+        let mut lines = Vec::new(alloc);
+        {
+            let kept = self.slowest.lock(rt);
+            for line in kept.as_slice() {
+                lines.push(*line)?;
+            }
+        }
+        lines.sort_unstable_by_key(|line| u64::MAX - line.nanos);
+        Ok(lines)
+    }
+
+    /// Has the worker that has this cell, of so many, end a session. Whether it is told.
+    pub fn end_session<T: Wait>(&self, rt: &T, cell: usize, named: Named) -> bool {
+        let workers = self.desks.len();
+        if workers == 0 {
+            return false;
+        }
+        let mut desk = self.desks[cell % workers].lock(rt);
+        let desk = &mut *desk;
+        let Some(waker) = &desk.waker else {
+            return false;
+        };
+        if desk.ends.len() >= MOST_ORDERS || desk.ends.push(named).is_err() {
+            return false;
+        }
+        waker.wake().is_ok()
+    }
+
+    /// Has the worker at this place woken where it is told something.
+    pub(crate) fn hang_bell<T: Wait>(&self, rt: &T, place: usize, poll: &Poll) -> io::Result<()> {
+        if let Some(desk) = self.desks.get(place) {
+            let waker = Waker::new(poll.registry(), WAKER)?;
+            desk.lock(rt).waker = Some(waker);
+        }
+        Ok(())
+    }
+
+    /// The sessions that the worker at this place is told to end.
+    pub(crate) fn take_ends<T: Wait>(&self, rt: &T, alloc: Global, place: usize) -> Vec<Named> {
+        match self.desks.get(place) {
+            Some(desk) => mem::replace(&mut desk.lock(rt).ends, Vec::new(alloc)),
+            None => Vec::new(alloc),
+        }
+    }
+}
+
+/// Keeps a line among so many slowest.
+fn keep_slowest(lines: &mut Vec<SlowLine>, line: SlowLine) {
+    if lines.len() < MOST_LINES {
+        let _where_there_is_memory = lines.push(line);
+        return;
+    }
+    let place = fastest_of(lines.as_slice());
+    if let Some(kept) = lines.get_mut(place) {
+        if kept.nanos < line.nanos {
+            *kept = line;
+        }
+    }
+}
+
+/// The place of the line that took least.
+fn fastest_of(lines: &[SlowLine]) -> usize {
+    let mut fastest = 0;
+    let mut least = u64::MAX;
+    for (place, line) in lines.iter().enumerate() {
+        if line.nanos < least {
+            least = line.nanos;
+            fastest = place;
+        }
+    }
+    fastest
+}
+
+/// How many nanoseconds that line took.
+fn least_of(lines: &[SlowLine]) -> u64 {
+    match lines.get(fastest_of(lines)) {
+        Some(line) => line.nanos,
+        None => 0,
+    }
+}

@@ -1,0 +1,169 @@
+//! What is counted and timed of the lines of a connection.
+
+use crate::board::Board;
+use crate::counts::{Cause, Count};
+use sb_connection::{Answered, Event, Said, Slow, Watch};
+use sb_host::AttachError;
+use sb_tenant::Reply;
+use sb_value::Refusal;
+use sb_wire::WireRefusal;
+use std::cell::Cell;
+use std::rt::Clock;
+use std::sync::Wait;
+use std::time::{Duration, Instant};
+
+/// Where a worker counts, and who is told of slow lines.
+#[derive(Drop)]
+pub(crate) struct Ears<'w, V, C> {
+    pub(crate) watch: &'w V,
+    pub(crate) clock: &'w C,
+    pub(crate) board: &'w Board,
+    /// The worker's.
+    pub(crate) place: usize,
+    /// A line that takes so long is slow.
+    pub(crate) slow: Option<Duration>,
+    /// When the worker woke, if lines are timed.
+    pub(crate) woke: Option<Instant>,
+}
+
+/// Hears what the lines of the client at a port are answered.
+#[derive(Drop)]
+pub(crate) struct Hearing<'e, 'w, V, C> {
+    ears: &'e Ears<'w, V, C>,
+    port: u16,
+    /// When the line that is answered next began.
+    since: Cell<Option<Instant>>,
+}
+
+impl<'e, 'w, V: Watch, C: Clock> Hearing<'e, 'w, V, C> {
+    pub(crate) fn new(ears: &'e Ears<'w, V, C>, port: u16) -> Hearing<'e, 'w, V, C> {
+        let since = match ears.woke {
+            // where steps are counted by their times, what was done before isn't theirs
+            Some(_) if ears.board.is_set() => Instant::now(ears.clock).ok(),
+            woke => woke,
+        };
+        Hearing {
+            ears,
+            port,
+            since: Cell::new(since),
+        }
+    }
+
+    /// How many nanoseconds have gone by since the last line was answered, if lines are timed.
+    fn lap(&self) -> Option<u64> {
+        let since = self.since.get()?;
+        let Ok(now) = Instant::now(self.ears.clock) else {
+            return None;
+        };
+        self.since.set(Some(now));
+        u64::try_from(now.duration_since(since).as_nanos()).ok()
+    }
+
+    fn add(&self, what: Count, more: u64) {
+        self.ears.board.add(self.ears.place, what, more);
+    }
+
+    /// Counts what a line was answered.
+    fn count(&self, answered: Answered<'_>) {
+        self.add(Count::Lines, 1);
+        match answered.said {
+            Said::Refusal(why) => self.add(Count::Refusal(why.number()), 1),
+            Said::Reply(Reply::No(why)) => self.add(Count::Refusal(why.number()), 1),
+            Said::Reply(reply) => self.count_reply(answered, reply),
+        }
+    }
+
+    /// Counts the considerations of a reply, and a rollback.
+    fn count_reply(&self, answered: Answered<'_>, reply: &Reply) {
+        match reply {
+            Reply::Done(trace) => self.add(Count::Considerations, trace.as_slice().len() as u64),
+            Reply::ByRule(_, trace) => self.count_rollback(Cause::Rule, trace.as_slice().len()),
+            Reply::ByError(_, _, trace) => self.count_rollback(
+                Cause::Error,
+                trace.as_slice().len(),
+            ),
+            Reply::ByLimit(trace) => self.count_rollback(Cause::Limit, trace.as_slice().len()),
+            Reply::Ok if answered.transacted && is_rollback(answered.line) => {
+                self.count_rollback(Cause::Command, 0);
+            }
+            _ => {}
+        }
+    }
+
+    fn count_rollback(&self, cause: Cause, considered: usize) {
+        self.add(Count::Considerations, considered as u64);
+        self.add(Count::Rollback(cause), 1);
+    }
+
+    /// Notes how long a line took, and tells of a slow one.
+    fn note_time<T: Wait>(&self, rt: &T, answered: Answered<'_>, nanos: u64) {
+        if self.ears.board.is_set() {
+            self.add(Count::of_step(nanos), 1);
+            self.add(Count::Steps, nanos);
+            self.ears
+                .board
+                .note_line(rt, answered.named, answered.line, nanos);
+        }
+        let Some(slow) = self.ears.slow else {
+            return;
+        };
+        if u128::from(nanos) >= slow.as_nanos() {
+            let slow = Slow {
+                named: answered.named,
+                line: answered.line,
+                millis: nanos / NANOS,
+            };
+            self.ears.watch.see_slow(self.port, slow);
+        }
+    }
+}
+
+/// The nanoseconds of a millisecond.
+const NANOS: u64 = 1_000_000;
+
+/// Whether a line that was answered `ok` in a transaction rolls it back: each other one with that letter wants none.
+fn is_rollback(line: &[u8]) -> bool {
+    line.trim_ascii_start().first() == Some(&b'r')
+}
+
+/// The number of the refusal that a first line is answered, if it is.
+fn refusal_of(event: &Event) -> Option<u8> {
+    match event {
+        Event::Unnamed(why) => Some(why.number()),
+        Event::Barred(_) => Some(WireRefusal::BadKey.number()),
+        Event::TurnedAway { why, .. } => Some(match why {
+            AttachError::NoTenant => WireRefusal::NoTenant.number(),
+            AttachError::NoSession => WireRefusal::NoSession.number(),
+            AttachError::AlreadyOpen => Refusal::AlreadyOpen.number(),
+            AttachError::TrailFull => Refusal::TrailFull.number(),
+            AttachError::NotBegun => WireRefusal::NotBegun.number(),
+        }),
+        _ => None,
+    }
+}
+
+impl<'e, 'w, V: Watch, C: Clock> Watch for Hearing<'e, 'w, V, C> {
+    fn see(&self, event: Event) {
+        if let Some(number) = refusal_of(&event) {
+            self.add(Count::Refusal(number), 1);
+        }
+        self.ears.watch.see_client(self.port, event);
+    }
+
+    fn see_client(&self, port: u16, event: Event) {
+        self.ears.watch.see_client(port, event);
+    }
+
+    fn hear<T: Wait>(&self, rt: &T, answered: Answered<'_>) {
+        if self.ears.board.is_set() {
+            self.count(answered);
+        }
+        if let Some(nanos) = self.lap() {
+            self.note_time(rt, answered, nanos);
+        }
+    }
+
+    fn see_slow(&self, port: u16, slow: Slow<'_>) {
+        self.ears.watch.see_slow(port, slow);
+    }
+}
