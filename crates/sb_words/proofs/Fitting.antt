@@ -4,7 +4,7 @@ use Rattle.clap.specs.Words.{Row}
 use Rattle.sb_words.specs.Asking.{AllFit, AreAllowed, AsksBy, Fits, IsFirstOf, IsFirstUnfit, IsUnfit}
 use Rattle.sb_words.specs.Parts.{parts}
 use Rattle.sb_words.specs.declared.part.Part.{Part}
-use Rattle.sb_words.specs.declared.part.Part.TheVariants.{Command, Old, New, Tenant, Load, DumpTo, Into, Journal, Sync, Keys, Status, Tenants, Bound, Cells, Workers, Port, Connections, Idle, IdleTransaction, FirstTenant, TenantMemory, Log, UntilInputEnds}
+use Rattle.sb_words.specs.declared.part.Part.TheVariants.{Command, Old, New, Tenant, Load, DumpTo, Into, Journal, Sync, Keys, Status, Tenants, Bound, Cells, Workers, Port, Connections, Idle, IdleTransaction, FirstTenant, TenantMemory, Log, Slow, UntilInputEnds}
 use Rattle.sb_words.specs.declared.part.Unfit.{Unfit}
 use Rattle.sb_words.specs.declared.request.Request.{Request}
 
@@ -40,7 +40,8 @@ all_allowed rows a IdleTransaction = a.1.1.1.1.1.1.1.1.1.1.1.1.1.1.1.1.1.1.0
 all_allowed rows a FirstTenant = a.1.1.1.1.1.1.1.1.1.1.1.1.1.1.1.1.1.1.1.0
 all_allowed rows a TenantMemory = a.1.1.1.1.1.1.1.1.1.1.1.1.1.1.1.1.1.1.1.1.0
 all_allowed rows a Log = a.1.1.1.1.1.1.1.1.1.1.1.1.1.1.1.1.1.1.1.1.1.0
-all_allowed rows a UntilInputEnds = a.1.1.1.1.1.1.1.1.1.1.1.1.1.1.1.1.1.1.1.1.1.1.0
+all_allowed rows a Slow = a.1.1.1.1.1.1.1.1.1.1.1.1.1.1.1.1.1.1.1.1.1.1.0
+all_allowed rows a UntilInputEnds = a.1.1.1.1.1.1.1.1.1.1.1.1.1.1.1.1.1.1.1.1.1.1.1.0
 
 -- ---- a part of a list
 

@@ -146,6 +146,7 @@ serving_in rows = record {
   log = severity_in (text_at rows part.Log);
   until_input_ends = is_some (text_at rows part.UntilInputEnds);
   status = status_in rows;
+  slow = number_in rows part.Slow;
 }
 
 -- whether a server has files or status pages

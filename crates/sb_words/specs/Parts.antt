@@ -2,7 +2,7 @@
 use Rattle.std.specs.Prelude.{ℕ, Bool, true, false, if◌then◌else◌, bytes_eq, List, [], ◌∷◌, Option, Some, None, codes}
 use Rattle.clap.specs.Words.{Text}
 use Rattle.sb_words.specs.declared.part.Part.{Part}
-use Rattle.sb_words.specs.declared.part.Part.TheVariants.{Command, Old, New, Tenant, Load, DumpTo, Into, Journal, Sync, Keys, Status, Tenants, Bound, Cells, Workers, Port, Connections, Idle, IdleTransaction, FirstTenant, TenantMemory, Log, UntilInputEnds}
+use Rattle.sb_words.specs.declared.part.Part.TheVariants.{Command, Old, New, Tenant, Load, DumpTo, Into, Journal, Sync, Keys, Status, Tenants, Bound, Cells, Workers, Port, Connections, Idle, IdleTransaction, FirstTenant, TenantMemory, Log, Slow, UntilInputEnds}
 use Rattle.sb_words.specs.declared.part.Range.{Range}
 use Rattle.sb_words.specs.declared.part.Verb.{Verb}
 use Rattle.sb_words.specs.declared.part.Verb.TheVariants.{Run, Serve, Replay, Parse, Dump, Compact, Key}
@@ -27,7 +27,7 @@ verb_in (Some word) = verb_of word
 -- the command first, files behind it, then options in the order in which they are looked at
 abbrev pub parts : List Part
 parts = Command ∷ Old ∷ New ∷ Tenant ∷ Load ∷ DumpTo ∷ Into ∷ Journal ∷ Sync ∷ Keys ∷ Status ∷ Tenants ∷ Bound ∷ Cells ∷ Workers ∷ Port ∷ Connections ∷ Idle ∷ IdleTransaction ∷ FirstTenant
-    ∷ TenantMemory ∷ Log ∷ UntilInputEnds ∷ []
+    ∷ TenantMemory ∷ Log ∷ Slow ∷ UntilInputEnds ∷ []
 
 abbrev pub name_of : Part → Text
 name_of Command = codes "command"
@@ -52,6 +52,7 @@ name_of IdleTransaction = codes "idle-transaction"
 name_of FirstTenant = codes "first-tenant"
 name_of TenantMemory = codes "tenant-memory"
 name_of Log = codes "log"
+name_of Slow = codes "slow"
 name_of UntilInputEnds = codes "until-input-ends"
 
 -- commands on tenants
@@ -118,4 +119,5 @@ range_of Idle = range 0 86400 0
 range_of IdleTransaction = range 0 86400 0
 range_of FirstTenant = range 0 999999000 0
 range_of TenantMemory = range 0 1048576 0
+range_of Slow = range 0 86400000 1000
 range_of other = None

@@ -21,7 +21,7 @@ AreHost h = AreRun h.run × (1 ≤ h.cells) × (h.cells ≤ 16) × (1 ≤ h.work
 abbrev pub AreServer : Serving → Type 0
 AreServer s =
     AreHost s.hosting × (s.port ≤ 65535) × (s.connections ≤ 1000000) × (s.idle ≤ 86400) × (s.idle_transaction ≤ 86400)
-    × (s.first_tenant ≤ 999999000) × (s.tenant_memory ≤ 1048576) × IfSome s.status (λ port. port ≤ 65535)
+    × (s.first_tenant ≤ 999999000) × (s.tenant_memory ≤ 1048576) × IfSome s.status (λ port. port ≤ 65535) × (s.slow ≤ 86400000)
 
 abbrev pub IsWithin : Request → Type 0
 IsWithin (run_request r) = AreRun r

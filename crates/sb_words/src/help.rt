@@ -8,8 +8,8 @@ pub const ALLOWED: &str =
 --bound 1 to 1000; of run and serve --load a folder, --journal a file but not with --load, --sync always, second or \
 never with --journal; of dump --tenant 0 to 255, or --into a folder; of serve and replay --cells 1 to 16, --workers 1 \
 to 16; of serve --port 0 to 65535, --connections 0 to 1000000, --idle 0 to 86400, --idle-transaction 0 to 86400, \
---first-tenant 0 to 999999000, --tenant-memory 0 to 1048576, --log error, warning or info, --until-input-ends, \
---dump-to a folder, --keys a file, --status 0 to 65535; --help, --version\n";
+--first-tenant 0 to 999999000, --tenant-memory 0 to 1048576, --log error, warning or info, --slow 0 to 86400000, \
+--until-input-ends, --dump-to a folder, --keys a file, --status 0 to 65535; --help, --version\n";
 
 pub const HELP: &str = "\
 starhost answers the command lines of hosted active databases.
@@ -77,6 +77,9 @@ Options of serve:
                  1048576, or else 0, which is as much as there is
   --log LEVEL    what is logged on standard error: error, warning or info,
                  or else info, which is all
+  --slow MILLISECONDS
+                 log a line that took so long: 0 to 86400000, or else 1000;
+                 where it is 0, none
   --until-input-ends
                  stop where standard input ends
   --dump-to FOLDER

@@ -69,11 +69,12 @@ pub enum Part {
     FirstTenant,
     TenantMemory,
     Log,
+    Slow,
     UntilInputEnds,
 }
 
 /// The parts, in the order in which they are looked at.
-pub(crate) const PARTS: [Part; 23] = [
+pub(crate) const PARTS: [Part; 24] = [
     Part::Command,
     Part::Old,
     Part::New,
@@ -96,6 +97,7 @@ pub(crate) const PARTS: [Part; 23] = [
     Part::FirstTenant,
     Part::TenantMemory,
     Part::Log,
+    Part::Slow,
     Part::UntilInputEnds,
 ];
 
@@ -135,6 +137,7 @@ impl Part {
             Part::FirstTenant => "first-tenant",
             Part::TenantMemory => "tenant-memory",
             Part::Log => "log",
+            Part::Slow => "slow",
             Part::UntilInputEnds => "until-input-ends",
         }
     }
@@ -172,6 +175,7 @@ impl Part {
             Part::IdleTransaction => numbers(0, 86_400, 0),
             Part::FirstTenant => numbers(0, 999_999_000, 0),
             Part::TenantMemory => numbers(0, 1_048_576, 0),
+            Part::Slow => numbers(0, 86_400_000, 1_000),
             _ => None,
         }
     }

@@ -39,7 +39,8 @@ pub struct Hosting {
 /// A server: a host, the port that it listens at (0: any free one), how many connections it serves
 /// (0: without end), after how many idle seconds it closes one, and one with a transaction (0: never),
 /// the number of its first tenant, how many megabytes each tenant may take (0: any number), what it logs, whether it stops
-/// where its input ends, and the port of its status pages (0: any free one), if it has some.
+/// where its input ends, the port of its status pages (0: any free one), if it has some, and how many milliseconds a line
+/// takes that is logged as slow (0: none is).
 #[derive(Clone, Copy, Debug)]
 pub struct Serving {
     pub hosting: Hosting,
@@ -52,6 +53,7 @@ pub struct Serving {
     pub log: Severity,
     pub until_input_ends: bool,
     pub status: Option<u32>,
+    pub slow: u32,
 }
 
 /// A command with its options.
@@ -209,6 +211,7 @@ fn serving_of(matches: &ArgMatches<'_>) -> Serving
         log: severity_at(matches),
         until_input_ends: text_at(matches, Part::UntilInputEnds).is_some(),
         status: status_at(matches),
+        slow: number_at(matches, Part::Slow),
     }
 }
 
