@@ -1,8 +1,8 @@
 -- Promise: the marks of pages, each with its bytes.
 use Rattle.std.specs.Prelude.{ℕ, List}
 use Rattle.sb_status.specs.declared.mark.Mark.{Mark}
-use Rattle.sb_status.specs.declared.mark.Mark.TheVariants.{Head, Foot, Blank, Comma, NewLine, Row, Cell, NumberCell, RowEnd, TableEnd, HostTitle, FactUptime, Days, Hours, Minutes, Seconds, FactMemory, Kilobytes, FactTenants, FactCells, FactBound, FactsEnd, TenantsHead, TenantLink, LinkText, LinkEnd, TenantTitle, FactSteps, FactRoom, FactRows, FactOpen, FactActive, TablesHead, IntType, TextType, RulesetsHead, SessionsHead, ClosedRow, IdleRow, ActiveRow, RulesHead, Inserted, Deleted, Updated, UpdatedOf, UpdatedEnd, ActiveCell, InactiveCell, LinesBegin, LinesEnd, PictureHead, SvgWidth, SvgHeight, SvgBox, SvgHead, Arrow, CycleArrow, OrderArrow, CurveBy, ArrowEnd, RuleBox, CycleBox, InactiveBox, InactiveCycleBox, BoxTop, BoxWidth, BoxHeight, NameAt, TextTop, TextBegin, TextEnd, WordAt, CycleWord, SvgEnd, LeftOut, LeftOutEnd, VersionSample, VersionEnd, UptimeSample, MemorySample, TenantsSample, CellsSample, BoundSample, SampleEnd, StepsFamily, StepsSample, RoomFamily, RoomSample, TablesFamily, TablesSample, RowsFamily, RowsSample, RulesFamily, RulesSample, OpenFamily, OpenSample, ActiveFamily, ActiveSample}
-use Rattle.sb_status.specs.declared.marks.TheConstants.{HEAD, FOOT, BLANK, COMMA, NEW_LINE, ROW, CELL, NUMBER_CELL, ROW_END, TABLE_END, HOST_TITLE, FACT_UPTIME, DAYS, HOURS, MINUTES, SECONDS, FACT_MEMORY, KILOBYTES, FACT_TENANTS, FACT_CELLS, FACT_BOUND, FACTS_END, TENANTS_HEAD, TENANT_LINK, LINK_TEXT, LINK_END, TENANT_TITLE, FACT_STEPS, FACT_ROOM, FACT_ROWS, FACT_OPEN, FACT_ACTIVE, TABLES_HEAD, INT_TYPE, TEXT_TYPE, RULESETS_HEAD, SESSIONS_HEAD, CLOSED_ROW, IDLE_ROW, ACTIVE_ROW, RULES_HEAD, INSERTED, DELETED, UPDATED, UPDATED_OF, UPDATED_END, ACTIVE_CELL, INACTIVE_CELL, LINES_BEGIN, LINES_END, PICTURE_HEAD, SVG_WIDTH, SVG_HEIGHT, SVG_BOX, SVG_HEAD, ARROW, CYCLE_ARROW, ORDER_ARROW, CURVE_BY, ARROW_END, RULE_BOX, CYCLE_BOX, INACTIVE_BOX, INACTIVE_CYCLE_BOX, BOX_TOP, BOX_WIDTH, BOX_HEIGHT, NAME_AT, TEXT_TOP, TEXT_BEGIN, TEXT_END, WORD_AT, CYCLE_WORD, SVG_END, LEFT_OUT, LEFT_OUT_END, VERSION_SAMPLE, VERSION_END, UPTIME_SAMPLE, MEMORY_SAMPLE, TENANTS_SAMPLE, CELLS_SAMPLE, BOUND_SAMPLE, SAMPLE_END, STEPS_FAMILY, STEPS_SAMPLE, ROOM_FAMILY, ROOM_SAMPLE, TABLES_FAMILY, TABLES_SAMPLE, ROWS_FAMILY, ROWS_SAMPLE, RULES_FAMILY, RULES_SAMPLE, OPEN_FAMILY, OPEN_SAMPLE, ACTIVE_FAMILY, ACTIVE_SAMPLE}
+use Rattle.sb_status.specs.declared.mark.Mark.TheVariants.{Head, Foot, Blank, Comma, NewLine, Row, Cell, NumberCell, RowEnd, TableEnd, HostTitle, FactUptime, Days, Hours, Minutes, Seconds, FactMemory, Kilobytes, FactTenants, FactCells, FactBound, FactsEnd, TenantsHead, TenantLink, LinkText, LinkEnd, TenantTitle, FactSteps, FactRoom, FactRows, FactOpen, FactActive, TablesHead, IntType, TextType, RulesetsHead, SessionsHead, ClosedRow, IdleRow, ActiveRow, RulesHead, Inserted, Deleted, Updated, UpdatedOf, UpdatedEnd, ActiveCell, InactiveCell, LinesBegin, LinesEnd, PictureHead, SvgWidth, SvgHeight, SvgBox, SvgHead, Arrow, CycleArrow, OrderArrow, CurveBy, ArrowEnd, RuleBox, CycleBox, InactiveBox, InactiveCycleBox, BoxTop, BoxWidth, BoxHeight, NameAt, TextTop, TextBegin, TextEnd, WordAt, CycleWord, SvgEnd, LeftOut, LeftOutEnd, VersionSample, VersionEnd, UptimeSample, MemorySample, TenantsSample, CellsSample, BoundSample, SampleEnd, StepsFamily, StepsSample, RoomFamily, RoomSample, TablesFamily, TablesSample, RowsFamily, RowsSample, RulesFamily, RulesSample, OpenFamily, OpenSample, ActiveFamily, ActiveSample, FactLines, FactConsiderations, FactRollbacks, FactRefusals, OldAge, OldAgeEnd, WorkersHead, DoorCell, CausesHead, RefusalsHead, SlowestHead, PreCell, PreRowEnd, Point, OldPage, OldPageEnd, ConsiderationsSample, RollbacksFamily, RollbacksSample, RefusalsFamily, RefusalsSample, WorkerTakenFamily, WorkerTakenSample, WorkerOpenFamily, WorkerOpenSample, WorkerLinesFamily, WorkerLinesSample, WorkerBusyFamily, WorkerBusySample, Door, TimesFamily, TimesBucket, TimesSum, TimesCount, OldFamily, OldSample}
+use Rattle.sb_status.specs.declared.marks.TheConstants.{HEAD, FOOT, BLANK, COMMA, NEW_LINE, ROW, CELL, NUMBER_CELL, ROW_END, TABLE_END, HOST_TITLE, FACT_UPTIME, DAYS, HOURS, MINUTES, SECONDS, FACT_MEMORY, KILOBYTES, FACT_TENANTS, FACT_CELLS, FACT_BOUND, FACTS_END, TENANTS_HEAD, TENANT_LINK, LINK_TEXT, LINK_END, TENANT_TITLE, FACT_STEPS, FACT_ROOM, FACT_ROWS, FACT_OPEN, FACT_ACTIVE, TABLES_HEAD, INT_TYPE, TEXT_TYPE, RULESETS_HEAD, SESSIONS_HEAD, CLOSED_ROW, IDLE_ROW, ACTIVE_ROW, RULES_HEAD, INSERTED, DELETED, UPDATED, UPDATED_OF, UPDATED_END, ACTIVE_CELL, INACTIVE_CELL, LINES_BEGIN, LINES_END, PICTURE_HEAD, SVG_WIDTH, SVG_HEIGHT, SVG_BOX, SVG_HEAD, ARROW, CYCLE_ARROW, ORDER_ARROW, CURVE_BY, ARROW_END, RULE_BOX, CYCLE_BOX, INACTIVE_BOX, INACTIVE_CYCLE_BOX, BOX_TOP, BOX_WIDTH, BOX_HEIGHT, NAME_AT, TEXT_TOP, TEXT_BEGIN, TEXT_END, WORD_AT, CYCLE_WORD, SVG_END, LEFT_OUT, LEFT_OUT_END, VERSION_SAMPLE, VERSION_END, UPTIME_SAMPLE, MEMORY_SAMPLE, TENANTS_SAMPLE, CELLS_SAMPLE, BOUND_SAMPLE, SAMPLE_END, STEPS_FAMILY, STEPS_SAMPLE, ROOM_FAMILY, ROOM_SAMPLE, TABLES_FAMILY, TABLES_SAMPLE, ROWS_FAMILY, ROWS_SAMPLE, RULES_FAMILY, RULES_SAMPLE, OPEN_FAMILY, OPEN_SAMPLE, ACTIVE_FAMILY, ACTIVE_SAMPLE, FACT_LINES, FACT_CONSIDERATIONS, FACT_ROLLBACKS, FACT_REFUSALS, OLD_AGE, OLD_AGE_END, WORKERS_HEAD, DOOR_CELL, CAUSES_HEAD, REFUSALS_HEAD, SLOWEST_HEAD, PRE_CELL, PRE_ROW_END, POINT, OLD_PAGE, OLD_PAGE_END, CONSIDERATIONS_SAMPLE, ROLLBACKS_FAMILY, ROLLBACKS_SAMPLE, REFUSALS_FAMILY, REFUSALS_SAMPLE, WORKER_TAKEN_FAMILY, WORKER_TAKEN_SAMPLE, WORKER_OPEN_FAMILY, WORKER_OPEN_SAMPLE, WORKER_LINES_FAMILY, WORKER_LINES_SAMPLE, WORKER_BUSY_FAMILY, WORKER_BUSY_SAMPLE, DOOR, TIMES_FAMILY, TIMES_BUCKET, TIMES_SUM, TIMES_COUNT, OLD_FAMILY, OLD_SAMPLE}
 
 abbrev pub mark_text : Mark → List ℕ
 mark_text Head = HEAD.now
@@ -103,3 +103,39 @@ mark_text OpenFamily = OPEN_FAMILY.now
 mark_text OpenSample = OPEN_SAMPLE.now
 mark_text ActiveFamily = ACTIVE_FAMILY.now
 mark_text ActiveSample = ACTIVE_SAMPLE.now
+mark_text FactLines = FACT_LINES.now
+mark_text FactConsiderations = FACT_CONSIDERATIONS.now
+mark_text FactRollbacks = FACT_ROLLBACKS.now
+mark_text FactRefusals = FACT_REFUSALS.now
+mark_text OldAge = OLD_AGE.now
+mark_text OldAgeEnd = OLD_AGE_END.now
+mark_text WorkersHead = WORKERS_HEAD.now
+mark_text DoorCell = DOOR_CELL.now
+mark_text CausesHead = CAUSES_HEAD.now
+mark_text RefusalsHead = REFUSALS_HEAD.now
+mark_text SlowestHead = SLOWEST_HEAD.now
+mark_text PreCell = PRE_CELL.now
+mark_text PreRowEnd = PRE_ROW_END.now
+mark_text Point = POINT.now
+mark_text OldPage = OLD_PAGE.now
+mark_text OldPageEnd = OLD_PAGE_END.now
+mark_text ConsiderationsSample = CONSIDERATIONS_SAMPLE.now
+mark_text RollbacksFamily = ROLLBACKS_FAMILY.now
+mark_text RollbacksSample = ROLLBACKS_SAMPLE.now
+mark_text RefusalsFamily = REFUSALS_FAMILY.now
+mark_text RefusalsSample = REFUSALS_SAMPLE.now
+mark_text WorkerTakenFamily = WORKER_TAKEN_FAMILY.now
+mark_text WorkerTakenSample = WORKER_TAKEN_SAMPLE.now
+mark_text WorkerOpenFamily = WORKER_OPEN_FAMILY.now
+mark_text WorkerOpenSample = WORKER_OPEN_SAMPLE.now
+mark_text WorkerLinesFamily = WORKER_LINES_FAMILY.now
+mark_text WorkerLinesSample = WORKER_LINES_SAMPLE.now
+mark_text WorkerBusyFamily = WORKER_BUSY_FAMILY.now
+mark_text WorkerBusySample = WORKER_BUSY_SAMPLE.now
+mark_text Door = DOOR.now
+mark_text TimesFamily = TIMES_FAMILY.now
+mark_text TimesBucket = TIMES_BUCKET.now
+mark_text TimesSum = TIMES_SUM.now
+mark_text TimesCount = TIMES_COUNT.now
+mark_text OldFamily = OLD_FAMILY.now
+mark_text OldSample = OLD_SAMPLE.now

@@ -3,15 +3,18 @@ use Rattle.std.specs.Prelude.{ℕ, List, ◌++◌, codes, decimal}
 use Rattle.sb_status.specs.declared.response.Kind.{Kind}
 use Rattle.sb_status.specs.declared.response.Kind.TheVariants.{Page, Samples, Text}
 use Rattle.sb_status.specs.declared.response.Status.{Status}
-use Rattle.sb_status.specs.declared.response.Status.TheVariants.{Found, Malformed, Closed, NotFound, NotAllowed, Busy, TooLong, Failed}
+use Rattle.sb_status.specs.declared.response.Status.TheVariants.{Found, Accepted, Malformed, Closed, Foreign, NotFound, NotAllowed, NotPosted, Busy, TooLong, Failed}
 use Rattle.sb_status.specs.declared.response.TheConstants.{ALWAYS}
 
 abbrev pub status_text : Status → List ℕ
 status_text Found = codes "200 OK"
+status_text Accepted = codes "202 Accepted"
 status_text Malformed = codes "400 Bad Request"
 status_text Closed = codes "401 Unauthorized\r\nWWW-Authenticate: Basic realm=\"filgwesha\""
+status_text Foreign = codes "403 Forbidden"
 status_text NotFound = codes "404 Not Found"
 status_text NotAllowed = codes "405 Method Not Allowed\r\nAllow: GET, HEAD"
+status_text NotPosted = codes "405 Method Not Allowed\r\nAllow: POST"
 status_text Busy = codes "409 Conflict"
 status_text TooLong = codes "431 Request Header Fields Too Large"
 status_text Failed = codes "500 Internal Server Error"

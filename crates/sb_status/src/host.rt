@@ -3,10 +3,11 @@ ghost use Rattle.std.specs.Prelude.{IfOk};
 ghost use Rattle.sb_status.specs.Pages.{IsPage};
 ghost use Rattle.sb_status.specs.declared.text.Escaping.TheVariants as escaping;
 
+use crate::activity::{write_refusals, write_rollbacks, write_slowest, write_sums, write_workers};
 use crate::mark::Mark;
 use crate::page::Page;
 use crate::text::Escaping;
-use crate::view::{HostNumbers, TenantNumbers};
+use crate::view::{Activity, HostNumbers, TenantNumbers};
 use std::alloc::{AllocError, Global};
 
 const MINUTE: u64 = 60;
@@ -17,23 +18,32 @@ const DAY: u64 = 24 * HOUR;
 
 const KILOBYTE: u64 = 1024;
 
-/// The host's numbers, and a row for each of these tenants.
+/// The host's numbers, a row for each of these tenants, and what was counted.
 pub fn host_page(
     alloc: Global,
     host: HostNumbers<'_>,
+    activity: Activity<'_>,
     tenants: &[TenantNumbers],
 ) -> Result<Vec<u8>, AllocError>
     ensures { IfOk result (λ page. IsPage escaping.Html page.items) }
 {
     let mut page = Page::new(alloc);
     page.mark(Mark::Head)?;
-    write_facts(&mut page, host)?;
+    write_facts(&mut page, host, activity)?;
     write_tenants(&mut page, tenants)?;
+    write_workers(&mut page, activity.workers)?;
+    write_rollbacks(&mut page, activity.rollbacks)?;
+    write_refusals(&mut page, activity.refusals)?;
+    write_slowest(&mut page, activity.slowest)?;
     page.mark(Mark::Foot)?;
     page.render(alloc, Escaping::Html)
 }
 
-fn write_facts<'v>(page: &mut Page<'v>, host: HostNumbers<'v>) -> Result<(), AllocError> {
+fn write_facts<'v>(
+    page: &mut Page<'v>,
+    host: HostNumbers<'v>,
+    activity: Activity<'_>,
+) -> Result<(), AllocError> {
     page.mark(Mark::HostTitle)?;
     page.text(host.version.as_bytes())?;
     write_uptime(page, host.uptime)?;
@@ -44,6 +54,7 @@ fn write_facts<'v>(page: &mut Page<'v>, host: HostNumbers<'v>) -> Result<(), All
     page.count(Mark::FactTenants, host.tenants)?;
     page.count(Mark::FactCells, host.cells)?;
     page.count(Mark::FactBound, host.bound)?;
+    write_sums(page, activity)?;
     page.mark(Mark::FactsEnd)
 }
 
@@ -74,5 +85,12 @@ fn write_tenant(page: &mut Page<'_>, tenant: TenantNumbers) -> Result<(), AllocE
     page.count(Mark::NumberCell, tenant.rules)?;
     page.count(Mark::NumberCell, tenant.open)?;
     page.count(Mark::NumberCell, tenant.active)?;
+    match tenant.age {
+        Some(seconds) => {
+            page.count(Mark::OldAge, seconds)?;
+            page.mark(Mark::OldAgeEnd)?;
+        }
+        None => page.mark(Mark::Cell)?,
+    }
     page.mark(Mark::RowEnd)
 }

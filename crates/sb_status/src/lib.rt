@@ -2,6 +2,8 @@
 //! system call.
 #![tactic(auto)]
 
+mod activity;
+mod counters;
 mod credentials;
 mod graph;
 mod host;
@@ -31,11 +33,12 @@ pub use nodes::Nodes;
 pub use piece::Piece;
 pub use request::{HEAD_LIMIT, Incoming, Request, read_request};
 pub use response::{Kind, NO_MEMORY, Status, respond};
-pub use route::{Route, number, route_of};
+pub use route::{Ended, Route, number, route_of};
 pub use samples::metrics;
 pub use tenant::tenant_page;
 pub use text::Escaping;
 pub use view::{
-    ColumnView, HostNumbers, RuleView, RulesetView, SessionState, TableView, TenantNumbers,
-    TenantView, TriggersView,
+    Activity, Bucket, ColumnView, HostNumbers, Refused, Rollbacks, RuleView, RulesetView,
+    SessionState, SlowView, TableView, TenantNumbers, TenantView, Times, TriggersView,
+    WorkerNumbers,
 };

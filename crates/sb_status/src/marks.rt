@@ -107,7 +107,7 @@ pub(crate) const TENANTS_HEAD: &str = "\
 <h2>Tenants</h2>
 <p class=\"hint\">Those of which a session was ever opened. <a href=\"/metrics\">The same for Prometheus</a>.</p>
 <div class=\"wide\"><table>
-<thead><tr><th>tenant</th><th class=\"n\">steps</th><th class=\"n\">room in the trail</th><th class=\"n\">tables</th><th class=\"n\">rows</th><th class=\"n\">rules</th><th class=\"n\">sessions open</th><th class=\"n\">in a transaction</th></tr></thead>
+<thead><tr><th>tenant</th><th class=\"n\">steps</th><th class=\"n\">room in the trail</th><th class=\"n\">tables</th><th class=\"n\">rows</th><th class=\"n\">rules</th><th class=\"n\">sessions open</th><th class=\"n\">in a transaction</th><th></th></tr></thead>
 <tbody>
 ";
 
@@ -342,3 +342,124 @@ pub(crate) const ACTIVE_FAMILY: &str = "\
 ";
 
 pub(crate) const ACTIVE_SAMPLE: &str = "filgwesha_tenant_sessions_in_transaction{tenant=\"";
+
+// What a server counts.
+
+pub(crate) const FACT_LINES: &str = "</dd></div>\n<div><dt>lines</dt><dd>";
+
+pub(crate) const FACT_CONSIDERATIONS: &str = "</dd></div>\n<div><dt>considerations</dt><dd>";
+
+pub(crate) const FACT_ROLLBACKS: &str = "</dd></div>\n<div><dt>rollbacks</dt><dd>";
+
+pub(crate) const FACT_REFUSALS: &str = "</dd></div>\n<div><dt>refusals</dt><dd>";
+
+pub(crate) const OLD_AGE: &str = "</td><td class=\"off\">";
+
+pub(crate) const OLD_AGE_END: &str = " s old";
+
+pub(crate) const WORKERS_HEAD: &str = "\
+<h2>Workers</h2>
+<div class=\"wide\"><table>
+<thead><tr><th>worker</th><th class=\"n\">connections</th><th class=\"n\">connections so far</th><th class=\"n\">lines</th><th class=\"n\">seconds busy</th></tr></thead>
+<tbody>
+";
+
+pub(crate) const DOOR_CELL: &str = "<tr><td>door";
+
+pub(crate) const CAUSES_HEAD: &str = "\
+<h2>Rollbacks</h2>
+<div class=\"wide\"><table>
+<thead><tr><th>by</th><th class=\"n\">rollbacks</th></tr></thead>
+<tbody>
+";
+
+pub(crate) const REFUSALS_HEAD: &str = "\
+<h2>Refusals</h2>
+<div class=\"wide\"><table>
+<thead><tr><th>number</th><th class=\"n\">refusals</th></tr></thead>
+<tbody>
+";
+
+pub(crate) const SLOWEST_HEAD: &str = "\
+<h2>Slowest lines so far</h2>
+<div class=\"wide\"><table>
+<thead><tr><th>tenant</th><th>session</th><th class=\"n\">seconds</th><th>line</th></tr></thead>
+<tbody>
+";
+
+pub(crate) const PRE_CELL: &str = "</td><td><pre>";
+
+pub(crate) const PRE_ROW_END: &str = "</pre></td></tr>\n";
+
+pub(crate) const POINT: &str = ".";
+
+pub(crate) const OLD_PAGE: &str = "<p class=\"off\">The tenant is busy: this is what it was ";
+
+pub(crate) const OLD_PAGE_END: &str = " s ago.</p>\n";
+
+pub(crate) const CONSIDERATIONS_SAMPLE: &str = "\n\
+# HELP filgwesha_considerations_total Rules that were considered.
+# TYPE filgwesha_considerations_total counter
+filgwesha_considerations_total ";
+
+pub(crate) const ROLLBACKS_FAMILY: &str = "\
+# HELP filgwesha_rollbacks_total Transactions that were rolled back, by what did it.
+# TYPE filgwesha_rollbacks_total counter
+";
+
+pub(crate) const ROLLBACKS_SAMPLE: &str = "filgwesha_rollbacks_total{cause=\"";
+
+pub(crate) const REFUSALS_FAMILY: &str = "\
+# HELP filgwesha_refusals_total Lines that were refused, by the number of the refusal.
+# TYPE filgwesha_refusals_total counter
+";
+
+pub(crate) const REFUSALS_SAMPLE: &str = "filgwesha_refusals_total{number=\"";
+
+pub(crate) const WORKER_TAKEN_FAMILY: &str = "\
+# HELP filgwesha_worker_connections_total Connections that a worker has taken; the door has those that open no session.
+# TYPE filgwesha_worker_connections_total counter
+";
+
+pub(crate) const WORKER_TAKEN_SAMPLE: &str = "filgwesha_worker_connections_total{worker=\"";
+
+pub(crate) const WORKER_OPEN_FAMILY: &str = "\
+# HELP filgwesha_worker_connections_open Connections that it has.
+# TYPE filgwesha_worker_connections_open gauge
+";
+
+pub(crate) const WORKER_OPEN_SAMPLE: &str = "filgwesha_worker_connections_open{worker=\"";
+
+pub(crate) const WORKER_LINES_FAMILY: &str = "\
+# HELP filgwesha_worker_lines_total Lines of sessions that it has answered.
+# TYPE filgwesha_worker_lines_total counter
+";
+
+pub(crate) const WORKER_LINES_SAMPLE: &str = "filgwesha_worker_lines_total{worker=\"";
+
+pub(crate) const WORKER_BUSY_FAMILY: &str = "\
+# HELP filgwesha_worker_busy_seconds_total Time in which it did not wait for clients.
+# TYPE filgwesha_worker_busy_seconds_total counter
+";
+
+pub(crate) const WORKER_BUSY_SAMPLE: &str = "filgwesha_worker_busy_seconds_total{worker=\"";
+
+pub(crate) const DOOR: &str = "door";
+
+pub(crate) const TIMES_FAMILY: &str = "\
+# HELP filgwesha_step_seconds How long lines take, from the end of the one before on a busy connection.
+# TYPE filgwesha_step_seconds histogram
+";
+
+pub(crate) const TIMES_BUCKET: &str = "filgwesha_step_seconds_bucket{le=\"";
+
+pub(crate) const TIMES_SUM: &str = "filgwesha_step_seconds_sum ";
+
+pub(crate) const TIMES_COUNT: &str = "filgwesha_step_seconds_count ";
+
+pub(crate) const OLD_FAMILY: &str = "\
+# HELP filgwesha_tenant_numbers_age_seconds Seconds since its numbers were taken; 0 unless it was busy.
+# TYPE filgwesha_tenant_numbers_age_seconds gauge
+";
+
+pub(crate) const OLD_SAMPLE: &str = "filgwesha_tenant_numbers_age_seconds{tenant=\"";

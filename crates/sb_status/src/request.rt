@@ -18,6 +18,8 @@ pub struct Request<'a> {
     pub method: &'a [u8],
     pub target: &'a [u8],
     pub authorization: Option<&'a [u8]>,
+    /// The page that a browser sends it from.
+    pub origin: Option<&'a [u8]>,
 }
 
 /// What has come of a request.
@@ -46,7 +48,8 @@ pub fn read_request(bytes: &[u8]) -> Incoming<'_>
         Ok(Status::Complete(spans)) => Incoming::Whole(Request {
             method: spans.method.of(bytes),
             target: spans.path.of(bytes),
-            authorization: authorization(bytes, &headers),
+            authorization: header(bytes, &headers, b"authorization"),
+            origin: header(bytes, &headers, b"origin"),
         }),
         Ok(Status::Partial) => Incoming::Partial,
         Err(_) => Incoming::Malformed,
@@ -54,10 +57,10 @@ pub fn read_request(bytes: &[u8]) -> Incoming<'_>
 }
 
 /// The value of the first header of that name.
-fn authorization<'a>(bytes: &'a [u8], headers: &[HeaderSpan]) -> Option<&'a [u8]> {
+fn header<'a>(bytes: &'a [u8], headers: &[HeaderSpan], wanted: &[u8]) -> Option<&'a [u8]> {
     for header in headers {
         let name = piece(bytes, header.name);
-        if name.eq_ignore_ascii_case(b"authorization") {
+        if name.eq_ignore_ascii_case(wanted) {
             return Some(piece(bytes, header.value));
         }
     }

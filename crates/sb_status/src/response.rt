@@ -9,12 +9,18 @@ use std::alloc::{AllocError, Global};
 #[derive(Clone, Copy, Debug)]
 pub enum Status {
     Found,
+    /// It is done as soon as it can be.
+    Accepted,
     Malformed,
     /// The right key is missing.
     Closed,
     NotFound,
+    /// A page of another server asks for it.
+    Foreign,
     /// Only GET and HEAD are answered.
     NotAllowed,
+    /// Only POST is.
+    NotPosted,
     /// A session has a transaction.
     Busy,
     TooLong,
@@ -85,10 +91,13 @@ fn status_line<'a>(status: Status) -> &'a str
 {
     match status {
         Status::Found => "200 OK",
+        Status::Accepted => "202 Accepted",
         Status::Malformed => "400 Bad Request",
         Status::Closed => "401 Unauthorized\r\nWWW-Authenticate: Basic realm=\"filgwesha\"",
+        Status::Foreign => "403 Forbidden",
         Status::NotFound => "404 Not Found",
         Status::NotAllowed => "405 Method Not Allowed\r\nAllow: GET, HEAD",
+        Status::NotPosted => "405 Method Not Allowed\r\nAllow: POST",
         Status::Busy => "409 Conflict",
         Status::TooLong => "431 Request Header Fields Too Large",
         Status::Failed => "500 Internal Server Error",

@@ -1,6 +1,6 @@
 //! What a request asks for.
 ghost use Rattle.std.specs.Prelude.{IfSome};
-ghost use Rattle.sb_status.specs.Routes.{IsNumber, Names, NamesBehind};
+ghost use Rattle.sb_status.specs.Routes.{IsNumber, Names, NamesBehind, NamesSession};
 
 use std::str;
 
@@ -8,7 +8,18 @@ const TENANTS: &[u8] = b"/tenants/";
 
 const DUMP: &[u8] = b"/dump";
 
-/// A page.
+const SESSIONS: &[u8] = b"/sessions/";
+
+const END: &[u8] = b"/end";
+
+/// A session that is to end.
+#[derive(Clone, Copy, Debug)]
+pub struct Ended {
+    pub tenant: u32,
+    pub session: u32,
+}
+
+/// A page, or what is asked for.
 #[derive(Clone, Copy, Debug)]
 pub enum Route {
     Host,
@@ -17,6 +28,8 @@ pub enum Route {
     Tenant(u32),
     /// Its script.
     Dump(u32),
+    /// The end of a session.
+    End(Ended),
     Unknown,
 }
 
@@ -45,11 +58,39 @@ fn route_behind(rest: &[u8]) -> Route
             Some(tenant) => Route::Dump(tenant),
             None => Route::Unknown,
         },
+        None => route_without(rest),
+    }
+}
+
+/// The page of a tenant, or the end of one of its sessions.
+fn route_without(rest: &[u8]) -> Route
+    ensures { NamesBehind rest.now result }
+{
+    match rest.strip_suffix(END) {
+        Some(front) => match session_in(front) {
+            Some(ended) => Route::End(ended),
+            None => Route::Unknown,
+        },
         None => match number(rest) {
             Some(tenant) => Route::Tenant(tenant),
             None => Route::Unknown,
         },
     }
+}
+
+/// A tenant and the digit of one of its sessions.
+fn session_in(text: &[u8]) -> Option<Ended>
+    ensures { IfSome result (NamesSession text.now) }
+{
+    let (digit, front) = text.split_last()?;
+    let tenant = number(front.strip_suffix(SESSIONS)?)?;
+    if !digit.is_ascii_digit() {
+        return None;
+    }
+    Some(Ended {
+        tenant,
+        session: u32::from(*digit - b'0'),
+    })
 }
 
 /// The number that these bytes are.

@@ -3,10 +3,11 @@ ghost use Rattle.std.specs.Prelude.{IfOk};
 ghost use Rattle.sb_status.specs.Pages.{IsPage};
 ghost use Rattle.sb_status.specs.declared.text.Escaping.TheVariants as escaping;
 
+use crate::counters::write_activity;
 use crate::mark::Mark;
 use crate::page::Page;
 use crate::text::Escaping;
-use crate::view::{HostNumbers, TenantNumbers};
+use crate::view::{Activity, HostNumbers, TenantNumbers};
 use std::alloc::{AllocError, Global};
 
 /// A number that each tenant has.
@@ -18,18 +19,20 @@ struct Family {
 }
 
 /// How many numbers each tenant has.
-const FAMILIES: usize = 7;
+const FAMILIES: usize = 8;
 
 /// All samples, in the text format 0.0.4.
 pub fn metrics(
     alloc: Global,
     host: HostNumbers<'_>,
+    activity: Activity<'_>,
     tenants: &[TenantNumbers],
 ) -> Result<Vec<u8>, AllocError>
     ensures { IfOk result (λ page. IsPage escaping.Label page.items) }
 {
     let mut page = Page::new(alloc);
     write_host(&mut page, host)?;
+    write_activity(&mut page, activity)?;
     for place in 0..FAMILIES {
         write_family(&mut page, place, tenants)?;
     }
@@ -46,8 +49,7 @@ fn write_host<'v>(page: &mut Page<'v>, host: HostNumbers<'v>) -> Result<(), Allo
     }
     page.count(Mark::TenantsSample, host.tenants)?;
     page.count(Mark::CellsSample, host.cells)?;
-    page.count(Mark::BoundSample, host.bound)?;
-    page.mark(Mark::NewLine)
+    page.count(Mark::BoundSample, host.bound)
 }
 
 /// Writes the samples of a family, one for each tenant.
@@ -77,7 +79,8 @@ fn family_at(place: usize, tenant: &TenantNumbers) -> Family {
         3 => made(Mark::RowsFamily, Mark::RowsSample, tenant.rows),
         4 => made(Mark::RulesFamily, Mark::RulesSample, tenant.rules),
         5 => made(Mark::OpenFamily, Mark::OpenSample, tenant.open),
-        _ => made(Mark::ActiveFamily, Mark::ActiveSample, tenant.active),
+        6 => made(Mark::ActiveFamily, Mark::ActiveSample, tenant.active),
+        _ => made(Mark::OldFamily, Mark::OldSample, tenant.age.unwrap_or(0)),
     }
 }
 

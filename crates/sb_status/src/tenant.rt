@@ -22,6 +22,10 @@ pub fn tenant_page(alloc: Global, view: &TenantView) -> Result<Vec<u8>, AllocErr
 
 fn write<'v>(alloc: Global, page: &mut Page<'v>, view: &'v TenantView) -> Result<(), AllocError> {
     page.mark(Mark::Head)?;
+    if let Some(seconds) = view.numbers.age {
+        page.count(Mark::OldPage, seconds)?;
+        page.mark(Mark::OldPageEnd)?;
+    }
     write_numbers(page, view.numbers)?;
     write_tables(page, view.tables.as_slice())?;
     if !view.rules.is_empty() {

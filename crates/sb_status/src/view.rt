@@ -30,6 +30,81 @@ pub struct TenantNumbers {
     pub open: u64,
     /// Sessions that have a transaction.
     pub active: u64,
+    /// The numbers are so many seconds old, since the tenant was busy.
+    pub age: Option<u64>,
+}
+
+/// What a worker has done.
+#[derive(Clone, Copy)]
+pub struct WorkerNumbers {
+    /// Connections.
+    pub taken: u64,
+    /// Those of them that have ended.
+    pub closed: u64,
+    /// Lines that it answered.
+    pub lines: u64,
+    /// Microseconds in which it didn't wait.
+    pub busy: u64,
+}
+
+/// How often a refusal was given.
+#[derive(Clone, Copy)]
+pub struct Refused {
+    pub number: u64,
+    pub count: u64,
+}
+
+/// How many transactions were rolled back, by what did it.
+#[derive(Clone, Copy)]
+pub struct Rollbacks {
+    pub command: u64,
+    /// The action of a rule.
+    pub rule: u64,
+    /// An error in the action of a rule.
+    pub error: u64,
+    /// Too many considerations.
+    pub limit: u64,
+    /// The end of a session.
+    pub end: u64,
+}
+
+/// How many lines took no longer than this, and longer than the limit before.
+#[derive(Clone, Copy)]
+pub struct Bucket {
+    pub micros: u64,
+    pub count: u64,
+}
+
+/// How long lines took.
+#[derive(Clone, Copy)]
+pub struct Times<'a> {
+    pub buckets: &'a [Bucket],
+    /// How many took longer than all limits.
+    pub others: u64,
+    /// All of them together.
+    pub micros: u64,
+}
+
+/// A line that took long, by its first bytes.
+#[derive(Clone, Copy)]
+pub struct SlowView<'a> {
+    pub tenant: u64,
+    pub session: u64,
+    pub micros: u64,
+    pub line: &'a [u8],
+}
+
+/// What a server has counted since it began.
+#[derive(Clone, Copy)]
+pub struct Activity<'a> {
+    /// By their places. The last one is the door.
+    pub workers: &'a [WorkerNumbers],
+    pub considerations: u64,
+    pub rollbacks: Rollbacks,
+    pub refusals: &'a [Refused],
+    pub times: Times<'a>,
+    /// The lines that took longest, the slowest first.
+    pub slowest: &'a [SlowView<'a>],
 }
 
 /// What a tenant is.

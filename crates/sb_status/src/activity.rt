@@ -1,0 +1,143 @@
+//! What a server has counted, on its page.
+
+use crate::mark::Mark;
+use crate::page::Page;
+use crate::view::{Activity, Refused, Rollbacks, SlowView, WorkerNumbers};
+use std::alloc::AllocError;
+
+/// Microseconds.
+const SECOND: u64 = 1_000_000;
+
+/// Writes the sums of what all workers have counted.
+pub(crate) fn write_sums(page: &mut Page<'_>, activity: Activity<'_>) -> Result<(), AllocError> {
+    page.count(Mark::FactLines, lines_of(activity.workers))?;
+    page.count(Mark::FactConsiderations, activity.considerations)?;
+    page.count(Mark::FactRollbacks, rollbacks_of(activity.rollbacks))?;
+    page.count(Mark::FactRefusals, refusals_of(activity.refusals))
+}
+
+fn lines_of(workers: &[WorkerNumbers]) -> u64 {
+    let mut sum: u64 = 0;
+    for worker in workers {
+        sum = sum.saturating_add(worker.lines);
+    }
+    sum
+}
+
+fn rollbacks_of(rollbacks: Rollbacks) -> u64 {
+    rollbacks
+        .command
+        .saturating_add(rollbacks.rule)
+        .saturating_add(rollbacks.error)
+        .saturating_add(rollbacks.limit)
+        .saturating_add(rollbacks.end)
+}
+
+fn refusals_of(refusals: &[Refused]) -> u64 {
+    let mut sum: u64 = 0;
+    for refused in refusals {
+        sum = sum.saturating_add(refused.count);
+    }
+    sum
+}
+
+/// Writes seconds with six places behind the point.
+pub(crate) fn write_seconds(page: &mut Page<'_>, micros: u64) -> Result<(), AllocError> {
+    page.number(micros / SECOND)?;
+    page.mark(Mark::Point)?;
+    page.number(micros / 100_000 % 10)?;
+    page.number(micros / 10_000 % 10)?;
+    page.number(micros / 1_000 % 10)?;
+    page.number(micros / 100 % 10)?;
+    page.number(micros / 10 % 10)?;
+    page.number(micros % 10)
+}
+
+/// Writes what the workers have done. The last one is the door.
+pub(crate) fn write_workers(
+    page: &mut Page<'_>,
+    workers: &[WorkerNumbers],
+) -> Result<(), AllocError> {
+    page.mark(Mark::WorkersHead)?;
+    for (place, worker) in workers.iter().enumerate() {
+        write_worker(page, place, place + 1 == workers.len(), *worker)?;
+    }
+    page.mark(Mark::TableEnd)
+}
+
+fn write_worker(
+    page: &mut Page<'_>,
+    place: usize,
+    is_door: bool,
+    worker: WorkerNumbers,
+) -> Result<(), AllocError> {
+    if is_door {
+        page.mark(Mark::DoorCell)?;
+    } else {
+        page.count(Mark::Row, place as u64)?;
+    }
+    page.count(Mark::NumberCell, worker.taken.saturating_sub(worker.closed))?;
+    page.count(Mark::NumberCell, worker.taken)?;
+    page.count(Mark::NumberCell, worker.lines)?;
+    page.mark(Mark::NumberCell)?;
+    write_seconds(page, worker.busy)?;
+    page.mark(Mark::RowEnd)
+}
+
+/// Writes rollbacks by what did them.
+pub(crate) fn write_rollbacks(page: &mut Page<'_>, rollbacks: Rollbacks) -> Result<(), AllocError> {
+    page.mark(Mark::CausesHead)?;
+    for (cause, count) in causes(rollbacks).as_slice() {
+        page.mark(Mark::Row)?;
+        page.text(cause.as_bytes())?;
+        page.count(Mark::NumberCell, *count)?;
+        page.mark(Mark::RowEnd)?;
+    }
+    page.mark(Mark::TableEnd)
+}
+
+/// What rolls back, and how often it did.
+pub(crate) fn causes(rollbacks: Rollbacks) -> [(&'static str, u64); 5] {
+    [
+        ("command", rollbacks.command),
+        ("rule", rollbacks.rule),
+        ("error", rollbacks.error),
+        ("limit", rollbacks.limit),
+        ("end", rollbacks.end),
+    ]
+}
+
+/// Writes how often each refusal was given, if some were.
+pub(crate) fn write_refusals(page: &mut Page<'_>, refusals: &[Refused]) -> Result<(), AllocError> {
+    if refusals.is_empty() {
+        return Ok(());
+    }
+    page.mark(Mark::RefusalsHead)?;
+    for refused in refusals {
+        page.count(Mark::Row, refused.number)?;
+        page.count(Mark::NumberCell, refused.count)?;
+        page.mark(Mark::RowEnd)?;
+    }
+    page.mark(Mark::TableEnd)
+}
+
+/// Writes the lines that took longest, if there are some.
+pub(crate) fn write_slowest<'v>(
+    page: &mut Page<'v>,
+    lines: &'v [SlowView<'v>],
+) -> Result<(), AllocError> {
+    if lines.is_empty() {
+        return Ok(());
+    }
+    page.mark(Mark::SlowestHead)?;
+    for line in lines {
+        page.count(Mark::Row, line.tenant)?;
+        page.count(Mark::Cell, line.session)?;
+        page.mark(Mark::NumberCell)?;
+        write_seconds(page, line.micros)?;
+        page.mark(Mark::PreCell)?;
+        page.text(line.line)?;
+        page.mark(Mark::PreRowEnd)?;
+    }
+    page.mark(Mark::TableEnd)
+}

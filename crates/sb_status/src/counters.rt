@@ -1,0 +1,131 @@
+//! What a server has counted, as samples of Prometheus.
+
+use crate::activity::{causes, write_seconds};
+use crate::mark::Mark;
+use crate::page::Page;
+use crate::view::{Activity, Refused, Rollbacks, Times, WorkerNumbers};
+use std::alloc::AllocError;
+
+/// A number that each worker has.
+#[derive(Clone, Copy)]
+struct Family {
+    head: Mark,
+    sample: Mark,
+}
+
+const TAKEN: Family = Family {
+    head: Mark::WorkerTakenFamily,
+    sample: Mark::WorkerTakenSample,
+};
+
+const OPEN: Family = Family {
+    head: Mark::WorkerOpenFamily,
+    sample: Mark::WorkerOpenSample,
+};
+
+const LINES: Family = Family {
+    head: Mark::WorkerLinesFamily,
+    sample: Mark::WorkerLinesSample,
+};
+
+const BUSY: Family = Family {
+    head: Mark::WorkerBusyFamily,
+    sample: Mark::WorkerBusySample,
+};
+
+/// Writes all that was counted.
+pub(crate) fn write_activity(
+    page: &mut Page<'_>,
+    activity: Activity<'_>,
+) -> Result<(), AllocError> {
+    page.count(Mark::ConsiderationsSample, activity.considerations)?;
+    page.mark(Mark::NewLine)?;
+    write_rollbacks(page, activity.rollbacks)?;
+    write_refusals(page, activity.refusals)?;
+    write_times(page, activity.times)?;
+    for family in &[TAKEN, OPEN, LINES, BUSY] {
+        write_family(page, *family, activity.workers)?;
+    }
+    Ok(())
+}
+
+fn write_rollbacks(page: &mut Page<'_>, rollbacks: Rollbacks) -> Result<(), AllocError> {
+    page.mark(Mark::RollbacksFamily)?;
+    for (cause, count) in causes(rollbacks).as_slice() {
+        page.mark(Mark::RollbacksSample)?;
+        page.text(cause.as_bytes())?;
+        page.count(Mark::SampleEnd, *count)?;
+        page.mark(Mark::NewLine)?;
+    }
+    Ok(())
+}
+
+fn write_refusals(page: &mut Page<'_>, refusals: &[Refused]) -> Result<(), AllocError> {
+    if refusals.is_empty() {
+        return Ok(());
+    }
+    page.mark(Mark::RefusalsFamily)?;
+    for refused in refusals {
+        page.count(Mark::RefusalsSample, refused.number)?;
+        page.count(Mark::SampleEnd, refused.count)?;
+        page.mark(Mark::NewLine)?;
+    }
+    Ok(())
+}
+
+/// Writes how many lines took no longer than each limit.
+fn write_times(page: &mut Page<'_>, times: Times<'_>) -> Result<(), AllocError> {
+    page.mark(Mark::TimesFamily)?;
+    let mut count: u64 = 0;
+    for bucket in times.buckets {
+        count = count.saturating_add(bucket.count);
+        page.mark(Mark::TimesBucket)?;
+        write_seconds(page, bucket.micros)?;
+        page.count(Mark::SampleEnd, count)?;
+        page.mark(Mark::NewLine)?;
+    }
+    count = count.saturating_add(times.others);
+    page.mark(Mark::TimesBucket)?;
+    page.text(b"+Inf")?;
+    page.count(Mark::SampleEnd, count)?;
+    page.mark(Mark::NewLine)?;
+    page.mark(Mark::TimesSum)?;
+    write_seconds(page, times.micros)?;
+    page.mark(Mark::NewLine)?;
+    page.count(Mark::TimesCount, count)?;
+    page.mark(Mark::NewLine)
+}
+
+/// Writes the samples of a family, one for each worker. The last one is the door.
+fn write_family(
+    page: &mut Page<'_>,
+    family: Family,
+    workers: &[WorkerNumbers],
+) -> Result<(), AllocError> {
+    page.mark(family.head)?;
+    for (place, worker) in workers.iter().enumerate() {
+        page.mark(family.sample)?;
+        if place + 1 == workers.len() {
+            page.mark(Mark::Door)?;
+        } else {
+            page.number(place as u64)?;
+        }
+        page.mark(Mark::SampleEnd)?;
+        write_number(page, family, *worker)?;
+        page.mark(Mark::NewLine)?;
+    }
+    Ok(())
+}
+
+fn write_number(
+    page: &mut Page<'_>,
+    family: Family,
+    worker: WorkerNumbers,
+) -> Result<(), AllocError> {
+    match family.sample {
+        Mark::WorkerTakenSample => page.number(worker.taken),
+        Mark::WorkerOpenSample => page.number(worker.taken.saturating_sub(worker.closed)),
+        Mark::WorkerLinesSample => page.number(worker.lines),
+        _ => write_seconds(page, worker.busy),
+    }
+}
