@@ -19,6 +19,7 @@ use Rattle.sb_durable.specs.contracts.book.Book as Book
 use Rattle.sb_journal.proofs.system_file.Syncing.TheSendSync as syncing
 use Rattle.sb_journal.specs.contracts.noted.Noted as Noted
 use Rattle.sb_journal.specs.contracts.system_file.SystemFile as SystemFile
+use Rattle.sb_server.proofs.board.Board.TheSendSync as board
 use Rattle.sb_command.specs.contracts.showing.Pages as Pages
 
 callers_send : IsSend Callers.the_row
@@ -48,4 +49,4 @@ module _ (c : calls.Ghosts (SystemFile.the_row).Denot) (s : start.Ghosts (Wary.t
 -- what a status port shows may be shared where its host, whom it admits and the system may
 module _ (N A T : RattleType) (n : naming.Ghosts N.Denot) (l : ledger.Ghosts N.Denot) where
   pub pages_sync : (κ : NamedLft) → IsSync A → IsSync T → IsSync (Pages.the_row κ N A T n l)
-  pages_sync κ admission system = search (sendable, crosses, host_sync, sync) depth 60
+  pages_sync κ admission system = search (sendable, crosses, host_sync, board.the_sync, sync) depth 60

@@ -20,6 +20,11 @@ abbrev pub IsSeconds : ℕ → Option Duration → Type 0
 IsSeconds n None = n ≡ 0
 IsSeconds n (Some d) = (0 < n) × (as_nanos d ≡ n * 1_000_000_000)
 
+-- so many milliseconds, or none where that is 0
+abbrev pub AreMillis : ℕ → Option Duration → Type 0
+AreMillis n None = n ≡ 0
+AreMillis n (Some d) = (0 < n) × (as_nanos d ≡ n * 1_000_000)
+
 -- so many megabytes in bytes, or any number where that is 0
 abbrev pub AreMegabytes : ℕ → Option ℕ → Type 0
 AreMegabytes n None = n ≡ 0
@@ -29,7 +34,7 @@ AreMegabytes n (Some bytes) = (0 < n) × (bytes ≡ n * 1_048_576)
 abbrev pub AreTermsOf : Serving → Terms → Type 0
 AreTermsOf s t =
     (t.workers ≡ s.hosting.workers) × (t.first_tenant ≡ s.first_tenant) × (t.connections ≡ s.connections) × IsSeconds s.idle t.idle
-    × IsSeconds s.idle_transaction t.idle_transaction × (t.until_input_ends ≡ s.until_input_ends)
+    × IsSeconds s.idle_transaction t.idle_transaction × (t.until_input_ends ≡ s.until_input_ends) × AreMillis s.slow t.slow
 
 -- that port of 127.0.0.1, if there is one
 abbrev pub IsStatusOf : Option ℕ → Option SocketAddr → Type 0

@@ -3,18 +3,27 @@ ghost use Rattle.std.specs.Prelude.{◌≡◌, ◌+◌, ◌-◌, length};
 ghost use Rattle.sb_tenant.specs.Limits.{trail_limit};
 ghost use Rattle.sb_tenant.specs.Tenant.{state};
 
-use sb_host::{Host, Naming, Reading};
+use sb_host::Reading;
 use sb_status::TenantNumbers;
 use sb_tables::Tables;
 use sb_tenant::{TRAIL_LIMIT, Tenant};
 use sb_value::{SESSION_LIMIT, SessionId};
-use std::sync::Wait;
 
 /// Copies the numbers of a tenant of which a session was ever opened.
 #[derive(Drop)]
-struct Counting {
+pub(crate) struct Counting {
     first_tenant: u32,
-    numbers: Option<TenantNumbers>,
+    pub(crate) numbers: Option<TenantNumbers>,
+}
+
+impl Counting {
+    /// For a host whose first tenant has this number.
+    pub(crate) fn new(first_tenant: u32) -> Counting {
+        Counting {
+            first_tenant,
+            numbers: None,
+        }
+    }
 }
 
 impl Reading for Counting {
@@ -29,19 +38,30 @@ impl Reading for Counting {
     }
 }
 
-/// The numbers of a tenant, if a session of it was ever opened.
-pub(crate) fn numbers_at<T: Wait, N: Naming>(
-    rt: &T,
-    host: &Host<N>,
-    first_tenant: u32,
-    tenant: u32,
-) -> Option<TenantNumbers> {
-    let mut counting = Counting {
-        first_tenant,
-        numbers: None,
-    };
-    let _is_there = host.read(rt, tenant, &mut counting);
-    counting.numbers
+/// Looks whether a session of a tenant is open.
+#[derive(Drop)]
+pub(crate) struct Opening {
+    session: SessionId,
+    pub(crate) is_open: bool,
+}
+
+impl Opening {
+    pub(crate) fn new(session: SessionId) -> Opening {
+        Opening {
+            session,
+            is_open: false,
+        }
+    }
+}
+
+impl Reading for Opening {
+    ghost use Rattle.std.specs.Prelude.{⊤};
+
+    ghost reads = { λ _ _ _. ⊤ };
+
+    fn read(&mut self, tenant: &Tenant) {
+        self.is_open = tenant.is_open(self.session);
+    }
 }
 
 /// The numbers of a tenant, as clients name it.
@@ -61,6 +81,7 @@ pub(crate) fn numbers_of(first_tenant: u32, tenant: &Tenant) -> TenantNumbers
         rows: rows_in(tenant.tables()),
         open: sessions_in(tenant, false),
         active: sessions_in(tenant, true),
+        age: None,
     }
 }
 

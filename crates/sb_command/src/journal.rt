@@ -7,7 +7,7 @@ use libc::net as system;
 use libc::types::pollfd;
 use log::sink::Console;
 use log::{Level, LevelFilter, Logged, log};
-use sb_connection::{Event, Watch};
+use sb_connection::{Answered, Event, Slow, Watch};
 use sb_durable::PlayError;
 use sb_journal::{JournalError, StartError};
 use sb_wire::WireRefusal;
@@ -15,9 +15,14 @@ use sb_words::Severity;
 use std::fmt::Display;
 use std::io;
 use std::rt::Clock;
+use std::sync::Wait;
 use std::sync::atomic::{AtomicU64, Ordering};
+use std::time::Instant;
 
 const STANDARD_ERROR: i32 = 2;
+
+/// How many bytes of a slow line are told.
+const MOST_TOLD: usize = 200;
 
 /// Writes a line on standard error for each event that is severe enough, with its time. A line for which there is no
 /// room is dropped and counted, so that nobody waits for who reads them.
@@ -26,6 +31,11 @@ pub(crate) struct Journal<'r, T> {
     rt: &'r T,
     least: Severity,
     dropped: AtomicU64,
+    /// In which second a slow line was told last, counted from the first.
+    slow: AtomicU64,
+    /// How many slow lines weren't told since.
+    untold: AtomicU64,
+    began: Option<Instant>,
 }
 
 impl<'r, T: Eprint + Clock> Journal<'r, T> {
@@ -34,7 +44,19 @@ impl<'r, T: Eprint + Clock> Journal<'r, T> {
             rt,
             least,
             dropped: AtomicU64::new(0),
+            slow: AtomicU64::new(0),
+            untold: AtomicU64::new(0),
+            began: Instant::now(rt).ok(),
         }
+    }
+
+    /// Whether no slow line was told in this second.
+    fn may_tell_slow(&self) -> bool {
+        let second = match (self.began, Instant::now(self.rt)) {
+            (Some(began), Ok(now)) => now.duration_since(began).as_secs().saturating_add(1),
+            _ => u64::MAX,
+        };
+        self.slow.swap(second, Ordering::SeqCst) != second
     }
 
     /// Tells why nothing listens at this port.
@@ -190,6 +212,33 @@ impl<'r, T: Eprint + Clock> Watch for Journal<'r, T> {
 
     fn see_client(&self, port: u16, event: Event) {
         self.write(severity_of(&event), &format_args!("port {port}: {event}"));
+    }
+
+    fn hear<R: Wait>(&self, _rt: &R, _answered: Answered<'_>) {}
+
+    /// One of a second is told, with how many others there were since the one before.
+    fn see_slow(&self, port: u16, slow: Slow<'_>) {
+        if !self.may_tell_slow() {
+            self.untold.fetch_add(1, Ordering::SeqCst);
+            return;
+        }
+        let untold = self.untold.swap(0, Ordering::SeqCst);
+        if untold > 0 {
+            self.write(
+                Severity::Warning,
+                &format_args!("{untold} slow lines more weren't told"),
+            );
+        }
+        let Slow {
+            named,
+            line,
+            millis,
+        } = slow;
+        let text = line[..line.len().min(MOST_TOLD)].escape_ascii();
+        self.write(
+            Severity::Warning,
+            &format_args!("port {port}: slow: {named}: {millis} ms: {text}"),
+        );
     }
 }
 

@@ -19,7 +19,7 @@ use crate::terms::{Plan, plan_of};
 use crate::watching::{StatusPort, bound_to, serve_beside};
 use sb_connection::{Admission, Open};
 use sb_host::{Host, Naming, Opened, Stub};
-use sb_server::{Acceptor, Keeper, Unkept, serve_all};
+use sb_server::{Acceptor, Board, Keeper, Unkept, serve_all};
 use sb_wire::Sink;
 use sb_words::{Paths, Serving};
 use std::alloc::{AllocError, Global};
@@ -85,6 +85,9 @@ fn keep_host<
         return Err(OUT_OF_MEMORY);
     };
     let journal = Journal::new(rt, plan.log);
+    let Some(board) = board_of(alloc, plan) else {
+        return Err(OUT_OF_MEMORY);
+    };
     let keeping = Keeping {
         rt,
         alloc,
@@ -92,12 +95,21 @@ fn keep_host<
         plan,
         paths,
         journal: &journal,
+        board: &board,
     };
     let served = match keeping.serve(writer) {
         Ok(served) => served,
         Err(why) => return Err(why),
     };
     finish_served(alloc, host, plan.terms.first_tenant, served, writer)
+}
+
+/// Where the workers count, if somebody may look. None where there is no memory for it.
+fn board_of(alloc: Global, plan: Plan) -> Option<Board> {
+    match plan.status {
+        Some(_) => Board::new(alloc, plan.terms.workers).ok(),
+        None => Some(Board::blank(alloc)),
+    }
 }
 
 /// Finishes the host with what its sessions left. Where that goes well and the files weren't written, that is the fault.
@@ -128,6 +140,7 @@ pub(crate) struct Keeping<'k, N: Naming, T> {
     pub(crate) plan: Plan,
     pub(crate) paths: Paths<'k>,
     pub(crate) journal: &'k Journal<'k, T>,
+    pub(crate) board: &'k Board,
     ghost bound: { plan.bound ≤ 1000 },
     ghost workers: { (0 < plan.terms.workers) × (plan.terms.workers ≤ 16) },
 }
@@ -219,6 +232,7 @@ impl<
             watch: self.journal,
             admission,
             keeper,
+            board: self.board,
             terms: self.plan.terms,
         };
         let served = match port {
@@ -269,6 +283,7 @@ impl<
             bound: self.plan.bound,
             began: Instant::now(self.rt).ok(),
             memory: memory_file(self.rt),
+            board: self.board,
         }
     }
 

@@ -2,6 +2,7 @@
 //! dump of tenants, or which of its lines are commands.
 #![tactic(auto)]
 
+mod activity;
 mod closing;
 mod compacting;
 mod console;
@@ -21,6 +22,7 @@ mod listening;
 mod loading;
 mod memory;
 mod parsing;
+mod patience;
 mod playing;
 mod program;
 mod recording;
@@ -29,6 +31,7 @@ mod replaying;
 mod running;
 mod saving;
 mod server;
+mod shelf;
 mod showing;
 mod telling;
 mod terms;

@@ -7,8 +7,9 @@ use crate::dumping::{text_of, undumped};
 use crate::fault::Fault;
 use crate::folder::Folder;
 use crate::journal::Journal;
+use crate::patience::Patience;
 use sb_dump::{DumpError, Script, dump};
-use sb_host::{Host, Naming, Reading};
+use sb_host::{Host, Naming, Reading, Tried};
 use sb_tenant::Tenant;
 use sb_wire::StreamError;
 use std::alloc::Global;
@@ -110,6 +111,28 @@ pub(crate) fn noted_of<T: Wait, N: Naming>(
         noted: Noted::Unused,
     };
     let _is_there = host.read(rt, tenant, &mut notes);
+    let Notes { noted, .. } = notes;
+    noted
+}
+
+/// The script of a tenant, unless its cell is busy for too long.
+pub(crate) fn noted_in<T: Clock, N: Naming>(
+    patience: &mut Patience<'_, T>,
+    alloc: Global,
+    host: &Host<N>,
+    bound: u32,
+    tenant: u32,
+) -> Noted
+    requires { bound ≤ 1000 }
+{
+    let mut notes = Notes {
+        alloc,
+        bound,
+        noted: Noted::Unused,
+    };
+    if let Tried::Held = patience.read(host, tenant, &mut notes) {
+        return Noted::Lacking(DumpError::Busy);
+    }
     let Notes { noted, .. } = notes;
     noted
 }

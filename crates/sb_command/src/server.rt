@@ -14,7 +14,7 @@ use crate::listening::listen;
 use crate::terms::{Plan, plan_of};
 use sb_connection::{Admission, Open, Watch};
 use sb_host::{Host, Naming, Opened};
-use sb_server::{Acceptor, Keeper, ServeError, Unkept, serve_all};
+use sb_server::{Acceptor, Board, Keeper, ServeError, Unkept, serve_all};
 use sb_wire::{Sink, StreamError};
 use sb_words::Serving;
 use std::alloc::{AllocError, Global};
@@ -81,11 +81,13 @@ fn serve_host<
         Ok(listener) => listener,
         Err(why) => return Err(why),
     };
+    let board = Board::blank(alloc);
     let acceptor = Acceptor {
         listener: &listener,
         watch: &journal,
         admission: &Open,
         keeper: &Unkept,
+        board: &board,
         terms: plan.terms,
     };
     serve_by(rt, alloc, &acceptor, host, writer)

@@ -2,19 +2,24 @@
 ghost use Rattle.std.specs.Prelude.{◌+◌, ◌≤◌, IsTrue, drop};
 ghost use Rattle.sb_command.specs.Showing.{holder_of};
 
-use crate::counting::numbers_at;
+use crate::activity::Counted;
+use crate::counting::{Counting, Opening};
 use crate::dumping::text_of;
 use crate::memory::resident;
-use crate::saving::{Noted, noted_of};
+use crate::patience::Patience;
+use crate::saving::{Noted, noted_in};
+use crate::shelf::Shelf;
 use crate::viewing::view_at;
-use sb_connection::Admission;
+use sb_connection::{Admission, Named};
 use sb_dump::DumpError;
-use sb_host::{Host, Naming};
+use sb_host::{Host, Naming, Tried};
 use sb_keys::STATUS;
+use sb_server::Board;
 use sb_status::{
-    Credentials, HostNumbers, Incoming, Kind, Request, Route, Status, TenantNumbers, host_page,
-    metrics, number, read_request, respond, route_of, tenant_page,
+    Credentials, Ended, HostNumbers, Incoming, Kind, Request, Route, Status, TenantNumbers,
+    TenantView, host_page, metrics, number, read_request, respond, route_of, tenant_page,
 };
+use sb_value::{SESSION_LIMIT, SessionId};
 use std::alloc::{AllocError, Global};
 use std::fs::File;
 use std::rt::Clock;
@@ -38,6 +43,8 @@ pub(crate) struct Pages<'k, N: Naming, A, T> {
     pub(crate) began: Option<Instant>,
     /// Where the system tells how much memory the process has.
     pub(crate) memory: Option<File>,
+    /// What the workers have counted, and where they are told whose sessions end.
+    pub(crate) board: &'k Board,
     ghost few: { bound ≤ 1000 },
 }
 
@@ -50,11 +57,16 @@ struct Shown {
 }
 
 impl<'k, N: Naming, A: Admission, T: Wait + Clock> Pages<'k, N, A, T> {
+    /// For what pages showed last.
+    pub(crate) fn shelf(&self) -> Result<Shelf, AllocError> {
+        Shelf::new(self.alloc, self.host.tenants())
+    }
+
     /// The answer to the bytes of a request.
-    pub(crate) fn answer(&self, bytes: &[u8]) -> Result<Vec<u8>, AllocError> {
+    pub(crate) fn answer(&self, bytes: &[u8], shelf: &mut Shelf) -> Result<Vec<u8>, AllocError> {
         match read_request(bytes) {
             Incoming::Whole(request) => {
-                let shown = self.shown(&request)?;
+                let shown = self.shown(&request, shelf)?;
                 let has_body = request.method != b"HEAD".as_slice();
                 respond(
                     self.alloc,
@@ -77,19 +89,20 @@ impl<'k, N: Naming, A: Admission, T: Wait + Clock> Pages<'k, N, A, T> {
     }
 
     /// The page that a request asks for, if who asks may see it.
-    fn shown(&self, request: &Request<'_>) -> Result<Shown, AllocError> {
-        if request.method != b"GET".as_slice() && request.method != b"HEAD".as_slice() {
-            return self.told(Status::NotAllowed, b"only GET and HEAD\n");
-        }
+    fn shown(&self, request: &Request<'_>, shelf: &mut Shelf) -> Result<Shown, AllocError> {
         let route = route_of(request.target);
+        if let Some(refusal) = refusal_of(route, request) {
+            return self.told(refusal.status, refusal.text);
+        }
         if self.admission.wants_key() && !self.is_opened(route, request.authorization)? {
             return self.told(Status::Closed, b"a key is wanted\n");
         }
         match route {
-            Route::Host => self.host_page(),
-            Route::Metrics => self.metrics(),
-            Route::Tenant(tenant) => self.tenant_page(tenant),
+            Route::Host => self.host_page(shelf),
+            Route::Metrics => self.metrics(shelf),
+            Route::Tenant(tenant) => self.tenant_page(tenant, shelf),
             Route::Dump(tenant) => self.script(tenant),
+            Route::End(ended) => self.end(ended),
             Route::Unknown => self.told(Status::NotFound, b"not found\n"),
         }
     }
@@ -119,10 +132,8 @@ impl<'k, N: Naming, A: Admission, T: Wait + Clock> Pages<'k, N, A, T> {
             (drop (credentials.now.colon + 1) credentials.now.text.items) }
     {
         match route {
-            Route::Tenant(tenant) | Route::Dump(tenant) => {
-                number(credentials.user()) == Some(tenant)
-                    && self.admission.admits(self.rt, tenant, credentials.key())
-            }
+            Route::Tenant(tenant) | Route::Dump(tenant) => self.admits_to(tenant, credentials),
+            Route::End(ended) => self.admits_to(ended.tenant, credentials),
             _ => {
                 credentials.user() == b"status".as_slice()
                     && self.admission.admits(self.rt, STATUS, credentials.key())
@@ -130,9 +141,25 @@ impl<'k, N: Naming, A: Admission, T: Wait + Clock> Pages<'k, N, A, T> {
         }
     }
 
-    fn host_page(&self) -> Result<Shown, AllocError> {
-        let tenants = self.all_numbers()?;
-        let body = host_page(self.alloc, self.host_numbers(), tenants.as_slice())?;
+    /// Whether the key is one of the tenant's, and the user is named by its number.
+    fn admits_to(&self, tenant: u32, credentials: &Credentials) -> bool
+        ensures { IsTrue result → A.admits self.now.admission.now tenant
+            (drop (credentials.now.colon + 1) credentials.now.text.items) }
+    {
+        number(credentials.user()) == Some(tenant)
+            && self.admission.admits(self.rt, tenant, credentials.key())
+    }
+
+    fn host_page(&self, shelf: &mut Shelf) -> Result<Shown, AllocError> {
+        let tenants = self.all_numbers(shelf)?;
+        let counted = Counted::read(self.rt, self.alloc, self.board)?;
+        let slowest = counted.slowest(self.alloc)?;
+        let body = host_page(
+            self.alloc,
+            self.host_numbers(),
+            counted.activity(slowest.as_slice()),
+            tenants.as_slice(),
+        )?;
         Ok(Shown {
             status: Status::Found,
             kind: Kind::Page,
@@ -140,9 +167,15 @@ impl<'k, N: Naming, A: Admission, T: Wait + Clock> Pages<'k, N, A, T> {
         })
     }
 
-    fn metrics(&self) -> Result<Shown, AllocError> {
-        let tenants = self.all_numbers()?;
-        let body = metrics(self.alloc, self.host_numbers(), tenants.as_slice())?;
+    fn metrics(&self, shelf: &mut Shelf) -> Result<Shown, AllocError> {
+        let tenants = self.all_numbers(shelf)?;
+        let counted = Counted::read(self.rt, self.alloc, self.board)?;
+        let body = metrics(
+            self.alloc,
+            self.host_numbers(),
+            counted.activity(&[]),
+            tenants.as_slice(),
+        )?;
         Ok(Shown {
             status: Status::Found,
             kind: Kind::Samples,
@@ -150,15 +183,35 @@ impl<'k, N: Naming, A: Admission, T: Wait + Clock> Pages<'k, N, A, T> {
         })
     }
 
-    /// The numbers of each tenant of which a session was ever opened, one lock after the other.
-    fn all_numbers(&self) -> Result<Vec<TenantNumbers>, AllocError> {
+    /// The numbers of each tenant of which a session was ever opened, one lock after the other. Those of a tenant that is
+    /// busy are older.
+    fn all_numbers(&self, shelf: &mut Shelf) -> Result<Vec<TenantNumbers>, AllocError> {
         let mut all = Vec::new(self.alloc);
-        for tenant in 0..self.host.tenants() {
-            if let Some(numbers) = numbers_at(self.rt, self.host, self.first_tenant, tenant) {
+        let mut patience = Patience::new(self.rt);
+        let now = self.uptime();
+        for place in 0..self.host.tenants() {
+            if let Some(numbers) = self.numbers_of(place, &mut patience, shelf, now) {
                 all.push(numbers)?;
             }
         }
         Ok(all)
+    }
+
+    /// The numbers of a tenant at this time, or as they were.
+    fn numbers_of(
+        &self,
+        place: u32,
+        patience: &mut Patience<'_, T>,
+        shelf: &mut Shelf,
+        now: u64,
+    ) -> Option<TenantNumbers> {
+        let mut counting = Counting::new(self.first_tenant);
+        if let Tried::Held = patience.read(self.host, place, &mut counting) {
+            return shelf.numbers(place, now);
+        }
+        let numbers = counting.numbers?;
+        shelf.keep(place, numbers, now);
+        Some(numbers)
     }
 
     fn host_numbers(&self) -> HostNumbers<'static> {
@@ -196,17 +249,74 @@ impl<'k, N: Naming, A: Admission, T: Wait + Clock> Pages<'k, N, A, T> {
         }
     }
 
-    fn tenant_page(&self, tenant: u32) -> Result<Shown, AllocError> {
+    fn tenant_page(&self, tenant: u32, shelf: &mut Shelf) -> Result<Shown, AllocError> {
         let Some(place) = self.place_of(tenant) else {
             return self.told(Status::NotFound, b"no such tenant\n");
         };
-        match view_at(self.rt, self.alloc, self.host, self.first_tenant, place)? {
-            Some(view) => Ok(Shown {
-                status: Status::Found,
-                kind: Kind::Page,
-                body: tenant_page(self.alloc, &view)?,
-            }),
-            None => self.told(Status::NotFound, b"no such tenant\n"),
+        let now = self.uptime();
+        let mut patience = Patience::new(self.rt);
+        match view_at(
+            &mut patience,
+            self.alloc,
+            self.host,
+            self.first_tenant,
+            place,
+        )? {
+            Some(view) => {
+                let shown = self.view_shown(&view)?;
+                shelf.keep_view(place, view, now);
+                Ok(shown)
+            }
+            None => self.old_page(place, shelf, now),
+        }
+    }
+
+    /// What the tenant was that was looked at last, if it is this one, which is busy.
+    fn old_page(&self, place: u32, shelf: &mut Shelf, now: u64) -> Result<Shown, AllocError> {
+        match shelf.view(place, now) {
+            Some(view) => self.view_shown(view),
+            None => self.told(Status::Busy, b"the tenant is busy\n"),
+        }
+    }
+
+    fn view_shown(&self, view: &TenantView) -> Result<Shown, AllocError> {
+        Ok(Shown {
+            status: Status::Found,
+            kind: Kind::Page,
+            body: tenant_page(self.alloc, view)?,
+        })
+    }
+
+    /// Has a session end.
+    fn end(&self, ended: Ended) -> Result<Shown, AllocError> {
+        let Some(place) = self.place_of(ended.tenant) else {
+            return self.told(Status::NotFound, b"no such tenant\n");
+        };
+        if !self.may_be_open(place, ended.session) {
+            return self.told(Status::NotFound, b"no such session\n");
+        }
+        let named = Named {
+            tenant: ended.tenant,
+            session: ended.session,
+        };
+        let cell = place % self.host.cells();
+        if self.board.end_session(self.rt, cell as usize, named) {
+            self.told(Status::Accepted, b"told\n")
+        } else {
+            self.told(Status::Busy, b"the worker is busy\n")
+        }
+    }
+
+    /// Whether a session of the tenant at this place is open, as far as that can be seen in time.
+    fn may_be_open(&self, place: u32, session: u32) -> bool {
+        if session >= SESSION_LIMIT as u32 {
+            return false;
+        }
+        let mut opening = Opening::new(SessionId::new(session as u8));
+        let mut patience = Patience::new(self.rt);
+        match patience.read(self.host, place, &mut opening) {
+            Tried::Held => true,
+            _ => opening.is_open,
         }
     }
 
@@ -215,19 +325,50 @@ impl<'k, N: Naming, A: Admission, T: Wait + Clock> Pages<'k, N, A, T> {
         let Some(place) = self.place_of(tenant) else {
             return self.told(Status::NotFound, b"no such tenant\n");
         };
-        match noted_of(self.rt, self.alloc, self.host, self.bound, place) {
+        let mut patience = Patience::new(self.rt);
+        match noted_in(&mut patience, self.alloc, self.host, self.bound, place) {
             Noted::Unused => self.told(Status::Found, b""),
             Noted::Script(script) => Ok(Shown {
                 status: Status::Found,
                 kind: Kind::Text,
                 body: text_of(self.alloc, &script)?,
             }),
-            Noted::Lacking(DumpError::Busy) => self.told(
-                Status::Busy,
-                b"a session has a transaction\n",
-            ),
+            Noted::Lacking(DumpError::Busy) => self.told(Status::Busy, b"the tenant is busy\n"),
             Noted::Lacking(DumpError::NotAlike) => self.told(Status::Failed, b"no script\n"),
             Noted::Lacking(DumpError::NoMemory) => Err(AllocError),
         }
     }
+}
+
+/// Why a request isn't answered by what it asks for.
+#[derive(Clone, Copy)]
+struct Refusal {
+    status: Status,
+    text: &'static [u8],
+}
+
+/// Pages are got, and a session's end is posted. A browser names the page that posts, and no page of this server does.
+fn refusal_of(route: Route, request: &Request<'_>) -> Option<Refusal> {
+    let posts = request.method == b"POST".as_slice();
+    let gets = request.method == b"GET".as_slice() || request.method == b"HEAD".as_slice();
+    let ends = matches!(route, Route::End(_));
+    if ends && !posts {
+        return Some(Refusal {
+            status: Status::NotPosted,
+            text: b"only POST\n",
+        });
+    }
+    if !ends && !gets {
+        return Some(Refusal {
+            status: Status::NotAllowed,
+            text: b"only GET and HEAD\n",
+        });
+    }
+    if ends && request.origin.is_some() {
+        return Some(Refusal {
+            status: Status::Foreign,
+            text: b"not from a page\n",
+        });
+    }
+    None
 }

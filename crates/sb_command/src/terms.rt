@@ -1,6 +1,6 @@
 //! What a server's words say of it, as the server takes it.
 ghost use Rattle.std.specs.Prelude.{◌≤◌};
-ghost use Rattle.sb_command.specs.Terms.{AreMegabytes, AreTermsOf, IsHere, IsPlanOf, IsSeconds, IsStatusOf};
+ghost use Rattle.sb_command.specs.Terms.{AreMegabytes, AreMillis, AreTermsOf, IsHere, IsPlanOf, IsSeconds, IsStatusOf};
 ghost use Rattle.sb_words.specs.Within.{AreServer};
 
 use sb_server::Terms;
@@ -63,6 +63,7 @@ fn terms_of(serving: Serving) -> Terms
         idle: seconds(serving.idle),
         idle_transaction: seconds(serving.idle_transaction),
         until_input_ends: serving.until_input_ends,
+        slow: milliseconds(serving.slow),
     }
 }
 
@@ -91,4 +92,14 @@ fn seconds(count: u32) -> Option<Duration>
         return None;
     }
     Some(Duration::from_secs(u64::from(count)))
+}
+
+/// So many milliseconds, or none where that is 0.
+fn milliseconds(count: u32) -> Option<Duration>
+    ensures { AreMillis count result }
+{
+    if count == 0 {
+        return None;
+    }
+    Some(Duration::from_millis(u64::from(count)))
 }

@@ -1,13 +1,14 @@
 //! The lines of a trail that made its tenant's rules.
 
+use crate::patience::Patience;
 use memchr::memchr;
 use sb_catalog::Catalog;
-use sb_host::{Host, Naming, Reading};
+use sb_host::{Host, Naming, Reading, Tried};
 use sb_tenant::{Entry, Reply, Tenant};
 use sb_value::{NAME_LIMIT, Name, RULE_LIMIT};
 use std::alloc::{AllocError, Global};
 use std::mem;
-use std::sync::Wait;
+use std::rt::Clock;
 
 /// How many entries are looked at before the lock is let go.
 const PIECE: usize = 4096;
@@ -73,23 +74,25 @@ impl RuleLines {
         })
     }
 
-    /// Looks at all entries.
-    pub(crate) fn trace<T: Wait, N: Naming>(
+    /// Looks at all entries. Whether it could, since the cell wasn't busy for too long.
+    pub(crate) fn trace<T: Clock, N: Naming>(
         &mut self,
-        rt: &T,
+        patience: &mut Patience<'_, T>,
         host: &Host<N>,
         tenant: u32,
-    ) -> Result<(), AllocError> {
+    ) -> Result<bool, AllocError> {
         for _ in 0..self.left / PIECE + 1 {
             if self.left == 0 || self.lacks_memory {
                 break;
             }
-            let _is_there = host.read(rt, tenant, self);
+            if let Tried::Held = patience.read(host, tenant, self) {
+                return Ok(false);
+            }
         }
         if self.lacks_memory {
             return Err(AllocError);
         }
-        Ok(())
+        Ok(true)
     }
 
     /// The lines of the rule with this number, the oldest first.

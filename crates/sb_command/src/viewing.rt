@@ -2,6 +2,7 @@
 
 use crate::counting::numbers_of;
 use crate::graphing::graph_of;
+use crate::patience::Patience;
 use crate::tracing::RuleLines;
 use sb_catalog::{Definitions, Rule};
 use sb_host::{Host, Naming, Reading};
@@ -12,7 +13,7 @@ use sb_tables::{Table, Tables};
 use sb_tenant::Tenant;
 use sb_value::{ColumnDefinition, ColumnType, Columns, Name, RuleSet, SESSION_LIMIT, SessionId};
 use std::alloc::{AllocError, Global};
-use std::sync::Wait;
+use std::rt::Clock;
 
 /// Copies what a tenant is.
 #[derive(Drop)]
@@ -35,9 +36,9 @@ impl Reading for Viewing {
     }
 }
 
-/// What a tenant is, if there is one of that number, with the lines that made its rules.
-pub(crate) fn view_at<T: Wait, N: Naming>(
-    rt: &T,
+/// What a tenant is, with the lines that made its rules, unless its cell is busy for too long.
+pub(crate) fn view_at<T: Clock, N: Naming>(
+    patience: &mut Patience<'_, T>,
     alloc: Global,
     host: &Host<N>,
     first_tenant: u32,
@@ -48,13 +49,15 @@ pub(crate) fn view_at<T: Wait, N: Naming>(
         first_tenant,
         view: Ok(None),
     };
-    let _is_there = host.read(rt, tenant, &mut viewing);
+    let _unless_it_is_busy = patience.read(host, tenant, &mut viewing);
     let Viewing { view, .. } = viewing;
     let Some(mut view) = view? else {
         return Ok(None);
     };
     let mut lines = RuleLines::new(alloc, view.numbers.steps as usize)?;
-    lines.trace(rt, host, tenant)?;
+    if !lines.trace(patience, host, tenant)? {
+        return Ok(None);
+    }
     for rule in view.rules.iter_mut() {
         rule.lines = lines.take(rule.number);
     }

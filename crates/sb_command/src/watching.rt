@@ -3,6 +3,7 @@ ghost use Rattle.std.specs.Prelude.{◌≡◌, ◌<◌, ◌≤◌};
 ghost use Rattle.std.specs.Thread.{IsSend, IsSync};
 
 use crate::hearing::{hear, say};
+use crate::shelf::Shelf;
 use crate::showing::Pages;
 use libc::net as system;
 use sb_connection::{Admission, Watch};
@@ -58,12 +59,15 @@ impl<
 > Aside for StatusPort<Pages<'k, N, A, T>> {
     /// Answers whoever comes, until the server has ended.
     fn run<R: Wait>(&self, _rt: &R) {
+        let Ok(mut shelf) = self.pages.shelf() else {
+            return;
+        };
         for stream in self.listener.incoming() {
             if self.has_ended.load(Ordering::SeqCst) {
                 return;
             }
             match stream {
-                Ok(stream) => self.attend(&stream),
+                Ok(stream) => self.attend(&stream, &mut shelf),
                 Err(_) => thread::sleep(self.pages.rt, Duration::from_millis(PAUSE)),
             }
         }
@@ -83,7 +87,7 @@ impl<
     T: Wait + Net<Listener = TcpListener, Stream = TcpStream> + Clock,
 > StatusPort<Pages<'k, N, A, T>> {
     /// Answers one request.
-    fn attend(&self, stream: &TcpStream) {
+    fn attend(&self, stream: &TcpStream, shelf: &mut Shelf) {
         let Ok(mut buffer) = vec![in self.pages.alloc; 0u8; HEAD_LIMIT + 1] else {
             say(self.pages.rt, stream, NO_MEMORY.as_bytes());
             return;
@@ -91,7 +95,7 @@ impl<
         let Some(len) = hear(self.pages.rt, stream, buffer.as_mut_slice()) else {
             return;
         };
-        match self.pages.answer(&buffer.as_slice()[..len]) {
+        match self.pages.answer(&buffer.as_slice()[..len], shelf) {
             Ok(answer) => say(self.pages.rt, stream, answer.as_slice()),
             Err(_) => say(self.pages.rt, stream, NO_MEMORY.as_bytes()),
         }

@@ -1,0 +1,43 @@
+//! How long a page waits for tenants whose cells are busy.
+
+use sb_host::{Host, Naming, Reading, Tried};
+use std::rt::Clock;
+use std::thread;
+use std::time::Duration;
+
+/// How often a page looks again whether a lock is free, in all.
+const LOOKS: u32 = 100;
+
+/// How many milliseconds lie between two looks.
+const NAP: u64 = 1;
+
+/// What is left of the tenth of a second for which a page waits.
+#[derive(Drop)]
+pub(crate) struct Patience<'k, T> {
+    rt: &'k T,
+    left: u32,
+}
+
+impl<'k, T: Clock> Patience<'k, T> {
+    pub(crate) fn new(rt: &'k T) -> Patience<'k, T> {
+        Patience { rt, left: LOOKS }
+    }
+
+    /// Lends a tenant to a reader, unless the lock of its cell is held for too long.
+    pub(crate) fn read<N: Naming, V: Reading>(
+        &mut self,
+        host: &Host<N>,
+        tenant: u32,
+        reading: &mut V,
+    ) -> Tried {
+        for _ in 0..self.left {
+            match host.try_read(tenant, reading) {
+                Tried::Held => {}
+                known => return known,
+            }
+            self.left = self.left.saturating_sub(1);
+            thread::sleep(self.rt, Duration::from_millis(NAP));
+        }
+        host.try_read(tenant, reading)
+    }
+}

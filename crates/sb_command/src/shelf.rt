@@ -1,0 +1,81 @@
+//! What pages showed last, for tenants that are busy.
+
+use sb_status::{TenantNumbers, TenantView};
+use std::alloc::{AllocError, Global};
+
+/// The numbers of a tenant, and when they were taken, in seconds since the server began.
+#[derive(Clone, Copy)]
+struct Kept {
+    numbers: TenantNumbers,
+    taken: u64,
+}
+
+/// What a tenant was, and when.
+#[derive(Drop)]
+struct Seen {
+    place: u32,
+    view: TenantView,
+    taken: u64,
+}
+
+/// The numbers of all tenants, and what the tenant was that was looked at last.
+#[derive(Drop)]
+pub(crate) struct Shelf {
+    numbers: Vec<Option<Kept>>,
+    seen: Option<Seen>,
+}
+
+impl Shelf {
+    /// Nothing of so many tenants.
+    pub(crate) fn new(alloc: Global, tenants: u32) -> Result<Shelf, AllocError> {
+        let mut numbers = Vec::new(alloc);
+        for _ in 0..tenants {
+            numbers.push(None)?;
+        }
+        Ok(Shelf {
+            numbers,
+            seen: None,
+        })
+    }
+
+    /// Keeps the numbers of the tenant at this place.
+    pub(crate) fn keep(&mut self, place: u32, numbers: TenantNumbers, taken: u64) {
+        if let Some(kept) = self.numbers.get_mut(place as usize) {
+            *kept = Some(Kept { numbers, taken });
+        }
+    }
+
+    /// The numbers of the tenant at this place as they were, with their age at this time.
+    pub(crate) fn numbers(&self, place: u32, now: u64) -> Option<TenantNumbers> {
+        match self.numbers.get(place as usize) {
+            Some(Some(kept)) => {
+                let mut numbers = kept.numbers;
+                numbers.age = Some(age(kept.taken, now));
+                Some(numbers)
+            }
+            _ => None,
+        }
+    }
+
+    /// Keeps what the tenant at this place is.
+    pub(crate) fn keep_view(&mut self, place: u32, view: TenantView, taken: u64) {
+        self.seen = Some(Seen { place, view, taken });
+    }
+
+    /// What the tenant at this place was, with its age at this time, if it was looked at last.
+    pub(crate) fn view(&mut self, place: u32, now: u64) -> Option<&TenantView> {
+        let Some(seen) = &mut self.seen else {
+            return None;
+        };
+        if seen.place != place {
+            return None;
+        }
+        seen.view.numbers.age = Some(age(seen.taken, now));
+        Some(&seen.view)
+    }
+}
+
+/// How many seconds old something is at most that was taken in this second.
+fn age(taken: u64, now: u64) -> u64 {
+    now.saturating_sub(taken).saturating_add(1)
+}
