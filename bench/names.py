@@ -1,7 +1,7 @@
 #!/usr/bin/env python3
 """Whether what documents name is there: each function, type, clause, definition, crate and file in backticks that
-docs/PROVED.md, docs/DEFINITIONS.md, other pages on the code and the crates' READMEs name stands under that name in the
-crates' sources or specs.
+README.md, docs/ and the crates' READMEs name stands under that name in the crates' sources or specs. In the pages for
+users a name may also be one of the Python client, of a program or a file of the project, or of a block of the page.
 
     bench/names.py [FILE..]
 
@@ -15,9 +15,13 @@ import sys
 from collections import defaultdict
 
 TOP = pathlib.Path(__file__).resolve().parent.parent
-PAGES = ["docs/PROVED.md", "docs/DEFINITIONS.md", "docs/DECISIONS.md", "docs/ARCHITECTURE.md", "docs/CHANGING.md"]
-# words of the language that the code is written in, and of the documents themselves
-WORDS = {"requires", "ensures", "Promise", "Machine", "None", "Some", "Copy", "Send", "Sync", "match"}
+FOR_USERS = {"CLIENTS.md", "COMMANDS.md", "OPERATING.md", "SEVERAL_HOSTS.md", "TOUR.md"}
+# words of the language that the code is written in, of its toolchain, and of the documents themselves
+WORDS = {"requires", "ensures", "Promise", "Machine", "None", "Some", "Copy", "Send", "Sync", "match", "Debug", "PartialEq", "Lts"}
+WORDS |= {"stdin", "stdout", "cc", "callgrind"}
+# what users' pages name of other programs, and a word of the log
+OTHERS = {"stunnel", "MemoryMax", "tax", "a_tax", "connected"}
+NO_FILE = re.compile(r"FOLDER/.*|.*out/.*|origin/main|[0-9a-f]{16}")
 
 BLOCK = re.compile(r"^ *(?:pub(?:\(crate\))? )?(impl|trait|struct|enum)\b(.*)")
 OWNER = re.compile(r"(?:<[^{]*?> )?(?:.* for )?(\w+)")
@@ -96,6 +100,14 @@ def is_there(code, words, name, crates):
     return bool(has & crates if crates and has else has) or name in words or name in WORDS
 
 
+def words_of_users(text):
+    """The words of the Python client and of the programs, the names of files, and what stands in the blocks of a page."""
+    blocks = re.findall(r"^```.*?^```", text, re.DOTALL | re.MULTILINE)
+    files = [file for folder in ("clients", "bench", "examples") for file in (TOP / folder).rglob("*.*") if file.is_file()]
+    texts = blocks + [file.read_text(encoding="utf-8") for file in files if file.suffix in (".py", ".c", ".cfg")]
+    return {word for text in texts for word in re.findall(r"\w+", text)}
+
+
 def has_file(page, path, spans):
     """Whether the path leads somewhere from the top, the page or a crate that is named, with or without its ending."""
     named = {TOP / "crates" / span.split("/")[0] for span in spans if span.startswith("sb_")}
@@ -112,6 +124,7 @@ def faults_of(page, code, words):
         text = re.sub(r"\[([^\]]*)\]\([^)]*\)", r"\1", text)
     text = re.sub(r"^```.*?^```", "", text, flags=re.DOTALL | re.MULTILINE)
     is_proved = page.name == "PROVED.md"
+    others = words_of_users(page.read_text(encoding="utf-8")) | OTHERS if page.name in FOR_USERS else set()
     for part in re.split(r"\n\s*\n|\n(?=[-*|#] )", text):
         spans = SPAN.findall(part.replace("\n", " "))
         crates = set(re.findall(r"\[(sb_\w+)\]", part)) if is_proved else set()
@@ -120,6 +133,8 @@ def faults_of(page, code, words):
             labels |= set(SPAN.findall(found[1]))
         calls = {span.split("::")[-1] for span in spans} | {page.parent.name}
         for span in dict.fromkeys(spans):
+            if span in others or NO_FILE.fullmatch(span):
+                continue
             if span in labels:
                 if not any(span in code.labels.get(call, ()) for call in calls):
                     yield f"clause {span}", part
@@ -134,7 +149,7 @@ def faults_of(page, code, words):
 def main():
     pages = [pathlib.Path(name).resolve() for name in sys.argv[1:]]
     if not pages:
-        pages = [TOP / name for name in PAGES if (TOP / name).exists()] + sorted(TOP.glob("crates/*/README.md"))
+        pages = [TOP / "README.md", *sorted(TOP.glob("docs/*.md")), *sorted(TOP.glob("crates/*/README.md"))]
     code, words, faults = Code(), words_of_the_language(), 0
     for page in pages:
         for name, part in faults_of(page, code, words):

@@ -5,8 +5,8 @@
 
 PROGRAM is crates/starhost/out/starhost where no word is given. Told in one line each: the pages of a small tenant and the
 samples, byte by byte as bench/status_pages has them (numbers that vary are written as N); what Prometheus' `promtool` says
-of the samples, where it is installed; hostile requests, and silent connections while a client of the server goes on; whom
-keys let in. The first thing that isn't as it is to be ends this with status 1. With --write the files of
+of the samples, where it is installed; what is counted; slow lines; a page while a step runs; a session that is ended;
+hostile requests, and silent connections while a client of the server goes on; whom keys let in. The first thing that isn't as it is to be ends this with status 1. With --write the files of
 bench/status_pages are written anew, and with --shots a headless Chromium draws the pages to that folder.
 """
 
@@ -15,6 +15,7 @@ import base64
 import hashlib
 import os
 import re
+import resource
 import shutil
 import socket
 import subprocess
@@ -49,6 +50,10 @@ VARYING = [
     (rb"<dt>memory</dt><dd>\d+", b"<dt>memory</dt><dd>N"),
     (rb"(?m)^filgwesha_uptime_seconds \d+", b"filgwesha_uptime_seconds N"),
     (rb"(?m)^process_resident_memory_bytes \d+", b"process_resident_memory_bytes N"),
+    (rb"(?m)^(filgwesha_step_seconds_(?:bucket\{le=\"\d[\d.]*\"\}|sum)) [\d.]+", rb"\1 N"),
+    (rb"(?m)^(filgwesha_worker_busy_seconds_total\{worker=\"\w+\"\}) [\d.]+", rb"\1 N"),
+    (rb"(?s)(<h2>Workers</h2>.*?<tbody>\n)(.*?)(?=</tbody>)", lambda found: found[1] + re.sub(rb"\d+\.\d+", b"N", found[2])),
+    (rb"(?s)(<h2>Slowest lines so far</h2>.*?<tbody>\n).*?(?=</tbody>)", rb"\1N\n"),
 ]
 
 
@@ -69,12 +74,22 @@ class Server:
             self.status = int(re.search(r"status pages at port (\d+)", log.read()).group(1))
 
     def client(self, first):
-        """A connection whose first line is this one, as a file of lines."""
+        """A connection whose first line is this one, and was answered so, as a file of lines."""
         stream = socket.create_connection(("127.0.0.1", self.port), timeout=PATIENCE)
         file = stream.makefile("rw")
         file.write(f"{first}\n")
         file.flush()
-        return stream, file
+        return stream, file, file.readline()
+
+    def told(self):
+        """The log so far."""
+        with open(self.log.name) as log:
+            return log.read()
+
+    def sample(self, name):
+        """The value of a sample of Prometheus."""
+        found = re.search(rf"(?m)^{re.escape(name)} (\S+)$", self.get("/metrics")[1].decode())
+        return float(found.group(1)) if found else None
 
     def knock(self):
         return socket.create_connection(("127.0.0.1", self.status), timeout=PATIENCE)
@@ -85,6 +100,13 @@ class Server:
         stream.setblocking(False)
         stream.connect_ex(("127.0.0.1", self.status))
         return stream
+
+    def raw_ask(self, first):
+        """What is answered to a first line."""
+        stream, file, reply = self.client(first)
+        stream.close()
+        file.close()
+        return reply
 
     def raw(self, request, whole=True):
         """What is answered to these bytes."""
@@ -100,9 +122,9 @@ class Server:
             except ConnectionResetError:
                 return answer
 
-    def get(self, path, method="GET", user=None, key=None):
+    def get(self, path, method="GET", user=None, key=None, header=""):
         """The status and the body of a page, whose length and end are as they are to be."""
-        head = f"{method} {path} HTTP/1.1\r\nHost: here\r\n"
+        head = f"{method} {path} HTTP/1.1\r\nHost: here\r\n{header}"
         if user is not None:
             head += f"Authorization: Basic {base64.b64encode(f'{user}:{key}'.encode()).decode()}\r\n"
         answer = self.raw(f"{head}\r\n".encode(), whole=False)
@@ -150,7 +172,7 @@ def look(server, name, path, write):
 
 def pages(program, write, shots):
     server = Server(program)
-    stream, file = server.client("0 0")
+    stream, file, reply = server.client("0 0")
     run(file, LINES)
     look(server, "host.html", "/", write)
     page = look(server, "tenant.html", "/tenants/0", write)
@@ -185,6 +207,140 @@ def shoot(server, folder):
         subprocess.run(words, check=True, capture_output=True, timeout=PATIENCE)
 
 
+def say(file, line):
+    """A line's reply: its first line."""
+    file.write(f"{line}\n")
+    file.flush()
+    reply = file.readline()
+    words = reply.split()
+    for _ in range(int(words[-1].rstrip(",")) if words[0] in ("rows", "done", "rolledback") else 0):
+        file.readline()
+    return reply
+
+
+def until(what, holds):
+    end = time.monotonic() + PATIENCE
+    while not holds():
+        if time.monotonic() > end:
+            sys.exit(f"{what}: not in {PATIENCE} s")
+        time.sleep(0.02)
+
+
+def counts(program):
+    """Each line of a few is among the slowest, and refusals, considerations and rollbacks are counted."""
+    server = Server(program)
+    stream, file, reply = server.client("2 0")
+    run(file, "create table t (a int)\ncreate rule r on t when inserted if select * from t where a > 9 then rollback")
+    expect("a refusal", say(file, "select"), "no 10 Syntax\n")
+    for line, begins in [("begin", "ok"), ("insert into t values (10)", "ok"), ("commit", "rolledback rule"), ("begin", "ok"), ("rollback", "ok"), ("begin", "ok")]:
+        expect(line, say(file, line).startswith(begins), True)
+    text = "select * from t where '<script>' = '\"&'"
+    say(file, text)
+    expect("a session that isn't there", server.raw_ask("2 8"), "no 14 NoSession\n")
+    stream.close()
+    file.close()
+    until("a transaction that is left", lambda: server.sample('filgwesha_rollbacks_total{cause="end"}') == 1)
+    wanted = {
+        'filgwesha_rollbacks_total{cause="command"}': 1, 'filgwesha_rollbacks_total{cause="rule"}': 1,
+        'filgwesha_rollbacks_total{cause="error"}': 0, 'filgwesha_rollbacks_total{cause="limit"}': 0,
+        'filgwesha_refusals_total{number="10"}': 1, 'filgwesha_refusals_total{number="14"}': 1, "filgwesha_considerations_total": 1,
+        'filgwesha_worker_lines_total{worker="2"}': 10, 'filgwesha_worker_connections_total{worker="2"}': 1,
+        'filgwesha_worker_connections_open{worker="2"}': 0, 'filgwesha_worker_connections_total{worker="door"}': 1,
+        "filgwesha_step_seconds_count": 10, 'filgwesha_step_seconds_bucket{le="+Inf"}': 10,
+    }
+    for name, value in wanted.items():
+        expect(name, server.sample(name), value)
+    page = server.get("/")[1]
+    expect("a slow line in the page", (b"<script" in page, b"&lt;script&gt;&#39; = &#39;&quot;&amp;&#39;" in page), (False, True))
+    server.stop()
+    print(f"counts: {len(wanted)} samples are what was done")
+
+
+WIDE = "create table w (a int)\nbegin\n" + "".join("insert into w values " + ", ".join(f"({i})" for i in range(at, at + 250)) + "\n" for at in range(0, 1000, 250)) + "commit"
+# a million pairs, each of which is looked at
+PAIRS = "select * from w x, w y where x.a * y.a - x.a > 0 and x.a + y.a = "
+# considered as often as a row of t is short of 900, each time at the cost of these pairs
+AGAIN = f"""create table t (a int)
+create rule again on t when inserted, updated(a) if {PAIRS}5 then update t set a = a + 1 where a < 900
+begin"""
+# so long at least a step is to run
+LONG = 2.5
+
+
+def slow(program):
+    """Slow lines are logged, one of a second; while one runs pages have what they had, and its session ends behind it."""
+    server = Server(program, "--slow", "1")
+    stream, file, reply = server.client("0 0")
+    run(file, f"{WIDE}\nbegin")
+    began = time.monotonic()
+    for _ in range(40):
+        expect("a slow line", say(file, f"{PAIRS}-1"), "rows 0\n")
+    one = (time.monotonic() - began) / 40
+    log = server.told()
+    told = re.findall(r"slow: tenant 0, session 0: \d+ ms: select \* from w x, w y", log)
+    if not 1 <= len(told) <= 40 or len(re.findall(r"slow lines more weren't told", log)) > len(told):
+        sys.exit(f"slow lines are told {len(told)} times")
+    expect("a line is counted", server.get("/tenants/0")[0], 200)
+    server.get("/")
+    run(file, "rollback")
+    run(file, AGAIN)
+    run(file, f"insert into t values ({900 - min(900, int(LONG / one))})")
+    began = time.monotonic()
+    file.write("commit\n")
+    file.flush()
+    time.sleep(0.3)
+    took = []
+    for path, sign in (("/", b" s old</td>"), ("/tenants/0", b"The tenant is busy: this is what it was "), ("/metrics", b'age_seconds{tenant="0"} ')):
+        start = time.monotonic()
+        status, page = server.get(path)
+        took.append(time.monotonic() - start)
+        expect(f"{path} while a step runs", (status, sign in page), (200, True))
+    expect("another tenant of its cell", server.get("/tenants/4")[0], 409)
+    expect("its script", server.get("/tenants/0/dump")[0], 409)
+    expect("the end of its session", server.get("/tenants/0/sessions/0/end", method="POST")[0], 202)
+    still = server.sample('filgwesha_tenant_numbers_age_seconds{tenant="0"}') > 0
+    if max(took) > 1 or not still:
+        sys.exit(f"pages took {took} while a step ran, which {'runs' if still else 'is over'}")
+    while piece := stream.recv(65536):
+        pass
+    ran = time.monotonic() - began
+    stream.close()
+    file.close()
+    until("it is told", lambda: "ended by an operator: tenant 0, session 0" in server.told())
+    other, file, reply = server.client("0 0")
+    expect("its session again", reply, "ok\n")
+    expect("numbers anew", server.sample('filgwesha_tenant_numbers_age_seconds{tenant="0"}'), 0)
+    other.close()
+    file.close()
+    server.stop()
+    print(f"slow lines: {len(told)} of 40 told; pages took at most {max(took) * 1000:.0f} ms beside a step of {ran:.1f} s, which ended first")
+
+
+def ends(program):
+    """A session that is ended: its transaction is gone, its `end` is a step, and others go on."""
+    server = Server(program)
+    one, own, reply = server.client("1 3")
+    two, other, reply = server.client("1 4")
+    run(own, "create table t (a int)\nbegin\ninsert into t values (1)")
+    path = "/tenants/1/sessions/3/end"
+    expect("GET of an end", server.get(path)[0], 405)
+    expect("an end from a page", server.get(path, method="POST", header="Origin: http://127.0.0.1\r\n")[0], 403)
+    for missing in ("/tenants/1/sessions/5/end", "/tenants/1/sessions/8/end", "/tenants/16/sessions/0/end", "/tenants/1/sessions/3/", "/tenants/1/sessions/33/end"):
+        expect(missing, server.get(missing, method="POST")[0] in (404, 405), True)
+    before = server.sample('filgwesha_tenant_steps_total{tenant="1"}')
+    expect("an end", server.get(path, method="POST")[0], 202)
+    expect("its connection", own.read(), "")
+    until("its step", lambda: server.sample('filgwesha_tenant_steps_total{tenant="1"}') == before + 1)
+    expect("another session", say(other, "begin"), "ok\n")
+    expect("its transaction is gone", say(other, "select * from t"), "rows 0\n")
+    for stream, file in ((one, own), (two, other)):
+        stream.close()
+        file.close()
+    expect("the log", "ended by an operator: tenant 1, session 3" in server.told(), True)
+    server.stop()
+    print("an end: its connection is closed, its transaction is gone, and others go on")
+
+
 def hostile(program):
     server = Server(program)
     wanted = [
@@ -203,9 +359,9 @@ def hostile(program):
     ]
     for what, request, status in wanted:
         expect(what, server.raw(request)[9:12], status)
-    stream, file = server.client("1 0")
+    stream, file, reply = server.client("1 0")
     run(file, "create table t (a int)\nbegin")
-    silent = [server.stand_silent() for _ in range(200)]
+    silent = [server.stand_silent() for _ in range(1_000)]
     slow = 0
     for number in range(2_000):
         began = time.monotonic()
@@ -242,6 +398,11 @@ def keys(program):
             expect(f"{page} as another tenant", server.get(page, user="1", key="key-of-1")[0], 401)
             expect(f"{page} as status", server.get(page, user="status", key="key-of-status")[0], 401)
             expect(f"{page} with its key", server.get(page, user="0", key="key-of-0")[0], 200)
+        page = "/tenants/0/sessions/0/end"
+        expect("an end without a key", server.get(page, method="POST")[0], 401)
+        expect("an end with another key", server.get(page, method="POST", user="1", key="key-of-1")[0], 401)
+        expect("an end as status", server.get(page, method="POST", user="status", key="key-of-status")[0], 401)
+        expect("an end of a session that isn't open", server.get(page, method="POST", user="0", key="key-of-0")[0], 404)
         expect("a tenant without keys", server.get("/tenants/5", user="5", key="key-of-0")[0], 401)
         told = server.raw(b"GET / HTTP/1.1\r\nAuthorization: Basic !!!\r\n\r\n")
         expect("no base64", (told[9:12], b'WWW-Authenticate: Basic realm="filgwesha"' in told), (b"401", True))
@@ -255,7 +416,11 @@ def main():
     words.add_argument("--write", action="store_true")
     words.add_argument("--shots")
     asked = words.parse_args()
+    resource.setrlimit(resource.RLIMIT_NOFILE, (resource.getrlimit(resource.RLIMIT_NOFILE)[1],) * 2)
     pages(asked.program, asked.write, asked.shots)
+    counts(asked.program)
+    slow(asked.program)
+    ends(asked.program)
     hostile(asked.program)
     keys(asked.program)
 
