@@ -261,8 +261,8 @@ def idle_end(program):
     print(f"--idle 1: closed after {seconds:.1f} s; {told}")
 
 
-# A condition that no two rows meet, and that looks at all its parts.
-LONG = b" or ".join([b"x.a + y.a < 0"] * 200)
+# A condition that no two rows meet, and that looks at all its parts. The text has it walked row by row.
+LONG = b" or ".join([b"x.a + y.a < 0"] * 200 + [b"'b' < 'a'"])
 
 
 def long_statement(stream, seconds):
