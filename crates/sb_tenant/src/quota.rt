@@ -22,16 +22,18 @@ const CONSIDERED_BYTES: usize = 40;
 pub(crate) struct Quota {
     limit: Option<u64>,
     taken: u64,
+    changes: u64,
 }
 
 impl Quota {
     /// Without a limit, and with nothing taken.
     pub(crate) fn none() -> Quota
-        ensures { result ≡ record { limit = None; taken = 0 } }
+        ensures { result ≡ record { limit = None; taken = 0; changes = 0 } }
     {
         Quota {
             limit: None,
             taken: 0,
+            changes: 0,
         }
     }
 
@@ -40,6 +42,20 @@ impl Quota {
         ensures { self.new ≡ record self.old { limit = Some bytes } }
     {
         self.limit = Some(bytes);
+    }
+
+    /// What is taken, in bytes.
+    pub(crate) fn taken(&self) -> u64
+        ensures { result ≡ self.now.taken }
+    {
+        self.taken
+    }
+
+    /// How many changes the open transactions have.
+    pub(crate) fn changes(&self) -> u64
+        ensures { result ≡ self.now.changes }
+    {
+        self.changes
     }
 
     /// Whether a line isn't begun: all that may be taken is, and it isn't `rollback`, which gives back.
@@ -67,6 +83,8 @@ impl Quota {
         let added = CHANGE_BYTES.saturating_mul(after as u64);
         let gone = CHANGE_BYTES.saturating_mul(before as u64);
         self.taken = self.taken.saturating_add(added).saturating_sub(gone);
+        let changes = self.changes.saturating_add(after as u64);
+        self.changes = changes.saturating_sub(before as u64);
     }
 }
 

@@ -100,6 +100,17 @@ impl Tenant {
         self.quota.set_limit(bytes);
     }
 
+    /// What its trail and its open transactions take, in bytes, as its limit counts them: an estimate that nothing rests
+    /// on but the limit.
+    pub fn bytes_taken(&self) -> u64 {
+        self.quota.taken()
+    }
+
+    /// How many changes its open transactions have in the log: a count for people, that nothing rests on.
+    pub fn changes_kept(&self) -> u64 {
+        self.quota.changes()
+    }
+
     /// Its number.
     pub fn id(&self) -> TenantId
         ensures { result ≡ self.now.id }
