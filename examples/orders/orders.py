@@ -4,7 +4,7 @@
     orders.py [PORT [TENANT]]        on a server of this machine, with a tenant that has nothing yet
 
 - The stock of an item is what its moves come to: a rule adds them up, so no program can forget to.
-- An order's total follows its lines.
+- An order's total follows its lines. A line has the price at which it was ordered.
 - Who deletes an order deletes its lines, and each line gives its amount back to the stock.
 - No stock is below zero at the end of a transaction; in the middle of one it may be.
 - Each change of a price is written down: what it was before the transaction, and what it is behind it.
@@ -22,7 +22,7 @@ SCHEMA = (
     "create table item (id int, name text, price int, stock int)",
     "create table move (item int, amount int)",
     "create table orders (number int, customer text, total int)",
-    "create table line (order_number int, item int, amount int)",
+    "create table line (order_number int, item int, amount int, price int)",
     "create table price_log (item int, was int, became int)",
     """create rule take on line when inserted
        then insert into move select item, 0 - amount from inserted""",
@@ -32,8 +32,7 @@ SCHEMA = (
        then update item set stock = (select sum(m.amount) from move m where m.item = item.id)
        where id in (select item from inserted)""",
     """create rule totals on line when inserted, deleted, updated
-       then update orders set total = (select sum(l.amount * i.price) from line l, item i
-                                       where l.item = i.id and l.order_number = orders.number)""",
+       then update orders set total = (select sum(l.amount * l.price) from line l where l.order_number = orders.number)""",
     """create rule lines_go on orders when deleted
        then delete from line where order_number in (select number from deleted)""",
     """create rule enough on item when inserted, updated(stock)
@@ -59,15 +58,26 @@ def deliver(connection, item, amount):
 
 @filgwesha.retry_locked(10)
 def order(connection, number, customer, lines):
-    """Orders some items. Raises IntegrityError where one of them isn't there."""
+    """Orders some items. Raises IntegrityError where there are too few of one."""
     cursor = connection.cursor()
     cursor.execute("insert into orders values (?, ?, 0)", (number, customer))
-    cursor.executemany("insert into line values (?, ?, ?)", [(number, item, amount) for item, amount in lines])
+    cursor.executemany(
+        "insert into line select ?, id, ?, price from item where id = ?",
+        [(number, amount, item) for item, amount in lines],
+    )
 
 
 @filgwesha.retry_locked(10)
 def cancel(connection, number):
     connection.cursor().execute("delete from orders where number = ?", (number,))
+
+
+@filgwesha.retry_locked(10)
+def fold_moves(connection):
+    """One move for each item, which is its stock, in place of all that there were: to the rules no stock has changed."""
+    cursor = connection.cursor()
+    cursor.execute("delete from move")
+    cursor.execute("insert into move select id, stock from item")
 
 
 def show(connection, what, query, parameters=()):
@@ -106,7 +116,7 @@ def main(port=7411, tenant=0):
     # some of the rules in the middle of the transaction, the others at its end
     cursor = connection.cursor()
     cursor.execute("insert into orders values (102, 'cy', 0)")
-    cursor.execute("insert into line values (102, 1, 3)")
+    cursor.execute("insert into line select 102, id, 3, price from item where id = 1")
     print("checks:", connection.process_ruleset("checks"))
     connection.commit()
 
@@ -114,6 +124,10 @@ def main(port=7411, tenant=0):
     print("considered:", connection.considered)
     show(connection, "orders", "select * from orders")
     show(connection, "lines", "select * from line")
+    show(connection, "stock", "select name, stock from item")
+
+    fold_moves(connection)
+    show(connection, "moves", "select * from move")
     show(connection, "stock", "select name, stock from item")
     connection.close()
 
