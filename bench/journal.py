@@ -372,6 +372,21 @@ def feels_late_sync(program, room, library):
     need(status == 1 and told[-1] == "fault: journal failed" and "journal: " in log, f"a sync that failed: {status}, {log[-400:]}")
 
 
+def share_bounds_file(program, room):
+    """With --tenant-memory a tenant writes no more than its share, also over several starts; others go on."""
+    file, share, long = os.path.join(room, "share"), 1 << 20, "select " + "x" * 4000
+    for start in range(3):
+        server = Server(program, file, "--sync", "never", "--tenant-memory", "1")
+        greedy, other = Client(server, 0, start, [long] * 400), Client(server, 1, start, ["begin", "rollback"])
+        greedy.run()
+        size = os.path.getsize(file)
+        need(size < share and greedy.answers == 401 - 400 * (start > 0), f"start {start}: {size} bytes, {greedy.answers} answers")
+        other.run()
+        need(len(other.answered) == 3, f"start {start}: beside a tenant that has taken its share: {other.answered}")
+        need(server.end()[0] == 0, "a server with shares")
+    return size
+
+
 def fault(ended):
     status, out, log = ended
     need(status == 1 and out == "", f"status {status}, {out}, {log}")
@@ -449,6 +464,7 @@ def main():
         print(f"--sync second: {syncs_by_seconds(program, room, library)} syncs in 7 seconds, a second apart, the last behind the last line")
         feels_late_sync(program, room, library)
         cannot_be(program, room)
+        print(f"--tenant-memory 1: a greedy tenant's part of the file is {share_bounds_file(program, room)} bytes over three starts")
         print(f"a full disk ends the server behind {full_disk(program, room)} answers, and they are there")
 
 
