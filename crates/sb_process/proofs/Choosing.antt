@@ -20,7 +20,7 @@ use Rattle.sb_tables.specs.Held.{Held, entries}
 use Rattle.sb_process.specs.declared.database.Database.{Database}
 use Rattle.sb_process.specs.Represents.{Represents, AreCandidates, AreUntriggered, who_in}
 use Rattle.sb_process.specs.Setting.{Setting, Progress, transition, rule_is_triggered, rule_tables, is_candidate, next_rule}
-use Rattle.sb_marks.specs.Transactions.{Kept, mark_of, is_candidate_of}
+use Rattle.sb_process.specs.Transactions.{Kept, mark_of, is_candidate_of}
 use Rattle.sb_process.specs.Triggered.{is_hit, AreSifted, CanTest, CanTestAll, HasCandidates}
 use Rattle.sb_process.specs.Work.{AreActive}
 

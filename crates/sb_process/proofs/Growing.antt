@@ -32,7 +32,7 @@ use Rattle.sb_process.specs.Made.{AreStored, AreMade}
 use Rattle.sb_catalog.specs.Definitions.{AreIndexed}
 use Rattle.sb_process.specs.Represents.{Represents, AreCandidates, AreLocked, who_in}
 use Rattle.sb_process.specs.Setting.{Setting, Progress, rule_is_triggered}
-use Rattle.sb_marks.specs.Transactions.{Kept, mark_of, tested_of, is_candidate_of}
+use Rattle.sb_process.specs.Transactions.{Kept, mark_of, tested_of, is_candidate_of}
 use Rattle.sb_process.proofs.Testing.{still-untriggered, between-kept}
 
 -- ---- filters

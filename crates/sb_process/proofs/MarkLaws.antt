@@ -13,7 +13,7 @@ use Rattle.sb_rawlog.specs.Sessions.{records_by, changes, changes_by, changes_be
 use Rattle.sb_process.specs.declared.database.Database.{Database}
 use Rattle.sb_process.specs.Represents.{Represents, AreCandidates, AreUntriggered, who_in}
 use Rattle.sb_process.specs.Setting.{Setting, Progress, marked}
-use Rattle.sb_marks.specs.Transactions.{Kept, mark_of, tested_of, is_candidate_of}
+use Rattle.sb_process.specs.Transactions.{Kept, mark_of, tested_of, is_candidate_of}
 
 none_of : (time : ℕ) (rs : List Record) → changes rs ≡ [] → zero ≡ length (before time rs)
 unfolding before

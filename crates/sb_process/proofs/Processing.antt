@@ -26,7 +26,7 @@ use Rattle.sb_catalog.specs.Definitions.{AreIndexed}
 use Rattle.sb_process.specs.Represents.{Represents, IsTakenBack, who_in}
 use Rattle.sb_process.specs.Running.{IsRunning, ComesTo, Goes, Notes, Finds, outcome_noted, verdict_noted, verdict_of, outcome_of, left_by, is_done}
 use Rattle.sb_process.specs.Setting.{Setting, Progress, is_candidate, next_rule}
-use Rattle.sb_marks.specs.Transactions.{Kept, OtherSessionsStay}
+use Rattle.sb_process.specs.Transactions.{Kept, OtherSessionsStay}
 use Rattle.sb_process.specs.Work.{CanRun, IsConditionThere, AreActionsThere, IsWork, Stands, Processes}
 use Rattle.sb_process.proofs.Running.{there-same, actions-there, same-numbers}
 

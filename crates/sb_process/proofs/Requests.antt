@@ -24,7 +24,7 @@ use Rattle.sb_eval.specs.declared.fault.EvalError.{EvalError}
 use Rattle.sb_eval.specs.declared.fault.EvalError.TheVariants as error
 use Rattle.sb_process.specs.declared.database.Database.{Database}
 use Rattle.sb_process.specs.Represents.{Represents, AreLocked, AreCandidates, who_in}
-use Rattle.sb_marks.specs.Transactions.{Kept}
+use Rattle.sb_process.specs.Transactions.{Kept}
 use Rattle.sb_catalog.specs.declared.rule.Rule.{Rule}
 use Rattle.std.specs.List.{list_any}
 use Rattle.sb_rawlog.specs.Records.{Record}

@@ -6,7 +6,7 @@ use Rattle.sb_value.specs.NetEffect.{is_triggered}
 use Rattle.sb_rawlog.specs.Records.{Record}
 use Rattle.sb_rawlog.specs.Sessions.{changes_since}
 use Rattle.sb_catalog.specs.declared.rule.Rule.{Rule}
-use Rattle.sb_marks.specs.Transactions.{Kept, mark_of}
+use Rattle.sb_process.specs.Transactions.{Kept, mark_of}
 use Rattle.sb_process.specs.Triggered.{is_hit}
 
 -- a rule is hit where the marks are the same

@@ -13,7 +13,7 @@ use Rattle.sb_rawlog.specs.Changes.{is_by}
 use Rattle.sb_rawlog.specs.Records.{Record, Rising}
 use Rattle.sb_rawlog.specs.Sessions.{records_by, changes, changes_by, changes_since, changes_between, MarksCut, TimesCut}
 use Rattle.sb_process.specs.Represents.{AreUntriggered}
-use Rattle.sb_marks.specs.Transactions.{Kept, mark_of, tested_of, ArePast}
+use Rattle.sb_process.specs.Transactions.{Kept, mark_of, tested_of, ArePast}
 use Rattle.sb_process.specs.Triggered.{is_hit, CanTest, CanTestAll}
 use Rattle.sb_process.proofs.MarkLaws.{end-mark, drop-all}
 

@@ -14,7 +14,7 @@ use Rattle.sb_catalog.specs.declared.rule.Rule.{Rule}
 use Rattle.sb_process.specs.declared.database.Database.{Database}
 use Rattle.sb_process.specs.Made.{AreMade}
 use Rattle.sb_process.specs.Sharing.{settled_where}
-use Rattle.sb_marks.specs.Transactions.{Kept, mark_of, tested_of, is_candidate_of, ArePast, OtherSessionsStay}
+use Rattle.sb_process.specs.Transactions.{Kept, mark_of, tested_of, is_candidate_of, ArePast, OtherSessionsStay}
 use Rattle.sb_process.specs.Setting.{Setting, Progress, rule_is_triggered, tables_seen}
 
 -- the session of the tenant

@@ -9,7 +9,7 @@ use Rattle.sb_catalog.specs.Rules.{numbered}
 use Rattle.sb_rawlog.specs.Records.{Record}
 use Rattle.sb_rawlog.specs.Sessions.{changes_since, changes_between}
 use Rattle.sb_process.specs.Setting.{Progress, is_candidate}
-use Rattle.sb_marks.specs.Transactions.{Kept, mark_of, tested_of, is_candidate_of, ArePast}
+use Rattle.sb_process.specs.Transactions.{Kept, mark_of, tested_of, is_candidate_of, ArePast}
 
 -- the session's changes since the rule's mark trigger it; a rule that isn't there is never triggered
 abbrev pub is_hit : Who → Kept → List Record → Option Rule → Bool

@@ -10,7 +10,7 @@ ghost use Rattle.sb_process.specs.Made.{NumbersBelow};
 ghost use Rattle.sb_process.specs.Make.{HasPlaceFor, Makes};
 ghost use Rattle.sb_process.specs.Ready.{AreCopied, CanApply, changes_in};
 ghost use Rattle.sb_process.specs.Represents.{Represents, who_in};
-ghost use Rattle.sb_marks.specs.Transactions.{OtherSessionsStay};
+ghost use Rattle.sb_process.specs.Transactions.{OtherSessionsStay};
 ghost use Rattle.sb_process.specs.Running.{EachRunning};
 
 use crate::database::Database;

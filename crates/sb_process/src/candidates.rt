@@ -7,7 +7,7 @@ ghost use Rattle.sb_tables.specs.Held.{Held};
 ghost use Rattle.sb_process.specs.Represents.{EachTransaction, Represents, who_in};
 ghost use Rattle.sb_process.specs.Setting as spec;
 ghost use Rattle.sb_process.specs.Setting.{Setting, Progress};
-ghost use Rattle.sb_marks.specs.Transactions.{ArePast, OtherSessionsStay};
+ghost use Rattle.sb_process.specs.Transactions.{ArePast, OtherSessionsStay};
 ghost use Rattle.sb_process.specs.Triggered.{AreSifted, CanTest, CanTestAll, HasCandidates, is_hit};
 ghost use Rattle.sb_process.specs.Work.{EachWork, IsAtWork, AreActive, IsWork};
 

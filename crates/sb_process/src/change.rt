@@ -15,7 +15,7 @@ ghost use Rattle.sb_process.specs.Represents.{IsTransaction, who_in};
 ghost use Rattle.sb_process.specs.Request.{AreThere};
 ghost use Rattle.sb_process.specs.Setting.{seen_with};
 ghost use Rattle.sb_process.specs.Statement.{Runs, RisesBy};
-ghost use Rattle.sb_marks.specs.Transactions.{OtherSessionsStay};
+ghost use Rattle.sb_process.specs.Transactions.{OtherSessionsStay};
 ghost use Rattle.sb_process.specs.View.{seen_by};
 ghost use Rattle.sb_process.specs.Running.{EachRunning};
 

@@ -7,7 +7,7 @@ ghost use Rattle.sb_process.specs.Represents.{EachTransaction, Represents, who_i
 ghost use Rattle.sb_process.specs.Running.{EachRunning, IsUnderWay, ComesTo, Acts, Ends, Goes};
 ghost use Rattle.sb_process.specs.Setting.{Progress, marked, rule_tables};
 ghost use Rattle.sb_process.specs.Statement.{RisesBy};
-ghost use Rattle.sb_marks.specs.Transactions.{OtherSessionsStay};
+ghost use Rattle.sb_process.specs.Transactions.{OtherSessionsStay};
 ghost use Rattle.sb_process.specs.Work.{AreActionsThere, IsConditionThere};
 
 use crate::database::Database;

@@ -3,10 +3,10 @@ ghost use Rattle.std.specs.Prelude.{◌≡◌, ℕ, []};
 ghost use Rattle.sb_value.specs.Locks.{no_locks};
 ghost use Rattle.sb_value.specs.declared.lock.Mode.{Mode};
 ghost use Rattle.sb_locks.specs.Held.{held};
-ghost use Rattle.sb_marks.specs.Transactions.{mark_of, tested_of};
+ghost use Rattle.sb_process.specs.Transactions.{mark_of, tested_of};
 
+use crate::Transactions;
 use sb_locks::Locks;
-use sb_marks::Transactions;
 use sb_rawlog::ChangeLog;
 use sb_tables::Tables;
 use sb_value::{SessionId, TenantId, Who};

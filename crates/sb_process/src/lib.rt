@@ -18,7 +18,9 @@ mod ready;
 mod refusal;
 mod request;
 mod select;
+mod times;
 mod transaction;
+mod transactions;
 mod undo;
 mod view;
 
@@ -27,6 +29,7 @@ pub use laws::transactions_share_tables;
 pub use process::{AssertionPoint, Rules};
 use sb_value::{Refusal, RuleId, Verdict};
 use std::marker::Model;
+pub use transactions::Transactions;
 
 /// How rule processing ended.
 #[derive(Drop)]

@@ -7,7 +7,7 @@ ghost use Rattle.sb_process.specs.Represents.{who_in};
 ghost use Rattle.sb_process.specs.Running.{EachRunning, IsUnderWay, ComesTo, Notes, outcome_noted, verdict_noted};
 ghost use Rattle.sb_process.specs.Setting.{Progress};
 ghost use Rattle.sb_process.specs.Statement.{RisesBy};
-ghost use Rattle.sb_marks.specs.Transactions.{OtherSessionsStay};
+ghost use Rattle.sb_process.specs.Transactions.{OtherSessionsStay};
 ghost use Rattle.sb_process.specs.Work.{AreActionsThere, IsConditionThere};
 
 use crate::Outcome;

@@ -8,7 +8,7 @@ ghost use Rattle.sb_process.specs.Represents.{IsTakenBack, who_in};
 ghost use Rattle.sb_process.specs.Running.{ComesTo, Finds, is_done};
 ghost use Rattle.sb_process.specs.Setting.{Progress};
 ghost use Rattle.sb_process.specs.Statement.{RisesBy};
-ghost use Rattle.sb_marks.specs.Transactions.{OtherSessionsStay, ArePast};
+ghost use Rattle.sb_process.specs.Transactions.{OtherSessionsStay, ArePast};
 ghost use Rattle.sb_process.specs.Work.{EachWork, IsAtWork, AreActive, CanRun, Processes};
 
 use crate::consider::Chosen;

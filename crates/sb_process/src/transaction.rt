@@ -5,7 +5,7 @@ ghost use Rattle.sb_locks.specs.Held.{held};
 ghost use Rattle.sb_tables.specs.Held.{Held};
 ghost use Rattle.sb_process.specs.Made.{AreNumbered, NumbersBelow};
 ghost use Rattle.sb_process.specs.Represents.{EachTransaction, Represents, IsTransaction, IsKept, IsIdle, begun, is_written, who_in};
-ghost use Rattle.sb_marks.specs.Transactions.{OtherSessionsStay};
+ghost use Rattle.sb_process.specs.Transactions.{OtherSessionsStay};
 ghost use Rattle.sb_rawlog.specs.Records.{Record};
 ghost use Rattle.sb_process.specs.Setting.{Setting};
 ghost use Rattle.sb_process.specs.Sharing.{settled_where};

@@ -13,7 +13,7 @@ use Rattle.sb_catalog.specs.declared.rule.Rule.{Rule}
 use Rattle.sb_process.specs.Made.{AreMade, without_room}
 use Rattle.sb_process.specs.Represents.{AreCandidates}
 use Rattle.sb_process.specs.Setting.{Progress, rule_is_triggered}
-use Rattle.sb_marks.specs.Transactions.{Kept}
+use Rattle.sb_process.specs.Transactions.{Kept}
 use Rattle.sb_process.specs.Work.{CanRun}
 use Rattle.sb_tenant.specs.declared.store.Store.{Store}
 use Rattle.sb_tenant.specs.Defining.{IsAtRest, is_under_way}

@@ -23,7 +23,7 @@ use Rattle.sb_process.specs.Request.{IsAnswer, after_request, Selects}
 use Rattle.sb_process.specs.Setting.{Setting, Progress, seen_with}
 use Rattle.sb_process.specs.Sharing.{TablesAreShared}
 use Rattle.sb_process.specs.Statement.{changes_meant, with_changes_of, after_statement, counted, Runs}
-use Rattle.sb_marks.specs.Transactions.{ArePast}
+use Rattle.sb_process.specs.Transactions.{ArePast}
 use Rattle.sb_process.specs.Work.{Stands}
 use Rattle.sb_process.specs.declared.Outcome.{Outcome}
 use Rattle.sb_process.specs.declared.Outcome.TheVariants.{Done, ByRule, ByError, ByLimit}

@@ -16,7 +16,7 @@ use Rattle.sb_process.specs.Made.{AreMade, tables_after_all}
 use Rattle.sb_process.specs.Represents.{Represents, AreCandidates, AreUntriggered, AreLocked, IsTakenBack, IsKept, is_written}
 use Rattle.sb_process.specs.Setting.{Progress}
 use Rattle.sb_process.specs.Sharing.{settled_where, TablesAreShared}
-use Rattle.sb_marks.specs.Transactions.{Kept, mark_of, tested_of, ArePast, OtherSessionsStay}
+use Rattle.sb_process.specs.Transactions.{Kept, mark_of, tested_of, ArePast, OtherSessionsStay}
 use Rattle.sb_process.specs.declared.database.Database.{Database}
 use Rattle.sb_tenant.specs.declared.phase.Phase.TheVariants.{Active}
 use Rattle.sb_tenant.specs.declared.store.Store.{Store}

@@ -10,7 +10,7 @@ use Rattle.sb_value.specs.declared.lock.Mode.{Mode}
 use Rattle.sb_process.specs.Made.{AreMade}
 use Rattle.sb_process.specs.Represents.{AreCandidates, AreLocked}
 use Rattle.sb_process.specs.Sharing.{TablesAreShared}
-use Rattle.sb_marks.specs.Transactions.{ArePast}
+use Rattle.sb_process.specs.Transactions.{ArePast}
 use Rattle.sb_process.specs.Work.{CanRun}
 use Rattle.sb_catalog.specs.Definitions.{AreOrdered}
 use Rattle.sb_rawlog.specs.Sessions.{changes_by}

@@ -26,7 +26,7 @@ use Rattle.sb_process.specs.Represents.{Represents, AreCandidates, AreUntriggere
 use Rattle.sb_process.specs.Request.{AreThere}
 use Rattle.sb_process.specs.Setting.{Progress}
 use Rattle.sb_process.specs.Sharing.{TablesAreShared}
-use Rattle.sb_marks.specs.Transactions.{Kept, mark_of, tested_of, is_candidate_of, ArePast, OtherSessionsStay}
+use Rattle.sb_process.specs.Transactions.{Kept, mark_of, tested_of, is_candidate_of, ArePast, OtherSessionsStay}
 use Rattle.sb_process.specs.Work.{IsConditionThere, AreActionsThere, CanRun}
 use Rattle.sb_tenant.specs.declared.store.Store.{Store}
 use Rattle.sb_tenant.specs.Limits.{is_session}

@@ -11,7 +11,7 @@ use Rattle.sb_tables.specs.Held.{Held}
 use Rattle.sb_catalog.specs.Definitions.{OtherTenantsStay}
 use Rattle.sb_process.specs.declared.database.Database.{Database}
 use Rattle.sb_process.specs.Made.{NumbersBelow}
-use Rattle.sb_marks.specs.Transactions.{Kept, mark_of, tested_of}
+use Rattle.sb_process.specs.Transactions.{Kept, mark_of, tested_of}
 use Rattle.sb_tenant.specs.declared.phase.Phase.TheVariants.{Closed}
 use Rattle.sb_tenant.specs.declared.reply.Answer.{Answer}
 use Rattle.sb_tenant.specs.declared.reply.Entry.{Entry}

@@ -6,7 +6,7 @@ use Rattle.sb_rawlog.specs.Sessions.{changes_by, mark_at}
 use Rattle.sb_index.specs.TableSets.{TableSets}
 use Rattle.sb_catalog.specs.Definitions.{AreIndexed}
 use Rattle.sb_process.specs.Represents.{AreUntriggered}
-use Rattle.sb_marks.specs.Transactions.{Kept, mark_of, ArePast}
+use Rattle.sb_process.specs.Transactions.{Kept, mark_of, ArePast}
 use Rattle.sb_tenant.specs.Limits.{is_session}
 use Rattle.sb_tenant.specs.State.{State, session_at, changes_of, marks_of}
 

@@ -1,6 +1,6 @@
 -- Promise: a tenant as its users see it: its number, its bound, its trail, and a time for each mark. Its state is the trail's replay.
 use Rattle.std.specs.Prelude.{◌≡◌, ℕ, List, []}
-use Rattle.sb_marks.specs.Transactions.{Kept}
+use Rattle.sb_process.specs.Transactions.{Kept}
 use Rattle.sb_tenant.specs.declared.reply.Entry.{Entry}
 use Rattle.sb_tenant.specs.declared.reply.Answer.{Answer}
 use Rattle.sb_tenant.specs.State.{State}

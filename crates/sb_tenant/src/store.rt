@@ -4,7 +4,7 @@ ghost use Rattle.sb_index.specs.TableSets.{TableSets};
 ghost use Rattle.sb_rawlog.specs.Records.{Record};
 ghost use Rattle.sb_value.specs.Locks.{released};
 ghost use Rattle.sb_tables.specs.Held.{Held};
-ghost use Rattle.sb_marks.specs.Transactions.{mark_of, tested_of};
+ghost use Rattle.sb_process.specs.Transactions.{mark_of, tested_of};
 ghost use Rattle.sb_tenant.specs.Represents.{EachState, StandForSome, Holds, Leaves, StandFor, phase_at};
 ghost use Rattle.sb_tenant.specs.State.{State, opening, closed, idle, active, with_session, rolled_back};
 ghost use Rattle.sb_tenant.specs.Trail.{aborted};

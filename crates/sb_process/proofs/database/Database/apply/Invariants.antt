@@ -9,7 +9,7 @@ use Rattle.sb_process.specs.Made.{NumbersBelow}
 use Rattle.sb_process.specs.Ready.{AreCopied, CanApply, changes_in}
 use Rattle.sb_process.specs.Represents.{Represents, who_in}
 use Rattle.sb_process.specs.Running.{EachRunning}
-use Rattle.sb_marks.specs.Transactions.{OtherSessionsStay}
+use Rattle.sb_process.specs.Transactions.{OtherSessionsStay}
 use Rattle.sb_process.proofs.database.Database.apply.Given as goal
 
 -- the changes that are left can be made, and those before them are

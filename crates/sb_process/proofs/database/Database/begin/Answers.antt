@@ -1,6 +1,6 @@
 use Rattle.std.proofs.Common.{◌∙◌, ℕ, cond, Bool, List, [], ◌∷◌, sym, ap, refl, arith, true≢false}
 use Rattle.sb_catalog.specs.declared.rule.Rule.{Rule}
-use Rattle.sb_marks.specs.Transactions.{Kept, mark_of, tested_of}
+use Rattle.sb_process.specs.Transactions.{Kept, mark_of, tested_of}
 use Rattle.sb_process.specs.Represents.{AreCandidates, begun, who_in}
 use Rattle.sb_value.specs.Locks.{Locks}
 use Rattle.sb_locks.specs.Held.{held}

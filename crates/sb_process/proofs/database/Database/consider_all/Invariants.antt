@@ -7,7 +7,7 @@ use Rattle.sb_process.specs.Represents.{who_in}
 use Rattle.sb_process.specs.Running.{ComesTo}
 use Rattle.sb_process.specs.Setting.{Setting, Progress}
 use Rattle.sb_process.specs.Statement.{RisesBy}
-use Rattle.sb_marks.specs.Transactions.{OtherSessionsStay}
+use Rattle.sb_process.specs.Transactions.{OtherSessionsStay}
 use Rattle.sb_process.specs.Work.{IsWork}
 use Rattle.sb_process.proofs.Processing.{Reaches}
 use Rattle.sb_process.proofs.database.Database.consider_all.Given as goal

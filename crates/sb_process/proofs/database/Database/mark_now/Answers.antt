@@ -1,6 +1,6 @@
 use Rattle.std.proofs.Common.{◌∙◌, ap, subst, cond, nat_eq, ◌&&◌, ℕ}
 use Rattle.sb_rawlog.specs.Records.{Rising}
-use Rattle.sb_marks.specs.Transactions.{mark_of, tested_of}
+use Rattle.sb_process.specs.Transactions.{mark_of, tested_of}
 use Rattle.sb_process.proofs.MarkLaws.{represents-marked}
 use Rattle.sb_process.proofs.database.Database.mark_now.Goals as goal
 

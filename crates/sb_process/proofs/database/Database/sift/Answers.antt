@@ -5,7 +5,7 @@ use Rattle.sb_catalog.specs.Rules.{numbered}
 use Rattle.sb_rawlog.specs.Records.{Rising}
 use Rattle.sb_process.specs.declared.database.Database.{Database}
 use Rattle.sb_process.specs.Represents.{who_in}
-use Rattle.sb_marks.specs.Transactions.{Kept, tested_of, is_candidate_of}
+use Rattle.sb_process.specs.Transactions.{Kept, tested_of, is_candidate_of}
 use Rattle.sb_process.specs.Triggered.{is_hit}
 use Rattle.sb_process.proofs.Sifting.{hit-same, left-candidates, left-hit, left-stay, left-other, seen-below}
 use Rattle.sb_process.proofs.Testing.{between-now, can-left, past-left}

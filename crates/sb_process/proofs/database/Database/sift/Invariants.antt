@@ -3,7 +3,7 @@ use Rattle.sb_value.specs.Flags.{flag_at}
 use Rattle.sb_value.specs.Limits.{rule_limit}
 use Rattle.sb_catalog.specs.Rules.{numbered}
 use Rattle.sb_process.specs.Represents.{who_in}
-use Rattle.sb_marks.specs.Transactions.{OtherSessionsStay, ArePast, mark_of, is_candidate_of}
+use Rattle.sb_process.specs.Transactions.{OtherSessionsStay, ArePast, mark_of, is_candidate_of}
 use Rattle.sb_process.specs.Triggered.{is_hit, CanTestAll}
 use Rattle.sb_process.proofs.database.Database.sift.Given as goal
 

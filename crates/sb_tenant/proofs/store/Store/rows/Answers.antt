@@ -1,6 +1,6 @@
 use Rattle.std.proofs.Common.{ap, refl, arith}
 use Rattle.sb_process.specs.declared.database.Database.{Database}
-use Rattle.sb_marks.specs.Transactions.{mark_of, tested_of, is_candidate_of}
+use Rattle.sb_process.specs.Transactions.{mark_of, tested_of, is_candidate_of}
 use Rattle.sb_tenant.specs.declared.store.Store.{Store}
 use Rattle.sb_tenant.specs.State.{setting_of, progress_of}
 use Rattle.sb_tenant.proofs.Calls.{number-below, selects, selects-aside}

@@ -1,7 +1,7 @@
 use Rattle.std.proofs.Common.{◌≡◌, ◌≤◌, ◌-◌, ℕ, slice_index}
 use Rattle.std.specs.Vec.{vec_len, vec_capacity}
-use Rattle.sb_marks.specs.Transactions.{times_of}
-use Rattle.sb_marks.proofs.times.grow.Given as goal
+use Rattle.sb_process.specs.Transactions.{times_of}
+use Rattle.sb_process.proofs.times.grow.Given as goal
 
 -- there is room for all, and the times are the same
 abbrev pub invariant-loop-rows : goal.invariant-loop-rows

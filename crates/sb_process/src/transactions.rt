@@ -1,7 +1,7 @@
 //! The marks and the candidates of a tenant's sessions.
 ghost use Rattle.std.specs.Prelude.{◌≡◌, ◌⊎◌, ℕ, ◌<◌, ◌≤◌, false, not, ◌&&◌, ◌||◌, ◌==◌, if◌then◌else◌, length, OnOk, OnErr};
 ghost use Rattle.sb_value.specs.Flags.{flag_at};
-ghost use Rattle.sb_marks.specs.Transactions.{mark_of, tested_of, is_candidate_of, SetsTime};
+ghost use Rattle.sb_process.specs.Transactions.{mark_of, tested_of, is_candidate_of, SetsTime};
 
 use crate::times::{Times, grow};
 use sb_value::{RuleId, RuleSet, SESSION_LIMIT, SessionId};
@@ -19,7 +19,7 @@ pub struct Transactions {
 }
 
 impl Model for Transactions {
-    ghost use Rattle.sb_marks.specs.Transactions.{Kept};
+    ghost use Rattle.sb_process.specs.Transactions.{Kept};
 
     ghost Value = { Kept };
 

@@ -1,7 +1,7 @@
 //! The times of one rule.
 ghost use Rattle.std.specs.Prelude.{◌≡◌, ℕ, ◌<◌, ◌≤◌, length, OnOk, OnErr};
 ghost use Rattle.sb_value.specs.Limits.{rule_limit};
-ghost use Rattle.sb_marks.specs.Transactions.{mark_in, tested_in, SetsOwn};
+ghost use Rattle.sb_process.specs.Transactions.{mark_in, tested_in, SetsOwn};
 
 use sb_value::{SESSION_LIMIT, SessionId};
 use std::alloc::AllocError;

@@ -1,9 +1,9 @@
 -- the rule was tested up to now where there is memory for it, and else up to what it was
 use Rattle.std.proofs.Common.{◌∙◌, inl, inr, ◌&&◌, ◌==◌, if◌then◌else◌, [], slice_index_or, refl}
 use Rattle.sb_value.specs.Flags.{flag_at}
-use Rattle.sb_marks.specs.Transactions.{tested_of}
-use Rattle.sb_marks.proofs.SetTimes.{same_there}
-use Rattle.sb_marks.proofs.transactions.Transactions.leave.Goals as goal
+use Rattle.sb_process.specs.Transactions.{tested_of}
+use Rattle.sb_process.proofs.SetTimes.{same_there}
+use Rattle.sb_process.proofs.transactions.Transactions.leave.Goals as goal
 
 pub returns-then-is_ok-clause-tested : goal.returns-then-is_ok-clause-tested
 returns-then-is_ok-clause-tested c = (

@@ -1,7 +1,7 @@
 -- Promise: what a tenant keeps of its sessions' transactions beside their changes.
 use Rattle.std.specs.Prelude.{◌≡◌, ◌≤◌, ℕ, Bool, false, ◌&&◌, ◌==◌, if◌then◌else◌, List, [], slice_index, slice_index_or}
 use Rattle.sb_value.specs.Flags.{flag_at}
-use Rattle.sb_marks.specs.declared.times.Times.{Times}
+use Rattle.sb_process.specs.declared.times.Times.{Times}
 
 -- for each rule two times in each session; for each session the rules whose times count, and its candidates
 pub record Kept : Type 0 where

@@ -3,8 +3,8 @@ use Rattle.std.proofs.Common.{◌≡◌, ◌∙◌, ℕ, ◌<◌, Bool, true, fa
 use Rattle.std.proofs.lemmas.Bool.{eqb-true, eqb-false}
 use Rattle.std.proofs.lemmas.List.{get_or-set_same, get_or-set_other}
 use Rattle.sb_value.specs.Flags.{flag_at}
-use Rattle.sb_marks.specs.Transactions.{times_of}
-use Rattle.sb_marks.specs.declared.times.Times.{Times}
+use Rattle.sb_process.specs.Transactions.{times_of}
+use Rattle.sb_process.specs.declared.times.Times.{Times}
 
 -- one of the two times that count
 abbrev pub time_in : (Times → List ℕ) → List Times → List (List Bool) → ℕ → ℕ → ℕ

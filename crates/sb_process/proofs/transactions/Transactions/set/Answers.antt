@@ -2,10 +2,10 @@
 use Rattle.std.proofs.Common.{◌≡◌, ◌∙◌, ◌<◌, ◌&&◌, ◌||◌, ◌==◌, if◌then◌else◌, ℕ, List, [], length, slice_set, slice_index, slice_index_or, ap, arith}
 use Rattle.std.proofs.lemmas.List.{get_or_default}
 use Rattle.sb_value.specs.Flags.{flag_at}
-use Rattle.sb_marks.specs.Transactions.{Kept, times_of, mark_of, tested_of}
-use Rattle.sb_marks.specs.declared.times.Times.{Times}
-use Rattle.sb_marks.proofs.SetTimes.{set_time, time_in}
-use Rattle.sb_marks.proofs.transactions.Transactions.set.Goals as goal
+use Rattle.sb_process.specs.Transactions.{Kept, times_of, mark_of, tested_of}
+use Rattle.sb_process.specs.declared.times.Times.{Times}
+use Rattle.sb_process.proofs.SetTimes.{set_time, time_in}
+use Rattle.sb_process.proofs.transactions.Transactions.set.Goals as goal
 
 there : (c : goal.After-index-self-index-2) → c.args.rule < length c.self.inside.rows.items
 there c = omega (arith, c.requires.row, ap (λ (k : Kept). length k.rows) c.self.view_is)
