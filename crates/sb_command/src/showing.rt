@@ -3,13 +3,9 @@ ghost use Rattle.std.specs.Prelude.{◌+◌, ◌≤◌, IsTrue, drop};
 ghost use Rattle.sb_command.specs.Showing.{holder_of};
 
 use crate::activity::Counted;
-use crate::counting::{Counting, Opening};
 use crate::dumping::text_of;
 use crate::memory::resident;
-use crate::patience::Patience;
 use crate::saving::{Noted, noted_in};
-use crate::shelf::Shelf;
-use crate::viewing::view_at;
 use sb_connection::{Admission, Named};
 use sb_dump::DumpError;
 use sb_host::{Host, Naming, Tried};
@@ -20,6 +16,7 @@ use sb_status::{
     TenantView, host_page, metrics, number, read_request, respond, route_of, tenant_page,
 };
 use sb_value::{SESSION_LIMIT, SessionId};
+use sb_view::{Counting, Opening, Patience, Shelf, view_at};
 use std::alloc::{AllocError, Global};
 use std::fs::File;
 use std::rt::Clock;

@@ -3,13 +3,13 @@ ghost use Rattle.std.specs.Prelude.{◌≡◌, ◌<◌, ◌≤◌};
 ghost use Rattle.std.specs.Thread.{IsSend, IsSync};
 
 use crate::hearing::{hear, say};
-use crate::shelf::Shelf;
 use crate::showing::Pages;
 use libc::net as system;
 use sb_connection::{Admission, Watch};
 use sb_host::{Host, Naming, Stub};
 use sb_server::{Acceptor, Keeper, ServeError, serve_all};
 use sb_status::{HEAD_LIMIT, NO_MEMORY};
+use sb_view::Shelf;
 use std::alloc::Global;
 use std::io;
 use std::net::{Net, SocketAddr, TcpListener, TcpStream};

@@ -20,14 +20,14 @@ struct Seen {
 
 /// The numbers of all tenants, and what the tenant was that was looked at last.
 #[derive(Drop)]
-pub(crate) struct Shelf {
+pub struct Shelf {
     numbers: Vec<Option<Kept>>,
     seen: Option<Seen>,
 }
 
 impl Shelf {
     /// Nothing of so many tenants.
-    pub(crate) fn new(alloc: Global, tenants: u32) -> Result<Shelf, AllocError> {
+    pub fn new(alloc: Global, tenants: u32) -> Result<Shelf, AllocError> {
         let mut numbers = Vec::new(alloc);
         for _ in 0..tenants {
             numbers.push(None)?;
@@ -39,14 +39,14 @@ impl Shelf {
     }
 
     /// Keeps the numbers of the tenant at this place.
-    pub(crate) fn keep(&mut self, place: u32, numbers: TenantNumbers, taken: u64) {
+    pub fn keep(&mut self, place: u32, numbers: TenantNumbers, taken: u64) {
         if let Some(kept) = self.numbers.get_mut(place as usize) {
             *kept = Some(Kept { numbers, taken });
         }
     }
 
     /// The numbers of the tenant at this place as they were, with their age at this time.
-    pub(crate) fn numbers(&self, place: u32, now: u64) -> Option<TenantNumbers> {
+    pub fn numbers(&self, place: u32, now: u64) -> Option<TenantNumbers> {
         match self.numbers.get(place as usize) {
             Some(Some(kept)) => {
                 let mut numbers = kept.numbers;
@@ -58,12 +58,12 @@ impl Shelf {
     }
 
     /// Keeps what the tenant at this place is.
-    pub(crate) fn keep_view(&mut self, place: u32, view: TenantView, taken: u64) {
+    pub fn keep_view(&mut self, place: u32, view: TenantView, taken: u64) {
         self.seen = Some(Seen { place, view, taken });
     }
 
     /// What the tenant at this place was, with its age at this time, if it was looked at last.
-    pub(crate) fn view(&mut self, place: u32, now: u64) -> Option<&TenantView> {
+    pub fn view(&mut self, place: u32, now: u64) -> Option<&TenantView> {
         let Some(seen) = &mut self.seen else {
             return None;
         };

@@ -11,14 +11,14 @@ use sb_value::{SESSION_LIMIT, SessionId};
 
 /// Copies the numbers of a tenant of which a session was ever opened.
 #[derive(Drop)]
-pub(crate) struct Counting {
+pub struct Counting {
     first_tenant: u32,
-    pub(crate) numbers: Option<TenantNumbers>,
+    pub numbers: Option<TenantNumbers>,
 }
 
 impl Counting {
     /// For a host whose first tenant has this number.
-    pub(crate) fn new(first_tenant: u32) -> Counting {
+    pub fn new(first_tenant: u32) -> Counting {
         Counting {
             first_tenant,
             numbers: None,
@@ -40,13 +40,14 @@ impl Reading for Counting {
 
 /// Looks whether a session of a tenant is open.
 #[derive(Drop)]
-pub(crate) struct Opening {
+pub struct Opening {
     session: SessionId,
-    pub(crate) is_open: bool,
+    pub is_open: bool,
 }
 
 impl Opening {
-    pub(crate) fn new(session: SessionId) -> Opening {
+    /// For this session.
+    pub fn new(session: SessionId) -> Opening {
         Opening {
             session,
             is_open: false,

@@ -13,18 +13,19 @@ const NAP: u64 = 1;
 
 /// What is left of the tenth of a second for which a page waits.
 #[derive(Drop)]
-pub(crate) struct Patience<'k, T> {
+pub struct Patience<'k, T> {
     rt: &'k T,
     left: u32,
 }
 
 impl<'k, T: Clock> Patience<'k, T> {
-    pub(crate) fn new(rt: &'k T) -> Patience<'k, T> {
+    /// All of it is left.
+    pub fn new(rt: &'k T) -> Patience<'k, T> {
         Patience { rt, left: LOOKS }
     }
 
     /// Lends a tenant to a reader, unless the lock of its cell is held for too long.
-    pub(crate) fn read<N: Naming, V: Reading>(
+    pub fn read<N: Naming, V: Reading>(
         &mut self,
         host: &Host<N>,
         tenant: u32,

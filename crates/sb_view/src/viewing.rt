@@ -37,7 +37,7 @@ impl Reading for Viewing {
 }
 
 /// What a tenant is, with the lines that made its rules, unless its cell is busy for too long.
-pub(crate) fn view_at<T: Clock, N: Naming>(
+pub fn view_at<T: Clock, N: Naming>(
     patience: &mut Patience<'_, T>,
     alloc: Global,
     host: &Host<N>,
