@@ -28,7 +28,6 @@ wire_number refusal.BadLine = 12
 wire_number refusal.NoTenant = 13
 wire_number refusal.NoSession = 14
 wire_number refusal.BadKey = 15
-wire_number refusal.NoMemory = 91
 wire_number refusal.NotBegun = 92
 
 abbrev pub wire_name : WireRefusal → List ℕ
@@ -37,7 +36,6 @@ wire_name refusal.BadLine = codes "BadLine"
 wire_name refusal.NoTenant = codes "NoTenant"
 wire_name refusal.NoSession = codes "NoSession"
 wire_name refusal.BadKey = codes "BadKey"
-wire_name refusal.NoMemory = codes "NoMemory"
 wire_name refusal.NotBegun = codes "NotBegun"
 
 -- the line that refuses
@@ -47,5 +45,4 @@ refusal_line refusal.BadLine = codes "no 12 BadLine"
 refusal_line refusal.NoTenant = codes "no 13 NoTenant"
 refusal_line refusal.NoSession = codes "no 14 NoSession"
 refusal_line refusal.BadKey = codes "no 15 BadKey"
-refusal_line refusal.NoMemory = codes "no 91 NoMemory"
 refusal_line refusal.NotBegun = codes "no 92 NotBegun"

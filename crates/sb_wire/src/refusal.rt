@@ -10,8 +10,6 @@ pub enum WireRefusal {
     NoSession,
     /// The key is none of the tenant's, or there is none.
     BadKey,
-    /// Memory ran out in the step, which was aborted.
-    NoMemory,
     /// Memory ran out before the step was begun.
     NotBegun,
 }
@@ -30,7 +28,6 @@ impl WireRefusal {
             WireRefusal::NoTenant => (13, "NoTenant"),
             WireRefusal::NoSession => (14, "NoSession"),
             WireRefusal::BadKey => (15, "BadKey"),
-            WireRefusal::NoMemory => (91, "NoMemory"),
             WireRefusal::NotBegun => (92, "NotBegun"),
         }
     }
@@ -52,7 +49,6 @@ impl WireRefusal {
             WireRefusal::NoTenant => "no 13 NoTenant",
             WireRefusal::NoSession => "no 14 NoSession",
             WireRefusal::BadKey => "no 15 BadKey",
-            WireRefusal::NoMemory => "no 91 NoMemory",
             WireRefusal::NotBegun => "no 92 NotBegun",
         }
     }
