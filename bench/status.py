@@ -5,9 +5,10 @@
 
 PROGRAM is crates/starhost/out/starhost where no word is given. Told in one line each: the pages of a small tenant and the
 samples, byte by byte as bench/status_pages has them (numbers that vary are written as N); what Prometheus' `promtool` says
-of the samples, where it is installed; what is counted; slow lines; a page while a step runs; a session that is ended;
-hostile requests, and silent connections while a client of the server goes on; whom keys let in. The first thing that isn't as it is to be ends this with status 1. With --write the files of
-bench/status_pages are written anew, and with --shots a headless Chromium draws the pages to that folder.
+of the samples, where it is installed; what is counted; how old a session's last line is; slow lines; a page while a step runs; a session that is ended;
+hostile requests, and silent connections while a client of the server goes on; whom keys let in. The first thing that isn't
+as it is to be ends this with status 1. With --write the files of bench/status_pages are written anew, and with --shots a
+headless Chromium draws the pages to that folder.
 """
 
 import argparse
@@ -51,6 +52,7 @@ VARYING = [
     (rb"(?m)^filgwesha_uptime_seconds \d+", b"filgwesha_uptime_seconds N"),
     (rb"(?m)^process_resident_memory_bytes \d+", b"process_resident_memory_bytes N"),
     (rb"(?m)^(filgwesha_step_seconds_(?:bucket\{le=\"\d[\d.]*\"\}|sum)) [\d.]+", rb"\1 N"),
+    (rb"\d+ s ago</td>", b"N s ago</td>"),
     (rb"(?m)^(filgwesha_worker_busy_seconds_total\{worker=\"\w+\"\}) [\d.]+", rb"\1 N"),
     (rb"(?s)(<h2>Workers</h2>.*?<tbody>\n)(.*?)(?=</tbody>)", lambda found: found[1] + re.sub(rb"\d+\.\d+", b"N", found[2])),
     (rb"(?s)(<h2>Slowest lines so far</h2>.*?<tbody>\n).*?(?=</tbody>)", rb"\1N\n"),
@@ -181,7 +183,10 @@ def pages(program, write, shots):
     expect("a tenant that isn't hosted", server.get("/tenants/16")[0], 404)
     expect("an unused tenant's script", server.get("/tenants/3/dump"), (200, b""))
     expect("a busy tenant's script", server.get("/tenants/0/dump")[0], 409)
+    taken = server.sample('filgwesha_tenant_bytes{tenant="0"}')
     run(file, "rollback")
+    expect("changes behind a rollback", server.sample('filgwesha_tenant_log_changes{tenant="0"}'), 0)
+    expect("bytes behind a rollback", server.sample('filgwesha_tenant_bytes{tenant="0"}') < taken, True)
     status, script = server.get("/tenants/0/dump")
     expect("a script", (status, script.splitlines()[0]), (200, b"create table card (id int, balance int)"))
     expect("HEAD", server.get("/", method="HEAD"), (200, b""))
@@ -254,6 +259,36 @@ def counts(program):
     expect("a slow line in the page", (b"<script" in page, b"&lt;script&gt;&#39; = &#39;&quot;&amp;&#39;" in page), (False, True))
     server.stop()
     print(f"counts: {len(wanted)} samples are what was done")
+
+
+def ages(program):
+    """How long ago a session's last line was: as long as its client is silent, also where it is opened again."""
+    server = Server(program)
+    before = time.monotonic()
+    stream, file, reply = server.client("3 2")
+    for line, state in [(None, "open"), ("begin", "in a transaction"), ("select", "in a transaction"), ("end", "open")]:
+        if line == "end":
+            stream.close()
+            file.close()
+            until("the session is closed", lambda: server.sample('filgwesha_tenant_sessions_open{tenant="3"}') == 0)
+            before = time.monotonic()
+            stream, file, reply = server.client("3 2")
+        elif line:
+            before = time.monotonic()
+            say(file, line)
+        after = time.monotonic()
+        time.sleep(1.2)
+        asked = time.monotonic()
+        page = server.get("/tenants/3")[1].decode()
+        told = time.monotonic()
+        found = re.search(rf'<tr><td>2</td><td>{state}</td><td class="n">(\d+) s ago</td></tr>', page)
+        expect(f"a session behind {line}", found is not None, True)
+        if not int(asked - after) <= int(found.group(1)) <= int(told - before) + 1:
+            sys.exit(f"behind {line} a client is silent for {asked - after:.1f} s, and the page tells {found.group(1)} s")
+    stream.close()
+    file.close()
+    server.stop()
+    print("ages: a session's last line is as old as its client is silent")
 
 
 WIDE = "create table w (a int)\nbegin\n" + "".join("insert into w values " + ", ".join(f"({i})" for i in range(at, at + 250)) + "\n" for at in range(0, 1000, 250)) + "commit"
@@ -419,6 +454,7 @@ def main():
     resource.setrlimit(resource.RLIMIT_NOFILE, (resource.getrlimit(resource.RLIMIT_NOFILE)[1],) * 2)
     pages(asked.program, asked.write, asked.shots)
     counts(asked.program)
+    ages(asked.program)
     slow(asked.program)
     ends(asked.program)
     hostile(asked.program)

@@ -85,7 +85,7 @@ fn keep_host<
         return Err(OUT_OF_MEMORY);
     };
     let journal = Journal::new(rt, plan.log);
-    let Some(board) = board_of(alloc, plan) else {
+    let Some(board) = board_of(rt, alloc, plan) else {
         return Err(OUT_OF_MEMORY);
     };
     let keeping = Keeping {
@@ -105,11 +105,20 @@ fn keep_host<
 }
 
 /// Where the workers count, if somebody may look. None where there is no memory for it.
-fn board_of(alloc: Global, plan: Plan) -> Option<Board> {
-    match plan.status {
-        Some(_) => Board::new(alloc, plan.terms.workers).ok(),
-        None => Some(Board::blank(alloc)),
+fn board_of<T: Clock>(rt: &T, alloc: Global, plan: Plan) -> Option<Board> {
+    if plan.status.is_none() {
+        return Some(Board::blank(alloc));
     }
+    let terms = plan.terms;
+    let began = Instant::now(rt).ok();
+    Board::new(
+        alloc,
+        terms.workers,
+        began,
+        terms.first_tenant,
+        plan.tenants,
+    )
+    .ok()
 }
 
 /// Finishes the host with what its sessions left. Where that goes well and the files weren't written, that is the fault.

@@ -259,12 +259,29 @@ impl<'k, N: Naming, A: Admission, T: Wait + Clock> Pages<'k, N, A, T> {
             self.first_tenant,
             place,
         )? {
-            Some(view) => {
+            Some(mut view) => {
+                self.tell_ages(tenant, &mut view);
                 let shown = self.view_shown(&view)?;
                 shelf.keep_view(place, view, now);
                 Ok(shown)
             }
             None => self.old_page(place, shelf, now),
+        }
+    }
+
+    /// Tells of each session how long ago its last line was answered.
+    fn tell_ages(&self, tenant: u32, view: &mut TenantView) {
+        let Ok(now) = Instant::now(self.rt) else {
+            return;
+        };
+        for number in 0..SESSION_LIMIT {
+            if let Some(session) = view.sessions.get_mut(number) {
+                let named = Named {
+                    tenant,
+                    session: number as u32,
+                };
+                session.age = self.board.age(named, now);
+            }
         }
     }
 

@@ -1,14 +1,15 @@
-//! What is known of a server while it serves: counts of its workers and the slowest lines. And what it is told: whose
-//! sessions are to end.
-ghost use Rattle.std.specs.Prelude.{◌≤◌, ◌<◌, vec_len};
+//! What is known of a server while it serves: counts of its workers, the slowest lines, and when each session was answered.
+//! And what it is told: whose sessions are to end.
 
 use crate::counts::{Count, Tally};
+use crate::last_lines::LastLines;
 use crate::worker::WAKER;
 use mio::{Poll, Waker};
 use sb_connection::Named;
 use std::alloc::{AllocError, Global};
 use std::sync::atomic::{AtomicU64, Ordering};
 use std::sync::{Mutex, Wait};
+use std::time::Instant;
 use std::{io, mem};
 
 /// How many of the slowest lines are kept.
@@ -70,6 +71,7 @@ pub struct Board {
     slowest: Mutex<Vec<SlowLine>>,
     /// A line that took no more than so many nanoseconds isn't one of them.
     floor: AtomicU64,
+    last_lines: LastLines,
 }
 
 impl Board {
@@ -80,11 +82,18 @@ impl Board {
             desks: Vec::new(alloc),
             slowest: Mutex::new(Vec::new(alloc)),
             floor: AtomicU64::new(u64::MAX),
+            last_lines: LastLines::none(alloc),
         }
     }
 
-    /// That of so many workers and the door.
-    pub fn new(alloc: Global, workers: usize) -> Result<Board, AllocError> {
+    /// That of so many workers and the door, and of so many tenants from the first one on. Its server begins at this time.
+    pub fn new(
+        alloc: Global,
+        workers: usize,
+        began: Option<Instant>,
+        first_tenant: u32,
+        tenants: u32,
+    ) -> Result<Board, AllocError> {
         let mut tallies = Vec::new(alloc);
         let mut desks = Vec::new(alloc);
         for _ in 0..workers {
@@ -100,6 +109,7 @@ impl Board {
             desks,
             slowest: Mutex::new(Vec::with_capacity(alloc, MOST_LINES)?),
             floor: AtomicU64::new(0),
+            last_lines: LastLines::new(alloc, began, first_tenant, tenants)?,
         })
     }
 
@@ -148,6 +158,16 @@ impl Board {
             self.floor
                 .store(least_of(lines.as_slice()), Ordering::SeqCst);
         }
+    }
+
+    /// Notes that a session is answered at this time.
+    pub(crate) fn note_last(&self, named: Named, now: Instant) {
+        self.last_lines.note(named, now);
+    }
+
+    /// How many seconds ago the last line of a session was answered, if it was and that is known.
+    pub fn age(&self, named: Named, now: Instant) -> Option<u64> {
+        self.last_lines.age(named, now)
     }
 
     /// The slowest lines, the slowest first.

@@ -2,7 +2,7 @@
 
 use crate::board::Board;
 use crate::counts::{Cause, Count};
-use sb_connection::{Answered, Event, Said, Slow, Watch};
+use sb_connection::{Answered, Event, Named, Said, Slow, Watch};
 use sb_host::AttachError;
 use sb_tenant::Reply;
 use sb_value::Refusal;
@@ -95,6 +95,13 @@ impl<'e, 'w, V: Watch, C: Clock> Hearing<'e, 'w, V, C> {
         self.add(Count::Rollback(cause), 1);
     }
 
+    /// Notes that a session has just been answered.
+    fn note_last(&self, named: Named) {
+        if let Some(now) = self.since.get() {
+            self.ears.board.note_last(named, now);
+        }
+    }
+
     /// Notes how long a line took, and tells of a slow one.
     fn note_time<T: Wait>(&self, rt: &T, answered: Answered<'_>, nanos: u64) {
         if self.ears.board.is_set() {
@@ -103,6 +110,7 @@ impl<'e, 'w, V: Watch, C: Clock> Hearing<'e, 'w, V, C> {
             self.ears
                 .board
                 .note_line(rt, answered.named, answered.line, nanos);
+            self.note_last(answered.named);
         }
         let Some(slow) = self.ears.slow else {
             return;
@@ -146,6 +154,9 @@ impl<'e, 'w, V: Watch, C: Clock> Watch for Hearing<'e, 'w, V, C> {
     fn see(&self, event: Event) {
         if let Some(number) = refusal_of(&event) {
             self.add(Count::Refusal(number), 1);
+        }
+        if let Event::Attached(named) = event {
+            self.note_last(named);
         }
         self.ears.watch.see_client(self.port, event);
     }

@@ -9,6 +9,7 @@ mod door;
 mod hearing;
 mod input;
 mod keeper;
+mod last_lines;
 mod mailbox;
 mod newcomer;
 mod porter;

@@ -1,8 +1,8 @@
 -- Promise: the marks of pages, each with its bytes.
 use Rattle.std.specs.Prelude.{ℕ, List}
 use Rattle.sb_status.specs.declared.mark.Mark.{Mark}
-use Rattle.sb_status.specs.declared.mark.Mark.TheVariants.{Head, Foot, Blank, Comma, NewLine, Row, Cell, NumberCell, RowEnd, TableEnd, HostTitle, FactUptime, Days, Hours, Minutes, Seconds, FactMemory, Kilobytes, FactTenants, FactCells, FactBound, FactsEnd, TenantsHead, TenantLink, LinkText, LinkEnd, TenantTitle, FactSteps, FactRoom, FactRows, FactOpen, FactActive, TablesHead, IntType, TextType, RulesetsHead, SessionsHead, ClosedRow, IdleRow, ActiveRow, RulesHead, Inserted, Deleted, Updated, UpdatedOf, UpdatedEnd, ActiveCell, InactiveCell, LinesBegin, LinesEnd, PictureHead, SvgWidth, SvgHeight, SvgBox, SvgHead, Arrow, CycleArrow, OrderArrow, CurveBy, ArrowEnd, RuleBox, CycleBox, InactiveBox, InactiveCycleBox, BoxTop, BoxWidth, BoxHeight, NameAt, TextTop, TextBegin, TextEnd, WordAt, CycleWord, SvgEnd, LeftOut, LeftOutEnd, VersionSample, VersionEnd, UptimeSample, MemorySample, TenantsSample, CellsSample, BoundSample, SampleEnd, StepsFamily, StepsSample, RoomFamily, RoomSample, TablesFamily, TablesSample, RowsFamily, RowsSample, RulesFamily, RulesSample, OpenFamily, OpenSample, ActiveFamily, ActiveSample, FactLines, FactConsiderations, FactRollbacks, FactRefusals, OldAge, OldAgeEnd, WorkersHead, DoorCell, CausesHead, RefusalsHead, SlowestHead, PreCell, PreRowEnd, Point, OldPage, OldPageEnd, ConsiderationsSample, RollbacksFamily, RollbacksSample, RefusalsFamily, RefusalsSample, WorkerTakenFamily, WorkerTakenSample, WorkerOpenFamily, WorkerOpenSample, WorkerLinesFamily, WorkerLinesSample, WorkerBusyFamily, WorkerBusySample, Door, TimesFamily, TimesBucket, TimesSum, TimesCount, OldFamily, OldSample}
-use Rattle.sb_status.specs.declared.marks.TheConstants.{HEAD, FOOT, BLANK, COMMA, NEW_LINE, ROW, CELL, NUMBER_CELL, ROW_END, TABLE_END, HOST_TITLE, FACT_UPTIME, DAYS, HOURS, MINUTES, SECONDS, FACT_MEMORY, KILOBYTES, FACT_TENANTS, FACT_CELLS, FACT_BOUND, FACTS_END, TENANTS_HEAD, TENANT_LINK, LINK_TEXT, LINK_END, TENANT_TITLE, FACT_STEPS, FACT_ROOM, FACT_ROWS, FACT_OPEN, FACT_ACTIVE, TABLES_HEAD, INT_TYPE, TEXT_TYPE, RULESETS_HEAD, SESSIONS_HEAD, CLOSED_ROW, IDLE_ROW, ACTIVE_ROW, RULES_HEAD, INSERTED, DELETED, UPDATED, UPDATED_OF, UPDATED_END, ACTIVE_CELL, INACTIVE_CELL, LINES_BEGIN, LINES_END, PICTURE_HEAD, SVG_WIDTH, SVG_HEIGHT, SVG_BOX, SVG_HEAD, ARROW, CYCLE_ARROW, ORDER_ARROW, CURVE_BY, ARROW_END, RULE_BOX, CYCLE_BOX, INACTIVE_BOX, INACTIVE_CYCLE_BOX, BOX_TOP, BOX_WIDTH, BOX_HEIGHT, NAME_AT, TEXT_TOP, TEXT_BEGIN, TEXT_END, WORD_AT, CYCLE_WORD, SVG_END, LEFT_OUT, LEFT_OUT_END, VERSION_SAMPLE, VERSION_END, UPTIME_SAMPLE, MEMORY_SAMPLE, TENANTS_SAMPLE, CELLS_SAMPLE, BOUND_SAMPLE, SAMPLE_END, STEPS_FAMILY, STEPS_SAMPLE, ROOM_FAMILY, ROOM_SAMPLE, TABLES_FAMILY, TABLES_SAMPLE, ROWS_FAMILY, ROWS_SAMPLE, RULES_FAMILY, RULES_SAMPLE, OPEN_FAMILY, OPEN_SAMPLE, ACTIVE_FAMILY, ACTIVE_SAMPLE, FACT_LINES, FACT_CONSIDERATIONS, FACT_ROLLBACKS, FACT_REFUSALS, OLD_AGE, OLD_AGE_END, WORKERS_HEAD, DOOR_CELL, CAUSES_HEAD, REFUSALS_HEAD, SLOWEST_HEAD, PRE_CELL, PRE_ROW_END, POINT, OLD_PAGE, OLD_PAGE_END, CONSIDERATIONS_SAMPLE, ROLLBACKS_FAMILY, ROLLBACKS_SAMPLE, REFUSALS_FAMILY, REFUSALS_SAMPLE, WORKER_TAKEN_FAMILY, WORKER_TAKEN_SAMPLE, WORKER_OPEN_FAMILY, WORKER_OPEN_SAMPLE, WORKER_LINES_FAMILY, WORKER_LINES_SAMPLE, WORKER_BUSY_FAMILY, WORKER_BUSY_SAMPLE, DOOR, TIMES_FAMILY, TIMES_BUCKET, TIMES_SUM, TIMES_COUNT, OLD_FAMILY, OLD_SAMPLE}
+use Rattle.sb_status.specs.declared.mark.Mark.TheVariants.{Head, Foot, Blank, Comma, NewLine, Row, Cell, NumberCell, RowEnd, TableEnd, HostTitle, FactUptime, Days, Hours, Minutes, Seconds, FactMemory, Kilobytes, FactTenants, FactCells, FactBound, FactsEnd, TenantsHead, TenantLink, LinkText, LinkEnd, TenantTitle, FactSteps, FactRoom, FactBytes, FactRows, FactOpen, FactActive, FactChanges, TablesHead, IntType, TextType, RulesetsHead, SessionsHead, ClosedCell, OpenCell, TransactionCell, Ago, RulesHead, Inserted, Deleted, Updated, UpdatedOf, UpdatedEnd, ActiveCell, InactiveCell, LinesBegin, LinesEnd, PictureHead, SvgWidth, SvgHeight, SvgBox, SvgHead, Arrow, CycleArrow, OrderArrow, CurveBy, ArrowEnd, RuleBox, CycleBox, InactiveBox, InactiveCycleBox, BoxTop, BoxWidth, BoxHeight, NameAt, TextTop, TextBegin, TextEnd, WordAt, CycleWord, SvgEnd, LeftOut, LeftOutEnd, VersionSample, VersionEnd, UptimeSample, MemorySample, TenantsSample, CellsSample, BoundSample, SampleEnd, StepsFamily, StepsSample, RoomFamily, RoomSample, BytesFamily, BytesSample, TablesFamily, TablesSample, RowsFamily, RowsSample, RulesFamily, RulesSample, OpenFamily, OpenSample, ActiveFamily, ActiveSample, ChangesFamily, ChangesSample, FactLines, FactConsiderations, FactRollbacks, FactRefusals, OldAge, OldAgeEnd, WorkersHead, DoorCell, CausesHead, RefusalsHead, SlowestHead, PreCell, PreRowEnd, Point, OldPage, OldPageEnd, ConsiderationsSample, RollbacksFamily, RollbacksSample, RefusalsFamily, RefusalsSample, WorkerTakenFamily, WorkerTakenSample, WorkerOpenFamily, WorkerOpenSample, WorkerLinesFamily, WorkerLinesSample, WorkerBusyFamily, WorkerBusySample, Door, TimesFamily, TimesBucket, TimesSum, TimesCount, OldFamily, OldSample}
+use Rattle.sb_status.specs.declared.marks.TheConstants.{HEAD, FOOT, BLANK, COMMA, NEW_LINE, ROW, CELL, NUMBER_CELL, ROW_END, TABLE_END, HOST_TITLE, FACT_UPTIME, DAYS, HOURS, MINUTES, SECONDS, FACT_MEMORY, KILOBYTES, FACT_TENANTS, FACT_CELLS, FACT_BOUND, FACTS_END, TENANTS_HEAD, TENANT_LINK, LINK_TEXT, LINK_END, TENANT_TITLE, FACT_STEPS, FACT_ROOM, FACT_BYTES, FACT_ROWS, FACT_OPEN, FACT_ACTIVE, FACT_CHANGES, TABLES_HEAD, INT_TYPE, TEXT_TYPE, RULESETS_HEAD, SESSIONS_HEAD, CLOSED_CELL, OPEN_CELL, TRANSACTION_CELL, AGO, RULES_HEAD, INSERTED, DELETED, UPDATED, UPDATED_OF, UPDATED_END, ACTIVE_CELL, INACTIVE_CELL, LINES_BEGIN, LINES_END, PICTURE_HEAD, SVG_WIDTH, SVG_HEIGHT, SVG_BOX, SVG_HEAD, ARROW, CYCLE_ARROW, ORDER_ARROW, CURVE_BY, ARROW_END, RULE_BOX, CYCLE_BOX, INACTIVE_BOX, INACTIVE_CYCLE_BOX, BOX_TOP, BOX_WIDTH, BOX_HEIGHT, NAME_AT, TEXT_TOP, TEXT_BEGIN, TEXT_END, WORD_AT, CYCLE_WORD, SVG_END, LEFT_OUT, LEFT_OUT_END, VERSION_SAMPLE, VERSION_END, UPTIME_SAMPLE, MEMORY_SAMPLE, TENANTS_SAMPLE, CELLS_SAMPLE, BOUND_SAMPLE, SAMPLE_END, STEPS_FAMILY, STEPS_SAMPLE, ROOM_FAMILY, ROOM_SAMPLE, BYTES_FAMILY, BYTES_SAMPLE, TABLES_FAMILY, TABLES_SAMPLE, ROWS_FAMILY, ROWS_SAMPLE, RULES_FAMILY, RULES_SAMPLE, OPEN_FAMILY, OPEN_SAMPLE, ACTIVE_FAMILY, ACTIVE_SAMPLE, CHANGES_FAMILY, CHANGES_SAMPLE, FACT_LINES, FACT_CONSIDERATIONS, FACT_ROLLBACKS, FACT_REFUSALS, OLD_AGE, OLD_AGE_END, WORKERS_HEAD, DOOR_CELL, CAUSES_HEAD, REFUSALS_HEAD, SLOWEST_HEAD, PRE_CELL, PRE_ROW_END, POINT, OLD_PAGE, OLD_PAGE_END, CONSIDERATIONS_SAMPLE, ROLLBACKS_FAMILY, ROLLBACKS_SAMPLE, REFUSALS_FAMILY, REFUSALS_SAMPLE, WORKER_TAKEN_FAMILY, WORKER_TAKEN_SAMPLE, WORKER_OPEN_FAMILY, WORKER_OPEN_SAMPLE, WORKER_LINES_FAMILY, WORKER_LINES_SAMPLE, WORKER_BUSY_FAMILY, WORKER_BUSY_SAMPLE, DOOR, TIMES_FAMILY, TIMES_BUCKET, TIMES_SUM, TIMES_COUNT, OLD_FAMILY, OLD_SAMPLE}
 
 abbrev pub mark_text : Mark → List ℕ
 mark_text Head = HEAD.now
@@ -34,17 +34,20 @@ mark_text LinkEnd = LINK_END.now
 mark_text TenantTitle = TENANT_TITLE.now
 mark_text FactSteps = FACT_STEPS.now
 mark_text FactRoom = FACT_ROOM.now
+mark_text FactBytes = FACT_BYTES.now
 mark_text FactRows = FACT_ROWS.now
 mark_text FactOpen = FACT_OPEN.now
 mark_text FactActive = FACT_ACTIVE.now
+mark_text FactChanges = FACT_CHANGES.now
 mark_text TablesHead = TABLES_HEAD.now
 mark_text IntType = INT_TYPE.now
 mark_text TextType = TEXT_TYPE.now
 mark_text RulesetsHead = RULESETS_HEAD.now
 mark_text SessionsHead = SESSIONS_HEAD.now
-mark_text ClosedRow = CLOSED_ROW.now
-mark_text IdleRow = IDLE_ROW.now
-mark_text ActiveRow = ACTIVE_ROW.now
+mark_text ClosedCell = CLOSED_CELL.now
+mark_text OpenCell = OPEN_CELL.now
+mark_text TransactionCell = TRANSACTION_CELL.now
+mark_text Ago = AGO.now
 mark_text RulesHead = RULES_HEAD.now
 mark_text Inserted = INSERTED.now
 mark_text Deleted = DELETED.now
@@ -93,6 +96,8 @@ mark_text StepsFamily = STEPS_FAMILY.now
 mark_text StepsSample = STEPS_SAMPLE.now
 mark_text RoomFamily = ROOM_FAMILY.now
 mark_text RoomSample = ROOM_SAMPLE.now
+mark_text BytesFamily = BYTES_FAMILY.now
+mark_text BytesSample = BYTES_SAMPLE.now
 mark_text TablesFamily = TABLES_FAMILY.now
 mark_text TablesSample = TABLES_SAMPLE.now
 mark_text RowsFamily = ROWS_FAMILY.now
@@ -103,6 +108,8 @@ mark_text OpenFamily = OPEN_FAMILY.now
 mark_text OpenSample = OPEN_SAMPLE.now
 mark_text ActiveFamily = ACTIVE_FAMILY.now
 mark_text ActiveSample = ACTIVE_SAMPLE.now
+mark_text ChangesFamily = CHANGES_FAMILY.now
+mark_text ChangesSample = CHANGES_SAMPLE.now
 mark_text FactLines = FACT_LINES.now
 mark_text FactConsiderations = FACT_CONSIDERATIONS.now
 mark_text FactRollbacks = FACT_ROLLBACKS.now

@@ -80,11 +80,13 @@ fn write_tenant(page: &mut Page<'_>, tenant: TenantNumbers) -> Result<(), AllocE
     page.mark(Mark::LinkEnd)?;
     page.count(Mark::NumberCell, tenant.steps)?;
     page.count(Mark::NumberCell, tenant.room)?;
+    page.count(Mark::NumberCell, tenant.bytes)?;
     page.count(Mark::NumberCell, tenant.tables)?;
     page.count(Mark::NumberCell, tenant.rows)?;
     page.count(Mark::NumberCell, tenant.rules)?;
     page.count(Mark::NumberCell, tenant.open)?;
     page.count(Mark::NumberCell, tenant.active)?;
+    page.count(Mark::NumberCell, tenant.changes)?;
     match tenant.age {
         Some(seconds) => {
             page.count(Mark::OldAge, seconds)?;

@@ -39,6 +39,6 @@ pub use tenant::tenant_page;
 pub use text::Escaping;
 pub use view::{
     Activity, Bucket, ColumnView, HostNumbers, Refused, Rollbacks, RuleView, RulesetView,
-    SessionState, SlowView, TableView, TenantNumbers, TenantView, Times, TriggersView,
+    SessionState, SessionView, SlowView, TableView, TenantNumbers, TenantView, Times, TriggersView,
     WorkerNumbers,
 };

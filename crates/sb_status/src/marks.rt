@@ -107,7 +107,7 @@ pub(crate) const TENANTS_HEAD: &str = "\
 <h2>Tenants</h2>
 <p class=\"hint\">Those of which a session was ever opened. <a href=\"/metrics\">The same for Prometheus</a>.</p>
 <div class=\"wide\"><table>
-<thead><tr><th>tenant</th><th class=\"n\">steps</th><th class=\"n\">room in the trail</th><th class=\"n\">tables</th><th class=\"n\">rows</th><th class=\"n\">rules</th><th class=\"n\">sessions open</th><th class=\"n\">in a transaction</th><th></th></tr></thead>
+<thead><tr><th>tenant</th><th class=\"n\">steps</th><th class=\"n\">room in the trail</th><th class=\"n\">bytes</th><th class=\"n\">tables</th><th class=\"n\">rows</th><th class=\"n\">rules</th><th class=\"n\">sessions open</th><th class=\"n\">in a transaction</th><th class=\"n\">changes in the log</th><th></th></tr></thead>
 <tbody>
 ";
 
@@ -128,11 +128,15 @@ pub(crate) const FACT_STEPS: &str = "\
 
 pub(crate) const FACT_ROOM: &str = "</dd></div>\n<div><dt>room in the trail</dt><dd>";
 
+pub(crate) const FACT_BYTES: &str = "</dd></div>\n<div><dt>bytes</dt><dd>";
+
 pub(crate) const FACT_ROWS: &str = "</dd></div>\n<div><dt>rows</dt><dd>";
 
 pub(crate) const FACT_OPEN: &str = "</dd></div>\n<div><dt>sessions open</dt><dd>";
 
 pub(crate) const FACT_ACTIVE: &str = "</dd></div>\n<div><dt>in a transaction</dt><dd>";
+
+pub(crate) const FACT_CHANGES: &str = "</dd></div>\n<div><dt>changes in the log</dt><dd>";
 
 pub(crate) const TABLES_HEAD: &str = "\
 <h2>Tables</h2>
@@ -155,15 +159,17 @@ pub(crate) const RULESETS_HEAD: &str = "\
 pub(crate) const SESSIONS_HEAD: &str = "\
 <h2>Sessions</h2>
 <div class=\"wide\"><table>
-<thead><tr><th>session</th><th>state</th></tr></thead>
+<thead><tr><th>session</th><th>state</th><th class=\"n\">last line</th></tr></thead>
 <tbody>
 ";
 
-pub(crate) const CLOSED_ROW: &str = "</td><td class=\"hint\">closed</td></tr>\n";
+pub(crate) const CLOSED_CELL: &str = "</td><td class=\"hint\">closed";
 
-pub(crate) const IDLE_ROW: &str = "</td><td>open</td></tr>\n";
+pub(crate) const OPEN_CELL: &str = "</td><td>open";
 
-pub(crate) const ACTIVE_ROW: &str = "</td><td>in a transaction</td></tr>\n";
+pub(crate) const TRANSACTION_CELL: &str = "</td><td>in a transaction";
+
+pub(crate) const AGO: &str = " s ago";
 
 // The rules of a tenant.
 
@@ -308,6 +314,13 @@ pub(crate) const ROOM_FAMILY: &str = "\
 
 pub(crate) const ROOM_SAMPLE: &str = "filgwesha_tenant_trail_room{tenant=\"";
 
+pub(crate) const BYTES_FAMILY: &str = "\
+# HELP filgwesha_tenant_bytes Bytes of its trail and its open transactions, as its share of memory counts them.
+# TYPE filgwesha_tenant_bytes gauge
+";
+
+pub(crate) const BYTES_SAMPLE: &str = "filgwesha_tenant_bytes{tenant=\"";
+
 pub(crate) const TABLES_FAMILY: &str = "\
 # HELP filgwesha_tenant_tables Its tables.
 # TYPE filgwesha_tenant_tables gauge
@@ -342,6 +355,13 @@ pub(crate) const ACTIVE_FAMILY: &str = "\
 ";
 
 pub(crate) const ACTIVE_SAMPLE: &str = "filgwesha_tenant_sessions_in_transaction{tenant=\"";
+
+pub(crate) const CHANGES_FAMILY: &str = "\
+# HELP filgwesha_tenant_log_changes Changes of its open transactions in the log.
+# TYPE filgwesha_tenant_log_changes gauge
+";
+
+pub(crate) const CHANGES_SAMPLE: &str = "filgwesha_tenant_log_changes{tenant=\"";
 
 // What a server counts.
 

@@ -19,7 +19,7 @@ struct Family {
 }
 
 /// How many numbers each tenant has.
-const FAMILIES: usize = 8;
+const FAMILIES: usize = 10;
 
 /// All samples, in the text format 0.0.4.
 pub fn metrics(
@@ -75,11 +75,13 @@ fn family_at(place: usize, tenant: &TenantNumbers) -> Family {
     match place {
         0 => made(Mark::StepsFamily, Mark::StepsSample, tenant.steps),
         1 => made(Mark::RoomFamily, Mark::RoomSample, tenant.room),
-        2 => made(Mark::TablesFamily, Mark::TablesSample, tenant.tables),
-        3 => made(Mark::RowsFamily, Mark::RowsSample, tenant.rows),
-        4 => made(Mark::RulesFamily, Mark::RulesSample, tenant.rules),
-        5 => made(Mark::OpenFamily, Mark::OpenSample, tenant.open),
-        6 => made(Mark::ActiveFamily, Mark::ActiveSample, tenant.active),
+        2 => made(Mark::BytesFamily, Mark::BytesSample, tenant.bytes),
+        3 => made(Mark::TablesFamily, Mark::TablesSample, tenant.tables),
+        4 => made(Mark::RowsFamily, Mark::RowsSample, tenant.rows),
+        5 => made(Mark::RulesFamily, Mark::RulesSample, tenant.rules),
+        6 => made(Mark::OpenFamily, Mark::OpenSample, tenant.open),
+        7 => made(Mark::ActiveFamily, Mark::ActiveSample, tenant.active),
+        8 => made(Mark::ChangesFamily, Mark::ChangesSample, tenant.changes),
         _ => made(Mark::OldFamily, Mark::OldSample, tenant.age.unwrap_or(0)),
     }
 }

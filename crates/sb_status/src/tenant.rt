@@ -8,7 +8,7 @@ use crate::page::Page;
 use crate::picture::draw;
 use crate::rule_rows::{write_names, write_rules};
 use crate::text::Escaping;
-use crate::view::{RulesetView, SessionState, TableView, TenantNumbers, TenantView};
+use crate::view::{RulesetView, SessionState, SessionView, TableView, TenantNumbers, TenantView};
 use std::alloc::{AllocError, Global};
 
 /// Its tables, its rules with their picture, its rulesets and its sessions.
@@ -41,9 +41,11 @@ fn write_numbers(page: &mut Page<'_>, numbers: TenantNumbers) -> Result<(), Allo
     page.count(Mark::TenantTitle, numbers.tenant)?;
     page.count(Mark::FactSteps, numbers.steps)?;
     page.count(Mark::FactRoom, numbers.room)?;
+    page.count(Mark::FactBytes, numbers.bytes)?;
     page.count(Mark::FactRows, numbers.rows)?;
     page.count(Mark::FactOpen, numbers.open)?;
     page.count(Mark::FactActive, numbers.active)?;
+    page.count(Mark::FactChanges, numbers.changes)?;
     page.mark(Mark::FactsEnd)
 }
 
@@ -87,15 +89,28 @@ fn write_rulesets<'v>(page: &mut Page<'v>, rulesets: &'v [RulesetView]) -> Resul
     page.mark(Mark::TableEnd)
 }
 
-fn write_sessions(page: &mut Page<'_>, sessions: &[SessionState]) -> Result<(), AllocError> {
+fn write_sessions(page: &mut Page<'_>, sessions: &[SessionView]) -> Result<(), AllocError> {
     page.mark(Mark::SessionsHead)?;
-    for (number, state) in sessions.iter().enumerate() {
+    for (number, session) in sessions.iter().enumerate() {
         page.count(Mark::Row, number as u64)?;
-        page.mark(match state {
-            SessionState::Closed => Mark::ClosedRow,
-            SessionState::Idle => Mark::IdleRow,
-            SessionState::Active => Mark::ActiveRow,
-        })?;
+        write_session(page, *session)?;
+        page.mark(Mark::RowEnd)?;
     }
     page.mark(Mark::TableEnd)
+}
+
+/// Writes the state of a session, and how old its last line is.
+fn write_session(page: &mut Page<'_>, session: SessionView) -> Result<(), AllocError> {
+    page.mark(match session.state {
+        SessionState::Closed => Mark::ClosedCell,
+        SessionState::Idle => Mark::OpenCell,
+        SessionState::Active => Mark::TransactionCell,
+    })?;
+    match session.age {
+        Some(seconds) => {
+            page.count(Mark::NumberCell, seconds)?;
+            page.mark(Mark::Ago)
+        }
+        None => page.mark(Mark::Cell),
+    }
 }

@@ -23,6 +23,8 @@ pub struct TenantNumbers {
     pub steps: u64,
     /// How many steps more its trail has room for.
     pub room: u64,
+    /// What its trail and its open transactions take, as its share of memory is counted.
+    pub bytes: u64,
     pub tables: u64,
     pub rules: u64,
     pub rows: u64,
@@ -30,6 +32,8 @@ pub struct TenantNumbers {
     pub open: u64,
     /// Sessions that have a transaction.
     pub active: u64,
+    /// The changes of their transactions.
+    pub changes: u64,
     /// The numbers are so many seconds old, since the tenant was busy.
     pub age: Option<u64>,
 }
@@ -116,7 +120,7 @@ pub struct TenantView {
     pub rules: Vec<RuleView>,
     pub rulesets: Vec<RulesetView>,
     /// By their numbers.
-    pub sessions: Vec<SessionState>,
+    pub sessions: Vec<SessionView>,
     /// The graph of its rules, by their places.
     pub graph: Graph,
 }
@@ -162,6 +166,13 @@ pub struct TriggersView {
 pub struct RulesetView {
     pub name: Vec<u8>,
     pub rules: Vec<Vec<u8>>,
+}
+
+#[derive(Clone, Copy)]
+pub struct SessionView {
+    pub state: SessionState,
+    /// Its last line was answered so many seconds ago, if that is known.
+    pub age: Option<u64>,
 }
 
 #[derive(Clone, Copy)]

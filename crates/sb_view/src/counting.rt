@@ -77,11 +77,13 @@ pub(crate) fn numbers_of(first_tenant: u32, tenant: &Tenant) -> TenantNumbers
         tenant: u64::from(first_tenant) + u64::from(tenant.id().number()),
         steps: steps as u64,
         room: TRAIL_LIMIT.saturating_sub(steps) as u64,
+        bytes: tenant.bytes_taken(),
         tables: tenant.tables().len() as u64,
         rules: tenant.definitions().rules.rules().len() as u64,
         rows: rows_in(tenant.tables()),
         open: sessions_in(tenant, false),
         active: sessions_in(tenant, true),
+        changes: tenant.changes_kept(),
         age: None,
     }
 }

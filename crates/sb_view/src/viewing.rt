@@ -7,7 +7,8 @@ use crate::tracing::RuleLines;
 use sb_catalog::{Definitions, Rule};
 use sb_host::{Host, Naming, Reading};
 use sb_status::{
-    ColumnView, RuleView, RulesetView, SessionState, TableView, TenantView, TriggersView,
+    ColumnView, RuleView, RulesetView, SessionState, SessionView, TableView, TenantView,
+    TriggersView,
 };
 use sb_tables::{Table, Tables};
 use sb_tenant::Tenant;
@@ -185,17 +186,24 @@ fn members_of(alloc: Global, rules: &[Rule], set: RuleSet) -> Result<Vec<Vec<u8>
     Ok(names)
 }
 
-fn sessions_of(alloc: Global, tenant: &Tenant) -> Result<Vec<SessionState>, AllocError> {
-    let mut states = Vec::new(alloc);
+/// Its sessions. How old their lines are, no tenant knows.
+fn sessions_of(alloc: Global, tenant: &Tenant) -> Result<Vec<SessionView>, AllocError> {
+    let mut views = Vec::new(alloc);
     for number in 0..SESSION_LIMIT {
-        let session = SessionId::new(number as u8);
-        states.push(if tenant.has_transaction(session) {
-            SessionState::Active
-        } else if tenant.is_open(session) {
-            SessionState::Idle
-        } else {
-            SessionState::Closed
+        views.push(SessionView {
+            state: state_of(tenant, SessionId::new(number as u8)),
+            age: None,
         })?;
     }
-    Ok(states)
+    Ok(views)
+}
+
+fn state_of(tenant: &Tenant, session: SessionId) -> SessionState {
+    if tenant.has_transaction(session) {
+        SessionState::Active
+    } else if tenant.is_open(session) {
+        SessionState::Idle
+    } else {
+        SessionState::Closed
+    }
 }
