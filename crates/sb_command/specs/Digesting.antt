@@ -1,17 +1,15 @@
 -- Promise: the digest of the key that an input's first line is.
 use Rattle.std.specs.Prelude.{◌≡◌, ℕ, Bool, true, false, List, [], ◌∷◌, ◌++◌, codes, Option}
 use Rattle.std.specs.Io.KnownBytes.{Appends, Consumes}
-use Rattle.hex.specs.Hex.{encode_lower}
-use Rattle.sha2.specs.Sha256.{sha256}
-use Rattle.sb_keys.specs.Keys.{is_key}
+use Rattle.sb_keys.specs.Keys.{hex_digest, is_key}
 use Rattle.sb_wire.specs.Lines.{Piece, line, too_long}
 use Rattle.sb_wire.specs.Stream.{AreFirst}
 use Rattle.sb_command.specs.declared.digesting.Digested.{Digested}
 use Rattle.sb_command.specs.declared.digesting.Digested.TheVariants.{Awaits, Told, NoKey}
 
--- in hex, as a line of a file of keys names it
+-- as a line of a file of keys names it
 abbrev pub digest_text : List ℕ → List ℕ
-digest_text key = encode_lower (sha256 key) ++ codes "\n"
+digest_text key = hex_digest key ++ codes "\n"
 
 -- some bytes are read whose first line is a key, and its digest is written
 pub record TellsDigest (input rest held holds : Option (List ℕ)) : Type 0 where

@@ -2,9 +2,8 @@
 ghost use Rattle.std.specs.Prelude.{◌≡◌, IfOk, string_bytes};
 ghost use Rattle.std.specs.Char.{is_ascii_graphic};
 ghost use Rattle.std.specs.List.{list_all};
-ghost use Rattle.hex.specs.Hex.{encode_lower};
 ghost use Rattle.sha2.specs.Sha256.{sha256};
-ghost use Rattle.sb_keys.specs.Keys.{is_key};
+ghost use Rattle.sb_keys.specs.Keys.{hex_digest, is_key};
 
 use sha2::{Digest as _, Sha256};
 use std::alloc::{AllocError, Global};
@@ -36,7 +35,7 @@ fn are_printable(bytes: &[u8]) -> bool
 
 /// The digest of a key, in hex as a line names it.
 pub fn digest_line(alloc: Global, key: &[u8]) -> Result<String, AllocError>
-    ensures { IfOk result (λ text. string_bytes text ≡ encode_lower (sha256 key.now)) }
+    ensures { IfOk result (λ text. string_bytes text ≡ hex_digest key.now) }
 {
     hex::encode(alloc, digest_of(key).as_slice())
 }
