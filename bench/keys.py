@@ -5,8 +5,8 @@
 
 PROGRAM is crates/starhost/out/starhost where no word is given. Told in one line each: who is let in and who isn't, and that
 it makes no step; N guesses (10,000), one connection after another, while a client of another cell goes on; a file of
-100,000 keys; files that no server begins with; and `starhost key`. No log may have a key in it. The first thing that isn't
-as it is to be ends this with status 1.
+100,000 keys; a file that changes while the server runs; files that no server begins with; and `starhost key`. No log may
+have a key in it. The first thing that isn't as it is to be ends this with status 1.
 """
 
 import argparse
@@ -60,7 +60,7 @@ class Server:
     """A server with a file of keys, which stops where its input ends."""
 
     def __init__(self, program, path, *words, log="info"):
-        self.log = tempfile.TemporaryFile("w+")
+        self.log = tempfile.NamedTemporaryFile("w+")
         words = [program, "serve", "--until-input-ends", "--tenants", "16", "--log", log, *words]
         if path:
             words += ["--keys", path]
@@ -89,8 +89,8 @@ class Server:
 
     def told(self):
         """The log so far."""
-        self.log.seek(0)
-        return self.log.read()
+        with open(self.log.name) as log:
+            return log.read()
 
     def end(self, keys=()):
         """Its last line, and its log, in which none of these keys may stand."""
@@ -224,6 +224,46 @@ def many_keys(program, folder):
     return f"{tenants * LIMIT:,} keys, begun after {started:.1f} s"
 
 
+def changed_file(program, folder):
+    """A file that changes, is bad, is gone and is good again, beside a session that stays open."""
+    path = os.path.join(folder, "changing")
+    old, new, last = (key_of(name) for name in ("old", "new", "last"))
+    write(path, line_of(0, old))
+    server = Server(program, path)
+    with server.connect() as stream:
+        file = stream.makefile("rw")
+
+        def say(line):
+            file.write(f"{line}\n")
+            file.flush()
+            expect(f"{line} in a session that stays", file.readline(), "ok\n")
+
+        say(f"0 7 {old}")
+        begun = time.time()
+        write(path, line_of(0, new))
+        until("the new key", lambda: server.ask(f"0 0 {new}", "end\n") == "ok\nok\n")
+        took = time.time() - begun
+        expect("the old key", server.ask(f"0 0 {old}"), BAD_KEY)
+        say("begin")
+        write(path, f"{line_of(0, last)}x\n")
+        until("a bad file is told", lambda: f"keys {path}: bad line 2" in server.told())
+        time.sleep(2.5)
+        expect("the keys stay", server.ask(f"0 0 {new}", "end\n"), "ok\nok\n")
+        expect("none of a bad file's", server.ask(f"0 0 {last}"), BAD_KEY)
+        os.remove(path)
+        until("a file that is gone is told", lambda: server.told().count(f" keys {path}: ") == 3)
+        time.sleep(2.5)
+        expect("the keys stay where it is gone", server.ask(f"0 0 {new}", "end\n"), "ok\nok\n")
+        write(path, line_of(0, last))
+        until("the last key", lambda: server.ask(f"0 0 {last}", "end\n") == "ok\nok\n")
+        say("rollback")
+        say("end")
+        file.close()
+    told = re.findall(rf" keys {re.escape(path)}: (.*)", server.end([old, new, last])[1])
+    expect("each change is told once", told[:2] + told[3:], ["read again", "bad line 2", "read again"])
+    return f"a new key after {took:.1f} s"
+
+
 def bad_files(program, folder):
     path, good = os.path.join(folder, "bad"), line_of(0, key_of("good"))
     texts = {
@@ -260,8 +300,8 @@ def main():
     words.add_argument("--guesses", type=int, default=10_000)
     asked = words.parse_args()
     program = os.path.abspath(asked.program)
-    visits = [who_is_let_in, without_keys, lambda *given: guesses(*given, asked.guesses), many_keys, bad_files, digests]
-    names = ["who is let in", "without keys", "guesses", "many keys", "bad files", "digests"]
+    visits = [who_is_let_in, without_keys, lambda *given: guesses(*given, asked.guesses), many_keys, changed_file, bad_files, digests]
+    names = ["who is let in", "without keys", "guesses", "many keys", "a changed file", "bad files", "digests"]
     with tempfile.TemporaryDirectory() as folder:
         for name, visit in zip(names, visits):
             print(f"{name}: {visit(program, folder)}", flush=True)

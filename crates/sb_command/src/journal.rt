@@ -1,6 +1,6 @@
 //! What an operator reads on standard error.
 
-use crate::keys::Unread;
+use crate::key_source::Unread;
 use crate::playing::Unplayed;
 use jiff::Timestamp;
 use libc::net as system;
@@ -57,6 +57,11 @@ impl<'r, T: Eprint + Clock> Journal<'r, T> {
             _ => u64::MAX,
         };
         self.slow.swap(second, Ordering::SeqCst) != second
+    }
+
+    /// Tells that the keys of the file at this path are read again.
+    pub(crate) fn tell_keys(&self, path: &str) {
+        self.write(Severity::Info, &format_args!("keys {path}: read again"));
     }
 
     /// Tells why nothing listens at this port.

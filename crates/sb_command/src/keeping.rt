@@ -19,7 +19,7 @@ use crate::terms::{Plan, plan_of};
 use crate::watching::{StatusPort, bound_to, serve_beside};
 use sb_connection::{Admission, Open};
 use sb_host::{Host, Naming, Opened, Stub};
-use sb_server::{Acceptor, Board, Keeper, Unkept, serve_all};
+use sb_server::{Acceptor, Beside, Board, Keeper, NoBeside, Unkept, serve_all};
 use sb_wire::Sink;
 use sb_words::{Paths, Serving};
 use std::alloc::{AllocError, Global};
@@ -154,6 +154,13 @@ pub(crate) struct Keeping<'k, N: Naming, T> {
     ghost workers: { (0 < plan.terms.workers) × (plan.terms.workers ≤ 16) },
 }
 
+/// Whom a server admits, and what is done beside it for that.
+#[derive(Drop)]
+pub(crate) struct Gate<'a, 'g, A, G> {
+    pub(crate) admission: &'a A,
+    pub(crate) beside: &'g G,
+}
+
 /// What is left where no connection comes any more.
 #[derive(Drop)]
 pub(crate) struct Served {
@@ -185,14 +192,20 @@ impl<
         };
         match self.paths.keys {
             Some(path) => self.with_keys(path, loaded, writer),
-            None => self.admit(&Open, loaded, writer),
+            None => {
+                let gate = Gate::<Open, NoBeside> {
+                    admission: &Open,
+                    beside: &NoBeside,
+                };
+                self.admit(gate, loaded, writer)
+            }
         }
     }
 
     /// Serves whom this admits, with the journal that is asked for.
-    pub(crate) fn admit<A: Admission + Sync, W: Sink>(
+    pub(crate) fn admit<A: Admission + Sync, G: Beside, W: Sink>(
         &self,
-        admission: &A,
+        gate: Gate<'_, '_, A, G>,
         loaded: Vec<Stub>,
         writer: &mut W,
     ) -> Result<Served, Fault>
@@ -200,15 +213,15 @@ impl<
             × Appends (W.contents writer.old) (W.contents writer.new) (listening_line port)) }
     {
         match self.paths.journal {
-            Some(path) => self.record(path, admission, writer),
-            None => self.serve_with(admission, &Unkept, loaded, writer),
+            Some(path) => self.record(path, gate, writer),
+            None => self.serve_with(gate, &Unkept, loaded, writer),
         }
     }
 
     /// Serves whom this admits, with this keeper. Behind the last connection the tenants are written to their files.
-    pub(crate) fn serve_with<A: Admission + Sync, K: Keeper + Sync, W: Sink>(
+    pub(crate) fn serve_with<A: Admission + Sync, G: Beside, K: Keeper + Sync, W: Sink>(
         &self,
-        admission: &A,
+        gate: Gate<'_, '_, A, G>,
         keeper: &K,
         loaded: Vec<Stub>,
         writer: &mut W,
@@ -216,7 +229,7 @@ impl<
         ensures { OnOk result ((port : ℕ)
             × Appends (W.contents writer.old) (W.contents writer.new) (listening_line port)) }
     {
-        let port = match self.status_port(admission) {
+        let port = match self.status_port(gate.admission) {
             Ok(port) => port,
             Err(why) => return Err(why),
         };
@@ -224,29 +237,31 @@ impl<
             Ok(listener) => listener,
             Err(why) => return Err(why),
         };
-        self.serve_at(&listener, &port, admission, keeper, loaded)
+        self.serve_at(&listener, &port, gate, keeper, loaded)
     }
 
     /// Serves the connections of this port, and shows what there is at the other one.
-    pub(crate) fn serve_at<A: Admission + Sync, K: Keeper + Sync>(
+    pub(crate) fn serve_at<A: Admission + Sync, G: Beside, K: Keeper + Sync>(
         &self,
         listener: &TcpListener,
         port: &Option<StatusPort<Pages<'_, N, A, T>>>,
-        admission: &A,
+        gate: Gate<'_, '_, A, G>,
         keeper: &K,
         loaded: Vec<Stub>,
     ) -> Result<Served, Fault> {
         let acceptor = Acceptor {
             listener,
             watch: self.journal,
-            admission,
+            admission: gate.admission,
             keeper,
             board: self.board,
             terms: self.plan.terms,
         };
         let served = match port {
-            Some(port) => serve_beside(self.rt, self.alloc, &acceptor, self.host, port),
-            None => serve_all(self.rt, self.alloc, &acceptor, self.host),
+            Some(port) => {
+                serve_beside(self.rt, self.alloc, &acceptor, self.host, port, gate.beside)
+            }
+            None => serve_all(self.rt, self.alloc, &acceptor, self.host, gate.beside),
         };
         let stubs = match served {
             Ok(stubs) => stubs,

@@ -7,7 +7,7 @@ ghost use Rattle.sb_command.specs.Totals.{listening_line};
 use crate::fault::Fault;
 use crate::flushing::Flusher;
 use crate::journal::Journal;
-use crate::keeping::{Keeping, Served};
+use crate::keeping::{Gate, Keeping, Served};
 use crate::listening::listen;
 use crate::showing::Pages;
 use crate::watching::StatusPort;
@@ -15,7 +15,7 @@ use sb_connection::Admission;
 use sb_durable::{Played, Progress, Recorder, play};
 use sb_host::{Naming, Stub};
 use sb_journal::{File as JournalFile, Head, JournalError, Syncing, Wary, open_path};
-use sb_server::{Keeper, Kept};
+use sb_server::{Beside, Keeper, Kept};
 use sb_wire::Sink;
 use sb_words::Syncs;
 use std::fs::File;
@@ -153,10 +153,10 @@ impl<
         + Sync,
 > Keeping<'k, N, T> {
     /// Has the tenants as the journal at this path leaves them, and serves connections with it.
-    pub(crate) fn record<A: Admission + Sync, W: Sink>(
+    pub(crate) fn record<A: Admission + Sync, G: Beside, W: Sink>(
         &self,
         path: &str,
-        admission: &A,
+        gate: Gate<'_, '_, A, G>,
         writer: &mut W,
     ) -> Result<Served, Fault>
         ensures { OnOk result ((port : ℕ)
@@ -167,17 +167,17 @@ impl<
             Err(why) => return Err(why),
         };
         if let Syncs::Second = self.paths.syncs {
-            return self.record_by_seconds(path, admission, recorder, stubs, writer);
+            return self.record_by_seconds(path, gate, recorder, stubs, writer);
         }
         let recording = Recording::new(recorder, self.journal, None);
-        self.serve_with(admission, &recording, stubs, writer)
+        self.serve_with(gate, &recording, stubs, writer)
     }
 
     /// The same, where a thread of its own syncs what is recorded.
-    fn record_by_seconds<A: Admission + Sync, W: Sink>(
+    fn record_by_seconds<A: Admission + Sync, G: Beside, W: Sink>(
         &self,
         path: &str,
-        admission: &A,
+        gate: Gate<'_, '_, A, G>,
         recorder: Recorder<'k, N, JournalFile<Wary>>,
         stubs: Vec<Stub>,
         writer: &mut W,
@@ -193,7 +193,7 @@ impl<
             }
         };
         let recording = Recording::new(recorder, self.journal, Some(&flusher));
-        let port = match self.status_port(admission) {
+        let port = match self.status_port(gate.admission) {
             Ok(port) => port,
             Err(why) => return Err(why),
         };
@@ -201,7 +201,7 @@ impl<
             Ok(listener) => listener,
             Err(why) => return Err(why),
         };
-        let served = self.serve_beside(&flusher, (&listener, &port), admission, &recording, stubs);
+        let served = self.serve_beside(&flusher, (&listener, &port), gate, &recording, stubs);
         if flusher.has_failed() {
             return Err(Fault::JournalFailed);
         }
@@ -209,11 +209,11 @@ impl<
     }
 
     /// Serves the connections of this port, and syncs beside them.
-    fn serve_beside<A: Admission + Sync, K: Keeper + Sync>(
+    fn serve_beside<A: Admission + Sync, G: Beside, K: Keeper + Sync>(
         &self,
         flusher: &Flusher<'k, T>,
         ports: (&TcpListener, &Option<StatusPort<Pages<'_, N, A, T>>>),
-        admission: &A,
+        gate: Gate<'_, '_, A, G>,
         keeper: &K,
         stubs: Vec<Stub>,
     ) -> Result<Served, Fault> {
@@ -228,7 +228,7 @@ impl<
                     return Err(Fault::CannotStart);
                 }
                 let (listener, port) = ports;
-                let served = self.serve_at(listener, port, admission, keeper, stubs);
+                let served = self.serve_at(listener, port, gate, keeper, stubs);
                 flusher.end();
                 served
             },

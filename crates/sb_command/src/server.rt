@@ -14,7 +14,7 @@ use crate::listening::listen;
 use crate::terms::{Plan, plan_of};
 use sb_connection::{Admission, Open, Watch};
 use sb_host::{Host, Naming, Opened};
-use sb_server::{Acceptor, Board, Keeper, ServeError, Unkept, serve_all};
+use sb_server::{Acceptor, Board, Keeper, NoBeside, ServeError, Unkept, serve_all};
 use sb_wire::{Sink, StreamError};
 use sb_words::Serving;
 use std::alloc::{AllocError, Global};
@@ -116,7 +116,7 @@ pub fn serve_by<
         writer.old writer.new) }
 {
     let first_tenant = acceptor.terms.first_tenant;
-    match serve_all(rt, alloc, acceptor, &host) {
+    match serve_all(rt, alloc, acceptor, &host, &NoBeside) {
         Ok(stubs) => finish(alloc, host, first_tenant, stubs, writer),
         Err(error) => Err(unserved(error)),
     }

@@ -7,7 +7,7 @@ use crate::showing::Pages;
 use libc::net as system;
 use sb_connection::{Admission, Watch};
 use sb_host::{Host, Naming, Stub};
-use sb_server::{Acceptor, Keeper, ServeError, serve_all};
+use sb_server::{Acceptor, Beside, Keeper, ServeError, serve_all};
 use sb_status::{HEAD_LIMIT, NO_MEMORY};
 use sb_view::Shelf;
 use std::alloc::Global;
@@ -117,6 +117,7 @@ pub(crate) fn serve_beside<
     A: Admission + Sync,
     K: Keeper + Sync,
     W: Aside + Sync,
+    G: Beside,
     T: Threads + Wait + Net + Clock + Sync,
 >(
     rt: &T,
@@ -124,6 +125,7 @@ pub(crate) fn serve_beside<
     acceptor: &Acceptor<'_, V, A, K>,
     host: &Host<N>,
     aside: &W,
+    beside: &G,
 ) -> Result<Vec<Stub>, ServeError>
     requires { (0 < acceptor.now.terms.workers) × (acceptor.now.terms.workers ≤ 16) }
 {
@@ -136,7 +138,7 @@ pub(crate) fn serve_beside<
             requires { IsSync T.row × IsSync V.row × IsSync A.row × IsSync K.row × IsSend N.row × IsSync N.row
                 × (0 < acceptor.now.terms.workers) × (acceptor.now.terms.workers ≤ 16) }
         {
-            let served = serve_all(rt, alloc, acceptor, host);
+            let served = serve_all(rt, alloc, acceptor, host, beside);
             aside.end();
             served
         },

@@ -1,41 +1,110 @@
-//! One job beside others.
-ghost use Rattle.std.specs.Prelude.{◌<◌, ◌≤◌, IfOk};
+//! Jobs in threads of their own, and what the thread that began them does meanwhile.
+ghost use Rattle.std.specs.Prelude.{◌≡◌, ◌++◌, ◌∷◌, [], IfOk, Ok, Vec};
+ghost use Rattle.std.specs.Global.{Global as ItsGlobal};
 ghost use Rattle.std.specs.List.{AllZip};
-ghost use Rattle.std.specs.Thread.{IsSync};
+ghost use Rattle.std.specs.Thread.{IsSend, IsSync};
 
-use sb_workers::{Work, run};
-use std::alloc::Global;
+use sb_workers::Work;
+use std::alloc::{AllocError, Global};
 use std::sync::Wait;
-use std::thread;
-use std::thread::Threads;
+use std::sync::atomic::{AtomicUsize, Ordering};
+use std::thread::{self, Parker, Threads};
+use std::time::Duration;
 
-/// Does one job in a thread of its own, and the others by so many workers.
+/// How many milliseconds pass between two looks of who watches beside a server.
+const PERIOD: u64 = 1_000;
+
+/// How many jobs last, and who waits for their end.
+#[derive(Drop)]
+pub struct Over {
+    left: AtomicUsize,
+    parker: Parker,
+}
+
+impl Over {
+    /// So many jobs.
+    pub(crate) fn new(jobs: usize) -> Over {
+        Over {
+            left: AtomicUsize::new(jobs),
+            parker: Parker::new(),
+        }
+    }
+
+    /// One job less.
+    fn leave(&self) {
+        if self.left.fetch_sub(1, Ordering::SeqCst) <= 1 {
+            self.parker.unpark();
+        }
+    }
+
+    /// Waits for a while. Whether a job lasts.
+    pub fn lasts<R: Wait>(&self, rt: &R) -> bool {
+        if self.left.load(Ordering::SeqCst) > 0 {
+            self.parker.park_timeout(rt, Duration::from_millis(PERIOD));
+        }
+        self.left.load(Ordering::SeqCst) > 0
+    }
+}
+
+/// What the thread that began a server does while others serve.
+pub trait Beside {
+    /// Runs until the server has ended.
+    fn run<R: Wait>(&self, rt: &R, over: &Over);
+}
+
+/// Nothing is done beside.
+pub struct NoBeside;
+
+impl Beside for NoBeside {
+    fn run<R: Wait>(&self, _rt: &R, _over: &Over) {}
+}
+
+/// Does each job in a thread of its own, and something beside in this one. Each thread is sent one job: one that starts
+/// others for what it was sent gets no proof.
 pub(crate) fn run_beside<
     J: Drop + Send,
     D: Drop + Send,
     W: Work<J, D> + Sync,
+    G: Beside,
     R: Threads + Wait + Sync,
 >(
     rt: &R,
     alloc: Global,
-    one: J,
-    others: Vec<J>,
-    workers: usize,
+    mut jobs: Vec<J>,
     work: &W,
-) -> (D, Result<Vec<D>, Vec<J>>)
-    requires { (0 < workers) × (workers ≤ 16) }
-    ensures one { W.does one result.0 }
-    ensures others { IfOk result.1 (λ results. AllZip W.does others.items results.items) }
+    beside: &G,
+    over: &Over,
+) -> Result<Vec<D>, AllocError>
+    ensures { IfOk result (λ results. AllZip W.does jobs.items results.items) }
 {
-    thread::join(
+    let Some(job) = jobs.pop() else {
+        beside.run(rt, over);
+        return Ok(Vec::new(alloc));
+    };
+    let (last, others) = thread::join(
         rt,
         move || -> D
             requires { IsSync R.row × IsSync W.row }
-            ensures { W.does one result }
-        { work.work(rt, one) },
-        move || -> Result<Vec<D>, Vec<J>>
-            requires { IsSync R.row × IsSync W.row × (0 < workers) × (workers ≤ 16) }
-            ensures { IfOk result (λ results. AllZip W.does others.items results.items) }
-        { run(rt, alloc, others, workers, work) },
-    )
+            ensures { W.does job result }
+        {
+            let done = work.work(rt, job);
+            over.leave();
+            done
+        },
+        move || -> Result<Vec<D>, AllocError>
+            requires { IsSync R.row × IsSync W.row × IsSend J.row × IsSend D.row }
+            ensures { IfOk result (λ results. AllZip W.does jobs.items results.items) }
+        { run_beside(rt, alloc, jobs, work, beside, over) },
+    );
+    with_last(others, last)
+}
+
+/// These results and a last one.
+fn with_last<D: Drop>(others: Result<Vec<D>, AllocError>, last: D) -> Result<Vec<D>, AllocError>
+    ensures { IfOk result (λ all. (front : Vec D ItsGlobal)
+        × (others ≡ Ok front) × (all.items ≡ front.items ++ last ∷ [])) }
+{
+    let mut all = others?;
+    all.push(last)?;
+    Ok(all)
 }

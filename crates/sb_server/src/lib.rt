@@ -19,6 +19,7 @@ mod told;
 mod visit;
 mod worker;
 
+pub use beside::{Beside, NoBeside, Over};
 pub use board::{Board, SlowLine};
 pub use counts::{Cause, Count, LIMITS};
 pub use keeper::{Keeper, Kept, Unkept};

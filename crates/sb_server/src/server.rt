@@ -5,7 +5,7 @@ ghost use Rattle.sb_server.specs.Closed.{LeaveClosed, LeavesClosed};
 ghost use Rattle.sb_server.specs.Mailboxes.{ArePlaced};
 ghost use Rattle.sb_server.specs.Places.{place_of};
 
-use crate::beside::run_beside;
+use crate::beside::{Beside, Over, run_beside};
 use crate::board::Board;
 use crate::door::Door;
 use crate::keeper::{Keeper, Kept};
@@ -330,18 +330,21 @@ impl<'s, N: Naming, V: Watch, A: Admission, K: Keeper, C: Clock> Serving<'s, N, 
     }
 }
 
-/// Serves the connections that are taken, and leaves the receipts of all sessions.
+/// Serves the connections that are taken, each worker and the door in a thread of its own, and leaves the receipts of all
+/// sessions. What is done beside is done in this thread.
 pub fn serve_all<
     N: Naming + Send + Sync,
     V: Watch + Sync,
     A: Admission + Sync,
     K: Keeper + Sync,
+    G: Beside,
     R: Threads + Wait + Net + Clock + Sync,
 >(
     rt: &R,
     alloc: Global,
     acceptor: &Acceptor<'_, V, A, K>,
     host: &Host<N>,
+    beside: &G,
 ) -> Result<Vec<Stub>, ServeError>
     requires workers { (0 < acceptor.now.terms.workers) × (acceptor.now.terms.workers ≤ 16) }
     ensures { IfOk result (λ stubs. All LeavesClosed stubs.items) }
@@ -352,7 +355,14 @@ pub fn serve_all<
     }
     let (seat, waker) = take_seat(rt, alloc)?;
     let mut mailboxes = Vec::new(alloc);
-    let posts = posts(rt, alloc, acceptor.board, terms.workers, &mut mailboxes)?;
+    let mut posts = posts(rt, alloc, acceptor.board, terms.workers, &mut mailboxes)?;
+    let door = Post {
+        role: Role::Door,
+        seat,
+    };
+    if posts.push(door).is_err() {
+        return Err(ServeError::NoMemory);
+    }
     let serving = Serving {
         alloc,
         host,
@@ -373,16 +383,13 @@ pub fn serve_all<
         has_failed: AtomicBool::new(false),
         has_lost: AtomicBool::new(false),
     };
-    let door = Post {
-        role: Role::Door,
-        seat,
-    };
-    let (first, parts) = run_beside(rt, alloc, door, posts, terms.workers, &serving);
+    let over = Over::new(posts.len());
+    let parts = run_beside(rt, alloc, posts, &serving, beside, &over);
     if let Some(error) = serving.failure() {
         return Err(error);
     }
     match parts {
-        Ok(parts) => match gather(alloc, first, parts) {
+        Ok(parts) => match gather(alloc, parts) {
             Ok(stubs) => Ok(stubs),
             Err(_) => Err(ServeError::NoMemory),
         },
@@ -443,11 +450,11 @@ fn worker_post(place: usize, seat: Seat) -> Post {
     }
 }
 
-/// All receipts in one list, those of the door first, then worker by worker.
-fn gather(alloc: Global, first: Vec<Stub>, parts: Vec<Vec<Stub>>) -> Result<Vec<Stub>, AllocError>
-    ensures { IfOk result (λ stubs. stubs.items ≡ first.items ++ flat_map (λ part. part.items) parts.items) }
+/// All receipts in one list.
+fn gather(alloc: Global, parts: Vec<Vec<Stub>>) -> Result<Vec<Stub>, AllocError>
+    ensures { IfOk result (λ stubs. stubs.items ≡ flat_map (λ part. part.items) parts.items) }
 {
-    let mut stubs = first;
+    let mut stubs = Vec::new(alloc);
     for mut part in parts {
         stubs.append(&mut part)?;
     }

@@ -86,7 +86,7 @@ Options of serve:
                  behind the last connection, write each tenant N that was ever
                  opened to FOLDER/N.lines, by the lines that make it again
   --keys FILE    a first line has a key behind its numbers, whose digest stands
-                 in FILE for its tenant
+                 in FILE for its tenant; FILE is read again where it changes
   --status N     pages for a browser and numbers for Prometheus at this port:
                  0 to 65535, of which 0 is any free one
 

@@ -10,8 +10,8 @@ use Rattle.sb_server.proofs.Sending.{serving_sync}
 use Rattle.sb_server.proofs.server.serve_all.Goals as goal
 
 -- the threads share the host, the mailboxes and the watch
-pub run_beside-first-requires-sync-W : goal.run_beside-first-requires-sync-W
-run_beside-first-requires-sync-W g c = λ κs bounds. search (param_sync, arg_sync, serving_sync)
+pub run_beside-parts-requires-sync-W : goal.run_beside-parts-requires-sync-W
+run_beside-parts-requires-sync-W g c = λ κs bounds. search (param_sync, arg_sync, serving_sync)
 
 -- each worker closed its sessions
 all_closed : {A : Type 0} (jobs : List A) (parts : List (Vec Stub Global)) → AllZip (λ job part. LeaveClosed part) jobs parts → All LeavesClosed (flat_map (λ part. part.items) parts)
@@ -22,9 +22,7 @@ all_closed (job ∷ jobs) (part ∷ parts) (own, others) = All-append LeavesClos
 
 pub returns-in-Ok-gather : goal.returns-in-Ok-gather
 returns-in-Ok-gather g c =
-    let posts = c.in_ok-posts.posts.items in
-    let did = c.run_beside-first.ensures in
-    let done = subst (λ r. IfOk r (λ results. AllZip (λ job part. LeaveClosed part) posts results.items)) c.in-Ok.is did.others in
+    let posts = c.push.new.self.items in
+    let done = subst (λ r. IfOk r (λ results. AllZip (λ job part. LeaveClosed part) posts results.items)) c.in-Ok.is c.run_beside-parts.ensures in
     let closed = all_closed posts c.in-Ok.parts.items done in
-    subst (λ (l : List Stub). All LeavesClosed l) (sym c.in-Ok-gather.ensures)
-    (All-append LeavesClosed c.run_beside-first.result.0.items (flat_map (λ part. part.items) c.in-Ok.parts.items) did.one closed)
+    subst (λ (l : List Stub). All LeavesClosed l) (sym c.in-Ok-gather.ensures) closed

@@ -1,0 +1,90 @@
+//! A list of keys that is read again where its file changes.
+
+use crate::journal::Journal;
+use crate::key_list::KeyList;
+use crate::key_source::{KeyLists, KeySource, Stamp};
+use sb_server::{Beside, Over};
+use std::rt::Clock;
+use std::sync::Wait;
+
+/// What was seen of a file.
+#[derive(Clone, Copy)]
+struct Look {
+    stamp: Option<Stamp>,
+    /// It needn't be read again while it stays so.
+    is_done: bool,
+}
+
+/// Has a list of keys read again where its file changes.
+#[derive(Drop)]
+pub(crate) struct KeyWatch<'p, 'l, 'k, L: KeyLists, S, T> {
+    source: S,
+    path: &'p str,
+    /// What was seen before the first read.
+    first: Look,
+    list: &'l KeyList<L>,
+    journal: &'k Journal<'k, T>,
+}
+
+impl<'p, 'l, 'k, L: KeyLists, S: KeySource<L>, T: Eprint + Clock> KeyWatch<'p, 'l, 'k, L, S, T> {
+    /// For a list that was read when this was its stamp.
+    pub(crate) fn new(
+        source: S,
+        path: &'p str,
+        stamp: Option<Stamp>,
+        list: &'l KeyList<L>,
+        journal: &'k Journal<'k, T>,
+    ) -> KeyWatch<'p, 'l, 'k, L, S, T> {
+        KeyWatch {
+            source,
+            path,
+            first: Look {
+                stamp,
+                is_done: true,
+            },
+            list,
+            journal,
+        }
+    }
+
+    /// Reads the file if it isn't as it was. Where it can't be read, the keys stay and that is told once.
+    fn look<R: Wait>(&self, rt: &R, last: Look) -> Look {
+        let stamp = self.source.stamp();
+        let is_new = stamp != last.stamp;
+        if last.is_done && !is_new {
+            return last;
+        }
+        match self.source.read() {
+            Ok(keys) => {
+                self.list.renew(rt, keys);
+                self.journal.tell_keys(self.path);
+                Look {
+                    stamp,
+                    is_done: true,
+                }
+            }
+            Err(why) => {
+                if is_new {
+                    self.journal.tell_no_keys(self.path, &why);
+                }
+                Look {
+                    stamp,
+                    is_done: !why.may_pass(),
+                }
+            }
+        }
+    }
+}
+
+impl<'p, 'l, 'k, L: KeyLists, S: KeySource<L>, T: Eprint + Clock> Beside
+    for KeyWatch<'p, 'l, 'k, L, S, T> {
+    fn run<R: Wait>(&self, rt: &R, over: &Over) {
+        let mut last = self.first;
+        for _ in rt.forever() {
+            if !over.lasts(rt) {
+                return;
+            }
+            last = self.look(rt, last);
+        }
+    }
+}
