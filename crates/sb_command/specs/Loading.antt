@@ -1,25 +1,40 @@
 -- Promise: a run on tenants that scripts made.
 use Rattle.std.specs.Prelude.{◌≡◌, ◌⊎◌, ◌<◌, ℕ, nat_lt, List, Option, Result}
 use Rattle.sb_cell.specs.Tenants.{Cell as ItsCell, hosts, states}
-use Rattle.sb_dump.specs.Dumps.{played}
+use Rattle.sb_dump.specs.Dumps.{played, whole_session}
 use Rattle.sb_tenant.specs.State.{State, opening}
 use Rattle.sb_wire.specs.Counts.{Summarizes}
 use Rattle.sb_wire.specs.Stream.{AnswersInput, EndsBy, MayFail, OnWriteFault, Streams}
 use Rattle.sb_wire.specs.declared.fault.StreamError.{StreamError}
 use Rattle.sb_wire.specs.declared.fault.StreamError.TheVariants as stream
 use Rattle.sb_wire.specs.declared.summary.Summary.{Summary}
+use Rattle.sb_command.specs.Playing.{AreTaken, MayHave, MayLack}
 use Rattle.sb_command.specs.declared.fault.Fault.{Fault}
 use Rattle.sb_command.specs.declared.fault.Fault.TheVariants.{CannotLoad, NoFolder, Stream}
 
--- a tenant has no tables and rules; or it is what one session of it left: it was opened, sent some lines, and ended
+-- a tenant is what one session of it left: it was opened, sent these lines, and ended, and each of them was answered as a script's line is
+abbrev pub IsPlayedBy : ℕ → ℕ → List (List ℕ) → State → Type 0
+IsPlayedBy t bound lines state = (state ≡ played t bound lines) × AreTaken t bound opening (whole_session lines)
+
+-- a tenant has no tables and rules; or it is what some lines left
 abbrev pub IsScripted : ℕ → ℕ → State → Type 0
-IsScripted t bound state = (state ≡ opening) ⊎ ((lines : List (List ℕ)) × (state ≡ played t bound lines))
+IsScripted t bound state = (state ≡ opening) ⊎ ((lines : List (List ℕ)) × IsPlayedBy t bound lines state)
+
+-- so it is by what is known of its file
+abbrev pub IsScriptedBy : ℕ → ℕ → Option (Option (List ℕ)) → State → Type 0
+IsScriptedBy t bound known state =
+    ((state ≡ opening) × MayLack known) ⊎ ((lines : List (List ℕ)) × MayHave known lines × IsPlayedBy t bound lines state)
 
 -- a cell of the tenants below a number, each of them such
 pub record IsLoaded (tenants bound : ℕ) (cell : ItsCell) : Type 0 where
   pub hosted : (t : ℕ) → hosts cell t ≡ nat_lt t tenants
   pub at_most : cell.bound ≡ bound
   pub scripted : (t : ℕ) → IsScripted t bound (states cell t)
+
+-- the same, each of them by what is known of its file
+pub record IsLoadedFrom (files : ℕ → Option (Option (List ℕ))) (tenants bound : ℕ) (cell : ItsCell) : Type 0 where
+  pub loaded : IsLoaded tenants bound cell
+  pub from_files : (t : ℕ) → t < tenants → IsScriptedBy t bound (files t) (states cell t)
 
 -- the text answers the lines of an input on such a cell
 pub record AnswersLoaded (tenants bound : ℕ) (input text : List ℕ) : Type 0 where

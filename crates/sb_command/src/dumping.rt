@@ -1,6 +1,7 @@
 //! A dump: the lines of an input, and the script of one tenant as they leave it.
-ghost use Rattle.std.specs.Prelude.{◌≡◌, List, ℕ, None, Some, IfErr, IfOk, IfSome, OnOk};
-ghost use Rattle.std.specs.Io.KnownBytes.{Appends};
+ghost use Rattle.std.specs.Prelude.{◌≡◌, List, ℕ, None, Ok, Some, IfErr, IfOk, IfSome, IsOk, OnOk, length};
+ghost use Rattle.std.specs.Io.{WritesAtMost};
+ghost use Rattle.std.specs.Io.KnownBytes.{Appends, Keeps, WriteAppends};
 ghost use Rattle.sb_cell.specs.Tenants.{tenant_at};
 ghost use Rattle.sb_dump.specs.Dumps.{Dumps};
 ghost use Rattle.sb_tenant.specs.Tenant.{Tenant as ItsTenant};
@@ -22,11 +23,18 @@ pub(crate) struct Nowhere;
 impl Write for Nowhere {
     ghost contents = { λ _. None };
 
-    fn write(&mut self, buf: &[u8]) -> io::Result<usize> {
+    fn write(&mut self, buf: &[u8]) -> io::Result<usize>
+        ensures bound { WritesAtMost result buf.now }
+        ensures bytes { WriteAppends None None result buf.now }
+        ensures all { result ≡ Ok (length buf.now) }
+    {
         Ok(buf.len())
     }
 
-    fn flush(&mut self) -> io::Result<()> {
+    fn flush(&mut self) -> io::Result<()>
+        ensures bytes { Keeps None None }
+        ensures ok { IsOk result }
+    {
         Ok(())
     }
 }
@@ -35,11 +43,11 @@ impl Sink for Nowhere {
     ghost refuses = { λ _. ⊥ };
 
     fn write_some(&mut self, buf: &[u8]) -> io::Result<usize> {
-        Ok(buf.len())
+        self.write(buf)
     }
 
     fn flush_all(&mut self) -> io::Result<()> {
-        Ok(())
+        self.flush()
     }
 }
 

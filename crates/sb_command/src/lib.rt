@@ -30,6 +30,7 @@ mod refusing;
 mod replaying;
 mod running;
 mod saving;
+mod script_source;
 mod server;
 mod showing;
 mod telling;

@@ -1,10 +1,10 @@
 //! Tenants of a cell, made from the files of a folder.
-ghost use Rattle.std.specs.Prelude.{◌≡◌, ◌⊎◌, ◌∷◌, [], List, ℕ, false, IfErr, IfOk, IsTrue, OnOk};
+ghost use Rattle.std.specs.Prelude.{◌≡◌, ◌⊎◌, ◌∷◌, ◌↔◌, [], List, ℕ, false, IfErr, IfOk, IsTrue, OnErr, OnOk};
 ghost use Rattle.sb_cell.specs.Tenants.{IsNew};
-ghost use Rattle.sb_command.specs.Loading.{IsLoaded, IsUnloaded};
-ghost use Rattle.sb_command.specs.Playing.{IsStarted, IsTaken, Sends, Sent};
+ghost use Rattle.sb_command.specs.Loading.{IsLoaded, IsLoadedFrom, IsUnloaded};
+ghost use Rattle.sb_command.specs.Playing.{HasLines, IsPlayed, IsStarted, IsTaken, PlaysBy, RefusesLine, Sends, TakesLine};
 ghost use Rattle.sb_command.specs.declared.fault.Fault.TheVariants as fault;
-ghost use Rattle.sb_dump.specs.Dumps.{whole_session};
+ghost use Rattle.sb_wire.specs.Seen.{piece_seen};
 ghost use Rattle.sb_wire.specs.declared.fault.StreamError.TheVariants as stream;
 ghost use Rattle.sb_words.specs.Within.{AreRun};
 
@@ -12,14 +12,14 @@ use crate::dumping::Nowhere;
 use crate::fault::Fault;
 use crate::folder::Folder;
 use crate::journal::Journal;
+use crate::script_source::{FolderScripts, ScriptSource, Unopened};
 use sb_cell::{Cell, ample_buckets};
 use sb_tenant::{Reply, Tenant};
 use sb_value::SessionId;
 use sb_wire::{Fallible, Piece, Responder, StreamError, answer_stream, write_bare_reply};
 use sb_words::{Run, Severity};
 use std::alloc::{AllocError, Global};
-use std::fs;
-use std::io::{self, ErrorKind, Read};
+use std::io::Read;
 use std::rt::{Clock, Files};
 
 /// How far a file is played.
@@ -62,7 +62,7 @@ pub(crate) enum Unplayed {
 
 /// Whether a line of a script is answered so.
 pub(crate) fn is_taken(reply: &Reply) -> bool
-    ensures { IsTrue result → IsTaken reply.now }
+    ensures { IsTrue result ↔ IsTaken reply.now }
 {
     match reply {
         Reply::Ok | Reply::Count(_) => true,
@@ -106,28 +106,30 @@ pub(crate) fn loaded_cell<T: Eprint + Clock + Files>(
     let Ok(mut cell) = Cell::with_buckets(alloc, 0, 1, run.tenants, run.bound, buckets) else {
         return Err(Fault::Stream(StreamError::NoMemory));
     };
-    match load_each(rt, alloc, &mut cell, run, folder, &journal) {
+    let scripts = FolderScripts {
+        rt,
+        folder,
+        journal: &journal,
+    };
+    match load_each(alloc, &mut cell, run, &scripts) {
         Ok(()) => Ok(cell),
         Err(why) => Err(why),
     }
 }
 
 /// Plays the file of each tenant that has one.
-fn load_each<T: Eprint + Clock + Files>(
-    rt: &T,
+fn load_each<F: Read + Drop, S: ScriptSource<F>>(
     alloc: Global,
     cell: &mut Cell,
     run: Run,
-    folder: Folder<'_>,
-    journal: &Journal<'_, T>,
+    scripts: &S,
 ) -> Result<(), Fault>
-    requires first { folder.first ≡ 0 }
-    requires is_new { IsNew 0 1 run.tenants run.bound cell.old }
-    ensures ok { OnOk result (IsLoaded run.tenants run.bound cell.new) }
+    requires { IsNew 0 1 run.tenants run.bound cell.old }
+    ensures ok { OnOk result (IsLoadedFrom (S.files scripts.now) run.tenants run.bound cell.new) }
     ensures err { IfErr result (IsUnloaded run.tenants) }
 {
     for tenant in 0..run.tenants {
-        match load_one(rt, alloc, cell, folder, journal, tenant) {
+        match load_one(alloc, cell, scripts, tenant) {
             Ok(()) => {}
             Err(why) => return Err(why),
         }
@@ -136,42 +138,31 @@ fn load_each<T: Eprint + Clock + Files>(
 }
 
 /// Plays the file of a tenant, if there is one.
-fn load_one<T: Eprint + Clock + Files>(
-    rt: &T,
+fn load_one<F: Read + Drop, S: ScriptSource<F>>(
     alloc: Global,
     cell: &mut Cell,
-    folder: Folder<'_>,
-    journal: &Journal<'_, T>,
+    scripts: &S,
     tenant: u32,
 ) -> Result<(), Fault>
-    requires { folder.first ≡ 0 }
-    ensures ok { OnOk result (IsStarted tenant cell.old cell.new) }
+    ensures ok { OnOk result (IsStarted tenant (S.files scripts.now tenant) cell.old cell.new) }
     ensures err { IfErr result (λ why. (why ≡ fault.Stream stream.NoMemory) ⊎ (why ≡ fault.CannotLoad tenant)) }
 {
-    let number = folder.number_of(tenant);
-    let Ok(path) = folder.file_of(alloc, number) else {
-        return Err(Fault::Stream(StreamError::NoMemory));
-    };
-    match fs::open(rt, path.as_str()) {
-        Ok(file) => match play(alloc, cell, tenant, file) {
+    match scripts.open(alloc, tenant) {
+        Ok(Some(file)) => match play(alloc, cell, tenant, file) {
             Ok(()) => Ok(()),
             Err(why) => {
-                journal.tell_unplayed(number, &why);
-                Err(Fault::CannotLoad { tenant: number })
+                scripts.note(tenant, &why);
+                Err(Fault::CannotLoad {
+                    tenant: u64::from(tenant),
+                })
             }
         },
-        Err(error) => match is_missing(&error) {
-            true => Ok(()),
-            false => {
-                journal.tell_cannot_read(number, &error);
-                Err(Fault::CannotLoad { tenant: number })
-            }
-        },
+        Ok(None) => Ok(()),
+        Err(Unopened::CannotRead) => Err(Fault::CannotLoad {
+            tenant: u64::from(tenant),
+        }),
+        Err(Unopened::NoMemory) => Err(Fault::Stream(StreamError::NoMemory)),
     }
-}
-
-fn is_missing(error: &io::Error) -> bool {
-    error.kind() == ErrorKind::NotFound
 }
 
 /// Plays a file in the first session of a tenant, which is opened before and ended behind.
@@ -181,7 +172,7 @@ fn play<F: Read + Drop>(
     tenant: u32,
     file: F,
 ) -> Result<(), Unplayed>
-    ensures { OnOk result ((lines : List (List ℕ)) × Sends tenant (whole_session lines) cell.old cell.new) }
+    ensures { OnOk result (IsPlayed tenant (F.remaining file) cell.old cell.new) }
 {
     match send_own(alloc, cell, tenant, b"open") {
         Ok(()) => {}
@@ -214,7 +205,7 @@ fn play_lines<F: Read + Drop>(
     tenant: u32,
     file: F,
 ) -> Result<(), Unplayed>
-    ensures { OnOk result (Sent tenant cell.old cell.new) }
+    ensures { OnOk result ((lines : List (List ℕ)) × HasLines (F.remaining file) lines × Sends tenant lines cell.old cell.new) }
 {
     let mut reader = Fallible { inner: file };
     let mut progress = Progress::new(alloc);
@@ -280,25 +271,23 @@ impl Responder<Cell, Progress> for Player {
 
 /// Sends a line.
 fn play_line(alloc: Global, piece: Piece<'_>, tenant: u32, cell: &mut Cell, progress: &mut Progress)
-    ensures { progress.new.is_bad ≡ false → Sent tenant cell.old cell.new }
+    ensures { PlaysBy progress.new.is_bad tenant cell.old (piece_seen piece.entry) cell.new }
 {
     progress.line = progress.line.saturating_add(1);
+    progress.is_bad = true;
     let Piece::Line(line) = piece else {
-        progress.is_bad = true;
         return;
     };
     match send(alloc, cell, tenant, line) {
-        Ok(()) => {}
-        Err(told) => {
-            progress.is_bad = true;
-            progress.told = told;
-        }
+        Ok(()) => progress.is_bad = false,
+        Err(told) => progress.told = told,
     }
 }
 
 /// Sends a line to a tenant in its first session, or gives what it was answered where it isn't taken.
 fn send(alloc: Global, cell: &mut Cell, tenant: u32, line: &[u8]) -> Result<(), Vec<u8>>
-    ensures { OnOk result (Sends tenant (line.now ∷ []) cell.old cell.new) }
+    ensures ok { OnOk result (TakesLine tenant cell.old line.now cell.new) }
+    ensures err { OnErr result (RefusesLine tenant cell.old line.now cell.new) }
 {
     match cell.step(alloc, tenant, 0, line) {
         Ok(answer) => match is_taken(&answer.reply) {
