@@ -1,5 +1,6 @@
 -- Promise: which bytes give which request.
-use Rattle.std.specs.Prelude.{◌≡◌, ℕ, List, Ok, Some, ⊤}
+use Rattle.std.specs.Prelude.{◌≡◌, ℕ, List, Ok, Some, ⊤, codes, drop, map, take}
+use Rattle.std.specs.Char.{to_ascii_lowercase}
 use Rattle.base64.specs.Engines.{standard}
 use Rattle.base64.specs.GeneralPurpose.{decode_of}
 use Rattle.httparse.specs.Grammar.{ReadsRequest, RequestHead}
@@ -26,3 +27,7 @@ IsHeadOf bytes r =
 -- HTTP Basic: the code is base64 of a text, whose first colon stands there
 abbrev pub AreIn : List ℕ → List ℕ → ℕ → Type 0
 AreIn code text colon = (decode_of standard code ≡ Ok text) × IsFirstByte (is_byte 58) text (Some colon)
+
+-- a header's value has them behind the scheme's name, whose letters may be large or small
+abbrev pub AreSent : List ℕ → List ℕ → ℕ → Type 0
+AreSent value text colon = (map to_ascii_lowercase (take 6 value) ≡ codes "basic ") × AreIn (drop 6 value) text colon

@@ -1,7 +1,7 @@
 //! Who asks: a user and a key, as HTTP Basic sends them.
-ghost use Rattle.std.specs.Prelude.{◌≡◌, ◌+◌, drop, take, IfOk, IfSome, Some, vec_len, ◌<◌};
+ghost use Rattle.std.specs.Prelude.{◌≡◌, ◌+◌, List, ℕ, drop, take, IfOk, MatchOption, Some, vec_len, ◌<◌};
 ghost use Rattle.memchr.specs.Find.{IsFirstByte, is_byte};
-ghost use Rattle.sb_status.specs.Requests.{AreIn};
+ghost use Rattle.sb_status.specs.Requests.{AreSent};
 
 use base64::DecodeAllocError;
 use base64::engine::general_purpose::STANDARD;
@@ -21,7 +21,9 @@ pub struct Credentials {
 impl Credentials {
     /// Those of a header's value, if it has some.
     pub fn read(alloc: Global, value: &[u8]) -> Result<Option<Credentials>, AllocError>
-        ensures { IfOk result (λ found. IfSome found (λ c. AreIn (drop 6 value.now) c.text.items c.colon)) }
+        ensures { IfOk result (λ found. MatchOption found
+            ((text : List ℕ) (colon : ℕ) → AreSent value.now text colon → ⊥)
+            (λ c. AreSent value.now c.text.items c.colon)) }
     {
         let Some((scheme, code)) = value.split_at_checked(SCHEME.len()) else {
             return Ok(None);
@@ -51,7 +53,9 @@ impl Credentials {
 
 /// The name before the first colon, and the key behind it.
 fn cut(text: Vec<u8>) -> Option<Credentials>
-    ensures { IfSome result (λ c. (c.text ≡ text) × IsFirstByte (is_byte 58) text.items (Some c.colon)) }
+    ensures { MatchOption result
+        ((colon : ℕ) → IsFirstByte (is_byte 58) text.items (Some colon) → ⊥)
+        (λ c. (c.text ≡ text) × IsFirstByte (is_byte 58) text.items (Some c.colon)) }
 {
     match memchr(b':', text.as_slice()) {
         Some(colon) => Some(Credentials { text, colon }),

@@ -1,6 +1,7 @@
 //! What a request asks for.
-ghost use Rattle.std.specs.Prelude.{IfSome};
-ghost use Rattle.sb_status.specs.Routes.{IsNumber, Names, NamesBehind, NamesSession};
+ghost use Rattle.std.specs.Prelude.{ℕ, MatchOption};
+ghost use Rattle.sb_status.specs.Routes.{IsNumber, Names, NamesBehind, NamesSession, NamesWithout};
+ghost use Rattle.sb_status.specs.declared.route.Ended.{Ended as ItsEnded};
 
 use std::str;
 
@@ -64,7 +65,7 @@ fn route_behind(rest: &[u8]) -> Route
 
 /// The page of a tenant, or the end of one of its sessions.
 fn route_without(rest: &[u8]) -> Route
-    ensures { NamesBehind rest.now result }
+    ensures { NamesWithout rest.now result }
 {
     match rest.strip_suffix(END) {
         Some(front) => match session_in(front) {
@@ -80,7 +81,7 @@ fn route_without(rest: &[u8]) -> Route
 
 /// A tenant and the digit of one of its sessions.
 fn session_in(text: &[u8]) -> Option<Ended>
-    ensures { IfSome result (NamesSession text.now) }
+    ensures { MatchOption result ((e : ItsEnded) → NamesSession text.now e → ⊥) (NamesSession text.now) }
 {
     let (digit, front) = text.split_last()?;
     let tenant = number(front.strip_suffix(SESSIONS)?)?;
@@ -95,7 +96,7 @@ fn session_in(text: &[u8]) -> Option<Ended>
 
 /// The number that these bytes are.
 pub fn number(digits: &[u8]) -> Option<u32>
-    ensures { IfSome result (IsNumber digits.now) }
+    ensures { MatchOption result ((n : ℕ) → IsNumber digits.now n → ⊥) (IsNumber digits.now) }
 {
     let Ok(text) = str::from_utf8(digits) else {
         return None;
