@@ -1,5 +1,5 @@
 //! One code for all lists: `list` says which link of a node it follows.
-ghost use Rattle.std.specs.Prelude.{◌≡◌, ℕ, ◌<◌, List, Option, Some, None, length, get_or, slice_set, slice_index_or};
+ghost use Rattle.std.specs.Prelude.{◌≡◌, ◌≢◌, ℕ, ◌<◌, List, Option, Some, None, length, get_or, slice_set, slice_index_or};
 ghost use Rattle.sb_rawlog.specs.Links.{link, link_of, with_link, relinked, IsNode, IsInList, LeavesList};
 
 use crate::node::{Links, Node, Which};
@@ -54,6 +54,7 @@ fn set_link<T>(arena: &mut Arena<Node<T>>, list: Which, place: usize, to: Option
 }
 
 /// Takes the place out of the list that begins at `head`, and returns where the list begins then.
+#[inline(always)]
 pub(crate) fn unlink<T>(
     arena: &mut Arena<Node<T>>,
     list: Which,
@@ -63,21 +64,32 @@ pub(crate) fn unlink<T>(
     requires { IsInList list arena.old head place }
     ensures { LeavesList list arena.old arena.new head result place }
 {
-    let after = link(arena, list, place);
     let Some(first) = head else {
         return None;
     };
     if first == place {
-        return after;
+        return link(arena, list, place);
     }
+    unlink_behind(arena, list, first, place);
+    head
+}
+
+/// Takes the place out of the list that begins at another one.
+#[inline(never)]
+fn unlink_behind<T>(arena: &mut Arena<Node<T>>, list: Which, first: usize, place: usize)
+    requires within { IsInList list arena.old (Some first) place }
+    requires behind { first ≢ place }
+    ensures { LeavesList list arena.old arena.new (Some first) (Some first) place }
+{
+    let after = link(arena, list, place);
     let mut at = first;
     'steps: loop {
         let Some(next) = link(arena, list, at) else {
-            return None;
+            return;
         };
         if next == place {
             set_link(arena, list, at, after);
-            return head;
+            return;
         }
         at = next;
     }

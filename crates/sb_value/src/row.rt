@@ -58,11 +58,11 @@ impl Row {
     pub fn from_values(alloc: Global, values: &[Value]) -> Result<Row, AllocError>
         ensures { IfOk result (λ row. row ≡ values.now) }
     {
-        let mut row = Row::new(alloc);
+        let mut list = SmallVec::with_capacity(alloc, values.len())?;
         for value in values {
-            row.push(value.clone()?)?;
+            list.push_reserved(value.clone()?);
         }
-        Ok(row)
+        Ok(Row { values: list })
     }
 
     /// A row with the same values.
