@@ -2,7 +2,7 @@
 ghost use Rattle.std.specs.Prelude.{◌≡◌};
 ghost use Rattle.sb_host.specs.Comparing.{Tells};
 
-use sb_tenant::{NamedTrace, Reply};
+use sb_tenant::{NamedTrace, Reply, RuleError, RuleName};
 use sb_value::{Name, Refusal, Verdict};
 
 /// Whether the two have the same bytes.
@@ -58,6 +58,18 @@ fn same_refusal(one: &Refusal, other: &Refusal) -> bool
     }
 }
 
+fn same_rule(one: &RuleName, other: &RuleName) -> bool
+    ensures { Tells result one.now other.now }
+{
+    same_name(one.name(), other.name())
+}
+
+fn same_error(one: &RuleError, other: &RuleError) -> bool
+    ensures { Tells result one.now other.now }
+{
+    same_refusal(one.refusal(), other.refusal())
+}
+
 /// Whether the two are one reply.
 pub(crate) fn same_reply(one: &Reply, other: &Reply) -> bool
     ensures { Tells result one.now other.now }
@@ -80,12 +92,12 @@ pub(crate) fn same_reply(one: &Reply, other: &Reply) -> bool
             _ => false,
         },
         Reply::ByRule(name, trace) => match other {
-            Reply::ByRule(others, another) => same_name(name, others) && same_trace(trace, another),
+            Reply::ByRule(others, another) => same_rule(name, others) && same_trace(trace, another),
             _ => false,
         },
-        Reply::ByError(name, refusal, trace) => match other {
+        Reply::ByError(name, error, trace) => match other {
             Reply::ByError(others, why, another) => {
-                same_name(name, others) && same_refusal(refusal, why) && same_trace(trace, another)
+                same_rule(name, others) && same_error(error, why) && same_trace(trace, another)
             }
             _ => false,
         },

@@ -25,5 +25,5 @@ mod work;
 
 pub use lines::KnownLines;
 pub use places::reserve_here;
-pub use reply::{Answer, Entry, Line, NamedTrace, Reply};
+pub use reply::{Answer, Entry, Line, NamedTrace, Reply, RuleError, RuleName};
 pub use tenant::{NotBegun, Sent, TRAIL_LIMIT, Tenant};

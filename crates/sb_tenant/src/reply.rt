@@ -1,5 +1,5 @@
 //! Replies, answers and the entries of a trail.
-ghost use Rattle.std.specs.Prelude.{◌≡◌, IfOk};
+ghost use Rattle.std.specs.Prelude.{◌≡◌, [], IfOk};
 
 use sb_rows::SharedRows;
 use sb_value::{Name, Refusal, SessionId, Verdict};
@@ -71,6 +71,13 @@ impl Model for NamedTrace {
 }
 
 impl NamedTrace {
+    /// No consideration.
+    pub fn none() -> NamedTrace
+        ensures { result ≡ [] }
+    {
+        NamedTrace { list: None }
+    }
+
     /// These considerations, to be shared.
     pub fn new(alloc: Global, list: Vec<(Name, Verdict)>) -> Result<NamedTrace, AllocError>
         ensures { IfOk result (λ trace. trace ≡ list.items) }
@@ -109,6 +116,75 @@ impl NamedTrace {
     }
 }
 
+/// The name of a rule that ended a transaction. It stands apart from its reply, so that the other replies, which are
+/// made and moved at each line, are small.
+#[derive(Drop)]
+pub struct RuleName {
+    name: Box<Name>,
+}
+
+impl Model for RuleName {
+    ghost use Rattle.std.specs.Prelude.{List, ℕ};
+    ghost use Rattle.std.specs.Box.{box_value};
+
+    ghost Value = { List ℕ };
+
+    ghost view = { λ r. box_value r.name };
+}
+
+impl RuleName {
+    /// This name.
+    pub fn new(alloc: Global, name: Name) -> Result<RuleName, AllocError>
+        ensures { IfOk result (λ kept. kept ≡ name) }
+    {
+        Ok(RuleName {
+            name: Box::new(alloc, name)?,
+        })
+    }
+
+    /// The name itself.
+    pub fn name(&self) -> &Name
+        ensures { result.now ≡ self.now }
+    {
+        let name: &Name = &self.name;
+        name
+    }
+}
+
+/// Why a rule failed, apart from its reply as its name is.
+#[derive(Drop)]
+pub struct RuleError {
+    refusal: Box<Refusal>,
+}
+
+impl Model for RuleError {
+    ghost use Rattle.std.specs.Box.{box_value};
+    ghost use Rattle.sb_value.specs.declared.refusal.Refusal.{Refusal as ItsRefusal};
+
+    ghost Value = { ItsRefusal };
+
+    ghost view = { λ e. box_value e.refusal };
+}
+
+impl RuleError {
+    /// This refusal.
+    pub fn new(alloc: Global, refusal: Refusal) -> Result<RuleError, AllocError>
+        ensures { IfOk result (λ kept. kept ≡ refusal) }
+    {
+        Ok(RuleError {
+            refusal: Box::new(alloc, refusal)?,
+        })
+    }
+
+    /// The refusal itself.
+    pub fn refusal(&self) -> &Refusal
+        ensures { result.now ≡ self.now }
+    {
+        let refusal: &Refusal = &self.refusal;
+        refusal
+    }
+}
+
 /// What a command is answered.
 #[derive(Drop)]
 pub enum Reply {
@@ -117,8 +193,8 @@ pub enum Reply {
     Count(u64),
     Rows(SharedRows),
     Done(NamedTrace),
-    ByRule(Name, NamedTrace),
-    ByError(Name, Refusal, NamedTrace),
+    ByRule(RuleName, NamedTrace),
+    ByError(RuleName, RuleError, NamedTrace),
     ByLimit(NamedTrace),
     No(Refusal),
 }

@@ -1,9 +1,10 @@
 //! The reply of an assertion point, with the rules' names.
-ghost use Rattle.std.specs.Prelude.{◌≡◌, IfOk};
+ghost use Rattle.std.specs.Prelude.{◌≡◌, [], IfOk};
+ghost use Rattle.sb_tenant.specs.declared.reply.Reply.TheVariants as told;
 ghost use Rattle.sb_tenant.specs.Perform.{named, reply_of};
 ghost use Rattle.sb_tenant.specs.Catalog.{EachCatalog, rule_name};
 
-use crate::reply::{NamedTrace, Reply};
+use crate::reply::{NamedTrace, Reply, RuleError, RuleName};
 use crate::store::Replies;
 use sb_catalog::Catalog;
 use sb_process::{Outcome, Processed};
@@ -20,15 +21,30 @@ pub(crate) fn told(
         r.0 ≡ reply_of catalog processed.now.outcome (named catalog processed.now.trace))) }
     ensures twice { IfOk result (λ r. r.1 ≡ r.0) }
 {
-    let trace = named(alloc, rules, processed.trace.as_slice())?;
+    let turns = processed.trace.as_slice();
+    if turns.is_empty() && processed.outcome.is_done() {
+        return Ok(plainly_done());
+    }
+    let trace = named(alloc, rules, turns)?;
     let shared = trace.share()?;
-    let reply = with_trace(rules, processed, trace)?;
-    let copy = with_trace(rules, processed, shared)?;
+    let reply = with_trace(alloc, rules, processed, trace)?;
+    let copy = with_trace(alloc, rules, processed, shared)?;
     Ok((reply, copy))
+}
+
+/// The reply where no rule was considered, twice.
+fn plainly_done() -> Replies
+    ensures { result ≡ (told.Done [], told.Done []) }
+{
+    (
+        Reply::Done(NamedTrace::none()),
+        Reply::Done(NamedTrace::none()),
+    )
 }
 
 /// The reply with this trace.
 fn with_trace(
+    alloc: Global,
     rules: &Catalog,
     processed: &Processed,
     trace: NamedTrace,
@@ -37,12 +53,20 @@ fn with_trace(
 {
     match processed.outcome {
         Outcome::Done => Ok(Reply::Done(trace)),
-        Outcome::ByRule(rule) => Ok(Reply::ByRule(name_of(rules, rule)?, trace)),
+        Outcome::ByRule(rule) => Ok(Reply::ByRule(kept_name(alloc, rules, rule)?, trace)),
         Outcome::ByError(rule, refusal) => {
-            Ok(Reply::ByError(name_of(rules, rule)?, refusal, trace))
+            let name = kept_name(alloc, rules, rule)?;
+            Ok(Reply::ByError(name, RuleError::new(alloc, refusal)?, trace))
         }
         Outcome::ByLimit => Ok(Reply::ByLimit(trace)),
     }
+}
+
+/// The name of a rule, for a reply.
+fn kept_name(alloc: Global, rules: &Catalog, rule: RuleId) -> Result<RuleName, AllocError>
+    ensures { EachCatalog rules.now (λ catalog. IfOk result (λ name. name ≡ rule_name catalog rule)) }
+{
+    RuleName::new(alloc, name_of(rules, rule)?)
 }
 
 /// The verdicts with the rules' names.

@@ -94,9 +94,9 @@ fn push_reply(out: &mut Vec<u8>, start: &[u8], reply: &Reply) -> Result<(), Allo
         Reply::Count(count) => push_counted(out, start, b"ok", *count),
         Reply::Rows(rows) => push_rows(out, start, rows),
         Reply::Done(trace) => push_considered(out, start, b"done", trace.as_slice()),
-        Reply::ByRule(rule, trace) => push_by_rule(out, start, rule, trace.as_slice()),
-        Reply::ByError(rule, refusal, trace) => {
-            push_by_error(out, start, rule, refusal, trace.as_slice())
+        Reply::ByRule(rule, trace) => push_by_rule(out, start, rule.name(), trace.as_slice()),
+        Reply::ByError(rule, error, trace) => {
+            push_by_error(out, start, rule.name(), error.refusal(), trace.as_slice())
         }
         Reply::ByLimit(trace) => push_considered(out, start, b"rolledback limit", trace.as_slice()),
         Reply::No(refusal) => push_no(out, start, refusal),

@@ -5,7 +5,7 @@ use Rattle.sb_tenant.proofs.told.told.Goals as goal
 
 pub returns-clause-told : goal.returns-clause-told
 returns-clause-told c = λ catalog same.
-    c.in_ok-reply.ensures catalog same ∙ (λ i. reply_of catalog c.args.processed.now.outcome ((c.in_ok-trace.ensures catalog same ∙ (λ j. named catalog (c.as_slice.ensures j))) i))
+    c.in_ok-reply.ensures catalog same ∙ (λ i. reply_of catalog c.args.processed.now.outcome ((c.in_ok-trace.ensures catalog same ∙ (λ j. named catalog (c.as_slice-turns.ensures j))) i))
 
 -- some catalog has these rules
 pub returns-clause-twice : goal.returns-clause-twice
