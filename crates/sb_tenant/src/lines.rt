@@ -1,5 +1,5 @@
 //! Short lines come again and again, so their bytes are kept once.
-ghost use Rattle.std.specs.Prelude.{◌≡◌, IfOk};
+ghost use Rattle.std.specs.Prelude.{◌≡◌, true, IfOk};
 
 use crate::reply::Line;
 use std::alloc::{AllocError, Global};
@@ -32,7 +32,7 @@ impl KnownLines {
             return Line::new(alloc, bytes);
         }
         for line in self.lines.as_slice() {
-            if line.as_slice() == bytes {
+            if is_same(line.as_slice(), bytes) {
                 return line.share();
             }
         }
@@ -43,4 +43,19 @@ impl KnownLines {
         }
         Ok(line)
     }
+}
+
+/// Whether two short lines have the same bytes: one by one, for they are few.
+fn is_same(one: &[u8], other: &[u8]) -> bool
+    ensures { result ≡ true → one.now ≡ other.now }
+{
+    if one.len() != other.len() {
+        return false;
+    }
+    for place in 0..one.len() {
+        if one[place] != other[place] {
+            return false;
+        }
+    }
+    true
 }

@@ -4,6 +4,7 @@ ghost use Rattle.sb_index.specs.TableSets.{TableSets};
 ghost use Rattle.sb_rawlog.specs.Records.{Record};
 ghost use Rattle.sb_syntax.specs.Text.{text_limit};
 ghost use Rattle.sb_tenant.specs.declared.reply.Reply.TheVariants as told;
+ghost use Rattle.sb_value.specs.Name.{same_name};
 ghost use Rattle.sb_tenant.specs.Limits.{entry_limit, is_session, trail_limit};
 ghost use Rattle.sb_catalog.specs.Definitions.{AreOrdered};
 ghost use Rattle.sb_tables.specs.Held.{entries};
@@ -297,7 +298,7 @@ impl Tenant {
     fn ends(&self, session: SessionId, line: &[u8]) -> bool
         ensures { result ≡ is_end_of_open (state self.now) session line.now }
     {
-        self.is_open(session) && line == END
+        self.is_open(session) && is_end(line)
     }
 
     /// Makes a step of the line in a trail with a place for it.
@@ -347,6 +348,16 @@ impl Tenant {
             number: Some(put(&mut self.trail, entry)),
             reply: copy,
         })
+    }
+}
+
+/// Whether the line is the one that ends a session.
+fn is_end(line: &[u8]) -> bool
+    ensures { result ≡ same_name line.now (codes "end") }
+{
+    match line {
+        [b'e', b'n', b'd'] => true,
+        _ => false,
     }
 }
 
