@@ -3,9 +3,8 @@ ghost use Rattle.std.specs.Prelude.{◌≡◌, ◌≤◌, option_map, length, if
 ghost use Rattle.std.specs.List.{list_all};
 ghost use Rattle.std.specs.Char.{is_ascii_digit};
 ghost use Rattle.std.specs.Str.Parse.{digits_value};
-ghost use Rattle.sb_wire.specs.Lines.{addressed_of, number_before, number_of, split_space};
-
-use memchr::memchr;
+ghost use Rattle.memchr.specs.Find.{IsFirstByte, is_byte};
+ghost use Rattle.sb_wire.specs.Lines.{addressed_of, number_before, number_of, space, split_space};
 
 /// The most digits of a number.
 const DIGITS: usize = 9;
@@ -47,8 +46,20 @@ pub fn number_before_space(bytes: &[u8]) -> Option<(u32, &[u8])>
 fn at_space(bytes: &[u8]) -> Option<(&[u8], &[u8])>
     ensures { option_map (λ p. (p.0.now, p.1.now)) result ≡ split_space bytes.now }
 {
-    let place = memchr(b' ', bytes)?;
+    let place = first_space(bytes)?;
     Some((&bytes[..place], &bytes[place + 1..]))
+}
+
+/// The place of the first space. Numbers are short, so it is near.
+fn first_space(bytes: &[u8]) -> Option<usize>
+    ensures { IsFirstByte (is_byte space) bytes.now result }
+{
+    for place in 0..bytes.len() {
+        if bytes[place] == b' ' {
+            return Some(place);
+        }
+    }
+    None
 }
 
 /// The number that these bytes are.
