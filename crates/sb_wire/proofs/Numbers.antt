@@ -1,9 +1,10 @@
--- One more digit of a number of at most nine.
-use Rattle.std.proofs.Common.{◌≡◌, ℕ, ◌+◌, ◌-◌, ◌*◌, ◌^◌, ◌<◌, ◌≤◌, true, ◌&&◌, List, length, take, get_or, refl, sym, ap, ◌∙◌, arith, lt-ltb, le-ltb, add-one}
+-- Digits of numbers.
+use Rattle.std.proofs.Common.{◌≡◌, ℕ, ◌+◌, ◌-◌, ◌*◌, ◌^◌, ◌<◌, ◌≤◌, true, ◌&&◌, List, length, decimal, [], ◌∷◌, take, get_or, refl, sym, ap, ◌∙◌, arith, lt-ltb, le-ltb, add-one}
 use Rattle.std.specs.Char.{digit_value, is_ascii_digit}
 use Rattle.std.specs.List.{list_all}
 use Rattle.std.specs.Str.Parse.{digits_value}
 use Rattle.std.proofs.Math.Nat.{pow-le-pow_right}
+use Rattle.std.proofs.lemmas.Fmt.{decimal_digit}
 use Rattle.std.proofs.lemmas.Int.Digits.{digits_value_more}
 use Rattle.std.proofs.lemmas.List.Folds.{list_all_more}
 
@@ -13,6 +14,10 @@ room n i small few = let few' : i ≤ 8 = omega arith in let most : 10 ^ i ≤ 1
 
 digit_value-digit : (d : ℕ) → 48 ≤ d → d ≤ 57 → digit_value d ≡ d - 48
 digit_value-digit d low high = rw (le-ltb d 48 low, lt-ltb d 58 (omega arith)) refl
+
+-- a number of one digit is that digit
+pub one_digit : (n : ℕ) → n < 10 → decimal n ≡ (48 + n) ∷ []
+one_digit n small = decimal_digit n small
 
 -- the number of one more digit
 pub value-more : (digits : List ℕ) (i d n : ℕ) → i < length digits → get_or digits i 0 ≡ d → 48 ≤ d → d ≤ 57 → n ≡ digits_value 10 (take i digits) → n * 10 + (d - 48) ≡ digits_value 10 (take (i + 1) digits)

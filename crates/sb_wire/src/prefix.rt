@@ -60,13 +60,18 @@ impl Prefix {
 }
 
 /// Adds the number and a space.
+#[tactic(auto, using(crate::proofs::Numbers::one_digit))]
 fn push_number(start: &mut ArrayVec<u8, START_LIMIT>, number: u32)
     requires { array_vec_len start.old + 11 ≤ 22 }
     ensures items { start.new.items ≡ start.old.items ++ decimal number ++ space ∷ [] }
     ensures len { array_vec_len start.new ≤ array_vec_len start.old + 11 }
 {
-    let mut buffer = Buffer::new();
-    // There is room for ten digits.
-    let _ = start.try_extend_from_slice(buffer.format(number).as_bytes());
+    if number < 10 {
+        start.push(b'0' + number as u8);
+    } else {
+        let mut buffer = Buffer::new();
+        // There is room for ten digits.
+        let _ = start.try_extend_from_slice(buffer.format(number).as_bytes());
+    }
     start.push(b' ');
 }
