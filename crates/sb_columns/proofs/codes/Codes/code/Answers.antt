@@ -6,8 +6,8 @@ use Rattle.sb_columns.specs.Codes.{InOrder, code_of, precedes}
 use Rattle.sb_columns.proofs.CodeLaws.{count_parted, count_seen, parted}
 use Rattle.sb_columns.proofs.codes.Codes.code.Goals as goal
 
-pub returns : goal.returns
-returns c =
+pub returns-clause-count : goal.returns-clause-count
+returns-clause-count c =
     let text : List ℕ = c.args.text.now in
     let up : InOrder c.deref.result.now = subst InOrder (sym c.deref.ensures.value) c.self.invariant in
     let part = IsPartitionPoint-from_clause (λ other. precedes other.now text) _ _ c.partition_point.ensures.partitioned (parted text _ up) (λ a r q k. search rules) in
