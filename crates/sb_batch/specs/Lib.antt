@@ -1,3 +1,3 @@
-pub mod Compiled
 pub mod Gathered
+pub mod Compiled
 pub mod Batch

@@ -7,6 +7,7 @@ mod compile;
 mod gather;
 mod names;
 mod parts;
+mod sides;
 
 pub use batch::{BATCHED, Batch};
 pub use gather::Gathered;
