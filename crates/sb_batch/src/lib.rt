@@ -9,5 +9,5 @@ mod names;
 mod parts;
 mod sides;
 
-pub use batch::{BATCHED, Batch};
+pub use batch::{BATCHED, Batch, Found};
 pub use gather::Gathered;

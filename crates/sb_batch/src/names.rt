@@ -1,9 +1,10 @@
-//! What a condition names.
+//! What a query names.
 ghost use Rattle.std.specs.Prelude.{◌≡◌, ◌<◌, get_or, length, IfSome};
 ghost use Rattle.std.specs.Bool.{OnTrue};
 
 use sb_check::{
-    Column, Condition, ConditionNode, Expression, ExpressionNode, Operand, OperandNode,
+    Column, Condition, ConditionNode, Expression, ExpressionNode, Items, Operand, OperandNode,
+    Query,
 };
 use sb_plan::Known;
 use sb_value::Value;
@@ -28,7 +29,7 @@ fn place_of(columns: &[Column], column: Column) -> Option<usize>
     None
 }
 
-/// The columns that a condition names, each once, and its literal texts.
+/// The columns that a query names, each once, and its literal texts.
 #[derive(Drop)]
 pub(crate) struct Named<'c> {
     pub(crate) columns: Vec<Column>,
@@ -81,13 +82,24 @@ fn add_condition<'c>(c: &'c Condition, named: &mut Named<'c>) -> Result<(), Allo
     }
 }
 
-/// What a condition names.
-pub(crate) fn named_in<'c>(alloc: Global, c: &'c Condition) -> Option<Named<'c>> {
+/// Adds those of what a sum adds.
+fn add_items<'c>(items: &'c Items, named: &mut Named<'c>) -> Result<(), AllocError> {
+    match items {
+        Items::Sum(e) => add_expression(e, named),
+        Items::All | Items::Count | Items::Each(_) => Ok(()),
+    }
+}
+
+/// What a query names in its condition and in its sum.
+pub(crate) fn named_in<'c>(alloc: Global, q: &'c Query) -> Option<Named<'c>> {
     let mut named = Named {
         columns: Vec::new(alloc),
         texts: Vec::new(alloc),
     };
-    match add_condition(c, &mut named) {
+    if add_condition(&q.condition, &mut named).is_err() {
+        return None;
+    }
+    match add_items(&q.items, &mut named) {
         Ok(()) => Some(named),
         Err(_) => None,
     }
