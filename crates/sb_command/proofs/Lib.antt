@@ -4,6 +4,7 @@ mod Servers
 mod Commands
 mod Dumped
 mod Loaded
+mod Called
 mod Written
 mod Digests
 mod Sending

@@ -55,10 +55,6 @@ one_sent old new t own a taken answers = by (hosts old t) answers
         }
 
 -- what holds where it went well
-pub on_ok : {A E P : Type 0} (r : Result A E) → P → OnOk r P
-on_ok (Ok a) holds = holds
-on_ok (Err e) holds = tt
-
 pub where_ok : {A E P Q : Type 0} (r : Result A E) → (P → Q) → OnOk r P → OnOk r Q
 where_ok (Ok a) shows holds = shows holds
 where_ok (Err e) shows holds = tt
@@ -112,7 +108,7 @@ module _ (t : ℕ) where
       still (q ∷ qs) next = next.4
 
 -- a file that was read to its end has the lines that were answered
-read_whole : (file rest : Option (List ℕ)) (seen : List ℕ) (pieces : List Piece) (lines : List (List ℕ)) → Consumes file rest seen → IsAtEnd rest
+pub read_whole : (file rest : Option (List ℕ)) (seen : List ℕ) (pieces : List Piece) (lines : List (List ℕ)) → Consumes file rest seen → IsAtEnd rest
     → pieces ≡ pieces_of seen → pieces ≡ map line lines → HasLines file lines
 read_whole None rest seen pieces lines reads ended whole are = tt
 read_whole (Some bytes) None seen pieces lines reads ended whole are = absurd reads

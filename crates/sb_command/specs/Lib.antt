@@ -4,6 +4,7 @@ pub mod Parsing
 pub mod Digesting
 pub mod Dumping
 pub mod Loading
+pub mod Calling
 pub mod Playing
 pub mod Does
 pub mod Faults

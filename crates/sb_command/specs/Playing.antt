@@ -1,16 +1,19 @@
 -- Promise: how the lines of a file are played.
 use Rattle.std.specs.Prelude.{◌≡◌, ◌⊎◌, ◌==◌, ℕ, Bool, true, false, List, [], ◌∷◌, map, Option, None, Some, option_map, IfSome, Result, Ok, Err, IsFalse, ⊤}
 use Rattle.sb_cell.specs.declared.StepError.{StepError}
-use Rattle.sb_cell.specs.Tenants.{AnswersEvent, Cell as ItsCell, IsSame, states}
+use Rattle.sb_cell.specs.Tenants.{AnswersEvent, Cell as ItsCell, IsSame, states, tenant_at}
 use Rattle.sb_dump.specs.Dumps.{as_session, whole_session}
-use Rattle.sb_tenant.specs.State.{State}
+use Rattle.sb_tenant.specs.State.{Session, State, has_transaction, is_open, session_at}
 use Rattle.sb_tenant.specs.Step.{step}
+use Rattle.sb_tenant.specs.Tenant.{Tenant as ItsTenant, state}
 use Rattle.sb_tenant.specs.Trail.{state_after}
 use Rattle.sb_tenant.specs.declared.reply.Answer.{Answer}
 use Rattle.sb_tenant.specs.declared.reply.Reply.{Reply}
 use Rattle.sb_tenant.specs.declared.reply.Reply.TheVariants as reply
 use Rattle.sb_wire.specs.Lines.{Piece, line, too_long, pieces_of}
 use Rattle.sb_command.specs.declared.playing.Progress.{Progress}
+use Rattle.sb_command.specs.declared.playing.Unplayed.{Unplayed}
+use Rattle.sb_command.specs.declared.playing.Unplayed.TheVariants as unplayed
 
 -- a reply to a line of a script: nothing was refused, and no rule was considered
 abbrev pub IsTaken : Reply → Type 0
@@ -23,6 +26,17 @@ IsTaken other = ⊥
 abbrev pub IsUntaken : Result Answer StepError → Type 0
 IsUntaken (Ok answer) = IsTaken answer.reply → ⊥
 IsUntaken (Err why) = ⊤
+
+-- A script may end where its session is open and has no transaction, and nowhere else; then this is why it may not.
+abbrev pub MayEnd : Session → Option Unplayed → Type 0
+MayEnd session None = (is_open session ≡ true) × (has_transaction session ≡ false)
+MayEnd session (Some unplayed.InTransaction) = has_transaction session ≡ true
+MayEnd session (Some unplayed.Ended) = is_open session ≡ false
+MayEnd session (Some why) = ⊥
+
+-- a tenant's script may end where its first session stands in the cell
+abbrev pub IsSettled : ℕ → ItsCell → Type 0
+IsSettled t cell = (own : ItsTenant) × (tenant_at cell t ≡ Some own) × MayEnd (session_at (state own) 0) None
 
 -- lines of a tenant's first session, one after another, each of which has such a reply
 abbrev pub AreTaken : ℕ → ℕ → State → List (List ℕ) → Type 0

@@ -13,6 +13,7 @@ use crate::listening::listen;
 use crate::loading::load_all;
 use crate::memory::memory_file;
 use crate::saving::save_all;
+use crate::script_source::FolderScripts;
 use crate::server::{OUT_OF_MEMORY, opened_by, unserved};
 use crate::showing::Pages;
 use crate::terms::{Plan, plan_of};
@@ -325,7 +326,12 @@ impl<
         if !self.has_folder(folder) {
             return Err(Fault::NoFolder);
         }
-        load_all(self.rt, self.alloc, self.host, folder, self.journal)
+        let scripts = FolderScripts {
+            rt: self.rt,
+            folder,
+            journal: self.journal,
+        };
+        load_all(self.rt, self.alloc, self.host, folder.first, &scripts)
     }
 
     /// Writes the tenants to their files, if that is asked for.

@@ -1,18 +1,20 @@
-//! The tenants of a host, made from the files of a folder.
-ghost use Rattle.std.specs.Prelude.{◌≡◌, [], false};
+//! The tenants of a host, made from their files.
+ghost use Rattle.std.specs.Prelude.{◌≡◌, ◌⊎◌, ◌+◌, ◌++◌, List, ℕ, false, IfErr, IfOk, OnErr, OnOk, option_to_list};
+ghost use Rattle.sb_command.specs.Calling.{CallsBy, IsPlayedIn, IsUnplayedOf, LeaveAll, LeavesFor, RefusesCall, TakesCall, TakesCalls};
+ghost use Rattle.sb_command.specs.Playing.{HasLines};
+ghost use Rattle.sb_command.specs.declared.fault.Fault.TheVariants as fault;
+ghost use Rattle.sb_wire.specs.Seen.{piece_seen};
+ghost use Rattle.sb_wire.specs.declared.fault.StreamError.TheVariants as stream;
 
 use crate::dumping::Nowhere;
 use crate::fault::Fault;
-use crate::folder::Folder;
-use crate::journal::Journal;
-use crate::playing::{Progress, Unplayed, is_taken, unsettled};
+use crate::playing::{Progress, Unplayed, is_taken, told, unsettled};
+use crate::script_source::{ScriptSource, Unopened};
 use sb_host::{Host, Naming, Reading, Session, Stub};
 use sb_tenant::Tenant;
-use sb_wire::{Fallible, Piece, Responder, StreamError, answer_stream, write_bare_reply};
+use sb_wire::{Fallible, Piece, Responder, StreamError, answer_stream};
 use std::alloc::{AllocError, Global};
-use std::fs;
-use std::io::{ErrorKind, Read};
-use std::rt::{Clock, Files};
+use std::io::Read;
 use std::sync::Wait;
 
 const OUT_OF_MEMORY: Fault = Fault::Stream(StreamError::NoMemory);
@@ -24,9 +26,9 @@ struct Player<'r, T> {
 }
 
 impl<'r, 'h, T: Wait, N: Naming> Responder<Session<'h, N>, Progress> for Player<'r, T> {
-    ghost use Rattle.std.specs.Prelude.{⊤};
+    ghost use Rattle.sb_command.specs.Calling.{CallsLine};
 
-    ghost responds = { λ _ _ _ _ _. ⊤ };
+    ghost responds = { λ _. CallsLine };
 
     ghost over = { λ p. p.1.is_bad };
 
@@ -54,72 +56,104 @@ fn play_line<T: Wait, N: Naming>(
     piece: Piece<'_>,
     session: &mut Session<'_, N>,
     progress: &mut Progress,
-) {
+)
+    ensures { CallsBy progress.new.is_bad session.old (piece_seen piece.entry) session.new }
+{
     progress.line = progress.line.saturating_add(1);
+    progress.is_bad = true;
     let Piece::Line(line) = piece else {
-        progress.is_bad = true;
         return;
     };
-    match session.call(rt, alloc, line) {
-        Ok(answer) if is_taken(&answer.reply) => {}
-        Ok(answer) => {
-            progress.is_bad = true;
-            // where there is no memory for it, the line's number is told alone
-            let _told = write_bare_reply(&mut progress.told, &answer.reply);
-        }
-        Err(_) => progress.is_bad = true,
+    match call(rt, alloc, line, session) {
+        Ok(()) => progress.is_bad = false,
+        Err(told) => progress.told = told,
     }
 }
 
-/// Plays the file of each tenant that has one, and leaves the receipts of the sessions.
-pub(crate) fn load_all<T: Wait + Eprint + Clock + Files, N: Naming>(
+/// Calls the session with a line, or gives what it was answered where it isn't taken.
+fn call<T: Wait, N: Naming>(
+    rt: &T,
+    alloc: Global,
+    line: &[u8],
+    session: &mut Session<'_, N>,
+) -> Result<(), Vec<u8>>
+    ensures ok { OnOk result (TakesCall session.old line.now session.new) }
+    ensures err { OnErr result (RefusesCall session.old line.now session.new) }
+{
+    match session.call(rt, alloc, line) {
+        Ok(answer) => match is_taken(&answer.reply) {
+            true => Ok(()),
+            false => Err(told(alloc, &answer.reply)),
+        },
+        Err(_) => Err(Vec::new(alloc)),
+    }
+}
+
+/// Plays the file of each tenant that has one, and leaves the receipts of the sessions. Tenants are told by their
+/// numbers, of which this is the first one.
+pub(crate) fn load_all<T: Wait, N: Naming, F: Read + Drop, S: ScriptSource<F>>(
     rt: &T,
     alloc: Global,
     host: &Host<N>,
-    folder: Folder<'_>,
-    journal: &Journal<'_, T>,
-) -> Result<Vec<Stub>, Fault> {
+    first: u32,
+    scripts: &S,
+) -> Result<Vec<Stub>, Fault>
+    ensures ok { IfOk result (λ stubs. LeaveAll (S.files scripts.now) host.now stubs.items) }
+    ensures err { IfErr result (IsUnplayedOf first host.now) }
+{
     let mut stubs = Vec::new(alloc);
     for tenant in 0..host.tenants() {
-        match load_one(rt, alloc, host, folder, journal, tenant) {
-            Ok(Some(stub)) => {
-                if stubs.push(stub).is_err() {
-                    return Err(OUT_OF_MEMORY);
-                }
-            }
-            Ok(None) => {}
+        match load_one(rt, alloc, host, first, scripts, tenant) {
+            Ok(own) => match add(&mut stubs, own) {
+                Ok(()) => {}
+                Err(why) => return Err(why),
+            },
             Err(why) => return Err(why),
         }
     }
     Ok(stubs)
 }
 
+/// Adds what a tenant's session left, if there was one.
+fn add(stubs: &mut Vec<Stub>, own: Option<Stub>) -> Result<(), Fault>
+    ensures ok { OnOk result (stubs.new.items ≡ stubs.old.items ++ option_to_list own) }
+    ensures err { IfErr result (λ why. why ≡ fault.Stream stream.NoMemory) }
+{
+    match own {
+        Some(stub) => match stubs.push(stub) {
+            Ok(()) => Ok(()),
+            Err(_) => Err(OUT_OF_MEMORY),
+        },
+        None => Ok(()),
+    }
+}
+
 /// Plays the file of a tenant, if there is one.
-fn load_one<T: Wait + Eprint + Clock + Files, N: Naming>(
+fn load_one<T: Wait, N: Naming, F: Read + Drop, S: ScriptSource<F>>(
     rt: &T,
     alloc: Global,
     host: &Host<N>,
-    folder: Folder<'_>,
-    journal: &Journal<'_, T>,
+    first: u32,
+    scripts: &S,
     tenant: u32,
-) -> Result<Option<Stub>, Fault> {
-    let number = folder.number_of(tenant);
-    let Ok(path) = folder.file_of(alloc, number) else {
-        return Err(OUT_OF_MEMORY);
+) -> Result<Option<Stub>, Fault>
+    ensures ok { IfOk result (LeavesFor tenant (S.files scripts.now tenant)) }
+    ensures err { IfErr result (λ why. (why ≡ fault.Stream stream.NoMemory) ⊎ (why ≡ fault.CannotLoad (first + tenant))) }
+{
+    let unplayed = Fault::CannotLoad {
+        tenant: u64::from(first) + u64::from(tenant),
     };
-    match fs::open(rt, path.as_str()) {
-        Ok(file) => match play(rt, alloc, host, tenant, file) {
+    match scripts.open(alloc, tenant) {
+        Ok(Some(file)) => match play(rt, alloc, host, tenant, file) {
             Ok(stub) => Ok(Some(stub)),
             Err(why) => {
-                journal.tell_unplayed(number, &why);
-                Err(Fault::CannotLoad { tenant: number })
+                scripts.note(tenant, &why);
+                Err(unplayed)
             }
         },
-        Err(error) if error.kind() == ErrorKind::NotFound => Ok(None),
-        Err(error) => {
-            journal.tell_cannot_read(number, &error);
-            Err(Fault::CannotLoad { tenant: number })
-        }
+        Ok(None) => Ok(None),
+        Err(Unopened::CannotRead) => Err(unplayed),
+        Err(Unopened::NoMemory) => Err(OUT_OF_MEMORY),
     }
 }
 
@@ -130,9 +164,11 @@ struct Ending {
 }
 
 impl Reading for Ending {
-    ghost use Rattle.std.specs.Prelude.{⊤};
+    ghost use Rattle.sb_command.specs.Playing.{MayEnd};
+    ghost use Rattle.sb_tenant.specs.State.{session_at};
+    ghost use Rattle.sb_tenant.specs.Tenant.{state};
 
-    ghost reads = { λ _ _ _. ⊤ };
+    ghost reads = { λ _ own new. MayEnd (session_at (state own) 0) new.why };
 
     fn read(&mut self, tenant: &Tenant) {
         self.why = unsettled(tenant);
@@ -146,10 +182,39 @@ fn play<T: Wait, N: Naming, F: Read + Drop>(
     host: &Host<N>,
     tenant: u32,
     file: F,
-) -> Result<Stub, Unplayed> {
+) -> Result<Stub, Unplayed>
+    ensures { IfOk result (λ stub. (lines : List (List ℕ)) × HasLines (F.remaining file) lines × IsPlayedIn tenant lines stub) }
+{
     let Ok(mut session) = host.attach(rt, alloc, tenant, 0) else {
         return Err(Unplayed::NoSession);
     };
+    let played = play_lines(rt, alloc, &mut session, file);
+    let mut ending = Ending { why: None };
+    let _is_there = host.read(rt, tenant, &mut ending);
+    let has_ended = session.ended();
+    let stub = session.close(rt);
+    match played {
+        Ok(()) => {}
+        Err(why) => return Err(why),
+    }
+    if has_ended {
+        return Err(Unplayed::Ended);
+    }
+    match ending.why {
+        Some(why) => Err(why),
+        None => Ok(stub),
+    }
+}
+
+/// Calls a session with the lines of a file.
+fn play_lines<T: Wait, N: Naming, F: Read + Drop>(
+    rt: &T,
+    alloc: Global,
+    session: &mut Session<'_, N>,
+    file: F,
+) -> Result<(), Unplayed>
+    ensures { OnOk result ((lines : List (List ℕ)) × HasLines (F.remaining file) lines × TakesCalls lines session.old session.new) }
+{
     let mut reader = Fallible { inner: file };
     let mut progress = Progress::new(alloc);
     let player = Player { rt };
@@ -158,21 +223,15 @@ fn play<T: Wait, N: Naming, F: Read + Drop>(
         &mut reader,
         &mut Nowhere,
         &player,
-        &mut session,
+        session,
         &mut progress,
     );
-    let mut ending = Ending { why: None };
-    let _is_there = host.read(rt, tenant, &mut ending);
-    let stub = session.close(rt);
     let Progress { line, is_bad, told } = progress;
     if is_bad {
         return Err(Unplayed::Line { line, told });
     }
-    if let Err(error) = ended {
-        return Err(Unplayed::Stream(error));
-    }
-    match ending.why {
-        Some(why) => Err(why),
-        None => Ok(stub),
+    match ended {
+        Ok(()) => Ok(()),
+        Err(error) => Err(Unplayed::Stream(error)),
     }
 }

@@ -2,8 +2,10 @@
 ghost use Rattle.std.specs.Prelude.{◌≡◌, ◌⊎◌, ◌∷◌, ◌↔◌, [], List, ℕ, false, IfErr, IfOk, IsTrue, OnErr, OnOk};
 ghost use Rattle.sb_cell.specs.Tenants.{IsNew};
 ghost use Rattle.sb_command.specs.Loading.{IsLoaded, IsLoadedFrom, IsUnloaded};
-ghost use Rattle.sb_command.specs.Playing.{HasLines, IsPlayed, IsStarted, IsTaken, PlaysBy, RefusesLine, Sends, TakesLine};
+ghost use Rattle.sb_command.specs.Playing.{HasLines, IsPlayed, IsSettled, IsStarted, IsTaken, MayEnd, PlaysBy, RefusesLine, Sends, TakesLine};
 ghost use Rattle.sb_command.specs.declared.fault.Fault.TheVariants as fault;
+ghost use Rattle.sb_tenant.specs.State.{session_at};
+ghost use Rattle.sb_tenant.specs.Tenant.{state};
 ghost use Rattle.sb_wire.specs.Seen.{piece_seen};
 ghost use Rattle.sb_wire.specs.declared.fault.StreamError.TheVariants as stream;
 ghost use Rattle.sb_words.specs.Within.{AreRun};
@@ -72,7 +74,9 @@ pub(crate) fn is_taken(reply: &Reply) -> bool
 }
 
 /// Why a script may not end where a tenant's first session stands so.
-pub(crate) fn unsettled(tenant: &Tenant) -> Option<Unplayed> {
+pub(crate) fn unsettled(tenant: &Tenant) -> Option<Unplayed>
+    ensures { MayEnd (session_at (state tenant.now) 0) result }
+{
     let first = SessionId::new(0);
     if tenant.has_transaction(first) {
         return Some(Unplayed::InTransaction);
@@ -205,7 +209,8 @@ fn play_lines<F: Read + Drop>(
     tenant: u32,
     file: F,
 ) -> Result<(), Unplayed>
-    ensures { OnOk result ((lines : List (List ℕ)) × HasLines (F.remaining file) lines × Sends tenant lines cell.old cell.new) }
+    ensures { OnOk result ((lines : List (List ℕ)) × HasLines (F.remaining file) lines × Sends tenant lines cell.old cell.new
+        × IsSettled tenant cell.new) }
 {
     let mut reader = Fallible { inner: file };
     let mut progress = Progress::new(alloc);
@@ -229,7 +234,9 @@ fn play_lines<F: Read + Drop>(
 }
 
 /// Whether a script may end where the tenant's session stands so.
-fn check_end(cell: &Cell, tenant: u32) -> Result<(), Unplayed> {
+fn check_end(cell: &Cell, tenant: u32) -> Result<(), Unplayed>
+    ensures { OnOk result (IsSettled tenant cell.now) }
+{
     match cell.tenant(tenant) {
         Some(own) => match unsettled(own) {
             Some(why) => Err(why),
@@ -299,7 +306,7 @@ fn send(alloc: Global, cell: &mut Cell, tenant: u32, line: &[u8]) -> Result<(), 
 }
 
 /// The text of a reply. Where there is no memory for it, there is none.
-fn told(alloc: Global, reply: &Reply) -> Vec<u8> {
+pub(crate) fn told(alloc: Global, reply: &Reply) -> Vec<u8> {
     let mut text = Vec::new(alloc);
     let _told = write_bare_reply(&mut text, reply);
     text
