@@ -261,8 +261,8 @@ def idle_end(program):
     print(f"--idle 1: closed after {seconds:.1f} s; {told}")
 
 
-# A condition that no two rows meet, and that looks at all its parts. The text has it walked row by row.
-LONG = b" or ".join([b"x.a + y.a < 0"] * 200 + [b"'b' < 'a'"])
+# A condition that no two rows meet, and that looks at all its parts. A query that names a row around it has it walked row by row.
+LONG = b" or ".join([b"x.a + y.a < 0"] * 200 + [b"exists (select * from none z where z.a = x.a)"])
 
 
 def long_statement(stream, seconds):
@@ -276,7 +276,7 @@ def long_statement(stream, seconds):
     def statement(table):
         return b"select count(*) from %s x, %s y where %s\n" % (table, table, LONG)
 
-    say(stream, b"create table few (a int)\ncreate table many (a int)\nbegin\n")
+    say(stream, b"create table none (a int)\ncreate table few (a int)\ncreate table many (a int)\nbegin\n")
     fill(b"few", 256)
     times = []
     for _ in range(3):
