@@ -9,7 +9,6 @@ use Rattle.sb_tables.specs.Stored.{Stored}
 use Rattle.sb_tables.specs.Held.{Held, entries, numbered, has_number, stored_at, with_stored}
 use Rattle.sb_process.specs.Made.{AreNumbered, EachBelow, NumbersBelow, tables_after, without_room}
 use Rattle.sb_process.specs.Make.{Makes}
-use Rattle.sb_process.specs.declared.ready.Ready.{Ready}
 use Rattle.sb_process.specs.Ready.{CanApply, HavePlacesFor, made_of}
 use Rattle.sb_process.proofs.Making.{entries-room, entries-after, room-with_stored, table-stored}
 use Rattle.sb_process.proofs.Makes.{written_on}
@@ -82,6 +81,6 @@ below_after n c (e ∷ tables) b = (by (nat_eq e.id c.table), below_after n c ta
 pub below_one : (n : ℕ) (c : Change) (old new : List Held) → AreNumbered old → Makes c old new → NumbersBelow n old → NumbersBelow (n + 1) new
 below_one n c old new numbered made b = subst (EachBelow (n + 1)) (sym (made_rows c old new numbered made)) (below_after n c (entries old) b)
 
-pub none_left : (list : List Ready) → length list ≡ 0 → list ≡ []
+pub none_left : (list : List Change) → length list ≡ 0 → list ≡ []
 none_left [] e = refl
-none_left (r ∷ rs) e = absurd (omega arith)
+none_left (c ∷ cs) e = absurd (omega arith)

@@ -1,6 +1,7 @@
 -- Room and copies for changes.
-use Rattle.std.proofs.Common.{◌≡◌, ◌∙◌, ℕ, ◌+◌, ◌-◌, ◌^◌, ◌<◌, ◌≤◌, Bool, true, false, not, cond, length, nat_eq, List, [], ◌∷◌, ◌++◌, map, Some, Result, Ok, Err, OnOk, OnErr, option_map, unwrap_or, refl, sym, ap, subst, arith, eqb-true}
+use Rattle.std.proofs.Common.{◌≡◌, ◌∙◌, ℕ, ◌+◌, ◌-◌, ◌^◌, ◌<◌, ◌≤◌, Bool, true, false, not, cond, length, nat_eq, suc, get_or, drop, Option, List, [], ◌∷◌, ◌++◌, map, Some, Result, Ok, Err, OnOk, OnErr, option_map, unwrap_or, refl, sym, ap, subst, arith, eqb-true}
 use Rattle.std.specs.declared.alloc.AllocError.{AllocError}
+use Rattle.std.proofs.Math.Seq.{drop-cons}
 use Rattle.std.proofs.lemmas.List.{length-append, length-map}
 use Rattle.sb_value.specs.declared.value.Value.{Value}
 use Rattle.sb_value.specs.declared.change.Change.{Change}
@@ -13,10 +14,9 @@ use Rattle.sb_eval.specs.Laws.{inserts, counted_with, AreMakeable}
 use Rattle.sb_tables.specs.Undo.{places_after}
 use Rattle.sb_tables.specs.Stored.{Stored}
 use Rattle.sb_tables.specs.Held.{Held, entries, numbered, has_number, stored_at, with_stored, reserved}
-use Rattle.sb_process.specs.declared.ready.Ready.{Ready}
 use Rattle.sb_process.specs.Made.{AreNumbered, AreStored, EachBelow, NumbersBelow, without_room}
 use Rattle.sb_process.specs.Make.{HasPlaceFor, room_after}
-use Rattle.sb_process.specs.Ready.{AreCopied, CanApply, HavePlacesFor, changes_in}
+use Rattle.sb_process.specs.Ready.{CanApply, HavePlacesFor, copies_of}
 use Rattle.sb_process.specs.declared.database.Database.{Database}
 use Rattle.sb_process.specs.Represents.{Represents}
 use Rattle.sb_process.specs.Setting.{Setting, Progress}
@@ -51,13 +51,22 @@ same_rows (Err f) id more old new n ok err = ap (map without_room) err
 
 -- ---- copies
 
-pub changes_push : (list : List Ready) (r : Ready) → changes_in (list ++ r ∷ []) ≡ changes_in list ++ r.change ∷ []
-changes_push [] r = refl
-changes_push (q ∷ list) r = ap (λ (l : List Change). q.change ∷ l) (changes_push list r)
+-- one change more, in front of those that were copied
+pub copied_more : (list : List Change) (left : ℕ) (c : Change) → left < length list → c ≡ get_or list left c → copies_of (drop left list) ≡ copies_of (drop (left + 1) list) ++ c.new ∷ []
+copied_more list left c less at =
+    let next : suc left ≡ left + 1 = omega arith in
+    ap copies_of (drop-cons list left c less) ∙ (λ i. copies_of (drop (next i) list) ++ (sym at i).new ∷ [])
 
-pub copied_push : (list : List Ready) (r : Ready) → AreCopied list → r.copy ≡ r.change.new → AreCopied (list ++ r ∷ [])
-copied_push [] r h e = (e, tt)
-copied_push (q ∷ list) r h e = (h.0, copied_push list r h.1 e)
+-- the last element is one, and so are those in front of it
+pub last_same : (xs ys : List (Option (List Value))) (x y : Option (List Value)) → xs ++ x ∷ [] ≡ ys ++ y ∷ [] → (xs ≡ ys) × (x ≡ y)
+last_same [] [] x y e = (refl, cc)
+last_same [] (b ∷ ys) x y e = absurd (omega (arith, simp length-append at (ap length e)))
+last_same (a ∷ xs) [] x y e = absurd (omega (arith, simp length-append at (ap length e)))
+last_same (a ∷ xs) (b ∷ ys) x y e =
+    let front : a ≡ b = cc in
+    let behind : xs ++ x ∷ [] ≡ ys ++ y ∷ [] = cc in
+    let rest = last_same xs ys x y behind in
+    ((λ i. front i ∷ rest.0 i), rest.1)
 
 -- ---- places
 

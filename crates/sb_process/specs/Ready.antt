@@ -1,6 +1,7 @@
 -- Machine: changes that are ready to be made: nothing of them needs memory any more.
-use Rattle.std.specs.Prelude.{◌≡◌, ◌⊎◌, ℕ, List, [], ◌∷◌, map, Result, Err, IsTrue}
+use Rattle.std.specs.Prelude.{◌≡◌, ◌⊎◌, ℕ, List, [], ◌∷◌, ◌++◌, Option, Result, Err, IsTrue}
 use Rattle.sb_value.specs.declared.change.Change.{Change}
+use Rattle.sb_value.specs.declared.value.Value.{Value}
 use Rattle.sb_value.specs.declared.id.Who.{Who}
 use Rattle.sb_value.specs.declared.refusal.Refusal.{Refusal}
 use Rattle.sb_value.specs.declared.refusal.Refusal.TheVariants.{NoMemory}
@@ -9,7 +10,6 @@ use Rattle.sb_eval.specs.Laws.{AreChangesOf}
 use Rattle.sb_tables.specs.Stored.{Stored}
 use Rattle.sb_tables.specs.Held.{Held, entries, has_number, stored_at}
 use Rattle.sb_tables.specs.Undo.{stored_after}
-use Rattle.sb_process.specs.declared.ready.Ready.{Ready}
 use Rattle.sb_process.specs.Made.{AreNumbered}
 use Rattle.sb_process.specs.Make.{HasPlaceFor, room_after}
 use Rattle.sb_rawlog.specs.Records.{Record}
@@ -18,14 +18,10 @@ use Rattle.sb_process.specs.Represents.{Represents}
 use Rattle.sb_process.specs.Setting.{Setting, Progress}
 use Rattle.sb_process.specs.Statement.{with_changes_of, counted}
 
--- the changes by themselves
-abbrev pub changes_in : List Ready → List Change
-changes_in list = map (λ r. r.change) list
-
--- each has a copy of its new row
-abbrev pub AreCopied : List Ready → Type 0
-AreCopied [] = Unit {0}
-AreCopied (r ∷ rs) = (r.copy ≡ r.change.new) × AreCopied rs
+-- the new rows of the changes, that of the first change last
+abbrev pub copies_of : List Change → List (Option (List Value))
+copies_of [] = []
+copies_of (c ∷ cs) = copies_of cs ++ c.new ∷ []
 
 -- what is stored once a change is made, with the room that is left
 abbrev pub made_of : Change → Stored → Stored

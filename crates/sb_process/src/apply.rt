@@ -8,7 +8,7 @@ ghost use Rattle.sb_tables.specs.Held.{has_number, stored_at};
 ghost use Rattle.sb_locks.specs.Held.{held};
 ghost use Rattle.sb_process.specs.Made.{NumbersBelow};
 ghost use Rattle.sb_process.specs.Make.{HasPlaceFor, Makes};
-ghost use Rattle.sb_process.specs.Ready.{AreCopied, CanApply, changes_in};
+ghost use Rattle.sb_process.specs.Ready.{CanApply, copies_of};
 ghost use Rattle.sb_process.specs.Represents.{Represents, who_in};
 ghost use Rattle.sb_process.specs.Transactions.{OtherSessionsStay};
 ghost use Rattle.sb_process.specs.Running.{EachRunning};
@@ -18,7 +18,7 @@ use crate::make::make;
 use crate::ready::Ready;
 use sb_index::RuleIndex;
 use sb_rawlog::ChangeLog;
-use sb_value::{SessionId, TableId, last_change_triggers, proper_lists_have_lives};
+use sb_value::{Change, Row, SessionId, TableId, last_change_triggers, proper_lists_have_lives};
 
 impl Database {
     /// Makes the session's changes of a table, in order.
@@ -28,25 +28,32 @@ impl Database {
         index: &RuleIndex,
         session: SessionId,
         target: TableId,
-        list: Vec<Ready>,
+        ready: Ready,
     )
-        requires can { CanApply self.old.tables (who_in self.old session) target (changes_in list.items) }
-        requires copied { AreCopied list.items }
+        requires can { CanApply self.old.tables (who_in self.old session) target ready.changes.items }
+        requires copied { ready.copies.items ≡ copies_of ready.changes.items }
         requires locked { IsTrue (held self.old.locks session target mode.Write) }
-        requires room { length list.items ≤ L.room log.old }
-        requires clock { L.clock log.old + length list.items < 2 ^ 64 }
+        requires room { length ready.changes.items ≤ L.room log.old }
+        requires clock { L.clock log.old + length ready.changes.items < 2 ^ 64 }
         ensures all { EachRunning self.old session (L.records log.old) (L.clock log.old) index.now
             (λ origin setting progress. Represents origin self.new session (L.records log.new) (L.clock log.new) setting
-            (record progress { changes = progress.changes ++ changes_in list.items })) }
+            (record progress { changes = progress.changes ++ ready.changes.items })) }
         ensures id { self.new.id ≡ self.old.id }
         ensures sessions { OtherSessionsStay self.old.transactions self.new.transactions session }
         ensures others { OthersStay (who_in self.old session) (L.records log.old) (L.records log.new) }
-        ensures clock { L.clock log.new ≡ L.clock log.old + length list.items }
+        ensures clock { L.clock log.new ≡ L.clock log.old + length ready.changes.items }
         ensures numbers { (n : ℕ) → NumbersBelow n self.old.tables
-            → NumbersBelow (n + length list.items) self.new.tables }
+            → NumbersBelow (n + length ready.changes.items) self.new.tables }
     {
-        for ready in list {
-            self.apply_one(log, index, session, ready);
+        let Ready {
+            changes,
+            mut copies,
+        } = ready;
+        for change in changes {
+            let Some(copy) = copies.pop() else {
+                unreachable!()
+            };
+            self.apply_one(log, index, session, change, copy);
         }
     }
 
@@ -56,20 +63,21 @@ impl Database {
         log: &mut L,
         index: &RuleIndex,
         session: SessionId,
-        ready: Ready,
+        change: Change,
+        copy: Option<Row>,
     )
-        requires by { author ready.change ≡ who_in self.old session }
-        requires there { IsTrue (has_number self.old.tables ready.change.table) }
-        requires fits { fits_kind ready.change.kind ready.change (stored_at self.old.tables ready.change.table).table }
-        requires place { HasPlaceFor ready.change.kind (stored_at self.old.tables ready.change.table) }
-        requires copied { ready.copy ≡ ready.change.new }
-        requires locked { IsTrue (held self.old.locks session ready.change.table mode.Write) }
+        requires by { author change ≡ who_in self.old session }
+        requires there { IsTrue (has_number self.old.tables change.table) }
+        requires fits { fits_kind change.kind change (stored_at self.old.tables change.table).table }
+        requires place { HasPlaceFor change.kind (stored_at self.old.tables change.table) }
+        requires copied { copy ≡ change.new }
+        requires locked { IsTrue (held self.old.locks session change.table mode.Write) }
         requires room { 0 < L.room log.old }
         requires clock { L.clock log.old < 2 ^ 64 - 1 }
         ensures one { EachRunning self.old session (L.records log.old) (L.clock log.old) index.now
             (λ origin setting progress. Represents origin self.new session (L.records log.new) (L.clock log.new) setting
-            (record progress { changes = progress.changes ++ ready.change ∷ [] })) }
-        ensures makes { Makes ready.change self.old.tables self.new.tables }
+            (record progress { changes = progress.changes ++ change ∷ [] })) }
+        ensures makes { Makes change self.old.tables self.new.tables }
         ensures id { self.new.id ≡ self.old.id }
         ensures locks { self.new.locks ≡ self.old.locks }
         ensures sessions { OtherSessionsStay self.old.transactions self.new.transactions session }
@@ -80,7 +88,6 @@ impl Database {
         // for the proof: a rule that a new change triggers is one that names it
         last_change_triggers();
         proper_lists_have_lives();
-        let Ready { change, copy } = ready;
         make(&mut self.tables, &change, copy);
         self.transactions.join(session, index.candidates(&change));
         log.append(change);

@@ -20,10 +20,10 @@ ghost use Rattle.sb_process.specs.View.{seen_by};
 ghost use Rattle.sb_process.specs.Running.{EachRunning};
 
 use crate::database::Database;
-use crate::lock_list::{statement_locks, target_of};
+use crate::lock_list::target_of;
 use crate::ready::prepare;
 use crate::refusal::refusal_for;
-use crate::request::request;
+use crate::request::lock;
 use crate::view::{Viewer, no_transition};
 use sb_check::Statement;
 use sb_eval::{changes, changes_are_proper};
@@ -96,14 +96,12 @@ impl Database {
         ensures times { RisesBy 4096 (L.clock log.old) (L.clock log.new) }
         ensures numbers { (n : ℕ) → NumbersBelow n self.old.tables → NumbersBelow (n + 4096) self.new.tables }
     {
-        let Ok(list) = statement_locks(alloc, statement) else {
-            return Err(Refusal::NoMemory);
-        };
-        match request(
+        match lock(
+            alloc,
             &mut self.locks,
             &self.tables,
             viewer.session,
-            list.as_slice(),
+            statement,
         ) {
             Ok(()) => self.run_granted(alloc, log, index, viewer, statement),
             Err(refusal) => Err(refusal),
@@ -201,8 +199,8 @@ impl Database {
         let Effect { target, changes } = effect;
         let count = changes.len();
         match prepare(alloc, &mut self.tables, log, target, changes) {
-            Ok(list) => {
-                self.apply(log, index, session, target, list);
+            Ok(ready) => {
+                self.apply(log, index, session, target, ready);
                 Ok(count)
             }
             Err(_) => Err(Refusal::NoMemory),

@@ -3,18 +3,19 @@ ghost use Rattle.std.specs.Prelude.{◌≡◌, ◌≤◌, length, map, IsTrue, I
 ghost use Rattle.sb_eval.specs.Laws.{inserts};
 ghost use Rattle.sb_tables.specs.Held.{has_number, stored_at};
 ghost use Rattle.sb_process.specs.Made.{AreNumbered, without_room};
-ghost use Rattle.sb_process.specs.Ready.{AreCopied, changes_in};
+ghost use Rattle.sb_process.specs.Ready.{copies_of};
 
 use sb_rawlog::ChangeLog;
 use sb_tables::{ROW_LIMIT, Tables};
 use sb_value::{Change, Kind, Row, TableId};
+use smallvec::SmallVec;
 use std::alloc::{AllocError, Global};
 
-/// A change for the log, and a copy of its new row for the table.
+/// Changes for the log, and copies of their new rows for the table: that of the first change last. One copy stands inline.
 #[derive(Drop)]
 pub(crate) struct Ready {
-    pub(crate) change: Change,
-    pub(crate) copy: Option<Row>,
+    pub(crate) changes: Vec<Change>,
+    pub(crate) copies: SmallVec<Option<Row>, 1>,
 }
 
 /// The changes with their copies, once the log and their table have room for them.
@@ -24,11 +25,11 @@ pub(crate) fn prepare<L: ChangeLog>(
     log: &mut L,
     target: TableId,
     changes: Vec<Change>,
-) -> Result<Vec<Ready>, AllocError>
+) -> Result<Ready, AllocError>
     requires there { IsTrue (has_number tables.old target) }
     requires numbered { AreNumbered tables.old }
-    ensures changes { IfOk result (λ list. changes_in list.items ≡ changes.items) }
-    ensures copied { IfOk result (λ list. AreCopied list.items) }
+    ensures changes { IfOk result (λ ready. ready.changes.items ≡ changes.items) }
+    ensures copied { IfOk result (λ ready. ready.copies.items ≡ copies_of ready.changes.items) }
     ensures few { OnOk result (length changes.items ≤ 4096) }
     ensures log { OnOk result (length changes.items ≤ L.room log.new) }
     ensures table { OnOk result (inserts changes.items ≤ (stored_at tables.new target).room) }
@@ -79,17 +80,26 @@ fn insert_count(changes: &[Change]) -> usize
     count
 }
 
-/// The changes, each with a copy of its new row.
-fn with_copies(alloc: Global, changes: Vec<Change>) -> Result<Vec<Ready>, AllocError>
-    ensures changes { IfOk result (λ list. changes_in list.items ≡ changes.items) }
-    ensures copied { IfOk result (λ list. AreCopied list.items) }
+/// The changes with copies of their new rows.
+fn with_copies(alloc: Global, changes: Vec<Change>) -> Result<Ready, AllocError>
+    ensures changes { IfOk result (λ ready. ready.changes.items ≡ changes.items) }
+    ensures copied { IfOk result (λ ready. ready.copies.items ≡ copies_of ready.changes.items) }
 {
-    let mut list = Vec::with_capacity(alloc, changes.len())?;
-    for change in changes {
-        let copy = copy_of(&change)?;
-        list.push(Ready { change, copy })?;
+    let copies = copies_of(alloc, changes.as_slice())?;
+    Ok(Ready { changes, copies })
+}
+
+/// Copies of the changes' new rows, that of the first change last.
+fn copies_of(alloc: Global, changes: &[Change]) -> Result<SmallVec<Option<Row>, 1>, AllocError>
+    ensures { IfOk result (λ copies. copies.items ≡ copies_of changes.now) }
+{
+    let mut copies = SmallVec::with_capacity(alloc, changes.len())?;
+    let mut left = changes.len();
+    while left > 0 {
+        left -= 1;
+        copies.push_reserved(copy_of(&changes[left])?);
     }
-    Ok(list)
+    Ok(copies)
 }
 
 /// A copy of the change's new row, if it has one.

@@ -5,27 +5,27 @@ use Rattle.sb_value.specs.declared.change.Change.{Change}
 use Rattle.sb_value.specs.declared.id.Who.{Who}
 use Rattle.sb_value.specs.declared.lock.Mode.TheVariants.{Write}
 use Rattle.sb_locks.specs.Held.{Holders, held}
-use Rattle.sb_process.specs.declared.ready.Ready.{Ready}
 use Rattle.sb_process.specs.Made.{NumbersBelow}
-use Rattle.sb_process.specs.Ready.{AreCopied, CanApply, changes_in}
+use Rattle.sb_process.specs.Ready.{CanApply, copies_of}
 use Rattle.sb_catalog.specs.Definitions.{AreIndexed}
 use Rattle.sb_process.specs.Represents.{Represents, who_in}
 use Rattle.sb_process.proofs.Applying.{first_fits, others_can, below_one, none_left}
+use Rattle.sb_process.proofs.Preparing.{last_same}
 use Rattle.sb_process.proofs.database.Database.apply.Goals as goal
 
-pub loop-ready-init : goal.loop-ready-init
-loop-ready-init g c =
-    let same : into_iter_items c.into_iter-ready-iterator.result ≡ c.args.list.items = c.into_iter-ready-iterator.ensures.into_iter_gives.0 in
+pub loop-change-init : goal.loop-change-init
+loop-change-init g c =
+    let same : into_iter_items c.into_iter-change-iterator.result ≡ c.args.ready.changes.items = c.into_iter-change-iterator.ensures.into_iter_gives.0 in
     record {
-      can = subst (λ (l : List Ready). CanApply c.args.self.now.tables (who_in c.args.self.now c.args.session) c.args.target (changes_in l)) (sym same) c.requires.can;
-      len = c.into_iter-ready-iterator.ensures.into_iter_gives.1 ∙ c.args.list.ok.0 ∙ ap (λ (l : List Ready). length l) (sym same);
-      copied = subst AreCopied (sym same) c.requires.copied;
+      can = subst (λ (l : List Change). CanApply c.args.self.now.tables (who_in c.args.self.now c.args.session) c.args.target l) (sym same) c.requires.can;
+      len = c.into_iter-change-iterator.ensures.into_iter_gives.1 ∙ c.args.ready.changes.ok.0 ∙ ap (λ (l : List Change). length l) (sym same);
+      copied = c.requires.copied ∙ ap copies_of (sym same);
       locked = c.requires.locked;
       room = omega (arith, ap length same, c.requires.room);
       clock = omega (arith, ap length same);
       made = (
         [],
-        ap changes_in same,
+        same,
         λ origin setting progress w.
             subst (λ (cs : List Change). Represents origin c.args.self.now c.args.session (g.L.ChangeLog.records c.args.log.now) (g.L.ChangeLog.clock c.args.log.now) setting (record progress { changes = cs }))
             (sym (append-nil progress.changes)) w.transaction,
@@ -39,35 +39,44 @@ loop-ready-init g c =
 -- the list that is left begins with this change
 pub apply_one-requires-clause-fits : goal.apply_one-requires-clause-fits
 apply_one-requires-clause-fits g c =
-    first_fits c.loop-ready.self.tables (who_in c.loop-ready.self c.args.session) c.args.target c.in-Some.ready.change (changes_in (into_iter_items c.next.new.self))
-    (subst (λ (l : List Ready). CanApply c.loop-ready.self.tables (who_in c.loop-ready.self c.args.session) c.args.target (changes_in l)) c.in-Some.ensures.steps.0 c.loop-ready.invariant.can)
+    first_fits c.loop-change.self.tables (who_in c.loop-change.self c.args.session) c.args.target c.in-Some.change (into_iter_items c.next.new.self)
+    (subst (λ (l : List Change). CanApply c.loop-change.self.tables (who_in c.loop-change.self c.args.session) c.args.target l) c.in-Some.ensures.steps.0 c.loop-change.invariant.can)
 
-pub loop-ready-preserved : goal.loop-ready-preserved
-loop-ready-preserved g c =
-    let v = c.loop-ready.invariant in
-    let x : Ready = c.in-Some.ready in
-    let left : List Ready = into_iter_items c.next.new.self in
-    let split : into_iter_items c.loop-ready.ready-iterator ≡ x ∷ left = c.in-Some.ensures.steps.0 in
-    let long : length (into_iter_items c.loop-ready.ready-iterator) ≡ length left + 1 = ap (λ (l : List Ready). length l) split ∙ omega arith in
-    let now : Who = who_in c.loop-ready.self c.args.session in
-    let can : CanApply c.loop-ready.self.tables now c.args.target (x.change ∷ changes_in left) =
-    subst (λ (l : List Ready). CanApply c.loop-ready.self.tables now c.args.target (changes_in l)) split v.can in
-    let same : c.apply_one.new.self.id ≡ c.loop-ready.self.id = c.apply_one.ensures.id in
+-- its copy is the one that comes next
+pub apply_one-requires-clause-copied : goal.apply_one-requires-clause-copied
+apply_one-requires-clause-copied g c =
+    let v = c.loop-change.invariant in
+    let left : List Change = into_iter_items c.next.new.self in
+    let e = sym (v.copied ∙ ap copies_of c.in-Some.ensures.steps.0) ∙ c.in-Some-pop.ensures.items in
+    sym (last_same (copies_of left) c.pop.new.self.items c.in-Some.change.new c.in-Some-pop.copy e).1
+
+pub loop-change-preserved : goal.loop-change-preserved
+loop-change-preserved g c =
+    let v = c.loop-change.invariant in
+    let x : Change = c.in-Some.change in
+    let left : List Change = into_iter_items c.next.new.self in
+    let split : into_iter_items c.loop-change.change-iterator ≡ x ∷ left = c.in-Some.ensures.steps.0 in
+    let long : length (into_iter_items c.loop-change.change-iterator) ≡ length left + 1 = ap (λ (l : List Change). length l) split ∙ omega arith in
+    let now : Who = who_in c.loop-change.self c.args.session in
+    let can : CanApply c.loop-change.self.tables now c.args.target (x ∷ left) =
+    subst (λ (l : List Change). CanApply c.loop-change.self.tables now c.args.target l) split v.can in
+    let same : c.apply_one.new.self.id ≡ c.loop-change.self.id = c.apply_one.ensures.id in
+    let popped = last_same (copies_of left) c.pop.new.self.items x.new c.in-Some-pop.copy (sym (v.copied ∙ ap copies_of split) ∙ c.in-Some-pop.ensures.items) in
     record {
-      can = subst (λ (id : ℕ). CanApply c.apply_one.new.self.tables (record { tenant = id; session = c.args.session }) c.args.target (changes_in left)) (sym same)
-          (others_can c.loop-ready.self.tables c.apply_one.new.self.tables now c.args.target x.change (changes_in left) can c.apply_one.ensures.makes);
+      can = subst (λ (id : ℕ). CanApply c.apply_one.new.self.tables (record { tenant = id; session = c.args.session }) c.args.target left) (sym same)
+          (others_can c.loop-change.self.tables c.apply_one.new.self.tables now c.args.target x left can c.apply_one.ensures.makes);
       len = omega (arith, c.in-Some.ensures.steps.1, v.len, long);
-      copied = (subst AreCopied split v.copied).1;
+      copied = sym popped.0;
       locked = ap (λ (l : Holders). held l c.args.session c.args.target Write) c.apply_one.ensures.locks ∙ v.locked;
       room = omega (arith, c.apply_one.ensures.room, v.room, long);
       clock = omega (arith, c.apply_one.ensures.clock, v.clock, long);
       made = (
-        v.made.0 ++ x.change ∷ [],
-        append_assoc v.made.0 (x.change ∷ []) (changes_in left) ∙ ap (λ (l : List Ready). v.made.0 ++ changes_in l) (sym split) ∙ v.made.1,
+        v.made.0 ++ x ∷ [],
+        append_assoc v.made.0 (x ∷ []) left ∙ ap (λ (l : List Change). v.made.0 ++ l) (sym split) ∙ v.made.1,
         λ origin setting progress w.
             subst
             (λ (cs : List Change). Represents origin c.apply_one.new.self c.args.session (g.L.ChangeLog.records c.apply_one.new.log) (g.L.ChangeLog.clock c.apply_one.new.log) setting (record progress { changes = cs }))
-            (append_assoc progress.changes v.made.0 (x.change ∷ []))
+            (append_assoc progress.changes v.made.0 (x ∷ []))
             (c.apply_one.ensures.one origin setting (record progress { changes = progress.changes ++ v.made.0 })
             (record { transaction = v.made.2 origin setting progress w; indexed = subst (λ (id : ℕ). AreIndexed c.args.index.now id setting.rules) (sym v.id) w.indexed })),
       );
@@ -77,22 +86,22 @@ loop-ready-preserved g c =
           c.apply_one.ensures.others other (λ is. differs (is ∙ ap (λ (id : ℕ). let w : Who = record { tenant = id; session = c.args.session } in w) v.id)) ∙ v.others other differs;
       numbers = λ n b.
           let q = v.numbers n b in
-          (q.0 + 1, omega (arith, q.1, long), below_one q.0 x.change c.loop-ready.self.tables c.apply_one.new.self.tables v.can.numbered c.apply_one.ensures.makes q.2);
+          (q.0 + 1, omega (arith, q.1, long), below_one q.0 x c.loop-change.self.tables c.apply_one.new.self.tables v.can.numbered c.apply_one.ensures.makes q.2);
     }
 
 pub returns-clause-all : goal.returns-clause-all
 returns-clause-all g c = λ origin setting progress w.
-    let v = c.loop-ready.invariant in
-    let none : into_iter_items c.loop-ready.ready-iterator ≡ [] = none_left (into_iter_items c.loop-ready.ready-iterator) (sym v.len ∙ c.in-None.ensures.steps.0) in
-    let whole : v.made.0 ≡ changes_in c.args.list.items = sym (append-nil v.made.0) ∙ ap (λ (l : List Ready). v.made.0 ++ changes_in l) (sym none) ∙ v.made.1 in
+    let v = c.loop-change.invariant in
+    let none : into_iter_items c.loop-change.change-iterator ≡ [] = none_left (into_iter_items c.loop-change.change-iterator) (sym v.len ∙ c.in-None.ensures.steps.0) in
+    let whole : v.made.0 ≡ c.args.ready.changes.items = sym (append-nil v.made.0) ∙ ap (λ (l : List Change). v.made.0 ++ l) (sym none) ∙ v.made.1 in
     subst
-    (λ (cs : List Change). Represents origin c.loop-ready.self c.args.session (g.L.ChangeLog.records c.loop-ready.log) (g.L.ChangeLog.clock c.loop-ready.log) setting (record progress { changes = progress.changes ++ cs }))
+    (λ (cs : List Change). Represents origin c.loop-change.self c.args.session (g.L.ChangeLog.records c.loop-change.log) (g.L.ChangeLog.clock c.loop-change.log) setting (record progress { changes = progress.changes ++ cs }))
     whole (v.made.2 origin setting progress w)
 
 pub returns-clause-numbers : goal.returns-clause-numbers
 returns-clause-numbers g c = λ n b.
-    let v = c.loop-ready.invariant in
+    let v = c.loop-change.invariant in
     let q = v.numbers n b in
-    let none : length (into_iter_items c.loop-ready.ready-iterator) ≡ 0 = sym v.len ∙ c.in-None.ensures.steps.0 in
-    let end : q.0 ≡ n + length c.args.list.items = omega (arith, q.1, none) in
-    subst (λ (m : ℕ). NumbersBelow m c.loop-ready.self.tables) end q.2
+    let none : length (into_iter_items c.loop-change.change-iterator) ≡ 0 = sym v.len ∙ c.in-None.ensures.steps.0 in
+    let end : q.0 ≡ n + length c.args.ready.changes.items = omega (arith, q.1, none) in
+    subst (λ (m : ℕ). NumbersBelow m c.loop-change.self.tables) end q.2

@@ -1,9 +1,7 @@
 use Rattle.std.proofs.Common.{◌≡◌, ◌∙◌, ◌+◌, List, ◌++◌, Ok, length, inl, inr, refl, sym, ap, subst, arith}
-use Rattle.std.proofs.lemmas.List.{length-map}
 use Rattle.sb_value.specs.declared.change.Change.{Change}
 use Rattle.sb_tables.specs.Held.{entries}
 use Rattle.sb_process.specs.declared.database.Database.{Database}
-use Rattle.sb_process.specs.declared.ready.Ready.{Ready}
 use Rattle.sb_process.specs.Ready.{CanApply}
 use Rattle.sb_process.specs.Represents.{Represents, who_in}
 use Rattle.sb_process.proofs.Numbers.{each-weaken}
@@ -32,8 +30,8 @@ returns-in-Ok-clause-made g c = λ origin setting progress w.
 
 pub returns-in-Ok-clause-numbers : goal.returns-in-Ok-clause-numbers
 returns-in-Ok-clause-numbers g c = λ n b.
-    let long : length c.args.effect.changes.items ≡ length c.in-Ok.list.items = sym (ap (λ (l : List Change). length l) c.in-Ok.ensures.changes) ∙ length-map c.in-Ok.list.items (λ (r : Ready). r.change) in
-    each-weaken (n + length c.in-Ok.list.items) (n + 4096) (entries c.apply.new.self.tables) (omega (arith, long, c.in-Ok.ensures.few))
+    let long : length c.args.effect.changes.items ≡ length c.in-Ok.ready.changes.items = sym (ap (λ (l : List Change). length l) c.in-Ok.ensures.changes) in
+    each-weaken (n + length c.in-Ok.ready.changes.items) (n + 4096) (entries c.apply.new.self.tables) (omega (arith, long, c.in-Ok.ensures.few))
     (c.apply.ensures.numbers n (numbers_same n c.args.self.now.tables c.prepare.new.tables (sym c.prepare.ensures.same) b))
 
 pub returns-in-Err-clause-made : goal.returns-in-Err-clause-made
