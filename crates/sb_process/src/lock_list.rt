@@ -51,6 +51,7 @@ pub(crate) fn query_locks(alloc: Global, query: &Query) -> Result<Vec<(TableId, 
 }
 
 /// The locks of a statement, in order of mention.
+#[inline(never)]
 #[tactic(auto, using(crate::proofs::LockLists::locks_of))]
 pub(crate) fn statement_locks(
     alloc: Global,

@@ -64,6 +64,7 @@ fn settle_all(tables: &mut Tables, locks: &Locks, session: SessionId)
 }
 
 /// Drops the deleted rows of the table of that number, if it is there.
+#[inline(never)]
 fn settle_at(tables: &mut Tables, table: TableId)
     ensures { AreNumbered tables.old → tables.new ≡ settled_where (λ t. t == table) tables.old }
 {

@@ -87,6 +87,7 @@ impl Key {
 
 impl Heads {
     /// Where the list of the key's bucket begins.
+    #[inline(always)]
     pub(crate) fn first(&self, key: &Key) -> Option<usize>
         requires ops { 0 < length self.now.ops.items }
         requires tuples { length self.now.tuples.items ≡ length self.now.ops.items }

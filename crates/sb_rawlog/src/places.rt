@@ -32,6 +32,7 @@ pub(crate) fn claim(free: &mut Vec<usize>, used: &mut usize) -> usize
 }
 
 /// Puts the change into the place, in front of its three lists.
+#[inline(always)]
 pub(crate) fn enter(
     arena: &mut Arena<Node<Change>>,
     heads: &mut Heads,
@@ -72,6 +73,7 @@ pub(crate) fn enter(
 }
 
 /// Takes the change out of the place and its three lists.
+#[inline(always)]
 pub(crate) fn take_out(arena: &mut Arena<Node<Change>>, heads: &mut Heads, place: usize) -> Change
     requires { IsInLog arena.old heads.old place }
     ensures { Leaves arena.old arena.new heads.old heads.new place result }

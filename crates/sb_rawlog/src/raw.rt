@@ -66,6 +66,7 @@ impl RawLog {
     }
 
     /// Takes the session's newest change out of its place.
+    #[inline(always)]
     fn pop(&mut self, who: Who) -> Option<Change>
         ensures taken { TakesNewest who (records_of self.old) (records_of self.new) result }
         ensures spare { self.new.room + length (records_of self.new) ≡ self.old.room + length (records_of self.old) }

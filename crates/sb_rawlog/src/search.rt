@@ -29,6 +29,7 @@ pub(crate) fn spot_for(place: usize, since: u64, node: &Node<Change>) -> Spot
 }
 
 /// The first change from `head` on that fits the key and is no older than `since`.
+#[inline(always)]
 pub(crate) fn search(
     arena: &Arena<Node<Change>>,
     head: Option<usize>,

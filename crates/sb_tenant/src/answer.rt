@@ -31,6 +31,7 @@ pub(crate) fn done() -> Replies
 }
 
 /// A refusal, for the trail and for the answer.
+#[inline(never)]
 pub(crate) fn refused(refusal: Refusal) -> Replies
     ensures { result ≡ (told.No refusal, told.No refusal) }
 {
@@ -75,6 +76,7 @@ impl Store {
     }
 
     /// Gives a line up for want of memory: the session's transaction is taken back.
+    #[inline(never)]
     pub(crate) fn run_out<L: ChangeLog>(&mut self, log: &mut L, session: SessionId) -> Replies
         requires { StandForSome self.old (L.records log.old) (L.clock log.old) }
         ensures aborted { (index : List (List TableSets)) →
@@ -93,6 +95,7 @@ impl Store {
     }
 
     /// Answers with a refusal. For want of memory the session's transaction is taken back.
+    #[inline(never)]
     pub(crate) fn refuse<L: ChangeLog>(
         &mut self,
         log: &mut L,

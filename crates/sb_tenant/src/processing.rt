@@ -26,6 +26,7 @@ use std::alloc::{AllocError, Global};
 
 impl Store {
     /// Processes eligible rules; the transaction goes on, or is taken back.
+    #[inline(never)]
     pub(crate) fn process<L: ChangeLog>(
         &mut self,
         alloc: Global,
@@ -63,6 +64,7 @@ impl Store {
     }
 
     /// Processes all active rules, and keeps what the transaction has changed or takes it back.
+    #[inline(never)]
     pub(crate) fn commit<L: ChangeLog>(
         &mut self,
         alloc: Global,

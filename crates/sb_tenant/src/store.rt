@@ -45,6 +45,7 @@ impl Store {
     }
 
     /// Opens a session.
+    #[inline(never)]
     pub(crate) fn open(&mut self, session: SessionId)
         requires { phase_at self.old.phases session ≡ Phase.Closed }
         ensures opened { (records : List Record) (clock : ℕ) (index : List (List TableSets)) →
@@ -61,6 +62,7 @@ impl Store {
     }
 
     /// Ends a session, and takes its transaction back.
+    #[inline(never)]
     pub(crate) fn end<L: ChangeLog>(&mut self, log: &mut L, session: SessionId)
         requires { StandForSome self.old (L.records log.old) (L.clock log.old) }
         ensures ended { (index : List (List TableSets)) → EachState self.old (L.records log.old) (L.clock log.old) index

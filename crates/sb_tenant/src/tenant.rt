@@ -229,6 +229,7 @@ impl Tenant {
     }
 
     /// Makes the step `open`.
+    #[inline(never)]
     pub fn open(&mut self, alloc: Global, session: SessionId) -> Result<Answer, NotBegun>
         requires closed { session_is_open (session_at (state self.old) session) ≡ false }
         requires room { nat_le trail_limit (state self.old).steps ≡ false }
@@ -265,6 +266,7 @@ impl Tenant {
     }
 
     /// Makes the step `end`. It needs no memory.
+    #[inline(never)]
     pub fn end<L: ChangeLog>(&mut self, log: &mut L, session: SessionId) -> Answer
         requires in_step { (index : List (List TableSets))
             × InStep self.old (L.records log.old) (L.clock log.old) index }

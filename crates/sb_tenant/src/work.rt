@@ -24,6 +24,7 @@ use std::alloc::Global;
 
 impl Store {
     /// Does a command in a transaction, or is refused.
+    #[inline(always)]
     pub(crate) fn work<L: ChangeLog>(
         &mut self,
         alloc: Global,
@@ -71,6 +72,7 @@ impl Store {
     }
 
     /// A query in a transaction.
+    #[inline(never)]
     fn query<L: ChangeLog>(
         &mut self,
         alloc: Global,
@@ -107,6 +109,7 @@ impl Store {
     }
 
     /// A statement in a transaction.
+    #[inline(never)]
     fn write<L: ChangeLog>(
         &mut self,
         alloc: Global,
