@@ -19,3 +19,4 @@ pub mod TextLaws
 pub mod Worked
 pub mod Plain
 pub mod Spelling
+pub mod SameBytes

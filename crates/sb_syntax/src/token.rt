@@ -57,10 +57,6 @@ pub fn tokens(alloc: Global, text: &[u8]) -> Result<Vec<Token>, ParseError>
     cut(alloc, text)
 }
 
-const BEGIN: &[u8] = b"begin";
-
-const COMMIT: &[u8] = b"commit";
-
 /// The most bytes of a command's text. A tree is as deep as a sum in its text is long, and so bounded, it is
 /// read, resolved, evaluated and released in less than 1 MB of the stack.
 pub const TEXT_LIMIT: usize = 4096;
@@ -69,13 +65,11 @@ pub const TEXT_LIMIT: usize = 4096;
 fn one_word(text: &[u8]) -> Option<Command>
     ensures { IfSome result (λ c. command_of text.now ≡ Some (view.command c)) }
 {
-    if text == BEGIN {
-        return Some(Command::Begin);
+    match text {
+        [b'b', b'e', b'g', b'i', b'n'] => Some(Command::Begin),
+        [b'c', b'o', b'm', b'm', b'i', b't'] => Some(Command::Commit),
+        _ => None,
     }
-    if text == COMMIT {
-        return Some(Command::Commit);
-    }
-    None
 }
 
 /// The command that the text is.
