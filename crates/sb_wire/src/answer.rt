@@ -39,6 +39,7 @@ pub(crate) fn answer_piece(
 }
 
 /// Refuses a line that has no numbers to answer behind.
+#[inline(never)]
 fn refuse_line(
     out: &mut Vec<u8>,
     summary: &mut Summary,

@@ -1,6 +1,6 @@
 //! The lines of a stream that comes in any pieces.
-ghost use Rattle.std.specs.Prelude.{◌≡◌, ◌++◌, ◌<◌, List, ℕ, [], ◌∷◌, MatchOption, length};
-ghost use Rattle.sb_wire.specs.Lines.{Completes, last_piece, line, piece_more};
+ghost use Rattle.std.specs.Prelude.{◌≡◌, ◌++◌, ◌<◌, List, ℕ, [], ◌∷◌, false, IfSome, MatchOption, length};
+ghost use Rattle.sb_wire.specs.Lines.{Completes, last_piece, line, piece_more, piece_of};
 ghost use Rattle.sb_wire.specs.Seen.{piece_seen, pieces_seen};
 
 use arrayvec::ArrayVec;
@@ -65,6 +65,26 @@ impl Lines {
         }
     }
 
+    /// The line that the bytes begin with, where none is open and its newline is among them, and the bytes behind it. It is
+    /// lent as it stands there.
+    pub fn whole<'a>(&self, bytes: &'a [u8]) -> Option<(Piece<'a>, &'a [u8])>
+        ensures { IfSome result (λ w. (taken : List ℕ) × (bytes.now ≡ taken ++ w.1.now) × (0 < length taken)
+            × Completes self.now taken (piece_seen w.0 ∷ []) (line []) × (self.now ≡ line [])) }
+    {
+        if self.is_open() {
+            return None;
+        }
+        let end = memchr(b'\n', bytes)?;
+        Some((whole_piece(&bytes[..end]), &bytes[end + 1..]))
+    }
+
+    /// Whether a byte of a line is kept.
+    fn is_open(&self) -> bool
+        ensures { result ≡ false → self.now ≡ line [] }
+    {
+        self.is_long || !self.kept.is_empty()
+    }
+
     fn keep(&mut self, part: &[u8])
         ensures { self.new ≡ piece_more self.old part.now }
     {
@@ -100,5 +120,16 @@ impl Lines {
             return None;
         }
         Some(self.line())
+    }
+}
+
+/// A line, if it isn't too long.
+fn whole_piece(line: &[u8]) -> Piece<'_>
+    ensures { piece_seen result ≡ piece_of line.now }
+{
+    if line.len() > LINE_LIMIT {
+        Piece::TooLong
+    } else {
+        Piece::Line(line)
     }
 }

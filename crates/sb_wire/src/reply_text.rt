@@ -35,6 +35,7 @@ pub fn write_bare_reply(out: &mut Vec<u8>, reply: &Reply) -> Result<(), AllocErr
 }
 
 /// Adds the line of a refusal, with the prefix.
+#[inline(never)]
 pub fn write_refusal(
     out: &mut Vec<u8>,
     prefix: &Prefix,

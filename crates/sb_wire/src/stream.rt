@@ -1,5 +1,5 @@
 //! A stream: the lines of an input, each answered when it is complete.
-ghost use Rattle.std.specs.Prelude.{◌≡◌, ◌++◌, ◌∷◌, ◌≢◌, List, ℕ, [], false, OnOk, OnErr, IfErr};
+ghost use Rattle.std.specs.Prelude.{◌≡◌, ◌++◌, ◌∷◌, ◌≢◌, ◌<◌, List, ℕ, [], false, length, OnOk, OnErr, IfOk, IfErr};
 ghost use Rattle.std.specs.Io.{ReadsAtMost};
 ghost use Rattle.std.specs.Io.KnownBytes.{Appends, Keeps, ReadConsumes};
 ghost use Rattle.sb_wire.specs.Lines.{last_piece};
@@ -156,16 +156,66 @@ fn answer_lines<S, T, A: Responder<S, T>, W: Sink>(
     ensures reads { IfErr result (λ e. e ≢ StreamError.ReadFault) }
 {
     let mut rest = bytes;
-    while let Some(behind) = pending.lines.feed(rest) {
-        let line = pending.lines.line();
-        answer_next(line, writer, responder, first, second, &mut pending.out)?;
+    while !rest.is_empty() {
+        let behind = answer_first(rest, pending, writer, responder, first, second)?;
         if responder.is_over(first, second) {
             return Ok(());
         }
-        pending.lines.clear();
         rest = behind;
     }
     Ok(())
+}
+
+/// Answers the first line that these bytes complete, and gives those behind it. Without such a line all are kept.
+fn answer_first<'a, S, T, A: Responder<S, T>, W: Sink>(
+    bytes: &'a [u8],
+    pending: &mut Pending,
+    writer: &mut W,
+    responder: &A,
+    first: &mut S,
+    second: &mut T,
+) -> Result<&'a [u8], StreamError>
+    requires { A.over (first.old, second.old) ≡ false }
+    ensures takes { (left : List ℕ)
+        × (t : AnswersBytes (A.responds responder.now) A.over (first.old, second.old) (W.contents writer.old)
+        pending.old.out.items pending.old.lines bytes.now (first.new, second.new) (W.contents writer.new) left)
+        × IfOk result (λ behind. (left ≡ pending.new.out.items) × (t.opened ≡ pending.new.lines)
+        × (t.ahead ≡ behind.now) × (0 < length bytes.now → length behind.now < length bytes.now)) }
+    ensures refused { OnWriteFault result (MayFail W.refuses W.contents writer.new) }
+    ensures reads { IfErr result (λ e. e ≢ StreamError.ReadFault) }
+{
+    let Some(whole) = pending.lines.whole(bytes) else {
+        return answer_open(bytes, pending, writer, responder, first, second);
+    };
+    answer_next(whole.0, writer, responder, first, second, &mut pending.out)?;
+    Ok(whole.1)
+}
+
+/// The same, where the line may stand open already.
+fn answer_open<'a, S, T, A: Responder<S, T>, W: Sink>(
+    bytes: &'a [u8],
+    pending: &mut Pending,
+    writer: &mut W,
+    responder: &A,
+    first: &mut S,
+    second: &mut T,
+) -> Result<&'a [u8], StreamError>
+    requires { A.over (first.old, second.old) ≡ false }
+    ensures takes { (left : List ℕ)
+        × (t : AnswersBytes (A.responds responder.now) A.over (first.old, second.old) (W.contents writer.old)
+        pending.old.out.items pending.old.lines bytes.now (first.new, second.new) (W.contents writer.new) left)
+        × IfOk result (λ behind. (left ≡ pending.new.out.items) × (t.opened ≡ pending.new.lines)
+        × (t.ahead ≡ behind.now) × (0 < length bytes.now → length behind.now < length bytes.now)) }
+    ensures refused { OnWriteFault result (MayFail W.refuses W.contents writer.new) }
+    ensures reads { IfErr result (λ e. e ≢ StreamError.ReadFault) }
+{
+    let Some(behind) = pending.lines.feed(bytes) else {
+        return Ok(&[]);
+    };
+    let line = pending.lines.line();
+    answer_next(line, writer, responder, first, second, &mut pending.out)?;
+    pending.lines.clear();
+    Ok(behind)
 }
 
 /// Answers a line, and writes the replies so far where they are many.

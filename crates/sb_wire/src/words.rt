@@ -1,5 +1,5 @@
 //! A line of a reply, word by word.
-ghost use Rattle.std.specs.Prelude.{◌≡◌, [], ◌∷◌, ◌++◌, decimal, OnOk, OnErr};
+ghost use Rattle.std.specs.Prelude.{◌≡◌, ◌+◌, ◌≤◌, [], ◌∷◌, ◌++◌, decimal, length, vec_len, vec_capacity, OnOk, OnErr};
 ghost use Rattle.sb_wire.specs.Lines.{newline, space};
 ghost use Rattle.sb_wire.specs.ReplyText.{words, refusal_words};
 ghost use Rattle.sb_wire.specs.Written.{IsInFront, started_lines};
@@ -8,14 +8,27 @@ use itoa::Buffer;
 use sb_value::Refusal;
 use std::alloc::AllocError;
 
+/// Adds a few bytes, for which there is room.
+fn put(out: &mut Vec<u8>, bytes: &[u8])
+    requires { vec_len out.old + length bytes.now ≤ vec_capacity out.old }
+    ensures items { out.new.items ≡ out.old.items ++ bytes.now }
+    ensures len { vec_len out.new ≡ vec_len out.old + length bytes.now }
+    ensures capacity { vec_capacity out.new ≡ vec_capacity out.old }
+{
+    for byte in bytes {
+        out.push_reserved(*byte);
+    }
+}
+
 pub(crate) fn push_line(out: &mut Vec<u8>, start: &[u8], line: &[u8]) -> Result<(), AllocError>
     ensures ok { OnOk result (out.new.items ≡
         out.old.items ++ started_lines start.now (line.now ∷ [])) }
     ensures err { OnErr result (IsInFront out.old.items out.new.items) }
 {
-    out.extend_from_slice(start)?;
-    out.extend_from_slice(line)?;
-    out.push(b'\n')?;
+    out.reserve(start.len() + line.len() + 1)?;
+    put(out, start);
+    put(out, line);
+    out.push_reserved(b'\n');
     Ok(())
 }
 
@@ -39,8 +52,10 @@ pub(crate) fn push_head(out: &mut Vec<u8>, start: &[u8], head: &[u8]) -> Result<
     ensures ok { OnOk result (out.new.items ≡ out.old.items ++ (start.now ++ head.now)) }
     ensures err { OnErr result (IsInFront out.old.items out.new.items) }
 {
-    out.extend_from_slice(start)?;
-    out.extend_from_slice(head)
+    out.reserve(start.len() + head.len())?;
+    put(out, start);
+    put(out, head);
+    Ok(())
 }
 
 /// One more word of a line.
@@ -57,6 +72,11 @@ fn push_number(out: &mut Vec<u8>, number: u64) -> Result<(), AllocError>
     ensures ok { OnOk result (out.new.items ≡ out.old.items ++ space ∷ decimal number) }
     ensures err { OnErr result (IsInFront out.old.items out.new.items) }
 {
+    if number < 10 {
+        out.push(b' ')?;
+        out.push(b'0' + number as u8)?;
+        return Ok(());
+    }
     let mut buffer = Buffer::new();
     push_word(out, buffer.format(number).as_bytes())
 }
