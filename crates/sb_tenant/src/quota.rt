@@ -17,6 +17,9 @@ const CHANGE_BYTES: u64 = 256;
 /// A considered rule in a reply takes so many bytes.
 const CONSIDERED_BYTES: usize = 40;
 
+/// The name of the rule that ended a transaction takes so many bytes apart from its reply, and so does its refusal.
+const APART_BYTES: usize = 48;
+
 /// What a tenant's trail and its open transactions take, and how much that may be, in bytes.
 #[derive(Clone, Copy)]
 pub(crate) struct Quota {
@@ -92,10 +95,9 @@ impl Quota {
 fn reply_bytes(reply: &Reply) -> usize {
     match reply {
         Reply::Rows(rows) => text_bytes(rows),
-        Reply::Done(trace)
-        | Reply::ByRule(_, trace)
-        | Reply::ByError(_, _, trace)
-        | Reply::ByLimit(trace) => trace_bytes(trace),
+        Reply::Done(trace) | Reply::ByLimit(trace) => trace_bytes(trace),
+        Reply::ByRule(_, trace) => trace_bytes(trace).saturating_add(APART_BYTES),
+        Reply::ByError(_, _, trace) => trace_bytes(trace).saturating_add(2 * APART_BYTES),
         Reply::Ok | Reply::Count(_) | Reply::No(_) => 0,
     }
 }
