@@ -1,5 +1,5 @@
 //! The numbers before a command.
-ghost use Rattle.std.specs.Prelude.{◌≡◌, ◌≤◌, option_map, length, if◌then◌else◌};
+ghost use Rattle.std.specs.Prelude.{◌≡◌, ◌≤◌, Some, IfSome, option_map, length, if◌then◌else◌};
 ghost use Rattle.std.specs.List.{list_all};
 ghost use Rattle.std.specs.Char.{is_ascii_digit};
 ghost use Rattle.std.specs.Str.Parse.{digits_value};
@@ -38,8 +38,25 @@ impl<'a> Addressed<'a> {
 pub fn number_before_space(bytes: &[u8]) -> Option<(u32, &[u8])>
     ensures { option_map (λ p. (p.0, p.1.now)) result ≡ number_before bytes.now }
 {
-    let (digits, rest) = at_space(bytes)?;
-    Some((number(digits)?, rest))
+    match digit_before_space(bytes) {
+        Some(found) => Some(found),
+        None => {
+            let (digits, rest) = at_space(bytes)?;
+            Some((number(digits)?, rest))
+        }
+    }
+}
+
+/// The same where the number is one digit, as most are.
+fn digit_before_space(bytes: &[u8]) -> Option<(u32, &[u8])>
+    ensures { IfSome result (λ p. number_before bytes.now ≡ Some (p.0, p.1.now)) }
+{
+    match bytes {
+        [digit, b' ', rest @ ..] if digit.is_ascii_digit() => {
+            Some((u32::from(*digit - b'0'), rest))
+        }
+        _ => None,
+    }
 }
 
 /// What stands before the first space, and what stands behind it.

@@ -48,6 +48,7 @@ pub(crate) fn push_counted(
 }
 
 /// Begins a line.
+#[inline(always)]
 pub(crate) fn push_head(out: &mut Vec<u8>, start: &[u8], head: &[u8]) -> Result<(), AllocError>
     ensures ok { OnOk result (out.new.items ≡ out.old.items ++ (start.now ++ head.now)) }
     ensures err { OnErr result (IsInFront out.old.items out.new.items) }
@@ -68,6 +69,7 @@ pub(crate) fn push_word(out: &mut Vec<u8>, word: &[u8]) -> Result<(), AllocError
 }
 
 /// A number as one more word.
+#[inline(always)]
 fn push_number(out: &mut Vec<u8>, number: u64) -> Result<(), AllocError>
     ensures ok { OnOk result (out.new.items ≡ out.old.items ++ space ∷ decimal number) }
     ensures err { OnErr result (IsInFront out.old.items out.new.items) }
@@ -82,6 +84,7 @@ fn push_number(out: &mut Vec<u8>, number: u64) -> Result<(), AllocError>
 }
 
 /// A number as the last word of a line.
+#[inline(always)]
 pub(crate) fn push_count(out: &mut Vec<u8>, count: u64) -> Result<(), AllocError>
     ensures ok { OnOk result (out.new.items ≡
         out.old.items ++ space ∷ decimal count ++ newline ∷ []) }
