@@ -129,6 +129,7 @@ impl<'a> Cursor<'a> {
     }
 
     /// The bytes of the next token, if it is of this kind.
+    #[inline(always)]
     #[tactic(auto, unfolding(crate::specs::Reading::bytes_of, crate::specs::Reading::next))]
     pub fn bytes_of(&self, kind: Kind) -> Option<&'a [u8]>
         ensures { spec.bytes_of kind self.now

@@ -88,6 +88,7 @@ pub fn whole_query(alloc: Global, tokens: &mut Cursor<'_>) -> Result<Box<Query>,
     Ok(Box::new(alloc, query)?)
 }
 
+#[inline(always)]
 #[tactic(auto, unfolding(crate::specs::Reading::inserts, crate::specs::Reading::inserts_into))]
 fn insert(alloc: Global, tokens: &mut Cursor<'_>) -> Result<Statement, Fault>
     ensures { Gives view.statement (spec.inserts tokens.old) result tokens.old tokens.new }

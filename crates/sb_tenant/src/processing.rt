@@ -103,6 +103,7 @@ impl Store {
     }
 
     /// Processes eligible rules, without a reply.
+    #[inline(always)]
     fn run<L: ChangeLog>(
         &mut self,
         alloc: Global,

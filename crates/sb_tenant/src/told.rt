@@ -12,6 +12,7 @@ use sb_value::{Name, RuleId, Verdict};
 use std::alloc::{AllocError, Global};
 
 /// The reply, twice. Both share the trace.
+#[inline(always)]
 pub(crate) fn told(
     alloc: Global,
     rules: &Catalog,
