@@ -1,8 +1,10 @@
 //! The rules that a session's changes have triggered, and the one that is considered next.
-ghost use Rattle.std.specs.Prelude.{◌≡◌, List};
+ghost use Rattle.std.specs.Prelude.{◌≡◌, ℕ, List};
 ghost use Rattle.std.specs.Option.{option_copied};
 ghost use Rattle.sb_value.specs.Flags.{flag_at};
+ghost use Rattle.sb_value.specs.Order.{chosen};
 ghost use Rattle.sb_catalog.specs.Rules.{numbered};
+ghost use Rattle.sb_priority.specs.Ranks.{HasOrder, ranked};
 ghost use Rattle.sb_tables.specs.Held.{Held};
 ghost use Rattle.sb_process.specs.Represents.{EachTransaction, Represents, who_in};
 ghost use Rattle.sb_process.specs.Setting as spec;
@@ -15,6 +17,7 @@ use crate::database::Database;
 use crate::process::Rules;
 use sb_catalog::{Catalog, Rule};
 use sb_net::is_triggered_anew;
+use sb_priority::Priorities;
 use sb_rawlog::ChangeLog;
 use sb_value::{RuleId, RuleSet, SessionId, Who, proper_lists_have_lives};
 
@@ -39,7 +42,7 @@ impl Database {
         ensures only_candidates { self.new ≡ record self.old { transactions = self.new.transactions } }
     {
         let set = self.candidates(log, rules.catalog, session, eligible);
-        match rules.order.choose(set) {
+        match chosen_of(rules.order, set) {
             Some(id) => rules.catalog.rule(id),
             None => None,
         }
@@ -128,4 +131,14 @@ impl Database {
         let tested = self.transactions.tested(session, rule.id);
         is_triggered_anew(log, who, rule.table, rule.triggers, since, tested)
     }
+}
+
+/// The rule of the set that is considered first. Mostly there is none.
+fn chosen_of(order: &Priorities, set: RuleSet) -> Option<RuleId>
+    ensures { (pairs : List (ℕ × ℕ)) → HasOrder order.now pairs → result ≡ chosen pairs (ranked set order.now.rules) }
+{
+    if set.is_empty() {
+        return None;
+    }
+    order.choose(set)
 }

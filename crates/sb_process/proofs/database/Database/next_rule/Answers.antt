@@ -10,15 +10,15 @@ pub returns-in-Some-clause-next : goal.returns-in-Some-clause-next
 returns-in-Some-clause-next g c = λ origin setting progress w.
     let catalog = c.args.rules.now.catalog.now in
     c.rule.ensures ∙ ap (option_and_then (numbered catalog)) (sym c.in-Some.is)
-    ∙ next-chosen c.candidates-set.result (flag_at c.args.eligible) setting progress catalog c.args.rules.now.order.now.rules c.choose.result w.rules w.ordered.listed
-    (c.candidates-set.ensures.set origin setting progress w.transaction w.rules) (c.choose.ensures setting.pairs w.ordered.order)
+    ∙ next-chosen c.candidates-set.result (flag_at c.args.eligible) setting progress catalog c.args.rules.now.order.now.rules c.chosen_of.result w.rules w.ordered.listed
+    (c.candidates-set.ensures.set origin setting progress w.transaction w.rules) (c.chosen_of.ensures setting.pairs w.ordered.order)
 
 pub returns-in-None-clause-next : goal.returns-in-None-clause-next
 returns-in-None-clause-next g c = λ origin setting progress w.
     let catalog = c.args.rules.now.catalog.now in
     ap (option_and_then (numbered catalog)) (sym c.in-None.is)
-    ∙ next-chosen c.candidates-set.result (flag_at c.args.eligible) setting progress catalog c.args.rules.now.order.now.rules c.choose.result w.rules w.ordered.listed
-    (c.candidates-set.ensures.set origin setting progress w.transaction w.rules) (c.choose.ensures setting.pairs w.ordered.order)
+    ∙ next-chosen c.candidates-set.result (flag_at c.args.eligible) setting progress catalog c.args.rules.now.order.now.rules c.chosen_of.result w.rules w.ordered.listed
+    (c.candidates-set.ensures.set origin setting progress w.transaction w.rules) (c.chosen_of.ensures setting.pairs w.ordered.order)
 
 pub returns-in-Some-clause-work : goal.returns-in-Some-clause-work
 returns-in-Some-clause-work g c = λ origin setting progress w. record {
