@@ -1,7 +1,7 @@
 //! The numbers of a tenant, copied within the lock of its cell.
-ghost use Rattle.std.specs.Prelude.{◌≡◌, ◌+◌, ◌-◌, length};
-ghost use Rattle.sb_tenant.specs.Limits.{trail_limit};
+ghost use Rattle.std.specs.Prelude.{◌≡◌, None, false};
 ghost use Rattle.sb_tenant.specs.Tenant.{state};
+ghost use Rattle.sb_view.specs.Counting.{AreNumbersOf};
 
 use sb_host::Reading;
 use sb_status::TenantNumbers;
@@ -18,7 +18,9 @@ pub struct Counting {
 
 impl Counting {
     /// For a host whose first tenant has this number.
-    pub fn new(first_tenant: u32) -> Counting {
+    pub fn new(first_tenant: u32) -> Counting
+        ensures { (result.first_tenant ≡ first_tenant) × (result.numbers ≡ None) }
+    {
         Counting {
             first_tenant,
             numbers: None,
@@ -27,9 +29,9 @@ impl Counting {
 }
 
 impl Reading for Counting {
-    ghost use Rattle.std.specs.Prelude.{⊤};
+    ghost use Rattle.sb_view.specs.Counting.{Notes};
 
-    ghost reads = { λ _ _ _. ⊤ };
+    ghost reads = { Notes };
 
     fn read(&mut self, tenant: &Tenant) {
         if !tenant.trail().is_empty() {
@@ -47,7 +49,9 @@ pub struct Opening {
 
 impl Opening {
     /// For this session.
-    pub fn new(session: SessionId) -> Opening {
+    pub fn new(session: SessionId) -> Opening
+        ensures { (result.session ≡ session) × (result.is_open ≡ false) }
+    {
         Opening {
             session,
             is_open: false,
@@ -56,9 +60,9 @@ impl Opening {
 }
 
 impl Reading for Opening {
-    ghost use Rattle.std.specs.Prelude.{⊤};
+    ghost use Rattle.sb_tenant.specs.State.{is_open, session_at};
 
-    ghost reads = { λ _ _ _. ⊤ };
+    ghost reads = { λ old own new. new.is_open ≡ is_open (session_at (state own) old.session) };
 
     fn read(&mut self, tenant: &Tenant) {
         self.is_open = tenant.is_open(self.session);
@@ -67,10 +71,7 @@ impl Reading for Opening {
 
 /// The numbers of a tenant, as clients name it.
 pub(crate) fn numbers_of(first_tenant: u32, tenant: &Tenant) -> TenantNumbers
-    ensures tenant { result.tenant ≡ first_tenant + tenant.now.id }
-    ensures steps { result.steps ≡ length tenant.now.trail }
-    ensures room { result.room ≡ trail_limit - length tenant.now.trail }
-    ensures rules { result.rules ≡ length (state tenant.now).catalog.rules }
+    ensures { AreNumbersOf first_tenant tenant.now result }
 {
     let steps = tenant.trail().len();
     TenantNumbers {

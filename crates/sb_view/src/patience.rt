@@ -1,4 +1,6 @@
 //! How long a page waits for tenants whose cells are busy.
+ghost use Rattle.std.specs.Prelude.{◌≡◌};
+ghost use Rattle.sb_tenant.specs.Tenant.{Tenant as ItsTenant};
 
 use sb_host::{Host, Naming, Reading, Tried};
 use std::rt::Clock;
@@ -30,7 +32,10 @@ impl<'k, T: Clock> Patience<'k, T> {
         host: &Host<N>,
         tenant: u32,
         reading: &mut V,
-    ) -> Tried {
+    ) -> Tried
+        ensures read { result ≡ Tried.Read → (own : ItsTenant) × V.reads reading.old own reading.new }
+        ensures none { (result ≡ Tried.Read → ⊥) → reading.new ≡ reading.old }
+    {
         for _ in 0..self.left {
             match host.try_read(tenant, reading) {
                 Tried::Held => {}

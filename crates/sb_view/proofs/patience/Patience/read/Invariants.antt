@@ -1,0 +1,6 @@
+use Rattle.std.proofs.Common.{◌≡◌}
+use Rattle.sb_view.proofs.patience.Patience.read.Given as goal
+
+-- what is read by is as it was
+abbrev pub invariant-loop : goal.invariant-loop
+invariant-loop g l = l.reading ≡ l.fn.reading
