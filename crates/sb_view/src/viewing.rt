@@ -1,4 +1,9 @@
 //! What a tenant is, copied within the lock of its cell.
+ghost use Rattle.std.specs.Prelude.{◌≡◌, IfOk};
+ghost use Rattle.sb_tenant.specs.Limits.{session_count};
+ghost use Rattle.sb_tenant.specs.State.{session_at};
+ghost use Rattle.sb_tenant.specs.Tenant.{state};
+ghost use Rattle.sb_view.specs.Viewing.{AreSessionsOf, IsCopyOf, IsFoundView, IsViewOf, shown_as};
 
 use crate::counting::numbers_of;
 use crate::graphing::graph_of;
@@ -25,15 +30,12 @@ struct Viewing {
 }
 
 impl Reading for Viewing {
-    ghost use Rattle.std.specs.Prelude.{⊤};
+    ghost use Rattle.sb_view.specs.Viewing.{Copies};
 
-    ghost reads = { λ _ _ _. ⊤ };
+    ghost reads = { Copies };
 
     fn read(&mut self, tenant: &Tenant) {
-        self.view = match view_of(self.alloc, self.first_tenant, tenant) {
-            Ok(view) => Ok(Some(view)),
-            Err(error) => Err(error),
-        };
+        self.view = found_in(self.alloc, self.first_tenant, tenant);
     }
 }
 
@@ -44,7 +46,9 @@ pub fn view_at<T: Clock, N: Naming>(
     host: &Host<N>,
     first_tenant: u32,
     tenant: u32,
-) -> Result<Option<TenantView>, AllocError> {
+) -> Result<Option<TenantView>, AllocError>
+    ensures { IfOk result (IsFoundView first_tenant) }
+{
     let mut viewing = Viewing {
         alloc,
         first_tenant,
@@ -65,8 +69,24 @@ pub fn view_at<T: Clock, N: Naming>(
     Ok(Some(view))
 }
 
+/// What is found of a tenant.
+fn found_in(
+    alloc: Global,
+    first_tenant: u32,
+    tenant: &Tenant,
+) -> Result<Option<TenantView>, AllocError>
+    ensures { IfOk result (IsCopyOf first_tenant tenant.now) }
+{
+    match view_of(alloc, first_tenant, tenant) {
+        Ok(view) => Ok(Some(view)),
+        Err(error) => Err(error),
+    }
+}
+
 /// All of a tenant but the lines that made its rules.
-fn view_of(alloc: Global, first_tenant: u32, tenant: &Tenant) -> Result<TenantView, AllocError> {
+fn view_of(alloc: Global, first_tenant: u32, tenant: &Tenant) -> Result<TenantView, AllocError>
+    ensures { IfOk result (IsViewOf first_tenant tenant.now) }
+{
     let definitions = tenant.definitions();
     let tables = tables_of(alloc, tenant.tables())?;
     let rules = rules_of(alloc, tenant.tables(), definitions.rules.rules())?;
@@ -187,18 +207,23 @@ fn members_of(alloc: Global, rules: &[Rule], set: RuleSet) -> Result<Vec<Vec<u8>
 }
 
 /// Its sessions. How old their lines are, no tenant knows.
-fn sessions_of(alloc: Global, tenant: &Tenant) -> Result<Vec<SessionView>, AllocError> {
+fn sessions_of(alloc: Global, tenant: &Tenant) -> Result<Vec<SessionView>, AllocError>
+    ensures { IfOk result (λ views. AreSessionsOf tenant.now session_count views.items) }
+{
     let mut views = Vec::new(alloc);
     for number in 0..SESSION_LIMIT {
-        views.push(SessionView {
+        let view = SessionView {
             state: state_of(tenant, SessionId::new(number as u8)),
             age: None,
-        })?;
+        };
+        views.push(view)?;
     }
     Ok(views)
 }
 
-fn state_of(tenant: &Tenant, session: SessionId) -> SessionState {
+fn state_of(tenant: &Tenant, session: SessionId) -> SessionState
+    ensures { result ≡ shown_as (session_at (state tenant.now) session) }
+{
     if tenant.has_transaction(session) {
         SessionState::Active
     } else if tenant.is_open(session) {

@@ -1,0 +1,37 @@
+-- Promise: what a page shows of a tenant itself.
+use Rattle.std.specs.Prelude.{◌≡◌, ◌<◌, ℕ, List, length, if◌then◌else◌, slice_index_or, Option, Some, IfSome, IfOk}
+use Rattle.sb_status.specs.declared.view.SessionState.{SessionState}
+use Rattle.sb_status.specs.declared.view.SessionState.TheVariants.{Active, Closed, Idle}
+use Rattle.sb_status.specs.declared.view.SessionView.{SessionView}
+use Rattle.sb_status.specs.declared.view.TenantView.{TenantView}
+use Rattle.sb_tenant.specs.Limits.{session_count}
+use Rattle.sb_tenant.specs.State.{Session, has_transaction, is_open, session_at}
+use Rattle.sb_tenant.specs.Tenant.{Tenant, state}
+use Rattle.sb_view.specs.Counting.{AreNumbersOf}
+use Rattle.sb_view.specs.declared.viewing.Viewing.{Viewing}
+
+-- how a session stands
+abbrev pub shown_as : Session → SessionState
+shown_as session = if has_transaction session then Active else (if is_open session then Idle else Closed)
+
+-- the sessions below a number, by their numbers
+pub record AreSessionsOf (own : Tenant) (n : ℕ) (views : List SessionView) : Type 0 where
+  pub all : length views ≡ n
+  pub each : (s : ℕ) (d : SessionView) → s < n → (slice_index_or views s d).state ≡ shown_as (session_at (state own) s)
+
+-- where the host's first tenant has this number
+pub record IsViewOf (first : ℕ) (own : Tenant) (view : TenantView) : Type 0 where
+  pub numbers : AreNumbersOf first own view.numbers
+  pub sessions : AreSessionsOf own session_count view.sessions.items
+
+-- it was copied
+abbrev pub IsCopyOf : ℕ → Tenant → Option TenantView → Type 0
+IsCopyOf first own found = (view : TenantView) × (found ≡ Some view) × IsViewOf first own view
+
+-- a tenant that is read is copied, unless memory runs out
+abbrev pub Copies : Viewing → Tenant → Viewing → Type 0
+Copies old own new = IfOk new.view (IsCopyOf old.first_tenant own)
+
+-- what is found is what some tenant of the host was
+abbrev pub IsFoundView : ℕ → Option TenantView → Type 0
+IsFoundView first found = IfSome found (λ view. (own : Tenant) × IsViewOf first own view)
