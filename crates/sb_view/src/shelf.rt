@@ -1,4 +1,6 @@
 //! What pages showed last, for tenants that are busy.
+ghost use Rattle.std.specs.Prelude.{◌≡◌, None, Some, MatchOption, slice_set};
+ghost use Rattle.sb_view.specs.Shelf.{AreAgain, IsAgain, IsUnseen, kept_at};
 
 use sb_status::{TenantNumbers, TenantView};
 use std::alloc::{AllocError, Global};
@@ -39,14 +41,19 @@ impl Shelf {
     }
 
     /// Keeps the numbers of the tenant at this place.
-    pub fn keep(&mut self, place: u32, numbers: TenantNumbers, taken: u64) {
+    pub fn keep(&mut self, place: u32, numbers: TenantNumbers, taken: u64)
+        ensures kept { self.new.numbers.items ≡ slice_set self.old.numbers.items place (Some (record { numbers = numbers; taken = taken })) }
+        ensures seen { self.new.seen ≡ self.old.seen }
+    {
         if let Some(kept) = self.numbers.get_mut(place as usize) {
             *kept = Some(Kept { numbers, taken });
         }
     }
 
     /// The numbers of the tenant at this place as they were, with their age at this time.
-    pub fn numbers(&self, place: u32, now: u64) -> Option<TenantNumbers> {
+    pub fn numbers(&self, place: u32, now: u64) -> Option<TenantNumbers>
+        ensures { MatchOption result (kept_at self.now place ≡ None) (AreAgain self.now place) }
+    {
         match self.numbers.get(place as usize) {
             Some(Some(kept)) => {
                 let mut numbers = kept.numbers;
@@ -58,12 +65,17 @@ impl Shelf {
     }
 
     /// Keeps what the tenant at this place is.
-    pub fn keep_view(&mut self, place: u32, view: TenantView, taken: u64) {
+    pub fn keep_view(&mut self, place: u32, view: TenantView, taken: u64)
+        ensures seen { self.new.seen ≡ Some (record { place = place; view = view; taken = taken }) }
+        ensures kept { self.new.numbers ≡ self.old.numbers }
+    {
         self.seen = Some(Seen { place, view, taken });
     }
 
     /// What the tenant at this place was, with its age at this time, if it was looked at last.
-    pub fn view(&mut self, place: u32, now: u64) -> Option<&TenantView> {
+    pub fn view(&mut self, place: u32, now: u64) -> Option<&TenantView>
+        ensures { MatchOption result (IsUnseen self.old.seen place) (λ view. IsAgain self.old.seen place view.now) }
+    {
         let Some(seen) = &mut self.seen else {
             return None;
         };
