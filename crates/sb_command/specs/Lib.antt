@@ -5,6 +5,7 @@ pub mod Digesting
 pub mod Dumping
 pub mod Loading
 pub mod Calling
+pub mod Saving
 pub mod Playing
 pub mod Does
 pub mod Faults

@@ -1,5 +1,6 @@
 //! Files of tenants in a folder: one file for each, named by the tenant's number.
-ghost use Rattle.std.specs.Prelude.{◌≡◌, ◌+◌};
+ghost use Rattle.std.specs.Prelude.{◌≡◌, ◌+◌, IfOk, codes, string_bytes};
+ghost use Rattle.sb_command.specs.Saving.{file_name};
 
 use crate::fault::Fault;
 use crate::journal::Journal;
@@ -26,13 +27,17 @@ impl<'a> Folder<'a> {
     }
 
     /// The file of the tenant with this number.
-    pub(crate) fn file_of(self, alloc: Global, number: u64) -> Result<String, AllocError> {
+    pub(crate) fn file_of(self, alloc: Global, number: u64) -> Result<String, AllocError>
+        ensures { IfOk result (λ name. string_bytes name ≡ file_name self.entry.path.now number (codes ".lines")) }
+    {
         let folder = self.path;
         format!(in alloc; "{folder}/{number}.lines")
     }
 
     /// The file that is written in its place, and then gets its name.
-    fn new_file_of(self, alloc: Global, number: u64) -> Result<String, AllocError> {
+    fn new_file_of(self, alloc: Global, number: u64) -> Result<String, AllocError>
+        ensures { IfOk result (λ name. string_bytes name ≡ file_name self.entry.path.now number (codes ".lines.new")) }
+    {
         let folder = self.path;
         format!(in alloc; "{folder}/{number}.lines.new")
     }

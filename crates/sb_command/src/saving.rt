@@ -1,5 +1,6 @@
 //! The tenants of a host, written to the files of a folder.
 ghost use Rattle.std.specs.Prelude.{◌≡◌, ◌⊎◌, ◌≤◌, IfErr};
+ghost use Rattle.sb_command.specs.Saving.{IsNotedOf, IsNotedOfSome};
 ghost use Rattle.sb_command.specs.declared.fault.Fault.TheVariants as fault;
 ghost use Rattle.sb_wire.specs.declared.fault.StreamError.TheVariants as stream;
 
@@ -36,18 +37,26 @@ struct Notes {
 }
 
 impl Reading for Notes {
-    ghost use Rattle.std.specs.Prelude.{⊤};
+    ghost use Rattle.sb_command.specs.declared.saving.Noted.TheVariants as found;
 
-    ghost reads = { λ _ _ _. ⊤ };
+    ghost reads = { λ old own new. old.noted ≡ found.Unused → IsNotedOf old.bound own new.noted };
 
     fn read(&mut self, tenant: &Tenant) {
         if tenant.trail().is_empty() {
             return;
         }
-        self.noted = match dump(self.alloc, tenant, self.bound) {
-            Ok(script) => Noted::Script(script),
-            Err(error) => Noted::Lacking(error),
-        };
+        self.noted = script_of(self.alloc, tenant, self.bound);
+    }
+}
+
+/// What a tenant has that was opened.
+fn script_of(alloc: Global, tenant: &Tenant, bound: u32) -> Noted
+    requires { bound ≤ 1000 }
+    ensures { IsNotedOf bound tenant.now result }
+{
+    match dump(alloc, tenant, bound) {
+        Ok(script) => Noted::Script(script),
+        Err(error) => Noted::Lacking(error),
     }
 }
 
@@ -104,6 +113,7 @@ pub(crate) fn noted_of<T: Wait, N: Naming>(
     tenant: u32,
 ) -> Noted
     requires { bound ≤ 1000 }
+    ensures { IsNotedOfSome bound result }
 {
     let mut notes = Notes {
         alloc,
@@ -124,6 +134,7 @@ pub(crate) fn noted_in<T: Clock, N: Naming>(
     tenant: u32,
 ) -> Noted
     requires { bound ≤ 1000 }
+    ensures { (result ≡ Noted.Lacking DumpError.Busy) ⊎ IsNotedOfSome bound result }
 {
     let mut notes = Notes {
         alloc,
