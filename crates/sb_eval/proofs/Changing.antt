@@ -1,5 +1,5 @@
 -- The changes of rows, one after another.
-use Rattle.std.proofs.Common.{◌≡◌, ◌∙◌, refl, ap, sym, ℕ, List, [], ◌∷◌, ◌++◌, map, drop, take, length, Bool, true, false}
+use Rattle.std.proofs.Common.{◌≡◌, ◌∙◌, refl, ap, sym, subst, ℕ, List, [], ◌∷◌, ◌++◌, map, drop, take, length, Bool, true, false}
 use Rattle.std.proofs.lemmas.List.{append_assoc, append-nil, map-set}
 use Rattle.std.proofs.Math.ListN.{length-set}
 use Rattle.std.proofs.Math.Seq.{take-append_seam}
@@ -14,6 +14,7 @@ use Rattle.sb_eval.specs.Effect.{with_change}
 use Rattle.sb_plan.specs.Scopes.{value_seen}
 use Rattle.sb_plan.specs.declared.value_ref.ValueRef.{ValueRef}
 use Rattle.sb_plan.specs.Meaning.{both, each, passing}
+use Rattle.sb_plan.specs.RowFlags.{Tell}
 
 abbrev pub Numbered : Type 0
 Numbered = ℕ × List Value
@@ -55,6 +56,28 @@ pub row-step : (test : Numbered → Option Bool) (change : Numbered → Option C
 row-step test change whole done left others n row values split same inv =
     inv ∙ ap (λ l. all_after done (changes_from test change l)) (split ∙ ap (λ r. (n, r) ∷ others) (sym same))
     ∙ row-first change done (n, values) (test (n, values)) (passing test others)
+
+-- the same, where it is told whether the row passes
+pub told-step : (test : Numbered → Option Bool) (change : Numbered → Option Change) (whole : Option (List Change)) (done : List Change) (left others : List Numbered) (n : ℕ) (row values : List Value) (b : Bool)
+    → left ≡ (n, row) ∷ others → values ≡ row → test (n, row) ≡ Some b
+    → whole ≡ all_after done (changes_from test change left)
+    → whole ≡ option_and_then (λ next. all_after next (changes_from test change others)) (with_change done (change (n, values)) b)
+told-step test change whole done left others n row values b split same told inv =
+    row-step test change whole done left others n row values split same inv
+    ∙ ap (λ o. option_and_then (λ next. all_after next (changes_from test change others)) (option_and_then (with_change done (change (n, values))) o)) (ap (λ v. test (n, v)) same ∙ told)
+
+-- flags of rows, by another meaning
+pub told_as : (is also : List Value → Bool → Type 0) (flags : List Bool) (rows : List (List Value)) → ((row : List Value) (b : Bool) → is row b → also row b) → Tell is flags rows → Tell also flags rows
+told_as is also [] [] weaker tell = tt
+told_as is also [] (row ∷ rows) weaker tell = absurd tell
+told_as is also (b ∷ flags) [] weaker tell = absurd tell
+told_as is also (b ∷ flags) (row ∷ rows) weaker tell = (weaker row b tell.0, told_as is also flags rows weaker tell.1)
+
+-- the first flag is the first row's
+pub told_first : (is : List Value → Bool → Type 0) (flags rest : List Bool) (b : Bool) (left others : List Numbered) (n : ℕ) (row : List Value) → flags ≡ b ∷ rest → left ≡ (n, row) ∷ others
+    → Tell is flags (map (λ r. r.1) left) → is row b × Tell is rest (map (λ r. r.1) others)
+told_first is flags rest b left others n row one two tell =
+    subst (λ l. Tell is (b ∷ rest) (map (λ r. r.1) l)) two (subst (λ l. Tell is l (map (λ r. r.1) left)) one tell)
 
 -- where nothing can fail, each is a map
 pub each-some : {A B : Type 0} (f : A → B) (xs : List A) → each (λ x. Some (f x)) xs ≡ Some (map f xs)

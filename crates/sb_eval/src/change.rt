@@ -2,7 +2,7 @@
 ghost use Rattle.std.specs.Prelude.{◌≡◌, map, slice_set, IfOk, OnOk};
 ghost use Rattle.sb_eval.specs.Answer.{Gives, Leaves};
 ghost use Rattle.sb_eval.specs.Around.{assigned_around, rows_around};
-ghost use Rattle.sb_eval.specs.Effect.{AssignmentsRight};
+ghost use Rattle.sb_eval.specs.Effect.{AssignmentsRight, with_change};
 ghost use Rattle.sb_eval.specs.Statement as spec;
 ghost use Rattle.sb_eval.specs.TableWalk.{AreOperandsRight, IsTableWalkRight, change_of_row, changed};
 ghost use Rattle.sb_plan.specs.Scopes.{scope_of, value_seen};
@@ -230,8 +230,37 @@ fn change<'r, S: Sources>(
     }
 }
 
-/// Adds the change of one row, where the condition is true of it. What can be known of the operands is found at the
-/// first such row, and again where so many were found that their sources are worth looking up.
+/// Adds the change of one row, where it passes. What can be known of the operands is found at the first such row, and
+/// again where so many were found that their sources are worth looking up.
+pub(crate) fn add_change<'r, S: Sources>(
+    alloc: Global,
+    walk: &TableWalk<'_, 'r, S>,
+    passes: bool,
+    number: u64,
+    values: &'r [Value],
+    operands: &mut Known<'r>,
+    changes: &mut Vec<Change>,
+) -> Result<(), Fault>
+    requires { AreOperandsRight S.seen walk.now operands.old }
+    ensures operands { OnOk result (AreOperandsRight S.seen walk.now operands.new) }
+    ensures changes { Leaves changes.new.items (with_change changes.old.items (change_of_row S.seen walk.now (number, values.now)) passes) result }
+{
+    if !passes {
+        return Ok(());
+    }
+    let combination = [LentRow { values }];
+    let outermost = Scope::Outermost;
+    let scope = Scope::Within(&combination, &outermost);
+    let found = changes.len();
+    if found == 0 || found == LOOKED_UP {
+        *operands = learn_effect(alloc, walk.effect, found as u64, walk.table, walk.sources)?;
+    }
+    let change = change(alloc, walk, number, values, operands, &scope)?;
+    changes.push(change)?;
+    Ok(())
+}
+
+/// The same, where the condition is true of the row.
 pub(crate) fn change_row<'r, S: Sources>(
     alloc: Global,
     walk: &TableWalk<'_, 'r, S>,
@@ -253,14 +282,5 @@ pub(crate) fn change_row<'r, S: Sources>(
         scope: &scope,
     };
     let passes = condition(alloc, walk.filter, walk.known, &around)?;
-    if !passes {
-        return Ok(());
-    }
-    let found = changes.len();
-    if found == 0 || found == LOOKED_UP {
-        *operands = learn_effect(alloc, walk.effect, found as u64, walk.sources)?;
-    }
-    let change = change(alloc, walk, number, values, operands, &scope)?;
-    changes.push(change)?;
-    Ok(())
+    add_change(alloc, walk, passes, number, values, operands, changes)
 }

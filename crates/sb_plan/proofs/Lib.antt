@@ -3,3 +3,7 @@ mod Searching
 mod Indexing
 mod Joining
 mod Deciding
+mod Compiling
+mod Gathering
+mod Telling
+mod Flagging

@@ -11,3 +11,8 @@ pub mod Joined
 pub mod Settled
 pub mod Index
 pub mod Join
+pub mod Gathered
+pub mod Compiled
+pub mod Batch
+pub mod Way
+pub mod RowFlags

@@ -2,36 +2,49 @@
 //! outward, which rows can be looked up, what is known of its subqueries, and what of it overflows nowhere.
 #![tactic(auto)]
 
+mod batch;
+mod compile;
 mod correlation;
 mod cost;
 mod early;
 mod equality;
 mod expression;
+mod flags;
+mod gather;
 mod index;
 mod join;
 mod known;
 mod laws;
 mod lent_row;
+mod names;
+mod outward;
+mod parts;
 mod scope;
 mod settled;
+mod sides;
 mod source_rows;
 mod sources;
 mod truth;
 mod value_ref;
 mod value_set;
+mod way;
 
+pub use batch::{Batch, Found};
 pub use correlation::is_uncorrelated;
 pub use cost::{combination_count, operand_cost, query_cost, subquery_cost};
 pub use early::is_false_already;
 pub use equality::Equality;
 pub use expression::value;
+pub use flags::row_flags;
+pub use gather::{BATCHED, Columns, Gathered};
 pub use index::{Entry, Index};
-pub use join::{Join, LOOKED_UP, learn_join};
+pub use join::{Join, LOOKED_UP};
 pub use known::Known;
 pub use laws::{
     equal_columns_suffice, indexes_suffice, known_values_suffice, settled_never_overflow,
 };
 pub use lent_row::LentRow;
+pub use outward::Outward;
 pub use scope::{Scope, column};
 pub use settled::{is_query_settled, is_settled};
 pub use source_rows::SourceRows;
@@ -39,3 +52,4 @@ pub use sources::Sources;
 pub use truth::is_true_inlined;
 pub use value_ref::ValueRef;
 pub use value_set::ValueSet;
+pub use way::{Way, learn_way};

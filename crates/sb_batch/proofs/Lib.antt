@@ -1,2 +1,0 @@
-mod Compiling
-mod Gathering

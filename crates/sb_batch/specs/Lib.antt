@@ -1,3 +1,0 @@
-pub mod Gathered
-pub mod Compiled
-pub mod Batch
