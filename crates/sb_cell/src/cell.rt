@@ -268,6 +268,7 @@ impl Cell {
     pub fn tenant(&self, tenant: u32) -> Option<&Tenant>
         ensures found { option_copied result ≡ tenant_at self.now tenant }
         ensures hosted { IfSome result (λ own. IsTenantOf self.now own.now) }
+        ensures number { IfSome result (λ own. own.now.id ≡ tenant) }
     {
         if self.hosts(tenant) {
             Some(&self.tenants[(tenant / self.stride) as usize])
