@@ -67,7 +67,8 @@ impl<N: Naming, const FIRST: u32> Desk<N, FIRST> {
 
     /// The cell.
     pub fn cell(&self) -> &Cell
-        ensures { result.now ≡ self.now }
+        ensures same { result.now ≡ self.now }
+        ensures hosts { (t : ℕ) → hosts self.now t ≡ ((t % N.cells == FIRST) && nat_lt t N.tenants) }
     {
         &self.cell
     }
