@@ -6,7 +6,8 @@
 PROGRAM is crates/starhost/out/starhost where no word is given; `rt run` in
 crates/starhost builds it. A statement of as many comparisons as a line has room
 for is evaluated on all combinations of 1,024 by 1,024 rows, once of integers and
-once of equal texts of 255 bytes; printed are its seconds. Then one transaction
+once of equal texts of 255 bytes, and one that adds up as long a term; printed are
+their seconds. Then one transaction
 updates 4,096 rows 512 times and is rolled back; printed is the memory that the
 program has in use before it, at its end, and after some thousand short ones
 behind it, in megabytes.
@@ -18,7 +19,7 @@ import sys
 import time
 
 BUILT = os.path.join(os.path.dirname(os.path.abspath(__file__)), "..", "crates", "starhost", "out", "starhost")
-LINE = 4096
+LINE = 4096 - len("0 0 ")
 
 
 class Host:
@@ -51,22 +52,26 @@ def doubled(host, rows):
         rows //= 2
 
 
-def seconds(program, column, value):
+def seconds(program, column, value, line, answer):
+    """How long this line takes over 1,024 rows that have this value in both columns."""
     host = Host(program)
     host.ask("open", f"create table t (a {column}, b {column})", "begin", f"insert into t values ({value}, {value})")
     doubled(host, 1024)
-    line = "select count(*) from t x, t y where x.a=y.b"
-    while len(line) + len(" and x.a=y.b") <= LINE:
-        line += " and x.a=y.b"
     start = time.perf_counter()
     host.process.stdin.write(f"0 0 {line}\n")
     host.process.stdin.flush()
     reply = host.process.stdout.readline() + host.process.stdout.readline()
     taken = time.perf_counter() - start
     host.close()
-    if reply != "0 0 rows 1\n0 0 1048576\n":
-        sys.exit(f"{column}: {reply}")
-    return taken, line.count("=")
+    if reply != f"0 0 rows 1\n0 0 {answer}\n":
+        sys.exit(f"{line[:40]}: {reply}")
+    return taken
+
+
+def filled(first, more, last=""):
+    """A line that begins and ends so, with as many of these between as a line has room for, and how many."""
+    count = (LINE - len(first) - len(last)) // len(more)
+    return first + more * count + last, count
 
 
 def weigh(program):
@@ -87,9 +92,13 @@ def weigh(program):
 
 def main():
     program = sys.argv[1] if len(sys.argv) > 1 else BUILT
+    line, more = filled("select count(*) from t x, t y where x.a=y.b", " and x.a=y.b")
     for column, value in ("int", "7"), ("text", "'" + "x" * 255 + "'"):
-        taken, count = seconds(program, column, value)
-        print(f"{count} comparisons of each of 2^20 combinations, {column}: {taken:.1f} s")
+        taken = seconds(program, column, value, line, 2**20)
+        print(f"{more + 1} comparisons of each of 2^20 combinations, {column}: {taken:.1f} s")
+    line, more = filled("select sum(x.a", "+y.b", ") from t x, t y")
+    taken = seconds(program, "int", "7", line, 7 * (more + 1) * 2**20)
+    print(f"the sum of {more + 1} columns over 2^20 combinations: {taken:.1f} s")
     print("a transaction of 2^21 changes, rolled back: %.0f MB before, %.0f at its end, %.0f behind it" % weigh(program))
 
 
