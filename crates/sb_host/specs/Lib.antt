@@ -2,6 +2,7 @@ pub mod Calls
 pub mod Stubs
 pub mod Opening
 pub mod Lent
+pub mod Lending
 pub mod Finish
 pub mod Comparing
 pub mod Parts

@@ -1,7 +1,7 @@
 //! The cells of a host, each behind a lock of its own.
-ghost use Rattle.std.specs.Prelude.{◌≡◌, ◌<◌, false, IsFalse, IsSome, IsTrue, IfOk, IfErr, OnOk};
-ghost use Rattle.sb_tenant.specs.Tenant.{Tenant as ItsTenant};
+ghost use Rattle.std.specs.Prelude.{◌≡◌, ◌↔◌, ◌<◌, ◌≤◌, nat_lt, false, IsFalse, IsSome, IsTrue, IfOk, IfErr, OnOk};
 ghost use Rattle.sb_host.specs.Calls.{Attached, Called, IsRefused, IsNewcomer, Left, Refused};
+ghost use Rattle.sb_host.specs.Lending.{Lends};
 
 use crate::gate::Gate;
 use crate::locks::{Lock, Reach, admit_in, enter_in, leave_in, read_in, try_read_in};
@@ -90,10 +90,38 @@ impl<N: Naming> Host<N> {
         }
     }
 
-    /// Lends a tenant to a reader, within the lock of its cell: whether there is one of that number.
+    /// Lends the tenant of that number to a reader, within the lock of its cell: whether there is one.
     pub fn read<R: Wait, V: Reading>(&self, rt: &R, tenant: u32, reading: &mut V) -> bool
-        ensures read { IsTrue result → (own : ItsTenant) × V.reads reading.old own reading.new }
+        ensures there { result ≡ nat_lt tenant self.now }
+        ensures read { IsTrue result → Lends (V.reads reading.old) tenant reading.new }
         ensures none { IsFalse result → reading.new ≡ reading.old }
+    {
+        if tenant >= self.tenants {
+            return false;
+        }
+        self.lend(rt, tenant, reading);
+        true
+    }
+
+    /// Does the same, but where the lock is held it doesn't wait.
+    pub fn try_read<V: Reading>(&self, tenant: u32, reading: &mut V) -> Tried
+        ensures there { (result ≡ Tried.NoTenant) ↔ (self.now ≤ tenant) }
+        ensures read { result ≡ Tried.Read → Lends (V.reads reading.old) tenant reading.new }
+        ensures none { (result ≡ Tried.Read → ⊥) → reading.new ≡ reading.old }
+    {
+        if tenant >= self.tenants {
+            return Tried::NoTenant;
+        }
+        match self.try_lend(tenant, reading) {
+            true => Tried::Read,
+            false => Tried::Held,
+        }
+    }
+
+    /// Lends one of its tenants.
+    fn lend<R: Wait, V: Reading>(&self, rt: &R, tenant: u32, reading: &mut V)
+        requires { tenant < self.now }
+        ensures { Lends (V.reads reading.old) tenant reading.new }
     {
         match tenant % self.cells {
             0 => read_in(rt, &self.d0, tenant, reading),
@@ -116,10 +144,11 @@ impl<N: Naming> Host<N> {
         }
     }
 
-    /// Does the same, but where the lock is held it doesn't wait.
-    pub fn try_read<V: Reading>(&self, tenant: u32, reading: &mut V) -> Tried
-        ensures read { result ≡ Tried.Read → (own : ItsTenant) × V.reads reading.old own reading.new }
-        ensures none { (result ≡ Tried.Read → ⊥) → reading.new ≡ reading.old }
+    /// Does the same, unless the lock is held: whether it isn't.
+    fn try_lend<V: Reading>(&self, tenant: u32, reading: &mut V) -> bool
+        requires { tenant < self.now }
+        ensures read { IsTrue result → Lends (V.reads reading.old) tenant reading.new }
+        ensures none { IsFalse result → reading.new ≡ reading.old }
     {
         match tenant % self.cells {
             0 => try_read_in(&self.d0, tenant, reading),

@@ -1,10 +1,10 @@
 //! The three calls of a desk, behind its lock.
 ghost use Rattle.std.specs.Prelude.{◌≡◌, ◌<◌, ◌%◌, false, IsFalse, IsSome, IsTrue, IfOk, IfErr, OnOk};
-ghost use Rattle.sb_tenant.specs.Tenant.{Tenant as ItsTenant};
 ghost use Rattle.sb_host.specs.Calls.{Called, IsNewcomer, IsRefused, Left, Refused};
+ghost use Rattle.sb_host.specs.Lending.{Lends};
 
 use crate::gate::Gate;
-use crate::reading::{Reading, Tried};
+use crate::reading::Reading;
 use crossbeam_utils::CachePadded;
 use sb_desk::seats::SeatTable;
 use sb_desk::{AttachError, CallError, Desk, Naming, Receipts};
@@ -24,45 +24,45 @@ pub(crate) struct Reach<'h> {
     pub(crate) table: &'h SeatTable,
 }
 
-/// Lends a tenant of the cell to a reader.
+/// Lends the tenant of that number to a reader.
 pub(crate) fn read_in<N: Naming, const F: u32, R: Wait, V: Reading>(
     rt: &R,
     lock: &Lock<N, F>,
     tenant: u32,
     reading: &mut V,
-) -> bool
+)
     requires there { IsSome lock.now }
-    ensures read { IsTrue result → (own : ItsTenant) × V.reads reading.old own reading.new }
-    ensures none { IsFalse result → reading.new ≡ reading.old }
+    requires hosts { (tenant < N.tenants) × (tenant % N.cells ≡ F) }
+    ensures { Lends (V.reads reading.old) tenant reading.new }
 {
     let Some(lock) = lock else { unreachable!() };
     let desk = lock.lock(rt);
     let Some(own) = desk.cell().tenant(tenant) else {
-        return false;
+        unreachable!()
     };
     reading.read(own);
-    true
 }
 
-/// Lends a tenant of the cell to a reader, unless the lock is held.
+/// Does the same, unless the lock is held: whether it isn't.
 pub(crate) fn try_read_in<N: Naming, const F: u32, V: Reading>(
     lock: &Lock<N, F>,
     tenant: u32,
     reading: &mut V,
-) -> Tried
+) -> bool
     requires there { IsSome lock.now }
-    ensures read { result ≡ Tried.Read → (own : ItsTenant) × V.reads reading.old own reading.new }
-    ensures none { (result ≡ Tried.Read → ⊥) → reading.new ≡ reading.old }
+    requires hosts { (tenant < N.tenants) × (tenant % N.cells ≡ F) }
+    ensures read { IsTrue result → Lends (V.reads reading.old) tenant reading.new }
+    ensures none { IsFalse result → reading.new ≡ reading.old }
 {
     let Some(lock) = lock else { unreachable!() };
     let Some(desk) = lock.try_lock() else {
-        return Tried::Held;
+        return false;
     };
     let Some(own) = desk.cell().tenant(tenant) else {
-        return Tried::NoTenant;
+        unreachable!()
     };
     reading.read(own);
-    Tried::Read
+    true
 }
 
 /// Makes the step of the line that is ready.
