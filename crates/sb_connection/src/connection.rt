@@ -10,12 +10,13 @@ ghost use Rattle.sb_connection.specs.Traffic.{after_write};
 use crate::admission::Admission;
 use crate::ending::Ending;
 use crate::greeting::Named;
+use crate::hosting::Hosting;
 use crate::machine::Machine;
 use crate::serve::{close, tell_end};
 use crate::state::State;
 use crate::stream::Stream;
 use crate::watch::Watch;
-use sb_host::{Host, Naming, Stub};
+use sb_host::Stub;
 use std::alloc::{AllocError, Global};
 use std::io;
 use std::marker::Model;
@@ -27,11 +28,11 @@ const LINES_A_TURN: usize = 64;
 /// Give it what comes while it `wants_read`, `advance` it, and `send` while it `wants_write`,
 /// until it `is_done`. Then close it, or at any time before.
 #[derive(Drop)]
-pub struct Connection<'h, N: Naming> {
-    machine: Machine<'h, N>,
+pub struct Connection<H: Hosting> {
+    machine: Machine<H>,
 }
 
-impl<'h, N: Naming> Model for Connection<'h, N> {
+impl<H: Hosting> Model for Connection<H> {
     ghost use Rattle.sb_connection.specs.History.{History};
     ghost use Rattle.sb_connection.specs.Machine.{Holds};
 
@@ -42,11 +43,11 @@ impl<'h, N: Naming> Model for Connection<'h, N> {
     ghost invariant = { λ c. Holds c.machine };
 }
 
-impl<'h, N: Naming> Connection<'h, N> {
+impl<H: Hosting> Connection<H> {
     /// Before its first byte; the host's first tenant has this number, and its first line brings a key or doesn't. It
     /// allocates nothing.
-    pub fn new(alloc: Global, host: &'h Host<N>, first: u32, keyed: bool) -> Connection<'h, N>
-        ensures { result ≡ nothing_yet (hosting_by keyed first host.now) }
+    pub fn new(alloc: Global, host: H, first: u32, keyed: bool) -> Connection<H>
+        ensures { result ≡ nothing_yet (hosting_by keyed first (H.tenants host)) }
     {
         Connection {
             machine: Machine::new(alloc, host, first, keyed),

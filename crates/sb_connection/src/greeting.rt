@@ -6,9 +6,11 @@ ghost use Rattle.sb_connection.specs.Conversation.{attach_lines, hosting, hostin
 ghost use Rattle.sb_connection.specs.Responding.{Greets, GreetsNamed, GreetsVisitor};
 
 use crate::admission::Admission;
+use crate::caller::Caller;
+use crate::hosting::Hosting;
 use crate::talking::Talk;
 use crate::watch::{Event, Watch};
-use sb_host::{AttachError, Naming, Session};
+use sb_host::AttachError;
 use sb_tenant::Reply;
 use sb_value::Refusal;
 use sb_wire::{
@@ -93,17 +95,17 @@ pub(crate) fn number_of(first: u32, tenant: u32) -> u32 {
 }
 
 /// Opens the session that a first line names, or turns the connection away.
-pub(crate) fn greet<'h, T: Wait, N: Naming, V: Watch, A: Admission>(
-    talk: &Talk<'_, 'h, T, N, V, A>,
+pub(crate) fn greet<T: Wait, H: Hosting, V: Watch, A: Admission>(
+    talk: &Talk<'_, T, H, V, A>,
     alloc: Global,
     piece: Piece<'_>,
     out: &mut Vec<u8>,
-    session: &mut Option<Session<'h, N>>,
+    session: &mut Option<Caller<H::Session>>,
     away: &mut bool,
 ) -> Result<(), AllocError>
     requires { session.old ≡ None }
     ensures { (text : List ℕ)
-        × Greets (A.admits talk.now.admission.now) (hosting_by talk.now.keyed talk.now.first talk.now.host.now) (piece_seen piece.entry)
+        × Greets (A.admits talk.now.admission.now) (hosting_by talk.now.keyed talk.now.first (H.tenants talk.now.host)) (piece_seen piece.entry)
         text session.new away.new
         × OnOk result (out.new.items ≡ out.old.items ++ text)
         × OnErr result (out.new.items ≡ out.old.items) }
@@ -119,17 +121,17 @@ pub(crate) fn greet<'h, T: Wait, N: Naming, V: Watch, A: Admission>(
 }
 
 /// Opens the session that a first line with a key names, if it is a key of the tenant.
-fn greet_visitor<'h, T: Wait, N: Naming, V: Watch, A: Admission>(
-    talk: &Talk<'_, 'h, T, N, V, A>,
+fn greet_visitor<T: Wait, H: Hosting, V: Watch, A: Admission>(
+    talk: &Talk<'_, T, H, V, A>,
     alloc: Global,
     line: &[u8],
     out: &mut Vec<u8>,
-    session: &mut Option<Session<'h, N>>,
+    session: &mut Option<Caller<H::Session>>,
     away: &mut bool,
 ) -> Result<(), AllocError>
     requires { session.old ≡ None }
     ensures { (text : List ℕ)
-        × GreetsVisitor (A.admits talk.now.admission.now) (hosting_by talk.now.keyed talk.now.first talk.now.host.now)
+        × GreetsVisitor (A.admits talk.now.admission.now) (hosting_by talk.now.keyed talk.now.first (H.tenants talk.now.host))
         (visitor_of line.now) text session.new away.new
         × OnOk result (out.new.items ≡ out.old.items ++ text)
         × OnErr result (out.new.items ≡ out.old.items) }
@@ -163,17 +165,17 @@ fn turn_away<V: Watch>(
 }
 
 /// Opens this session, or turns the connection away.
-fn open<'h, T: Wait, N: Naming, V: Watch, A: Admission>(
-    talk: &Talk<'_, 'h, T, N, V, A>,
+fn open<T: Wait, H: Hosting, V: Watch, A: Admission>(
+    talk: &Talk<'_, T, H, V, A>,
     alloc: Global,
     named: Named,
     out: &mut Vec<u8>,
-    session: &mut Option<Session<'h, N>>,
+    session: &mut Option<Caller<H::Session>>,
     away: &mut bool,
 ) -> Result<(), AllocError>
     requires { session.old ≡ None }
     ensures { (text : List ℕ)
-        × GreetsNamed (hosting_by talk.now.keyed talk.now.first talk.now.host.now) named text session.new away.new
+        × GreetsNamed (hosting_by talk.now.keyed talk.now.first (H.tenants talk.now.host)) named text session.new away.new
         × OnOk result (out.new.items ≡ out.old.items ++ text)
         × OnErr result (out.new.items ≡ out.old.items) }
 {
@@ -181,7 +183,7 @@ fn open<'h, T: Wait, N: Naming, V: Watch, A: Admission>(
     match talk.host.attach(talk.rt, alloc, tenant, named.session) {
         Ok(opened) => {
             talk.watch.see(Event::Attached(named));
-            *session = Some(opened);
+            *session = Some(Caller::new(opened));
             write_bare_reply(out, &Reply::Ok)
         }
         Err(error) => {

@@ -3,9 +3,11 @@
 #![tactic(auto)]
 
 mod admission;
+mod caller;
 mod connection;
 mod ending;
 mod greeting;
+mod hosting;
 mod machine;
 mod room;
 mod routing;
@@ -20,6 +22,7 @@ pub use admission::{Admission, Open};
 pub use connection::Connection;
 pub use ending::Ending;
 pub use greeting::Named;
+pub use hosting::{Calling, Hosting};
 pub use routing::{Route, route_of};
 pub use serve::{Served, serve_one, serve_one_with};
 pub use state::State;

@@ -9,7 +9,9 @@ ghost use Rattle.sb_connection.specs.Standing.{is_open};
 ghost use Rattle.sb_connection.specs.Traffic.{after_write};
 
 use crate::admission::Admission;
+use crate::caller::Caller;
 use crate::greeting::{Named, named_in};
+use crate::hosting::Hosting;
 use crate::room::{newest_step, tell_refusal, tell_reply, tell_room, was_unbegun};
 use crate::state::State;
 use crate::stream::Stream;
@@ -17,7 +19,6 @@ use crate::talking::Talk;
 use crate::transactions::transacts_after;
 use crate::watch::{Event, Watch};
 use http_server::Log;
-use sb_host::{Host, Naming, Session};
 use sb_wire::{Lines, Piece, Responder, WireRefusal};
 use std::alloc::{AllocError, Global};
 use std::io;
@@ -32,9 +33,9 @@ const MOST_PENDING: usize = 65_536;
 
 /// What a connection is: its session, the bytes that came and the bytes that go.
 #[derive(Drop)]
-pub(crate) struct Machine<'h, N: Naming> {
+pub(crate) struct Machine<H: Hosting> {
     pub(crate) alloc: Global,
-    pub(crate) host: &'h Host<N>,
+    pub(crate) host: H,
     /// The number of the host's first tenant.
     pub(crate) first: u32,
     /// The first line brings a key.
@@ -42,7 +43,7 @@ pub(crate) struct Machine<'h, N: Naming> {
     pub(crate) state: State,
     /// The client sends no more.
     pub(crate) at_end: bool,
-    pub(crate) session: Option<Session<'h, N>>,
+    pub(crate) session: Option<Caller<H::Session>>,
     /// What the first line names.
     pub(crate) named: Option<Named>,
     /// It is told that a line wasn't begun.
@@ -63,7 +64,7 @@ pub(crate) struct Machine<'h, N: Naming> {
     pub(crate) writes: Log<Vec<u8>, (usize, usize)>,
 }
 
-impl<'h, N: Naming> Model for Machine<'h, N> {
+impl<H: Hosting> Model for Machine<H> {
     ghost use Rattle.std.specs.Prelude.{◌≤◌, flat_map, is_some, take, drop, vec_len};
     ghost use Rattle.sb_connection.specs.Conversation.{hosting_by};
     ghost use Rattle.sb_connection.specs.Machine.{Talking};
@@ -72,7 +73,7 @@ impl<'h, N: Naming> Model for Machine<'h, N> {
 
     ghost view = { λ m. record {
       history = record {
-        hosted = hosting_by m.keyed m.first m.host.now;
+        hosted = hosting_by m.keyed m.first (H.tenants m.host);
         state = m.state;
         attached = is_some m.session;
         at_end = m.at_end;
@@ -88,9 +89,9 @@ impl<'h, N: Naming> Model for Machine<'h, N> {
     ghost invariant = { λ m. (m.taken ≤ vec_len m.input) × (m.sent ≤ vec_len m.output) };
 }
 
-impl<'h, N: Naming> Machine<'h, N> {
-    pub(crate) fn new(alloc: Global, host: &'h Host<N>, first: u32, keyed: bool) -> Machine<'h, N>
-        ensures { result ≡ record { history = nothing_yet (hosting_by keyed first host.now); opened = line []; talk = (None, false) } }
+impl<H: Hosting> Machine<H> {
+    pub(crate) fn new(alloc: Global, host: H, first: u32, keyed: bool) -> Machine<H>
+        ensures { result ≡ record { history = nothing_yet (hosting_by keyed first (H.tenants host)); opened = line []; talk = (None, false) } }
     {
         Machine {
             alloc,
@@ -127,7 +128,7 @@ impl<'h, N: Naming> Machine<'h, N> {
         self.at_end = true;
     }
 
-    pub(crate) fn into_session(self) -> Option<Session<'h, N>>
+    pub(crate) fn into_session(self) -> Option<Caller<H::Session>>
         ensures { result ≡ self.entry.talk.0 }
     {
         let Machine { session, .. } = self;

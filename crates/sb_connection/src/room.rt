@@ -1,8 +1,9 @@
 //! What is told of the answers of a session, and of the room of its tenant's trail.
 
+use crate::caller::Caller;
 use crate::greeting::Named;
+use crate::hosting::Calling;
 use crate::watch::{Answered, Event, Said, Watch};
-use sb_host::{Naming, Session};
 use sb_tenant::TRAIL_LIMIT;
 use sb_wire::WireRefusal;
 use std::sync::Wait;
@@ -14,7 +15,7 @@ const MOST_STEPS: u32 = TRAIL_LIMIT as u32;
 const FEW_STEPS: u32 = MOST_STEPS / 10;
 
 /// Which step of its tenant the newest answer of a session is, if it is one.
-pub(crate) fn newest_step<N: Naming>(session: &Option<Session<'_, N>>) -> Option<u32> {
+pub(crate) fn newest_step<S: Calling>(session: &Option<Caller<S>>) -> Option<u32> {
     let Some(session) = session else {
         return None;
     };
@@ -26,8 +27,8 @@ pub(crate) fn newest_step<N: Naming>(session: &Option<Session<'_, N>>) -> Option
 
 /// Whether the newest line wasn't begun, where it was no step and this is the newest one: an answer that is no step says
 /// that the trail is full.
-pub(crate) fn was_unbegun<N: Naming>(
-    session: &Option<Session<'_, N>>,
+pub(crate) fn was_unbegun<S: Calling>(
+    session: &Option<Caller<S>>,
     newest: Option<u32>,
 ) -> bool {
     let Some(session) = session else {
@@ -53,10 +54,10 @@ pub(crate) fn tell_room<V: Watch>(watch: &V, tenant: u32, step: u32) {
 }
 
 /// Tells the newest answer of a session, to this line.
-pub(crate) fn tell_reply<T: Wait, V: Watch, N: Naming>(
+pub(crate) fn tell_reply<T: Wait, V: Watch, S: Calling>(
     rt: &T,
     watch: &V,
-    session: &Option<Session<'_, N>>,
+    session: &Option<Caller<S>>,
     named: Named,
     line: &[u8],
     transacted: bool,

@@ -7,12 +7,14 @@ ghost use Rattle.sb_wire.specs.Responses.{StopsBy};
 ghost use Rattle.sb_wire.specs.Stream.{MayFail, OnWriteFault};
 
 use crate::admission::Open;
+use crate::caller::Caller;
 use crate::ending::Ending;
 use crate::greeting::{Named, number_of};
+use crate::hosting::{Calling, Hosting};
 use crate::room::steps_left;
 use crate::talking::Talk;
 use crate::watch::{Event, NoWatch, Watch};
-use sb_host::{Host, Naming, Session, Stub};
+use sb_host::Stub;
 use sb_wire::{Sink, Source, StreamError, answer_stream};
 use std::alloc::Global;
 use std::sync::Wait;
@@ -26,14 +28,14 @@ pub struct Served {
 
 /// Opens the session that the first line names, calls it with each further line and writes the
 /// answer, and closes it however the connection ends.
-pub fn serve_one<T: Wait, N: Naming, R: Source, W: Sink>(
+pub fn serve_one<T: Wait, H: Hosting, R: Source, W: Sink>(
     rt: &T,
     alloc: Global,
     reader: &mut R,
     writer: &mut W,
-    host: &Host<N>,
+    host: H,
 ) -> Served
-    ensures goes { (c : Conversation (hosting 0 host.now) (R.remaining reader.old) (W.contents writer.old)
+    ensures goes { (c : Conversation (hosting 0 (H.tenants host)) (R.remaining reader.old) (W.contents writer.old)
         (R.remaining reader.new) (W.contents writer.new) result.stub)
         × StopsBy R.fails R.remaining reader.new c.over c.seen c.pieces c.left result.ended }
     ensures refused { OnWriteFault result.ended (MayFail W.refuses W.contents writer.new) }
@@ -43,15 +45,15 @@ pub fn serve_one<T: Wait, N: Naming, R: Source, W: Sink>(
 }
 
 /// As `serve_one` does; the watch is told of the session and of a fault.
-pub fn serve_one_with<T: Wait, N: Naming, R: Source, W: Sink, V: Watch>(
+pub fn serve_one_with<T: Wait, H: Hosting, R: Source, W: Sink, V: Watch>(
     rt: &T,
     alloc: Global,
     reader: &mut R,
     writer: &mut W,
-    host: &Host<N>,
+    host: H,
     watch: &V,
 ) -> Served
-    ensures goes { (c : Conversation (hosting 0 host.now) (R.remaining reader.old) (W.contents writer.old)
+    ensures goes { (c : Conversation (hosting 0 (H.tenants host)) (R.remaining reader.old) (W.contents writer.old)
         (R.remaining reader.new) (W.contents writer.new) result.stub)
         × StopsBy R.fails R.remaining reader.new c.over c.seen c.pieces c.left result.ended }
     ensures refused { OnWriteFault result.ended (MayFail W.refuses W.contents writer.new) }
@@ -74,7 +76,7 @@ pub fn serve_one_with<T: Wait, N: Naming, R: Source, W: Sink, V: Watch>(
 }
 
 /// Closes the session, if one was opened.
-pub(crate) fn close<T: Wait, N: Naming>(rt: &T, session: Option<Session<'_, N>>) -> Option<Stub>
+pub(crate) fn close<T: Wait, S: Calling>(rt: &T, session: Option<Caller<S>>) -> Option<Stub>
     ensures { LeavesSome session.entry result }
 {
     match session {

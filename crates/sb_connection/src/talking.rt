@@ -1,22 +1,26 @@
 //! The lines of a connection, one at a time.
-ghost use Rattle.std.specs.Prelude.{◌≡◌, ◌++◌, false, OnOk, OnErr};
+ghost use Rattle.std.specs.Prelude.{◌≡◌, ◌++◌, false, IfSome, IsSome, OnOk, OnErr};
+ghost use Rattle.sb_wire.specs.Output.{ended_lines};
+ghost use Rattle.sb_wire.specs.ReplyText.{reply_lines};
 ghost use Rattle.sb_wire.specs.Seen.{piece_seen};
 ghost use Rattle.sb_connection.specs.Exchanges.{Exchange, line_in, said_text};
 ghost use Rattle.sb_connection.specs.Responding.{Exchanges};
 
 use crate::admission::Admission;
+use crate::caller::Caller;
 use crate::greeting::greet;
+use crate::hosting::{Calling, Hosting};
 use crate::watch::Watch;
-use sb_host::{CallError, Host, Naming, Session};
+use sb_host::CallError;
 use sb_wire::{Piece, Responder, WireRefusal, write_bare_refusal, write_bare_reply};
 use std::alloc::{AllocError, Global};
 use std::sync::Wait;
 
 /// Answers the lines of a connection: the first one on the host, the others by the session that it opened.
 #[derive(Drop)]
-pub(crate) struct Talk<'r, 'h, T, N: Naming, V, A> {
+pub(crate) struct Talk<'r, T, H: Hosting, V, A> {
     pub(crate) rt: &'r T,
-    pub(crate) host: &'h Host<N>,
+    pub(crate) host: H,
     pub(crate) watch: &'r V,
     /// The number of the host's first tenant.
     pub(crate) first: u32,
@@ -25,12 +29,12 @@ pub(crate) struct Talk<'r, 'h, T, N: Naming, V, A> {
     pub(crate) admission: &'r A,
 }
 
-impl<'r, 'h, T: Wait, N: Naming, V: Watch, A: Admission> Responder<Option<Session<'h, N>>, bool>
-    for Talk<'r, 'h, T, N, V, A> {
+impl<'r, T: Wait, H: Hosting, V: Watch, A: Admission> Responder<Option<Caller<H::Session>>, bool>
+    for Talk<'r, T, H, V, A> {
     ghost use Rattle.sb_connection.specs.Conversation.{hosting_by};
     ghost use Rattle.sb_connection.specs.Responding.{Responds, over};
 
-    ghost responds = { λ talk. Responds (A.admits talk.admission.now) (hosting_by talk.keyed talk.first talk.host.now) };
+    ghost responds = { λ talk. Responds (A.admits talk.admission.now) (hosting_by talk.keyed talk.first (H.tenants talk.host)) };
 
     ghost over = { over };
 
@@ -39,7 +43,7 @@ impl<'r, 'h, T: Wait, N: Naming, V: Watch, A: Admission> Responder<Option<Sessio
         alloc: Global,
         piece: Piece<'_>,
         out: &mut Vec<u8>,
-        first: &mut Option<Session<'h, N>>,
+        first: &mut Option<Caller<H::Session>>,
         second: &mut bool,
     ) -> Result<(), AllocError> {
         match first {
@@ -48,7 +52,7 @@ impl<'r, 'h, T: Wait, N: Naming, V: Watch, A: Admission> Responder<Option<Sessio
         }
     }
 
-    fn is_over(&self, first: &Option<Session<'h, N>>, second: &bool) -> bool {
+    fn is_over(&self, first: &Option<Caller<H::Session>>, second: &bool) -> bool {
         match first {
             Some(session) => session.ended(),
             None => *second,
@@ -57,12 +61,12 @@ impl<'r, 'h, T: Wait, N: Naming, V: Watch, A: Admission> Responder<Option<Sessio
 }
 
 /// Calls the session with a line, and writes its answer.
-fn exchange<T: Wait, N: Naming>(
+fn exchange<T: Wait, S: Calling>(
     rt: &T,
     alloc: Global,
     piece: Piece<'_>,
     out: &mut Vec<u8>,
-    session: &mut Session<'_, N>,
+    session: &mut Caller<S>,
 ) -> Result<(), AllocError>
     requires { session.old.ended ≡ false }
     ensures { (e : Exchange) × (piece_seen piece.entry ≡ line_in e) × Exchanges session.old e session.new
@@ -71,10 +75,23 @@ fn exchange<T: Wait, N: Naming>(
 {
     match piece {
         Piece::TooLong => write_bare_refusal(out, WireRefusal::TooLong),
-        Piece::Line(line) => match session.call(rt, alloc, line) {
-            Ok(answer) => write_bare_reply(out, &answer.reply),
+        Piece::Line(line) => match session.step(rt, alloc, line) {
+            Ok(()) => write_last(out, session),
             Err(CallError::NotBegun) => write_bare_refusal(out, WireRefusal::NotBegun),
             Err(CallError::Ended) => unreachable!(),
         },
+    }
+}
+
+/// Writes the newest answer of a session.
+fn write_last<S: Calling>(out: &mut Vec<u8>, session: &Caller<S>) -> Result<(), AllocError>
+    requires { IsSome session.now.last }
+    ensures ok { IfSome session.now.last (λ answer. OnOk result (out.new.items ≡
+        out.old.items ++ ended_lines (reply_lines answer.reply))) }
+    ensures err { OnErr result (out.new.items ≡ out.old.items) }
+{
+    match session.last() {
+        Some(answer) => write_bare_reply(out, &answer.reply),
+        None => unreachable!(),
     }
 }

@@ -11,8 +11,8 @@ use crate::socket::Socket;
 use crate::worker::{SWEEP, Worker, is_time};
 use mio::event::Event as Ready;
 use mio::{Events, Token};
-use sb_connection::{Admission, Event, Route, Watch};
-use sb_host::{Naming, Stub};
+use sb_connection::{Admission, Event, Hosting, Route, Watch};
+use sb_host::Stub;
 use sb_wire::StreamError;
 use slab::Slab;
 use std::io::ErrorKind;
@@ -35,8 +35,8 @@ pub(crate) const FIRST_LINE: u32 = 10;
 
 /// The door with the newcomers, and a worker of its own for those that open no session.
 #[derive(Drop)]
-pub(crate) struct Porter<'s, N: Naming, V, A, K, C> {
-    lobby: Worker<'s, N, V, A, K, C>,
+pub(crate) struct Porter<'s, H: Hosting, V, A, K, C> {
+    lobby: Worker<'s, H, V, A, K, C>,
     door: Door<'s>,
     newcomers: Slab<Box<Newcomer>>,
     /// When late newcomers were looked for.
@@ -45,8 +45,8 @@ pub(crate) struct Porter<'s, N: Naming, V, A, K, C> {
     has_told: bool,
 }
 
-impl<'s, N: Naming, V: Watch, A: Admission, K: Keeper, C: Clock> Porter<'s, N, V, A, K, C> {
-    pub(crate) fn new(lobby: Worker<'s, N, V, A, K, C>, door: Door<'s>) -> Porter<'s, N, V, A, K, C>
+impl<'s, H: Hosting, V: Watch, A: Admission, K: Keeper, C: Clock> Porter<'s, H, V, A, K, C> {
+    pub(crate) fn new(lobby: Worker<'s, H, V, A, K, C>, door: Door<'s>) -> Porter<'s, H, V, A, K, C>
         ensures { result.lobby.stubs.items ≡ lobby.entry.stubs.items }
     {
         let newcomers = Slab::new(lobby.serving.alloc);

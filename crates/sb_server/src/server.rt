@@ -15,8 +15,8 @@ use crate::porter::{FIRST_LINE, Porter};
 use crate::visit::Limits;
 use crate::worker::{Seat, WAKER, Worker};
 use mio::{Events, Poll, Waker};
-use sb_connection::{Admission, Watch};
-use sb_host::{Host, Naming, Stub};
+use sb_connection::{Admission, Hosting, Watch};
+use sb_host::Stub;
 use sb_workers::Work;
 use std::alloc::{AllocError, Global};
 use std::net::{Net, TcpListener};
@@ -86,9 +86,9 @@ impl From<AllocError> for ServeError {
 
 /// What all threads share.
 #[derive(Drop)]
-pub(crate) struct Serving<'s, N: Naming, V, A, K, C> {
+pub(crate) struct Serving<'s, H: Hosting, V, A, K, C> {
     pub(crate) alloc: Global,
-    pub(crate) host: &'s Host<N>,
+    pub(crate) host: H,
     pub(crate) watch: &'s V,
     pub(crate) admission: &'s A,
     pub(crate) keeper: &'s K,
@@ -112,17 +112,17 @@ pub(crate) struct Serving<'s, N: Naming, V, A, K, C> {
     ghost placed: { ArePlaced mailboxes.items },
 }
 
-impl<'s, N: Naming, V, A, K, C> Serving<'s, N, V, A, K, C> {
+impl<'s, H: Hosting, V, A, K, C> Serving<'s, H, V, A, K, C> {
     /// The place of the worker that has a tenant's cell.
     pub(crate) fn place_of(&self, tenant: u32) -> usize
-        ensures { result ≡ place_of N.cells (vec_len self.now.mailboxes) tenant }
+        ensures { result ≡ place_of H.cells (vec_len self.now.mailboxes) tenant }
     {
         (tenant % self.host.cells()) as usize % self.mailboxes.len()
     }
 
     /// The mailbox of the worker that has a tenant's cell.
     fn mailbox_of(&self, tenant: u32) -> &Mailbox
-        ensures { result.now.place ≡ place_of N.cells (vec_len self.now.mailboxes) tenant }
+        ensures { result.now.place ≡ place_of H.cells (vec_len self.now.mailboxes) tenant }
     {
         &self.mailboxes[self.place_of(tenant)]
     }
@@ -233,8 +233,8 @@ pub(crate) struct Post {
     seat: Seat,
 }
 
-impl<'s, N: Naming, V: Watch, A: Admission, K: Keeper, C: Clock> Work<Post, Vec<Stub>>
-    for Serving<'s, N, V, A, K, C> {
+impl<'s, H: Hosting, V: Watch, A: Admission, K: Keeper, C: Clock> Work<Post, Vec<Stub>>
+    for Serving<'s, H, V, A, K, C> {
     ghost use Rattle.sb_server.specs.Closed.{LeaveClosed};
 
     ghost does = { λ _ stubs. LeaveClosed stubs };
@@ -247,7 +247,7 @@ impl<'s, N: Naming, V: Watch, A: Admission, K: Keeper, C: Clock> Work<Post, Vec<
     }
 }
 
-impl<'s, N: Naming, V: Watch, A: Admission, K: Keeper, C: Clock> Serving<'s, N, V, A, K, C> {
+impl<'s, H: Hosting, V: Watch, A: Admission, K: Keeper, C: Clock> Serving<'s, H, V, A, K, C> {
     /// By what first lines are read.
     pub(crate) fn reception(&self) -> Reception {
         Reception {
@@ -333,7 +333,7 @@ impl<'s, N: Naming, V: Watch, A: Admission, K: Keeper, C: Clock> Serving<'s, N, 
 /// Serves the connections that are taken, each worker and the door in a thread of its own, and leaves the receipts of all
 /// sessions. What is done beside is done in this thread.
 pub fn serve_all<
-    N: Naming + Send + Sync,
+    H: Hosting + Sync,
     V: Watch + Sync,
     A: Admission + Sync,
     K: Keeper + Sync,
@@ -343,7 +343,7 @@ pub fn serve_all<
     rt: &R,
     alloc: Global,
     acceptor: &Acceptor<'_, V, A, K>,
-    host: &Host<N>,
+    host: H,
     beside: &G,
 ) -> Result<Vec<Stub>, ServeError>
     requires workers { (0 < acceptor.now.terms.workers) × (acceptor.now.terms.workers ≤ 16) }

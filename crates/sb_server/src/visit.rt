@@ -11,8 +11,8 @@ use crate::newcomer::{Newcomer, Reception};
 use crate::socket::Socket;
 use crate::told::Told;
 use mio::{Interest, Registry, Token};
-use sb_connection::{Admission, Connection, Ending, Named, Stream, Watch};
-use sb_host::{Host, Naming, Stub};
+use sb_connection::{Admission, Connection, Ending, Hosting, Named, Stream, Watch};
+use sb_host::Stub;
 use sb_wire::StreamError;
 use std::alloc::Global;
 use std::io::{self, ErrorKind};
@@ -22,13 +22,13 @@ use std::time::{Duration, Instant};
 
 /// A client that has a connection.
 #[derive(Drop)]
-pub(crate) struct Visit<'h, N: Naming, S: Stream + Drop> {
+pub(crate) struct Visit<H: Hosting, S: Stream + Drop> {
     pub(crate) stream: S,
     /// The client's.
     pub(crate) port: u16,
     /// The one that its first line names, if it opens a session.
     pub(crate) tenant: Option<u32>,
-    pub(crate) connection: Connection<'h, N>,
+    pub(crate) connection: Connection<H>,
     /// When its last whole line came, or was answered.
     pub(crate) heard: Option<Instant>,
     /// What the newest read found.
@@ -69,7 +69,7 @@ pub(crate) enum Came {
 /// How often a client that has hung up is read in one turn, so that its session is soon closed.
 const LAST_READS: usize = 4;
 
-impl<'h, N: Naming, S: Stream + Drop> Visit<'h, N, S> {
+impl<H: Hosting, S: Stream + Drop> Visit<H, S> {
     /// The first part of a turn: what waits is sent, and what comes is read and answered. It gives the fault, if there is
     /// one.
     pub(crate) fn take_in<T: Wait, V: Watch, C: Clock, A: Admission>(
@@ -294,16 +294,16 @@ impl<'h, N: Naming, S: Stream + Drop> Visit<'h, N, S> {
     }
 }
 
-impl<'h, N: Naming> Visit<'h, N, Socket> {
+impl<H: Hosting> Visit<H, Socket> {
     /// That of a newcomer. Where memory runs out for its bytes, its first turn ends it.
     pub(crate) fn begin(
         alloc: Global,
-        host: &'h Host<N>,
+        host: H,
         by: Reception,
         newcomer: Newcomer,
         tenant: Option<u32>,
         heard: Option<Instant>,
-    ) -> Visit<'h, N, Socket> {
+    ) -> Visit<H, Socket> {
         let Newcomer {
             socket,
             port,

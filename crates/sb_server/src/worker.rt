@@ -18,8 +18,8 @@ use crate::visit::{Limits, Next, Visit};
 use mio::event::Event as Ready;
 use mio::unix::SourceFd;
 use mio::{Events, Interest, Poll, Token};
-use sb_connection::{Admission, Ending, Event, Named, Watch};
-use sb_host::{Naming, Stub};
+use sb_connection::{Admission, Ending, Event, Hosting, Named, Watch};
+use sb_host::Stub;
 use slab::Slab;
 use std::mem;
 use std::rt::Clock;
@@ -49,14 +49,14 @@ pub(crate) struct Seat {
 
 /// A worker with its connections, by their tokens.
 #[derive(Drop)]
-pub(crate) struct Worker<'s, N: Naming, V, A, K, C> {
-    pub(crate) serving: &'s Serving<'s, N, V, A, K, C>,
+pub(crate) struct Worker<'s, H: Hosting, V, A, K, C> {
+    pub(crate) serving: &'s Serving<'s, H, V, A, K, C>,
     /// Where it counts.
     place: usize,
     limits: Limits,
     pub(crate) poll: Poll,
     pub(crate) buffer: Vec<u8>,
-    visits: Slab<Box<Visit<'s, N, Socket>>>,
+    visits: Slab<Box<Visit<H, Socket>>>,
     /// Those that are served next.
     due: Vec<usize>,
     /// There was no place for one of them: all connections are served next.
@@ -74,10 +74,10 @@ pub(crate) struct Worker<'s, N: Naming, V, A, K, C> {
     ghost room: { vec_len stubs + slab_len visits ≤ vec_capacity stubs },
 }
 
-impl<'s, N: Naming, V: Watch, A: Admission, K: Keeper, C: Clock> Worker<'s, N, V, A, K, C> {
+impl<'s, H: Hosting, V: Watch, A: Admission, K: Keeper, C: Clock> Worker<'s, H, V, A, K, C> {
     /// A worker at its seat, which has no connection yet.
     pub(crate) fn new(
-        serving: &'s Serving<'s, N, V, A, K, C>,
+        serving: &'s Serving<'s, H, V, A, K, C>,
         place: usize,
         limits: Limits,
         poll: Poll,
@@ -271,7 +271,7 @@ impl<'s, N: Naming, V: Watch, A: Admission, K: Keeper, C: Clock> Worker<'s, N, V
     }
 
     /// Puts a connection back, and serves it next.
-    fn put_due(&mut self, mut visit: Box<Visit<'s, N, Socket>>)
+    fn put_due(&mut self, mut visit: Box<Visit<H, Socket>>)
         requires stub { vec_len self.old.stubs + (slab_len self.old.visits + 1) ≤ vec_capacity self.old.stubs }
         requires visit { slab_len self.old.visits + 1 ≤ self.old.visits.capacity }
         ensures { self.new.stubs ≡ self.old.stubs }
@@ -337,7 +337,7 @@ impl<'s, N: Naming, V: Watch, A: Admission, K: Keeper, C: Clock> Worker<'s, N, V
 
     /// Takes over a connection of this place.
     fn settle_in(&mut self, place: usize, letter: Letter)
-        requires { place ≡ place_of N.cells (vec_len self.old.serving.now.mailboxes) letter.tenant }
+        requires { place ≡ place_of H.cells (vec_len self.old.serving.now.mailboxes) letter.tenant }
         ensures { self.new.stubs.items ≡ self.old.stubs.items }
     {
         let Letter { tenant, newcomer } = letter;
@@ -380,7 +380,7 @@ impl<'s, N: Naming, V: Watch, A: Admission, K: Keeper, C: Clock> Worker<'s, N, V
     }
 
     /// Has a connection reported from now on, and serves it next.
-    fn begin(&mut self, mut visit: Box<Visit<'s, N, Socket>>)
+    fn begin(&mut self, mut visit: Box<Visit<H, Socket>>)
         requires stub { vec_len self.old.stubs + (slab_len self.old.visits + 1) ≤ vec_capacity self.old.stubs }
         requires visit { slab_len self.old.visits + 1 ≤ self.old.visits.capacity }
         ensures { self.new.stubs ≡ self.old.stubs }
@@ -643,7 +643,7 @@ impl<'s, N: Naming, V: Watch, A: Admission, K: Keeper, C: Clock> Worker<'s, N, V
     }
 
     /// Closes a connection, and keeps the receipts of its session.
-    fn settle<T: Wait>(&mut self, rt: &T, visit: Visit<'s, N, Socket>, ending: Ending)
+    fn settle<T: Wait>(&mut self, rt: &T, visit: Visit<H, Socket>, ending: Ending)
         requires { vec_len self.old.stubs + (slab_len self.old.visits + 1) ≤ vec_capacity self.old.stubs }
         ensures left { (stub : Option ItsStub) × Leaves (traffic visit.entry.stream) visit.entry.connection visit.entry.is_cut stub
             × (self.new.stubs.items ≡ self.old.stubs.items ++ option_to_list stub) }

@@ -6,7 +6,7 @@ use Rattle.sb_connection.proofs.serve.serve_one_with.Goals as goal
 pub returns-clause-goes : goal.returns-clause-goes
 returns-clause-goes g c =
     let s = c.answer_stream-ended.ensures.goes.0 in
-    let all = whole anyone (hosting 0 c.args.host.now) s.pieces s.lines.text (c.answer_stream-ended.new.first, c.answer_stream-ended.new.second) c.close-stub.result s.lines.answered c.close-stub.ensures in (
+    let all = whole anyone (hosting 0 (g.H.Hosting.tenants c.args.host)) s.pieces s.lines.text (c.answer_stream-ended.new.first, c.answer_stream-ended.new.second) c.close-stub.result s.lines.answered c.close-stub.ensures in (
       record {
         seen = s.seen;
         reads = s.reads;
@@ -25,4 +25,4 @@ returns-clause-goes g c =
 pub returns-clause-closed : goal.returns-clause-closed
 returns-clause-closed g c =
     let s = c.answer_stream-ended.ensures.goes.0 in
-    (whole anyone (hosting 0 c.args.host.now) s.pieces s.lines.text (c.answer_stream-ended.new.first, c.answer_stream-ended.new.second) c.close-stub.result s.lines.answered c.close-stub.ensures).1
+    (whole anyone (hosting 0 (g.H.Hosting.tenants c.args.host)) s.pieces s.lines.text (c.answer_stream-ended.new.first, c.answer_stream-ended.new.second) c.close-stub.result s.lines.answered c.close-stub.ensures).1

@@ -1,0 +1,113 @@
+//! What a connection asks of a host, and of the session that it opens there.
+ghost use Rattle.std.specs.Prelude.{◌≡◌, ◌<◌, ℕ, Err, IfErr, MatchOption, MatchResult, None, Ok, OnOk, Some};
+ghost use Rattle.sb_host.specs.Calls.{AnswersOnce, Attached, Session as ItsSession, is_ended};
+ghost use Rattle.sb_host.specs.Stubs.{LeavesStub};
+
+use sb_host::{AttachError, CallError, Host, Naming, Session, Stub};
+use sb_tenant::Answer;
+use std::alloc::Global;
+use std::sync::Wait;
+
+/// A session of a host.
+pub trait Calling: Drop {
+    // what a clause sees of it
+    ghost seen: { Self → ItsSession };
+
+    /// The answer of the newest call that gave one.
+    fn last(&self) -> Option<&Answer>
+        ensures { MatchOption result ((seen self.now).last ≡ None) (λ answer. (seen self.now).last ≡ Some answer.now) };
+
+    /// Whether an `end` was answered `ok`.
+    fn ended(&self) -> bool
+        ensures { result ≡ (seen self.now).ended };
+
+    /// Makes the step of a line, whose answer is the last one then.
+    fn step<R: Wait>(&mut self, rt: &R, alloc: Global, line: &[u8]) -> Result<(), CallError>
+        ensures ok { OnOk result (AnswersOnce (seen self.old) line.now (seen self.new)) }
+        ensures err { IfErr result (λ e. (seen self.new ≡ seen self.old) × ((seen self.old).ended ≡ is_ended e)) };
+
+    /// Makes the step `end`, unless the session has ended, and leaves its receipts.
+    fn close<R: Wait>(self, rt: &R) -> Stub
+        ensures { LeavesStub (seen self) result };
+}
+
+/// A host, by which its sessions are opened.
+pub trait Hosting: Copy {
+    type Session: Calling;
+
+    // how many tenants it has
+    ghost tenants: { Self → ℕ };
+
+    // how many cells it has
+    ghost cells: { ℕ };
+
+    /// How many tenants it has.
+    fn tenants(&self) -> u32
+        ensures { result ≡ tenants self.now };
+
+    /// How many cells it has. A tenant's is its number modulo this one.
+    fn cells(&self) -> u32
+        ensures is { result ≡ cells }
+        ensures some { 0 < result };
+
+    /// Opens a session of a tenant.
+    fn attach<R: Wait>(
+        &self,
+        rt: &R,
+        alloc: Global,
+        tenant: u32,
+        session: u32,
+    ) -> Result<Self::Session, AttachError>
+        ensures { MatchResult result
+            (λ opened. Attached (tenants self.now) tenant session (Ok (Session.seen opened)))
+            (λ e. Attached (tenants self.now) tenant session (Err e)) };
+}
+
+impl<'h, N: Naming> Calling for Session<'h, N> {
+    ghost seen = { λ s. s };
+
+    fn last(&self) -> Option<&Answer> {
+        self.last()
+    }
+
+    fn ended(&self) -> bool {
+        self.ended()
+    }
+
+    fn step<R: Wait>(&mut self, rt: &R, alloc: Global, line: &[u8]) -> Result<(), CallError> {
+        match self.call(rt, alloc, line) {
+            Ok(_) => Ok(()),
+            Err(e) => Err(e),
+        }
+    }
+
+    fn close<R: Wait>(self, rt: &R) -> Stub {
+        self.close(rt)
+    }
+}
+
+impl<'h, N: Naming> Hosting for &'h Host<N> {
+    type Session = Session<'h, N>;
+
+    ghost tenants = { λ h. h.now };
+
+    ghost cells = { N.cells };
+
+    fn tenants(&self) -> u32 {
+        (**self).tenants()
+    }
+
+    fn cells(&self) -> u32 {
+        (**self).cells()
+    }
+
+    fn attach<R: Wait>(
+        &self,
+        rt: &R,
+        alloc: Global,
+        tenant: u32,
+        session: u32,
+    ) -> Result<Session<'h, N>, AttachError> {
+        (**self).attach(rt, alloc, tenant, session)
+    }
+}
