@@ -11,9 +11,9 @@ use Rattle.sb_wire.specs.Responses.{AreAnswered}
 use Rattle.sb_wire.specs.Stream.{AreFirst}
 use Rattle.sb_desk.specs.declared.receipts.Receipt.{Receipt}
 use Rattle.sb_desk.specs.Receipts.{list_by, newcomer, numbered, receipt}
-use Rattle.sb_host.specs.Calls.{IsNumbered, Session, shown}
-use Rattle.sb_host.specs.Stubs.{LeavesStub}
-use Rattle.sb_host.specs.declared.stub.Stub.{Stub}
+use Rattle.sb_desk.specs.Calls.{IsNumbered, Session, shown}
+use Rattle.sb_desk.specs.Stubs.{LeavesStub}
+use Rattle.sb_desk.specs.declared.stub.Stub.{Stub}
 use Rattle.sb_command.specs.Calling.{AreTakenBy, CallsBy, CallsLine, IsPlayedIn, LeaveAll, LeavesFor, TakesCall, TakesCalls}
 use Rattle.sb_command.specs.Playing.{HasLines, IsTaken}
 use Rattle.sb_command.specs.declared.playing.Progress.{Progress}

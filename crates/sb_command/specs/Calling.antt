@@ -8,8 +8,8 @@ use Rattle.sb_wire.specs.declared.fault.StreamError.TheVariants as stream
 use Rattle.sb_desk.specs.declared.desk.CallError.{CallError}
 use Rattle.sb_desk.specs.declared.receipts.Receipt.{Receipt}
 use Rattle.sb_desk.specs.Receipts.{numbered, receipt}
-use Rattle.sb_host.specs.Calls.{Calls, Session}
-use Rattle.sb_host.specs.declared.stub.Stub.{Stub}
+use Rattle.sb_desk.specs.Calls.{Calls, Session}
+use Rattle.sb_desk.specs.declared.stub.Stub.{Stub}
 use Rattle.sb_command.specs.Playing.{IsTaken, MayHave, MayLack}
 use Rattle.sb_command.specs.declared.fault.Fault.{Fault}
 use Rattle.sb_command.specs.declared.fault.Fault.TheVariants.{CannotLoad, Stream}

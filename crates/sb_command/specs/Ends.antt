@@ -6,7 +6,7 @@ use Rattle.sb_wire.specs.Stream.{MayFail}
 use Rattle.sb_wire.specs.declared.fault.StreamError.TheVariants as stream
 use Rattle.sb_host.specs.Finish.{Finishes}
 use Rattle.sb_host.specs.declared.finish.FinishError.{FinishError}
-use Rattle.sb_host.specs.declared.stub.Stub.{Stub}
+use Rattle.sb_desk.specs.declared.stub.Stub.{Stub}
 use Rattle.sb_server.specs.Closed.{LeavesClosed}
 use Rattle.sb_server.specs.declared.server.ServeError.{ServeError}
 use Rattle.sb_command.specs.Faults.{unfinished_as, unserved_as}

@@ -4,7 +4,7 @@ use Rattle.std.specs.Prelude.{is_some}
 use Rattle.std.proofs.lemmas.Bool.{false≢true}
 use Rattle.sb_wire.specs.Lines.{Piece, last_piece, line, too_long}
 use Rattle.sb_wire.specs.Responses.{AreAnswered}
-use Rattle.sb_host.specs.Calls.{Session}
+use Rattle.sb_desk.specs.Calls.{Session}
 use Rattle.sb_connection.specs.Admission.{BringsKey, LetsIn}
 use Rattle.sb_connection.specs.Conversation.{Hosted, Visitor, named_of, visitor_of}
 use Rattle.sb_connection.specs.History.{History, SameStreams}

@@ -13,7 +13,7 @@ use Rattle.sb_connection.specs.Machine.{Adds, AddsLast, Answers, Finishes, Holds
 use Rattle.sb_connection.specs.Responding.{Admits, Greets, Responds, RespondsBy, State, anyone, over}
 use Rattle.sb_connection.specs.Admission.{BringsKey}
 use Rattle.sb_connection.specs.Standing.{is_open}
-use Rattle.sb_host.specs.Calls.{Session}
+use Rattle.sb_desk.specs.Calls.{Session}
 use Rattle.sb_connection.proofs.Admitting.{all_to_anyone, last_cases, none_before, none_from, some_from, to_anyone}
 use Rattle.sb_connection.proofs.Whole.{admitted}
 

@@ -7,7 +7,7 @@ use Rattle.sb_wire.specs.Lines.{Piece}
 use Rattle.sb_wire.specs.Responses.{AreAnswered}
 use Rattle.sb_desk.specs.declared.receipts.Receipt.{Receipt}
 use Rattle.sb_desk.specs.Receipts.{list_after, list_by}
-use Rattle.sb_host.specs.Calls.{Session}
+use Rattle.sb_desk.specs.Calls.{Session}
 use Rattle.sb_connection.specs.Conversation.{Hosted}
 use Rattle.sb_connection.specs.Exchanges.{AreCalls, Exchange, IsCall, answered, ends, has_ended, line_in, overlong, receipt_of, receipts_of, said_text, unbegun}
 use Rattle.sb_connection.specs.Responding.{Admits, Exchanges, Responds, State, over}

@@ -7,8 +7,8 @@ use Rattle.sb_wire.specs.Output.{ended_lines}
 use Rattle.sb_wire.specs.Responses.{AreAnswered}
 use Rattle.sb_wire.specs.Seen.{refusal_line}
 use Rattle.sb_wire.specs.declared.refusal.WireRefusal.TheVariants as wire
-use Rattle.sb_host.specs.Calls.{Attached, Session}
-use Rattle.sb_host.specs.declared.stub.Stub.{Stub}
+use Rattle.sb_desk.specs.Calls.{Attached, Session}
+use Rattle.sb_desk.specs.declared.stub.Stub.{Stub}
 use Rattle.sb_connection.specs.Conversation.{Hosted, Talks, TurnsAway, TurnsAwayFrom, TurnsAwayLine, TurnsAwayVisitor, Visitor, attach_lines, named_by, named_in, named_of, tenant_at, visitor_in, visitor_of, welcome}
 use Rattle.sb_connection.specs.declared.greeting.Named.{Named}
 use Rattle.sb_connection.specs.Exchanges.{IsClosed, has_ended, receipts_of}

@@ -11,7 +11,7 @@ use Rattle.sb_wire.specs.Seen.{refusal_line}
 use Rattle.sb_wire.specs.declared.refusal.WireRefusal.TheVariants as wire
 use Rattle.sb_desk.specs.declared.receipts.Receipt.{Receipt}
 use Rattle.sb_desk.specs.Receipts.{closes, list_after, numbered, receipt}
-use Rattle.sb_host.specs.Calls.{IsNumbered}
+use Rattle.sb_desk.specs.Calls.{IsNumbered}
 
 -- a line that is too long, one whose step isn't begun, or one that has an answer
 pub data Exchange : Type 0 where

@@ -1,7 +1,7 @@
 -- Machine: what a connection has received and handed out, however both were cut, and which lines it has answered.
 use Rattle.std.specs.Prelude.{◌≡◌, ◌⊎◌, ℕ, Bool, true, false, List, [], ◌++◌, take, drop, Option}
 use Rattle.sb_wire.specs.Lines.{Piece, complete_pieces, last_piece, open_line, piece_of}
-use Rattle.sb_host.specs.declared.stub.Stub.{Stub}
+use Rattle.sb_desk.specs.declared.stub.Stub.{Stub}
 use Rattle.sb_connection.specs.declared.state.State.{State}
 use Rattle.sb_connection.specs.declared.state.State.TheVariants.{Open, Answered, Over, Failed}
 use Rattle.sb_connection.specs.Conversation.{Hosted, Talks}

@@ -7,9 +7,9 @@ use Rattle.sb_wire.specs.declared.refusal.WireRefusal.{WireRefusal}
 use Rattle.sb_wire.specs.declared.refusal.WireRefusal.TheVariants as wire
 use Rattle.sb_desk.specs.declared.desk.AttachError.{AttachError}
 use Rattle.sb_desk.specs.declared.desk.CallError.TheVariants as call
-use Rattle.sb_host.specs.Calls.{Attached, Calls, Session}
-use Rattle.sb_host.specs.Stubs.{LeavesStub}
-use Rattle.sb_host.specs.declared.stub.Stub.{Stub}
+use Rattle.sb_desk.specs.Calls.{Attached, Calls, Session}
+use Rattle.sb_desk.specs.Stubs.{LeavesStub}
+use Rattle.sb_desk.specs.declared.stub.Stub.{Stub}
 use Rattle.sb_connection.specs.Conversation.{Hosted, Visitor, attach_lines, named_of, tenant_at, visitor_of, welcome}
 use Rattle.sb_connection.specs.declared.greeting.Named.{Named}
 use Rattle.sb_connection.specs.Exchanges.{Exchange, line_in, said_text}

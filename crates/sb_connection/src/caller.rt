@@ -1,10 +1,9 @@
 //! The session of a connection.
 ghost use Rattle.std.specs.Prelude.{◌≡◌, None, Some, IfErr, MatchOption, OnOk};
-ghost use Rattle.sb_host.specs.Calls.{AnswersOnce, is_ended};
-ghost use Rattle.sb_host.specs.Stubs.{LeavesStub};
+ghost use Rattle.sb_desk.specs.Calls.{AnswersOnce, is_ended};
+ghost use Rattle.sb_desk.specs.Stubs.{LeavesStub};
 
-use crate::hosting::Calling;
-use sb_host::{CallError, Stub};
+use sb_desk::{CallError, Calling, Stub};
 use sb_tenant::Answer;
 use std::alloc::Global;
 use std::marker::Model;
@@ -17,7 +16,7 @@ pub(crate) struct Caller<S: Calling> {
 }
 
 impl<S: Calling> Model for Caller<S> {
-    ghost use Rattle.sb_host.specs.Calls.{Session};
+    ghost use Rattle.sb_desk.specs.Calls.{Session};
 
     ghost Value = { Session };
 

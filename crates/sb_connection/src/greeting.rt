@@ -7,10 +7,9 @@ ghost use Rattle.sb_connection.specs.Responding.{Greets, GreetsNamed, GreetsVisi
 
 use crate::admission::Admission;
 use crate::caller::Caller;
-use crate::hosting::Hosting;
 use crate::talking::Talk;
 use crate::watch::{Event, Watch};
-use sb_host::AttachError;
+use sb_desk::{AttachError, Hosting};
 use sb_tenant::Reply;
 use sb_value::Refusal;
 use sb_wire::{

@@ -2,8 +2,8 @@
 
 use crate::caller::Caller;
 use crate::greeting::Named;
-use crate::hosting::Calling;
 use crate::watch::{Answered, Event, Said, Watch};
+use sb_desk::Calling;
 use sb_tenant::TRAIL_LIMIT;
 use sb_wire::WireRefusal;
 use std::sync::Wait;

@@ -3,7 +3,7 @@ ghost use Rattle.std.specs.Prelude.{◌≡◌};
 ghost use Rattle.sb_connection.specs.Watching.{is_warning};
 
 use crate::greeting::Named;
-use sb_host::AttachError;
+use sb_desk::AttachError;
 use sb_tenant::Reply;
 use sb_wire::{StreamError, WireRefusal};
 use std::fmt;

@@ -3,3 +3,5 @@ pub mod Receipts
 pub mod Desks
 pub mod Kept
 pub mod Fields
+pub mod Calls
+pub mod Stubs

@@ -2,10 +2,14 @@
 #![tactic(auto)]
 
 mod desk;
+mod hosting;
 mod naming;
 mod receipts;
 pub mod seats;
+mod stub;
 
 pub use desk::{AttachError, CallError, Desk};
+pub use hosting::{Calling, Hosting};
 pub use naming::Naming;
 pub use receipts::{Receipt, Receipts};
+pub use stub::Stub;

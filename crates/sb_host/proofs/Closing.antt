@@ -13,7 +13,7 @@ use Rattle.sb_host.specs.declared.finish.FinishError.{FinishError}
 use Rattle.sb_host.specs.declared.finish.FinishError.TheVariants.{Missing, Mismatch, NoMemory}
 use Rattle.sb_host.specs.declared.finish.Report.{Report}
 use Rattle.sb_host.specs.declared.gathering.Place.{Place}
-use Rattle.sb_host.specs.declared.stub.Stub.{Stub}
+use Rattle.sb_desk.specs.declared.stub.Stub.{Stub}
 use Rattle.sb_host.specs.Comparing.{Audits, FailsAt, IsFirstStray, RowAgrees, RowFails, due_at}
 use Rattle.sb_host.specs.Finish.{AgreeBefore, Agrees, AreTrails, Finishes, IsMismatch, IsMissing, gathered, rank, row_at, wanted}
 use Rattle.sb_host.proofs.Rows.{row_past}

@@ -6,7 +6,7 @@ use Rattle.sb_tenant.specs.TrailLaws.{AnswersAreNumbered}
 use Rattle.sb_cell.specs.Tenants.{AnswersBy, Cell, hosts, trails}
 use Rattle.sb_desk.specs.Desks.{Enters}
 use Rattle.sb_desk.specs.Receipts.{Receipts}
-use Rattle.sb_host.specs.Calls.{Called, IsNumbered}
+use Rattle.sb_desk.specs.Calls.{Called, IsNumbered}
 
 module _ (law : (tenant bound : ℕ) → AnswersAreNumbered tenant bound) where
   by_event : (hosted is_one : Bool) (c c' : Cell) (t s : ℕ) (line : List ℕ) (a : Answer) → AnswersBy hosted is_one c t s line (Ok a) c' → IsNumbered a

@@ -5,7 +5,7 @@ use Rattle.std.proofs.lemmas.Bool.{and_parts, cases_eq, leb-false, leb-true, tru
 use Rattle.sb_tenant.specs.Limits.{session_count}
 use Rattle.sb_desk.specs.declared.receipts.Receipt.{Receipt}
 use Rattle.sb_host.specs.declared.gathering.Place.{Place}
-use Rattle.sb_host.specs.declared.stub.Stub.{Stub}
+use Rattle.sb_desk.specs.declared.stub.Stub.{Stub}
 use Rattle.sb_host.specs.Comparing.{IsFirstStray}
 use Rattle.sb_host.specs.Finish.{gathered, rank, receipts_in, row_at}
 

@@ -15,7 +15,7 @@ use Rattle.sb_host.specs.declared.finish.FinishError.{FinishError}
 use Rattle.sb_host.specs.declared.finish.FinishError.TheVariants.{Missing, Mismatch, NoMemory}
 use Rattle.sb_host.specs.declared.finish.Report.{Report}
 use Rattle.sb_host.specs.declared.gathering.Place.{Place}
-use Rattle.sb_host.specs.declared.stub.Stub.{Stub}
+use Rattle.sb_desk.specs.declared.stub.Stub.{Stub}
 use Rattle.sb_host.specs.Finish.{Agrees, IsKept, IsMismatch, IsMissing, gathered, rank, receipts_in, row_at, wanted}
 
 -- the test says whether the two are equal

@@ -7,7 +7,7 @@ use Rattle.atomic_table.specs.Seated.{TableId}
 use Rattle.sb_tenant.specs.declared.reply.Answer.{Answer}
 use Rattle.sb_desk.specs.declared.desk.CallError.{CallError}
 use Rattle.sb_host.specs.contracts.session.Session.{the_row}
-use Rattle.sb_host.specs.Calls.{Session, after_call}
+use Rattle.sb_desk.specs.Calls.{Session, after_call}
 
 abbrev pub CallsTo : Session → List ℕ → Result (Bor Answer) CallError → Session → Type 0
 CallsTo old line (Ok answer) new = new ≡ after_call old line answer.now

@@ -1,5 +1,3 @@
-pub mod Calls
-pub mod Stubs
 pub mod Opening
 pub mod Lent
 pub mod Lending

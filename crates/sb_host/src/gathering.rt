@@ -3,8 +3,7 @@ ghost use Rattle.std.specs.Prelude.{ℕ, ◌≡◌, ◌*◌, [], false, length, 
 ghost use Rattle.sb_host.specs.Comparing.{AreRows, IsFirstStray, LooksAt, TakeStub, is_no_later};
 ghost use Rattle.sb_host.specs.Finish.{rank, row_at};
 
-use crate::stub::Stub;
-use sb_desk::Receipt;
+use sb_desk::{Receipt, Stub};
 use sb_value::{SESSION_LIMIT, SessionId};
 use std::alloc::{AllocError, Global};
 

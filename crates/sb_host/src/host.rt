@@ -1,6 +1,6 @@
 //! The cells of a host, each behind a lock of its own.
 ghost use Rattle.std.specs.Prelude.{◌≡◌, ◌↔◌, ◌<◌, ◌≤◌, nat_lt, false, IsFalse, IsSome, IsTrue, IfOk, IfErr, OnOk};
-ghost use Rattle.sb_host.specs.Calls.{Attached, Called, IsRefused, IsNewcomer, Left, Refused};
+ghost use Rattle.sb_desk.specs.Calls.{Attached, Called, IsRefused, IsNewcomer, Left, Refused};
 ghost use Rattle.sb_host.specs.Lending.{Lends};
 
 use crate::gate::Gate;

@@ -1,6 +1,6 @@
 //! The three calls of a desk, behind its lock.
 ghost use Rattle.std.specs.Prelude.{◌≡◌, ◌<◌, ◌%◌, false, IsFalse, IsSome, IsTrue, IfOk, IfErr, OnOk};
-ghost use Rattle.sb_host.specs.Calls.{Called, IsNewcomer, IsRefused, Left, Refused};
+ghost use Rattle.sb_desk.specs.Calls.{Called, IsNewcomer, IsRefused, Left, Refused};
 ghost use Rattle.sb_host.specs.Lending.{Lends};
 
 use crate::gate::Gate;

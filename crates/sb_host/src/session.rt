@@ -1,12 +1,11 @@
 //! A session: it borrows its host, and each of its calls is one step.
 ghost use Rattle.std.specs.Prelude.{◌≡◌, false, None, Some, IfErr, IfOk, MatchOption, OnOk};
-ghost use Rattle.sb_host.specs.Calls.{AnswersOnce, IsNumbered, is_ended};
-ghost use Rattle.sb_host.specs.Stubs.{LeavesStub};
+ghost use Rattle.sb_desk.specs.Calls.{AnswersOnce, IsNumbered, is_ended};
+ghost use Rattle.sb_desk.specs.Stubs.{LeavesStub};
 
 use crate::gate::{Gate, NoGate};
 use crate::host::Host;
-use crate::stub::Stub;
-use sb_desk::{CallError, Naming, Receipt, Receipts};
+use sb_desk::{CallError, Naming, Receipt, Receipts, Stub};
 use sb_tenant::Answer;
 use std::alloc::Global;
 use std::marker::Model;
@@ -20,7 +19,7 @@ pub struct Session<'h, N: Naming> {
 }
 
 impl<'h, N: Naming> Model for Session<'h, N> {
-    ghost use Rattle.sb_host.specs.Calls.{Session, shown};
+    ghost use Rattle.sb_desk.specs.Calls.{Session, shown};
 
     ghost Value = { Session };
 

@@ -2,7 +2,7 @@
 use Rattle.std.specs.Prelude.{ℕ, ◌≡◌, List, Result, Ok, Err}
 use Rattle.sb_tenant.specs.declared.reply.Answer.{Answer}
 use Rattle.sb_desk.specs.declared.desk.CallError.{CallError}
-use Rattle.sb_host.specs.Calls.{Session, Calls}
+use Rattle.sb_desk.specs.Calls.{Session, Calls}
 use Rattle.sb_pool.specs.declared.pool.Job.{Job}
 use Rattle.sb_pool.specs.declared.pool.Done.{Done}
 

@@ -18,10 +18,10 @@ use Rattle.sb_desk.specs.declared.desk.CallError.{CallError}
 use Rattle.sb_desk.specs.declared.desk.CallError.TheVariants as call
 use Rattle.sb_desk.specs.declared.receipts.Receipt.{Receipt}
 use Rattle.sb_desk.specs.Receipts.{closes, list_by, newcomer, numbered, receipt, receipts_of}
-use Rattle.sb_host.specs.Calls.{Calls, Session, shown}
+use Rattle.sb_desk.specs.Calls.{Calls, Session, shown}
 use Rattle.sb_host.specs.Finish.{row_at, wanted}
-use Rattle.sb_host.specs.Stubs.{LeavesStub}
-use Rattle.sb_host.specs.declared.stub.Stub.{Stub}
+use Rattle.sb_desk.specs.Stubs.{LeavesStub}
+use Rattle.sb_desk.specs.declared.stub.Stub.{Stub}
 use Rattle.sb_replay.specs.Input.{commands_for}
 use Rattle.sb_replay.specs.Alone.{IsServed, TellsAsAlone, opened_text, text_alone, text_behind}
 use Rattle.sb_replay.specs.Replay.{Replays, text_at}

@@ -4,9 +4,9 @@ use Rattle.std.specs.Global.{Global}
 use Rattle.std.proofs.lemmas.Bool.{and_parts, true≢false}
 use Rattle.sb_desk.specs.declared.receipts.Receipt.{Receipt}
 use Rattle.sb_desk.specs.Receipts.{newcomer}
-use Rattle.sb_host.specs.Calls.{Calls, Session, shown}
+use Rattle.sb_desk.specs.Calls.{Calls, Session, shown}
 use Rattle.sb_host.specs.Finish.{gathered, receipts_in}
-use Rattle.sb_host.specs.declared.stub.Stub.{Stub}
+use Rattle.sb_desk.specs.declared.stub.Stub.{Stub}
 use Rattle.sb_desk.specs.declared.desk.CallError.{CallError}
 use Rattle.sb_tenant.specs.declared.reply.Answer.{Answer}
 use Rattle.std.specs.Prelude.{Result, Ok, Err}

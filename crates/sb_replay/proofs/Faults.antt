@@ -2,7 +2,7 @@
 use Rattle.std.proofs.Common.{◌≡◌, ℕ, List, Option, Result, Ok, Err, IfErr, IfSome, OnErr, Vec, inl, inr, sym, subst}
 use Rattle.std.specs.Global.{Global}
 use Rattle.std.specs.Io.KnownBytes.{Consumes, Keeps}
-use Rattle.sb_host.specs.declared.stub.Stub.{Stub}
+use Rattle.sb_desk.specs.declared.stub.Stub.{Stub}
 use Rattle.sb_replay.specs.declared.error.ReplayError.{ReplayError}
 use Rattle.sb_replay.specs.declared.error.ReplayError.TheVariants.{ReadFault, WriteFault, BadLine, Attach, Finish, NoMemory}
 use Rattle.sb_replay.specs.Scripts.{FailsToRead, HoldsScript}

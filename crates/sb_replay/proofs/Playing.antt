@@ -9,7 +9,7 @@ use Rattle.std.proofs.lemmas.Grind.{flat_map-append}
 use Rattle.sb_tenant.specs.declared.reply.Answer.{Answer}
 use Rattle.sb_desk.specs.declared.desk.CallError.{CallError}
 use Rattle.sb_desk.specs.Receipts.{newcomer}
-use Rattle.sb_host.specs.Calls.{Calls, Session, shown}
+use Rattle.sb_desk.specs.Calls.{Calls, Session, shown}
 use Rattle.sb_pool.specs.Pool.{CallsOnce, IsDone}
 use Rattle.sb_pool.specs.declared.pool.Job.{Job}
 use Rattle.sb_pool.specs.declared.pool.Done.{Done}

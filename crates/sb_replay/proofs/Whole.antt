@@ -13,7 +13,7 @@ use Rattle.sb_tenant.specs.declared.reply.Entry.{Entry}
 use Rattle.sb_tenant.specs.Limits.{trail_limit}
 use Rattle.sb_desk.specs.declared.receipts.Receipt.{Receipt}
 use Rattle.sb_host.specs.Finish.{IsInOrder, OrderIsFixed, gathered, rank, row_at, wanted}
-use Rattle.sb_host.specs.declared.stub.Stub.{Stub}
+use Rattle.sb_desk.specs.declared.stub.Stub.{Stub}
 use Rattle.sb_replay.specs.Input.{commands_for}
 use Rattle.sb_replay.specs.Scripts.{HoldsScript, commands_at, rows_of}
 use Rattle.sb_replay.specs.Lists.{AllFrom}

@@ -7,10 +7,10 @@ use Rattle.sb_tenant.specs.Limits.{session_count}
 use Rattle.sb_desk.specs.declared.desk.CallError.{CallError}
 use Rattle.sb_desk.specs.declared.receipts.Receipt.{Receipt}
 use Rattle.sb_desk.specs.Receipts.{newcomer}
-use Rattle.sb_host.specs.Calls.{Calls, Session, shown}
+use Rattle.sb_desk.specs.Calls.{Calls, Session, shown}
 use Rattle.sb_host.specs.Finish.{IsInOrder, gathered}
-use Rattle.sb_host.specs.Stubs.{LeavesStub}
-use Rattle.sb_host.specs.declared.stub.Stub.{Stub}
+use Rattle.sb_desk.specs.Stubs.{LeavesStub}
+use Rattle.sb_desk.specs.declared.stub.Stub.{Stub}
 use Rattle.sb_pool.specs.declared.pool.Job.{Job}
 use Rattle.sb_pool.specs.declared.pool.Done.{Done}
 use Rattle.sb_replay.specs.Lists.{AllCut, AllFrom}

@@ -12,13 +12,13 @@ use Rattle.sb_replay.specs.Input.{IsAsked, IsBadLine, commands_for}
 use Rattle.sb_replay.specs.Scripts.{HoldsScript}
 use Rattle.sb_desk.specs.declared.desk.AttachError.{AttachError}
 use Rattle.sb_desk.specs.declared.desk.AttachError.TheVariants.{AlreadyOpen, TrailFull, NotBegun}
-use Rattle.sb_host.specs.Calls.{IsRefused, Session}
+use Rattle.sb_desk.specs.Calls.{IsRefused, Session}
 use Rattle.sb_host.specs.Finish.{Agrees, AreTrails, Finishes, IsInOrder, rank, row_at, steps_in, wanted}
-use Rattle.sb_host.specs.Stubs.{LeavesStub}
+use Rattle.sb_desk.specs.Stubs.{LeavesStub}
 use Rattle.sb_host.specs.declared.finish.FinishError.{FinishError}
 use Rattle.sb_host.specs.declared.finish.FinishError.TheVariants.{Mismatch}
 use Rattle.sb_host.specs.declared.finish.Report.{Report}
-use Rattle.sb_host.specs.declared.stub.Stub.{Stub}
+use Rattle.sb_desk.specs.declared.stub.Stub.{Stub}
 use Rattle.sb_replay.specs.declared.error.ReplayError.{ReplayError}
 use Rattle.sb_replay.specs.declared.error.ReplayError.TheVariants.{ReadFault, WriteFault, BadLine, Attach, Finish, NoMemory}
 use Rattle.sb_replay.specs.declared.error.ScriptError.{ScriptError}

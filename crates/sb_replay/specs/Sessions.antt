@@ -13,9 +13,9 @@ use Rattle.sb_desk.specs.declared.desk.CallError.{CallError}
 use Rattle.sb_desk.specs.declared.desk.CallError.TheVariants as call
 use Rattle.sb_desk.specs.declared.receipts.Receipt.{Receipt}
 use Rattle.sb_desk.specs.Receipts.{newcomer}
-use Rattle.sb_host.specs.Calls.{Calls, Session, shown}
-use Rattle.sb_host.specs.Stubs.{LeavesStub}
-use Rattle.sb_host.specs.declared.stub.Stub.{Stub}
+use Rattle.sb_desk.specs.Calls.{Calls, Session, shown}
+use Rattle.sb_desk.specs.Stubs.{LeavesStub}
+use Rattle.sb_desk.specs.declared.stub.Stub.{Stub}
 
 -- a command, and what its call was answered
 pub record Exchange : Type 0 where

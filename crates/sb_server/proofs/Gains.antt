@@ -1,7 +1,7 @@
 -- What a worker gains, one part after another.
 use Rattle.std.proofs.Common.{◌≡◌, ◌∙◌, sym, ap, List, [], ◌++◌, append_assoc, append-nil}
 use Rattle.std.proofs.lemmas.List.Elements.{All-append, All-nil}
-use Rattle.sb_host.specs.declared.stub.Stub.{Stub}
+use Rattle.sb_desk.specs.declared.stub.Stub.{Stub}
 use Rattle.sb_server.specs.Closed.{GainsClosed, LeavesClosed}
 
 pub gains_nothing : (old new : List Stub) → new ≡ old → GainsClosed old new

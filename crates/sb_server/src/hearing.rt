@@ -3,7 +3,7 @@
 use crate::board::Board;
 use crate::counts::{Cause, Count};
 use sb_connection::{Answered, Event, Named, Said, Slow, Watch};
-use sb_host::AttachError;
+use sb_desk::AttachError;
 use sb_tenant::Reply;
 use sb_value::Refusal;
 use sb_wire::WireRefusal;

@@ -1,6 +1,6 @@
 //! One worker: it waits for events of its connections, and serves those that have some.
 ghost use Rattle.std.specs.Prelude.{◌≡◌, ◌+◌, ◌≤◌, ◌++◌, [], ℕ, None, Option, option_to_list, vec_len, vec_capacity};
-ghost use Rattle.sb_host.specs.declared.stub.Stub.{Stub as ItsStub};
+ghost use Rattle.sb_desk.specs.declared.stub.Stub.{Stub as ItsStub};
 ghost use Rattle.slab.specs.Slab.{Updates, get, slab_len};
 ghost use Rattle.sb_server.specs.Closed.{GainsClosed, Leaves};
 ghost use Rattle.sb_server.specs.Places.{place_of};
@@ -18,8 +18,8 @@ use crate::visit::{Limits, Next, Visit};
 use mio::event::Event as Ready;
 use mio::unix::SourceFd;
 use mio::{Events, Interest, Poll, Token};
-use sb_connection::{Admission, Ending, Event, Hosting, Named, Watch};
-use sb_host::Stub;
+use sb_connection::{Admission, Ending, Event, Named, Watch};
+use sb_desk::{Hosting, Stub};
 use slab::Slab;
 use std::mem;
 use std::rt::Clock;

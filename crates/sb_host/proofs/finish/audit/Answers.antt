@@ -1,7 +1,7 @@
 use Rattle.std.proofs.Common.{ℕ, ◌<◌, List, length, Vec, Some, None, sym, ap, ◌∙◌, subst}
 use Rattle.std.specs.Global.{Global}
 use Rattle.sb_tenant.specs.declared.reply.Entry.{Entry}
-use Rattle.sb_host.specs.declared.stub.Stub.{Stub}
+use Rattle.sb_desk.specs.declared.stub.Stub.{Stub}
 use Rattle.sb_host.specs.Comparing.{IsFirstStray, RowAgrees, RowFails}
 use Rattle.sb_host.proofs.Closing.{all_agree, refuses, stray_mismatch}
 use Rattle.sb_host.proofs.finish.audit.Goals as goal

@@ -1,7 +1,7 @@
 use Rattle.std.proofs.lemmas.Result.{IfErr-weaker}
 use Rattle.sb_desk.specs.declared.desk.AttachError.{AttachError}
 use Rattle.sb_desk.specs.Desks.{RefusesRightly}
-use Rattle.sb_host.specs.Calls.{IsRefused}
+use Rattle.sb_desk.specs.Calls.{IsRefused}
 use Rattle.sb_host.proofs.locks.admit_in.Goals as goal
 
 -- the cell that the lock lends shows the reason

@@ -1,6 +1,6 @@
 use Rattle.std.proofs.Common.{◌≡◌, Bool, true, false, MatchBool, [], ◌∷◌, Option, refl, sym, subst}
 use Rattle.std.proofs.lemmas.Bool.{true≢false}
-use Rattle.sb_host.specs.Calls.{Session}
+use Rattle.sb_desk.specs.Calls.{Session}
 use Rattle.sb_host.specs.Finish.{IsInOrder}
 use Rattle.sb_replay.specs.Parts.{ClosesBy}
 use Rattle.sb_replay.proofs.closing.close_one.Goals as goal

@@ -4,7 +4,7 @@ use Rattle.std.specs.Prelude.{IfOk, Vec}
 use Rattle.std.specs.Global.{Global}
 use Rattle.std.specs.List.{All, AllZip, flat_map}
 use Rattle.std.proofs.lemmas.List.Elements.{All-append, All-nil}
-use Rattle.sb_host.specs.declared.stub.Stub.{Stub}
+use Rattle.sb_desk.specs.declared.stub.Stub.{Stub}
 use Rattle.sb_server.specs.Closed.{LeaveClosed, LeavesClosed}
 use Rattle.sb_server.proofs.Sending.{serving_sync}
 use Rattle.sb_server.proofs.server.serve_all.Goals as goal

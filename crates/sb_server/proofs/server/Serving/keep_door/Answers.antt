@@ -1,6 +1,6 @@
 use Rattle.std.proofs.Common.{◌∙◌, subst, sym, List, ap, ◌++◌}
 use Rattle.std.specs.List.{All}
-use Rattle.sb_host.specs.declared.stub.Stub.{Stub}
+use Rattle.sb_desk.specs.declared.stub.Stub.{Stub}
 use Rattle.sb_server.specs.Closed.{LeavesClosed}
 use Rattle.sb_server.proofs.server.Serving.keep_door.Goals as goal
 

@@ -1,6 +1,6 @@
 use Rattle.std.proofs.Common.{ap, Vec}
 use Rattle.std.specs.Global.{Global}
-use Rattle.sb_host.specs.declared.stub.Stub.{Stub}
+use Rattle.sb_desk.specs.declared.stub.Stub.{Stub}
 use Rattle.sb_server.proofs.Gains.{gains_nothing}
 use Rattle.sb_server.proofs.worker.Worker.give_out.Goals as goal
 

@@ -2,8 +2,8 @@
 use Rattle.std.specs.Prelude.{ℕ, ◌≡◌, true, false, codes, [], ◌∷◌, ◌++◌}
 use Rattle.sb_tenant.specs.declared.reply.Reply.TheVariants as told
 use Rattle.sb_desk.specs.Receipts.{numbered, receipt}
-use Rattle.sb_host.specs.declared.stub.Stub.{Stub}
-use Rattle.sb_host.specs.Calls.{Session}
+use Rattle.sb_desk.specs.declared.stub.Stub.{Stub}
+use Rattle.sb_desk.specs.Calls.{Session}
 
 -- the receipts, with that of the `end` unless the session had ended
 abbrev pub LeavesStub : Session → Stub → Type 0

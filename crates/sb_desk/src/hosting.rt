@@ -1,9 +1,10 @@
-//! What a connection asks of a host, and of the session that it opens there.
+//! What is asked of a host by who doesn't need its cells, and of a session that it opens.
 ghost use Rattle.std.specs.Prelude.{◌≡◌, ◌<◌, ℕ, Err, IfErr, MatchOption, MatchResult, None, Ok, OnOk, Some};
-ghost use Rattle.sb_host.specs.Calls.{AnswersOnce, Attached, Session as ItsSession, is_ended};
-ghost use Rattle.sb_host.specs.Stubs.{LeavesStub};
+ghost use Rattle.sb_desk.specs.Calls.{AnswersOnce, Attached, Session as ItsSession, is_ended};
+ghost use Rattle.sb_desk.specs.Stubs.{LeavesStub};
 
-use sb_host::{AttachError, CallError, Host, Naming, Session, Stub};
+use crate::desk::{AttachError, CallError};
+use crate::stub::Stub;
 use sb_tenant::Answer;
 use std::alloc::Global;
 use std::sync::Wait;
@@ -59,55 +60,6 @@ pub trait Hosting: Copy {
         session: u32,
     ) -> Result<Self::Session, AttachError>
         ensures { MatchResult result
-            (λ opened. Attached (tenants self.now) tenant session (Ok (Session.seen opened)))
+            (λ opened. Attached (tenants self.now) tenant session (Ok (Self.Session.seen opened)))
             (λ e. Attached (tenants self.now) tenant session (Err e)) };
-}
-
-impl<'h, N: Naming> Calling for Session<'h, N> {
-    ghost seen = { λ s. s };
-
-    fn last(&self) -> Option<&Answer> {
-        self.last()
-    }
-
-    fn ended(&self) -> bool {
-        self.ended()
-    }
-
-    fn step<R: Wait>(&mut self, rt: &R, alloc: Global, line: &[u8]) -> Result<(), CallError> {
-        match self.call(rt, alloc, line) {
-            Ok(_) => Ok(()),
-            Err(e) => Err(e),
-        }
-    }
-
-    fn close<R: Wait>(self, rt: &R) -> Stub {
-        self.close(rt)
-    }
-}
-
-impl<'h, N: Naming> Hosting for &'h Host<N> {
-    type Session = Session<'h, N>;
-
-    ghost tenants = { λ h. h.now };
-
-    ghost cells = { N.cells };
-
-    fn tenants(&self) -> u32 {
-        (**self).tenants()
-    }
-
-    fn cells(&self) -> u32 {
-        (**self).cells()
-    }
-
-    fn attach<R: Wait>(
-        &self,
-        rt: &R,
-        alloc: Global,
-        tenant: u32,
-        session: u32,
-    ) -> Result<Session<'h, N>, AttachError> {
-        (**self).attach(rt, alloc, tenant, session)
-    }
 }

@@ -1,7 +1,7 @@
 //! What a closed session leaves.
 ghost use Rattle.std.specs.Prelude.{◌≡◌};
 
-use sb_desk::Receipt;
+use crate::receipts::Receipt;
 use sb_value::SessionId;
 
 /// The receipts of a closed session.

@@ -1,0 +1,57 @@
+//! A host as one that is known by what is asked of it.
+
+use crate::host::Host;
+use crate::session::Session;
+use sb_desk::{AttachError, CallError, Calling, Hosting, Naming, Stub};
+use sb_tenant::Answer;
+use std::alloc::Global;
+use std::sync::Wait;
+
+impl<'h, N: Naming> Calling for Session<'h, N> {
+    ghost seen = { λ s. s };
+
+    fn last(&self) -> Option<&Answer> {
+        self.last()
+    }
+
+    fn ended(&self) -> bool {
+        self.ended()
+    }
+
+    fn step<R: Wait>(&mut self, rt: &R, alloc: Global, line: &[u8]) -> Result<(), CallError> {
+        match self.call(rt, alloc, line) {
+            Ok(_) => Ok(()),
+            Err(e) => Err(e),
+        }
+    }
+
+    fn close<R: Wait>(self, rt: &R) -> Stub {
+        self.close(rt)
+    }
+}
+
+impl<'h, N: Naming> Hosting for &'h Host<N> {
+    type Session = Session<'h, N>;
+
+    ghost tenants = { λ h. h.now };
+
+    ghost cells = { N.cells };
+
+    fn tenants(&self) -> u32 {
+        (**self).tenants()
+    }
+
+    fn cells(&self) -> u32 {
+        (**self).cells()
+    }
+
+    fn attach<R: Wait>(
+        &self,
+        rt: &R,
+        alloc: Global,
+        tenant: u32,
+        session: u32,
+    ) -> Result<Session<'h, N>, AttachError> {
+        (**self).attach(rt, alloc, tenant, session)
+    }
+}
