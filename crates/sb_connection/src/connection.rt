@@ -153,9 +153,9 @@ impl<H: Hosting> Connection<H> {
 
     /// Closes the session, if one was opened, and tells of it.
     pub fn close<T: Wait, V: Watch>(self, rt: &T, watch: &V, ended: Ending) -> Option<Stub>
-        ensures conversation { Converses self.entry result }
+        ensures conversation { Converses self result }
         ensures closed { IfSome result (λ stub. IsClosed stub.receipts.items) }
-        ensures attached { self.entry.attached ≡ is_some result }
+        ensures attached { self.attached ≡ is_some result }
     {
         let Connection { machine } = self;
         let first = machine.first;

@@ -129,7 +129,7 @@ impl<H: Hosting> Machine<H> {
     }
 
     pub(crate) fn into_session(self) -> Option<Caller<H::Session>>
-        ensures { result ≡ self.entry.talk.0 }
+        ensures { result ≡ self.talk.0 }
     {
         let Machine { session, .. } = self;
         session

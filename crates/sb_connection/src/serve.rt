@@ -76,7 +76,7 @@ pub fn serve_one_with<T: Wait, H: Hosting, R: Source, W: Sink, V: Watch>(
 
 /// Closes the session, if one was opened.
 pub(crate) fn close<T: Wait, S: Calling>(rt: &T, session: Option<Caller<S>>) -> Option<Stub>
-    ensures { LeavesSome session.entry result }
+    ensures { LeavesSome session result }
 {
     match session {
         Some(session) => Some(session.close(rt)),

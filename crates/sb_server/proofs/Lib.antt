@@ -1,5 +1,4 @@
 pub mod Failing
 pub mod Gains
 pub mod Placing
-pub mod Sending
 pub mod Zips

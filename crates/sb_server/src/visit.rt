@@ -283,7 +283,7 @@ impl<H: Hosting, S: Stream + Drop> Visit<H, S> {
 
     /// Closes the connection with its session, whose receipts are left.
     pub(crate) fn leave<T: Wait, V: Watch>(self, rt: &T, watch: &V, ending: Ending) -> Option<Stub>
-        ensures { Leaves (S.traffic self.entry.stream) self.entry.connection self.entry.is_cut result }
+        ensures { Leaves (S.traffic self.stream) self.connection self.is_cut result }
     {
         let Visit {
             connection,

@@ -645,7 +645,7 @@ impl<'s, H: Hosting, V: Watch, A: Admission, K: Keeper, C: Clock> Worker<'s, H, 
     /// Closes a connection, and keeps the receipts of its session.
     fn settle<T: Wait>(&mut self, rt: &T, visit: Visit<H, Socket>, ending: Ending)
         requires { vec_len self.old.stubs + (slab_len self.old.visits + 1) ≤ vec_capacity self.old.stubs }
-        ensures left { (stub : Option ItsStub) × Leaves (traffic visit.entry.stream) visit.entry.connection visit.entry.is_cut stub
+        ensures left { (stub : Option ItsStub) × Leaves (traffic visit.stream) visit.connection visit.is_cut stub
             × (self.new.stubs.items ≡ self.old.stubs.items ++ option_to_list stub) }
         ensures others { self.new.visits ≡ self.old.visits }
         ensures gains { GainsClosed self.old.stubs.items self.new.stubs.items }
