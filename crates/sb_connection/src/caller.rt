@@ -3,7 +3,7 @@ ghost use Rattle.std.specs.Prelude.{◌≡◌, None, Some, IfErr, MatchOption, O
 ghost use Rattle.sb_desk.specs.Calls.{AnswersOnce, is_ended};
 ghost use Rattle.sb_desk.specs.Stubs.{LeavesStub};
 
-use sb_desk::{CallError, Calling, Stub};
+use sb_desk::{CallError, Calling, NoGate, Stub};
 use sb_tenant::Answer;
 use std::alloc::Global;
 use std::marker::Model;
@@ -54,7 +54,7 @@ impl<S: Calling> Caller<S> {
         ensures ok { OnOk result (AnswersOnce self.old line.now self.new) }
         ensures err { IfErr result (λ e. (self.new ≡ self.old) × (self.old.ended ≡ is_ended e)) }
     {
-        self.session.step(rt, alloc, line)
+        self.session.step(rt, alloc, line, &NoGate)
     }
 
     /// Makes the step `end`, unless the session has ended, and leaves its receipts.

@@ -4,6 +4,7 @@ ghost use Rattle.sb_desk.specs.Calls.{AnswersOnce, Attached, Session as ItsSessi
 ghost use Rattle.sb_desk.specs.Stubs.{LeavesStub};
 
 use crate::desk::{AttachError, CallError};
+use crate::gate::Gate;
 use crate::stub::Stub;
 use sb_tenant::Answer;
 use std::alloc::Global;
@@ -22,8 +23,14 @@ pub trait Calling: Drop {
     fn ended(&self) -> bool
         ensures { result ≡ (seen self.now).ended };
 
-    /// Makes the step of a line, whose answer is the last one then.
-    fn step<R: Wait>(&mut self, rt: &R, alloc: Global, line: &[u8]) -> Result<(), CallError>
+    /// Makes the step of a line, with a gate inside the lock. Its answer is the last one then.
+    fn step<R: Wait, G: Gate>(
+        &mut self,
+        rt: &R,
+        alloc: Global,
+        line: &[u8],
+        gate: &G,
+    ) -> Result<(), CallError>
         ensures ok { OnOk result (AnswersOnce (seen self.old) line.now (seen self.new)) }
         ensures err { IfErr result (λ e. (seen self.new ≡ seen self.old) × ((seen self.old).ended ≡ is_ended e)) };
 

@@ -2,6 +2,7 @@
 #![tactic(auto)]
 
 mod desk;
+mod gate;
 mod hosting;
 mod naming;
 mod receipts;
@@ -9,6 +10,7 @@ pub mod seats;
 mod stub;
 
 pub use desk::{AttachError, CallError, Desk};
+pub use gate::{Gate, NoGate};
 pub use hosting::{Calling, Hosting};
 pub use naming::Naming;
 pub use receipts::{Receipt, Receipts};

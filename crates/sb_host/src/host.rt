@@ -3,12 +3,11 @@ ghost use Rattle.std.specs.Prelude.{◌≡◌, ◌↔◌, ◌<◌, ◌≤◌, na
 ghost use Rattle.sb_desk.specs.Calls.{Attached, Called, IsRefused, IsNewcomer, Left, Refused};
 ghost use Rattle.sb_host.specs.Lending.{Lends};
 
-use crate::gate::Gate;
 use crate::locks::{Lock, Reach, admit_in, enter_in, leave_in, read_in, try_read_in};
 use crate::reading::{Reading, Tried};
 use crate::session::Session;
 use sb_desk::seats::Seats;
-use sb_desk::{AttachError, CallError, Naming, Receipts};
+use sb_desk::{AttachError, CallError, Gate, Naming, Receipts};
 use sb_value::{SESSION_LIMIT, SessionId};
 use std::alloc::Global;
 use std::marker::Model;

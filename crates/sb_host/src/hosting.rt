@@ -2,7 +2,7 @@
 
 use crate::host::Host;
 use crate::session::Session;
-use sb_desk::{AttachError, CallError, Calling, Hosting, Naming, Stub};
+use sb_desk::{AttachError, CallError, Calling, Gate, Hosting, Naming, Stub};
 use sb_tenant::Answer;
 use std::alloc::Global;
 use std::sync::Wait;
@@ -18,8 +18,14 @@ impl<'h, N: Naming> Calling for Session<'h, N> {
         self.ended()
     }
 
-    fn step<R: Wait>(&mut self, rt: &R, alloc: Global, line: &[u8]) -> Result<(), CallError> {
-        match self.call(rt, alloc, line) {
+    fn step<R: Wait, G: Gate>(
+        &mut self,
+        rt: &R,
+        alloc: Global,
+        line: &[u8],
+        gate: &G,
+    ) -> Result<(), CallError> {
+        match self.call_with(rt, alloc, line, gate) {
             Ok(_) => Ok(()),
             Err(e) => Err(e),
         }

@@ -4,7 +4,6 @@
 mod comparing;
 mod equal;
 mod finish;
-mod gate;
 mod gathering;
 mod host;
 mod hosting;
@@ -16,9 +15,8 @@ mod session;
 
 pub use comparing::step_number;
 pub use finish::{FinishError, Report};
-pub use gate::{Gate, NoGate};
 pub use host::Host;
 pub use opening::Opened;
 pub use reading::{Reading, Tried};
-pub use sb_desk::{AttachError, CallError, Naming, Receipt, Stub};
+pub use sb_desk::{AttachError, CallError, Gate, Naming, NoGate, Receipt, Stub};
 pub use session::Session;

@@ -3,11 +3,10 @@ ghost use Rattle.std.specs.Prelude.{◌≡◌, ◌<◌, ◌%◌, false, IsFalse,
 ghost use Rattle.sb_desk.specs.Calls.{Called, IsNewcomer, IsRefused, Left, Refused};
 ghost use Rattle.sb_host.specs.Lending.{Lends};
 
-use crate::gate::Gate;
 use crate::reading::Reading;
 use crossbeam_utils::CachePadded;
 use sb_desk::seats::SeatTable;
-use sb_desk::{AttachError, CallError, Desk, Naming, Receipts};
+use sb_desk::{AttachError, CallError, Desk, Gate, Naming, Receipts};
 use sb_tenant::laws::answers_are_numbered;
 use sb_value::SessionId;
 use std::alloc::Global;

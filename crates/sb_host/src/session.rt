@@ -3,9 +3,8 @@ ghost use Rattle.std.specs.Prelude.{◌≡◌, false, None, Some, IfErr, IfOk, M
 ghost use Rattle.sb_desk.specs.Calls.{AnswersOnce, IsNumbered, is_ended};
 ghost use Rattle.sb_desk.specs.Stubs.{LeavesStub};
 
-use crate::gate::{Gate, NoGate};
 use crate::host::Host;
-use sb_desk::{CallError, Naming, Receipt, Receipts, Stub};
+use sb_desk::{CallError, Gate, Naming, NoGate, Receipt, Receipts, Stub};
 use sb_tenant::Answer;
 use std::alloc::Global;
 use std::marker::Model;
