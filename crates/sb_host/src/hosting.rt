@@ -25,10 +25,7 @@ impl<'h, N: Naming> Calling for Session<'h, N> {
         line: &[u8],
         gate: &G,
     ) -> Result<(), CallError> {
-        match self.call_with(rt, alloc, line, gate) {
-            Ok(_) => Ok(()),
-            Err(e) => Err(e),
-        }
+        self.step_with(rt, alloc, line, gate)
     }
 
     fn close<R: Wait>(self, rt: &R) -> Stub {
