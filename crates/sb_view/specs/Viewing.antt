@@ -32,6 +32,6 @@ IsCopyOf first own found = (view : TenantView) × (found ≡ Some view) × IsVie
 abbrev pub Copies : Viewing → Tenant → Viewing → Type 0
 Copies old own new = IfOk new.view (IsCopyOf old.first_tenant own)
 
--- what is found is what some tenant of the host was
-abbrev pub IsFoundView : ℕ → Option TenantView → Type 0
-IsFoundView first found = IfSome found (λ view. (own : Tenant) × IsViewOf first own view)
+-- what is found is what a tenant of this number was
+abbrev pub IsFoundView : ℕ → ℕ → Option TenantView → Type 0
+IsFoundView first t found = IfSome found (λ view. (own : Tenant) × (own.id ≡ t) × IsViewOf first own view)

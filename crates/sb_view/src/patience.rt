@@ -1,6 +1,6 @@
 //! How long a page waits for tenants whose cells are busy.
-ghost use Rattle.std.specs.Prelude.{◌≡◌};
-ghost use Rattle.sb_tenant.specs.Tenant.{Tenant as ItsTenant};
+ghost use Rattle.std.specs.Prelude.{◌≡◌, ◌↔◌, ◌≤◌};
+ghost use Rattle.sb_host.specs.Lending.{Lends};
 
 use sb_host::{Host, Naming, Reading, Tried};
 use std::rt::Clock;
@@ -26,14 +26,15 @@ impl<'k, T: Clock> Patience<'k, T> {
         Patience { rt, left: LOOKS }
     }
 
-    /// Lends a tenant to a reader, unless the lock of its cell is held for too long.
+    /// Lends the tenant of that number to a reader, unless the lock of its cell is held for too long.
     pub fn read<N: Naming, V: Reading>(
         &mut self,
         host: &Host<N>,
         tenant: u32,
         reading: &mut V,
     ) -> Tried
-        ensures read { result ≡ Tried.Read → (own : ItsTenant) × V.reads reading.old own reading.new }
+        ensures there { (result ≡ Tried.NoTenant) ↔ (host.now ≤ tenant) }
+        ensures read { result ≡ Tried.Read → Lends (V.reads reading.old) tenant reading.new }
         ensures none { (result ≡ Tried.Read → ⊥) → reading.new ≡ reading.old }
     {
         for _ in 0..self.left {

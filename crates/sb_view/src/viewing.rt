@@ -47,7 +47,7 @@ pub fn view_at<T: Clock, N: Naming>(
     first_tenant: u32,
     tenant: u32,
 ) -> Result<Option<TenantView>, AllocError>
-    ensures { IfOk result (IsFoundView first_tenant) }
+    ensures { IfOk result (IsFoundView first_tenant tenant) }
 {
     let mut viewing = Viewing {
         alloc,
