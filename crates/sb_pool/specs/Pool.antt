@@ -11,6 +11,6 @@ abbrev pub CallsOnce : Session → List ℕ → Result (Unit {0}) CallError → 
 CallsOnce old line (Ok _) new = (answer : Answer) × Calls old line (Ok answer) new
 CallsOnce old line (Err e) new = Calls old line (Err e) new
 
--- the job was done: its session was called once, with its line
-abbrev pub IsDone : {N : Type 0} → Job N → Done N → Type 0
-IsDone job done = (done.line ≡ job.line) × CallsOnce job.session job.line.items done.result done.session
+-- the job was done: its session, of which this is seen, was called once, with its line
+abbrev pub IsDone : {S : Type 0} → (S → Session) → Job S → Done S → Type 0
+IsDone seen job done = (done.line ≡ job.line) × CallsOnce (seen job.session) job.line.items done.result (seen done.session)

@@ -3,7 +3,7 @@ ghost use Rattle.std.specs.Prelude.{◌≡◌, ◌<◌, ◌≤◌, IfErr, IfOk};
 ghost use Rattle.std.specs.List.{AllZip};
 ghost use Rattle.sb_pool.specs.Pool.{CallsOnce, IsDone};
 
-use sb_host::{CallError, Gate, Naming, Session};
+use sb_desk::{CallError, Calling, Gate};
 use sb_workers::{Work, run};
 use std::alloc::Global;
 use std::sync::Wait;
@@ -11,54 +11,51 @@ use std::thread::Threads;
 
 /// A line that a session is to be called with.
 #[derive(Drop)]
-pub struct Job<'h, N: Naming> {
-    pub session: Session<'h, N>,
+pub struct Job<S> {
+    pub session: S,
     pub line: Vec<u8>,
 }
 
 /// A job that was done. Its answer is the session's last one.
 #[derive(Drop)]
-pub struct Done<'h, N: Naming> {
-    pub session: Session<'h, N>,
+pub struct Done<S> {
+    pub session: S,
     pub line: Vec<u8>,
     pub result: Result<(), CallError>,
 }
 
 /// Memory ran out before any job was begun.
 #[derive(Drop)]
-pub struct PoolError<'h, N: Naming> {
-    pub jobs: Vec<Job<'h, N>>,
+pub struct PoolError<S> {
+    pub jobs: Vec<Job<S>>,
 }
 
 /// One call of the session, whose answer is then its last one.
-fn call_once<N: Naming, G: Gate, R: Wait>(
+fn call_once<S: Calling, G: Gate, R: Wait>(
     rt: &R,
     alloc: Global,
-    session: &mut Session<'_, N>,
+    session: &mut S,
     line: &[u8],
     gate: &G,
 ) -> Result<(), CallError>
-    ensures { CallsOnce session.old line.now result session.new }
+    ensures { CallsOnce (S.seen session.old) line.now result (S.seen session.new) }
 {
-    match session.call_with(rt, alloc, line, gate) {
-        Ok(_) => Ok(()),
-        Err(e) => Err(e),
-    }
+    session.step(rt, alloc, line, gate)
 }
 
-/// Jobs are done by calls, with a gate inside the cells' locks.
+/// Jobs are done by calls, with this gate inside the cells' locks.
 #[derive(Drop)]
-struct Calling<'g, G> {
+struct Gated<'g, G> {
     alloc: Global,
     gate: &'g G,
 }
 
-impl<'h, 'g, N: Naming, G: Gate> Work<Job<'h, N>, Done<'h, N>> for Calling<'g, G> {
+impl<'g, S: Calling, G: Gate> Work<Job<S>, Done<S>> for Gated<'g, G> {
     ghost use Rattle.sb_pool.specs.Pool.{IsDone};
 
-    ghost does = { IsDone };
+    ghost does = { IsDone S.seen };
 
-    fn work<R: Wait>(&self, rt: &R, job: Job<'h, N>) -> Done<'h, N> {
+    fn work<R: Wait>(&self, rt: &R, job: Job<S>) -> Done<S> {
         let Job { mut session, line } = job;
         let result = call_once(rt, self.alloc, &mut session, &line, self.gate);
         Done {
@@ -75,19 +72,19 @@ pub struct Pool;
 impl Pool {
     /// Calls each job's session with its line, once, on so many threads: the calling one and others, as
     /// far as they can be started.
-    pub fn run<'h, N: Naming + Send + Sync, G: Gate + Sync, R: Threads + Wait + Sync>(
+    pub fn run<S: Calling + Send, G: Gate + Sync, R: Threads + Wait + Sync>(
         rt: &R,
         alloc: Global,
-        jobs: Vec<Job<'h, N>>,
+        jobs: Vec<Job<S>>,
         workers: usize,
         gate: &G,
-    ) -> Result<Vec<Done<'h, N>>, PoolError<'h, N>>
+    ) -> Result<Vec<Done<S>>, PoolError<S>>
         requires workers { (0 < workers) × (workers ≤ 16) }
-        ensures done { IfOk result (λ all. AllZip IsDone jobs.entry.items all.items) }
+        ensures done { IfOk result (λ all. AllZip (IsDone S.seen) jobs.entry.items all.items) }
         ensures back { IfErr result (λ e. e.jobs.items ≡ jobs.entry.items) }
     {
-        let calling = Calling { alloc, gate };
-        match run(rt, alloc, jobs, workers, &calling) {
+        let gated = Gated { alloc, gate };
+        match run(rt, alloc, jobs, workers, &gated) {
             Ok(done) => Ok(done),
             Err(jobs) => Err(PoolError { jobs }),
         }

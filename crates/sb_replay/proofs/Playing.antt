@@ -10,13 +10,13 @@ use Rattle.sb_tenant.specs.declared.reply.Answer.{Answer}
 use Rattle.sb_desk.specs.declared.desk.CallError.{CallError}
 use Rattle.sb_desk.specs.Receipts.{newcomer}
 use Rattle.sb_desk.specs.Calls.{Calls, Session, shown}
-use Rattle.sb_pool.specs.Pool.{CallsOnce, IsDone}
+use Rattle.sb_pool.specs.Pool.{CallsOnce}
 use Rattle.sb_pool.specs.declared.pool.Job.{Job}
 use Rattle.sb_pool.specs.declared.pool.Done.{Done}
 use Rattle.sb_replay.specs.Lists.{AllCut}
 use Rattle.sb_replay.specs.Sessions.{Exchange, Plays, any_lacks, commands_in, lacks_number, session_text, told_text}
 use Rattle.sb_replay.specs.Sheets.{Sheet, Tells, fresh, lines_of, telling, with_next}
-use Rattle.sb_replay.specs.Parts.{Deals, Gathers, Moves, MovesBy, MovesIn, Opens, OpensBy, Rests, calls, calls_of, session_at, tenant_at}
+use Rattle.sb_replay.specs.Parts.{Deals, Gathers, Moves, MovesBy, MovesIn, Opens, OpensBy, Rests, calls, calls_of, session_at, tenant_at, WasDone}
 use Rattle.sb_replay.proofs.Lists.{zip_same, zip_then}
 use Rattle.sb_replay.specs.declared.part.Part.{Part}
 use Rattle.sb_replay.specs.declared.round.Waiting.{Waiting}
@@ -38,15 +38,15 @@ module _ {N : Type 0} where
   stays (Some s) [] old new rests same = same
   stays (Some s) (c ∷ cs) old new rests same = absurd rests
 
-  one_moves : (p q : Part N) (w : Waiting N) (own rest : List (Job N)) (own' rest' : List (Done N))
-      → Deals p w own → Gathers w q own' → AllZip IsDone (own ++ rest) (own' ++ rest') → Moves p q × AllZip IsDone rest rest'
+  one_moves : (p q : Part N) (w : Waiting N) (own rest : List (Job Session)) (own' rest' : List (Done Session))
+      → Deals p w own → Gathers w q own' → AllZip WasDone (own ++ rest) (own' ++ rest') → Moves p q × AllZip WasDone rest rest'
   one_moves p q (Resting same) own rest own' rest' (is, rests, none) (is', none') all = (
     stays p.session p.sheet.left p q rests (is' ∙ is),
-    subst (λ (l : List (Job N)). AllZip IsDone (l ++ rest) rest') none (subst (λ (l : List (Done N)). AllZip IsDone (own ++ rest) (l ++ rest')) none' all),
+    subst (λ (l : List (Job Session)). AllZip WasDone (l ++ rest) rest') none (subst (λ (l : List (Done Session)). AllZip WasDone (own ++ rest) (l ++ rest')) none' all),
   )
   one_moves p q (Called sheet) own rest own' rest' (job, one, is) (done, one', (session, tells)) all =
-      let both : AllZip IsDone (job ∷ rest) (done ∷ rest') =
-      subst (λ (l : List (Job N)). AllZip IsDone (l ++ rest) (done ∷ rest')) one (subst (λ (l : List (Done N)). AllZip IsDone (own ++ rest) (l ++ rest')) one' all) in
+      let both : AllZip WasDone (job ∷ rest) (done ∷ rest') =
+      subst (λ (l : List (Job Session)). AllZip WasDone (l ++ rest) (done ∷ rest')) one (subst (λ (l : List (Done Session)). AllZip WasDone (own ++ rest) (l ++ rest')) one' all) in
       let told = told_by sheet job.session done.session job.line.items done.result q.sheet both.0.1 tells in
       let moved : MovesBy (Some job.session) (job.line.items ∷ sheet.left) (record { session = Some job.session; sheet = with_next job.line.items sheet }) q =
       (told.0, done.session, told.1, λ i. record { session = session i; sheet = told.2 i }) in (
@@ -55,40 +55,40 @@ module _ {N : Type 0} where
       )
 
   -- each part has moved
-  pub all_move : (ps : List (Part N)) (ws : List (Waiting N)) (qs : List (Part N)) (jobs : List (Job N)) (done : List (Done N))
-      → AllCut Deals ps ws jobs → AllCut Gathers ws qs done → AllZip IsDone jobs done → AllZip Moves ps qs
+  pub all_move : (ps : List (Part N)) (ws : List (Waiting N)) (qs : List (Part N)) (jobs : List (Job Session)) (done : List (Done Session))
+      → AllCut Deals ps ws jobs → AllCut Gathers ws qs done → AllZip WasDone jobs done → AllZip Moves ps qs
   all_move [] [] [] jobs done deals gathers all = tt
   all_move [] [] (q ∷ qs) jobs done deals gathers all = absurd gathers
   all_move [] (w ∷ ws) qs jobs done deals gathers all = absurd deals
   all_move (p ∷ ps) [] qs jobs done deals gathers all = absurd deals
   all_move (p ∷ ps) (w ∷ ws) [] jobs done deals gathers all = absurd gathers
   all_move (p ∷ ps) (w ∷ ws) (q ∷ qs) jobs done (own, rest, cut, deal, deals) (own', rest', cut', gather, gathers) all =
-      let cuts : AllZip IsDone (own ++ rest) (own' ++ rest') = subst (λ (l : List (Job N)). AllZip IsDone l (own' ++ rest')) cut (subst (AllZip IsDone jobs) cut' all) in
+      let cuts : AllZip WasDone (own ++ rest) (own' ++ rest') = subst (λ (l : List (Job Session)). AllZip WasDone l (own' ++ rest')) cut (subst (AllZip WasDone jobs) cut' all) in
       let both = one_moves p q w own rest own' rest' deal gather cuts in
       (both.0, all_move ps ws qs rest rest' deals gathers both.1)
 
   -- a job for each part that waits for an answer
-  pub calls_are : (ps : List (Part N)) (ws : List (Waiting N)) (jobs : List (Job N)) → AllCut Deals ps ws jobs → calls ws ≡ length jobs
+  pub calls_are : (ps : List (Part N)) (ws : List (Waiting N)) (jobs : List (Job Session)) → AllCut Deals ps ws jobs → calls ws ≡ length jobs
   calls_are [] [] jobs none = ap length (sym none)
   calls_are [] (w ∷ ws) jobs deals = absurd deals
   calls_are (p ∷ ps) [] jobs deals = absurd deals
   calls_are (p ∷ ps) (Called sheet ∷ ws) jobs (own, rest, cut, (job, one, is), deals) =
       let others = calls_are ps ws rest deals in
-      let all : length jobs ≡ length (job ∷ rest) = ap length cut ∙ ap (λ (l : List (Job N)). length (l ++ rest)) one in
+      let all : length jobs ≡ length (job ∷ rest) = ap length cut ∙ ap (λ (l : List (Job Session)). length (l ++ rest)) one in
       omega arith
   calls_are (p ∷ ps) (Resting same ∷ ws) jobs (own, rest, cut, (is, rests, none), deals) =
       let others = calls_are ps ws rest deals in
-      let all : length jobs ≡ length rest = ap length cut ∙ ap (λ (l : List (Job N)). length (l ++ rest)) none in
+      let all : length jobs ≡ length rest = ap length cut ∙ ap (λ (l : List (Job Session)). length (l ++ rest)) none in
       omega arith
 
-  pub done_long : (jobs : List (Job N)) (done : List (Done N)) → AllZip IsDone jobs done → length jobs ≡ length done
+  pub done_long : (jobs : List (Job Session)) (done : List (Done Session)) → AllZip WasDone jobs done → length jobs ≡ length done
   done_long [] [] all = refl
   done_long [] (d ∷ ds) all = absurd all
   done_long (j ∷ js) [] all = absurd all
   done_long (j ∷ js) (d ∷ ds) all = ap suc (done_long js ds all.1)
 
   -- an answer for each part that waits for one
-  pub used_by : (w : Waiting N) (p : Part N) (own : List (Done N)) → Gathers w p own → length own ≡ calls_of w
+  pub used_by : (w : Waiting N) (p : Part N) (own : List (Done Session)) → Gathers w p own → length own ≡ calls_of w
   used_by (Called sheet) p own (done, one, told) = ap length one
   used_by (Resting same) p own (is, none) = ap length none
 

@@ -11,6 +11,7 @@ use Rattle.sb_desk.specs.Calls.{Calls, Session, shown}
 use Rattle.sb_host.specs.Finish.{IsInOrder, gathered}
 use Rattle.sb_desk.specs.Stubs.{LeavesStub}
 use Rattle.sb_desk.specs.declared.stub.Stub.{Stub}
+use Rattle.sb_pool.specs.Pool.{IsDone}
 use Rattle.sb_pool.specs.declared.pool.Job.{Job}
 use Rattle.sb_pool.specs.declared.pool.Done.{Done}
 use Rattle.sb_replay.specs.Lists.{AllCut, AllFrom}
@@ -43,6 +44,10 @@ abbrev pub ClosesBy : Option Session → List Stub → Type 0
 ClosesBy None stubs = stubs ≡ []
 ClosesBy (Some session) stubs = (stub : Stub) × (stubs ≡ stub ∷ []) × LeavesStub session stub × IsInOrder stub.receipts.items
 
+-- a job of a session was done, of which all is seen
+abbrev pub WasDone : Job Session → Done Session → Type 0
+WasDone = IsDone (λ session. session)
+
 module _ {N : Type 0} where
   -- the part of the rank k, before its first call
   abbrev pub Opens : ℕ → Vec (Vec ℕ Global) Global → Part N → Type 0
@@ -57,27 +62,27 @@ module _ {N : Type 0} where
   -- ---- one round
 
   -- a part waits for its call's answer, or rests
-  abbrev pub Deals : Part N → Waiting N → List (Job N) → Type 0
+  abbrev pub Deals : Part N → Waiting N → List (Job Session) → Type 0
   Deals part (Called sheet) jobs =
-      (job : Job N) × (jobs ≡ job ∷ []) × (part ≡ record { session = Some job.session; sheet = with_next job.line.items sheet })
+      (job : Job Session) × (jobs ≡ job ∷ []) × (part ≡ record { session = Some job.session; sheet = with_next job.line.items sheet })
   Deals part (Resting same) jobs = (same ≡ part) × Rests part.session part.sheet.left × (jobs ≡ [])
 
-  abbrev pub DealsOne : Part N → List (Job N) → List (Waiting N) → List (Job N) → List (Waiting N) → Type 0
+  abbrev pub DealsOne : Part N → List (Job Session) → List (Waiting N) → List (Job Session) → List (Waiting N) → Type 0
   DealsOne part jobs waiting jobs' waiting' =
-      (w : Waiting N) × (own : List (Job N)) × (waiting' ≡ waiting ++ w ∷ []) × (jobs' ≡ jobs ++ own) × Deals part w own
+      (w : Waiting N) × (own : List (Job Session)) × (waiting' ≡ waiting ++ w ∷ []) × (jobs' ≡ jobs ++ own) × Deals part w own
 
   -- a call was done, and its answer told
-  abbrev pub TellsDone : Sheet → Done N → Part N → Type 0
+  abbrev pub TellsDone : Sheet → Done Session → Part N → Type 0
   TellsDone sheet done part = (part.session ≡ Some done.session) × Tells sheet done.result done.session.last part.sheet
 
   -- it is as it was, or has what its call was answered
-  abbrev pub Gathers : Waiting N → Part N → List (Done N) → Type 0
-  Gathers (Called sheet) part all = (done : Done N) × (all ≡ done ∷ []) × TellsDone sheet done part
+  abbrev pub Gathers : Waiting N → Part N → List (Done Session) → Type 0
+  Gathers (Called sheet) part all = (done : Done Session) × (all ≡ done ∷ []) × TellsDone sheet done part
   Gathers (Resting same) part all = (part ≡ same) × (all ≡ [])
 
-  abbrev pub GathersOne : Waiting N → List (Done N) → List (Part N) → List (Done N) → List (Part N) → Type 0
+  abbrev pub GathersOne : Waiting N → List (Done Session) → List (Part N) → List (Done Session) → List (Part N) → Type 0
   GathersOne w done parts done' parts' =
-      (part : Part N) × (own : List (Done N)) × (parts' ≡ parts ++ part ∷ []) × (done ≡ own ++ done') × Gathers w part own
+      (part : Part N) × (own : List (Done Session)) × (parts' ≡ parts ++ part ∷ []) × (done ≡ own ++ done') × Gathers w part own
 
   -- how many wait for an answer
   abbrev pub calls_of : Waiting N → ℕ

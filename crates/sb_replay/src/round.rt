@@ -7,7 +7,7 @@ ghost use Rattle.sb_replay.specs.Parts.{AddsPart, Deals, DealsOne, Gathers, Gath
 
 use crate::part::Part;
 use crate::sheet::Sheet;
-use sb_host::{Naming, NoGate};
+use sb_host::{Naming, NoGate, Session};
 use sb_pool::{Done, Job, Pool};
 use std::alloc::{AllocError, Global};
 use std::sync::Wait;
@@ -26,7 +26,7 @@ enum Waiting<'h, N: Naming> {
 /// The jobs of a round, and the parts that wait.
 #[derive(Drop)]
 struct Dealt<'h, N: Naming> {
-    jobs: Vec<Job<'h, N>>,
+    jobs: Vec<Job<Session<'h, N>>>,
     waiting: Vec<Waiting<'h, N>>,
 }
 
@@ -45,7 +45,7 @@ fn deal<'h, N: Naming>(alloc: Global, parts: Vec<Part<'h, N>>) -> Result<Dealt<'
 /// Takes the next command of a session, if there is one.
 fn deal_one<'h, N: Naming>(
     part: Part<'h, N>,
-    jobs: &mut Vec<Job<'h, N>>,
+    jobs: &mut Vec<Job<Session<'h, N>>>,
     waiting: &mut Vec<Waiting<'h, N>>,
 ) -> Result<(), AllocError>
     ensures { OnOk result (DealsOne part.entry jobs.old.items waiting.old.items jobs.new.items waiting.new.items) }
@@ -77,7 +77,7 @@ fn deal_one<'h, N: Naming>(
 /// The parts after a round.
 fn gather<'h, N: Naming>(
     alloc: Global,
-    done: Vec<Done<'h, N>>,
+    done: Vec<Done<Session<'h, N>>>,
     waiting: Vec<Waiting<'h, N>>,
 ) -> Result<Vec<Part<'h, N>>, AllocError>
     requires { calls waiting.items ≡ length done.items }
@@ -94,7 +94,7 @@ fn gather<'h, N: Naming>(
 /// Adds a part, with what its call was answered, if there was one.
 fn gather_one<'h, N: Naming>(
     waiting: Waiting<'h, N>,
-    done: &mut IntoIter<Done<'h, N>>,
+    done: &mut IntoIter<Done<Session<'h, N>>>,
     parts: &mut Vec<Part<'h, N>>,
 ) -> Result<(), AllocError>
     requires { calls_of waiting ≤ length (into_iter_items done.old) }
@@ -116,7 +116,7 @@ fn gather_one<'h, N: Naming>(
 /// Adds the part of a session whose call was done.
 fn tell<'h, N: Naming>(
     mut sheet: Sheet,
-    done: Done<'h, N>,
+    done: Done<Session<'h, N>>,
     parts: &mut Vec<Part<'h, N>>,
 ) -> Result<(), AllocError>
     ensures { OnOk result (AddsPart (TellsDone sheet done.entry) parts.old.items parts.new.items) }

@@ -2,7 +2,7 @@
 ghost use Rattle.sb_host.specs.Opening.{AreNames};
 
 use crate::hosts::{attach, finish, is_ok};
-use sb_host::{Gate, Host, Naming, Opened, Stub};
+use sb_host::{Gate, Host, Naming, Opened, Session, Stub};
 use sb_pool::{Done, Job, Pool, PoolError};
 use sb_value::SessionId;
 use std::alloc::Global;
@@ -62,7 +62,7 @@ fn job<'h, N: Naming, R: Wait + Abort>(
     host: &'h Host<N>,
     tenant: u32,
     may_lack: bool,
-) -> Option<Job<'h, N>> {
+) -> Option<Job<Session<'h, N>>> {
     let Ok(line) = Vec::from_slice(alloc, b"begin") else {
         assert!(rt; may_lack);
         return None;
@@ -77,7 +77,7 @@ fn jobs<'h, N: Naming, R: Wait + Abort>(
     alloc: Global,
     host: &'h Host<N>,
     may_lack: bool,
-) -> Vec<Job<'h, N>> {
+) -> Vec<Job<Session<'h, N>>> {
     let Ok(mut jobs) = Vec::with_capacity(alloc, 2) else {
         assert!(rt; may_lack);
         return Vec::new(alloc);
@@ -93,7 +93,7 @@ fn jobs<'h, N: Naming, R: Wait + Abort>(
 /// Closes the sessions of jobs that were done, each answered.
 fn close_done<N: Naming, R: Wait + Abort>(
     rt: &R,
-    done: Vec<Done<'_, N>>,
+    done: Vec<Done<Session<'_, N>>>,
     stubs: &mut Vec<Stub>,
     may_lack: bool,
 ) {
@@ -115,7 +115,7 @@ fn close_done<N: Naming, R: Wait + Abort>(
 }
 
 /// Closes the sessions of jobs that came back, of which none was called.
-fn close_back<N: Naming, R: Wait + Abort>(rt: &R, jobs: Vec<Job<'_, N>>, stubs: &mut Vec<Stub>) {
+fn close_back<N: Naming, R: Wait + Abort>(rt: &R, jobs: Vec<Job<Session<'_, N>>>, stubs: &mut Vec<Stub>) {
     for job in jobs {
         let Job { session, line } = job;
         assert!(rt; line.as_slice() == b"begin".as_slice() && session.list().len() == 1);

@@ -1,4 +1,5 @@
 use Rattle.std.proofs.Common.{[], ◌∷◌, refl}
+use Rattle.sb_desk.specs.Calls.{Session}
 use Rattle.sb_pool.specs.declared.pool.Job.{Job}
 use Rattle.sb_replay.specs.declared.round.Waiting.TheVariants.{Called}
 use Rattle.sb_replay.proofs.round.deal_one.Goals as goal
@@ -6,7 +7,7 @@ use Rattle.sb_replay.proofs.round.deal_one.Goals as goal
 -- the session is called
 pub returns-in_ok-push-in-Some-next_command-2 : goal.returns-in_ok-push-in-Some-next_command-2
 returns-in_ok-push-in-Some-next_command-2 g c =
-    let job : Job g.row.N.Denot = record { session = c.in-Some.session; line = c.in-Some-next_command.line } in (
+    let job : Job Session = record { session = c.in-Some.session; line = c.in-Some-next_command.line } in (
       Called c.next_command.new.self,
       job ∷ [],
       c.in_ok-push-in-Some-next_command-2.ensures.items,
