@@ -80,8 +80,8 @@ impl Pool {
         gate: &G,
     ) -> Result<Vec<Done<S>>, PoolError<S>>
         requires workers { (0 < workers) × (workers ≤ 16) }
-        ensures done { IfOk result (λ all. AllZip (IsDone S.seen) jobs.entry.items all.items) }
-        ensures back { IfErr result (λ e. e.jobs.items ≡ jobs.entry.items) }
+        ensures done { IfOk result (λ all. AllZip (IsDone S.seen) jobs.items all.items) }
+        ensures back { IfErr result (λ e. e.jobs.items ≡ jobs.items) }
     {
         let gated = Gated { alloc, gate };
         match run(rt, alloc, jobs, workers, &gated) {
