@@ -27,10 +27,7 @@ pub(crate) fn newest_step<S: Calling>(session: &Option<Caller<S>>) -> Option<u32
 
 /// Whether the newest line wasn't begun, where it was no step and this is the newest one: an answer that is no step says
 /// that the trail is full.
-pub(crate) fn was_unbegun<S: Calling>(
-    session: &Option<Caller<S>>,
-    newest: Option<u32>,
-) -> bool {
+pub(crate) fn was_unbegun<S: Calling>(session: &Option<Caller<S>>, newest: Option<u32>) -> bool {
     let Some(session) = session else {
         return false;
     };

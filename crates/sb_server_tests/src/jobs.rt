@@ -115,7 +115,11 @@ fn close_done<N: Naming, R: Wait + Abort>(
 }
 
 /// Closes the sessions of jobs that came back, of which none was called.
-fn close_back<N: Naming, R: Wait + Abort>(rt: &R, jobs: Vec<Job<Session<'_, N>>>, stubs: &mut Vec<Stub>) {
+fn close_back<N: Naming, R: Wait + Abort>(
+    rt: &R,
+    jobs: Vec<Job<Session<'_, N>>>,
+    stubs: &mut Vec<Stub>,
+) {
     for job in jobs {
         let Job { session, line } = job;
         assert!(rt; line.as_slice() == b"begin".as_slice() && session.list().len() == 1);
