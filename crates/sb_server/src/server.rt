@@ -346,6 +346,8 @@ pub fn serve_all<
     host: H,
     beside: &G,
 ) -> Result<Vec<Stub>, ServeError>
+where
+    H::Session: Send,
     requires workers { (0 < acceptor.now.terms.workers) × (acceptor.now.terms.workers ≤ 16) }
     ensures { IfOk result (λ stubs. All LeavesClosed stubs.items) }
 {
