@@ -1,19 +1,17 @@
-use denote.Param.Send.{arg_sync, param_sync, sendable}
+use denote.Param.Send.{arg_sync, copied_sync, param_sync}
 use Rattle.std.proofs.Common.{List, [], ◌∷◌, ◌++◌, subst, sym}
-use Rattle.std.proofs.Crossing.{crosses}
 use Rattle.std.specs.Prelude.{IfOk, Vec}
 use Rattle.std.specs.Global.{Global}
 use Rattle.std.specs.List.{All, AllZip, flat_map}
 use Rattle.std.proofs.lemmas.List.Elements.{All-append, All-nil}
 use Rattle.sb_desk.specs.declared.stub.Stub.{Stub}
 use Rattle.sb_server.specs.Closed.{LeaveClosed, LeavesClosed}
-use Rattle.sb_server.proofs.board.Board.TheSendSync as board
-use Rattle.sb_server.proofs.mailbox.Mailbox.TheSendSync as mailbox
+use Rattle.sb_server.proofs.server.Serving.TheSendSync as serving
 use Rattle.sb_server.proofs.server.serve_all.Goals as goal
 
 -- the threads share the host, the mailboxes and the watch
 pub run_beside-parts-requires-sync-W : goal.run_beside-parts-requires-sync-W
-run_beside-parts-requires-sync-W g c = λ κs bounds. search (param_sync, arg_sync, sendable, crosses, mailbox.the_sync, board.the_sync) depth 60 fits 6000
+run_beside-parts-requires-sync-W g c = λ κs bounds. search (param_sync, arg_sync, copied_sync, serving.the_sync)
 
 -- each worker closed its sessions
 all_closed : {A : Type 0} (jobs : List A) (parts : List (Vec Stub Global)) → AllZip (λ job part. LeaveClosed part) jobs parts → All LeavesClosed (flat_map (λ part. part.items) parts)
