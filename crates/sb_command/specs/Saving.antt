@@ -1,5 +1,5 @@
 -- Promise: what is written of the tenants of a host, and by which names.
-use Rattle.std.specs.Prelude.{◌≡◌, ◌⊎◌, ◌++◌, ℕ, true, List, [], codes, decimal}
+use Rattle.std.specs.Prelude.{◌≡◌, ◌⊎◌, ◌≤◌, ◌++◌, ℕ, true, List, [], codes, decimal}
 use Rattle.sb_dump.specs.Dumps.{Dumps, is_busy}
 use Rattle.sb_dump.specs.declared.dumps.DumpError.TheVariants.{Busy}
 use Rattle.sb_tenant.specs.Tenant.{Tenant, state}
@@ -16,6 +16,7 @@ IsNotedOf bound own noted.Unused = own.trail ≡ []
 IsNotedOf bound own (noted.Script script) = Dumps bound own script
 IsNotedOf bound own (noted.Lacking why) = why ≡ Busy → is_busy (state own) ≡ true
 
--- there is no such tenant, or it is so of one of the host
-abbrev pub IsNotedOfSome : ℕ → Noted → Type 0
-IsNotedOfSome bound found = (found ≡ noted.Unused) ⊎ ((own : Tenant) × IsNotedOf bound own found)
+-- of so many tenants there is none of that number; or a tenant of it has this
+abbrev pub IsNotedOfSome : ℕ → ℕ → ℕ → Noted → Type 0
+IsNotedOfSome bound tenants t found =
+    ((tenants ≤ t) × (found ≡ noted.Unused)) ⊎ ((own : Tenant) × (own.id ≡ t) × IsNotedOf bound own found)

@@ -113,7 +113,7 @@ pub(crate) fn noted_of<T: Wait, N: Naming>(
     tenant: u32,
 ) -> Noted
     requires { bound ≤ 1000 }
-    ensures { IsNotedOfSome bound result }
+    ensures { IsNotedOfSome bound host.now tenant result }
 {
     let mut notes = Notes {
         alloc,
@@ -134,7 +134,7 @@ pub(crate) fn noted_in<T: Clock, N: Naming>(
     tenant: u32,
 ) -> Noted
     requires { bound ≤ 1000 }
-    ensures { (result ≡ Noted.Lacking DumpError.Busy) ⊎ IsNotedOfSome bound result }
+    ensures { (result ≡ Noted.Lacking DumpError.Busy) ⊎ IsNotedOfSome bound host.now tenant result }
 {
     let mut notes = Notes {
         alloc,
