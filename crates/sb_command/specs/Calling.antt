@@ -3,6 +3,8 @@ use Rattle.std.specs.Prelude.{◌≡◌, ◌⊎◌, ◌<◌, ◌+◌, ℕ, zero,
 use Rattle.std.specs.List.{All}
 use Rattle.sb_tenant.specs.declared.reply.Answer.{Answer}
 use Rattle.sb_tenant.specs.declared.reply.Reply.TheVariants as told
+use Rattle.sb_tenant.specs.State.{session_at}
+use Rattle.sb_tenant.specs.Tenant.{Tenant, state}
 use Rattle.sb_wire.specs.Lines.{Piece, line, too_long}
 use Rattle.sb_wire.specs.declared.fault.StreamError.TheVariants as stream
 use Rattle.sb_desk.specs.declared.desk.CallError.{CallError}
@@ -10,10 +12,12 @@ use Rattle.sb_desk.specs.declared.receipts.Receipt.{Receipt}
 use Rattle.sb_desk.specs.Receipts.{numbered, receipt}
 use Rattle.sb_desk.specs.Calls.{Calls, Session}
 use Rattle.sb_desk.specs.declared.stub.Stub.{Stub}
-use Rattle.sb_command.specs.Playing.{IsTaken, MayHave, MayLack}
+use Rattle.sb_host.specs.Lending.{Lends}
+use Rattle.sb_command.specs.Playing.{IsTaken, MayEnd, MayHave, MayLack}
 use Rattle.sb_command.specs.declared.fault.Fault.{Fault}
 use Rattle.sb_command.specs.declared.fault.Fault.TheVariants.{CannotLoad, Stream}
 use Rattle.sb_command.specs.declared.playing.Progress.{Progress}
+use Rattle.sb_command.specs.declared.playing.Unplayed.{Unplayed}
 
 -- ---- one line
 
@@ -66,12 +70,16 @@ pub record IsPlayedIn (t : ℕ) (lines : List (List ℕ)) (stub : Stub) : Type 0
   pub list : stub.receipts.items ≡ receipt (codes "open") (numbered first told.Ok) ∷ (receipts ++ receipt (codes "end") (numbered last told.Ok) ∷ [])
   pub are_taken : AreTakenBy lines receipts
 
+-- a tenant of this number was lent, and a script may end where its first session stood, or this is why it may not
+abbrev pub StandsAs : ℕ → Option Unplayed → Type 0
+StandsAs t why = Lends (λ (own : Tenant) (found : Option Unplayed). MayEnd (session_at (state own) 0) found) t why
+
 -- ---- all files
 
--- by what is known of its file: a session that was called with the file's lines, or none where there may be none
+-- by what is known of its file: a session that was called with the file's lines, up to where a script may end, or none where there may be none
 abbrev pub LeavesFor : ℕ → Option (Option (List ℕ)) → Option Stub → Type 0
 LeavesFor t known None = MayLack known
-LeavesFor t known (Some stub) = (lines : List (List ℕ)) × MayHave known lines × IsPlayedIn t lines stub
+LeavesFor t known (Some stub) = (lines : List (List ℕ)) × MayHave known lines × IsPlayedIn t lines stub × StandsAs t None
 
 -- the tenants below a number left these, one after another
 abbrev pub LeaveAll : (ℕ → Option (Option (List ℕ))) → ℕ → List Stub → Type 0

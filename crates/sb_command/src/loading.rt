@@ -1,6 +1,6 @@
 //! The tenants of a host, made from their files.
-ghost use Rattle.std.specs.Prelude.{◌≡◌, ◌⊎◌, ◌+◌, ◌++◌, List, ℕ, false, IfErr, IfOk, OnErr, OnOk, option_to_list};
-ghost use Rattle.sb_command.specs.Calling.{CallsBy, IsPlayedIn, IsUnplayedOf, LeaveAll, LeavesFor, RefusesCall, TakesCall, TakesCalls};
+ghost use Rattle.std.specs.Prelude.{◌≡◌, ◌⊎◌, ◌+◌, ◌++◌, ◌<◌, List, ℕ, None, false, IfErr, IfOk, OnErr, OnOk, option_to_list};
+ghost use Rattle.sb_command.specs.Calling.{CallsBy, IsPlayedIn, IsUnplayedOf, LeaveAll, LeavesFor, RefusesCall, StandsAs, TakesCall, TakesCalls};
 ghost use Rattle.sb_command.specs.Playing.{HasLines};
 ghost use Rattle.sb_command.specs.declared.fault.Fault.TheVariants as fault;
 ghost use Rattle.sb_wire.specs.Seen.{piece_seen};
@@ -175,6 +175,17 @@ impl Reading for Ending {
     }
 }
 
+/// Why a script may not end where a tenant's first session stands now.
+fn ending_of<T: Wait, N: Naming>(rt: &T, host: &Host<N>, tenant: u32) -> Option<Unplayed>
+    requires { tenant < host.now }
+    ensures { StandsAs tenant result }
+{
+    let mut ending = Ending { why: None };
+    let _is_there = host.read(rt, tenant, &mut ending);
+    let Ending { why } = ending;
+    why
+}
+
 /// Plays a file in the first session of a tenant.
 fn play<T: Wait, N: Naming, F: Read + Drop>(
     rt: &T,
@@ -183,14 +194,14 @@ fn play<T: Wait, N: Naming, F: Read + Drop>(
     tenant: u32,
     file: F,
 ) -> Result<Stub, Unplayed>
-    ensures { IfOk result (λ stub. (lines : List (List ℕ)) × HasLines (F.remaining file) lines × IsPlayedIn tenant lines stub) }
+    ensures { IfOk result (λ stub. (lines : List (List ℕ)) × HasLines (F.remaining file) lines × IsPlayedIn tenant lines stub
+        × StandsAs tenant None) }
 {
     let Ok(mut session) = host.attach(rt, alloc, tenant, 0) else {
         return Err(Unplayed::NoSession);
     };
     let played = play_lines(rt, alloc, &mut session, file);
-    let mut ending = Ending { why: None };
-    let _is_there = host.read(rt, tenant, &mut ending);
+    let ending = ending_of(rt, host, tenant);
     let has_ended = session.ended();
     let stub = session.close(rt);
     match played {
@@ -200,7 +211,7 @@ fn play<T: Wait, N: Naming, F: Read + Drop>(
     if has_ended {
         return Err(Unplayed::Ended);
     }
-    match ending.why {
+    match ending {
         Some(why) => Err(why),
         None => Ok(stub),
     }
