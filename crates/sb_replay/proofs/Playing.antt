@@ -32,6 +32,12 @@ told_by old session after line (Ok u) new (answer, calls) tells =
     (Ok answer, calls, subst (λ (last : Option Answer). Tells old (Ok u) last new) (ap (λ (s : Session). s.last) calls.2) tells)
 told_by old session after line (Err e) new calls tells = (Err e, calls, tells)
 
+pub done_long : (jobs : List (Job Session)) (done : List (Done Session)) → AllZip WasDone jobs done → length jobs ≡ length done
+done_long [] [] all = refl
+done_long [] (d ∷ ds) all = absurd all
+done_long (j ∷ js) [] all = absurd all
+done_long (j ∷ js) (d ∷ ds) all = ap suc (done_long js ds all.1)
+
 module _ {N : Type 0} where
   stays : (session : Option Session) (left : List (List ℕ)) (old new : Part N) → Rests session left → new ≡ old → MovesBy session left old new
   stays None left old new rests same = same
@@ -80,12 +86,6 @@ module _ {N : Type 0} where
       let others = calls_are ps ws rest deals in
       let all : length jobs ≡ length rest = ap length cut ∙ ap (λ (l : List (Job Session)). length (l ++ rest)) none in
       omega arith
-
-  pub done_long : (jobs : List (Job Session)) (done : List (Done Session)) → AllZip WasDone jobs done → length jobs ≡ length done
-  done_long [] [] all = refl
-  done_long [] (d ∷ ds) all = absurd all
-  done_long (j ∷ js) [] all = absurd all
-  done_long (j ∷ js) (d ∷ ds) all = ap suc (done_long js ds all.1)
 
   -- an answer for each part that waits for one
   pub used_by : (w : Waiting N) (p : Part N) (own : List (Done Session)) → Gathers w p own → length own ≡ calls_of w
