@@ -6,7 +6,7 @@ use crate::hearing::{hear, say};
 use crate::showing::Pages;
 use libc::net as system;
 use sb_connection::{Admission, Watch};
-use sb_host::{Host, Naming, Stub};
+use sb_desk::{Hosting, Naming, Stub};
 use sb_server::{Acceptor, Beside, Keeper, ServeError, serve_all};
 use sb_status::{HEAD_LIMIT, NO_MEMORY};
 use sb_view::Shelf;
@@ -112,7 +112,7 @@ pub(crate) trait Aside {
 /// Serves the connections that are taken, with this thread beside it. Where there is no thread for it, it is run last,
 /// when nothing is left of it to do.
 pub(crate) fn serve_beside<
-    N: Naming + Send + Sync,
+    H: Hosting + Sync,
     V: Watch + Sync,
     A: Admission + Sync,
     K: Keeper + Sync,
@@ -123,10 +123,12 @@ pub(crate) fn serve_beside<
     rt: &T,
     alloc: Global,
     acceptor: &Acceptor<'_, V, A, K>,
-    host: &Host<N>,
+    host: H,
     aside: &W,
     beside: &G,
 ) -> Result<Vec<Stub>, ServeError>
+where
+    H::Session: Send,
     requires { (0 < acceptor.now.terms.workers) × (acceptor.now.terms.workers ≤ 16) }
 {
     let (_ran, served) = thread::join(
@@ -135,7 +137,7 @@ pub(crate) fn serve_beside<
             requires { IsSync T.row × IsSync W.row }
         { aside.run(rt) },
         move || -> Result<Vec<Stub>, ServeError>
-            requires { IsSync T.row × IsSync V.row × IsSync A.row × IsSync K.row × IsSend N.row × IsSync N.row
+            requires { IsSync T.row × IsSync V.row × IsSync A.row × IsSync K.row × IsSync H.row × IsSend H.Session.row
                 × (0 < acceptor.now.terms.workers) × (acceptor.now.terms.workers ≤ 16) }
         {
             let served = serve_all(rt, alloc, acceptor, host, beside);
