@@ -149,6 +149,7 @@ WORKS = {
     "equal": (lambda times: query("select count(*) from t, u where t.a = u.b", times), 400),
     "in": (lambda times: query("select count(*) from t where a in (select b from u)", times), 400),
     "sum": (lambda times: query("select sum(a) from t where a > 10", times), 2000),
+    "correlated": (lambda times: query("select count(*) from t where a < (select sum(b) from u where u.b < t.a)", times), 8),
     "rows": (lambda times: query("select * from t", times), 400),
     "unequal": (lambda times: query("select count(*) from t, u where t.a + 3 < u.b", times), 16),
     "long": (lambda times: query("select count(*) from t, u where " + " and ".join(["t.a < u.b + 900"] * 20), times), 8),
