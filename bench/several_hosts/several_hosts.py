@@ -60,10 +60,14 @@ class Host:
     """A server of 256 tenants, from this one on, with status pages."""
 
     def __init__(self, program, *words, first=0):
-        self.status = free_port()
-        words = [program, "serve", "--tenants", "256", "--first-tenant", str(first), "--status", str(self.status), *words]
-        self.process = subprocess.Popen(words, stdin=subprocess.DEVNULL, stdout=subprocess.PIPE, stderr=subprocess.DEVNULL, text=True)
-        self.port = int(self.process.stdout.readline().split()[1])
+        for _try in range(9):  # until no other process has taken the free port meanwhile
+            self.status = free_port()
+            asked = [program, "serve", "--tenants", "256", "--first-tenant", str(first), "--status", str(self.status), *words]
+            self.process = subprocess.Popen(asked, stdin=subprocess.DEVNULL, stdout=subprocess.PIPE, stderr=subprocess.DEVNULL, text=True)
+            told = self.process.stdout.readline()
+            if told:
+                break
+        self.port = int(told.split()[1])
 
     def stop(self):
         self.process.kill()
