@@ -9,8 +9,8 @@ import sys
 
 CRATES = pathlib.Path(__file__).resolve().parent.parent / "crates"
 WORDS = ("Promise", "Machine")
-# what came to a connection, what was noted of a trail, and which job of a pool was done is the machine's to tell
-ON_WHAT_IS_KEPT = {("sb_connection", "Admission"), ("sb_durable", "Keeping"), ("sb_replay", "Parts")}
+# what came to a connection, and what was noted of a trail, is the machine's to tell
+ON_WHAT_IS_KEPT = {("sb_connection", "Admission"), ("sb_durable", "Keeping")}
 HEAD = re.compile(rf"-- ({'|'.join(WORDS)}): \S")
 USE = re.compile(r"^(?:pub )?use Rattle\.(\w+)\.specs\.(\w+)", re.MULTILINE)
 

@@ -10,19 +10,23 @@ use Rattle.sb_tenant.specs.declared.reply.Answer.{Answer}
 use Rattle.sb_desk.specs.declared.desk.CallError.{CallError}
 use Rattle.sb_desk.specs.Receipts.{newcomer}
 use Rattle.sb_desk.specs.Calls.{Calls, Session, shown}
-use Rattle.sb_pool.specs.Pool.{CallsOnce}
+use Rattle.sb_pool.specs.Pool.{CallsOnce, IsDone}
 use Rattle.sb_pool.specs.declared.pool.Job.{Job}
 use Rattle.sb_pool.specs.declared.pool.Done.{Done}
 use Rattle.sb_replay.specs.Lists.{AllCut}
 use Rattle.sb_replay.specs.Sessions.{Exchange, Plays, any_lacks, commands_in, lacks_number, session_text, told_text}
 use Rattle.sb_replay.specs.Sheets.{Sheet, Tells, fresh, lines_of, telling, with_next}
-use Rattle.sb_replay.specs.Parts.{Deals, Gathers, Moves, MovesBy, MovesIn, Opens, OpensBy, Rests, calls, calls_of, session_at, tenant_at, WasDone}
+use Rattle.sb_replay.specs.Parts.{Deals, Gathers, Moves, MovesBy, MovesIn, Opens, OpensBy, Rests, calls, calls_of, session_at, tenant_at}
 use Rattle.sb_replay.proofs.Lists.{zip_same, zip_then}
 use Rattle.sb_replay.specs.declared.part.Part.{Part}
 use Rattle.sb_replay.specs.declared.round.Waiting.{Waiting}
 use Rattle.sb_replay.specs.declared.round.Waiting.TheVariants.{Called, Resting}
 
 -- ---- a round
+
+-- a job of a session was done, of which all is seen
+abbrev pub WasDone : Job Session → Done Session → Type 0
+WasDone = IsDone (λ session. session)
 
 -- what a call's result says, once its session is known
 told_by : (old : Sheet) (session after : Session) (line : List ℕ) (result : Result (Unit {0}) CallError) (new : Sheet)

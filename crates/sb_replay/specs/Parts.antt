@@ -11,7 +11,6 @@ use Rattle.sb_desk.specs.Calls.{Calls, Session, shown}
 use Rattle.sb_host.specs.Finish.{IsInOrder, gathered}
 use Rattle.sb_desk.specs.Stubs.{LeavesStub}
 use Rattle.sb_desk.specs.declared.stub.Stub.{Stub}
-use Rattle.sb_pool.specs.Pool.{IsDone}
 use Rattle.sb_pool.specs.declared.pool.Job.{Job}
 use Rattle.sb_pool.specs.declared.pool.Done.{Done}
 use Rattle.sb_replay.specs.Lists.{AllCut, AllFrom}
@@ -43,10 +42,6 @@ Rests (Some session) (c ∷ cs) = ⊥
 abbrev pub ClosesBy : Option Session → List Stub → Type 0
 ClosesBy None stubs = stubs ≡ []
 ClosesBy (Some session) stubs = (stub : Stub) × (stubs ≡ stub ∷ []) × LeavesStub session stub × IsInOrder stub.receipts.items
-
--- a job of a session was done, of which all is seen
-abbrev pub WasDone : Job Session → Done Session → Type 0
-WasDone = IsDone (λ session. session)
 
 module _ {N : Type 0} where
   -- the part of the rank k, before its first call
