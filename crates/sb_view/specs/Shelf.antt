@@ -1,5 +1,5 @@
 -- Promise: what was shown last is shown again, with an age.
-use Rattle.std.specs.Prelude.{◌≡◌, ℕ, Option, None, Some, option_and_then, slice_get}
+use Rattle.std.specs.Prelude.{◌≡◌, ◌+◌, ◌-◌, ◌^◌, min, ℕ, Option, None, Some, option_and_then, slice_get}
 use Rattle.sb_status.specs.declared.view.TenantNumbers.{TenantNumbers}
 use Rattle.sb_status.specs.declared.view.TenantView.{TenantView}
 use Rattle.sb_view.specs.declared.shelf.Kept.{Kept}
@@ -10,15 +10,20 @@ use Rattle.sb_view.specs.declared.shelf.Shelf.{Shelf}
 abbrev pub kept_at : Shelf → ℕ → Option Kept
 kept_at shelf place = option_and_then (λ (kept : Option Kept). kept) (slice_get shelf.numbers.items place)
 
--- they are shown with some age
-abbrev pub AreAgain : Shelf → ℕ → TenantNumbers → Type 0
-AreAgain shelf place numbers =
-    (kept : Kept) × (age : ℕ) × (kept_at shelf place ≡ Some kept) × (numbers ≡ record kept.numbers { age = Some age })
+-- how many seconds old something is at most that was taken in a second
+abbrev pub age_at : ℕ → ℕ → ℕ
+age_at taken now = min (now - taken + 1) (2 ^ 64 - 1)
 
--- what the tenant was that was looked at last, and no other one, is shown with some age
-abbrev pub IsAgain : Option Seen → ℕ → TenantView → Type 0
-IsAgain None place view = ⊥
-IsAgain (Some seen) place view = (age : ℕ) × (seen.place ≡ place) × (view ≡ record seen.view { numbers = record seen.view.numbers { age = Some age } })
+-- they are shown with their age
+abbrev pub AreAgain : Shelf → ℕ → ℕ → TenantNumbers → Type 0
+AreAgain shelf place now numbers =
+    (kept : Kept) × (kept_at shelf place ≡ Some kept) × (numbers ≡ record kept.numbers { age = Some (age_at kept.taken now) })
+
+-- what the tenant was that was looked at last, and no other one, is shown with its age
+abbrev pub IsAgain : Option Seen → ℕ → ℕ → TenantView → Type 0
+IsAgain None place now view = ⊥
+IsAgain (Some seen) place now view =
+    (seen.place ≡ place) × (view ≡ record seen.view { numbers = record seen.view.numbers { age = Some (age_at seen.taken now) } })
 
 -- it isn't the one at this place
 abbrev pub IsUnseen : Option Seen → ℕ → Type 0

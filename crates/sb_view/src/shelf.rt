@@ -1,6 +1,6 @@
 //! What pages showed last, for tenants that are busy.
-ghost use Rattle.std.specs.Prelude.{◌≡◌, None, Some, MatchOption, slice_set};
-ghost use Rattle.sb_view.specs.Shelf.{AreAgain, IsAgain, IsUnseen, kept_at};
+ghost use Rattle.std.specs.Prelude.{◌≡◌, None, Some, IfOk, MatchOption, replicate, slice_set};
+ghost use Rattle.sb_view.specs.Shelf.{AreAgain, IsAgain, IsUnseen, age_at, kept_at};
 
 use sb_status::{TenantNumbers, TenantView};
 use std::alloc::{AllocError, Global};
@@ -29,9 +29,11 @@ pub struct Shelf {
 
 impl Shelf {
     /// Nothing of so many tenants.
-    pub fn new(alloc: Global, tenants: u32) -> Result<Shelf, AllocError> {
+    pub fn new(alloc: Global, tenants: u32) -> Result<Shelf, AllocError>
+        ensures { IfOk result (λ shelf. (shelf.numbers.items ≡ replicate tenants None) × (shelf.seen ≡ None)) }
+    {
         let mut numbers = Vec::new(alloc);
-        for _ in 0..tenants {
+        for _place in 0..tenants {
             numbers.push(None)?;
         }
         Ok(Shelf {
@@ -52,7 +54,7 @@ impl Shelf {
 
     /// The numbers of the tenant at this place as they were, with their age at this time.
     pub fn numbers(&self, place: u32, now: u64) -> Option<TenantNumbers>
-        ensures { MatchOption result (kept_at self.now place ≡ None) (AreAgain self.now place) }
+        ensures { MatchOption result (kept_at self.now place ≡ None) (AreAgain self.now place now) }
     {
         match self.numbers.get(place as usize) {
             Some(Some(kept)) => {
@@ -74,7 +76,7 @@ impl Shelf {
 
     /// What the tenant at this place was, with its age at this time, if it was looked at last.
     pub fn view(&mut self, place: u32, now: u64) -> Option<&TenantView>
-        ensures { MatchOption result (IsUnseen self.old.seen place) (λ view. IsAgain self.old.seen place view.now) }
+        ensures { MatchOption result (IsUnseen self.old.seen place) (λ view. IsAgain self.old.seen place now view.now) }
     {
         let Some(seen) = &mut self.seen else {
             return None;
@@ -88,6 +90,8 @@ impl Shelf {
 }
 
 /// How many seconds old something is at most that was taken in this second.
-fn age(taken: u64, now: u64) -> u64 {
+fn age(taken: u64, now: u64) -> u64
+    ensures { result ≡ age_at taken now }
+{
     now.saturating_sub(taken).saturating_add(1)
 }
