@@ -1,3 +1,4 @@
+pub mod Boards
 pub mod Carried
 pub mod Closed
 pub mod Mailboxes

@@ -1,5 +1,7 @@
 //! What is known of a server while it serves: counts of its workers, the slowest lines, and when each session was answered.
 //! And what it is told: whose sessions are to end.
+ghost use Rattle.std.specs.Prelude.{◌≡◌, ◌+◌, ◌<◌, ◌≤◌, ◌↔◌, IfOk, IfSome, IsFalse, IsTrue, take};
+ghost use Rattle.sb_server.specs.Boards.{AreSlowestFirst, IsSessionFrom, desk_count, place_count, text_of};
 
 use crate::counts::{Count, Tally};
 use crate::last_lines::LastLines;
@@ -28,10 +30,14 @@ pub struct SlowLine {
     pub nanos: u64,
     text: [u8; MOST_BYTES],
     len: usize,
+    ghost fits: { len ≤ 200 },
 }
 
 impl SlowLine {
-    fn new(named: Named, line: &[u8], nanos: u64) -> SlowLine {
+    fn new(named: Named, line: &[u8], nanos: u64) -> SlowLine
+        ensures of { (result.named ≡ named) × (result.nanos ≡ nanos) }
+        ensures text { text_of result ≡ take 200 line.now }
+    {
         let mut text = [0u8; MOST_BYTES];
         let len = line.len().min(MOST_BYTES);
         text[..len].copy_from_slice(&line[..len]);
@@ -44,12 +50,10 @@ impl SlowLine {
     }
 
     /// The first bytes of the line.
-    pub fn text(&self) -> &[u8] {
-        if self.len <= MOST_BYTES {
-            &self.text[..self.len]
-        } else {
-            &[]
-        }
+    pub fn text(&self) -> &[u8]
+        ensures { result.now ≡ text_of self.now }
+    {
+        &self.text[..self.len]
     }
 }
 
@@ -76,7 +80,9 @@ pub struct Board {
 
 impl Board {
     /// One on which nothing is counted.
-    pub fn blank(alloc: Global) -> Board {
+    pub fn blank(alloc: Global) -> Board
+        ensures { (place_count result ≡ 0) × (desk_count result ≡ 0) }
+    {
         Board {
             tallies: Vec::new(alloc),
             desks: Vec::new(alloc),
@@ -93,10 +99,12 @@ impl Board {
         began: Option<Instant>,
         first_tenant: u32,
         tenants: u32,
-    ) -> Result<Board, AllocError> {
+    ) -> Result<Board, AllocError>
+        ensures { IfOk result (λ board. (place_count board ≡ workers + 1) × (desk_count board ≡ workers)) }
+    {
         let mut tallies = Vec::new(alloc);
         let mut desks = Vec::new(alloc);
-        for _ in 0..workers {
+        for _worker in 0..workers {
             tallies.push(Tally::new(alloc)?)?;
             desks.push(Mutex::new(Desk {
                 waker: None,
@@ -114,17 +122,23 @@ impl Board {
     }
 
     /// Whether something is counted.
-    pub(crate) fn is_set(&self) -> bool {
+    pub(crate) fn is_set(&self) -> bool
+        ensures { IsTrue result ↔ (0 < place_count self.now) }
+    {
         !self.tallies.is_empty()
     }
 
     /// How many places there are: those of the workers and the door's.
-    pub fn places(&self) -> usize {
+    pub fn places(&self) -> usize
+        ensures { result ≡ place_count self.now }
+    {
         self.tallies.len()
     }
 
     /// How often it was counted at a place.
-    pub fn count_at(&self, place: usize, what: Count) -> u64 {
+    pub fn count_at(&self, place: usize, what: Count) -> u64
+        ensures { place_count self.now ≤ place → result ≡ 0 }
+    {
         match self.tallies.get(place) {
             Some(tally) => tally.get(what),
             None => 0,
@@ -132,7 +146,9 @@ impl Board {
     }
 
     /// How often it was counted.
-    pub fn count(&self, what: Count) -> u64 {
+    pub fn count(&self, what: Count) -> u64
+        ensures { place_count self.now ≡ 0 → result ≡ 0 }
+    {
         let mut sum: u64 = 0;
         for tally in &self.tallies {
             sum = sum.saturating_add(tally.get(what));
@@ -166,12 +182,16 @@ impl Board {
     }
 
     /// How many seconds ago the last line of a session was answered, if it was and that is known.
-    pub fn age(&self, named: Named, now: Instant) -> Option<u64> {
+    pub fn age(&self, named: Named, now: Instant) -> Option<u64>
+        ensures { IfSome result (λ _. IsSessionFrom self.now.last_lines.first_tenant named) }
+    {
         self.last_lines.age(named, now)
     }
 
     /// The slowest lines, the slowest first.
-    pub fn slowest<T: Wait>(&self, rt: &T, alloc: Global) -> Result<Vec<SlowLine>, AllocError> {
+    pub fn slowest<T: Wait>(&self, rt: &T, alloc: Global) -> Result<Vec<SlowLine>, AllocError>
+        ensures { IfOk result (λ lines. AreSlowestFirst lines.items) }
+    {
         let mut lines = Vec::new(alloc);
         {
             let kept = self.slowest.lock(rt);
@@ -184,7 +204,9 @@ impl Board {
     }
 
     /// Has the worker that has this cell, of so many, end a session. Whether it is told.
-    pub fn end_session<T: Wait>(&self, rt: &T, cell: usize, named: Named) -> bool {
+    pub fn end_session<T: Wait>(&self, rt: &T, cell: usize, named: Named) -> bool
+        ensures { desk_count self.now ≡ 0 → IsFalse result }
+    {
         let workers = self.desks.len();
         if workers == 0 {
             return false;

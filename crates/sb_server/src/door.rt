@@ -1,5 +1,5 @@
 //! Where connections come in: the listener, and how many are taken.
-ghost use Rattle.std.specs.Prelude.{◌≡◌, IsTrue, None};
+ghost use Rattle.std.specs.Prelude.{◌≡◌, ◌↔◌, ◌<◌, ◌-◌, ◌==◌, if◌then◌else◌, IsTrue, MatchOption, None, Some, option_map};
 
 use libc::net as system;
 use sb_connection::{Event, Watch};
@@ -41,7 +41,9 @@ struct Pause {
 
 impl<'s> Door<'s> {
     /// So many connections are taken in all, or any number where that is 0.
-    pub(crate) fn new(listener: &'s TcpListener, count: u64) -> Door<'s> {
+    pub(crate) fn new(listener: &'s TcpListener, count: u64) -> Door<'s>
+        ensures { result.left ≡ (if count == 0 then None else Some count) }
+    {
         Door {
             listener,
             left: if count == 0 { None } else { Some(count) },
@@ -57,7 +59,7 @@ impl<'s> Door<'s> {
 
     /// Whether one more connection is to be taken.
     pub(crate) fn is_open(&self) -> bool
-        ensures { self.now.left ≡ None → IsTrue result }
+        ensures { MatchOption self.now.left (IsTrue result) (λ left. IsTrue result ↔ (0 < left)) }
     {
         match self.left {
             Some(left) => left > 0,
@@ -66,13 +68,17 @@ impl<'s> Door<'s> {
     }
 
     /// Takes no more connections: the port is closed.
-    pub(crate) fn close(&mut self) {
+    pub(crate) fn close(&mut self)
+        ensures { self.new.left ≡ Some 0 }
+    {
         self.left = Some(0);
         let _closed = system::shutdown(self.descriptor(), system::SHUT_RD);
     }
 
     /// A connection may be there.
-    pub(crate) fn note(&mut self) {
+    pub(crate) fn note(&mut self)
+        ensures { self.new.left ≡ self.old.left }
+    {
         self.is_due = true;
     }
 
@@ -135,7 +141,9 @@ impl<'s> Door<'s> {
     }
 
     /// One was taken, or couldn't be. Behind the last one the port is closed.
-    fn use_up(&mut self) {
+    fn use_up(&mut self)
+        ensures { self.new.left ≡ option_map (λ left. left - 1) self.old.left }
+    {
         let Some(left) = self.left else {
             return;
         };

@@ -1,4 +1,6 @@
 //! When the last line of each session was answered.
+ghost use Rattle.std.specs.Prelude.{IfSome, IsSome};
+ghost use Rattle.sb_server.specs.Boards.{IsSessionFrom};
 
 use sb_connection::Named;
 use sb_value::SESSION_LIMIT;
@@ -56,7 +58,9 @@ impl LastLines {
     }
 
     /// How many seconds ago the last line of a session was answered.
-    pub(crate) fn age(&self, named: Named, now: Instant) -> Option<u64> {
+    pub(crate) fn age(&self, named: Named, now: Instant) -> Option<u64>
+        ensures { IfSome result (λ _. IsSessionFrom self.now.first_tenant named) }
+    {
         let second = self.second(now)?;
         match self.last(named)?.load(Ordering::SeqCst) {
             NEVER => None,
@@ -68,7 +72,9 @@ impl LastLines {
         Some(now.duration_since(self.began?).as_secs())
     }
 
-    fn last(&self, named: Named) -> Option<&AtomicU64> {
+    fn last(&self, named: Named) -> Option<&AtomicU64>
+        ensures { IsSome result → IsSessionFrom self.now.first_tenant named }
+    {
         let session = named.session as usize;
         if session >= SESSION_LIMIT {
             return None;
