@@ -1,5 +1,5 @@
 //! A server that keeps its tenants: in a journal, or in files that it reads before and writes behind.
-ghost use Rattle.std.specs.Prelude.{◌≡◌, ◌<◌, ◌≤◌, List, ℕ, OnOk};
+ghost use Rattle.std.specs.Prelude.{◌≡◌, ◌++◌, ◌<◌, ◌≤◌, List, ℕ, IfOk, OnOk};
 ghost use Rattle.std.specs.Io.KnownBytes.{Appends};
 ghost use Rattle.sb_host.specs.Opening.{AreNames};
 ghost use Rattle.sb_command.specs.Totals.{TellsServer, TellsTrails, listening_line};
@@ -349,7 +349,9 @@ impl<
         }
     }
 
-    fn folder_at<'p>(&self, path: &'p str) -> Folder<'p> {
+    fn folder_at<'p>(&self, path: &'p str) -> Folder<'p>
+        ensures { (result.path.now ≡ path.now) × (result.first ≡ self.now.plan.terms.first_tenant) }
+    {
         Folder {
             path,
             first: self.plan.terms.first_tenant,
@@ -369,7 +371,9 @@ impl<
 }
 
 /// All receipts in one list.
-fn together(first: Vec<Stub>, mut others: Vec<Stub>) -> Result<Vec<Stub>, AllocError> {
+fn together(first: Vec<Stub>, mut others: Vec<Stub>) -> Result<Vec<Stub>, AllocError>
+    ensures { IfOk result (λ all. all.items ≡ first.items ++ others.items) }
+{
     let mut all = first;
     all.append(&mut others)?;
     Ok(all)

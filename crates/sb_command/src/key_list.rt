@@ -55,6 +55,8 @@ impl<L: KeyLists> Admission for KeyList<L> {
     // it is a key of the tenant in a list that was read
     ghost admits = { λ _ tenant key. (table : Table) × (L.is_read table ≡ true) × Admits table tenant key };
 
+    ghost wants = { λ _. true };
+
     fn wants_key(&self) -> bool {
         true
     }

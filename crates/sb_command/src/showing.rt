@@ -1,6 +1,6 @@
 //! What the status port answers.
-ghost use Rattle.std.specs.Prelude.{◌+◌, ◌≤◌, IsTrue, drop};
-ghost use Rattle.sb_command.specs.Showing.{holder_of};
+ghost use Rattle.std.specs.Prelude.{◌≡◌, ◌⊎◌, ◌+◌, ◌<◌, ◌≤◌, IfOk, IfSome, IsTrue, MatchOption, drop, option_copied, true};
+ghost use Rattle.sb_command.specs.Showing.{IsGuarded, IsTurnedAway, Opens, holder_of};
 
 use crate::activity::Counted;
 use crate::dumping::text_of;
@@ -86,14 +86,25 @@ impl<'k, N: Naming, A: Admission, T: Wait + Clock> Pages<'k, N, A, T> {
     }
 
     /// The page that a request asks for, if who asks may see it.
-    fn shown(&self, request: &Request<'_>, shelf: &mut Shelf) -> Result<Shown, AllocError> {
+    fn shown(&self, request: &Request<'_>, shelf: &mut Shelf) -> Result<Shown, AllocError>
+        ensures { IfOk result (λ shown. IsGuarded (A.wants self.now.admission.now) (A.admits self.now.admission.now)
+            request.now.target.now (option_copied request.now.authorization) shown.status) }
+    {
         let route = route_of(request.target);
         if let Some(refusal) = refusal_of(route, request) {
             return self.told(refusal.status, refusal.text);
         }
-        if self.admission.wants_key() && !self.is_opened(route, request.authorization)? {
+        if !self.is_let_in(route, request)? {
             return self.told(Status::Closed, b"a key is wanted\n");
         }
+        match self.page(route, shelf) {
+            Ok(shown) => Ok(shown),
+            Err(error) => Err(error),
+        }
+    }
+
+    /// The page of whoever may see it.
+    fn page(&self, route: Route, shelf: &mut Shelf) -> Result<Shown, AllocError> {
         match route {
             Route::Host => self.host_page(shelf),
             Route::Metrics => self.metrics(shelf),
@@ -104,7 +115,9 @@ impl<'k, N: Naming, A: Admission, T: Wait + Clock> Pages<'k, N, A, T> {
         }
     }
 
-    fn told(&self, status: Status, text: &[u8]) -> Result<Shown, AllocError> {
+    fn told(&self, status: Status, text: &[u8]) -> Result<Shown, AllocError>
+        ensures { IfOk result (λ shown. shown.status ≡ status) }
+    {
         Ok(Shown {
             status,
             kind: Kind::Text,
@@ -112,8 +125,21 @@ impl<'k, N: Naming, A: Admission, T: Wait + Clock> Pages<'k, N, A, T> {
         })
     }
 
+    /// Whether no key is wanted, or a request brings one that opens the page.
+    fn is_let_in(&self, route: Route, request: &Request<'_>) -> Result<bool, AllocError>
+        ensures { IfOk result (λ let_in. IsTrue let_in → A.wants self.now.admission.now ≡ true
+            → Opens (A.admits self.now.admission.now) route (option_copied request.now.authorization)) }
+    {
+        if !self.admission.wants_key() {
+            return Ok(true);
+        }
+        self.is_opened(route, request.authorization)
+    }
+
     /// Whether a header brings a key that opens the page.
-    fn is_opened(&self, route: Route, header: Option<&[u8]>) -> Result<bool, AllocError> {
+    fn is_opened(&self, route: Route, header: Option<&[u8]>) -> Result<bool, AllocError>
+        ensures { IfOk result (λ opened. IsTrue opened → Opens (A.admits self.now.admission.now) route (option_copied header)) }
+    {
         let Some(value) = header else {
             return Ok(false);
         };
@@ -239,7 +265,10 @@ impl<'k, N: Naming, A: Admission, T: Wait + Clock> Pages<'k, N, A, T> {
     }
 
     /// The place of a tenant in the host, if it hosts it.
-    fn place_of(&self, tenant: u32) -> Option<u32> {
+    fn place_of(&self, tenant: u32) -> Option<u32>
+        ensures { MatchOption result ((tenant < self.now.first_tenant) ⊎ (self.now.first_tenant + self.now.host.now ≤ tenant))
+            (λ place. (place < self.now.host.now) × (tenant ≡ self.now.first_tenant + place)) }
+    {
         match tenant.checked_sub(self.first_tenant) {
             Some(place) if place < self.host.tenants() => Some(place),
             _ => None,
@@ -362,7 +391,9 @@ struct Refusal {
 }
 
 /// Pages are got, and a session's end is posted. A browser names the page that posts, and no page of this server does.
-fn refusal_of(route: Route, request: &Request<'_>) -> Option<Refusal> {
+fn refusal_of(route: Route, request: &Request<'_>) -> Option<Refusal>
+    ensures { IfSome result (λ refusal. IsTurnedAway refusal.status) }
+{
     let posts = request.method == b"POST".as_slice();
     let gets = request.method == b"GET".as_slice() || request.method == b"HEAD".as_slice();
     let ends = matches!(route, Route::End(_));

@@ -1,5 +1,5 @@
 //! Who is admitted to a tenant.
-ghost use Rattle.std.specs.Prelude.{ℕ, List, IsTrue};
+ghost use Rattle.std.specs.Prelude.{◌≡◌, ℕ, Bool, List, IsTrue};
 
 use std::sync::Wait;
 
@@ -8,8 +8,12 @@ pub trait Admission {
     // the key is one of the tenant's
     ghost admits: { Self → ℕ → List ℕ → Type 0 };
 
+    // whether keys are wanted
+    ghost wants: { Self → Bool };
+
     /// Whether first lines bring a key.
-    fn wants_key(&self) -> bool;
+    fn wants_key(&self) -> bool
+        ensures { result ≡ wants self.now };
 
     /// Whether the key is one of the tenant's, by the number that a line names.
     fn admits<T: Wait>(&self, rt: &T, tenant: u32, key: &[u8]) -> bool
@@ -20,15 +24,19 @@ pub trait Admission {
 pub struct Open;
 
 impl Admission for Open {
-    ghost use Rattle.std.specs.Prelude.{⊤};
+    ghost use Rattle.std.specs.Prelude.{false, ⊤};
 
     ghost admits = { λ _ _ _. ⊤ };
+
+    ghost wants = { λ _. false };
 
     fn wants_key(&self) -> bool {
         false
     }
 
-    fn admits<T: Wait>(&self, _rt: &T, _tenant: u32, _key: &[u8]) -> bool {
+    fn admits<T: Wait>(&self, _rt: &T, _tenant: u32, _key: &[u8]) -> bool
+        ensures { IsTrue result }
+    {
         true
     }
 }
