@@ -1,5 +1,5 @@
 -- The lines of a file, as calls of a session.
-use Rattle.std.proofs.Common.{◌≡◌, ◌∙◌, ◌⊎◌, ◌+◌, ℕ, suc, Bool, true, false, List, [], ◌∷◌, ◌++◌, map, append_assoc, append-nil, Option, Some, None, codes, inl, inr, refl, sym, ap, subst, arith}
+use Rattle.std.proofs.Common.{◌≡◌, ◌∙◌, ◌⊎◌, ◌+◌, ℕ, zero, suc, Bool, true, false, List, [], ◌∷◌, ◌++◌, map, append_assoc, append-nil, Option, Some, None, codes, inl, inr, refl, sym, ap, subst, arith}
 use Rattle.std.proofs.lemmas.List.{map-append}
 use Rattle.std.proofs.lemmas.List.Elements.{All-append, All-cons, All-nil}
 use Rattle.std.specs.Prelude.{option_to_list}
@@ -120,3 +120,8 @@ pub one_more : (files : ℕ → Option (Option (List ℕ))) (k : ℕ) (before af
 one_more files k before after own so_far leaves is =
     let next : suc k ≡ k + 1 = omega arith in
     subst (λ (n : ℕ). LeaveAll files n after) next (before, own, so_far, leaves, is)
+
+-- where nothing is known of any file, none may have been played
+pub none_played : (n : ℕ) → LeaveAll (λ t. None) n []
+none_played zero = refl
+none_played (suc n) = ([], None, none_played n, tt, refl)

@@ -1,7 +1,8 @@
 //! A server that keeps its tenants: in a journal, or in files that it reads before and writes behind.
-ghost use Rattle.std.specs.Prelude.{◌≡◌, ◌++◌, ◌<◌, ◌≤◌, List, ℕ, IfOk, OnOk};
+ghost use Rattle.std.specs.Prelude.{◌≡◌, ◌++◌, ◌<◌, ◌≤◌, List, ℕ, None, IfOk, OnOk};
 ghost use Rattle.std.specs.Io.KnownBytes.{Appends};
 ghost use Rattle.sb_host.specs.Opening.{AreNames};
+ghost use Rattle.sb_command.specs.Calling.{LeaveAll};
 ghost use Rattle.sb_command.specs.Totals.{TellsServer, TellsTrails, listening_line};
 ghost use Rattle.sb_words.specs.Within.{AreServer};
 
@@ -313,7 +314,9 @@ impl<
     }
 
     /// Looks for the folders, and makes the tenants from their files.
-    fn prepare(&self) -> Result<Vec<Stub>, Fault> {
+    fn prepare(&self) -> Result<Vec<Stub>, Fault>
+        ensures { IfOk result (λ stubs. LeaveAll (λ t. None) self.now.host.now stubs.items) }
+    {
         if let Some(path) = self.paths.dump_to {
             if !self.has_folder(self.folder_at(path)) {
                 return Err(Fault::NoFolder);
