@@ -1,11 +1,28 @@
 //! Sets of rules, with the rules of a list or without them.
 ghost use Rattle.std.specs.Prelude.{◌≡◌};
-ghost use Rattle.sb_rulesets.specs.Members.{with_rules, without_rules};
+ghost use Rattle.sb_rulesets.specs.Members.{changed_members, with_rules, without_rules};
 
 use sb_value::{RuleId, RuleSet};
 
+/// What is done with the rules of a list.
+#[derive(Clone, Copy)]
+pub enum Change {
+    Added,
+    Taken,
+}
+
+/// The set behind such a change.
+pub fn changed(set: RuleSet, change: Change, rules: &[RuleId]) -> RuleSet
+    ensures { result ≡ changed_members change rules.now set }
+{
+    match change {
+        Change::Added => with_all(set, rules),
+        Change::Taken => without_all(set, rules),
+    }
+}
+
 /// The set with all these rules, too.
-pub fn with_all(set: RuleSet, rules: &[RuleId]) -> RuleSet
+fn with_all(set: RuleSet, rules: &[RuleId]) -> RuleSet
     ensures { result ≡ with_rules set rules.now }
 {
     let mut all = set;
@@ -16,7 +33,7 @@ pub fn with_all(set: RuleSet, rules: &[RuleId]) -> RuleSet
 }
 
 /// The set without any of these rules.
-pub fn without_all(set: RuleSet, rules: &[RuleId]) -> RuleSet
+fn without_all(set: RuleSet, rules: &[RuleId]) -> RuleSet
     ensures { result ≡ without_rules set rules.now }
 {
     let mut others = set;

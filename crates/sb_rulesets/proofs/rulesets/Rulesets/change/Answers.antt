@@ -4,20 +4,20 @@ use Rattle.sb_value.specs.Name.{same_name}
 use Rattle.sb_rulesets.specs.Ruleset.{Ruleset}
 use Rattle.sb_rulesets.specs.Distinct.{AreDistinct}
 use Rattle.sb_rulesets.specs.Ruleset.{set_of}
-use Rattle.sb_rulesets.specs.Members.{with_rules}
+use Rattle.sb_rulesets.specs.Members.{changed_members}
 use Rattle.sb_rulesets.specs.Sets.{changed}
 use Rattle.sb_rulesets.proofs.Names.{distinct_changed}
 use Rattle.sb_rulesets.proofs.Entries.{written, named_as}
-use Rattle.sb_rulesets.proofs.rulesets.Rulesets.add_rules.Goals as goal
-use Rattle.sb_rulesets.proofs.rulesets.Rulesets.add_rules.Goals.{in-Some, in-None}
+use Rattle.sb_rulesets.proofs.rulesets.Rulesets.change.Goals as goal
+use Rattle.sb_rulesets.proofs.rulesets.Rulesets.change.Goals.{in-Some, in-None}
 
 pub invariant_of-self : goal.invariant_of-self
 invariant_of-self c =
-    let change : List Bool → List Bool = λ flags. with_rules flags c.args.rules.now in
+    let change : List Bool → List Bool = changed_members c.args.change c.args.rules.now in
     let sets : List Ruleset = map set_of c.self.inside.sets.entries in
     elim c.match-get_mut.branch [
       | in-Some w ↦
-          let put = ap (map set_of) ((c.get_mut.follows.holds _).0) ∙ ap (λ flags. map set_of (set_value (same_name c.args.name.now) c.self.inside.sets.entries flags)) w.with_all.ensures
+          let put = ap (map set_of) ((c.get_mut.follows.holds _).0) ∙ ap (λ flags. map set_of (set_value (same_name c.args.name.now) c.self.inside.sets.entries flags)) w.changed.ensures
           ∙ written c.args.name.now change w.in-Some.set.now c.self.inside.sets.entries c.self.invariant (sym w.in-Some.ensures.value) in
           rw w.self-inside-is (subst AreDistinct (sym put) (distinct_changed change c.args.name.now sets c.self.invariant))
       | in-None w ↦ rw (w.self-inside-is, c.get_mut.follows.holds-at-none) c.self.invariant
@@ -30,12 +30,12 @@ returns-clause-known c =
       | in-None w ↦ rw w.result-is tt
     ]
 
-pub returns-clause-added : goal.returns-clause-added
-returns-clause-added c =
-    let change : List Bool → List Bool = λ flags. with_rules flags c.args.rules.now in
+pub returns-clause-changed : goal.returns-clause-changed
+returns-clause-changed c =
+    let change : List Bool → List Bool = changed_members c.args.change c.args.rules.now in
     elim c.match-get_mut.branch [
       | in-Some w ↦
-          let put = ap (map set_of) ((c.get_mut.follows.holds _).0) ∙ ap (λ flags. map set_of (set_value (same_name c.args.name.now) c.self.inside.sets.entries flags)) w.with_all.ensures
+          let put = ap (map set_of) ((c.get_mut.follows.holds _).0) ∙ ap (λ flags. map set_of (set_value (same_name c.args.name.now) c.self.inside.sets.entries flags)) w.changed.ensures
           ∙ written c.args.name.now change w.in-Some.set.now c.self.inside.sets.entries c.self.invariant (sym w.in-Some.ensures.value) in
           rw (w.result-is, w.self-inside-is) (put ∙ ap (λ (sets : List Ruleset). changed change sets c.args.name.now) c.self.view_is)
       | in-None w ↦ rw w.result-is tt
