@@ -16,9 +16,9 @@ use Rattle.sb_durable.proofs.recorder.Callers.TheSendSync as callers
 use Rattle.sb_durable.specs.contracts.recorder.Callers as Callers
 use Rattle.sb_durable.specs.contracts.recorder.Recorder as Recorder
 use Rattle.sb_durable.specs.contracts.book.Book as Book
-use Rattle.sb_journal.proofs.system_file.Syncing.TheSendSync as syncing
-use Rattle.sb_journal.specs.contracts.noted.Noted as Noted
-use Rattle.sb_journal.specs.contracts.system_file.SystemFile as SystemFile
+use Rattle.sb_durable.proofs.system_file.Syncing.TheSendSync as syncing
+use Rattle.sb_durable.specs.contracts.noted.Noted as Noted
+use Rattle.sb_durable.specs.contracts.system_file.SystemFile as SystemFile
 use Rattle.sb_server.proofs.board.Board.TheSendSync as board
 use Rattle.sb_command.specs.contracts.showing.Pages as Pages
 

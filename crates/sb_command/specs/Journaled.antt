@@ -1,6 +1,6 @@
 -- Promise: a run on tenants that a journal made.
 use Rattle.std.specs.Prelude.{◌≡◌, ℕ, nat_lt, List}
-use Rattle.sb_journal.specs.Records.{Entry as Record}
+use Rattle.sb_durable.specs.Records.{Entry as Record}
 use Rattle.sb_cell.specs.Tenants.{Cell as ItsCell, hosts}
 use Rattle.sb_durable.specs.Restart.{IsRestarted}
 use Rattle.sb_durable.specs.Runs.{AnswersRecorded}

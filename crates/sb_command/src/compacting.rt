@@ -11,7 +11,7 @@ use crate::saving::{Noted, noted_of};
 use sb_dump::Script;
 use sb_durable::play;
 use sb_host::{Host, Naming, Opened};
-use sb_journal::{
+use sb_durable::{
     File as JournalFile, Head, Journal, JournalError, Record, StartError, Syncing, Wary, open_path,
     sync_folder,
 };

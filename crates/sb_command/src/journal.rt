@@ -9,7 +9,7 @@ use log::sink::Console;
 use log::{Level, LevelFilter, Logged, log};
 use sb_connection::{Answered, Event, Slow, Watch};
 use sb_durable::PlayError;
-use sb_journal::{JournalError, StartError};
+use sb_durable::{JournalError, StartError};
 use sb_wire::WireRefusal;
 use sb_words::Severity;
 use std::fmt::Display;

@@ -10,7 +10,7 @@ use crate::journal::Journal as Log;
 use crate::recording::{Playing, syncing_of};
 use sb_cell::{Cell, ample_buckets};
 use sb_durable::{PlayError, PlayFault, Recording, restart, run_recorded};
-use sb_journal::{Disk, Head, open_path};
+use sb_durable::{Disk, Head, open_path};
 use sb_wire::{Sink, Source, StreamError};
 use sb_words::{Paths, Run, Severity, Syncs};
 use std::alloc::Global;

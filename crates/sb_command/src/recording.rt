@@ -14,7 +14,7 @@ use crate::watching::StatusPort;
 use sb_connection::Admission;
 use sb_durable::{Played, Progress, Recorder, play};
 use sb_host::{Naming, Stub};
-use sb_journal::{File as JournalFile, Head, JournalError, Syncing, Wary, open_path};
+use sb_durable::{File as JournalFile, Head, JournalError, Syncing, Wary, open_path};
 use sb_server::{Beside, Keeper, Kept};
 use sb_wire::Sink;
 use sb_words::Syncs;

@@ -2,3 +2,15 @@ pub mod Places
 pub mod Playing
 pub mod Resting
 pub mod Values
+mod Numbered
+mod Walks
+mod Seeing
+mod AtRest
+mod Pairs
+mod Nets
+mod Processing
+mod Commands
+mod States
+mod Defining
+mod Performing
+mod Answering

@@ -4,6 +4,7 @@
 mod alike;
 mod draft;
 mod dumps;
+mod laws;
 mod order;
 mod origins;
 mod parts;
@@ -18,4 +19,5 @@ mod tables;
 mod trees;
 
 pub use dumps::{DumpError, dump};
+pub use laws::{alike_answer_alike, alike_at_rest_are_alike};
 pub use script::Script;

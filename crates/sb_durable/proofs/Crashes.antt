@@ -3,9 +3,9 @@ use Rattle.std.proofs.Common.{◌≡◌, ◌⊎◌, ℕ, suc, ◌≤◌, ◌+◌
 use Rattle.std.specs.List.{AllByRecursion}
 use Rattle.std.proofs.lemmas.Bool.{true≢false}
 use Rattle.sqlite_disk.specs.declared.Disk.{Ghosts}
-use Rattle.sb_journal.specs.Journal.{Has, Keeps, disk_of}
-use Rattle.sb_journal.specs.Records.{Entry as Record, IsEntry}
-use Rattle.sb_journal.specs.declared.head.Head.{Head}
+use Rattle.sb_durable.specs.Journal.{Has, Keeps, disk_of}
+use Rattle.sb_durable.specs.Records.{Entry as Record, IsEntry}
+use Rattle.sb_durable.specs.declared.head.Head.{Head}
 use Rattle.sb_tenant.specs.declared.reply.Answer.{Answer}
 use Rattle.sb_tenant.specs.declared.reply.Entry.{Entry}
 use Rattle.sb_tenant.specs.Trail.{state_of}

@@ -3,3 +3,13 @@ pub mod Parts
 pub mod Steps
 pub mod Crashes
 pub mod Records
+mod Bytes
+mod Contents
+mod Crash
+mod Reading
+mod Repair
+mod Walk
+mod Places
+mod Batches
+mod Pieces
+mod Shortened

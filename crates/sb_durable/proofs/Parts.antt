@@ -4,15 +4,15 @@ use Rattle.std.specs.Prelude.{Contains}
 use Rattle.std.proofs.lemmas.List.{append-nil, get_or_default, length-map, take-map, take-take}
 use Rattle.std.proofs.lemmas.Bool.{cases_lt}
 use Rattle.sqlite_disk.specs.declared.Disk.{Ghosts}
-use Rattle.sb_journal.specs.Log.{IsSpent}
-use Rattle.sb_journal.specs.Records.{Entry as Record}
-use Rattle.sb_journal.specs.Journal.{Has, Keeps, disk_of}
-use Rattle.sb_journal.specs.declared.head.Head.{Head}
+use Rattle.sb_durable.specs.Log.{IsSpent}
+use Rattle.sb_durable.specs.Records.{Entry as Record}
+use Rattle.sb_durable.specs.Journal.{Has, Keeps, disk_of}
+use Rattle.sb_durable.specs.declared.head.Head.{Head}
 use Rattle.sb_tenant.specs.declared.reply.Entry.{Entry}
 use Rattle.sb_tenant.specs.Tenant.{Tenant, IsLegal}
 use Rattle.sb_tenant.specs.Trail.{is_no_memory}
 use Rattle.sb_durable.specs.declared.book.Book.{Book}
-use Rattle.sb_journal.specs.declared.error.JournalError.{JournalError}
+use Rattle.sb_durable.specs.declared.error.JournalError.{JournalError}
 use Rattle.sb_durable.specs.declared.noting.Note.{Note}
 use Rattle.sb_durable.specs.declared.noting.Notes.{Notes}
 use Rattle.sb_durable.specs.declared.noting.Reach.{Reach}

@@ -4,11 +4,11 @@ use Rattle.std.proofs.lemmas.Bool.{eqb-true, eq-eqb, false_from_ne_true, true≢
 use Rattle.std.proofs.lemmas.List.{map-append}
 use Rattle.std.proofs.lemmas.List.Elements.{filter-append}
 use Rattle.sqlite_disk.specs.declared.Disk.{Ghosts}
-use Rattle.sb_journal.specs.Journal.{Gives}
-use Rattle.sb_journal.specs.Records.{Entry as Record, IsEntry, Takes, bytes_of, entry_bytes, entry_of}
-use Rattle.sb_journal.specs.declared.record.Record.{Record as TheRecord}
+use Rattle.sb_durable.specs.Journal.{Gives}
+use Rattle.sb_durable.specs.Records.{Entry as Record, IsEntry, Takes, bytes_of, entry_bytes, entry_of}
+use Rattle.sb_durable.specs.declared.record.Record.{Record as TheRecord}
 use Rattle.std.specs.Borrow.{Bor}
-use Rattle.sb_journal.specs.declared.head.Head.{Head}
+use Rattle.sb_durable.specs.declared.head.Head.{Head}
 use Rattle.sb_tenant.specs.State.{State}
 use Rattle.sb_tenant.specs.Trail.{state_after, state_of}
 use Rattle.sb_cell.specs.Tenants.{Cell, IsSame, hosts, states, trails}

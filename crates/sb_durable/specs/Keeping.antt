@@ -1,10 +1,10 @@
 -- Promise: what a journal and its counts are after parts of trails were recorded.
 use Rattle.std.specs.Prelude.{◌≡◌, ◌⊎◌, ℕ, ◌+◌, ◌<◌, ◌≤◌, Bool, IsTrue, List, ◌++◌, length, map, take, slice_index, slice_set}
 use Rattle.sqlite_disk.specs.declared.Disk.{Ghosts}
-use Rattle.sb_journal.specs.Records.{Entry as Record}
-use Rattle.sb_journal.specs.Journal.{Has, Keeps, disk_of}
-use Rattle.sb_journal.specs.declared.head.Head.{Head}
-use Rattle.sb_journal.specs.declared.journal.Journal.{Journal}
+use Rattle.sb_durable.specs.Records.{Entry as Record}
+use Rattle.sb_durable.specs.Journal.{Has, Keeps, disk_of}
+use Rattle.sb_durable.specs.declared.head.Head.{Head}
+use Rattle.sb_durable.specs.declared.journal.Journal.{Journal}
 use Rattle.sb_durable.specs.Noting.{record_of_note}
 use Rattle.sb_durable.specs.Recording.{Part, records_of, Counts, Reaches, AreAmong}
 use Rattle.sb_durable.specs.declared.noting.Note.{Note}

@@ -5,3 +5,11 @@ pub mod Restart
 pub mod Runs
 pub mod Recorded
 pub mod Played
+pub mod Blocks
+pub mod Log
+pub mod Ends
+pub mod Records
+pub mod Journal
+pub mod Opening
+pub mod Noted
+pub mod File

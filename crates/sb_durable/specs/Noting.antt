@@ -1,6 +1,6 @@
 -- Machine: what is noted of a trail while its cell's lock is held.
 use Rattle.std.specs.Prelude.{◌≡◌, ℕ, ◌≤◌, Bool, true, false, List, length, map, take, drop, codes, cond, Option, Some, None, unwrap_or}
-use Rattle.sb_journal.specs.Records.{Entry as Record}
+use Rattle.sb_durable.specs.Records.{Entry as Record}
 use Rattle.sb_tenant.specs.declared.reply.Entry.{Entry}
 use Rattle.sb_tenant.specs.Trail.{is_no_memory}
 use Rattle.sb_tenant.specs.Tenant.{Tenant, IsLegal}

@@ -1,6 +1,6 @@
 -- Promise: what the steps of trails are recorded as, and what is recorded of them.
 use Rattle.std.specs.Prelude.{◌≡◌, ◌⊎◌, ℕ, ◌+◌, ◌≤◌, ◌<◌, Bool, true, false, List, [], ◌∷◌, ◌++◌, length, map, take, drop, slice_index, slice_set, codes, cond, Contains}
-use Rattle.sb_journal.specs.Records.{Entry as Record}
+use Rattle.sb_durable.specs.Records.{Entry as Record}
 use Rattle.sb_tenant.specs.declared.reply.Entry.{Entry}
 use Rattle.sb_tenant.specs.State.{State, opening}
 use Rattle.sb_tenant.specs.Trail.{is_no_memory, IsTrail, state_of, state_after}

@@ -3,10 +3,10 @@ use Rattle.std.specs.Prelude.{◌≡◌, ℕ, ◌==◌, if◌then◌else◌, Lis
 use Rattle.std.specs.List.{AllByRecursion}
 use Rattle.sb_value.specs.Locks.{sessions}
 use Rattle.sqlite_disk.specs.declared.Disk.{Ghosts}
-use Rattle.sb_journal.specs.Journal.{Has}
-use Rattle.sb_journal.specs.Records.{Entry as Record, IsEntry}
-use Rattle.sb_journal.specs.declared.head.Head.{Head}
-use Rattle.sb_journal.specs.declared.journal.Journal.{Journal}
+use Rattle.sb_durable.specs.Journal.{Has}
+use Rattle.sb_durable.specs.Records.{Entry as Record, IsEntry}
+use Rattle.sb_durable.specs.declared.head.Head.{Head}
+use Rattle.sb_durable.specs.declared.journal.Journal.{Journal}
 use Rattle.sb_tenant.specs.State.{State, opening, session_at, is_open}
 use Rattle.sb_tenant.specs.Trail.{state_after}
 use Rattle.sb_cell.specs.Tenants.{Cell, hosts, states}

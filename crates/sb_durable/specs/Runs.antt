@@ -1,9 +1,9 @@
 -- Promise: a run whose steps are recorded before they are answered, and what a crash leaves of it.
 use Rattle.std.specs.Prelude.{◌≡◌, ℕ, ◌≤◌, Bool, List, [], ◌∷◌, ◌++◌, length, map, filter_map, flat_map, codes, cond, Option, Some, None, Result, Ok, Err, IsTrue}
 use Rattle.std.specs.Io.KnownBytes.{Appends}
-use Rattle.sb_journal.specs.Journal.{Keeps}
-use Rattle.sb_journal.specs.Records.{Entry as Record}
-use Rattle.sb_journal.specs.declared.head.Head.{Head}
+use Rattle.sb_durable.specs.Journal.{Keeps}
+use Rattle.sb_durable.specs.Records.{Entry as Record}
+use Rattle.sb_durable.specs.declared.head.Head.{Head}
 use Rattle.sb_tenant.specs.declared.reply.Answer.{Answer}
 use Rattle.sb_tenant.specs.declared.reply.Entry.{Entry}
 use Rattle.sb_tenant.specs.Trail.{is_no_memory, state_of}

@@ -1,15 +1,15 @@
 //! The journal, and how much of each trail is recorded in it.
 ghost use Rattle.std.specs.Prelude.{◌≡◌, ◌⊎◌, ◌+◌, ◌<◌, ◌≤◌, ◌++◌, [], ◌∷◌, List, ℕ, true, length, is_ok, IfOk, IfErr, OnOk, OnErr, IsErr, IsTrue};
-ghost use Rattle.sb_journal.specs.Log.{IsSpent};
-ghost use Rattle.sb_journal.specs.Records.{Entry};
-ghost use Rattle.sb_journal.specs.Journal.{Has};
-ghost use Rattle.sb_journal.specs.declared.head.Head.{Head};
+ghost use Rattle.sb_durable.specs.Log.{IsSpent};
+ghost use Rattle.sb_durable.specs.Records.{Entry};
+ghost use Rattle.sb_durable.specs.Journal.{Has};
+ghost use Rattle.sb_durable.specs.declared.head.Head.{Head};
 ghost use Rattle.sb_durable.specs.Noting.{record_of_note};
 ghost use Rattle.sb_durable.specs.Recording.{Part, records_of, AreAmong, AreOf, Reaches};
 
 use crate::noting::{MAX_LINE, Note, Notes, Reach};
 use sb_host::{Host, Naming};
-use sb_journal::{Disk, Journal, JournalError, Record};
+use crate::{Disk, Journal, JournalError, Record};
 use std::alloc::Global;
 use std::sync::Wait;
 

@@ -5,7 +5,7 @@ ghost use Rattle.sb_tenant.specs.Trail.{is_no_memory};
 use crate::noting::ROLLBACK;
 use crate::playing::{PlayFault, Plays};
 use sb_host::{CallError, Host, Naming, Session, Stub};
-use sb_journal::Record;
+use crate::Record;
 use sb_tenant::{Answer, Reply};
 use sb_value::{Refusal, SESSION_LIMIT};
 use std::alloc::{AllocError, Global};

@@ -1,14 +1,14 @@
 //! A journal's records, played to what is new.
 ghost use Rattle.std.specs.Prelude.{◌≡◌, List, [], OnOk, IsTrue};
-ghost use Rattle.sb_journal.specs.Journal.{Has, disk_of};
-ghost use Rattle.sb_journal.specs.Records.{Entry, bytes_of, entry_of};
-ghost use Rattle.sb_journal.specs.declared.head.Head.{Head};
+ghost use Rattle.sb_durable.specs.Journal.{Has, disk_of};
+ghost use Rattle.sb_durable.specs.Records.{Entry, bytes_of, entry_of};
+ghost use Rattle.sb_durable.specs.declared.head.Head.{Head};
 ghost use Rattle.sb_durable.specs.Played.{PlaysAll};
 ghost use Rattle.sb_durable.specs.Restart.{AreRecords};
 
 use crate::player::Player;
 use sb_host::{AttachError, Host, Naming, Stub};
-use sb_journal::{Disk, Journal, JournalError, Record, first_record};
+use crate::{Disk, Journal, JournalError, Record, first_record};
 use std::alloc::Global;
 use std::fmt;
 use std::sync::Wait;

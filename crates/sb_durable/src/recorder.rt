@@ -1,7 +1,7 @@
 //! What threads share to record what they are about to answer.
 use crate::book::Book;
 use sb_host::{Host, Naming};
-use sb_journal::{Disk, Journal, JournalError};
+use crate::{Disk, Journal, JournalError};
 use std::alloc::Global;
 use std::mem;
 use std::sync::{Mutex, Wait};

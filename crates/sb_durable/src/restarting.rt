@@ -1,9 +1,9 @@
 //! The tenants of a cell, as the records of a journal make them.
 ghost use Rattle.std.specs.Prelude.{◌≡◌, ◌∷◌, ◌<◌, ℕ, List, [], codes, filter, nat_lt, true, IfOk, OnOk, IsTrue};
 ghost use Rattle.sb_cell.specs.Tenants.{IsSame, hosts, states, trails};
-ghost use Rattle.sb_journal.specs.Journal.{Has, disk_of};
-ghost use Rattle.sb_journal.specs.Records.{Entry};
-ghost use Rattle.sb_journal.specs.declared.head.Head.{Head};
+ghost use Rattle.sb_durable.specs.Journal.{Has, disk_of};
+ghost use Rattle.sb_durable.specs.Records.{Entry};
+ghost use Rattle.sb_durable.specs.declared.head.Head.{Head};
 ghost use Rattle.sb_tenant.specs.State.{is_open, session_at};
 ghost use Rattle.sb_value.specs.Locks.{sessions};
 ghost use Rattle.sb_durable.specs.Played.{EndsSessions, KeepsUp, PlaysRecord};
@@ -13,7 +13,7 @@ use crate::player::number_of;
 use crate::playing::{PlayError, PlayFault, Plays, Progress, play_all};
 use crate::run::{Recording, step};
 use sb_cell::{Cell, StepError};
-use sb_journal::{Disk, Record};
+use crate::{Disk, Record};
 use sb_value::{SESSION_LIMIT, SessionId};
 use sb_wire::Addressed;
 use std::alloc::{AllocError, Global};

@@ -2,7 +2,7 @@
 ghost use Rattle.std.specs.Prelude.{◌≡◌, ◌⊎◌, ◌++◌, ℕ, List, [], false, is_some, IfOk, IfSome, OnOk, OnErr, IsTrue, Result};
 ghost use Rattle.std.specs.Io.KnownBytes.{Appends, Consumes};
 ghost use Rattle.sb_cell.specs.Tenants.{AnswersEvent, IsSame};
-ghost use Rattle.sb_journal.specs.Journal.{disk_of};
+ghost use Rattle.sb_durable.specs.Journal.{disk_of};
 ghost use Rattle.sb_wire.specs.Lines.{Piece as ItsPiece};
 ghost use Rattle.sb_wire.specs.Output.{text_behind};
 ghost use Rattle.sb_wire.specs.Responses.{StopsBy};
@@ -14,7 +14,7 @@ ghost use Rattle.sb_durable.specs.Runs.{AnswersRecorded, RunsRecorded, event_of,
 
 use crate::noting::{MAX_LINE, ROLLBACK};
 use sb_cell::{Cell, StepError};
-use sb_journal::{Disk, Journal, JournalError, Record};
+use crate::{Disk, Journal, JournalError, Record};
 use sb_tenant::{Answer, Reply};
 use sb_value::Refusal;
 use sb_wire::{

@@ -1,6 +1,6 @@
 use Rattle.std.proofs.Common.{◌≡◌, ◌++◌, ◌∷◌, List, [], ℕ, sym, ap, ◌∙◌, append_assoc, append-nil, subst, refl, Some, None}
-use Rattle.sb_journal.specs.Journal.{IsAt}
-use Rattle.sb_journal.specs.Records.{Entry, bytes_of}
+use Rattle.sb_durable.specs.Journal.{IsAt}
+use Rattle.sb_durable.specs.Records.{Entry, bytes_of}
 use Rattle.sb_durable.specs.Restart.{AreRecords}
 use Rattle.sb_durable.proofs.Records.{are_back, are_front, gives, plays-append}
 use Rattle.sb_durable.proofs.playing.play_all.Goals as goal

@@ -1,7 +1,7 @@
 use Rattle.std.proofs.Common.{◌≡◌, ◌++◌, List, [], IsTrue}
-use Rattle.sb_journal.specs.Journal.{Has, IsAt, disk_of}
-use Rattle.sb_journal.specs.Records.{Entry}
-use Rattle.sb_journal.specs.declared.head.Head.{Head}
+use Rattle.sb_durable.specs.Journal.{Has, IsAt, disk_of}
+use Rattle.sb_durable.specs.Records.{Entry}
+use Rattle.sb_durable.specs.declared.head.Head.{Head}
 use Rattle.sb_durable.specs.Played.{PlaysAll}
 use Rattle.sb_durable.specs.Restart.{AreRecords}
 use Rattle.sb_durable.proofs.playing.play_all.Given as goal

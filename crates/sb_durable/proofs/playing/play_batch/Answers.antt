@@ -1,6 +1,6 @@
 use Rattle.std.proofs.Common.{◌≡◌, ◌++◌, ◌∷◌, List, [], ℕ, length, ◌==◌, sym, ap, ◌∙◌, append_assoc, append-nil, arith}
 use Rattle.std.proofs.lemmas.Bool.{eqb-true, true≢false}
-use Rattle.sb_journal.specs.Records.{Entry, bytes_of, entry_of}
+use Rattle.sb_durable.specs.Records.{Entry, bytes_of, entry_of}
 use Rattle.sb_durable.specs.Played.{PlaysAll}
 use Rattle.sb_durable.specs.Restart.{AreRecords}
 use Rattle.sb_durable.proofs.Records.{empty_by, found, none_left, plays_more}

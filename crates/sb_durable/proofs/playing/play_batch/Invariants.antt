@@ -1,5 +1,5 @@
 use Rattle.std.proofs.Common.{◌≡◌, ◌++◌, List, length}
-use Rattle.sb_journal.specs.Records.{Entry, bytes_of}
+use Rattle.sb_durable.specs.Records.{Entry, bytes_of}
 use Rattle.sb_durable.specs.Played.{PlaysAll}
 use Rattle.sb_durable.specs.Restart.{AreRecords}
 use Rattle.sb_durable.proofs.playing.play_batch.Given as goal

@@ -1,5 +1,5 @@
 use Rattle.std.proofs.Common.{◌≡◌, List, take, IsTrue}
-use Rattle.sb_journal.specs.Journal.{disk_of}
+use Rattle.sb_durable.specs.Journal.{disk_of}
 use Rattle.sb_durable.specs.Played.{KeepsUp}
 use Rattle.sb_durable.proofs.Records.{EndsThese}
 use Rattle.sb_durable.proofs.restarting.end_sessions.Given as goal

@@ -1,7 +1,7 @@
 use Rattle.std.proofs.Common.{◌≡◌, List, [], IsTrue}
-use Rattle.sb_journal.specs.Journal.{Has, disk_of}
-use Rattle.sb_journal.specs.Records.{Entry}
-use Rattle.sb_journal.specs.declared.head.Head.{Head}
+use Rattle.sb_durable.specs.Journal.{Has, disk_of}
+use Rattle.sb_durable.specs.Records.{Entry}
+use Rattle.sb_durable.specs.declared.head.Head.{Head}
 use Rattle.sb_durable.specs.Restart.{AreRecords, Tells}
 use Rattle.sb_durable.proofs.Records.{Midway}
 use Rattle.sb_durable.proofs.restarting.restart.Given as goal

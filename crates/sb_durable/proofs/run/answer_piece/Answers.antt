@@ -1,7 +1,7 @@
 use Rattle.std.proofs.Common.{◌≡◌, ◌++◌, ◌⊎◌, ◌∷◌, List, [], ℕ, Option, Some, None, sym, ap, ◌∙◌, subst, inl, inr, refl, append-nil, option_map}
 use Rattle.std.proofs.lemmas.Result.{on_ok_weaker}
-use Rattle.sb_journal.specs.Journal.{Has}
-use Rattle.sb_journal.specs.Records.{Entry}
+use Rattle.sb_durable.specs.Journal.{Has}
+use Rattle.sb_durable.specs.Records.{Entry}
 use Rattle.sb_wire.specs.Counts.{Response, line_refusal, response_text}
 use Rattle.sb_wire.specs.Lines.{Addressed, Piece, addressed_of}
 use Rattle.sb_wire.specs.Output.{prefixed}

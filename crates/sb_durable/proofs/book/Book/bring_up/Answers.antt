@@ -1,8 +1,8 @@
 use Rattle.std.proofs.Common.{◌<◌, ◌+◌, ◌++◌, ℕ, [], List, ap, refl, sym, ◌∙◌, arith, subst, slice_index, append_assoc}
 use Rattle.std.proofs.lemmas.Result.{on_ok_weaker, on_err_weaker}
-use Rattle.sb_journal.specs.Log.{IsSpent}
-use Rattle.sb_journal.specs.Records.{Entry}
-use Rattle.sb_journal.specs.Journal.{Has}
+use Rattle.sb_durable.specs.Log.{IsSpent}
+use Rattle.sb_durable.specs.Records.{Entry}
+use Rattle.sb_durable.specs.Journal.{Has}
 use Rattle.sb_durable.specs.Recording.{Part, records_of, AreAmong, AreOf, Reaches}
 use Rattle.sb_durable.proofs.Parts.{among-append, among_one, contains_at, front_of, on_err, reaches_on, takes_last, takes_none, takes_then}
 use Rattle.sb_durable.proofs.book.Book.bring_up.Goals as goal

@@ -1,7 +1,7 @@
 use Rattle.std.proofs.Common.{ℕ, ◌<◌, List, slice_index}
-use Rattle.sb_journal.specs.Records.{Entry}
-use Rattle.sb_journal.specs.Journal.{Has}
-use Rattle.sb_journal.specs.declared.head.Head.{Head}
+use Rattle.sb_durable.specs.Records.{Entry}
+use Rattle.sb_durable.specs.Journal.{Has}
+use Rattle.sb_durable.specs.declared.head.Head.{Head}
 use Rattle.sb_durable.specs.Recording.{Part, AreAmong, Reaches}
 use Rattle.sb_durable.specs.Keeping.{Takes}
 use Rattle.sb_durable.proofs.book.Book.bring_up.Given as goal

@@ -1,7 +1,7 @@
 use Rattle.std.proofs.Common.{◌≡◌, ◌+◌, ◌<◌, ◌++◌, ◌∷◌, [], ℕ, List, length, length-set, map, take, get_or, get_or-set_same, set, sym, ap, subst, ◌∙◌, arith, append_assoc}
 use Rattle.std.proofs.lemmas.List.{append-nil, get_or_default, map_more, set-get_or, set-set}
-use Rattle.sb_journal.specs.Records.{Entry}
-use Rattle.sb_journal.specs.Journal.{Has}
+use Rattle.sb_durable.specs.Records.{Entry}
+use Rattle.sb_durable.specs.Journal.{Has}
 use Rattle.sb_durable.specs.Noting.{record_of_note}
 use Rattle.sb_durable.specs.declared.noting.Note.{Note}
 use Rattle.sb_durable.proofs.book.Book.stage.Goals as goal

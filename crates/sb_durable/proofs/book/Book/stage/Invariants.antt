@@ -1,7 +1,7 @@
 use Rattle.std.proofs.Common.{◌≡◌, ◌+◌, ◌++◌, List, length, map, take, slice_set, slice_index}
-use Rattle.sb_journal.specs.Records.{Entry}
-use Rattle.sb_journal.specs.Journal.{Has}
-use Rattle.sb_journal.specs.declared.head.Head.{Head}
+use Rattle.sb_durable.specs.Records.{Entry}
+use Rattle.sb_durable.specs.Journal.{Has}
+use Rattle.sb_durable.specs.declared.head.Head.{Head}
 use Rattle.sb_durable.specs.Noting.{record_of_note}
 use Rattle.sb_durable.proofs.book.Book.stage.Given as goal
 

@@ -1,5 +1,5 @@
 use Rattle.std.proofs.Common.{[], List, refl}
-use Rattle.sb_journal.specs.Log.{IsSpent}
+use Rattle.sb_durable.specs.Log.{IsSpent}
 use Rattle.sb_durable.specs.Recording.{Part, AreOf, Reaches}
 use Rattle.sb_durable.proofs.Parts.{of-append, on_err, reaches_then, takes_none, takes_then}
 use Rattle.sb_durable.proofs.book.Book.take.Goals as goal

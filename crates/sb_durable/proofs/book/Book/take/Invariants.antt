@@ -1,7 +1,7 @@
 use Rattle.std.proofs.Common.{List}
-use Rattle.sb_journal.specs.Records.{Entry}
-use Rattle.sb_journal.specs.Journal.{Has}
-use Rattle.sb_journal.specs.declared.head.Head.{Head}
+use Rattle.sb_durable.specs.Records.{Entry}
+use Rattle.sb_durable.specs.Journal.{Has}
+use Rattle.sb_durable.specs.declared.head.Head.{Head}
 use Rattle.sb_durable.specs.Recording.{Part, AreOf}
 use Rattle.sb_durable.specs.Keeping.{Takes}
 use Rattle.sb_durable.proofs.book.Book.take.Given as goal

@@ -1,7 +1,7 @@
 use Rattle.std.proofs.Common.{◌<◌, [], length, refl, ◌∙◌, arith}
 use Rattle.std.proofs.lemmas.List.{get_or_default}
 use Rattle.std.proofs.lemmas.Result.{on_err_weaker}
-use Rattle.sb_journal.specs.Log.{IsSpent}
+use Rattle.sb_durable.specs.Log.{IsSpent}
 use Rattle.sb_durable.proofs.Parts.{takes_none, taken_err, taken_ok}
 use Rattle.sb_durable.proofs.book.Book.take_some.Goals as goal
 

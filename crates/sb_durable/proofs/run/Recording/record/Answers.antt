@@ -1,6 +1,6 @@
 use Rattle.std.proofs.Common.{◌≡◌, ◌⊎◌, ◌++◌, ◌∷◌, ℕ, List, [], sym, ap, ◌∙◌, subst, inl, inr, arith}
-use Rattle.sb_journal.specs.Journal.{Keeps}
-use Rattle.sb_journal.specs.Records.{Entry}
+use Rattle.sb_durable.specs.Journal.{Keeps}
+use Rattle.sb_durable.specs.Records.{Entry}
 use Rattle.sb_wire.specs.Seen.{addressed_seen}
 use Rattle.sb_durable.specs.Restart.{AreRecords}
 use Rattle.sb_durable.specs.Runs.{event_of, records_of}

@@ -1,0 +1,137 @@
+//! The file of a path, for this process alone.
+ghost use Rattle.std.specs.Prelude.{false, IsTrue, IfOk};
+ghost use Rattle.sb_durable.specs.File.{may_be_used};
+
+use crate::system_file::{Syncing, SystemFile};
+use crate::{BeginError, Head, Journal, open_journal};
+use sqlite_disk::{Modelled, Start, Wary};
+use std::alloc::Global;
+use std::fs::{Files, OpenOptions, TryLockError};
+use std::os::fd::AsRawFd;
+use std::path::Path;
+use std::{fmt, fs, io};
+
+/// A file that held what `S` says as it was opened.
+pub type File<S> = Modelled<SystemFile, S>;
+
+/// Why a file isn't opened.
+#[derive(Clone, Copy, Debug)]
+pub enum OpenError {
+    System(io::Error),
+    /// Another server has it.
+    Locked,
+    /// A folder, a device or the like has its name.
+    NotAFile,
+}
+
+impl From<io::Error> for OpenError {
+    fn from(error: io::Error) -> OpenError {
+        OpenError::System(error)
+    }
+}
+
+impl fmt::Display for OpenError {
+    fn fmt<W: fmt::Write>(&self, f: &mut fmt::Formatter<W>) -> fmt::Result {
+        match self {
+            OpenError::System(error) => write!(f, "{error}"),
+            OpenError::Locked => f.write_str("another server has it open"),
+            OpenError::NotAFile => f.write_str("it is no file"),
+        }
+    }
+}
+
+/// Opens the file of a path, and makes it if it is missing. It is locked until it is dropped. No other code may write
+/// to it meanwhile.
+pub fn open_file<R: Files<File = fs::File>, S: Start>(
+    rt: &R,
+    path: &str,
+    _start: S,
+    syncing: Syncing,
+) -> Result<File<S>, OpenError>
+    ensures { IfOk result (λ file. IsTrue (may_be_used S.Start file)) }
+{
+    let (file, is_new) = open_or_make(rt, path)?;
+    if !file.metadata()?.is_file() {
+        return Err(OpenError::NotAFile);
+    }
+    match file.try_lock() {
+        Ok(()) => {}
+        Err(TryLockError::WouldBlock) => return Err(OpenError::Locked),
+        Err(TryLockError::Error(error)) => return Err(OpenError::System(error)),
+    }
+    if is_new {
+        sync_folder(rt, path)?;
+    }
+    let settled = SystemFile::settle(file, syncing)?;
+    Ok(Modelled::new(settled, false, 0))
+}
+
+/// Why there is no journal at a path.
+#[derive(Clone, Copy, Debug)]
+pub enum StartError {
+    File(OpenError),
+    Begin(BeginError),
+}
+
+impl fmt::Display for StartError {
+    fn fmt<W: fmt::Write>(&self, f: &mut fmt::Formatter<W>) -> fmt::Result {
+        match self {
+            StartError::File(error) => write!(f, "{error}"),
+            StartError::Begin(error) => write!(f, "{error}"),
+        }
+    }
+}
+
+/// The journal of a path.
+pub fn open_path<R: Files<File = fs::File>>(
+    rt: &R,
+    alloc: Global,
+    path: &str,
+    syncing: Syncing,
+    head: Head,
+) -> Result<Journal<File<Wary>>, StartError> {
+    match open_file(rt, path, Wary, syncing) {
+        Ok(file) => match open_journal(alloc, file, head) {
+            Ok(journal) => Ok(journal),
+            Err(error) => Err(StartError::Begin(error)),
+        },
+        Err(error) => Err(StartError::File(error)),
+    }
+}
+
+/// The file, and whether this call made it.
+fn open_or_make<R: Files<File = fs::File>>(rt: &R, path: &str) -> io::Result<(fs::File, bool)> {
+    let (file, is_new) = match made(rt, path) {
+        Ok(file) => (file, true),
+        Err(error) if error.kind() == io::ErrorKind::AlreadyExists => {
+            (
+                OpenOptions::new().read(true).write(true).open(rt, path)?,
+                false,
+            )
+        }
+        Err(error) => return Err(error),
+    };
+    // What is meant for a standard stream that was closed must not land in the file.
+    if file.as_raw_fd() <= 2 {
+        return Ok((file.try_clone()?, is_new));
+    }
+    Ok((file, is_new))
+}
+
+/// The file, if nothing has its name.
+fn made<R: Files<File = fs::File>>(rt: &R, path: &str) -> io::Result<fs::File> {
+    OpenOptions::new()
+        .read(true)
+        .write(true)
+        .create_new(true)
+        .open(rt, path)
+}
+
+/// Brings the name of a file that was made to the disk.
+pub fn sync_folder<R: Files<File = fs::File>>(rt: &R, path: &str) -> io::Result<()> {
+    let folder = match Path::new(path).parent() {
+        Some(folder) if !folder.as_str().is_empty() => folder,
+        _ => Path::new("."),
+    };
+    fs::open(rt, folder)?.sync_all()
+}

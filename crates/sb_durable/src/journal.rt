@@ -1,0 +1,122 @@
+//! A journal: a head, and then records in batches. What is staged waits in memory until it is committed.
+ghost use Rattle.std.specs.Prelude.{◌≡◌, ◌⊎◌, ◌≤◌, ◌^◌, ◌++◌, ◌↔◌, [], ◌∷◌, List, ℕ, length, IfOk, OnOk, OnErr, IsTrue};
+ghost use Rattle.sb_durable.specs.Log.{HasAll, IsSpent, device_of};
+ghost use Rattle.sb_durable.specs.Records.{Entry, entry_of};
+
+use crate::record::record_bytes;
+use crate::recover::MAX_CONTENT;
+use crate::{JournalError, Log, Record};
+use sqlite_disk::Disk;
+use std::alloc::Global;
+
+#[derive(Drop)]
+pub struct Journal<D: Disk> {
+    alloc: Global,
+    log: Log<D>,
+    waiting: Vec<u8>,
+    ghost small: { length waiting.items ≤ 2 ^ 20 },
+}
+
+impl<D: Disk> Journal<D> {
+    ghost use Rattle.sb_durable.specs.declared.head.Head.{Head as TheHead};
+    ghost use Rattle.sb_durable.specs.Journal.{head_bytes, contents_of, all_of, Keeps, Has, IsAt, Gives, disk_of};
+
+    /// A journal over a log that has its head already. Nothing waits yet.
+    pub fn over(alloc: Global, log: Log<D>) -> Journal<D>
+        ensures has { (head : TheHead) (batches : List (List Entry)) → HasAll D.Disk.seen D.Disk.may_leave log (head_bytes head ∷ contents_of batches)
+            → Has D.Disk.seen D.Disk.may_leave result head (all_of batches) [] }
+        ensures disk { disk_of result ≡ device_of log }
+    {
+        Journal {
+            alloc,
+            log,
+            waiting: Vec::new(alloc),
+        }
+    }
+
+    /// Gives the file back. What waits isn't in it.
+    pub fn close(self) -> D
+        ensures { result ≡ disk_of self }
+    {
+        self.log.close()
+    }
+
+    /// Where the first batch is.
+    pub fn first_place(&self) -> usize
+        ensures { (head : TheHead) (entries waiting : List Entry) → Has D.Disk.seen D.Disk.may_leave self.now head entries waiting
+            → IsAt D.Disk.seen D.Disk.may_leave self.now head result entries }
+    {
+        25
+    }
+
+    /// Reads the bytes of the batch at a place, and says where the next one is; `None` behind the last.
+    pub fn read(&mut self, place: usize, batch: &mut Vec<u8>) -> Result<Option<usize>, JournalError>
+        ensures found { IfOk result (λ next. IsTrue (D.Disk.is_clean (disk_of self.new)) → (head : TheHead) (entries : List Entry)
+            → IsAt D.Disk.seen D.Disk.may_leave self.old head place entries
+            → Gives (IsAt D.Disk.seen D.Disk.may_leave self.new head) entries batch.new.items next) }
+        ensures same { (head : TheHead) (entries waiting : List Entry) → Has D.Disk.seen D.Disk.may_leave self.old head entries waiting
+            → Has D.Disk.seen D.Disk.may_leave self.new head entries waiting }
+        ensures clean { IsTrue (D.Disk.is_clean (disk_of self.new)) → IsTrue (D.Disk.is_clean (disk_of self.old)) }
+    {
+        self.log.read(place, batch)
+    }
+
+    /// Has a record wait for the next commit.
+    pub fn stage(&mut self, line: Record) -> Result<(), JournalError>
+        requires { length line.text.now ≤ 4096 }
+        ensures ok { OnOk result ((head : TheHead) (entries waiting : List Entry) → Has D.Disk.seen D.Disk.may_leave self.old head entries waiting
+            → Has D.Disk.seen D.Disk.may_leave self.new head entries (waiting ++ entry_of line.entry ∷ [])) }
+        ensures err { OnErr result ((head : TheHead) (entries waiting : List Entry) → Has D.Disk.seen D.Disk.may_leave self.old head entries waiting
+            → Has D.Disk.seen D.Disk.may_leave self.new head entries waiting) }
+        ensures disk { disk_of self.new ≡ disk_of self.old }
+    {
+        let bytes = record_bytes(self.alloc, line)?;
+        if bytes.len() > MAX_CONTENT - self.waiting.len() {
+            return Err(JournalError::Full);
+        }
+        self.waiting.extend_from_slice(&bytes)?;
+        Ok(())
+    }
+
+    /// Whatever a crash leaves of the file as it is has the records.
+    pub fn is_kept(&self)
+        ensures { (head : TheHead) (entries waiting : List Entry) → Has D.Disk.seen D.Disk.may_leave self.now head entries waiting
+            → (file : List ℕ) → D.Disk.may_leave (disk_of self.now) file → Keeps head entries file }
+    {}
+
+    /// Whether a write or a sync of it has failed, so that it isn't written to any more.
+    pub fn is_spent(&self) -> bool
+        ensures { IsTrue result ↔ IsSpent self.now.log }
+    {
+        self.log.is_spent()
+    }
+
+    /// How many bytes more may wait.
+    pub fn room(&self) -> usize
+        ensures { result ≤ 2 ^ 20 }
+    {
+        MAX_CONTENT - self.waiting.len()
+    }
+
+    /// Brings what waits to the disk, as one batch.
+    pub fn commit(&mut self) -> Result<(), JournalError>
+        ensures ok { OnOk result ((head : TheHead) (entries waiting : List Entry) → Has D.Disk.seen D.Disk.may_leave self.old head entries waiting
+            → Has D.Disk.seen D.Disk.may_leave self.new head (entries ++ waiting) []) }
+
+        // Nothing was done, or it isn't used any more.
+        ensures err { OnErr result (((head : TheHead) (entries waiting : List Entry) → Has D.Disk.seen D.Disk.may_leave self.old head entries waiting
+            → Has D.Disk.seen D.Disk.may_leave self.new head entries waiting) ⊎ IsSpent self.new.log) }
+
+        // A crash at any moment of the call leaves what was there, or that and all that waited.
+        ensures any_moment { (head : TheHead) (entries waiting : List Entry) → Has D.Disk.seen D.Disk.may_leave self.old head entries waiting
+            → (file : List ℕ) → D.Disk.may_leave (disk_of self.new) file → Keeps head entries file ⊎ Keeps head (entries ++ waiting) file }
+        ensures clean { IsTrue (D.Disk.is_clean (disk_of self.new)) → IsTrue (D.Disk.is_clean (disk_of self.old)) }
+    {
+        if self.waiting.is_empty() {
+            return Ok(());
+        }
+        self.log.append(self.alloc, &self.waiting)?;
+        self.waiting.clear();
+        Ok(())
+    }
+}

@@ -1,0 +1,59 @@
+//! Records as bytes, one behind the other.
+ghost use Rattle.std.specs.Prelude.{◌≡◌, ◌≤◌, ◌++◌, List, ℕ, length, IfOk, IfSome};
+ghost use Rattle.std.specs.Int.{w32, to_be_bytes};
+ghost use Rattle.sb_durable.specs.Records.{Entry, IsEntry, entry_bytes, entry_of, Takes};
+
+use std::alloc::{AllocError, Global};
+
+pub const MAX_LINE: usize = 4096;
+
+/// A line that a session of a tenant gave.
+#[derive(Clone, Copy, Debug)]
+pub struct Record<'a> {
+    pub tenant: u32,
+    pub session: u8,
+    pub text: &'a [u8],
+}
+
+pub(crate) fn record_bytes(alloc: Global, line: Record) -> Result<Vec<u8>, AllocError>
+    requires { length line.text.now ≤ 4096 }
+    ensures { IfOk result (λ bytes. bytes.items ≡ entry_bytes (entry_of line.entry)) }
+{
+    let mut bytes = Vec::with_capacity(alloc, line.text.len() + 9)?;
+    bytes.extend_from_slice(&line.tenant.to_be_bytes())?;
+    bytes.push(line.session)?;
+    bytes.extend_from_slice(&(line.text.len() as u32).to_be_bytes())?;
+    bytes.extend_from_slice(line.text)?;
+    Ok(bytes)
+}
+
+/// The first record of these bytes, and the bytes behind it.
+pub fn first_record(bytes: &[u8]) -> Option<(Record, &[u8])>
+    ensures found { IfSome result (λ found. bytes.now ≡ entry_bytes (entry_of found.0) ++ found.1.now) }
+    ensures only { (entry : Entry) (rest : List ℕ) → IsEntry entry → bytes.now ≡ entry_bytes entry ++ rest → Takes result entry rest }
+{
+    let [t0, t1, t2, t3, session, l0, l1, l2, l3, behind @ ..] = bytes else {
+        return None;
+    };
+    let len = word_of([*l0, *l1, *l2, *l3]) as usize;
+    if len > behind.len() {
+        return None;
+    }
+    let (text, rest) = behind.split_at(len);
+    let tenant = word_of([*t0, *t1, *t2, *t3]);
+    Some((
+        Record {
+            tenant,
+            session: *session,
+            text,
+        },
+        rest,
+    ))
+}
+
+/// The number that these bytes are, the first of them the highest.
+fn word_of(bytes: [u8; 4]) -> u32
+    ensures { to_be_bytes w32 result ≡ bytes }
+{
+    u32::from_be_bytes(bytes)
+}

@@ -1,9 +1,0 @@
-use Rattle.std.proofs.Common.{◌++◌, List, ℕ, ap, sym, ◌∙◌, rules}
-use Rattle.sb_journal.specs.Records.{entry_bytes, entry_of}
-use Rattle.sb_journal.proofs.Batches.{bytes-push}
-use Rattle.sb_journal.proofs.journal.Journal.stage.Goals as goal
-
-pub returns-clause-ok : goal.returns-clause-ok
-returns-clause-ok g c head entries waiting has =
-    let more = ap (λ (l : List ℕ). l ++ entry_bytes (entry_of c.args.line)) has.waits ∙ sym (bytes-push waiting (entry_of c.args.line)) in
-    record { batches = has.batches; log = has.log; all = has.all; waits = search (rules, more) }
