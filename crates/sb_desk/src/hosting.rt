@@ -5,6 +5,7 @@ ghost use Rattle.sb_desk.specs.Stubs.{LeavesStub};
 
 use crate::desk::{AttachError, CallError};
 use crate::gate::Gate;
+use crate::receipts::Receipt;
 use crate::stub::Stub;
 use sb_tenant::Answer;
 use std::alloc::Global;
@@ -18,6 +19,10 @@ pub trait Calling: Drop {
     /// The answer of the newest call that gave one.
     fn last(&self) -> Option<&Answer>
         ensures { MatchOption result ((seen self.now).last ≡ None) (λ answer. (seen self.now).last ≡ Some answer.now) };
+
+    /// The receipts so far.
+    fn list(&self) -> &[Receipt]
+        ensures { result.now ≡ (seen self.now).list };
 
     /// Whether an `end` was answered `ok`.
     fn ended(&self) -> bool

@@ -8,8 +8,8 @@ ghost use Rattle.sb_durable.specs.Noting.{record_of_note};
 ghost use Rattle.sb_durable.specs.Recording.{Part, records_of, AreAmong, AreOf, Reaches};
 
 use crate::noting::{MAX_LINE, Note, Notes, Reach};
-use sb_host::{Host, Naming};
 use crate::{Disk, Journal, JournalError, Record};
+use sb_host::Lending;
 use std::alloc::Global;
 use std::sync::Wait;
 
@@ -26,10 +26,10 @@ impl<D: Disk> Book<D> {
     ghost use Rattle.sb_durable.specs.Keeping.{Brings, StagesFront, StagesNoted, Takes};
 
     /// Brings the file up to the trails of these tenants. After want of memory it may be called again.
-    pub(crate) fn bring_up<N: Naming, T: Wait>(
+    pub(crate) fn bring_up<H: Lending, T: Wait>(
         &mut self,
         rt: &T,
-        host: &Host<N>,
+        host: H,
         tenants: &[u32],
     ) -> Result<(), JournalError>
         ensures ok { OnOk result ((head : Head) (records waiting : List Entry) → Has D.Disk.seen D.Disk.may_leave self.old.journal head records waiting
@@ -51,10 +51,10 @@ impl<D: Disk> Book<D> {
 
     /// Has what a tenant's trail has beyond what is recorded wait for the commit. Where there is no room, what waits is
     /// committed.
-    fn take<N: Naming, T: Wait>(
+    fn take<H: Lending, T: Wait>(
         &mut self,
         rt: &T,
-        host: &Host<N>,
+        host: H,
         tenant: u32,
     ) -> Result<(), JournalError>
         ensures ok { OnOk result ((head : Head) (records waiting : List Entry) → Has D.Disk.seen D.Disk.may_leave self.old.journal head records waiting
@@ -74,10 +74,10 @@ impl<D: Disk> Book<D> {
     }
 
     /// The same, as far as there is room. Whether that is all.
-    fn take_some<N: Naming, T: Wait>(
+    fn take_some<H: Lending, T: Wait>(
         &mut self,
         rt: &T,
-        host: &Host<N>,
+        host: H,
         tenant: u32,
     ) -> Result<bool, JournalError>
         ensures ok { IfOk result (λ is_whole. (head : Head) (records waiting : List Entry) → Has D.Disk.seen D.Disk.may_leave self.old.journal head records waiting

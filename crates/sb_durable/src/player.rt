@@ -2,10 +2,10 @@
 ghost use Rattle.std.specs.Prelude.{◌≡◌, ◌<◌, ◌*◌, length, false, IfOk, Some};
 ghost use Rattle.sb_tenant.specs.Trail.{is_no_memory};
 
+use crate::Record;
 use crate::noting::ROLLBACK;
 use crate::playing::{PlayFault, Plays};
-use sb_host::{CallError, Host, Naming, Session, Stub};
-use crate::Record;
+use sb_desk::{CallError, Calling, Hosting, NoGate, Stub};
 use sb_tenant::{Answer, Reply};
 use sb_value::{Refusal, SESSION_LIMIT};
 use std::alloc::{AllocError, Global};
@@ -16,19 +16,19 @@ const OPEN: &[u8] = b"open";
 
 /// The sessions that records have opened.
 #[derive(Drop)]
-pub(crate) struct Player<'h, N: Naming> {
+pub(crate) struct Player<H: Hosting> {
     alloc: Global,
-    host: &'h Host<N>,
+    host: H,
     /// Eight for each tenant.
-    sessions: Vec<Option<Session<'h, N>>>,
+    sessions: Vec<Option<H::Session>>,
     stubs: Vec<Stub>,
     /// The number of each tenant's newest step.
     steps: Vec<u32>,
     ghost eight: { length sessions.items ≡ 8 * length steps.items },
 }
 
-impl<'h, N: Naming> Player<'h, N> {
-    pub(crate) fn new(alloc: Global, host: &'h Host<N>) -> Result<Player<'h, N>, AllocError> {
+impl<H: Hosting> Player<H> {
+    pub(crate) fn new(alloc: Global, host: H) -> Result<Player<H>, AllocError> {
         let tenants = host.tenants() as usize;
         let mut steps = Vec::new(alloc);
         steps.resize(tenants, 0)?;
@@ -88,7 +88,7 @@ impl<'h, N: Naming> Player<'h, N> {
     fn call<T: Wait>(
         &mut self,
         rt: &T,
-        mut session: Session<'h, N>,
+        mut session: H::Session,
         line: Record,
         place: usize,
     ) -> Result<(), PlayFault>
@@ -125,7 +125,7 @@ impl<'h, N: Naming> Player<'h, N> {
     }
 }
 
-impl<'h, N: Naming> Plays for Player<'h, N> {
+impl<H: Hosting> Plays for Player<H> {
     ghost use Rattle.std.specs.Prelude.{⊤};
 
     ghost plays = { λ _ _ _. ⊤ };
@@ -136,7 +136,7 @@ impl<'h, N: Naming> Plays for Player<'h, N> {
 }
 
 /// The number of the step that opened a session.
-fn opened_by<N: Naming>(session: &Session<'_, N>) -> u32 {
+fn opened_by<S: Calling>(session: &S) -> u32 {
     match session.list().first() {
         Some(receipt) => receipt.answer.number.unwrap_or(0),
         None => 0,
@@ -144,14 +144,17 @@ fn opened_by<N: Naming>(session: &Session<'_, N>) -> u32 {
 }
 
 /// Makes the step of a line, and gives its number.
-fn step<N: Naming, T: Wait>(
+fn step<S: Calling, T: Wait>(
     rt: &T,
     alloc: Global,
-    session: &mut Session<'_, N>,
+    session: &mut S,
     line: &[u8],
 ) -> Result<u32, PlayFault> {
-    match session.call(rt, alloc, line) {
-        Ok(answer) => number_of(answer),
+    match session.step(rt, alloc, line, &NoGate) {
+        Ok(()) => match session.last() {
+            Some(answer) => number_of(answer),
+            None => Err(PlayFault::TrailFull),
+        },
         Err(CallError::NotBegun) => Err(PlayFault::NoMemory),
         Err(CallError::Ended) => Err(PlayFault::NotOpen),
     }

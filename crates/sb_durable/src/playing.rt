@@ -7,8 +7,8 @@ ghost use Rattle.sb_durable.specs.Played.{PlaysAll};
 ghost use Rattle.sb_durable.specs.Restart.{AreRecords};
 
 use crate::player::Player;
-use sb_host::{AttachError, Host, Naming, Stub};
 use crate::{Disk, Journal, JournalError, Record, first_record};
+use sb_desk::{AttachError, Hosting, Stub};
 use std::alloc::Global;
 use std::fmt;
 use std::sync::Wait;
@@ -74,10 +74,10 @@ impl fmt::Display for PlayError {
 }
 
 /// Plays the records of a journal to a host without steps, and ends the sessions that are open then.
-pub fn play<T: Wait, N: Naming, D: Disk, P: Progress>(
+pub fn play<T: Wait, H: Hosting, D: Disk, P: Progress>(
     rt: &T,
     alloc: Global,
-    host: &Host<N>,
+    host: H,
     journal: &mut Journal<D>,
     progress: &mut P,
 ) -> Result<Played, PlayError> {
@@ -170,9 +170,9 @@ fn play_batch<T: Wait, S: Plays>(
 }
 
 /// Ends the sessions that are open.
-fn leave<T: Wait, N: Naming>(
+fn leave<T: Wait, H: Hosting>(
     rt: &T,
-    player: Player<'_, N>,
+    player: Player<H>,
     records: u64,
 ) -> Result<Played, PlayError> {
     match player.end_all(rt) {

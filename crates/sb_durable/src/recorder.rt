@@ -1,16 +1,16 @@
 //! What threads share to record what they are about to answer.
 use crate::book::Book;
-use sb_host::{Host, Naming};
 use crate::{Disk, Journal, JournalError};
+use sb_host::Lending;
 use std::alloc::Global;
 use std::mem;
 use std::sync::{Mutex, Wait};
 
 /// Records the trails of a host's tenants in a journal.
 #[derive(Drop)]
-pub struct Recorder<'h, N: Naming, D: Disk> {
+pub struct Recorder<H: Lending, D: Disk> {
     alloc: Global,
-    host: &'h Host<N>,
+    host: H,
     book: Mutex<Book<D>>,
     callers: Mutex<Callers>,
 }
@@ -23,14 +23,9 @@ struct Callers {
     round: u64,
 }
 
-impl<'h, N: Naming, D: Disk> Recorder<'h, N, D> {
+impl<H: Lending, D: Disk> Recorder<H, D> {
     /// Of each tenant's trail so many entries are recorded.
-    pub fn new(
-        alloc: Global,
-        host: &'h Host<N>,
-        journal: Journal<D>,
-        recorded: Vec<u32>,
-    ) -> Recorder<'h, N, D> {
+    pub fn new(alloc: Global, host: H, journal: Journal<D>, recorded: Vec<u32>) -> Recorder<H, D> {
         Recorder {
             alloc,
             host,

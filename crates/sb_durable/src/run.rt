@@ -13,8 +13,8 @@ ghost use Rattle.sb_durable.specs.Restart.{Tells};
 ghost use Rattle.sb_durable.specs.Runs.{AnswersRecorded, RunsRecorded, event_of, records_of};
 
 use crate::noting::{MAX_LINE, ROLLBACK};
-use sb_cell::{Cell, StepError};
 use crate::{Disk, Journal, JournalError, Record};
+use sb_cell::{Cell, StepError};
 use sb_tenant::{Answer, Reply};
 use sb_value::Refusal;
 use sb_wire::{

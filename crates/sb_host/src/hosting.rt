@@ -2,7 +2,7 @@
 
 use crate::host::Host;
 use crate::session::Session;
-use sb_desk::{AttachError, CallError, Calling, Gate, Hosting, Naming, Stub};
+use sb_desk::{AttachError, CallError, Calling, Gate, Hosting, Naming, Receipt, Stub};
 use sb_tenant::Answer;
 use std::alloc::Global;
 use std::sync::Wait;
@@ -12,6 +12,10 @@ impl<'h, N: Naming> Calling for Session<'h, N> {
 
     fn last(&self) -> Option<&Answer> {
         self.last()
+    }
+
+    fn list(&self) -> &[Receipt] {
+        self.list()
     }
 
     fn ended(&self) -> bool {
