@@ -11,6 +11,6 @@ abbrev pub without_rules : List Bool → List ℕ → List Bool
 without_rules set rules = map (λ m. m.1 && not (list_any (λ r. r == m.0) rules)) (enumerate_from 0 set)
 
 -- the rules of a list are added, or taken
-pub changed_members : Change → List ℕ → List Bool → List Bool
-changed_members Added rules set = with_rules set rules
-changed_members Taken rules set = without_rules set rules
+abbrev pub changed_members : Change → List ℕ → List Bool → List Bool
+changed_members Added rules = λ set. with_rules set rules
+changed_members Taken rules = λ set. without_rules set rules
