@@ -1,9 +1,9 @@
 -- Promise: the places of a board, and what it shows of lines and sessions.
-use Rattle.std.specs.Prelude.{◌≡◌, ◌≤◌, ◌<◌, ◌-◌, ◌^◌, ℕ, List, length, take}
+use Rattle.std.specs.Prelude.{◌≤◌, ◌<◌, ◌-◌, ◌^◌, ℕ, List, length}
 use Rattle.std.specs.List.Sorted.{IsNonDecreasingBy}
-use Rattle.sb_connection.specs.declared.watch.Named.{Named}
+use Rattle.sb_connection.specs.declared.greeting.Named.{Named}
 use Rattle.sb_server.specs.declared.board.Board.{Board}
-use Rattle.sb_server.specs.declared.board.SlowLine.{SlowLine}
+use Rattle.sb_server.specs.declared.slow_line.SlowLine.{SlowLine}
 
 -- those of the workers and the door's; where nothing is counted there are none
 abbrev pub place_count : Board → ℕ
@@ -13,13 +13,13 @@ place_count board = length board.tallies.items
 abbrev pub desk_count : Board → ℕ
 desk_count board = length board.desks.items
 
--- what is kept of a slow line
-abbrev pub text_of : SlowLine → List ℕ
-text_of line = take line.len line.text
+-- the more, the less time a line took
+abbrev pub quickness : SlowLine → ℕ
+quickness line = 2 ^ 64 - 1 - line.nanos
 
 -- the slowest line comes first
 abbrev pub AreSlowestFirst : List SlowLine → Type 0
-AreSlowestFirst lines = IsNonDecreasingBy (λ (line : SlowLine). 2 ^ 64 - 1 - line.nanos) lines
+AreSlowestFirst lines = IsNonDecreasingBy quickness lines
 
 -- one of the sessions of a server whose first tenant has this number
 abbrev pub IsSessionFrom : ℕ → Named → Type 0

@@ -1,10 +1,11 @@
 //! What is known of a server while it serves: counts of its workers, the slowest lines, and when each session was answered.
 //! And what it is told: whose sessions are to end.
-ghost use Rattle.std.specs.Prelude.{◌≡◌, ◌+◌, ◌<◌, ◌≤◌, ◌↔◌, IfOk, IfSome, IsFalse, IsTrue, take};
-ghost use Rattle.sb_server.specs.Boards.{AreSlowestFirst, IsSessionFrom, desk_count, place_count, text_of};
+ghost use Rattle.std.specs.Prelude.{◌≡◌, ◌+◌, ◌<◌, ◌≤◌, ◌↔◌, IfOk, IfSome, IsFalse, IsTrue};
+ghost use Rattle.sb_server.specs.Boards.{AreSlowestFirst, IsSessionFrom, desk_count, place_count};
 
 use crate::counts::{Count, Tally};
 use crate::last_lines::LastLines;
+use crate::slow_line::SlowLine;
 use crate::worker::WAKER;
 use mio::{Poll, Waker};
 use sb_connection::Named;
@@ -17,45 +18,8 @@ use std::{io, mem};
 /// How many of the slowest lines are kept.
 const MOST_LINES: usize = 10;
 
-/// How many bytes are kept of a slow line.
-const MOST_BYTES: usize = 200;
-
 /// How many sessions may be told to a worker before it looks.
 const MOST_ORDERS: usize = 64;
-
-/// A line that took long.
-#[derive(Clone, Copy)]
-pub struct SlowLine {
-    pub named: Named,
-    pub nanos: u64,
-    text: [u8; MOST_BYTES],
-    len: usize,
-    ghost fits: { len ≤ 200 },
-}
-
-impl SlowLine {
-    fn new(named: Named, line: &[u8], nanos: u64) -> SlowLine
-        ensures of { (result.named ≡ named) × (result.nanos ≡ nanos) }
-        ensures text { text_of result ≡ take 200 line.now }
-    {
-        let mut text = [0u8; MOST_BYTES];
-        let len = line.len().min(MOST_BYTES);
-        text[..len].copy_from_slice(&line[..len]);
-        SlowLine {
-            named,
-            nanos,
-            text,
-            len,
-        }
-    }
-
-    /// The first bytes of the line.
-    pub fn text(&self) -> &[u8]
-        ensures { result.now ≡ text_of self.now }
-    {
-        &self.text[..self.len]
-    }
-}
 
 /// What a worker is told.
 #[derive(Drop)]

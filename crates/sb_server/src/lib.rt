@@ -14,13 +14,15 @@ mod mailbox;
 mod newcomer;
 mod porter;
 mod server;
+mod slow_line;
 mod socket;
 mod told;
 mod visit;
 mod worker;
 
 pub use beside::{Beside, NoBeside, Over};
-pub use board::{Board, SlowLine};
+pub use board::Board;
 pub use counts::{Cause, Count, LIMITS};
 pub use keeper::{Keeper, Kept, Unkept};
 pub use server::{Acceptor, ServeError, Terms, serve_all};
+pub use slow_line::SlowLine;
