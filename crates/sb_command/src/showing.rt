@@ -12,11 +12,11 @@ use sb_host::{Host, Naming, Tried};
 use sb_keys::STATUS;
 use sb_server::Board;
 use sb_status::{
-    Credentials, Ended, HostNumbers, Incoming, Kind, Request, Route, Status, TenantNumbers,
-    TenantView, host_page, metrics, number, read_request, respond, route_of, tenant_page,
+    Counting, Credentials, Ended, HostNumbers, Incoming, Kind, Opening, Patience, Request, Route,
+    Shelf, Status, TenantNumbers, TenantView, host_page, metrics, number, read_request, respond,
+    route_of, tenant_page, view_at,
 };
 use sb_value::{SESSION_LIMIT, SessionId};
-use sb_view::{Counting, Opening, Patience, Shelf, view_at};
 use std::alloc::{AllocError, Global};
 use std::fs::File;
 use std::rt::Clock;

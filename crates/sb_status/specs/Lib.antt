@@ -5,3 +5,6 @@ pub mod Laws
 pub mod Requests
 pub mod Routes
 pub mod Responses
+pub mod Counting
+pub mod Viewing
+pub mod Shelf

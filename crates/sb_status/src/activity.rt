@@ -10,10 +10,12 @@ const SECOND: u64 = 1_000_000;
 
 /// Writes the sums of what all workers have counted.
 pub(crate) fn write_sums(page: &mut Page<'_>, activity: Activity<'_>) -> Result<(), AllocError> {
-    page.count(Mark::FactLines, lines_of(activity.workers))?;
-    page.count(Mark::FactConsiderations, activity.considerations)?;
-    page.count(Mark::FactRollbacks, rollbacks_of(activity.rollbacks))?;
-    page.count(Mark::FactRefusals, refusals_of(activity.refusals))
+    page.counts(&[
+        (Mark::FactLines, lines_of(activity.workers)),
+        (Mark::FactConsiderations, activity.considerations),
+        (Mark::FactRollbacks, rollbacks_of(activity.rollbacks)),
+        (Mark::FactRefusals, refusals_of(activity.refusals)),
+    ])
 }
 
 fn lines_of(workers: &[WorkerNumbers]) -> u64 {
@@ -76,9 +78,11 @@ fn write_worker(
     } else {
         page.count(Mark::Row, place as u64)?;
     }
-    page.count(Mark::NumberCell, worker.taken.saturating_sub(worker.closed))?;
-    page.count(Mark::NumberCell, worker.taken)?;
-    page.count(Mark::NumberCell, worker.lines)?;
+    page.counts(&[
+        (Mark::NumberCell, worker.taken.saturating_sub(worker.closed)),
+        (Mark::NumberCell, worker.taken),
+        (Mark::NumberCell, worker.lines),
+    ])?;
     page.mark(Mark::NumberCell)?;
     write_seconds(page, worker.busy)?;
     page.mark(Mark::RowEnd)

@@ -51,18 +51,22 @@ fn write_facts<'v>(
         page.count(Mark::FactMemory, bytes / KILOBYTE)?;
         page.mark(Mark::Kilobytes)?;
     }
-    page.count(Mark::FactTenants, host.tenants)?;
-    page.count(Mark::FactCells, host.cells)?;
-    page.count(Mark::FactBound, host.bound)?;
+    page.counts(&[
+        (Mark::FactTenants, host.tenants),
+        (Mark::FactCells, host.cells),
+        (Mark::FactBound, host.bound),
+    ])?;
     write_sums(page, activity)?;
     page.mark(Mark::FactsEnd)
 }
 
 fn write_uptime(page: &mut Page<'_>, seconds: u64) -> Result<(), AllocError> {
-    page.count(Mark::FactUptime, seconds / DAY)?;
-    page.count(Mark::Days, seconds % DAY / HOUR)?;
-    page.count(Mark::Hours, seconds % HOUR / MINUTE)?;
-    page.count(Mark::Minutes, seconds % MINUTE)?;
+    page.counts(&[
+        (Mark::FactUptime, seconds / DAY),
+        (Mark::Days, seconds % DAY / HOUR),
+        (Mark::Hours, seconds % HOUR / MINUTE),
+        (Mark::Minutes, seconds % MINUTE),
+    ])?;
     page.mark(Mark::Seconds)
 }
 
@@ -78,15 +82,17 @@ fn write_tenant(page: &mut Page<'_>, tenant: TenantNumbers) -> Result<(), AllocE
     page.count(Mark::TenantLink, tenant.tenant)?;
     page.count(Mark::LinkText, tenant.tenant)?;
     page.mark(Mark::LinkEnd)?;
-    page.count(Mark::NumberCell, tenant.steps)?;
-    page.count(Mark::NumberCell, tenant.room)?;
-    page.count(Mark::NumberCell, tenant.bytes)?;
-    page.count(Mark::NumberCell, tenant.tables)?;
-    page.count(Mark::NumberCell, tenant.rows)?;
-    page.count(Mark::NumberCell, tenant.rules)?;
-    page.count(Mark::NumberCell, tenant.open)?;
-    page.count(Mark::NumberCell, tenant.active)?;
-    page.count(Mark::NumberCell, tenant.changes)?;
+    page.counts(&[
+        (Mark::NumberCell, tenant.steps),
+        (Mark::NumberCell, tenant.room),
+        (Mark::NumberCell, tenant.bytes),
+        (Mark::NumberCell, tenant.tables),
+        (Mark::NumberCell, tenant.rows),
+        (Mark::NumberCell, tenant.rules),
+        (Mark::NumberCell, tenant.open),
+        (Mark::NumberCell, tenant.active),
+        (Mark::NumberCell, tenant.changes),
+    ])?;
     match tenant.age {
         Some(seconds) => {
             page.count(Mark::OldAge, seconds)?;

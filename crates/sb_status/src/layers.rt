@@ -6,7 +6,7 @@ use crate::nodes::Nodes;
 use std::alloc::{AllocError, Global};
 
 /// The layer of a node, its row there, and whether a path leads from it to itself.
-#[derive(Clone, Copy, Debug)]
+#[derive(Clone, Copy)]
 pub(crate) struct Place {
     pub(crate) layer: u64,
     pub(crate) row: u64,

@@ -1,11 +1,13 @@
-//! What a status port shows: requests read from bytes, and pages written of plain numbers, names and texts. It makes no
-//! system call.
+//! What a status port shows: tenants, copied within the locks of their cells, pages of plain numbers, names and texts, and
+//! the requests that ask for them. It makes no system call but to sleep where a cell is busy.
 #![tactic(auto)]
 
 mod activity;
 mod counters;
+mod counting;
 mod credentials;
 mod graph;
+mod graphing;
 mod host;
 mod laws;
 mod layers;
@@ -13,6 +15,7 @@ mod mark;
 mod marks;
 mod nodes;
 mod page;
+mod patience;
 mod picture;
 mod piece;
 mod request;
@@ -20,21 +23,27 @@ mod response;
 mod route;
 mod rule_rows;
 mod samples;
+mod shelf;
 mod tenant;
 mod text;
+mod tracing;
 mod view;
+mod viewing;
 
+pub use counting::{Counting, Opening};
 pub use credentials::Credentials;
 pub use graph::Graph;
 pub use host::host_page;
 pub use laws::texts_are_no_markup;
 pub use mark::Mark;
 pub use nodes::Nodes;
+pub use patience::Patience;
 pub use piece::Piece;
 pub use request::{HEAD_LIMIT, Incoming, Request, read_request};
 pub use response::{Kind, NO_MEMORY, Status, respond};
 pub use route::{Ended, Route, number, route_of};
 pub use samples::metrics;
+pub use shelf::Shelf;
 pub use tenant::tenant_page;
 pub use text::Escaping;
 pub use view::{
@@ -42,3 +51,4 @@ pub use view::{
     SessionState, SessionView, SlowView, TableView, TenantNumbers, TenantView, Times, TriggersView,
     WorkerNumbers,
 };
+pub use viewing::view_at;

@@ -5,7 +5,7 @@ ghost use Rattle.sb_status.specs.Marks.{mark_text};
 use crate::marks;
 
 /// A piece of markup that pages are made of, or a fixed part of samples.
-#[derive(Clone, Copy, Debug)]
+#[derive(Clone, Copy)]
 pub enum Mark {
     Head,
     Foot,

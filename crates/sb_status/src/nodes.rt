@@ -5,7 +5,7 @@ const WORDS: usize = 4;
 const WORD: usize = 64;
 
 /// Nodes below 256. Others are never in it.
-#[derive(Clone, Copy, Debug)]
+#[derive(Clone, Copy)]
 pub struct Nodes {
     words: [u64; WORDS],
 }

@@ -41,6 +41,14 @@ impl<'a> Page<'a> {
         self.number(number)
     }
 
+    /// Marks, each with a number behind it.
+    pub(crate) fn counts(&mut self, counts: &[(Mark, u64)]) -> Result<(), AllocError> {
+        for (mark, number) in counts {
+            self.count(*mark, *number)?;
+        }
+        Ok(())
+    }
+
     /// The bytes of all pieces.
     pub(crate) fn render(&self, alloc: Global, escaping: Escaping) -> Result<Vec<u8>, AllocError>
         ensures { IfOk result (λ page. IsPage escaping page.items) }

@@ -93,10 +93,12 @@ fn begin(page: &mut Page<'_>, layout: &Layout, width: u64) -> Result<(), AllocEr
         right = right.max(spot.right.saturating_add(GAP));
         bottom = bottom.max(spot.top.saturating_add(ROW));
     }
-    page.count(Mark::SvgWidth, right)?;
-    page.count(Mark::SvgHeight, bottom)?;
-    page.count(Mark::SvgBox, right)?;
-    page.count(Mark::Blank, bottom)?;
+    page.counts(&[
+        (Mark::SvgWidth, right),
+        (Mark::SvgHeight, bottom),
+        (Mark::SvgBox, right),
+        (Mark::Blank, bottom),
+    ])?;
     page.mark(Mark::SvgHead)
 }
 
@@ -228,14 +230,14 @@ impl<'d, 'v> Drawing<'d, 'v> {
             (false, true) => Mark::RuleBox,
             (false, false) => Mark::InactiveBox,
         };
-        self.page.count(mark, spot.left)?;
-        self.page.count(Mark::BoxTop, spot.top)?;
-        self.page.count(Mark::BoxWidth, self.width)?;
-        self.page.count(Mark::BoxHeight, HEIGHT)?;
-        self.page
-            .count(Mark::NameAt, spot.left.saturating_add(LETTER))?;
-        self.page
-            .count(Mark::TextTop, spot.middle.saturating_add(5))?;
+        self.page.counts(&[
+            (mark, spot.left),
+            (Mark::BoxTop, spot.top),
+            (Mark::BoxWidth, self.width),
+            (Mark::BoxHeight, HEIGHT),
+            (Mark::NameAt, spot.left.saturating_add(LETTER)),
+            (Mark::TextTop, spot.middle.saturating_add(5)),
+        ])?;
         self.page.mark(Mark::TextBegin)?;
         self.page.text(rule.name.as_slice())?;
         self.page.mark(Mark::TextEnd)?;

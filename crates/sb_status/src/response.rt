@@ -6,7 +6,7 @@ use crate::piece::push_number;
 use std::alloc::{AllocError, Global};
 
 /// How a request went.
-#[derive(Clone, Copy, Debug)]
+#[derive(Clone, Copy)]
 pub enum Status {
     Found,
     /// It is done as soon as it can be.
@@ -29,7 +29,7 @@ pub enum Status {
 }
 
 /// What a body is.
-#[derive(Clone, Copy, Debug)]
+#[derive(Clone, Copy)]
 pub enum Kind {
     Page,
     Samples,

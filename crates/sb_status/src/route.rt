@@ -14,14 +14,14 @@ const SESSIONS: &[u8] = b"/sessions/";
 const END: &[u8] = b"/end";
 
 /// A session that is to end.
-#[derive(Clone, Copy, Debug)]
+#[derive(Clone, Copy)]
 pub struct Ended {
     pub tenant: u32,
     pub session: u32,
 }
 
 /// A page, or what is asked for.
-#[derive(Clone, Copy, Debug)]
+#[derive(Clone, Copy)]
 pub enum Route {
     Host,
     Metrics,

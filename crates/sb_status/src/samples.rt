@@ -47,9 +47,11 @@ fn write_host<'v>(page: &mut Page<'v>, host: HostNumbers<'v>) -> Result<(), Allo
     if let Some(bytes) = host.memory {
         page.count(Mark::MemorySample, bytes)?;
     }
-    page.count(Mark::TenantsSample, host.tenants)?;
-    page.count(Mark::CellsSample, host.cells)?;
-    page.count(Mark::BoundSample, host.bound)
+    page.counts(&[
+        (Mark::TenantsSample, host.tenants),
+        (Mark::CellsSample, host.cells),
+        (Mark::BoundSample, host.bound),
+    ])
 }
 
 /// Writes the samples of a family, one for each tenant.

@@ -38,14 +38,16 @@ fn write<'v>(alloc: Global, page: &mut Page<'v>, view: &'v TenantView) -> Result
 }
 
 fn write_numbers(page: &mut Page<'_>, numbers: TenantNumbers) -> Result<(), AllocError> {
-    page.count(Mark::TenantTitle, numbers.tenant)?;
-    page.count(Mark::FactSteps, numbers.steps)?;
-    page.count(Mark::FactRoom, numbers.room)?;
-    page.count(Mark::FactBytes, numbers.bytes)?;
-    page.count(Mark::FactRows, numbers.rows)?;
-    page.count(Mark::FactOpen, numbers.open)?;
-    page.count(Mark::FactActive, numbers.active)?;
-    page.count(Mark::FactChanges, numbers.changes)?;
+    page.counts(&[
+        (Mark::TenantTitle, numbers.tenant),
+        (Mark::FactSteps, numbers.steps),
+        (Mark::FactRoom, numbers.room),
+        (Mark::FactBytes, numbers.bytes),
+        (Mark::FactRows, numbers.rows),
+        (Mark::FactOpen, numbers.open),
+        (Mark::FactActive, numbers.active),
+        (Mark::FactChanges, numbers.changes),
+    ])?;
     page.mark(Mark::FactsEnd)
 }
 

@@ -6,7 +6,7 @@ ghost use Rattle.sb_status.specs.Escape.{escaped, escaped_byte, html_byte, label
 use std::alloc::AllocError;
 
 /// How texts are kept apart from what stands around them.
-#[derive(Clone, Copy, Debug)]
+#[derive(Clone, Copy)]
 pub enum Escaping {
     /// In HTML: between tags, or in the quotes of an attribute.
     Html,

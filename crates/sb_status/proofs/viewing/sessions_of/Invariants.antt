@@ -1,5 +1,5 @@
-use Rattle.sb_view.specs.Viewing.{AreSessionsOf}
-use Rattle.sb_view.proofs.viewing.sessions_of.Given as goal
+use Rattle.sb_status.specs.Viewing.{AreSessionsOf}
+use Rattle.sb_status.proofs.viewing.sessions_of.Given as goal
 
 -- the sessions so far
 abbrev pub invariant-loop-number : goal.invariant-loop-number

@@ -2,9 +2,10 @@
 ghost use Rattle.std.specs.Prelude.{◌≡◌, ◌&&◌, ◌||◌};
 ghost use Rattle.sb_value.specs.Flags.{share_place};
 
+use crate::graph::Graph;
+use crate::nodes::Nodes;
 use sb_catalog::{Definitions, Rule};
 use sb_check::{Action, Statement};
-use sb_status::{Graph, Nodes};
 use sb_value::{Columns, RULE_LIMIT, TABLE_LIMIT, TableId, Triggers};
 use std::alloc::{AllocError, Global};
 

@@ -7,8 +7,8 @@ use Rattle.sb_status.specs.declared.view.TenantView.{TenantView}
 use Rattle.sb_tenant.specs.Limits.{session_count}
 use Rattle.sb_tenant.specs.State.{Session, has_transaction, is_open, session_at}
 use Rattle.sb_tenant.specs.Tenant.{Tenant, state}
-use Rattle.sb_view.specs.Counting.{AreNumbersOf}
-use Rattle.sb_view.specs.declared.viewing.Viewing.{Viewing}
+use Rattle.sb_status.specs.Counting.{AreNumbersOf}
+use Rattle.sb_status.specs.declared.viewing.Viewing.{Viewing}
 
 -- how a session stands
 abbrev pub shown_as : Session → SessionState

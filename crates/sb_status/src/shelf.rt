@@ -1,8 +1,8 @@
 //! What pages showed last, for tenants that are busy.
 ghost use Rattle.std.specs.Prelude.{◌≡◌, None, Some, IfOk, MatchOption, replicate, slice_set};
-ghost use Rattle.sb_view.specs.Shelf.{AreAgain, IsAgain, IsUnseen, age_at, kept_at};
+ghost use Rattle.sb_status.specs.Shelf.{AreAgain, IsAgain, IsUnseen, age_at, kept_at};
 
-use sb_status::{TenantNumbers, TenantView};
+use crate::view::{TenantNumbers, TenantView};
 use std::alloc::{AllocError, Global};
 
 /// The numbers of a tenant, and when they were taken, in seconds since the server began.
@@ -56,14 +56,21 @@ impl Shelf {
     pub fn numbers(&self, place: u32, now: u64) -> Option<TenantNumbers>
         ensures { MatchOption result (kept_at self.now place ≡ None) (AreAgain self.now place now) }
     {
-        match self.numbers.get(place as usize) {
-            Some(Some(kept)) => {
+        match self.kept(place) {
+            Some(kept) => {
                 let mut numbers = kept.numbers;
                 numbers.age = Some(age(kept.taken, now));
                 Some(numbers)
             }
-            _ => None,
+            None => None,
         }
+    }
+
+    /// What is kept of the tenant at this place.
+    fn kept(&self, place: u32) -> Option<Kept>
+        ensures { result ≡ kept_at self.now place }
+    {
+        self.numbers.get(place as usize).copied().flatten()
     }
 
     /// Keeps what the tenant at this place is.

@@ -1,14 +1,15 @@
 -- Promise: what was shown last is shown again, with an age.
-use Rattle.std.specs.Prelude.{◌≡◌, ◌+◌, ◌-◌, ◌^◌, min, ℕ, Option, None, Some, option_and_then, slice_get}
+use Rattle.std.specs.Prelude.{◌≡◌, ◌+◌, ◌-◌, ◌^◌, min, ℕ, Option, None, Some, slice_get}
+use Rattle.std.specs.Option.{option_flatten}
 use Rattle.sb_status.specs.declared.view.TenantNumbers.{TenantNumbers}
 use Rattle.sb_status.specs.declared.view.TenantView.{TenantView}
-use Rattle.sb_view.specs.declared.shelf.Kept.{Kept}
-use Rattle.sb_view.specs.declared.shelf.Seen.{Seen}
-use Rattle.sb_view.specs.declared.shelf.Shelf.{Shelf}
+use Rattle.sb_status.specs.declared.shelf.Kept.{Kept}
+use Rattle.sb_status.specs.declared.shelf.Seen.{Seen}
+use Rattle.sb_status.specs.declared.shelf.Shelf.{Shelf}
 
 -- what is kept of the numbers of the tenant at a place
 abbrev pub kept_at : Shelf → ℕ → Option Kept
-kept_at shelf place = option_and_then (λ (kept : Option Kept). kept) (slice_get shelf.numbers.items place)
+kept_at shelf place = option_flatten (slice_get shelf.numbers.items place)
 
 -- how many seconds old something is at most that was taken in a second
 abbrev pub age_at : ℕ → ℕ → ℕ

@@ -3,7 +3,7 @@
 use crate::patience::Patience;
 use memchr::memchr;
 use sb_catalog::Catalog;
-use sb_host::{Host, Naming, Reading, Tried};
+use sb_host::{Lending, Reading, Tried};
 use sb_tenant::{Entry, Reply, Tenant};
 use sb_value::{NAME_LIMIT, Name, RULE_LIMIT};
 use std::alloc::{AllocError, Global};
@@ -75,10 +75,10 @@ impl RuleLines {
     }
 
     /// Looks at all entries. Whether it could, since the cell wasn't busy for too long.
-    pub(crate) fn trace<T: Clock, N: Naming>(
+    pub(crate) fn trace<T: Clock, H: Lending>(
         &mut self,
         patience: &mut Patience<'_, T>,
-        host: &Host<N>,
+        host: H,
         tenant: u32,
     ) -> Result<bool, AllocError> {
         for _ in 0..self.left / PIECE + 1 {

@@ -1,6 +1,6 @@
 use Rattle.std.proofs.Common.{◌≡◌, None}
 use Rattle.std.specs.Prelude.{replicate}
-use Rattle.sb_view.proofs.shelf.Shelf.new.Given as goal
+use Rattle.sb_status.proofs.shelf.Shelf.new.Given as goal
 
 -- nothing so far
 abbrev pub invariant-loop-place : goal.invariant-loop-place

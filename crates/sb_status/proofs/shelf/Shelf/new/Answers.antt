@@ -1,7 +1,7 @@
 use Rattle.std.proofs.Common.{◌∙◌, ◌∷◌, ◌++◌, [], List, None, Option, ap}
 use Rattle.std.proofs.lemmas.List.{replicate-append-replicate}
-use Rattle.sb_view.specs.declared.shelf.Kept.{Kept}
-use Rattle.sb_view.proofs.shelf.Shelf.new.Goals as goal
+use Rattle.sb_status.specs.declared.shelf.Kept.{Kept}
+use Rattle.sb_status.proofs.shelf.Shelf.new.Goals as goal
 
 -- nothing of one more
 pub loop-place-preserved : goal.loop-place-preserved

@@ -4,7 +4,7 @@ use Rattle.sb_status.specs.declared.view.TenantNumbers.{TenantNumbers}
 use Rattle.sb_tenant.specs.declared.reply.Entry.{Entry}
 use Rattle.sb_tenant.specs.Limits.{trail_limit}
 use Rattle.sb_tenant.specs.Tenant.{Tenant, state}
-use Rattle.sb_view.specs.declared.counting.Counting.{Counting}
+use Rattle.sb_status.specs.declared.counting.Counting.{Counting}
 
 -- where the host's first tenant has this number: the tenant's own, the steps and the room of its trail, and how many rules it has
 pub record AreNumbersOf (first : ℕ) (own : Tenant) (numbers : TenantNumbers) : Type 0 where

@@ -3,18 +3,18 @@ ghost use Rattle.std.specs.Prelude.{◌≡◌, IfOk};
 ghost use Rattle.sb_tenant.specs.Limits.{session_count};
 ghost use Rattle.sb_tenant.specs.State.{session_at};
 ghost use Rattle.sb_tenant.specs.Tenant.{state};
-ghost use Rattle.sb_view.specs.Viewing.{AreSessionsOf, IsCopyOf, IsFoundView, IsViewOf, shown_as};
+ghost use Rattle.sb_status.specs.Viewing.{AreSessionsOf, IsCopyOf, IsFoundView, IsViewOf, shown_as};
 
 use crate::counting::numbers_of;
 use crate::graphing::graph_of;
 use crate::patience::Patience;
 use crate::tracing::RuleLines;
-use sb_catalog::{Definitions, Rule};
-use sb_host::{Host, Naming, Reading};
-use sb_status::{
+use crate::view::{
     ColumnView, RuleView, RulesetView, SessionState, SessionView, TableView, TenantView,
     TriggersView,
 };
+use sb_catalog::{Definitions, Rule};
+use sb_host::{Lending, Reading};
 use sb_tables::{Table, Tables};
 use sb_tenant::Tenant;
 use sb_value::{ColumnDefinition, ColumnType, Columns, Name, RuleSet, SESSION_LIMIT, SessionId};
@@ -30,7 +30,7 @@ struct Viewing {
 }
 
 impl Reading for Viewing {
-    ghost use Rattle.sb_view.specs.Viewing.{Copies};
+    ghost use Rattle.sb_status.specs.Viewing.{Copies};
 
     ghost reads = { Copies };
 
@@ -40,10 +40,10 @@ impl Reading for Viewing {
 }
 
 /// What a tenant is, with the lines that made its rules, unless its cell is busy for too long.
-pub fn view_at<T: Clock, N: Naming>(
+pub fn view_at<T: Clock, H: Lending>(
     patience: &mut Patience<'_, T>,
     alloc: Global,
-    host: &Host<N>,
+    host: H,
     first_tenant: u32,
     tenant: u32,
 ) -> Result<Option<TenantView>, AllocError>

@@ -1,10 +1,10 @@
 //! The numbers of a tenant, copied within the lock of its cell.
 ghost use Rattle.std.specs.Prelude.{◌≡◌, None, false};
 ghost use Rattle.sb_tenant.specs.Tenant.{state};
-ghost use Rattle.sb_view.specs.Counting.{AreNumbersOf};
+ghost use Rattle.sb_status.specs.Counting.{AreNumbersOf};
 
+use crate::view::TenantNumbers;
 use sb_host::Reading;
-use sb_status::TenantNumbers;
 use sb_tables::Tables;
 use sb_tenant::{TRAIL_LIMIT, Tenant};
 use sb_value::{SESSION_LIMIT, SessionId};
@@ -29,7 +29,7 @@ impl Counting {
 }
 
 impl Reading for Counting {
-    ghost use Rattle.sb_view.specs.Counting.{Notes};
+    ghost use Rattle.sb_status.specs.Counting.{Notes};
 
     ghost reads = { Notes };
 

@@ -1,5 +1,5 @@
 use Rattle.std.proofs.Common.{◌≡◌}
-use Rattle.sb_view.proofs.patience.Patience.read.Given as goal
+use Rattle.sb_status.proofs.patience.Patience.read.Given as goal
 
 -- what is read by is as it was
 abbrev pub invariant-loop : goal.invariant-loop

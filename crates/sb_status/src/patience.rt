@@ -2,7 +2,7 @@
 ghost use Rattle.std.specs.Prelude.{◌≡◌, ◌↔◌, ◌≤◌};
 ghost use Rattle.sb_host.specs.Lending.{Lends};
 
-use sb_host::{Host, Naming, Reading, Tried};
+use sb_host::{Lending, Reading, Tried};
 use std::rt::Clock;
 use std::thread;
 use std::time::Duration;
@@ -27,13 +27,8 @@ impl<'k, T: Clock> Patience<'k, T> {
     }
 
     /// Lends the tenant of that number to a reader, unless the lock of its cell is held for too long.
-    pub fn read<N: Naming, V: Reading>(
-        &mut self,
-        host: &Host<N>,
-        tenant: u32,
-        reading: &mut V,
-    ) -> Tried
-        ensures there { (result ≡ Tried.NoTenant) ↔ (host.now ≤ tenant) }
+    pub fn read<H: Lending, V: Reading>(&mut self, host: H, tenant: u32, reading: &mut V) -> Tried
+        ensures there { (result ≡ Tried.NoTenant) ↔ (H.tenants host ≤ tenant) }
         ensures read { result ≡ Tried.Read → Lends (V.reads reading.old) tenant reading.new }
         ensures none { (result ≡ Tried.Read → ⊥) → reading.new ≡ reading.old }
     {
