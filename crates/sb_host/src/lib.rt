@@ -20,5 +20,6 @@ pub use host::Host;
 pub use lending::Lending;
 pub use opening::Opened;
 pub use reading::{Reading, Tried};
-pub use sb_desk::{AttachError, CallError, Gate, Naming, NoGate, Receipt, Stub};
+pub use sb_desk::{AttachError, CallError, Calling, Gate, Hosting, Naming, NoGate, Receipt, Stub};
+pub use sb_value::{SESSION_LIMIT, SessionId};
 pub use session::Session;
