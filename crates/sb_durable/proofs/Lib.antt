@@ -13,3 +13,4 @@ mod Places
 mod Batches
 mod Pieces
 mod Shortened
+pub mod Sending

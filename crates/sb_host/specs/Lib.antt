@@ -5,3 +5,4 @@ pub mod Finish
 pub mod Comparing
 pub mod Parts
 pub mod Fields
+pub mod Desk

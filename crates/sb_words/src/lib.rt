@@ -13,6 +13,7 @@ mod severity;
 mod syncs;
 mod words;
 
+pub use clap::Error;
 pub use help::{ALLOWED, HELP, VERSION};
 pub use laws::words_ask_once;
 pub use part::{Part, Range, Unfit, Verb};

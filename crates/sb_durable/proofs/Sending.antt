@@ -1,0 +1,34 @@
+-- What the locks of a recorder hold may go from one thread to another.
+use denote.RattleType.{RattleType}
+use denote.Param.Send.{IsSend, sendable}
+use Rattle.std.proofs.Crossing.{crosses, frees}
+use Rattle.sqlite_disk.specs.declared.Disk as disk
+use Rattle.sqlite_disk.specs.declared.calls.Calls as calls
+use Rattle.sqlite_disk.specs.declared.start.Start as start
+use Rattle.sqlite_disk.specs.contracts.modelled.Modelled as Modelled
+use Rattle.sqlite_disk.specs.contracts.start.Wary as Wary
+use Rattle.sb_durable.proofs.book.Book.TheSendSync as book
+use Rattle.sb_durable.proofs.recorder.Callers.TheSendSync as callers
+use Rattle.sb_durable.specs.contracts.recorder.Callers as Callers
+use Rattle.sb_durable.specs.contracts.book.Book as Book
+use Rattle.sb_durable.proofs.system_file.Syncing.TheSendSync as syncing
+use Rattle.sb_durable.specs.contracts.noted.Noted as Noted
+use Rattle.sb_durable.specs.contracts.system_file.SystemFile as SystemFile
+
+pub callers_send : IsSend Callers.the_row
+callers_send = search (sendable, crosses, frees, callers.the_send) depth 40
+
+module _ (D : RattleType) (d : disk.Ghosts D.Denot) where
+  pub book_send : IsSend D → IsSend (Book.the_row D d)
+  book_send file = search (sendable, crosses, frees, book.the_send, file) depth 40
+
+-- the file of a path may be sent
+noted_send : IsSend Noted.the_row
+noted_send = search (sendable, crosses) depth 40
+
+pub file_send : IsSend SystemFile.the_row
+file_send = search (sendable, crosses, syncing.the_field_send, noted_send) depth 40
+
+module _ (c : calls.Ghosts (SystemFile.the_row).Denot) (s : start.Ghosts (Wary.the_row).Denot) where
+  pub opened_send : IsSend (Modelled.the_row SystemFile.the_row Wary.the_row c s)
+  opened_send = search (sendable, crosses, file_send) depth 40
