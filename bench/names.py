@@ -110,7 +110,7 @@ def words_of_users(text):
 
 def has_file(page, path, spans):
     """Whether the path leads somewhere from the top, the page or a crate that is named, with or without its ending."""
-    named = {TOP / "crates" / span.split("/")[0] for span in spans if span.startswith("sb_")}
+    named = {TOP / "crates" / span.split("/")[0] for span in spans if span.startswith(("sb_", "starhost"))}
     for begin in (TOP, TOP / "crates", page.parent, *named):
         if any((begin / f"{path}{end}").exists() for end in ("", ".antt", ".rt", ".md")):
             return True
@@ -127,7 +127,7 @@ def faults_of(page, code, words):
     others = words_of_users(page.read_text(encoding="utf-8")) | OTHERS if page.name in FOR_USERS else set()
     for part in re.split(r"\n\s*\n|\n(?=[-*|#] )", text):
         spans = SPAN.findall(part.replace("\n", " "))
-        crates = set(re.findall(r"\[(sb_\w+)\]", part)) if is_proved else set()
+        crates = set(re.findall(r"\[(sb_\w+|starhost)\]", part)) if is_proved else set()
         labels = set()
         for found in re.finditer(r"clauses? (`\w+`(?:(?:,| and|, and) `\w+`)*)", part.replace("\n", " ")):
             labels |= set(SPAN.findall(found[1]))

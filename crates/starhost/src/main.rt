@@ -1,7 +1,46 @@
 //! The program: lines of standard input answered on standard output, or a server on a port.
 #![tactic(auto)]
 
-use sb_command::{Console, command};
+mod activity;
+mod caller;
+mod closing;
+mod compacting;
+mod console;
+mod digesting;
+mod dumping;
+mod fault;
+mod flushing;
+mod folder;
+mod guarding;
+mod hearing;
+mod journal;
+mod journaled;
+mod keeping;
+mod key_list;
+mod key_source;
+mod key_watch;
+mod keys;
+mod listening;
+mod loading;
+mod memory;
+mod parsing;
+mod playing;
+mod program;
+mod recording;
+mod refusing;
+mod replaying;
+mod running;
+mod saving;
+mod script_source;
+mod server;
+mod showing;
+mod telling;
+mod terms;
+mod watching;
+mod writing;
+
+use crate::console::Console;
+use crate::program::command;
 use sb_wire::{Fallible, StreamError};
 use std::io::IsTerminal as _;
 use std::process::ExitCode;

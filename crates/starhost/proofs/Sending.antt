@@ -1,0 +1,24 @@
+-- What is shared by threads: a recorder, and what a status port shows.
+use denote.RattleType.{RattleType}
+use denote.Ref.{NamedLft}
+use denote.Param.Send.{IsSend, IsSync, sendable}
+use Rattle.std.proofs.Crossing.{crosses, sync}
+use Rattle.sb_durable.proofs.Sending.{book_send, callers_send}
+use Rattle.sb_durable.specs.contracts.book.Book as Book
+use Rattle.sb_durable.specs.contracts.recorder.Callers as Callers
+use Rattle.sb_durable.specs.contracts.recorder.Recorder as Recorder
+use Rattle.sb_server.proofs.board.Board.TheSendSync as board
+use Rattle.starhost.specs.contracts.showing.Pages as Pages
+
+-- a recorder may be shared where its host may: what its locks hold may go from one thread to another
+module _ (H D S : RattleType) (d : _) where
+  sync_of : IsSync H → IsSend (Book.the_row D d) → IsSend Callers.the_row → IsSync (Recorder.the_row H D S d)
+  sync_of host held waiting = search (sendable, crosses) depth 60
+
+  pub recorder_sync : IsSync H → IsSend D → IsSync (Recorder.the_row H D S d)
+  recorder_sync host file = sync_of host (book_send D d file) callers_send
+
+-- what a status port shows may be shared where its host, whom it admits and the system may
+module _ (H A T : RattleType) where
+  pub pages_sync : (κ : NamedLft) → IsSync H → IsSync A → IsSync T → IsSync (Pages.the_row κ H A T)
+  pages_sync κ host admission system = search (sendable, crosses, board.the_sync, sync) depth 60

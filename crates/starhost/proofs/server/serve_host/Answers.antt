@@ -1,0 +1,14 @@
+use Rattle.starhost.proofs.Servers.{ends_behind, tells_both}
+use Rattle.starhost.proofs.server.serve_host.Goals as goal
+
+pub returns-clause-ok : goal.returns-clause-ok
+returns-clause-ok g c =
+    let first = c.in-Ok-listen.ensures.ok in
+    tells_both (g.W.Write.contents c.args.writer.now) (g.W.Write.contents c.listen.new.writer) (g.W.Write.contents c.serve_by.new.writer)
+    g.N.Naming.bound c.args.opened.bound c.in-Ok.host c.args.opened.tenants first.0 c.serve_by.result c.requires.named.3 c.in-Ok.ensures first.1 c.serve_by.ensures.ok
+
+pub returns-clause-err : goal.returns-clause-err
+returns-clause-err g c =
+    let first = c.in-Ok-listen.ensures.ok in
+    ends_behind g.W.Sink.refuses g.W.Write.contents c.args.writer.now c.listen.new.writer c.serve_by.new.writer g.N.Naming.bound c.args.opened.bound c.in-Ok.host c.args.opened.tenants
+    c.args.plan.terms.first_tenant first.0 c.serve_by.result c.requires.named.3 c.in-Ok.ensures first.1 c.serve_by.ensures.err

@@ -1,0 +1,15 @@
+pub mod Terms
+pub mod Totals
+pub mod Parsing
+pub mod Digesting
+pub mod Dumping
+pub mod Loading
+pub mod Calling
+pub mod Saving
+pub mod Playing
+pub mod Does
+pub mod Faults
+pub mod Ends
+pub mod Journaled
+pub mod Showing
+pub mod Going

@@ -1,0 +1,22 @@
+-- Promise: what is written of the tenants of a host, and by which names.
+use Rattle.std.specs.Prelude.{◌≡◌, ◌⊎◌, ◌≤◌, ◌++◌, ℕ, true, List, [], codes, decimal}
+use Rattle.sb_dump.specs.Dumps.{Dumps, is_busy}
+use Rattle.sb_dump.specs.declared.dumps.DumpError.TheVariants.{Busy}
+use Rattle.sb_tenant.specs.Tenant.{Tenant, state}
+use Rattle.starhost.specs.declared.saving.Noted.{Noted}
+use Rattle.starhost.specs.declared.saving.Noted.TheVariants as noted
+
+-- a file of the tenant with a number, in a folder, by the ending of its name
+abbrev pub file_name : List ℕ → ℕ → List ℕ → List ℕ
+file_name folder number ending = folder ++ (codes "/" ++ (decimal number ++ ending))
+
+-- what a tenant has: a script of it, or the reason why there is none; and nothing where no session of it was ever opened
+abbrev pub IsNotedOf : ℕ → Tenant → Noted → Type 0
+IsNotedOf bound own noted.Unused = own.trail ≡ []
+IsNotedOf bound own (noted.Script script) = Dumps bound own script
+IsNotedOf bound own (noted.Lacking why) = why ≡ Busy → is_busy (state own) ≡ true
+
+-- of so many tenants there is none of that number; or a tenant of it has this
+abbrev pub IsNotedOfSome : ℕ → ℕ → ℕ → Noted → Type 0
+IsNotedOfSome bound tenants t found =
+    ((tenants ≤ t) × (found ≡ noted.Unused)) ⊎ ((own : Tenant) × (own.id ≡ t) × IsNotedOf bound own found)

@@ -1,0 +1,154 @@
+//! What the workers of a server have counted, as pages show it.
+
+use sb_server::{Board, Cause, Count, LIMITS, SlowLine};
+use sb_status::{
+    Activity, Bucket, HostNumbers, Refused, Rollbacks, SlowView, TenantNumbers, Times,
+    WorkerNumbers, host_page, metrics,
+};
+use std::alloc::{AllocError, Global};
+use std::sync::Wait;
+
+/// Nanoseconds.
+const MICROSECOND: u64 = 1_000;
+
+/// What was counted, copied from a board.
+#[derive(Drop)]
+struct Counted {
+    workers: Vec<WorkerNumbers>,
+    considerations: u64,
+    rollbacks: Rollbacks,
+    refusals: Vec<Refused>,
+    buckets: Vec<Bucket>,
+    others: u64,
+    micros: u64,
+    slowest: Vec<SlowLine>,
+}
+
+/// The page of a host with these tenants.
+pub(crate) fn page_of<T: Wait>(
+    rt: &T,
+    alloc: Global,
+    board: &Board,
+    host: HostNumbers<'_>,
+    tenants: &[TenantNumbers],
+) -> Result<Vec<u8>, AllocError> {
+    let counted = Counted::read(rt, alloc, board)?;
+    let slowest = counted.slowest(alloc)?;
+    host_page(alloc, host, counted.activity(slowest.as_slice()), tenants)
+}
+
+/// Its samples.
+pub(crate) fn samples_of<T: Wait>(
+    rt: &T,
+    alloc: Global,
+    board: &Board,
+    host: HostNumbers<'_>,
+    tenants: &[TenantNumbers],
+) -> Result<Vec<u8>, AllocError> {
+    let counted = Counted::read(rt, alloc, board)?;
+    metrics(alloc, host, counted.activity(&[]), tenants)
+}
+
+impl Counted {
+    fn read<T: Wait>(rt: &T, alloc: Global, board: &Board) -> Result<Counted, AllocError> {
+        let mut counted = Counted {
+            workers: Vec::new(alloc),
+            considerations: board.count(Count::Considerations),
+            rollbacks: rollbacks_of(board),
+            refusals: Vec::new(alloc),
+            buckets: Vec::new(alloc),
+            others: board.count(Count::Step(LIMITS.len())),
+            micros: board.count(Count::Steps) / MICROSECOND,
+            slowest: board.slowest(rt, alloc)?,
+        };
+        match counted.fill(board) {
+            Ok(()) => Ok(counted),
+            Err(error) => Err(error),
+        }
+    }
+
+    /// Adds what there may be more of.
+    fn fill(&mut self, board: &Board) -> Result<(), AllocError> {
+        add_workers(&mut self.workers, board)?;
+        add_refusals(&mut self.refusals, board)?;
+        add_buckets(&mut self.buckets, board)
+    }
+
+    /// The lines that took longest.
+    fn slowest(&self, alloc: Global) -> Result<Vec<SlowView<'_>>, AllocError> {
+        let mut views = Vec::new(alloc);
+        for line in self.slowest.as_slice() {
+            views.push(SlowView {
+                tenant: u64::from(line.named.tenant),
+                session: u64::from(line.named.session),
+                micros: line.nanos / MICROSECOND,
+                line: line.text(),
+            })?;
+        }
+        Ok(views)
+    }
+
+    /// All of it, with these lines.
+    fn activity<'v>(&'v self, slowest: &'v [SlowView<'v>]) -> Activity<'v> {
+        Activity {
+            workers: self.workers.as_slice(),
+            considerations: self.considerations,
+            rollbacks: self.rollbacks,
+            refusals: self.refusals.as_slice(),
+            times: Times {
+                buckets: self.buckets.as_slice(),
+                others: self.others,
+                micros: self.micros,
+            },
+            slowest,
+        }
+    }
+}
+
+fn add_workers(workers: &mut Vec<WorkerNumbers>, board: &Board) -> Result<(), AllocError> {
+    for place in 0..board.places() {
+        // what has ended is read first, so that it is never more than what began
+        let closed = board.count_at(place, Count::Closed);
+        workers.push(WorkerNumbers {
+            taken: board.count_at(place, Count::Connections),
+            closed,
+            lines: board.count_at(place, Count::Lines),
+            busy: board.count_at(place, Count::Busy) / MICROSECOND,
+        })?;
+    }
+    Ok(())
+}
+
+fn rollbacks_of(board: &Board) -> Rollbacks {
+    Rollbacks {
+        command: board.count(Count::Rollback(Cause::Command)),
+        rule: board.count(Count::Rollback(Cause::Rule)),
+        error: board.count(Count::Rollback(Cause::Error)),
+        limit: board.count(Count::Rollback(Cause::Limit)),
+        end: board.count(Count::Rollback(Cause::End)),
+    }
+}
+
+/// Those that were given.
+fn add_refusals(refusals: &mut Vec<Refused>, board: &Board) -> Result<(), AllocError> {
+    for number in 0..=u8::MAX {
+        let count = board.count(Count::Refusal(number));
+        if count > 0 {
+            refusals.push(Refused {
+                number: u64::from(number),
+                count,
+            })?;
+        }
+    }
+    Ok(())
+}
+
+fn add_buckets(buckets: &mut Vec<Bucket>, board: &Board) -> Result<(), AllocError> {
+    for (place, limit) in LIMITS.iter().enumerate() {
+        buckets.push(Bucket {
+            micros: *limit / MICROSECOND,
+            count: board.count(Count::Step(place)),
+        })?;
+    }
+    Ok(())
+}

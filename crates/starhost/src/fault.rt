@@ -1,0 +1,140 @@
+//! Why a server or a replay ended early, and the line that tells it.
+ghost use Rattle.std.specs.Prelude.{◌≡◌, ◌++◌, decimal, IfOk, OnOk};
+ghost use Rattle.starhost.specs.Faults.{TellsFault, fault_text, numbered_text, one_number_text};
+
+use crate::telling::fault;
+use sb_wire::{Sink, StreamError, push_labelled, write_bytes};
+use std::alloc::{AllocError, Global};
+
+const FAULT: u8 = 1;
+
+/// Why a server, a replay or a dump ended early.
+#[derive(Clone, Copy, Debug)]
+pub enum Fault {
+    /// Of the streams, or want of memory.
+    Stream(StreamError),
+    /// Nothing can listen at the port.
+    CannotListen,
+    /// The system has no place where a server may wait.
+    CannotWait,
+    /// It starts no thread.
+    CannotStart,
+    /// It doesn't tell any more what comes.
+    WaitingFailed,
+    /// The journal can't be opened, is another server's, or can't be played.
+    CannotOpenJournal,
+    /// What was answered couldn't be written to the journal.
+    JournalFailed,
+    /// A journal can't be written anew.
+    CannotWriteJournal,
+    /// This line of the input, counted from 1, is no command for a session of the host.
+    BadLine { line: u64 },
+    /// The host doesn't have the tenant.
+    NoTenant { tenant: u64 },
+    /// A session of the tenant has a transaction.
+    TenantBusy { tenant: u64 },
+    /// The tenant that its script makes isn't alike.
+    CannotDump { tenant: u64 },
+    /// A folder that is asked for isn't there.
+    NoFolder,
+    /// The file of keys can't be read.
+    NoKeys,
+    /// This line of the file of keys, counted from 1, names no key.
+    BadKeys { line: u64 },
+    /// The line of the input is no key.
+    BadKey,
+    /// The tenant's file can't be read, or a line of it isn't answered as a line of a script.
+    CannotLoad { tenant: u64 },
+    /// The tenant's file can't be written.
+    CannotWrite { tenant: u64 },
+    /// The session is open already, or its tenant's trail is full.
+    CannotAttach { tenant: u64, session: u32 },
+    /// The session has fewer receipts than its tenant's trail has entries of it.
+    TrailMissing { tenant: u64, session: u32 },
+    /// The session's receipts are others than those entries.
+    TrailMismatch { tenant: u64, session: u32 },
+}
+
+/// Tells a fault by its line, or want of memory where there is none for the line.
+pub fn tell_fault<E: Sink>(alloc: Global, why: Fault, errors: &mut E) -> u8
+    ensures status { result ≡ 1 }
+    ensures tells { TellsFault E.refuses E.contents errors.old errors.new why }
+{
+    match line_of(alloc, why) {
+        Ok(line) => {
+            let _told = write_bytes(errors, line.as_slice());
+            FAULT
+        }
+        Err(_) => fault(StreamError::NoMemory, errors),
+    }
+}
+
+/// The line of a fault.
+fn line_of(alloc: Global, why: Fault) -> Result<Vec<u8>, AllocError>
+    ensures { IfOk result (λ line. line.items ≡ fault_text why) }
+{
+    let mut line = Vec::new(alloc);
+    match push_fault(&mut line, why) {
+        Ok(()) => Ok(line),
+        Err(error) => Err(error),
+    }
+}
+
+/// The line of a fault, behind what there is.
+fn push_fault(line: &mut Vec<u8>, why: Fault) -> Result<(), AllocError>
+    ensures { OnOk result (line.new.items ≡ line.old.items ++ fault_text why) }
+{
+    match why {
+        Fault::Stream(error) => line.extend_from_slice(error.line()),
+        Fault::CannotListen => line.extend_from_slice(b"fault: cannot listen\n"),
+        Fault::CannotWait => line.extend_from_slice(b"fault: cannot wait\n"),
+        Fault::CannotStart => line.extend_from_slice(b"fault: cannot start a thread\n"),
+        Fault::WaitingFailed => line.extend_from_slice(b"fault: waiting failed\n"),
+        Fault::CannotOpenJournal => line.extend_from_slice(b"fault: cannot open journal\n"),
+        Fault::JournalFailed => line.extend_from_slice(b"fault: journal failed\n"),
+        Fault::CannotWriteJournal => line.extend_from_slice(b"fault: cannot write journal\n"),
+        Fault::BadLine { line: number } => push_number(line, b"fault: bad line ", number),
+        Fault::NoTenant { tenant } => push_number(line, b"fault: no tenant ", tenant),
+        Fault::TenantBusy { tenant } => push_number(line, b"fault: busy tenant ", tenant),
+        Fault::NoFolder => line.extend_from_slice(b"fault: no folder\n"),
+        Fault::NoKeys => line.extend_from_slice(b"fault: no keys\n"),
+        Fault::BadKeys { line: number } => push_number(line, b"fault: bad keys ", number),
+        Fault::BadKey => line.extend_from_slice(b"fault: bad key\n"),
+        Fault::CannotLoad { tenant } => push_number(line, b"fault: cannot load ", tenant),
+        Fault::CannotWrite { tenant } => push_number(line, b"fault: cannot write ", tenant),
+        Fault::CannotDump { tenant } => push_number(line, b"fault: cannot dump ", tenant),
+        Fault::CannotAttach { tenant, session } => {
+            push_session(line, b"fault: cannot attach ", tenant, session)
+        }
+        Fault::TrailMissing { tenant, session } => {
+            push_session(line, b"fault: trail missing ", tenant, session)
+        }
+        Fault::TrailMismatch { tenant, session } => {
+            push_session(line, b"fault: trail mismatch ", tenant, session)
+        }
+    }
+}
+
+/// Some text, and a number, to the end of the line.
+fn push_number(out: &mut Vec<u8>, label: &[u8], number: u64) -> Result<(), AllocError>
+    ensures { OnOk result (out.new.items ≡ out.old.items ++ one_number_text label.now number) }
+{
+    push_labelled(out, label, number)?;
+    out.push(b'\n')?;
+    Ok(())
+}
+
+/// Some text, and the numbers of a session, to the end of the line.
+fn push_session(
+    out: &mut Vec<u8>,
+    label: &[u8],
+    tenant: u64,
+    session: u32,
+) -> Result<(), AllocError>
+    ensures { OnOk result (out.new.items ≡ out.old.items ++ numbered_text label.now tenant session) }
+{
+    push_labelled(out, label, tenant)?;
+    push_labelled(out, b" ", u64::from(session))?;
+    out.push(b'\n')?;
+    Ok(())
+}

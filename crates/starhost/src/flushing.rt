@@ -1,0 +1,86 @@
+//! A file that is brought to the disk once a second.
+
+use crate::journal::Journal;
+use std::fs::{self, File};
+use std::io;
+use std::rt::{Clock, Files};
+use std::sync::Wait;
+use std::sync::atomic::{AtomicBool, Ordering};
+use std::thread::Parker;
+use std::time::Duration;
+
+/// How many seconds lie between two syncs.
+const PERIOD: u64 = 1;
+
+/// Brings what was written to a file to the disk, once a second.
+#[derive(Drop)]
+pub(crate) struct Flusher<'k, T> {
+    file: File,
+    journal: &'k Journal<'k, T>,
+    /// Something was written since the last sync.
+    is_behind: AtomicBool,
+    has_failed: AtomicBool,
+    /// Nothing is written any more.
+    is_over: AtomicBool,
+    parker: Parker,
+}
+
+impl<'k, T: Eprint + Clock> Flusher<'k, T> {
+    /// One for the file of this path, to which something was written.
+    pub(crate) fn open<R: Files<File = File>>(
+        rt: &R,
+        path: &str,
+        journal: &'k Journal<'k, T>,
+    ) -> io::Result<Flusher<'k, T>> {
+        Ok(Flusher {
+            file: fs::open(rt, path)?,
+            journal,
+            is_behind: AtomicBool::new(true),
+            has_failed: AtomicBool::new(false),
+            is_over: AtomicBool::new(false),
+            parker: Parker::new(),
+        })
+    }
+
+    /// Notes that something was written.
+    pub(crate) fn note(&self) {
+        self.is_behind.store(true, Ordering::SeqCst);
+    }
+
+    /// Whether a sync has failed.
+    pub(crate) fn has_failed(&self) -> bool {
+        self.has_failed.load(Ordering::SeqCst)
+    }
+
+    /// Has the syncs end behind a last one.
+    pub(crate) fn end(&self) {
+        self.is_over.store(true, Ordering::SeqCst);
+        self.parker.unpark();
+    }
+
+    /// Syncs once a second what was written, until it is to end, or a sync fails.
+    pub(crate) fn run<R: Wait>(&self, rt: &R) {
+        for _ in rt.forever() {
+            self.parker.park_timeout(rt, Duration::from_secs(PERIOD));
+            let is_last = self.is_over.load(Ordering::SeqCst);
+            if !self.flush() || is_last {
+                return;
+            }
+        }
+    }
+
+    /// Whether what was written is on the disk. Why not is told.
+    pub(crate) fn flush(&self) -> bool {
+        if !self.is_behind.swap(false, Ordering::SeqCst) {
+            return true;
+        }
+        match self.file.sync_data() {
+            Ok(()) => true,
+            Err(error) => {
+                self.journal.tell_not_recorded(&error);
+                self.has_failed.store(true, Ordering::SeqCst);
+                false
+            }
+        }
+    }
+}

@@ -1,0 +1,109 @@
+//! Files of tenants in a folder: one file for each, named by the tenant's number.
+ghost use Rattle.std.specs.Prelude.{◌≡◌, ◌+◌, IfOk, codes, string_bytes};
+ghost use Rattle.starhost.specs.Saving.{file_name};
+
+use crate::fault::Fault;
+use crate::journal::Journal;
+use sb_wire::StreamError;
+use std::alloc::{AllocError, Global};
+use std::fs;
+use std::fs::OpenFile as _;
+use std::io::{self, Write as _};
+use std::rt::{Clock, Files};
+
+/// A folder, and the number of the first tenant, as files are named.
+#[derive(Clone, Copy)]
+pub(crate) struct Folder<'a> {
+    pub(crate) path: &'a str,
+    pub(crate) first: u32,
+}
+
+impl<'a> Folder<'a> {
+    /// The number by which this tenant's file is named.
+    pub(crate) fn number_of(self, tenant: u32) -> u64
+        ensures { result ≡ self.entry.first + tenant }
+    {
+        u64::from(self.first) + u64::from(tenant)
+    }
+
+    /// The file of the tenant with this number.
+    pub(crate) fn file_of(self, alloc: Global, number: u64) -> Result<String, AllocError>
+        ensures { IfOk result (λ name. string_bytes name ≡ file_name self.entry.path.now number (codes ".lines")) }
+    {
+        let folder = self.path;
+        format!(in alloc; "{folder}/{number}.lines")
+    }
+
+    /// The file that is written in its place, and then gets its name.
+    fn new_file_of(self, alloc: Global, number: u64) -> Result<String, AllocError>
+        ensures { IfOk result (λ name. string_bytes name ≡ file_name self.entry.path.now number (codes ".lines.new")) }
+    {
+        let folder = self.path;
+        format!(in alloc; "{folder}/{number}.lines.new")
+    }
+
+    /// Whether there is a folder. Why there is none is written in the log.
+    pub(crate) fn is_found<R: Eprint + Clock + Files>(
+        self,
+        rt: &R,
+        journal: &Journal<'_, R>,
+    ) -> bool {
+        match fs::metadata(rt, self.path) {
+            Ok(found) => found.is_dir(),
+            Err(error) => {
+                journal.tell_no_folder(self.path, &error);
+                false
+            }
+        }
+    }
+
+    /// Writes the file of the tenant with this number. There is never a part of it under its name.
+    pub(crate) fn write<R: Files>(
+        self,
+        rt: &R,
+        alloc: Global,
+        number: u64,
+        text: &[u8],
+    ) -> Result<io::Result<()>, Fault> {
+        let Ok(path) = self.file_of(alloc, number) else {
+            return Err(Fault::Stream(StreamError::NoMemory));
+        };
+        let Ok(beside) = self.new_file_of(alloc, number) else {
+            return Err(Fault::Stream(StreamError::NoMemory));
+        };
+        Ok(write_beside(rt, self.path, beside.as_str(), path.as_str(), text))
+    }
+}
+
+/// Writes a file of a folder beside its name, and then gives it the name.
+fn write_beside<R: Files>(
+    rt: &R,
+    folder: &str,
+    beside: &str,
+    path: &str,
+    text: &[u8],
+) -> io::Result<()> {
+    match write_new(rt, beside, text) {
+        Ok(()) => {
+            fs::rename(rt, beside, path)?;
+            sync_folder(rt, folder)
+        }
+        Err(error) => {
+            // what is there of it is of no use
+            let _removed = fs::remove_file(rt, beside);
+            Err(error)
+        }
+    }
+}
+
+/// Brings the names of a folder to the disk.
+fn sync_folder<R: Files>(rt: &R, folder: &str) -> io::Result<()> {
+    fs::open(rt, folder)?.sync_all()
+}
+
+/// Writes a file, to the disk.
+fn write_new<R: Files>(rt: &R, path: &str, text: &[u8]) -> io::Result<()> {
+    let mut file = fs::create(rt, path)?;
+    file.write_all(text)?;
+    file.sync_all()
+}

@@ -1,0 +1,128 @@
+//! A run whose lines are in a journal before they are answered.
+ghost use Rattle.std.specs.Prelude.{◌≡◌, List, ℕ, false, is_ok, is_some, true, IfOk, IfSome, OnOk};
+ghost use Rattle.std.specs.Io.KnownBytes.{Appends};
+ghost use Rattle.starhost.specs.Journaled.{AnswersJournaled, IsBegun};
+ghost use Rattle.sb_words.specs.Within.{AreRun};
+
+use crate::fault::Fault;
+use crate::flushing::Flusher;
+use crate::journal::Journal as Log;
+use crate::recording::{Playing, syncing_of};
+use sb_cell::{Cell, ample_buckets};
+use sb_durable::{Disk, Head, PlayError, PlayFault, Recording, open_path, restart, run_recorded};
+use sb_wire::{Sink, Source, StreamError};
+use sb_words::{Paths, Run, Severity, Syncs};
+use std::alloc::Global;
+use std::fs::File;
+use std::rt::{Clock, Files};
+use std::sync::Wait;
+
+/// Has the tenants as a journal leaves them, and answers the lines of the input on them.
+pub(crate) fn run_journaled<T: Wait + Eprint + Clock + Files<File = File>, R: Source, W: Sink>(
+    rt: &T,
+    alloc: Global,
+    asked: Run,
+    paths: Paths<'_>,
+    reader: &mut R,
+    writer: &mut W,
+) -> Result<(), Fault>
+    requires { AreRun asked }
+    ensures { OnOk result (IfSome (R.remaining reader.old) (λ input. (text : List ℕ)
+        × Appends (W.contents writer.old) (W.contents writer.new) text
+        × AnswersJournaled asked.tenants asked.bound input text)) }
+{
+    let log = Log::new(rt, Severity::Info);
+    let Some(path) = paths.journal else {
+        return Err(Fault::CannotOpenJournal);
+    };
+    let head = Head {
+        tenants: asked.tenants,
+        bound: u64::from(asked.bound),
+    };
+    match open_path(rt, alloc, path, syncing_of(paths.syncs), head) {
+        Ok(journal) => {
+            let mut recording = Recording::new(journal);
+            let mut playing = Playing::new(rt, &log);
+            match restarted_cell(rt, alloc, asked, &mut recording, &mut playing) {
+                Ok(mut cell) => {
+                    let ended = run_recorded(alloc, reader, writer, &mut cell, &mut recording);
+                    match is_settled(rt, path, paths.syncs, &log) {
+                        true => end_by(&log, &recording, ended),
+                        false => Err(Fault::JournalFailed),
+                    }
+                }
+                Err(error) => {
+                    log.tell_no_journal(path, &error);
+                    Err(Fault::CannotOpenJournal)
+                }
+            }
+        }
+        Err(error) => {
+            log.tell_no_journal(path, &error);
+            Err(Fault::CannotOpenJournal)
+        }
+    }
+}
+
+/// A cell as the records of a journal make it.
+fn restarted_cell<T: Wait + Eprint + Clock, D: Disk>(
+    rt: &T,
+    alloc: Global,
+    asked: Run,
+    recording: &mut Recording<D>,
+    playing: &mut Playing<'_, T>,
+) -> Result<Cell, PlayError>
+    requires run { AreRun asked }
+    requires goes { is_some recording.old.fault ≡ false }
+    ensures cell { IfOk result (IsBegun asked.tenants asked.bound) }
+    ensures goes { is_some recording.new.fault ≡ false }
+{
+    let buckets = ample_buckets(asked.tenants);
+    let Ok(mut cell) = Cell::with_buckets(alloc, 0, 1, asked.tenants, asked.bound, buckets) else {
+        return Err(PlayError {
+            record: 1,
+            why: PlayFault::NoMemory,
+        });
+    };
+    match restart(rt, alloc, asked.tenants, &mut cell, recording, playing) {
+        Ok(_) => Ok(cell),
+        Err(error) => Err(error),
+    }
+}
+
+/// Whether the file is on the disk at the end, where it has to be. Why not is told.
+fn is_settled<T: Eprint + Clock + Files<File = File>>(
+    rt: &T,
+    path: &str,
+    syncs: Syncs,
+    log: &Log<'_, T>,
+) -> bool {
+    let Syncs::Second = syncs else {
+        return true;
+    };
+    match Flusher::open(rt, path, log) {
+        Ok(flusher) => flusher.flush(),
+        Err(error) => {
+            log.tell_not_recorded(&error);
+            false
+        }
+    }
+}
+
+/// How a run ends: by the journal's fault, if it has one, and else as its stream did.
+fn end_by<T: Eprint + Clock, D: Disk>(
+    log: &Log<'_, T>,
+    recording: &Recording<D>,
+    ended: Result<(), StreamError>,
+) -> Result<(), Fault>
+    ensures { OnOk result ((is_ok ended ≡ true) × (is_some recording.now.fault ≡ false)) }
+{
+    if let Some(error) = recording.fault {
+        log.tell_not_recorded(&error);
+        return Err(Fault::JournalFailed);
+    }
+    match ended {
+        Ok(()) => Ok(()),
+        Err(error) => Err(Fault::Stream(error)),
+    }
+}

@@ -1,0 +1,372 @@
+//! A server that keeps its tenants: in a journal, or in files that it reads before and writes behind.
+ghost use Rattle.std.specs.Prelude.{◌≡◌, ◌++◌, ◌<◌, ◌≤◌, List, ℕ, IfOk, OnOk};
+ghost use Rattle.std.specs.Io.KnownBytes.{Appends};
+ghost use Rattle.sb_host.specs.Opening.{AreNames};
+ghost use Rattle.starhost.specs.Totals.{TellsServer, TellsTrails, listening_line};
+ghost use Rattle.sb_words.specs.Within.{AreServer};
+
+use crate::closing::finish;
+use crate::fault::Fault;
+use crate::folder::Folder;
+use crate::journal::Journal;
+use crate::listening::listen;
+use crate::loading::load_all;
+use crate::memory::memory_file;
+use crate::saving::save_all;
+use crate::script_source::FolderScripts;
+use crate::server::{OUT_OF_MEMORY, opened_by, unserved};
+use crate::showing::Pages;
+use crate::terms::{Plan, plan_of};
+use crate::watching::{StatusPort, bound_to, serve_beside};
+use sb_host::{Host, Lending, Naming, Opened, Stub};
+use sb_server::{Acceptor, Admission, Beside, Board, Keeper, NoBeside, Open, Unkept, serve_all};
+use sb_wire::Sink;
+use sb_words::{Paths, Serving};
+use std::alloc::{AllocError, Global};
+use std::fs::File;
+use std::marker::Brand;
+use std::net::{Net, TcpListener, TcpStream};
+use std::rt::{Clock, Files};
+use std::sync::Wait;
+use std::thread::Threads;
+use std::time::Instant;
+
+/// Serves connections as a server does, on tenants that a journal or files keep.
+pub(crate) fn keep<
+    T: Threads
+        + Wait
+        + Net<Listener = TcpListener, Stream = TcpStream>
+        + Eprint
+        + Clock
+        + Files<File = File>
+        + Sync,
+    W: Sink,
+>(rt: &T, alloc: Global, serving: Serving, paths: Paths<'_>, writer: &mut W) -> Result<(), Fault>
+    requires { AreServer serving }
+    ensures { OnOk result ((text : List ℕ)
+        × Appends (W.contents writer.old) (W.contents writer.new) text
+        × TellsServer serving.hosting.run.bound serving.hosting.run.tenants text) }
+{
+    let plan = plan_of(serving);
+    match opened_by(alloc, plan) {
+        Ok(opened) => keep_host::<Brand, T, W>(rt, alloc, opened, plan, paths, writer),
+        Err(_) => Err(OUT_OF_MEMORY),
+    }
+}
+
+/// Serves a host of these parts.
+fn keep_host<
+    N: Naming + Send + Sync,
+    T: Threads
+        + Wait
+        + Net<Listener = TcpListener, Stream = TcpStream>
+        + Eprint
+        + Clock
+        + Files<File = File>
+        + Sync,
+    W: Sink,
+>(
+    rt: &T,
+    alloc: Global,
+    opened: Opened,
+    plan: Plan,
+    paths: Paths<'_>,
+    writer: &mut W,
+) -> Result<(), Fault>
+    requires named { AreNames N.table N.tenants N.cells N.bound N.name N.parts opened }
+    requires cells { opened.cells ≡ plan.cells }
+    requires bound { plan.bound ≤ 1000 }
+    requires workers { (0 < plan.terms.workers) × (plan.terms.workers ≤ 16) }
+    ensures { OnOk result ((text : List ℕ)
+        × Appends (W.contents writer.old) (W.contents writer.new) text
+        × TellsServer opened.bound opened.tenants text) }
+{
+    let Ok(host) = Host::<N>::new(alloc, opened) else {
+        return Err(OUT_OF_MEMORY);
+    };
+    let journal = Journal::new(rt, plan.log);
+    let Some(board) = board_of(rt, alloc, plan) else {
+        return Err(OUT_OF_MEMORY);
+    };
+    let keeping = Keeping {
+        rt,
+        alloc,
+        host: &host,
+        plan,
+        paths,
+        journal: &journal,
+        board: &board,
+    };
+    let served = match keeping.serve(writer) {
+        Ok(served) => served,
+        Err(why) => return Err(why),
+    };
+    finish_served(alloc, host, plan.terms.first_tenant, served, writer)
+}
+
+/// Where the workers count, if somebody may look. None where there is no memory for it.
+fn board_of<T: Clock>(rt: &T, alloc: Global, plan: Plan) -> Option<Board> {
+    if plan.status.is_none() {
+        return Some(Board::blank(alloc));
+    }
+    let terms = plan.terms;
+    let began = Instant::now(rt).ok();
+    Board::new(
+        alloc,
+        terms.workers,
+        began,
+        terms.first_tenant,
+        plan.tenants,
+    )
+    .ok()
+}
+
+/// Finishes the host with what its sessions left. Where that goes well and the files weren't written, that is the fault.
+fn finish_served<N: Naming, W: Sink>(
+    alloc: Global,
+    host: Host<N>,
+    first_tenant: u32,
+    served: Served,
+    writer: &mut W,
+) -> Result<(), Fault>
+    ensures { OnOk result ((line : List ℕ)
+        × Appends (W.contents writer.old) (W.contents writer.new) line
+        × TellsTrails N.bound host line) }
+{
+    let Served { stubs, saved } = served;
+    match finish(alloc, host, first_tenant, stubs, writer) {
+        Ok(()) => saved,
+        Err(why) => Err(why),
+    }
+}
+
+/// What is at hand while a server keeps its tenants.
+#[derive(Drop)]
+pub(crate) struct Keeping<'k, H, T> {
+    pub(crate) rt: &'k T,
+    pub(crate) alloc: Global,
+    pub(crate) host: H,
+    pub(crate) plan: Plan,
+    pub(crate) paths: Paths<'k>,
+    pub(crate) journal: &'k Journal<'k, T>,
+    pub(crate) board: &'k Board,
+    ghost bound: { plan.bound ≤ 1000 },
+    ghost workers: { (0 < plan.terms.workers) × (plan.terms.workers ≤ 16) },
+}
+
+/// Whom a server admits, and what is done beside it for that.
+#[derive(Drop)]
+pub(crate) struct Gate<'a, 'g, A, G> {
+    pub(crate) admission: &'a A,
+    pub(crate) beside: &'g G,
+}
+
+/// What is left where no connection comes any more.
+#[derive(Drop)]
+pub(crate) struct Served {
+    /// The receipts of all sessions.
+    stubs: Vec<Stub>,
+    /// Whether the files were written.
+    saved: Result<(), Fault>,
+}
+
+impl<
+    'k,
+    H: Lending + Sync,
+    T: Threads
+        + Wait
+        + Net<Listener = TcpListener, Stream = TcpStream>
+        + Eprint
+        + Clock
+        + Files<File = File>
+        + Sync,
+> Keeping<'k, H, T>
+where
+    H::Session: Send,
+{
+    /// Has the tenants as they were kept, and serves connections until none comes any more.
+    fn serve<W: Sink>(&self, writer: &mut W) -> Result<Served, Fault>
+        ensures { OnOk result ((port : ℕ)
+            × Appends (W.contents writer.old) (W.contents writer.new) (listening_line port)) }
+    {
+        let loaded = match self.prepare() {
+            Ok(stubs) => stubs,
+            Err(why) => return Err(why),
+        };
+        match self.paths.keys {
+            Some(path) => self.with_keys(path, loaded, writer),
+            None => {
+                let gate = Gate::<Open, NoBeside> {
+                    admission: &Open,
+                    beside: &NoBeside,
+                };
+                self.admit(gate, loaded, writer)
+            }
+        }
+    }
+
+    /// Serves whom this admits, with the journal that is asked for.
+    pub(crate) fn admit<A: Admission + Sync, G: Beside, W: Sink>(
+        &self,
+        gate: Gate<'_, '_, A, G>,
+        loaded: Vec<Stub>,
+        writer: &mut W,
+    ) -> Result<Served, Fault>
+        ensures { OnOk result ((port : ℕ)
+            × Appends (W.contents writer.old) (W.contents writer.new) (listening_line port)) }
+    {
+        match self.paths.journal {
+            Some(path) => self.record(path, gate, writer),
+            None => self.serve_with(gate, &Unkept, loaded, writer),
+        }
+    }
+
+    /// Serves whom this admits, with this keeper. Behind the last connection the tenants are written to their files.
+    pub(crate) fn serve_with<A: Admission + Sync, G: Beside, K: Keeper + Sync, W: Sink>(
+        &self,
+        gate: Gate<'_, '_, A, G>,
+        keeper: &K,
+        loaded: Vec<Stub>,
+        writer: &mut W,
+    ) -> Result<Served, Fault>
+        ensures { OnOk result ((port : ℕ)
+            × Appends (W.contents writer.old) (W.contents writer.new) (listening_line port)) }
+    {
+        let port = match self.status_port(gate.admission) {
+            Ok(port) => port,
+            Err(why) => return Err(why),
+        };
+        let listener = match listen(self.rt, self.alloc, self.plan.address, self.journal, writer) {
+            Ok(listener) => listener,
+            Err(why) => return Err(why),
+        };
+        self.serve_at(&listener, &port, gate, keeper, loaded)
+    }
+
+    /// Serves the connections of this port, and shows what there is at the other one.
+    pub(crate) fn serve_at<A: Admission + Sync, G: Beside, K: Keeper + Sync>(
+        &self,
+        listener: &TcpListener,
+        port: &Option<StatusPort<Pages<'_, H, A, T>>>,
+        gate: Gate<'_, '_, A, G>,
+        keeper: &K,
+        loaded: Vec<Stub>,
+    ) -> Result<Served, Fault> {
+        let acceptor = Acceptor {
+            listener,
+            watch: self.journal,
+            admission: gate.admission,
+            keeper,
+            board: self.board,
+            terms: self.plan.terms,
+        };
+        let served = match port {
+            Some(port) => {
+                serve_beside(self.rt, self.alloc, &acceptor, self.host, port, gate.beside)
+            }
+            None => serve_all(self.rt, self.alloc, &acceptor, self.host, gate.beside),
+        };
+        let stubs = match served {
+            Ok(stubs) => stubs,
+            Err(error) => return Err(unserved(error)),
+        };
+        match together(loaded, stubs) {
+            Ok(stubs) => Ok(Served {
+                stubs,
+                saved: self.save(),
+            }),
+            Err(_) => Err(OUT_OF_MEMORY),
+        }
+    }
+
+    /// Listens at the status port, if there is to be one.
+    pub(crate) fn status_port<'a, A: Admission>(
+        &'a self,
+        admission: &'a A,
+    ) -> Result<Option<StatusPort<Pages<'a, H, A, T>>>, Fault> {
+        let Some(address) = self.plan.status else {
+            return Ok(None);
+        };
+        match bound_to(self.rt, address) {
+            Ok((listener, port)) => {
+                self.journal.tell_status(port);
+                Ok(Some(StatusPort::new(listener, self.pages(admission))))
+            }
+            Err(error) => {
+                self.journal.tell_cannot_listen(address.port(), &error);
+                Err(Fault::CannotListen)
+            }
+        }
+    }
+
+    /// What is shown at the status port.
+    fn pages<'a, A: Admission>(&'a self, admission: &'a A) -> Pages<'a, H, A, T> {
+        Pages {
+            rt: self.rt,
+            alloc: self.alloc,
+            host: self.host,
+            admission,
+            first_tenant: self.plan.terms.first_tenant,
+            bound: self.plan.bound,
+            began: Instant::now(self.rt).ok(),
+            memory: memory_file(self.rt),
+            board: self.board,
+        }
+    }
+
+    /// Looks for the folders, and makes the tenants from their files.
+    fn prepare(&self) -> Result<Vec<Stub>, Fault> {
+        if let Some(path) = self.paths.dump_to {
+            if !folder_at(self.plan, path).is_found(self.rt, self.journal) {
+                return Err(Fault::NoFolder);
+            }
+        }
+        let Some(path) = self.paths.load else {
+            return Ok(Vec::new(self.alloc));
+        };
+        let folder = folder_at(self.plan, path);
+        if !folder.is_found(self.rt, self.journal) {
+            return Err(Fault::NoFolder);
+        }
+        let scripts = FolderScripts {
+            rt: self.rt,
+            folder,
+            journal: self.journal,
+        };
+        load_all(self.rt, self.alloc, self.host, folder.first, &scripts)
+    }
+
+    /// Writes the tenants to their files, if that is asked for.
+    fn save(&self) -> Result<(), Fault> {
+        match self.paths.dump_to {
+            Some(path) => save_all(
+                self.rt,
+                self.alloc,
+                self.host,
+                self.plan.bound,
+                folder_at(self.plan, path),
+                self.journal,
+            ),
+            None => Ok(()),
+        }
+    }
+}
+
+/// The folder at this path, whose files are named by the numbers of the plan.
+fn folder_at(plan: Plan, path: &str) -> Folder<'_>
+    ensures { (result.path.now ≡ path.now) × (result.first ≡ plan.terms.first_tenant) }
+{
+    Folder {
+        path,
+        first: plan.terms.first_tenant,
+    }
+}
+
+/// All receipts in one list.
+fn together(first: Vec<Stub>, mut others: Vec<Stub>) -> Result<Vec<Stub>, AllocError>
+    ensures { IfOk result (λ all. all.items ≡ first.items ++ others.items) }
+{
+    let mut all = first;
+    all.append(&mut others)?;
+    Ok(all)
+}

@@ -1,0 +1,313 @@
+//! Tenants of a cell, made from the files of a folder.
+ghost use Rattle.std.specs.Prelude.{◌≡◌, ◌⊎◌, ◌∷◌, ◌↔◌, [], List, ℕ, false, IfErr, IfOk, IsTrue, OnErr, OnOk};
+ghost use Rattle.sb_cell.specs.Tenants.{IsNew};
+ghost use Rattle.starhost.specs.Loading.{IsLoaded, IsLoadedFrom, IsUnloaded};
+ghost use Rattle.starhost.specs.Playing.{HasLines, IsPlayed, IsSettled, IsStarted, IsTaken, MayEnd, PlaysBy, RefusesLine, Sends, TakesLine};
+ghost use Rattle.starhost.specs.declared.fault.Fault.TheVariants as fault;
+ghost use Rattle.sb_tenant.specs.State.{session_at};
+ghost use Rattle.sb_tenant.specs.Tenant.{state};
+ghost use Rattle.sb_wire.specs.Seen.{piece_seen};
+ghost use Rattle.sb_wire.specs.declared.fault.StreamError.TheVariants as stream;
+ghost use Rattle.sb_words.specs.Within.{AreRun};
+
+use crate::dumping::Nowhere;
+use crate::fault::Fault;
+use crate::folder::Folder;
+use crate::journal::Journal;
+use crate::script_source::{FolderScripts, ScriptSource, Unopened};
+use sb_cell::{Cell, ample_buckets};
+use sb_host::SessionId;
+use sb_tenant::{Reply, Tenant};
+use sb_wire::{Fallible, Piece, Responder, StreamError, answer_stream, write_bare_reply};
+use sb_words::{Run, Severity};
+use std::alloc::{AllocError, Global};
+use std::io::Read;
+use std::rt::{Clock, Files};
+
+/// How far a file is played.
+#[derive(Drop)]
+pub(crate) struct Progress {
+    /// The newest line, counted from 1.
+    pub(crate) line: u64,
+    /// It wasn't answered as a line of a script is.
+    pub(crate) is_bad: bool,
+    /// What it was answered then.
+    pub(crate) told: Vec<u8>,
+}
+
+impl Progress {
+    pub(crate) fn new(alloc: Global) -> Progress
+        ensures { result.is_bad ≡ false }
+    {
+        Progress {
+            line: 0,
+            is_bad: false,
+            told: Vec::new(alloc),
+        }
+    }
+}
+
+/// Why a file wasn't played to its end.
+#[derive(Drop)]
+pub(crate) enum Unplayed {
+    /// There is no session for it.
+    NoSession,
+    /// The file can't be read, or memory ran out.
+    Stream(StreamError),
+    /// A line, counted from 1, was answered so.
+    Line { line: u64, told: Vec<u8> },
+    /// It stops inside a transaction.
+    InTransaction,
+    /// It ends its session.
+    Ended,
+}
+
+/// Whether a line of a script is answered so.
+pub(crate) fn is_taken(reply: &Reply) -> bool
+    ensures { IsTrue result ↔ IsTaken reply.now }
+{
+    match reply {
+        Reply::Ok | Reply::Count(_) => true,
+        Reply::Done(trace) => trace.as_slice().is_empty(),
+        _ => false,
+    }
+}
+
+/// Why a script may not end where a tenant's first session stands so.
+pub(crate) fn unsettled(tenant: &Tenant) -> Option<Unplayed>
+    ensures { MayEnd (session_at (state tenant.now) 0) result }
+{
+    let first = SessionId::new(0);
+    if tenant.has_transaction(first) {
+        return Some(Unplayed::InTransaction);
+    }
+    if !tenant.is_open(first) {
+        return Some(Unplayed::Ended);
+    }
+    None
+}
+
+/// A cell of fresh tenants, each of which was sent the lines of its file.
+pub(crate) fn loaded_cell<T: Eprint + Clock + Files>(
+    rt: &T,
+    alloc: Global,
+    run: Run,
+    load: Option<&str>,
+) -> Result<Cell, Fault>
+    requires { AreRun run }
+    ensures ok { IfOk result (IsLoaded run.tenants run.bound) }
+    ensures err { IfErr result (IsUnloaded run.tenants) }
+{
+    let journal = Journal::new(rt, Severity::Info);
+    let Some(path) = load else {
+        return Err(Fault::NoFolder);
+    };
+    let folder = Folder { path, first: 0 };
+    if !folder.is_found(rt, &journal) {
+        return Err(Fault::NoFolder);
+    }
+    let buckets = ample_buckets(run.tenants);
+    let Ok(mut cell) = Cell::with_buckets(alloc, 0, 1, run.tenants, run.bound, buckets) else {
+        return Err(Fault::Stream(StreamError::NoMemory));
+    };
+    let scripts = FolderScripts {
+        rt,
+        folder,
+        journal: &journal,
+    };
+    match load_each(alloc, &mut cell, run, &scripts) {
+        Ok(()) => Ok(cell),
+        Err(why) => Err(why),
+    }
+}
+
+/// Plays the file of each tenant that has one.
+fn load_each<F: Read + Drop, S: ScriptSource<F>>(
+    alloc: Global,
+    cell: &mut Cell,
+    run: Run,
+    scripts: &S,
+) -> Result<(), Fault>
+    requires { IsNew 0 1 run.tenants run.bound cell.old }
+    ensures ok { OnOk result (IsLoadedFrom (S.files scripts.now) run.tenants run.bound cell.new) }
+    ensures err { IfErr result (IsUnloaded run.tenants) }
+{
+    for tenant in 0..run.tenants {
+        match load_one(alloc, cell, scripts, tenant) {
+            Ok(()) => {}
+            Err(why) => return Err(why),
+        }
+    }
+    Ok(())
+}
+
+/// Plays the file of a tenant, if there is one.
+fn load_one<F: Read + Drop, S: ScriptSource<F>>(
+    alloc: Global,
+    cell: &mut Cell,
+    scripts: &S,
+    tenant: u32,
+) -> Result<(), Fault>
+    ensures ok { OnOk result (IsStarted tenant (S.files scripts.now tenant) cell.old cell.new) }
+    ensures err { IfErr result (λ why. (why ≡ fault.Stream stream.NoMemory) ⊎ (why ≡ fault.CannotLoad tenant)) }
+{
+    match scripts.open(alloc, tenant) {
+        Ok(Some(file)) => match play(alloc, cell, tenant, file) {
+            Ok(()) => Ok(()),
+            Err(why) => {
+                scripts.note(tenant, &why);
+                Err(Fault::CannotLoad {
+                    tenant: u64::from(tenant),
+                })
+            }
+        },
+        Ok(None) => Ok(()),
+        Err(Unopened::CannotRead) => Err(Fault::CannotLoad {
+            tenant: u64::from(tenant),
+        }),
+        Err(Unopened::NoMemory) => Err(Fault::Stream(StreamError::NoMemory)),
+    }
+}
+
+/// Plays a file in the first session of a tenant, which is opened before and ended behind.
+fn play<F: Read + Drop>(
+    alloc: Global,
+    cell: &mut Cell,
+    tenant: u32,
+    file: F,
+) -> Result<(), Unplayed>
+    ensures { OnOk result (IsPlayed tenant (F.remaining file) cell.old cell.new) }
+{
+    match send_own(alloc, cell, tenant, b"open") {
+        Ok(()) => {}
+        Err(why) => return Err(why),
+    }
+    match play_lines(alloc, cell, tenant, file) {
+        Ok(()) => {}
+        Err(why) => return Err(why),
+    }
+    send_own(alloc, cell, tenant, b"end")
+}
+
+/// Opens the session, or ends it.
+fn send_own(alloc: Global, cell: &mut Cell, tenant: u32, line: &[u8]) -> Result<(), Unplayed>
+    ensures { OnOk result (Sends tenant (line.now ∷ []) cell.old cell.new) }
+{
+    match send(alloc, cell, tenant, line) {
+        Ok(()) => Ok(()),
+        Err(told) => {
+            drop(told);
+            Err(Unplayed::NoSession)
+        }
+    }
+}
+
+/// Sends the lines of a file, behind which the tenant's session stands between two transactions.
+fn play_lines<F: Read + Drop>(
+    alloc: Global,
+    cell: &mut Cell,
+    tenant: u32,
+    file: F,
+) -> Result<(), Unplayed>
+    ensures { OnOk result ((lines : List (List ℕ)) × HasLines (F.remaining file) lines × Sends tenant lines cell.old cell.new
+        × IsSettled tenant cell.new) }
+{
+    let mut reader = Fallible { inner: file };
+    let mut progress = Progress::new(alloc);
+    let player = Player { tenant };
+    let ended = answer_stream(
+        alloc,
+        &mut reader,
+        &mut Nowhere,
+        &player,
+        cell,
+        &mut progress,
+    );
+    let Progress { line, is_bad, told } = progress;
+    if is_bad {
+        return Err(Unplayed::Line { line, told });
+    }
+    match ended {
+        Ok(()) => check_end(cell, tenant),
+        Err(error) => Err(Unplayed::Stream(error)),
+    }
+}
+
+/// Whether a script may end where the tenant's session stands so.
+fn check_end(cell: &Cell, tenant: u32) -> Result<(), Unplayed>
+    ensures { OnOk result (IsSettled tenant cell.now) }
+{
+    match cell.tenant(tenant) {
+        Some(own) => match unsettled(own) {
+            Some(why) => Err(why),
+            None => Ok(()),
+        },
+        None => Err(Unplayed::NoSession),
+    }
+}
+
+/// Sends lines to a tenant in its first session, until one isn't answered as a line of a script is.
+#[derive(Drop)]
+struct Player {
+    tenant: u32,
+}
+
+impl Responder<Cell, Progress> for Player {
+    ghost use Rattle.starhost.specs.Playing.{Plays};
+
+    ghost responds = { λ p. Plays p.tenant };
+
+    ghost over = { λ s. s.1.is_bad };
+
+    fn respond(
+        &self,
+        alloc: Global,
+        piece: Piece<'_>,
+        _out: &mut Vec<u8>,
+        first: &mut Cell,
+        second: &mut Progress,
+    ) -> Result<(), AllocError> {
+        play_line(alloc, piece, self.tenant, first, second);
+        Ok(())
+    }
+
+    fn is_over(&self, _first: &Cell, second: &Progress) -> bool {
+        second.is_bad
+    }
+}
+
+/// Sends a line.
+fn play_line(alloc: Global, piece: Piece<'_>, tenant: u32, cell: &mut Cell, progress: &mut Progress)
+    ensures { PlaysBy progress.new.is_bad tenant cell.old (piece_seen piece.entry) cell.new }
+{
+    progress.line = progress.line.saturating_add(1);
+    progress.is_bad = true;
+    let Piece::Line(line) = piece else {
+        return;
+    };
+    match send(alloc, cell, tenant, line) {
+        Ok(()) => progress.is_bad = false,
+        Err(told) => progress.told = told,
+    }
+}
+
+/// Sends a line to a tenant in its first session, or gives what it was answered where it isn't taken.
+fn send(alloc: Global, cell: &mut Cell, tenant: u32, line: &[u8]) -> Result<(), Vec<u8>>
+    ensures ok { OnOk result (TakesLine tenant cell.old line.now cell.new) }
+    ensures err { OnErr result (RefusesLine tenant cell.old line.now cell.new) }
+{
+    match cell.step(alloc, tenant, 0, line) {
+        Ok(answer) => match is_taken(&answer.reply) {
+            true => Ok(()),
+            false => Err(told(alloc, &answer.reply)),
+        },
+        Err(_) => Err(Vec::new(alloc)),
+    }
+}
+
+/// The text of a reply. Where there is no memory for it, there is none.
+pub(crate) fn told(alloc: Global, reply: &Reply) -> Vec<u8> {
+    let mut text = Vec::new(alloc);
+    let _told = write_bare_reply(&mut text, reply);
+    text
+}

@@ -1,0 +1,266 @@
+//! What a command line is answered.
+ghost use Rattle.std.specs.Prelude.{◌≡◌, ◌≤◌, ◌⊎◌, List, ℕ, IfSome, length, map};
+ghost use Rattle.std.specs.Io.KnownBytes.{Appends};
+ghost use Rattle.sb_wire.specs.Stream.{AnswersFresh};
+ghost use Rattle.starhost.specs.Does.{GoesFresh, Shows, Tells, TellsRun, status_of};
+ghost use Rattle.sb_wire.specs.Faults.{fault_line};
+ghost use Rattle.starhost.specs.Faults.{TellsEnd};
+ghost use Rattle.starhost.specs.Parsing.{TellsLines};
+ghost use Rattle.sb_replay.specs.Replay.{Replays};
+ghost use Rattle.starhost.specs.Totals.{TellsServer};
+ghost use Rattle.starhost.specs.Digesting.{TellsDigest};
+ghost use Rattle.starhost.specs.Dumping.{DumpsInput, HaveScripts};
+ghost use Rattle.starhost.specs.Going.{Goes, Succeeds};
+ghost use Rattle.starhost.specs.Journaled.{AnswersJournaled};
+ghost use Rattle.starhost.specs.Loading.{AnswersLoaded};
+ghost use Rattle.sb_words.specs.declared.request.Dumping.{Dumping as ItsDumping};
+ghost use Rattle.sb_words.specs.declared.request.Hosting.{Hosting as ItsHosting};
+ghost use Rattle.sb_words.specs.declared.request.Request.{Request as ItsRequest};
+ghost use Rattle.sb_words.specs.declared.request.Request.TheVariants as request;
+ghost use Rattle.sb_words.specs.declared.request.Run.{Run as ItsRun};
+ghost use Rattle.sb_words.specs.declared.request.Serving.{Serving as ItsServing};
+ghost use Rattle.sb_words.specs.Within.{AreRun, IsWithin};
+ghost use Rattle.sb_words.specs.Words.{AskFor, AskForHelp, AskForVersion, HasFault, HaveUnfit};
+ghost use Rattle.sb_words.specs.declared.part.Unfit.{Unfit as ItsUnfit};
+ghost use Rattle.sb_words.specs.Refusals.{refusal_text};
+
+use crate::compacting::compact;
+use crate::console::Console;
+use crate::digesting::tell_digest;
+use crate::dumping::dump_tenant;
+use crate::fault::{Fault, tell_fault};
+use crate::journaled::run_journaled;
+use crate::keeping::keep;
+use crate::parsing::parse_lines;
+use crate::refusing::{refuse, refuse_part};
+use crate::replaying::replay;
+use crate::running::run_loaded;
+use crate::server::serve;
+use crate::telling::{SUCCESS, fault, tell_run, tell_stream_end};
+use crate::writing::dump_all;
+use sb_wire::{Sink, Source, StreamError, Summary, run_fresh, write_bytes};
+use sb_words::{ALLOWED, Asked, HELP, Paths, Request, Run, VERSION, read_words, words_ask_once};
+use std::alloc::Global;
+use std::convert::AsStr;
+use std::fs::File;
+use std::net::{Net, TcpListener, TcpStream};
+use std::rt::{Clock, Files};
+use std::sync::Wait;
+use std::thread::Threads;
+
+/// Does what the program's words ask for, and gives its status.
+pub fn command<
+    T: Threads
+        + Wait
+        + Net<Listener = TcpListener, Stream = TcpStream>
+        + Eprint
+        + Clock
+        + Files<File = File>
+        + Sync,
+    S: AsStr,
+    R: Source,
+    W: Sink,
+    E: Sink,
+>(rt: &T, alloc: Global, words: &[S], reader: &mut R, writer: &mut W, errors: &mut Console<E>) -> u8
+    // with status 0, words that ask for a run have the definition's text for the input
+    ensures runs { (r : ItsRun) → AskFor (map S.text words.now) (request.Run r)
+        → result ≡ 0 → IfSome (R.remaining reader.old) (λ input. (text : List ℕ)
+        × Appends (W.contents writer.old) (W.contents writer.new) text
+        × AnswersFresh r.tenants r.bound input text) }
+    ensures usual { length words.now ≤ 1 → result ≡ 0 → IfSome (R.remaining reader.old)
+        (λ input. (text : List ℕ) × Appends (W.contents writer.old) (W.contents writer.new) text
+        × AnswersFresh 16 1000 input text) }
+    // and words that ask for a server its port and its trails
+    ensures serves { (s : ItsServing) → AskFor (map S.text words.now) (request.Serve s)
+        → result ≡ 0 → (text : List ℕ)
+        × Appends (W.contents writer.old) (W.contents writer.new) text
+        × TellsServer s.hosting.run.bound s.hosting.run.tenants text }
+    // and words that ask for a replay what the sessions of the input were answered
+    ensures replays { (h : ItsHosting) → AskFor (map S.text words.now) (request.Replay h)
+        → result ≡ 0 → IfSome (R.remaining reader.old) (λ input. (text : List ℕ)
+        × Appends (W.contents writer.old) (W.contents writer.new) text
+        × Replays h.run.tenants h.run.bound input text) }
+    // and words that ask for it which lines of the input are commands
+    ensures parses { AskFor (map S.text words.now) request.Parse
+        → result ≡ 0 → IfSome (R.remaining reader.old) (λ input. (text : List ℕ)
+        × Appends (W.contents writer.old) (W.contents writer.new) text × TellsLines input text) }
+    // and words that ask for a dump the script of a tenant, as the input leaves it
+    ensures dumps { (d : ItsDumping) → AskFor (map S.text words.now) (request.Dump d)
+        → result ≡ 0 → IfSome (R.remaining reader.old) (λ input. (text : List ℕ)
+        × Appends (W.contents writer.old) (W.contents writer.new) text
+        × DumpsInput d.run.tenants d.run.bound d.tenant input text) }
+    // and words that ask for a server with files what a server has
+    ensures keeps { (s : ItsServing) → AskFor (map S.text words.now) (request.Keep s)
+        → result ≡ 0 → (text : List ℕ)
+        × Appends (W.contents writer.old) (W.contents writer.new) text
+        × TellsServer s.hosting.run.bound s.hosting.run.tenants text }
+    // and words that ask for a run on files what it is answered on tenants that scripts made
+    ensures loads { (r : ItsRun) → AskFor (map S.text words.now) (request.Load r)
+        → result ≡ 0 → IfSome (R.remaining reader.old) (λ input. (text : List ℕ)
+        × Appends (W.contents writer.old) (W.contents writer.new) text
+        × AnswersLoaded r.tenants r.bound input text) }
+    // and words that ask for a dump of all nothing, where each tenant has a script as the input leaves it
+    ensures dumps_all { (r : ItsRun) → AskFor (map S.text words.now) (request.DumpAll r)
+        → result ≡ 0 → (writer.new ≡ writer.old)
+        × IfSome (R.remaining reader.old) (HaveScripts r.tenants r.bound) }
+    // and words that ask for a run with a journal what it is answered on tenants that a journal made
+    ensures records { (r : ItsRun) → AskFor (map S.text words.now) (request.Record r)
+        → result ≡ 0 → IfSome (R.remaining reader.old) (λ input. (text : List ℕ)
+        × Appends (W.contents writer.old) (W.contents writer.new) text
+        × AnswersJournaled r.tenants r.bound input text) }
+    // and words that ask for it the digest of the key that the input's first line is
+    ensures digests { AskFor (map S.text words.now) request.Key
+        → result ≡ 0 → TellsDigest (R.remaining reader.old) (R.remaining reader.new)
+        (W.contents writer.old) (W.contents writer.new) }
+    // whatever the status: of a run how its stream went; of a server, a replay or a dump the fault that it ended with, and
+    // why;
+    // how the stream of lines went of which it is told whether they are commands; help and the version, as they are asked
+    // for; words with a fault; the first part that isn't allowed, by its line; and want of memory
+    ensures asked { ((q : ItsRequest) × AskFor (map S.text words.now) q
+        × Goes R.fails R.remaining W.refuses W.contents E.refuses E.contents reader.old reader.new
+        writer.old writer.new errors.old.is_terminal errors.old.sink errors.new.sink result q)
+        ⊎ (AskForHelp (map S.text words.now) × (reader.new ≡ reader.old)
+        × Shows W.refuses W.contents E.refuses E.contents HELP.now writer.old writer.new
+        errors.old.sink errors.new.sink result)
+        ⊎ (AskForVersion (map S.text words.now) × (reader.new ≡ reader.old)
+        × Shows W.refuses W.contents E.refuses E.contents VERSION.now writer.old writer.new
+        errors.old.sink errors.new.sink result)
+        ⊎ (HasFault (map S.text words.now) × (result ≡ 2) × (reader.new ≡ reader.old)
+        × (writer.new ≡ writer.old))
+        ⊎ ((u : ItsUnfit) × HaveUnfit (map S.text words.now) u × (result ≡ 2)
+        × (reader.new ≡ reader.old) × (writer.new ≡ writer.old)
+        × Tells E.refuses E.contents errors.old.sink errors.new.sink (refusal_text ALLOWED.now u))
+        ⊎ ((result ≡ 1) × (reader.new ≡ reader.old) × (writer.new ≡ writer.old)
+        × Tells E.refuses E.contents errors.old.sink errors.new.sink
+        (fault_line StreamError.NoMemory)) }
+{
+    // for the proof: words ask for one thing
+    words_ask_once();
+    match read_words(alloc, words) {
+        Ok(Asked::For(asked, paths)) => answer(rt, alloc, asked, paths, reader, writer, errors),
+        Ok(Asked::Help) => show(HELP, writer, &mut errors.sink),
+        Ok(Asked::Version) => show(VERSION, writer, &mut errors.sink),
+        Ok(Asked::Refused(error)) => refuse(alloc, &error, &mut errors.sink),
+        Ok(Asked::NotAllowed(unfit)) => refuse_part(alloc, unfit, &mut errors.sink),
+        Err(_) => fault(StreamError::NoMemory, &mut errors.sink),
+    }
+}
+
+/// Does what is asked for, and gives the status.
+fn answer<
+    T: Threads
+        + Wait
+        + Net<Listener = TcpListener, Stream = TcpStream>
+        + Eprint
+        + Clock
+        + Files<File = File>
+        + Sync,
+    R: Source,
+    W: Sink,
+    E: Sink,
+>(
+    rt: &T,
+    alloc: Global,
+    wanted: Request,
+    paths: Paths<'_>,
+    reader: &mut R,
+    writer: &mut W,
+    errors: &mut Console<E>,
+) -> u8
+    requires { IsWithin wanted }
+    ensures succeeds { result ≡ 0 → Succeeds R.remaining W.contents reader.old reader.new
+        writer.old writer.new wanted }
+    ensures goes { Goes R.fails R.remaining W.refuses W.contents E.refuses E.contents reader.old reader.new
+        writer.old writer.new errors.old.is_terminal errors.old.sink errors.new.sink result wanted }
+{
+    match wanted {
+        Request::Run(asked) => run(alloc, asked, reader, writer, errors),
+        Request::Serve(asked) => {
+            let ended = serve(rt, alloc, asked, writer);
+            tell_end(alloc, ended, &mut errors.sink)
+        }
+        Request::Replay(asked) => {
+            let ended = replay(rt, alloc, asked, reader, writer);
+            tell_end(alloc, ended, &mut errors.sink)
+        }
+        Request::Parse => {
+            let ended = parse_lines(alloc, reader, writer);
+            tell_stream_end(ended, &mut errors.sink)
+        }
+        Request::Load(asked) => run_loaded(rt, alloc, asked, paths.load, reader, writer, errors),
+        Request::Record(asked) => {
+            let ended = run_journaled(rt, alloc, asked, paths, reader, writer);
+            tell_end(alloc, ended, &mut errors.sink)
+        }
+        Request::Keep(asked) => {
+            let ended = keep(rt, alloc, asked, paths, writer);
+            tell_end(alloc, ended, &mut errors.sink)
+        }
+        Request::Dump(asked) => {
+            let ended = dump_tenant(alloc, asked, reader, writer);
+            tell_end(alloc, ended, &mut errors.sink)
+        }
+        Request::DumpAll(asked) => {
+            let ended = dump_all(rt, alloc, asked, paths.into, reader);
+            tell_end(alloc, ended, &mut errors.sink)
+        }
+        Request::Compact(asked) => {
+            let ended = compact(rt, alloc, asked, paths.old, paths.new);
+            tell_end(alloc, ended, &mut errors.sink)
+        }
+        Request::Key => {
+            let ended = tell_digest(alloc, reader, writer);
+            tell_end(alloc, ended, &mut errors.sink)
+        }
+    }
+}
+
+/// Answers the lines of the input on a fresh cell, and tells how that went.
+fn run<R: Source, W: Sink, E: Sink>(
+    alloc: Global,
+    asked: Run,
+    reader: &mut R,
+    writer: &mut W,
+    errors: &mut Console<E>,
+) -> u8
+    requires { AreRun asked }
+    ensures runs { result ≡ 0 → IfSome (R.remaining reader.old)
+        (λ input. (text : List ℕ) × Appends (W.contents writer.old) (W.contents writer.new) text
+        × AnswersFresh asked.tenants asked.bound input text) }
+    ensures goes { (ended : _) × (summary : _) × (result ≡ status_of ended)
+        × GoesFresh R.fails R.remaining W.refuses W.contents asked.tenants asked.bound
+        reader.old reader.new writer.old writer.new ended summary
+        × TellsRun E.refuses E.contents errors.old.is_terminal errors.old.sink errors.new.sink
+        summary ended }
+{
+    let mut summary = Summary::new();
+    let ended = run_fresh(
+        alloc,
+        asked.tenants,
+        asked.bound,
+        reader,
+        writer,
+        &mut summary,
+    );
+    tell_run(alloc, &summary, ended, errors)
+}
+
+/// Tells of the fault that ended a server, a replay or a dump, if one did.
+fn tell_end<E: Sink>(alloc: Global, ended: Result<(), Fault>, errors: &mut E) -> u8
+    ensures { TellsEnd E.refuses E.contents errors.old errors.new ended result }
+{
+    match ended {
+        Ok(()) => SUCCESS,
+        Err(why) => tell_fault(alloc, why, errors),
+    }
+}
+
+fn show<W: Sink, E: Sink>(text: &str, writer: &mut W, errors: &mut E) -> u8
+    ensures { Shows W.refuses W.contents E.refuses E.contents text.now writer.old writer.new
+        errors.old errors.new result }
+{
+    match write_bytes(writer, text.as_bytes()) {
+        Ok(()) => SUCCESS,
+        Err(error) => fault(error, errors),
+    }
+}

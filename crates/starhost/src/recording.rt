@@ -1,0 +1,271 @@
+//! A server with a journal: it begins as the journal leaves it, and what is answered is recorded before it is sent.
+ghost use Rattle.std.specs.Prelude.{◌≡◌, ℕ, OnOk};
+ghost use Rattle.std.specs.Io.KnownBytes.{Appends};
+ghost use Rattle.std.specs.Thread.{IsSend, IsSync};
+ghost use Rattle.starhost.specs.Totals.{listening_line};
+
+use crate::fault::Fault;
+use crate::flushing::Flusher;
+use crate::journal::Journal;
+use crate::keeping::{Gate, Keeping, Served};
+use crate::listening::listen;
+use crate::showing::Pages;
+use crate::watching::StatusPort;
+use sb_durable::{
+    File as JournalFile, Head, JournalError, Played, Progress, Recorder, Syncing, Wary, open_path,
+    play,
+};
+use sb_host::{Lending, Stub};
+use sb_server::{Admission, Beside, Keeper, Kept};
+use sb_wire::Sink;
+use sb_words::Syncs;
+use std::fs::File;
+use std::net::{Net, TcpListener, TcpStream};
+use std::rt::{Clock, Files};
+use std::sync::Wait;
+use std::sync::atomic::{AtomicBool, Ordering};
+use std::thread;
+use std::thread::Threads;
+use std::time::{Duration, Instant};
+
+/// How far a journal is played is told once in so many seconds.
+const TOLD: u64 = 1;
+
+/// Records what tenants are answered.
+#[derive(Drop)]
+struct Recording<'k, R, T> {
+    recorder: R,
+    journal: &'k Journal<'k, T>,
+    /// There was no memory the last time.
+    lacks_memory: AtomicBool,
+    has_failed: AtomicBool,
+    /// It syncs what is written, where that isn't done with each record.
+    flusher: Option<&'k Flusher<'k, T>>,
+}
+
+impl<'k, R, T: Eprint + Clock> Recording<'k, R, T> {
+    fn new(
+        recorder: R,
+        journal: &'k Journal<'k, T>,
+        flusher: Option<&'k Flusher<'k, T>>,
+    ) -> Recording<'k, R, T> {
+        Recording {
+            recorder,
+            journal,
+            lacks_memory: AtomicBool::new(false),
+            has_failed: AtomicBool::new(false),
+            flusher,
+        }
+    }
+
+    /// Notes that something was written, unless an earlier sync has failed.
+    fn written(&self) -> Kept {
+        match self.flusher {
+            Some(flusher) if flusher.has_failed() => Kept::Failed,
+            Some(flusher) => {
+                flusher.note();
+                Kept::All
+            }
+            None => Kept::All,
+        }
+    }
+}
+
+impl<'k, H: Lending, T: Eprint + Clock> Keeper
+    for Recording<'k, Recorder<H, JournalFile<Wary>>, T> {
+    fn is_set(&self) -> bool {
+        true
+    }
+
+    fn keep<W: Wait>(&self, rt: &W, tenants: &[u32]) -> Kept {
+        match self.recorder.keep(rt, tenants) {
+            Ok(()) => {
+                self.lacks_memory.store(false, Ordering::SeqCst);
+                self.written()
+            }
+            Err(JournalError::Memory) => {
+                if !self.lacks_memory.swap(true, Ordering::SeqCst) {
+                    self.journal.tell_not_recorded(&JournalError::Memory);
+                }
+                Kept::NotYet
+            }
+            Err(error) => {
+                // one tells why, and the others that it was told
+                if !self.has_failed.swap(true, Ordering::SeqCst) {
+                    self.journal.tell_not_recorded(&error);
+                }
+                Kept::Failed
+            }
+        }
+    }
+}
+
+/// Whether what is written is synced at once.
+pub(crate) fn syncing_of(syncs: Syncs) -> Syncing {
+    match syncs {
+        Syncs::Always => Syncing::Always,
+        Syncs::Second | Syncs::Never => Syncing::Never,
+    }
+}
+
+/// Tells how far a journal is played.
+#[derive(Drop)]
+pub(crate) struct Playing<'k, T> {
+    rt: &'k T,
+    journal: &'k Journal<'k, T>,
+    told: Option<Instant>,
+}
+
+impl<'k, T> Playing<'k, T> {
+    pub(crate) fn new(rt: &'k T, journal: &'k Journal<'k, T>) -> Playing<'k, T> {
+        Playing {
+            rt,
+            journal,
+            told: None,
+        }
+    }
+}
+
+impl<'k, T: Eprint + Clock> Progress for Playing<'k, T> {
+    fn tell(&mut self, records: u64, bytes: u64) {
+        let Ok(now) = Instant::now(self.rt) else {
+            return;
+        };
+        match self.told {
+            Some(told) if now.duration_since(told) < Duration::from_secs(TOLD) => {}
+            Some(_) => {
+                self.told = Some(now);
+                self.journal.tell_played(records, bytes);
+            }
+            None => self.told = Some(now),
+        }
+    }
+}
+
+impl<
+    'k,
+    H: Lending + Sync,
+    T: Threads
+        + Wait
+        + Net<Listener = TcpListener, Stream = TcpStream>
+        + Eprint
+        + Clock
+        + Files<File = File>
+        + Sync,
+> Keeping<'k, H, T>
+where
+    H::Session: Send,
+{
+    /// Has the tenants as the journal at this path leaves them, and serves connections with it.
+    pub(crate) fn record<A: Admission + Sync, G: Beside, W: Sink>(
+        &self,
+        path: &str,
+        gate: Gate<'_, '_, A, G>,
+        writer: &mut W,
+    ) -> Result<Served, Fault>
+        ensures { OnOk result ((port : ℕ)
+            × Appends (W.contents writer.old) (W.contents writer.new) (listening_line port)) }
+    {
+        let (recorder, stubs) = match self.restart(path) {
+            Ok(restarted) => restarted,
+            Err(why) => return Err(why),
+        };
+        if let Syncs::Second = self.paths.syncs {
+            return self.record_by_seconds(path, gate, recorder, stubs, writer);
+        }
+        let recording = Recording::new(recorder, self.journal, None);
+        self.serve_with(gate, &recording, stubs, writer)
+    }
+
+    /// The same, where a thread of its own syncs what is recorded.
+    fn record_by_seconds<A: Admission + Sync, G: Beside, W: Sink>(
+        &self,
+        path: &str,
+        gate: Gate<'_, '_, A, G>,
+        recorder: Recorder<H, JournalFile<Wary>>,
+        stubs: Vec<Stub>,
+        writer: &mut W,
+    ) -> Result<Served, Fault>
+        ensures { OnOk result ((port : ℕ)
+            × Appends (W.contents writer.old) (W.contents writer.new) (listening_line port)) }
+    {
+        let flusher = match Flusher::open(self.rt, path, self.journal) {
+            Ok(flusher) => flusher,
+            Err(error) => {
+                self.journal.tell_no_journal(path, &error);
+                return Err(Fault::CannotOpenJournal);
+            }
+        };
+        let recording = Recording::new(recorder, self.journal, Some(&flusher));
+        let port = match self.status_port(gate.admission) {
+            Ok(port) => port,
+            Err(why) => return Err(why),
+        };
+        let listener = match listen(self.rt, self.alloc, self.plan.address, self.journal, writer) {
+            Ok(listener) => listener,
+            Err(why) => return Err(why),
+        };
+        let served = self.serve_beside(&flusher, (&listener, &port), gate, &recording, stubs);
+        if flusher.has_failed() {
+            return Err(Fault::JournalFailed);
+        }
+        served
+    }
+
+    /// Serves the connections of this port, and syncs beside them.
+    fn serve_beside<A: Admission + Sync, G: Beside, K: Keeper + Sync>(
+        &self,
+        flusher: &Flusher<'k, T>,
+        ports: (&TcpListener, &Option<StatusPort<Pages<'_, H, A, T>>>),
+        gate: Gate<'_, '_, A, G>,
+        keeper: &K,
+        stubs: Vec<Stub>,
+    ) -> Result<Served, Fault> {
+        let rt = self.rt;
+        thread::scope(
+            thread::scope_env(),
+            rt,
+            |scope| -> Result<Served, Fault>
+                requires { IsSync H.row × IsSend H.Session.row × IsSync T.row × IsSync A.row × IsSync K.row }
+            {
+                if scope.spawn(move || flusher.run(rt)).is_err() {
+                    return Err(Fault::CannotStart);
+                }
+                let (listener, port) = ports;
+                let served = self.serve_at(listener, port, gate, keeper, stubs);
+                flusher.end();
+                served
+            },
+        )
+    }
+
+    /// Has the tenants as the journal at this path leaves them: what records, and what the sessions of the file left.
+    fn restart(&self, path: &str) -> Result<(Recorder<H, JournalFile<Wary>>, Vec<Stub>), Fault> {
+        let head = Head {
+            tenants: self.plan.tenants,
+            bound: u64::from(self.plan.bound),
+        };
+        let syncing = syncing_of(self.paths.syncs);
+        let mut file = match open_path(self.rt, self.alloc, path, syncing, head) {
+            Ok(file) => file,
+            Err(error) => {
+                self.journal.tell_no_journal(path, &error);
+                return Err(Fault::CannotOpenJournal);
+            }
+        };
+        let mut playing = Playing::new(self.rt, self.journal);
+        match play(self.rt, self.alloc, self.host, &mut file, &mut playing) {
+            Ok(
+                Played {
+                    stubs,
+                    recorded,
+                    ..
+                },
+            ) => Ok((Recorder::new(self.alloc, self.host, file, recorded), stubs)),
+            Err(error) => {
+                self.journal.tell_no_journal(path, &error);
+                Err(Fault::CannotOpenJournal)
+            }
+        }
+    }
+}

@@ -1,0 +1,66 @@
+//! A replay, told as the program tells it.
+ghost use Rattle.std.specs.Prelude.{◌≡◌, List, ℕ, IfErr, IfSome, OnOk};
+ghost use Rattle.std.specs.Io.KnownBytes.{Appends};
+ghost use Rattle.sb_replay.specs.Replay.{Fails, Replays};
+ghost use Rattle.sb_replay.specs.declared.error.ReplayError.{ReplayError as ItsError};
+ghost use Rattle.starhost.specs.Faults.{unplayed_as};
+ghost use Rattle.sb_words.specs.Within.{AreHost};
+
+use crate::closing::fault_of;
+use crate::fault::Fault;
+use crate::journal::Journal;
+use sb_replay::{ReplayError, Size, replay_fresh};
+use sb_wire::{Sink, Source, StreamError};
+use sb_words::{Hosting, Severity};
+use std::alloc::Global;
+use std::rt::Clock;
+use std::sync::Wait;
+use std::thread::Threads;
+
+/// Calls the sessions that an input names on a host of its own, and writes what they were answered.
+pub(crate) fn replay<T: Threads + Wait + Eprint + Clock + Sync, R: Source, W: Sink>(
+    rt: &T,
+    alloc: Global,
+    hosting: Hosting,
+    reader: &mut R,
+    writer: &mut W,
+) -> Result<(), Fault>
+    requires { AreHost hosting }
+    ensures ok { OnOk result (IfSome (R.remaining reader.old) (λ input. (text : List ℕ)
+        × Appends (W.contents writer.old) (W.contents writer.new) text
+        × Replays hosting.run.tenants hosting.run.bound input text)) }
+    ensures err { IfErr result (λ why. (e : ItsError) × (why ≡ unplayed_as e)
+        × Fails R.fails R.remaining W.refuses W.contents hosting.run.tenants hosting.run.bound
+        reader.old reader.new writer.old writer.new e) }
+{
+    let size = Size {
+        tenants: hosting.run.tenants,
+        bound: hosting.run.bound,
+        cells: hosting.cells,
+        workers: hosting.workers,
+    };
+    match replay_fresh(rt, alloc, size, reader, writer) {
+        Ok(()) => Ok(()),
+        Err(error) => Err(unplayed(rt, error)),
+    }
+}
+
+/// What a replay that didn't go well is told as. Why a line is bad is written in the log.
+pub fn unplayed<T: Eprint + Clock>(rt: &T, error: ReplayError) -> Fault
+    ensures { result ≡ unplayed_as error }
+{
+    match error {
+        ReplayError::ReadFault => Fault::Stream(StreamError::ReadFault),
+        ReplayError::WriteFault => Fault::Stream(StreamError::WriteFault),
+        ReplayError::BadLine { line, why } => {
+            Journal::new(rt, Severity::Info).tell_bad_line(line, why);
+            Fault::BadLine { line }
+        }
+        ReplayError::Attach { tenant, session } => Fault::CannotAttach {
+            tenant: u64::from(tenant),
+            session: u32::from(session.number()),
+        },
+        ReplayError::Finish(error) => fault_of(0, error),
+        ReplayError::NoMemory => Fault::Stream(StreamError::NoMemory),
+    }
+}

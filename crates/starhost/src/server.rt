@@ -1,0 +1,137 @@
+//! A server, from its port to its last line.
+ghost use Rattle.std.specs.Prelude.{◌≡◌, ◌<◌, ◌≤◌, List, ℕ, IfErr, IfOk, OnOk};
+ghost use Rattle.std.specs.Io.KnownBytes.{Appends};
+ghost use Rattle.sb_host.specs.Opening.{AreNames};
+ghost use Rattle.starhost.specs.Ends.{EndsEarly, FailsToServe};
+ghost use Rattle.starhost.specs.Faults.{unserved_as};
+ghost use Rattle.starhost.specs.Totals.{TellsServer, TellsTrails};
+ghost use Rattle.sb_words.specs.Within.{AreServer};
+
+use crate::closing::finish;
+use crate::fault::Fault;
+use crate::journal::Journal;
+use crate::listening::listen;
+use crate::terms::{Plan, plan_of};
+use sb_host::{Host, Naming, Opened};
+use sb_server::{
+    Acceptor, Admission, Board, Keeper, NoBeside, Open, ServeError, Unkept, Watch, serve_all,
+};
+use sb_wire::{Sink, StreamError};
+use sb_words::Serving;
+use std::alloc::{AllocError, Global};
+use std::marker::Brand;
+use std::net::{Net, TcpListener, TcpStream};
+use std::rt::Clock;
+use std::sync::Wait;
+use std::thread::Threads;
+
+pub(crate) const OUT_OF_MEMORY: Fault = Fault::Stream(StreamError::NoMemory);
+
+/// Serves connections over TCP on this machine, until the last one has ended.
+pub(crate) fn serve<
+    T: Threads + Wait + Net<Listener = TcpListener, Stream = TcpStream> + Eprint + Clock + Sync,
+    W: Sink,
+>(rt: &T, alloc: Global, serving: Serving, writer: &mut W) -> Result<(), Fault>
+    requires { AreServer serving }
+    ensures ok { OnOk result ((text : List ℕ)
+        × Appends (W.contents writer.old) (W.contents writer.new) text
+        × TellsServer serving.hosting.run.bound serving.hosting.run.tenants text) }
+    ensures err { IfErr result (EndsEarly W.refuses W.contents serving.hosting.run.bound serving.hosting.run.tenants
+        serving.first_tenant writer.old writer.new) }
+{
+    let plan = plan_of(serving);
+    match opened_by(alloc, plan) {
+        Ok(opened) => serve_host::<Brand, T, W>(rt, alloc, opened, plan, writer),
+        Err(_) => Err(OUT_OF_MEMORY),
+    }
+}
+
+/// The parts of a server's host.
+pub(crate) fn opened_by(alloc: Global, plan: Plan) -> Result<Opened, AllocError>
+    requires tenants { (0 < plan.tenants) × (plan.tenants ≤ 256) × (plan.bound ≤ 1000) }
+    requires cells { (0 < plan.cells) × (plan.cells ≤ 16) }
+    ensures { IfOk result (λ o. (o.tenants ≡ plan.tenants) × (o.cells ≡ plan.cells) × (o.bound ≡ plan.bound)) }
+{
+    let mut opened = Opened::new(alloc, plan.tenants, plan.cells, plan.bound)?;
+    if let Some(bytes) = plan.tenant_memory {
+        opened.limit_memory(bytes);
+    }
+    Ok(opened)
+}
+
+/// Serves a host of these parts.
+fn serve_host<
+    N: Naming + Send + Sync,
+    T: Threads + Wait + Net<Listener = TcpListener, Stream = TcpStream> + Eprint + Clock + Sync,
+    W: Sink,
+>(rt: &T, alloc: Global, opened: Opened, plan: Plan, writer: &mut W) -> Result<(), Fault>
+    requires named { AreNames N.table N.tenants N.cells N.bound N.name N.parts opened }
+    requires cells { opened.cells ≡ plan.cells }
+    requires workers { (0 < plan.terms.workers) × (plan.terms.workers ≤ 16) }
+    ensures ok { OnOk result ((text : List ℕ)
+        × Appends (W.contents writer.old) (W.contents writer.new) text
+        × TellsServer opened.bound opened.tenants text) }
+    ensures err { IfErr result (EndsEarly W.refuses W.contents opened.bound opened.tenants plan.terms.first_tenant
+        writer.old writer.new) }
+{
+    let Ok(host) = Host::<N>::new(alloc, opened) else {
+        return Err(OUT_OF_MEMORY);
+    };
+    let journal = Journal::new(rt, plan.log);
+    let listener = match listen(rt, alloc, plan.address, &journal, writer) {
+        Ok(listener) => listener,
+        Err(why) => return Err(why),
+    };
+    let board = Board::blank(alloc);
+    let acceptor = Acceptor {
+        listener: &listener,
+        watch: &journal,
+        admission: &Open,
+        keeper: &Unkept,
+        board: &board,
+        terms: plan.terms,
+    };
+    serve_by(rt, alloc, &acceptor, host, writer)
+}
+
+/// Serves the connections that are taken, and tells the host's trails behind the last one.
+pub fn serve_by<
+    N: Naming + Send + Sync,
+    V: Watch + Sync,
+    A: Admission + Sync,
+    K: Keeper + Sync,
+    T: Threads + Wait + Net + Clock + Sync,
+    W: Sink,
+>(
+    rt: &T,
+    alloc: Global,
+    acceptor: &Acceptor<'_, V, A, K>,
+    host: Host<N>,
+    writer: &mut W,
+) -> Result<(), Fault>
+    requires { (0 < acceptor.now.terms.workers) × (acceptor.now.terms.workers ≤ 16) }
+    ensures ok { OnOk result ((line : List ℕ)
+        × Appends (W.contents writer.old) (W.contents writer.new) line
+        × TellsTrails N.bound host line) }
+    ensures err { IfErr result (FailsToServe W.refuses W.contents N.bound host acceptor.now.terms.first_tenant
+        writer.old writer.new) }
+{
+    let first_tenant = acceptor.terms.first_tenant;
+    match serve_all(rt, alloc, acceptor, &host, &NoBeside) {
+        Ok(stubs) => finish(alloc, host, first_tenant, stubs, writer),
+        Err(error) => Err(unserved(error)),
+    }
+}
+
+/// What connections that aren't served are told as.
+pub(crate) fn unserved(error: ServeError) -> Fault
+    ensures { result ≡ unserved_as error }
+{
+    match error {
+        ServeError::NoMemory => OUT_OF_MEMORY,
+        ServeError::NoPlace => Fault::CannotWait,
+        ServeError::NoThread => Fault::CannotStart,
+        ServeError::PollFailed => Fault::WaitingFailed,
+        ServeError::NotKept => Fault::JournalFailed,
+    }
+}
