@@ -16,10 +16,10 @@ NoMemory, and nothing has changed behind NotBegun. Beyond that: one refused requ
 tenant that has no such reply has the replies of a run in which nothing is refused. A run that ends with the fault
 `out of memory` has to have written a first part of what was to be written.
 
-Calls that no line makes are made by tests of sb_tests and sb_server_tests. Those of PRESSED say what may
-be answered on a host where any request may be refused, and are run anew for each request. The others of MARKED put
-calls that take no memory between two marks: all requests from the first to the second are refused, and the tests have
-to pass. None of these calls asks for memory; one test does between its marks, so that a refusal there is seen.
+Calls that no line makes are made by tests of sb_tests. Those of PRESSED say what may be answered on a host where any
+request may be refused, and are run anew for each request. Those of MARKED put calls that take no memory between two
+marks: all requests from the first to the second are refused, and the tests have to pass. None of these calls asks for
+memory; one test does between its marks, so that a refusal there is seen.
 
 The programs stand where `rt ci` leaves them, or in FOLDER.
 """
@@ -44,9 +44,10 @@ SCRIPTS = [os.path.join(CRATES, "sb_scripts/stdin"), os.path.join(HERE, "refused
 
 LINES = 3_000  # a script of more lines isn't played
 LONGEST = 900  # so many seconds a script may take
-MARKED = {"sb_tests": ("",), "sb_server_tests": ("hosts::",)}
+TESTED = "sb_tests"  # the crate of both
+MARKED = ("cells::", "events::", "hosts::", "logs::", "priority::", "rules::", "tables::")
 ASKING = "cells::a_step_without_memory_is_not_begun"
-PRESSED = {"sb_server_tests": ("pressed::",)}
+PRESSED = ("pressed::",)
 TOGETHER = 32  # so many requests are refused side by side
 MOST_WRONG = 100  # no more are looked for
 SHOWN = 5  # so many wrong runs of a script are told
@@ -446,11 +447,10 @@ def look_at_test(run):
 def press(player, arguments, pool):
     """Runs tests of hosts with each request refused."""
     wrong = 0
-    for name, tests in PRESSED.items():
-        program = arguments.tests(name)
-        for test in player.tests(program, tests):
-            play = lambda number: player.run([program, test], b"", REFUSED=number)
-            wrong += told(test, *sweep(play, look_at_test, pool))
+    program = arguments.tests(TESTED)
+    for test in player.tests(program, PRESSED):
+        play = lambda number: player.run([program, test], b"", REFUSED=number)
+        wrong += told(test, *sweep(play, look_at_test, pool))
     return wrong
 
 
@@ -458,17 +458,16 @@ def run_marked(player, arguments):
     """Runs tests with all requests between marks refused."""
     wrong = []
     marks = 0
-    for name, tests in MARKED.items():
-        program = arguments.tests(name)
-        for test in player.tests(program, tests):
-            try:
-                run = player.run([program, test], b"", MARKED=1)
-                look_at_test(run)
-                if (run.refused > 0) != (test == ASKING) or run.marks % 2:
-                    raise Wrong(f"{run.refused} requests between {run.marks} marks")
-                marks += run.marks
-            except Wrong as why:
-                wrong.append(f"{test}: {why}")
+    program = arguments.tests(TESTED)
+    for test in player.tests(program, MARKED):
+        try:
+            run = player.run([program, test], b"", MARKED=1)
+            look_at_test(run)
+            if (run.refused > 0) != (test == ASKING) or run.marks % 2:
+                raise Wrong(f"{run.refused} requests between {run.marks} marks")
+            marks += run.marks
+        except Wrong as why:
+            wrong.append(f"{test}: {why}")
     counts = {"same": marks // 2}
     return told("calls that take no memory", collections.Counter(counts), wrong)
 

@@ -3,3 +3,14 @@ pub mod Readings
 pub mod Wholes
 pub mod Newlines
 pub mod Walks
+pub mod Words
+pub mod Flags
+pub mod CodeLaws
+pub mod Ranges
+pub mod Totals
+pub mod Depth
+pub mod ByRows
+pub mod Counts
+pub mod NextBits
+pub mod Steps
+pub mod Chunks

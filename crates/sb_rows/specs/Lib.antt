@@ -1,3 +1,10 @@
 pub mod Lines
 pub mod Reading
 pub mod RowText
+pub mod Term
+pub mod Condition
+pub mod Range
+pub mod Batch
+pub mod Selection
+pub mod Values
+pub mod Codes

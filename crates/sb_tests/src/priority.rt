@@ -1,9 +1,9 @@
 //! The order of rules: which precede which.
 ghost use Rattle.std.specs.Prelude.{◌≡◌, ◌∷◌, [], true};
-ghost use Rattle.sb_priority.specs.Ranks.{AreRanked, is_ranked};
+ghost use Rattle.sb_catalog.specs.Ranks.{AreRanked, is_ranked};
 
 use crate::mark::mark;
-use sb_priority::Priorities;
+use sb_catalog::Priorities;
 use sb_value::{RuleId, RuleSet};
 use std::process::Abort;
 

@@ -3,10 +3,8 @@
 use crate::changes::insert;
 use crate::mark::mark;
 use crate::schema::rule_parts;
-use sb_catalog::Catalog;
-use sb_index::RuleIndex;
+use sb_catalog::{Catalog, RuleIndex, Rulesets};
 use sb_locks::Locks;
-use sb_rulesets::Rulesets;
 use sb_value::{Change, Columns, Mode, Name, RuleId, SessionId, TableId, TenantId, Triggers};
 use std::process::Abort;
 

@@ -1,3 +1,7 @@
 mod Fitting
 mod Found
 mod Usual
+mod Cuts
+mod Lines
+mod Members
+mod Numbers

@@ -3,7 +3,7 @@ use Rattle.std.proofs.Common.{◌≡◌, ◌∙◌, ◌⊎◌, sym, ap, subst, r
 use Rattle.std.specs.Prelude.{Option}
 use Rattle.std.specs.Io.KnownBytes.{Appends}
 use Rattle.std.proofs.lemmas.Bool.{false≢true}
-use Rattle.sb_keys.specs.Keys.{is_key}
+use Rattle.sb_words.specs.Keys.{is_key}
 use Rattle.sb_wire.specs.Lines.{Piece, line, pieces_of, too_long}
 use Rattle.sb_wire.specs.Responses.{AnswersStream, AreAnswered}
 use Rattle.sb_wire.specs.Stream.{AreFirst}

@@ -1,7 +1,7 @@
 -- Promise: the digest of the key that an input's first line is.
 use Rattle.std.specs.Prelude.{◌≡◌, ℕ, Bool, true, false, List, [], ◌∷◌, ◌++◌, codes, Option}
 use Rattle.std.specs.Io.KnownBytes.{Appends, Consumes}
-use Rattle.sb_keys.specs.Keys.{hex_digest, is_key}
+use Rattle.sb_words.specs.Keys.{hex_digest, is_key}
 use Rattle.sb_wire.specs.Lines.{Piece, line, too_long}
 use Rattle.sb_wire.specs.Stream.{AreFirst}
 use Rattle.starhost.specs.declared.digesting.Digested.{Digested}

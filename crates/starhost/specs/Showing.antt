@@ -1,6 +1,6 @@
 -- Promise: whose key opens which page.
 use Rattle.std.specs.Prelude.{◌≡◌, ◌⊎◌, ℕ}
-use Rattle.sb_keys.specs.Text.{status_holder}
+use Rattle.sb_words.specs.Text.{status_holder}
 use Rattle.sb_status.specs.declared.response.Status.{Status}
 use Rattle.sb_status.specs.declared.response.Status.TheVariants.{Closed, Foreign, NotAllowed, NotPosted}
 use Rattle.sb_status.specs.declared.route.Route.{Route}

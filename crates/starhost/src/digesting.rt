@@ -3,8 +3,8 @@ ghost use Rattle.std.specs.Prelude.{◌≡◌, ◌++◌, OnErr, OnOk};
 ghost use Rattle.starhost.specs.Digesting.{TellsDigest, digest_text};
 
 use crate::fault::Fault;
-use sb_keys::{digest_line, is_key};
 use sb_wire::{Piece, Responder, Sink, Source, answer_stream};
+use sb_words::{digest_line, is_key};
 use std::alloc::{AllocError, Global};
 
 /// What became of a key.

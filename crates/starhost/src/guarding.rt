@@ -2,9 +2,9 @@
 ghost use Rattle.std.specs.Prelude.{◌≡◌, ◌+◌, IsTrue, drop};
 ghost use Rattle.starhost.specs.Showing.{holder_of};
 
-use sb_keys::STATUS;
 use sb_server::Admission;
 use sb_status::{Credentials, Request, Route, number};
+use sb_words::STATUS;
 use std::alloc::{AllocError, Global};
 use std::sync::Wait;
 

@@ -1,11 +1,11 @@
 //! A list of keys, and whom it admits.
 ghost use Rattle.std.specs.Prelude.{◌≡◌, true};
-ghost use Rattle.sb_keys.specs.Keys.{Table};
-ghost use Rattle.sb_keys.specs.Seen.{table_of};
+ghost use Rattle.sb_words.specs.Keys.{Table};
+ghost use Rattle.sb_words.specs.Seen.{table_of};
 
 use crate::key_source::KeyLists;
-use sb_keys::Keys;
 use sb_server::Admission;
+use sb_words::Keys;
 use std::marker::PhantomData;
 use std::mem;
 use std::sync::{Mutex, Wait};
@@ -50,7 +50,7 @@ impl<L: KeyLists> KeyList<L> {
 
 impl<L: KeyLists> Admission for KeyList<L> {
     ghost use Rattle.std.specs.Prelude.{◌≡◌, true};
-    ghost use Rattle.sb_keys.specs.Keys.{Admits, Table};
+    ghost use Rattle.sb_words.specs.Keys.{Admits, Table};
 
     // it is a key of the tenant in a list that was read
     ghost admits = { λ _ tenant key. (table : Table) × (L.is_read table ≡ true) × Admits table tenant key };

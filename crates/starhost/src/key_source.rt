@@ -1,11 +1,11 @@
 //! Where lists of keys are read.
 ghost use Rattle.std.specs.Prelude.{◌≡◌, Bool, IfOk, true};
-ghost use Rattle.sb_keys.specs.Keys.{Table};
-ghost use Rattle.sb_keys.specs.Seen.{table_of};
+ghost use Rattle.sb_words.specs.Keys.{Table};
+ghost use Rattle.sb_words.specs.Seen.{table_of};
 
 use crate::fault::Fault;
-use sb_keys::{Keys, KeysError};
 use sb_wire::StreamError;
+use sb_words::{Keys, KeysError};
 use std::fmt::{self, Display, Formatter};
 use std::io;
 use std::time::SystemTime;

@@ -1,8 +1,0 @@
-use Rattle.std.proofs.Common.{replicate}
-use Rattle.std.specs.Simd.Lanes.{zip2}
-use Rattle.sb_columns.specs.Selection.{word_at}
-use Rattle.sb_columns.proofs.Steps.{IsChanged}
-use Rattle.sb_columns.proofs.compare.select_to_each.Given as goal
-
-abbrev pub invariant-loop-k : goal.invariant-loop-k
-invariant-loop-k g l = IsChanged (word_at (zip2 g.R.Relation.holds l.numbers l.others)) 0 (replicate 16 0) l.k l.words

@@ -1,5 +1,0 @@
-use Rattle.sb_columns.proofs.Counts.{filter_alike}
-use Rattle.sb_columns.proofs.laws.selected_rows_pass.Goals as goal
-
-pub returns : goal.returns
-returns c passes count = filter_alike passes count

@@ -1,6 +1,0 @@
-use Rattle.std.proofs.Common.{pos, slice_index_or}
-use Rattle.sb_columns.proofs.Steps.{IsChanged}
-use Rattle.sb_columns.proofs.values.apply_same.Given as goal
-
-abbrev pub invariant-loop-k : goal.invariant-loop-k
-invariant-loop-k g l = IsChanged (λ j. g.O.Operation.exact (slice_index_or l.fn.numbers j (pos 0)) l.other) (pos 0) l.fn.numbers l.k l.numbers

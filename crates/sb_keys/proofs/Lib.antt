@@ -1,4 +1,0 @@
-mod Cuts
-mod Lines
-mod Members
-mod Numbers

@@ -1,8 +1,0 @@
-use Rattle.sb_server_tests.proofs.pressed.sessions_lack_memory.Given as goal
-
--- the names of the host that was just opened
-abbrev pub ghosts-lose_receipts_of_new-N-Ledger : goal.ghosts-lose_receipts_of_new-N-Ledger
-ghosts-lose_receipts_of_new-N-Ledger g a = record { name = a.opened.name; parts = a.opened.parts }
-
-abbrev pub ghosts-lose_receipts_of_new-N-Naming : goal.ghosts-lose_receipts_of_new-N-Naming
-ghosts-lose_receipts_of_new-N-Naming g a = record { table = a.opened.table; tenants = a.opened.tenants; cells = a.opened.cells; bound = a.opened.bound }

@@ -1,0 +1,87 @@
+//! What a line of a text of keys says.
+ghost use Rattle.std.specs.Prelude.{◌≡◌, ◌≤◌, length, if◌then◌else◌, option_map};
+ghost use Rattle.std.specs.Char.{is_ascii_digit};
+ghost use Rattle.std.specs.List.{list_all};
+ghost use Rattle.std.specs.Str.Parse.{digits_value};
+ghost use Rattle.sb_words.specs.Text.{digest_of, holder_of, key_of, number_of, said};
+
+use crate::cut::Cut;
+use crate::digest::Digest;
+use hex::FromHex;
+
+/// Who looks at the status pages, as the holder of keys: no tenant has so large a number.
+pub const STATUS: u32 = 1_000_000_000;
+
+/// The most digits of a tenant's number.
+const DIGITS: usize = 9;
+
+/// The holder of a key, and its digest.
+#[derive(Clone, Copy)]
+pub(crate) struct Named {
+    pub(crate) holder: u32,
+    pub(crate) digest: Digest,
+}
+
+impl Named {
+    ghost use Rattle.sb_words.specs.Seen.{key_seen};
+
+    /// The key that a line names, if what it says is one.
+    pub(crate) fn read(said: &[u8]) -> Option<Named>
+        ensures { option_map key_seen result ≡ key_of said.now }
+    {
+        let cut = Cut::at(b' ', said);
+        let holder = holder(cut.before)?;
+        let digest = digest_in(cut.behind)?;
+        Some(Named { holder, digest })
+    }
+}
+
+/// What a line says, without a comment and blanks around.
+pub(crate) fn said(line: &[u8]) -> &[u8]
+    ensures { result.now ≡ said line.now }
+{
+    Cut::at(b'#', line).before.trim_ascii()
+}
+
+/// The digest that these bytes are in hex.
+fn digest_in(bytes: &[u8]) -> Option<Digest>
+    ensures { result ≡ digest_of bytes.now }
+{
+    <Digest as FromHex>::from_hex(bytes).ok()
+}
+
+/// A tenant by its number, or who looks at status pages by that word.
+fn holder(word: &[u8]) -> Option<u32>
+    ensures { result ≡ holder_of word.now }
+{
+    if word == b"status".as_slice() {
+        return Some(STATUS);
+    }
+    number(word)
+}
+
+/// The number that these bytes are.
+fn number(digits: &[u8]) -> Option<u32>
+    ensures { result ≡ number_of digits.now }
+{
+    if digits.is_empty() || digits.len() > DIGITS {
+        return None;
+    }
+    value(digits)
+}
+
+/// The number that so few bytes spell, if all are digits.
+fn value(digits: &[u8]) -> Option<u32>
+    requires { length digits.now ≤ 9 }
+    ensures { result ≡
+        (if list_all is_ascii_digit digits.now then Some (digits_value 10 digits.now) else None) }
+{
+    let mut number: u32 = 0;
+    for digit in digits {
+        if !digit.is_ascii_digit() {
+            return None;
+        }
+        number = number * 10 + u32::from(*digit - b'0');
+    }
+    Some(number)
+}
