@@ -1,10 +1,11 @@
 //! The head of a request.
-ghost use Rattle.std.specs.Prelude.{◌≡◌, ◌<◌, ◌↔◌, length};
-ghost use Rattle.sb_status.specs.Requests.{IfWhole, IsHeadOf, head_limit};
+ghost use Rattle.std.specs.Prelude.{◌≡◌, ◌<◌, ◌↔◌, All, length, map, option_copied};
+ghost use Rattle.sb_status.specs.Requests.{HasFirst, IfWhole, IsHeadOf, head_limit, header_limit};
 ghost use Rattle.httparse.specs.Grammar.{HasNoRequest};
+ghost use Rattle.httparse.specs.Spans.{IsHeaderWithin, RequestOverflows, header_bytes};
 
 use httparse::Status;
-use httparse::spans::{EMPTY_HEADER_SPAN, HeaderSpan, Span, parse_request};
+use httparse::spans::{EMPTY_HEADER_SPAN, HeaderSpan, parse_request};
 
 /// The most bytes that are read of a request.
 pub const HEAD_LIMIT: usize = 8192;
@@ -39,39 +40,36 @@ pub fn read_request(bytes: &[u8]) -> Incoming<'_>
     ensures too_long { (result ≡ Incoming.TooLong) ↔ (head_limit < length bytes.now) }
     ensures whole { IfWhole result (IsHeadOf bytes.now) }
     ensures partial { result ≡ Incoming.Partial → HasNoRequest bytes.now }
+    ensures malformed { result ≡ Incoming.Malformed → RequestOverflows header_limit bytes.now }
 {
     if bytes.len() > HEAD_LIMIT {
         return Incoming::TooLong;
     }
     let mut headers = [EMPTY_HEADER_SPAN; HEADERS];
     match parse_request(bytes, &mut headers) {
-        Ok(Status::Complete(spans)) => Incoming::Whole(Request {
-            method: spans.method.of(bytes),
-            target: spans.path.of(bytes),
-            authorization: header(bytes, &headers, b"authorization"),
-            origin: header(bytes, &headers, b"origin"),
-        }),
+        Ok(Status::Complete(spans)) => {
+            let headers = &headers[..spans.headers];
+            Incoming::Whole(Request {
+                method: spans.method.of(bytes),
+                target: spans.path.of(bytes),
+                authorization: header(bytes, headers, b"authorization"),
+                origin: header(bytes, headers, b"origin"),
+            })
+        }
         Ok(Status::Partial) => Incoming::Partial,
         Err(_) => Incoming::Malformed,
     }
 }
 
 /// The value of the first header of that name.
-fn header<'a>(bytes: &'a [u8], headers: &[HeaderSpan], wanted: &[u8]) -> Option<&'a [u8]> {
+fn header<'a>(bytes: &'a [u8], headers: &[HeaderSpan], wanted: &[u8]) -> Option<&'a [u8]>
+    requires { All (IsHeaderWithin (length bytes.now)) headers.now }
+    ensures { HasFirst wanted.now (map (header_bytes bytes.now) headers.now) (option_copied result) }
+{
     for header in headers {
-        let name = piece(bytes, header.name);
-        if name.eq_ignore_ascii_case(wanted) {
-            return Some(piece(bytes, header.value));
+        if header.name.of(bytes).eq_ignore_ascii_case(wanted) {
+            return Some(header.value.of(bytes));
         }
     }
     None
-}
-
-/// The bytes of a part, if it is within the others.
-fn piece<'a>(bytes: &'a [u8], span: Span) -> &'a [u8] {
-    if span.start <= span.end && span.end <= bytes.len() {
-        &bytes[span.start..span.end]
-    } else {
-        &[]
-    }
 }
