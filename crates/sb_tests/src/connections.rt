@@ -2,7 +2,7 @@
 ghost use Rattle.sb_host.specs.Opening.{AreNames};
 
 use sb_connection::{Served, serve_one};
-use sb_host::{Host, Naming, Opened};
+use sb_host::{Host, Hosting, Naming, Opened};
 use std::alloc::Global;
 use std::marker::Brand;
 use std::process::Abort;
@@ -10,7 +10,7 @@ use std::sync::Wait;
 use std::test::Fail;
 
 /// Serves these lines on a host: how many receipts the session leaves, and what is written.
-fn serve<N: Naming, R: Wait + Abort>(rt: &R, alloc: Global, host: &Host<N>) {
+fn serve<H: Hosting, R: Wait + Abort>(rt: &R, alloc: Global, host: H) {
     let mut reader = b"0 0\nbegin\nins".as_slice();
     let mut text = Vec::new(alloc);
     let Served { stub, ended } = serve_one(rt, alloc, &mut reader, &mut text, host);

@@ -1,7 +1,7 @@
 //! Faults that no words of the program bring about: a replay on a host that had its session before.
 ghost use Rattle.sb_host.specs.Opening.{AreNames};
 
-use sb_host::{FinishError, Host, Naming, Opened};
+use sb_host::{Calling, FinishError, Host, Hosting, Naming, Opened};
 use sb_replay::{ReplayError, replay};
 use std::alloc::Global;
 use std::marker::Brand;
@@ -35,6 +35,15 @@ fn fail<N: Naming + Send + Sync, R: Threads + Wait + Abort + Clock + Sync>(
     }
 }
 
+/// Opens the first session, and closes it or leaves it open.
+fn open_once<H: Hosting, R: Wait + Abort>(rt: &R, alloc: Global, host: H, is_closed: bool) {
+    match host.attach(rt, alloc, 0, 0) {
+        Ok(session) if is_closed => drop(session.close(rt)),
+        Ok(session) => drop(session),
+        Err(_) => assert!(rt; false),
+    }
+}
+
 /// The first session is opened before, and left open or closed.
 fn fail_behind<N: Naming + Send + Sync, R: Threads + Wait + Abort + Clock + Sync>(
     rt: &R,
@@ -48,11 +57,7 @@ fn fail_behind<N: Naming + Send + Sync, R: Threads + Wait + Abort + Clock + Sync
         assert!(rt; false);
         return;
     };
-    match host.attach(rt, alloc, 0, 0) {
-        Ok(session) if is_closed => drop(session.close(rt)),
-        Ok(session) => drop(session),
-        Err(_) => assert!(rt; false),
-    }
+    open_once(rt, alloc, &host, is_closed);
     fail(rt, alloc, host, is_closed);
 }
 

@@ -3,7 +3,10 @@
 ghost use Rattle.sb_host.specs.Opening.{AreNames};
 
 use crate::mark::mark;
-use sb_host::{AttachError, CallError, FinishError, Host, Naming, Opened, Report, Session, Stub};
+use sb_host::{
+    AttachError, CallError, Calling, FinishError, Host, Hosting, Naming, NoGate, Opened, Report,
+    Stub,
+};
 use sb_tenant::{Answer, Reply};
 use sb_value::Refusal;
 use sb_wire::write_bare_reply;
@@ -26,13 +29,13 @@ pub fn is_ok(answer: Option<&Answer>, may_lack: bool) -> bool {
 }
 
 /// Opens the first session of a tenant.
-pub fn attach<'h, N: Naming, R: Wait + Abort>(
+pub fn attach<H: Hosting, R: Wait + Abort>(
     rt: &R,
     alloc: Global,
-    host: &'h Host<N>,
+    host: H,
     tenant: u32,
     may_lack: bool,
-) -> Option<Session<'h, N>> {
+) -> Option<H::Session> {
     match host.attach(rt, alloc, tenant, 0) {
         Ok(session) => Some(session),
         Err(error) => {
@@ -43,16 +46,16 @@ pub fn attach<'h, N: Naming, R: Wait + Abort>(
 }
 
 /// Calls the session with a line that is answered `ok`, once more where it wasn't begun.
-fn call<N: Naming, R: Wait + Abort>(
+fn call<S: Calling, R: Wait + Abort>(
     rt: &R,
     alloc: Global,
-    session: &mut Session<'_, N>,
+    session: &mut S,
     line: &[u8],
     may_lack: bool,
 ) {
-    if session.call(rt, alloc, line).is_err() {
+    if session.step(rt, alloc, line, &NoGate).is_err() {
         assert!(rt; may_lack);
-        let _ = session.call(rt, alloc, line);
+        let _ = session.step(rt, alloc, line, &NoGate);
     }
     assert!(rt; is_ok(session.last(), may_lack));
 }
@@ -83,10 +86,10 @@ const REPLIES: &[u8] =
     b"ok\nok\nok 2\nrows 2\n1,'x''y'\n-2,''\ndone 0\nok\nrows 2\n1,'x''y'\n-2,''\nok\n";
 
 /// Calls a session with these lines, one by one.
-fn play<N: Naming, R: Wait + Abort>(rt: &R, alloc: Global, session: &mut Session<'_, N>) {
+fn play<S: Calling, R: Wait + Abort>(rt: &R, alloc: Global, session: &mut S) {
     let mut text = Vec::new(alloc);
     for line in LINES.split(|byte| *byte == b'\n') {
-        let _ = session.call(rt, alloc, line);
+        let _ = session.step(rt, alloc, line, &NoGate);
         if let Some(answer) = session.last() {
             write_bare_reply(&mut text, &answer.reply).expect(rt, "a reply");
         }
@@ -96,7 +99,7 @@ fn play<N: Naming, R: Wait + Abort>(rt: &R, alloc: Global, session: &mut Session
 }
 
 /// A session of that host, which leaves 9 receipts.
-fn play_alone<N: Naming, R: Wait + Abort>(rt: &R, alloc: Global, host: &Host<N>) -> Option<Stub> {
+fn play_alone<H: Hosting, R: Wait + Abort>(rt: &R, alloc: Global, host: H) -> Option<Stub> {
     let mut session = attach(rt, alloc, host, 0, false)?;
     play(rt, alloc, &mut session);
     Some(session.close(rt))
@@ -122,7 +125,7 @@ fn a_session_is_served(rt: HostRuntime) -> Result<(), Fail> {
 }
 
 /// What isn't opened takes no memory.
-fn turn_away<N: Naming, R: Wait + Abort>(rt: &R, alloc: Global, host: &Host<N>) {
+fn turn_away<H: Hosting, R: Wait + Abort>(rt: &R, alloc: Global, host: H) {
     mark();
     let outside = host.attach(rt, alloc, 2, 0).err();
     assert!(rt; outside == Some(AttachError::NoTenant));
@@ -132,10 +135,10 @@ fn turn_away<N: Naming, R: Wait + Abort>(rt: &R, alloc: Global, host: &Host<N>) 
 }
 
 /// A session that has ended is called once more, and closed, without memory.
-fn leave<N: Naming, R: Wait + Abort>(rt: &R, alloc: Global, mut session: Session<'_, N>) -> Stub {
+fn leave<S: Calling, R: Wait + Abort>(rt: &R, alloc: Global, mut session: S) -> Stub {
     mark();
     assert!(rt; session.ended() && session.last().is_some());
-    let called = session.call(rt, alloc, b"begin").err();
+    let called = session.step(rt, alloc, b"begin", &NoGate).err();
     assert!(rt; called == Some(CallError::Ended));
     let stub = session.close(rt);
     assert!(rt; stub.list().len() == 3);
@@ -144,10 +147,10 @@ fn leave<N: Naming, R: Wait + Abort>(rt: &R, alloc: Global, mut session: Session
 }
 
 /// A session with a transaction that its end takes back.
-fn live<N: Naming, R: Wait + Abort>(
+fn live<H: Hosting, R: Wait + Abort>(
     rt: &R,
     alloc: Global,
-    host: &Host<N>,
+    host: H,
     may_lack: bool,
 ) -> Option<Stub> {
     let mut session = attach(rt, alloc, host, 0, may_lack)?;
@@ -161,7 +164,7 @@ fn live<N: Naming, R: Wait + Abort>(
 }
 
 /// Whether the session was open once more. Its receipts are lost.
-fn lose<N: Naming, R: Wait + Abort>(rt: &R, alloc: Global, host: &Host<N>, may_lack: bool) -> bool {
+fn lose<H: Hosting, R: Wait + Abort>(rt: &R, alloc: Global, host: H, may_lack: bool) -> bool {
     let Some(mut session) = attach(rt, alloc, host, 0, may_lack) else {
         return false;
     };

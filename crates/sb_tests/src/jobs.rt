@@ -2,7 +2,7 @@
 ghost use Rattle.sb_host.specs.Opening.{AreNames};
 
 use crate::hosts::{attach, finish, is_ok};
-use sb_host::{Gate, Host, Naming, Opened, Session, Stub};
+use sb_host::{Calling, Gate, Host, Hosting, Naming, Opened, Stub};
 use sb_pool::{Done, Job, Pool, PoolError};
 use sb_value::SessionId;
 use std::alloc::Global;
@@ -56,13 +56,13 @@ fn is_up(flag: &AtomicBool) -> bool {
 }
 
 /// A session's job, with the line `begin`.
-fn job<'h, N: Naming, R: Wait + Abort>(
+fn job<H: Hosting, R: Wait + Abort>(
     rt: &R,
     alloc: Global,
-    host: &'h Host<N>,
+    host: H,
     tenant: u32,
     may_lack: bool,
-) -> Option<Job<Session<'h, N>>> {
+) -> Option<Job<H::Session>> {
     let Ok(line) = Vec::from_slice(alloc, b"begin") else {
         assert!(rt; may_lack);
         return None;
@@ -72,12 +72,12 @@ fn job<'h, N: Naming, R: Wait + Abort>(
 }
 
 /// The jobs of both tenants; fewer where memory runs out.
-fn jobs<'h, N: Naming, R: Wait + Abort>(
+fn jobs<H: Hosting, R: Wait + Abort>(
     rt: &R,
     alloc: Global,
-    host: &'h Host<N>,
+    host: H,
     may_lack: bool,
-) -> Vec<Job<Session<'h, N>>> {
+) -> Vec<Job<H::Session>> {
     let Ok(mut jobs) = Vec::with_capacity(alloc, 2) else {
         assert!(rt; may_lack);
         return Vec::new(alloc);
@@ -91,9 +91,9 @@ fn jobs<'h, N: Naming, R: Wait + Abort>(
 }
 
 /// Closes the sessions of jobs that were done, each answered.
-fn close_done<N: Naming, R: Wait + Abort>(
+fn close_done<S: Calling, R: Wait + Abort>(
     rt: &R,
-    done: Vec<Done<Session<'_, N>>>,
+    done: Vec<Done<S>>,
     stubs: &mut Vec<Stub>,
     may_lack: bool,
 ) {
@@ -115,11 +115,7 @@ fn close_done<N: Naming, R: Wait + Abort>(
 }
 
 /// Closes the sessions of jobs that came back, of which none was called.
-fn close_back<N: Naming, R: Wait + Abort>(
-    rt: &R,
-    jobs: Vec<Job<Session<'_, N>>>,
-    stubs: &mut Vec<Stub>,
-) {
+fn close_back<S: Calling, R: Wait + Abort>(rt: &R, jobs: Vec<Job<S>>, stubs: &mut Vec<Stub>) {
     for job in jobs {
         let Job { session, line } = job;
         assert!(rt; line.as_slice() == b"begin".as_slice() && session.list().len() == 1);
