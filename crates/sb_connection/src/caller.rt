@@ -1,4 +1,4 @@
-//! The session of a connection.
+//! A session that is called with lines.
 ghost use Rattle.std.specs.Prelude.{◌≡◌, None, Some, IfErr, MatchOption, OnOk};
 ghost use Rattle.sb_desk.specs.Calls.{AnswersOnce, is_ended};
 ghost use Rattle.sb_desk.specs.Stubs.{LeavesStub};
@@ -9,9 +9,9 @@ use std::alloc::Global;
 use std::marker::Model;
 use std::sync::Wait;
 
-/// A session that was opened for a connection. To a contract it is what is seen of it.
+/// A session that is called with lines, one after another, until it is closed. To a contract it is what is seen of it.
 #[derive(Drop)]
-pub(crate) struct Caller<S: Calling> {
+pub struct Caller<S: Calling> {
     session: S,
 }
 
@@ -24,33 +24,29 @@ impl<S: Calling> Model for Caller<S> {
 }
 
 impl<S: Calling> Caller<S> {
-    pub(crate) fn new(session: S) -> Caller<S>
+    /// A caller of a session that was opened.
+    pub fn new(session: S) -> Caller<S>
         ensures { result ≡ S.seen session }
     {
         Caller { session }
     }
 
     /// The answer of the newest call that gave one.
-    pub(crate) fn last(&self) -> Option<&Answer>
+    pub fn last(&self) -> Option<&Answer>
         ensures { MatchOption result (self.now.last ≡ None) (λ answer. self.now.last ≡ Some answer.now) }
     {
         self.session.last()
     }
 
     /// Whether an `end` was answered `ok`.
-    pub(crate) fn ended(&self) -> bool
+    pub fn ended(&self) -> bool
         ensures { result ≡ self.now.ended }
     {
         self.session.ended()
     }
 
     /// Makes the step of a line, whose answer is the last one then.
-    pub(crate) fn step<R: Wait>(
-        &mut self,
-        rt: &R,
-        alloc: Global,
-        line: &[u8],
-    ) -> Result<(), CallError>
+    pub fn step<R: Wait>(&mut self, rt: &R, alloc: Global, line: &[u8]) -> Result<(), CallError>
         ensures ok { OnOk result (AnswersOnce self.old line.now self.new) }
         ensures err { IfErr result (λ e. (self.new ≡ self.old) × (self.old.ended ≡ is_ended e)) }
     {
@@ -58,7 +54,7 @@ impl<S: Calling> Caller<S> {
     }
 
     /// Makes the step `end`, unless the session has ended, and leaves its receipts.
-    pub(crate) fn close<R: Wait>(self, rt: &R) -> Stub
+    pub fn close<R: Wait>(self, rt: &R) -> Stub
         ensures { LeavesStub self result }
     {
         let Caller { session } = self;

@@ -18,6 +18,7 @@ mod transactions;
 mod watch;
 
 pub use admission::{Admission, Open};
+pub use caller::Caller;
 pub use connection::Connection;
 pub use ending::Ending;
 pub use greeting::Named;

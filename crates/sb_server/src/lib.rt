@@ -24,6 +24,6 @@ pub use beside::{Beside, NoBeside, Over};
 pub use board::Board;
 pub use counts::{Cause, Count, LIMITS};
 pub use keeper::{Keeper, Kept, Unkept};
-pub use sb_connection::{Admission, Answered, Event, Named, Open, Slow, Watch};
+pub use sb_connection::{Admission, Answered, Caller, Event, Named, Open, Slow, Watch};
 pub use server::{Acceptor, ServeError, Terms, serve_all};
 pub use slow_line::SlowLine;

@@ -6,12 +6,12 @@ ghost use Rattle.starhost.specs.declared.fault.Fault.TheVariants as fault;
 ghost use Rattle.sb_wire.specs.Seen.{piece_seen};
 ghost use Rattle.sb_wire.specs.declared.fault.StreamError.TheVariants as stream;
 
-use crate::caller::Caller;
 use crate::dumping::Nowhere;
 use crate::fault::Fault;
 use crate::playing::{Progress, Unplayed, is_taken, told, unsettled};
 use crate::script_source::{ScriptSource, Unopened};
 use sb_host::{Calling, Lending, Reading, Stub};
+use sb_server::Caller;
 use sb_tenant::Tenant;
 use sb_wire::{Fallible, Piece, Responder, StreamError, answer_stream};
 use std::alloc::{AllocError, Global};

@@ -2,7 +2,6 @@
 #![tactic(auto)]
 
 mod activity;
-mod caller;
 mod closing;
 mod compacting;
 mod console;
