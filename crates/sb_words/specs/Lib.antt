@@ -1,3 +1,4 @@
+pub mod Meanings
 pub mod Severities
 pub mod Syncs
 pub mod Parts

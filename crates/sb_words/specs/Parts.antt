@@ -1,6 +1,7 @@
 -- Promise: the parts of a command line: their names, the commands that have them, and the ranges of numbers.
-use Rattle.std.specs.Prelude.{ℕ, Bool, true, false, if◌then◌else◌, bytes_eq, List, [], ◌∷◌, Option, Some, None, codes}
+use Rattle.std.specs.Prelude.{ℕ, Bool, true, false, List, [], ◌∷◌, Option, Some, None, codes}
 use Rattle.clap.specs.Words.{Text}
+use Rattle.sb_words.specs.Meanings.{meaning_of}
 use Rattle.sb_words.specs.declared.part.Part.{Part}
 use Rattle.sb_words.specs.declared.part.Part.TheVariants.{Command, Old, New, Tenant, Load, DumpTo, Into, Journal, Sync, Keys, Status, Tenants, Bound, Cells, Workers, Port, Connections, Idle, IdleTransaction, FirstTenant, TenantMemory, Log, Slow, UntilInputEnds}
 use Rattle.sb_words.specs.declared.part.Range.{Range}
@@ -9,15 +10,10 @@ use Rattle.sb_words.specs.declared.part.Verb.TheVariants.{Run, Serve, Replay, Pa
 
 -- the command of a word
 abbrev pub verb_of : Text → Option Verb
-verb_of word =
-    if bytes_eq word (codes "run") then Some Run
-    else if bytes_eq word (codes "serve") then Some Serve
-    else if bytes_eq word (codes "replay") then Some Replay
-    else if bytes_eq word (codes "parse") then Some Parse
-    else if bytes_eq word (codes "dump") then Some Dump
-    else if bytes_eq word (codes "compact") then Some Compact
-    else if bytes_eq word (codes "key") then Some Key
-    else None
+verb_of word = meaning_of word (
+    (codes "run", Run) ∷ (codes "serve", Serve) ∷ (codes "replay", Replay) ∷ (codes "parse", Parse) ∷ (codes "dump", Dump) ∷ (codes "compact", Compact)
+    ∷ (codes "key", Key) ∷ []
+    )
 
 -- no word is `run`
 abbrev pub verb_in : Option Text → Option Verb

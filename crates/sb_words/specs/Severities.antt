@@ -1,6 +1,7 @@
 -- Promise: how severe it is what the log tells.
-use Rattle.std.specs.Prelude.{ℕ, if◌then◌else◌, bytes_eq, Option, Some, None, codes}
+use Rattle.std.specs.Prelude.{ℕ, [], ◌∷◌, Option, codes}
 use Rattle.clap.specs.Words.{Text}
+use Rattle.sb_words.specs.Meanings.{meaning_of}
 use Rattle.sb_words.specs.declared.severity.Severity.{Severity}
 use Rattle.sb_words.specs.declared.severity.Severity.TheVariants.{Error, Warning, Info}
 
@@ -12,8 +13,4 @@ rank Info = 2
 
 -- by the word on the command line
 abbrev pub severity_of : Text → Option Severity
-severity_of word =
-    if bytes_eq word (codes "error") then Some Error
-    else if bytes_eq word (codes "warning") then Some Warning
-    else if bytes_eq word (codes "info") then Some Info
-    else None
+severity_of word = meaning_of word ((codes "error", Error) ∷ (codes "warning", Warning) ∷ (codes "info", Info) ∷ [])

@@ -7,10 +7,9 @@ ghost use Rattle.sb_words.specs.Parts.{range_of, verb_in};
 ghost use Rattle.sb_words.specs.declared.part.Part.TheVariants as named;
 
 use crate::given::text_at;
+use crate::meaning::{SEVERITIES, SYNCS, VERBS, meaning_of};
 use crate::number::number;
 use crate::part::{PARTS, Part, Unfit, Verb};
-use crate::severity::Severity;
-use crate::syncs::Syncs;
 use clap::ArgMatches;
 
 /// The command, if all parts are allowed; or the first that isn't.
@@ -37,7 +36,7 @@ fn verb_at<'a>(matches: &ArgMatches<'a>) -> Result<Verb, Unfit<'a>>
     let Some(text) = text_at(matches, Part::Command) else {
         return Ok(Verb::Run);
     };
-    match Verb::of(text) {
+    match meaning_of(text, &VERBS) {
         Some(verb) => Ok(verb),
         None => Err(Unfit {
             part: Part::Command,
@@ -98,11 +97,12 @@ fn lacks_word(matches: &ArgMatches<'_>, part: Part, text: &str) -> bool
     ensures { IsTrue result ↔ LacksWord (rows_of (found_of matches.now)) part text.now }
 {
     match part {
-        Part::Command => lacks_command(matches, Verb::of(text)),
-        Part::Log => Severity::of(text).is_none(),
+        Part::Command => lacks_command(matches, meaning_of(text, &VERBS)),
+        Part::Log => meaning_of(text, &SEVERITIES).is_none(),
         Part::Into => text_at(matches, Part::Tenant).is_some(),
         Part::Journal => text_at(matches, Part::Load).is_some(),
-        Part::Sync => Syncs::of(text).is_none() || text_at(matches, Part::Journal).is_none(),
+        Part::Sync => meaning_of(text, &SYNCS).is_none()
+            || text_at(matches, Part::Journal).is_none(),
         _ => false,
     }
 }

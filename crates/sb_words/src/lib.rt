@@ -11,6 +11,7 @@ mod help;
 mod keys;
 mod laws;
 mod line;
+mod meaning;
 mod number;
 mod part;
 mod refusal;

@@ -14,36 +14,6 @@ pub enum Verb {
     Key,
 }
 
-impl Verb {
-    /// The command of a word.
-    pub(crate) fn of(word: &str) -> Option<Verb>
-        ensures { result ≡ spec.verb_of word.now }
-    {
-        if word == "run" {
-            return Some(Verb::Run);
-        }
-        if word == "serve" {
-            return Some(Verb::Serve);
-        }
-        if word == "replay" {
-            return Some(Verb::Replay);
-        }
-        if word == "parse" {
-            return Some(Verb::Parse);
-        }
-        if word == "dump" {
-            return Some(Verb::Dump);
-        }
-        if word == "compact" {
-            return Some(Verb::Compact);
-        }
-        if word == "key" {
-            return Some(Verb::Key);
-        }
-        None
-    }
-}
-
 /// A part of a command line: the command, a file behind it, or an option.
 #[derive(Clone, Copy, Debug)]
 pub enum Part {

@@ -9,6 +9,7 @@ ghost use Rattle.sb_words.specs.declared.part.Part.TheVariants as named;
 
 use crate::fit::first_unfit;
 use crate::given::{number_at, text_at};
+use crate::meaning::{SEVERITIES, SYNCS, meaning_of};
 use crate::part::{Part, Unfit, Verb};
 use crate::severity::Severity;
 use crate::syncs::Syncs;
@@ -232,7 +233,7 @@ fn severity_at(matches: &ArgMatches<'_>) -> Severity
     ensures { result ≡ spec.severity_in (text_at (rows_of (found_of matches.now)) named.Log) }
 {
     match text_at(matches, Part::Log) {
-        Some(word) => Severity::of(word).unwrap_or(Severity::Info),
+        Some(word) => meaning_of(word, &SEVERITIES).unwrap_or(Severity::Info),
         None => Severity::Info,
     }
 }
@@ -258,7 +259,7 @@ fn syncs_in(word: Option<&str>) -> Syncs
     ensures { result ≡ spec.syncs_in (spec.text_of word.entry) }
 {
     match word {
-        Some(word) => Syncs::of(word).unwrap_or(Syncs::Always),
+        Some(word) => meaning_of(word, &SYNCS).unwrap_or(Syncs::Always),
         None => Syncs::Always,
     }
 }

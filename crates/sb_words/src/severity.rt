@@ -1,6 +1,6 @@
 //! How severe it is what the log tells.
 ghost use Rattle.std.specs.Prelude.{◌≡◌, ◌≤◌, ◌↔◌, IsTrue};
-ghost use Rattle.sb_words.specs.Severities.{rank, severity_of};
+ghost use Rattle.sb_words.specs.Severities.{rank};
 
 /// How severe it is what a line of the log tells.
 #[derive(Clone, Copy, Debug)]
@@ -11,22 +11,6 @@ pub enum Severity {
 }
 
 impl Severity {
-    /// The severity of a word on the command line.
-    pub(crate) fn of(word: &str) -> Option<Severity>
-        ensures { result ≡ severity_of word.now }
-    {
-        if word == "error" {
-            return Some(Severity::Error);
-        }
-        if word == "warning" {
-            return Some(Severity::Warning);
-        }
-        if word == "info" {
-            return Some(Severity::Info);
-        }
-        None
-    }
-
     /// Whether what is so severe is told where the least that is told is as severe as this.
     pub fn is_told_at(self, least: Severity) -> bool
         ensures { IsTrue result ↔ (rank self ≤ rank least) }

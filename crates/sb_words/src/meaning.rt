@@ -1,0 +1,44 @@
+//! The words of a command line that each stand for a thing.
+ghost use Rattle.std.specs.Prelude.{◌≡◌};
+ghost use Rattle.sb_words.specs.Meanings as spec;
+
+use crate::part::Verb;
+use crate::severity::Severity;
+use crate::syncs::Syncs;
+
+/// The commands.
+pub(crate) const VERBS: [(&str, Verb); 7] = [
+    ("run", Verb::Run),
+    ("serve", Verb::Serve),
+    ("replay", Verb::Replay),
+    ("parse", Verb::Parse),
+    ("dump", Verb::Dump),
+    ("compact", Verb::Compact),
+    ("key", Verb::Key),
+];
+
+/// How severe it is what the log tells.
+pub(crate) const SEVERITIES: [(&str, Severity); 3] = [
+    ("error", Severity::Error),
+    ("warning", Severity::Warning),
+    ("info", Severity::Info),
+];
+
+/// When a record of a journal is brought to the disk.
+pub(crate) const SYNCS: [(&str, Syncs); 3] = [
+    ("always", Syncs::Always),
+    ("second", Syncs::Second),
+    ("never", Syncs::Never),
+];
+
+/// What a word stands for, if it is one of the table.
+pub(crate) fn meaning_of<T: Copy>(word: &str, table: &[(&str, T)]) -> Option<T>
+    ensures { result ≡ spec.meaning_of word.now (spec.entries_of table.now) }
+{
+    for (own, meant) in table {
+        if word == *own {
+            return Some(*meant);
+        }
+    }
+    None
+}
