@@ -1,29 +1,63 @@
--- One more digit of a number of at most nine.
-use Rattle.std.proofs.Common.{◌≡◌, ℕ, ◌+◌, ◌-◌, ◌*◌, ◌^◌, ◌<◌, ◌≤◌, true, ◌&&◌, List, length, take, get_or, refl, sym, ap, ◌∙◌, arith, lt-ltb, le-ltb, add-one}
-use Rattle.std.specs.Char.{digit_value, is_ascii_digit}
-use Rattle.std.specs.List.{list_all}
-use Rattle.std.specs.Str.Parse.{digits_value}
+-- Numbers of at most nine digits, as the library reads them.
+use Rattle.std.proofs.Common.{◌≡◌, ◌≢◌, ◌∙◌, ℕ, ◌^◌, ◌<◌, ◌≤◌, Bool, true, false, ◌&&◌, cond, List, [], ◌∷◌, length, get_or, Some, None, Result, Ok, Err, refl, sym, ap, arith, le-leb}
 use Rattle.std.proofs.Math.Nat.{pow-le-pow_right}
-use Rattle.std.proofs.lemmas.Int.Digits.{digits_value_more}
-use Rattle.std.proofs.lemmas.List.Folds.{list_all_more}
+use Rattle.std.proofs.lemmas.Bool.{false≢true, leb-true}
+use Rattle.std.proofs.lemmas.Fmt.{IsAscii-from_digits}
+use Rattle.std.proofs.lemmas.Int.Digits.{digits_value-lt}
+use Rattle.std.proofs.lemmas.Str.{IsUtf8-from_ascii}
+use Rattle.std.proofs.lemmas.Str.Parse.{IsNumeralModel, numerals_by_value, parse_plain, tells_all_ascii_digits}
+use Rattle.std.specs.Char.{is_ascii_digit}
+use Rattle.std.specs.List.{list_all}
+use Rattle.std.specs.Prelude.{nat_le}
+use Rattle.std.specs.Result.{OkIff, result_ok}
+use Rattle.std.specs.Str.{IsUtf8, all_ascii_digits}
+use Rattle.std.specs.Str.Parse.{ParsesUnsigned, digits_value}
+use Rattle.sb_words.specs.Text.{number_of}
 
--- a number of fewer than nine digits has room for one more
-pub room : (n i : ℕ) → n < 10 ^ i → i < 9 → n < 10 ^ 8
-room n i small few = let few' : i ≤ 8 = omega arith in let most : 10 ^ i ≤ 10 ^ 8 = pow-le-pow_right {n = 10} (omega arith) {i = i} {j = 8} few' in omega arith
+numerals : IsNumeralModel (λ ds. all_ascii_digits ds ≡ true) (digits_value 10)
+numerals = numerals_by_value (λ ds. all_ascii_digits ds ≡ true) tells_all_ascii_digits
 
-digit_value-digit : (d : ℕ) → 48 ≤ d → d ≤ 57 → digit_value d ≡ d - 48
-digit_value-digit d low high = rw (le-ltb d 48 low, lt-ltb d 58 (omega arith)) refl
+same-test : (ds : List ℕ) → list_all is_ascii_digit ds ≡ all_ascii_digits ds
+same-test [] = refl
+same-test (d ∷ ds) = λ i. is_ascii_digit d && same-test ds i
 
--- the number of one more digit
-pub value-more : (digits : List ℕ) (i d n : ℕ) → i < length digits → get_or digits i 0 ≡ d → 48 ≤ d → d ≤ 57 → n ≡ digits_value 10 (take i digits) → n * 10 + (d - 48) ≡ digits_value 10 (take (i + 1) digits)
-value-more digits i d n within is low high so_far =
-    let v : digit_value (get_or digits i 0) ≡ d - 48 = ap digit_value is ∙ digit_value-digit d low high in
-    sym (digits_value_more 10 digits i within ∙ ap (λ x. digits_value 10 (take i digits) * 10 + x) v ∙ ap (λ x. x * 10 + (d - 48)) (sym so_far))
+-- it is a number
+record IsFew (ds : List ℕ) : Type 0 where
+  some : 1 ≤ length ds
+  few : length ds ≤ 9
+  digits : all_ascii_digits ds ≡ true
 
--- it has one more digit
-pub small-more : (n i d : ℕ) → n < 10 ^ i → 48 ≤ d → d ≤ 57 → n * 10 + (d - 48) < 10 ^ (i + 1)
-small-more n i d small low high = rw add-one (omega arith)
+small : (ds : List ℕ) → IsFew ds → digits_value 10 ds < 2 ^ 32
+small ds is =
+    let below : digits_value 10 ds < 10 ^ length ds = digits_value-lt 10 ds (numerals.to ds is.digits) in
+    let most : 10 ^ length ds ≤ 10 ^ 9 = pow-le-pow_right {n = 10} (omega arith) {i = length ds} {j = 9} is.few in
+    omega (arith, below, most)
 
--- all are digits
-pub digits-more : (digits : List ℕ) (i : ℕ) → i < length digits → is_ascii_digit (get_or digits i 0) ≡ true → list_all is_ascii_digit (take i digits) ≡ true → list_all is_ascii_digit (take (i + 1) digits) ≡ true
-digits-more digits i within is all = list_all_more is_ascii_digit digits i 0 within ∙ (λ j. all j && is j)
+is-number : (ds : List ℕ) → IsFew ds → number_of ds ≡ Some (digits_value 10 ds)
+is-number ds is = rw (le-leb 1 (length ds) is.some, le-leb (length ds) 9 is.few, same-test ds, is.digits)
+
+no-number : (ds : List ℕ) → (IsFew ds → ⊥) → number_of ds ≡ None
+no-number ds never = by (nat_le 1 (length ds)) (nat_le (length ds) 9) (list_all is_ascii_digit ds) refl refl refl
+  where
+    by : (a b c : Bool) → nat_le 1 (length ds) ≡ a → nat_le (length ds) 9 ≡ b → list_all is_ascii_digit ds ≡ c → cond (a && b && c) (Some (digits_value 10 ds)) None ≡ None
+    by true true true p q r = absurd (never (record { some = leb-true 1 (length ds) p; few = leb-true (length ds) 9 q; digits = sym (same-test ds) ∙ r }))
+    by true true false p q r = refl
+    by true false c p q r = refl
+    by false b c p q r = refl
+
+-- a number's bytes are a text
+pub no-text : (ds : List ℕ) → (IsUtf8 ds → ⊥) → number_of ds ≡ None
+no-text ds never = no-number ds (λ is. never (IsUtf8-from_ascii ds (IsAscii-from_digits ds (numerals.to ds is.digits))))
+
+-- none begins with a plus
+pub no-plus : (ds : List ℕ) → get_or ds 0 0 ≡ 43 → number_of ds ≡ None
+no-plus [] plus = refl
+no-plus (d ∷ ds) plus = no-number (d ∷ ds) (λ is. absurd (false≢true (sym (λ i. is_ascii_digit (plus i) && all_ascii_digits ds) ∙ is.digits)))
+
+-- what the library reads where there is no plus
+pub read-number : {E : Type 0} (ds : List ℕ) (read : Result ℕ E) → ParsesUnsigned 32 10 ds read → get_or ds 0 0 ≢ 43 → length ds ≤ 9 → result_ok read ≡ number_of ds
+read-number {E = E} ds read parses plain few = by read (parse_plain numerals 32 ds read parses plain)
+  where
+    by : (r : Result ℕ E) → OkIff r ((all_ascii_digits ds ≡ true) × (0 < length ds) × (digits_value 10 ds < 2 ^ 32)) (digits_value 10 ds) → result_ok r ≡ number_of ds
+    by (Ok n) h = ap Some h.1 ∙ sym (is-number ds (record { some = h.0.1; few = few; digits = h.0.0 }))
+    by (Err e) h = sym (no-number ds (λ is. h (is.digits, is.some, small ds is)))

@@ -1,13 +1,11 @@
 //! What a line of a text of keys says.
-ghost use Rattle.std.specs.Prelude.{◌≡◌, ◌≤◌, length, if◌then◌else◌, option_map};
-ghost use Rattle.std.specs.Char.{is_ascii_digit};
-ghost use Rattle.std.specs.List.{list_all};
-ghost use Rattle.std.specs.Str.Parse.{digits_value};
+ghost use Rattle.std.specs.Prelude.{◌≡◌, option_map};
 ghost use Rattle.sb_words.specs.Text.{digest_of, holder_of, key_of, number_of, said};
 
 use crate::cut::Cut;
 use crate::digest::Digest;
 use hex::FromHex;
+use std::str;
 
 /// Who looks at the status pages, as the holder of keys: no tenant has so large a number.
 pub const STATUS: u32 = 1_000_000_000;
@@ -67,21 +65,12 @@ fn number(digits: &[u8]) -> Option<u32>
     if digits.is_empty() || digits.len() > DIGITS {
         return None;
     }
-    value(digits)
-}
-
-/// The number that so few bytes spell, if all are digits.
-fn value(digits: &[u8]) -> Option<u32>
-    requires { length digits.now ≤ 9 }
-    ensures { result ≡
-        (if list_all is_ascii_digit digits.now then Some (digits_value 10 digits.now) else None) }
-{
-    let mut number: u32 = 0;
-    for digit in digits {
-        if !digit.is_ascii_digit() {
-            return None;
-        }
-        number = number * 10 + u32::from(*digit - b'0');
+    // for a number a plus may stand in front
+    if digits[0] == b'+' {
+        return None;
     }
-    Some(number)
+    match str::from_utf8(digits) {
+        Ok(text) => text.parse::<u32>().ok(),
+        Err(_) => None,
+    }
 }
