@@ -44,6 +44,19 @@ module _ (admits : Admits) (hosted : Hosted) where
   all_to_anyone old [] text new are = are
   all_to_anyone old (p ∷ ps) text new (first, rest, mid, is, going, own, later) = (first, rest, mid, is, going, to_anyone old p first mid own, all_to_anyone mid ps rest new later)
 
+  -- ---- a session stays
+
+  keeps : (s : Option Session) (p : Piece) (text : List ℕ) (new : State) → RespondsBy admits hosted s p text new → is_some s ≡ true → is_some new.0 ≡ true
+  keeps None p text new responds has = absurd (false≢true has)
+  keeps (Some s) p text new (e, after, own_line, said, exchange, now) has = ap is_some now
+
+  pub keeps_session : (old : State) (p : Piece) (text : List ℕ) (new : State) → Responds admits hosted old p text new → is_some old.0 ≡ true → is_some new.0 ≡ true
+  keeps_session old p text new responds has = keeps old.0 p text new responds has
+
+  pub all_keep_session : (old : State) (ps : List Piece) (text : List ℕ) (new : State) → AreAnswered (Responds admits hosted) over old ps text new → is_some old.0 ≡ true → is_some new.0 ≡ true
+  all_keep_session old [] text new (none, same) has = ap (λ (x : State). is_some x.0) same ∙ has
+  all_keep_session old (p ∷ ps) text new (first, rest, mid, is, going, own, later) has = all_keep_session mid ps rest new later (keeps_session old p first mid own has)
+
   -- ---- no line is answered before a session is opened
 
   abbrev Answered : State → List Piece → List ℕ → State → Type 0

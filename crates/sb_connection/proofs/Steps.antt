@@ -14,7 +14,7 @@ use Rattle.sb_connection.specs.Responding.{Admits, Greets, Responds, RespondsBy,
 use Rattle.sb_connection.specs.Admission.{BringsKey}
 use Rattle.sb_connection.specs.Standing.{is_open}
 use Rattle.sb_desk.specs.Calls.{Session}
-use Rattle.sb_connection.proofs.Admitting.{all_to_anyone, last_cases, none_before, none_from, some_from, to_anyone}
+use Rattle.sb_connection.proofs.Admitting.{all_keep_session, all_to_anyone, keeps_session, last_cases, none_before, none_from, some_from, to_anyone}
 use Rattle.sb_connection.proofs.Whole.{admitted}
 
 pub nothing_holds : (hosted : Hosted) → Holds (record { history = nothing_yet hosted; opened = line []; talk = (None, false) })
@@ -359,6 +359,7 @@ pub still : (admits : Admits) (k : Talking) → IsSettled k.history → Steps ad
 still admits k settled = record {
   holds = λ holds. holds;
   lets = λ holds keyed before after. absurd (false≢true (sym before ∙ after));
+  stays = λ holds before. before;
   goes = λ holds more. absurd (false≢true more);
   streams = (refl, refl, refl, refl);
   settles = λ over. settled;
@@ -378,6 +379,7 @@ module _ (admits : Admits) (k0 k : Talking) (is : k0 ≡ k) (going : is_open k0.
       (record {
         holds = λ holds. holds_line k0 holds going fed behind split p completes admits new answers;
         lets = λ holds. brings k0 holds going fed behind split p completes admits new answers;
+        stays = λ holds before. answers.attached ∙ keeps_session admits k0.history.hosted k0.talk p answers.text new.talk answers.responds (sym holds.attached ∙ before);
         goes = λ holds more. took k0 holds going fed behind split p completes admits new answers;
         streams = a.streams;
         settles = λ more. absurd (false≢true (sym more));
@@ -390,6 +392,7 @@ module _ (admits : Admits) (k0 k : Talking) (is : k0 ≡ k) (going : is_open k0.
       (record {
         holds = λ holds. holds_none k0 holds going q completes;
         lets = λ holds keyed before after. absurd (false≢true (sym before ∙ after));
+        stays = λ holds before. before;
         goes = λ holds more. absurd (false≢true more);
         streams = (refl, refl, refl, refl);
         settles = λ over. inr (inr (refl, more));
@@ -403,6 +406,7 @@ module _ (admits : Admits) (k0 k : Talking) (is : k0 ≡ k) (going : is_open k0.
       (record {
         holds = λ holds. holds_last (with_waiting k0 [] q) (open_yet holds) going refl at_end admits new finishes;
         lets = λ holds. brings_last (with_waiting k0 [] q) (open_yet holds) going refl at_end admits new finishes;
+        stays = λ holds before. finishes.attached ∙ all_keep_session admits k0.history.hosted k0.talk (last_piece q) finishes.text new.talk finishes.answered (sym holds.attached ∙ before);
         goes = λ holds more. absurd (false≢true more);
         streams = a.streams;
         settles = λ over. inl (closed_last new.history.state _ _ _ a.adds);

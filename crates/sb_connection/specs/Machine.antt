@@ -23,10 +23,12 @@ pub record Holds (k : Talking) : Type 0 where
   pub attached : k.history.attached ≡ is_some k.talk.0
   pub answered : AreAnswered (Responds anyone k.history.hosted) over (None, false) pieces text k.talk
 
--- A step keeps what holds, and receives and sends nothing. It opens a session only to whom it may; where there may be more, it took bytes.
+-- A step keeps what holds, and receives and sends nothing. It opens a session only to whom it may, and loses none; where there may be more, it
+-- took bytes.
 pub record Steps (admits : Admits) (old : Talking) (more : Bool) (new : Talking) : Type 0 where
   pub holds : Holds old → Holds new
   pub lets : Holds old → LetsIn admits old.history new.history
+  pub stays : Holds old → old.history.attached ≡ true → new.history.attached ≡ true
   pub goes : Holds old → more ≡ true → length new.history.waiting < length old.history.waiting
   pub streams : SameStreams old.history new.history
   pub settles : more ≡ false → IsSettled new.history

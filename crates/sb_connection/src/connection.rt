@@ -89,6 +89,7 @@ impl<H: Hosting> Connection<H> {
         ensures settles { IsFalse result → IsSettled self.new }
         ensures goes { IsTrue result → length self.new.waiting < length self.old.waiting }
         ensures lets { LetsIn (A.admits admission.now) self.old self.new }
+        ensures stays { self.old.attached ≡ true → self.new.attached ≡ true }
     {
         for _line in 0..LINES_A_TURN {
             if !self.machine.step(rt, watch, admission) {

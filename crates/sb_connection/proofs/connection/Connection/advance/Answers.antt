@@ -8,6 +8,9 @@ returns-then-not-step-clause-lets g c =
     let so_far = c.loop-line.invariant in
     lets_then (g.A.Admission.admits c.args.admission.now) c.args.self.now c.loop-line.self-inside.machine.history c.step.new.self.history c.step.ensures.streams so_far.lets (c.step.ensures.lets so_far.holds)
 
+pub returns-then-not-step-clause-stays : goal.returns-then-not-step-clause-stays
+returns-then-not-step-clause-stays g c = λ before. c.step.ensures.stays c.loop-line.invariant.holds (c.loop-line.invariant.stays before)
+
 pub loop-line-preserved : goal.loop-line-preserved
 loop-line-preserved g c =
     let so_far = c.loop-line.invariant in
@@ -17,5 +20,6 @@ loop-line-preserved g c =
       streams = (same.0 ∙ so_far.streams.0, same.1 ∙ so_far.streams.1, same.2 ∙ so_far.streams.2, same.3 ∙ so_far.streams.3);
       holds = c.step.ensures.holds so_far.holds;
       lets = lets_then (g.A.Admission.admits c.args.admission.now) c.args.self.now c.loop-line.self-inside.machine.history c.step.new.self.history same so_far.lets (c.step.ensures.lets so_far.holds);
+      stays = λ before. c.step.ensures.stays so_far.holds (so_far.stays before);
       goes = omega (arith, fewer, so_far.goes);
     }
