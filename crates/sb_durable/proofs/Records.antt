@@ -1,8 +1,9 @@
 -- Records that are played to a cell, and sessions that are ended behind them.
-use Rattle.std.proofs.Common.{◌≡◌, ◌⊎◌, ℕ, zero, suc, ◌≢◌, ◌<◌, ◌≤◌, ◌+◌, Bool, true, false, cond, ◌==◌, List, [], ◌∷◌, ◌++◌, length, map, filter, take, codes, refl, Option, Some, None, sym, ap, ◌∙◌, subst, inl, inr, arith, append_assoc, append-nil, IsTrue, IsFalse, nat_lt, ltb-true}
+use Rattle.std.proofs.Common.{◌≡◌, ◌⊎◌, ℕ, ◌≢◌, ◌<◌, ◌≤◌, ◌+◌, Bool, true, false, cond, ◌==◌, List, [], ◌∷◌, ◌++◌, length, map, filter, take, codes, refl, Option, Some, None, sym, ap, ◌∙◌, subst, inl, inr, arith, append_assoc, append-nil, IsTrue, IsFalse, nat_lt, ltb-true}
 use Rattle.std.proofs.lemmas.Bool.{eqb-true, eq-eqb, false_from_ne_true, true≢false}
-use Rattle.std.proofs.lemmas.List.{map-append}
+use Rattle.std.proofs.lemmas.List.{map-append, take_more}
 use Rattle.std.proofs.lemmas.List.Elements.{filter-append}
+use Rattle.std.proofs.lemmas.List.FromFn.{get_or-range_with_len}
 use Rattle.sqlite_disk.specs.declared.Disk.{Ghosts}
 use Rattle.sb_durable.specs.Journal.{Gives}
 use Rattle.sb_durable.specs.Records.{Entry as Record, IsEntry, Takes, bytes_of, entry_bytes, entry_of}
@@ -119,15 +120,9 @@ ends_more t old mid new all s (same, first, others) one = (same_then old mid new
 -- ---- the sessions of a tenant, one after another
 
 take_session : (k : ℕ) → k < 8 → take (k + 1) sessions ≡ take k sessions ++ k ∷ []
-take_session zero below = refl
-take_session (suc zero) below = refl
-take_session (suc (suc zero)) below = refl
-take_session (suc (suc (suc zero))) below = refl
-take_session (suc (suc (suc (suc zero)))) below = refl
-take_session (suc (suc (suc (suc (suc zero))))) below = refl
-take_session (suc (suc (suc (suc (suc (suc zero)))))) below = refl
-take_session (suc (suc (suc (suc (suc (suc (suc zero))))))) below = refl
-take_session (suc (suc (suc (suc (suc (suc (suc (suc k)))))))) below = absurd (omega (arith, below))
+take_session k below =
+    take_more sessions k 0 below
+    ∙ ap (λ (s : ℕ). take k sessions ++ s ∷ []) (get_or-range_with_len 0 8 k 0 below ∙ (let p : 0 + k ≡ k = omega arith in p))
 
 -- this one is taken where it is such
 pub session_taken : (p : ℕ → Bool) (k : ℕ) → k < 8 → p k ≡ true → filter p (take (k + 1) sessions) ≡ filter p (take k sessions) ++ k ∷ []

@@ -3,18 +3,24 @@ ghost use Rattle.std.specs.Prelude.{◌≡◌};
 ghost use Rattle.sb_durable.specs.declared.error.JournalError.TheVariants.{Device, Memory};
 
 use std::alloc::{AllocError, AllocFailed};
-use std::{fmt, io};
+use std::io;
+use thiserror::Error;
 
-#[derive(Clone, Copy, Debug)]
+#[derive(Clone, Copy, Debug, Error)]
 pub enum JournalError {
     /// A call on the file failed.
+    #[error("{0}")]
     Device(io::Error),
+    #[error("there is no memory")]
     Memory,
     /// The file stands for no list: it was changed by something else.
+    #[error("it is damaged")]
     Damaged,
     /// An earlier write or sync has failed in this run.
+    #[error("a write of it has failed before")]
     Spent,
     /// There is no room: in what waits, or in a file of any length.
+    #[error("there is no room in it")]
     Full,
 }
 
@@ -39,17 +45,5 @@ impl<T: Drop> From<AllocFailed<T>> for JournalError {
 
     fn from(_: AllocFailed<T>) -> Self {
         JournalError::Memory
-    }
-}
-
-impl fmt::Display for JournalError {
-    fn fmt<W: fmt::Write>(&self, f: &mut fmt::Formatter<W>) -> fmt::Result {
-        match self {
-            JournalError::Device(error) => write!(f, "{error}"),
-            JournalError::Memory => f.write_str("there is no memory"),
-            JournalError::Damaged => f.write_str("it is damaged"),
-            JournalError::Spent => f.write_str("a write of it has failed before"),
-            JournalError::Full => f.write_str("there is no room in it"),
-        }
     }
 }

@@ -9,34 +9,28 @@ use std::alloc::Global;
 use std::fs::{Files, OpenOptions, TryLockError};
 use std::os::fd::AsRawFd;
 use std::path::Path;
-use std::{fmt, fs, io};
+use std::{fs, io};
+use thiserror::Error;
 
 /// A file that held what `S` says as it was opened.
 pub type File<S> = Modelled<SystemFile, S>;
 
 /// Why a file isn't opened.
-#[derive(Clone, Copy, Debug)]
+#[derive(Clone, Copy, Debug, Error)]
 pub enum OpenError {
+    #[error("{0}")]
     System(io::Error),
     /// Another server has it.
+    #[error("another server has it open")]
     Locked,
     /// A folder, a device or the like has its name.
+    #[error("it is no file")]
     NotAFile,
 }
 
 impl From<io::Error> for OpenError {
     fn from(error: io::Error) -> OpenError {
         OpenError::System(error)
-    }
-}
-
-impl fmt::Display for OpenError {
-    fn fmt<W: fmt::Write>(&self, f: &mut fmt::Formatter<W>) -> fmt::Result {
-        match self {
-            OpenError::System(error) => write!(f, "{error}"),
-            OpenError::Locked => f.write_str("another server has it open"),
-            OpenError::NotAFile => f.write_str("it is no file"),
-        }
     }
 }
 
@@ -67,19 +61,12 @@ pub fn open_file<R: Files<File = fs::File>, S: Start>(
 }
 
 /// Why there is no journal at a path.
-#[derive(Clone, Copy, Debug)]
+#[derive(Clone, Copy, Debug, Error)]
 pub enum StartError {
+    #[error("{0}")]
     File(OpenError),
+    #[error("{0}")]
     Begin(BeginError),
-}
-
-impl fmt::Display for StartError {
-    fn fmt<W: fmt::Write>(&self, f: &mut fmt::Formatter<W>) -> fmt::Result {
-        match self {
-            StartError::File(error) => write!(f, "{error}"),
-            StartError::Begin(error) => write!(f, "{error}"),
-        }
-    }
 }
 
 /// The journal of a path.

@@ -10,27 +10,20 @@ ghost use Rattle.sb_durable.specs.declared.head.Head.{Head as TheHead};
 use crate::{Head, Journal, JournalError, Log};
 use sqlite_disk::Disk;
 use std::alloc::{AllocError, Global};
-use std::fmt;
+use thiserror::Error;
 
 /// Why a log doesn't begin with a head.
-#[derive(Clone, Copy, Debug)]
+#[derive(Clone, Copy, Debug, Error)]
 pub enum BeginError {
+    #[error("{0}")]
     Journal(JournalError),
     /// It begins as the log of another program, or with lines of another meaning.
+    #[error("it is no journal of this version")]
     OtherMeaning,
+    #[error("it has another number of tenants")]
     OtherTenants,
+    #[error("it has another bound on considerations")]
     OtherBound,
-}
-
-impl fmt::Display for BeginError {
-    fn fmt<W: fmt::Write>(&self, f: &mut fmt::Formatter<W>) -> fmt::Result {
-        match self {
-            BeginError::Journal(error) => write!(f, "{error}"),
-            BeginError::OtherMeaning => f.write_str("it is no journal of this version"),
-            BeginError::OtherTenants => f.write_str("it has another number of tenants"),
-            BeginError::OtherBound => f.write_str("it has another bound on considerations"),
-        }
-    }
 }
 
 /// Opens the journal of a file that a crash may have left, or begins one in an empty file. It may crash too.

@@ -10,8 +10,8 @@ use crate::player::Player;
 use crate::{Disk, Journal, JournalError, Record, first_record};
 use sb_desk::{AttachError, Hosting, Stub};
 use std::alloc::Global;
-use std::fmt;
 use std::sync::Wait;
+use thiserror::Error;
 
 /// Who is told how far the playing is.
 pub trait Progress {
@@ -30,47 +30,34 @@ pub struct Played {
 }
 
 /// Why a record isn't played.
-#[derive(Clone, Copy, Debug)]
+#[derive(Clone, Copy, Debug, Error)]
 pub enum PlayFault {
+    #[error("{0}")]
     Journal(JournalError),
     /// Its bytes are no record.
+    #[error("it is damaged")]
     NoRecord,
+    #[error("the tenant isn't there")]
     NoTenant,
+    #[error("a tenant has no session of this number")]
     NoSession,
     /// Its session isn't open.
+    #[error("its session isn't open")]
     NotOpen,
+    #[error("its session can't be opened")]
     Refused(AttachError),
+    #[error("there is no memory for it")]
     NoMemory,
+    #[error("the tenant's trail is full")]
     TrailFull,
 }
 
 /// Why a journal isn't played, and the number of the record, from 1.
-#[derive(Clone, Copy, Debug)]
+#[derive(Clone, Copy, Debug, Error)]
+#[error("record {record}: {why}")]
 pub struct PlayError {
     pub record: u64,
     pub why: PlayFault,
-}
-
-impl fmt::Display for PlayFault {
-    fn fmt<W: fmt::Write>(&self, f: &mut fmt::Formatter<W>) -> fmt::Result {
-        match self {
-            PlayFault::Journal(error) => write!(f, "{error}"),
-            PlayFault::NoRecord => f.write_str("it is damaged"),
-            PlayFault::NoTenant => f.write_str("the tenant isn't there"),
-            PlayFault::NoSession => f.write_str("a tenant has no session of this number"),
-            PlayFault::NotOpen => f.write_str("its session isn't open"),
-            PlayFault::Refused(_) => f.write_str("its session can't be opened"),
-            PlayFault::NoMemory => f.write_str("there is no memory for it"),
-            PlayFault::TrailFull => f.write_str("the tenant's trail is full"),
-        }
-    }
-}
-
-impl fmt::Display for PlayError {
-    fn fmt<W: fmt::Write>(&self, f: &mut fmt::Formatter<W>) -> fmt::Result {
-        let (record, why) = (self.record, self.why);
-        write!(f, "record {record}: {why}")
-    }
 }
 
 /// Plays the records of a journal to a host without steps, and ends the sessions that are open then.

@@ -6,9 +6,9 @@ ghost use Rattle.sb_durable.specs.Journal.{disk_of};
 ghost use Rattle.sb_wire.specs.Lines.{Piece as ItsPiece};
 ghost use Rattle.sb_wire.specs.Output.{text_behind};
 ghost use Rattle.sb_wire.specs.Responses.{StopsBy};
-ghost use Rattle.sb_wire.specs.Seen.{addressed_seen, piece_seen};
+ghost use Rattle.sb_wire.specs.Seen.{addressed_seen};
 ghost use Rattle.sb_wire.specs.Stream.{IsSeenInTime, MayFail, OnWriteFault};
-ghost use Rattle.sb_durable.specs.Recorded.{Adds, IsRecordedAs, MayAdd, Responds, RespondsTo};
+ghost use Rattle.sb_durable.specs.Recorded.{Adds, IsRecordedAs, MayAdd, RespondsTo};
 ghost use Rattle.sb_durable.specs.Restart.{Tells};
 ghost use Rattle.sb_durable.specs.Runs.{AnswersRecorded, RunsRecorded, event_of, records_of};
 
@@ -161,34 +161,17 @@ impl<D: Disk> Responder<Cell, Recording<D>> for RecordedLines {
         first: &mut Cell,
         second: &mut Recording<D>,
     ) -> Result<(), AllocError> {
-        answer_piece(alloc, piece, out, first, second)
+        match piece {
+            Piece::TooLong => write_refusal(out, &Prefix::none(), WireRefusal::TooLong),
+            Piece::Line(line) => match Addressed::split(line) {
+                Some(addressed) => answer_line(alloc, addressed, out, first, second),
+                None => write_refusal(out, &Prefix::none(), WireRefusal::BadLine),
+            },
+        }
     }
 
     fn is_over(&self, _first: &Cell, second: &Recording<D>) -> bool {
         second.fault.is_some()
-    }
-}
-
-/// Answers a line behind the text so far.
-fn answer_piece<D: Disk>(
-    alloc: Global,
-    piece: Piece<'_>,
-    out: &mut Vec<u8>,
-    cell: &mut Cell,
-    recording: &mut Recording<D>,
-) -> Result<(), AllocError>
-    requires { is_some recording.old.fault ≡ false }
-    ensures { (text : List ℕ)
-        × Responds D.Disk.seen D.Disk.may_leave (cell.old, recording.old) (piece_seen piece.entry) text (cell.new, recording.new)
-        × OnOk result (out.new.items ≡ out.old.items ++ text)
-        × OnErr result (out.new.items ≡ out.old.items) }
-{
-    match piece {
-        Piece::TooLong => write_refusal(out, &Prefix::none(), WireRefusal::TooLong),
-        Piece::Line(line) => match Addressed::split(line) {
-            Some(addressed) => answer_line(alloc, addressed, out, cell, recording),
-            None => write_refusal(out, &Prefix::none(), WireRefusal::BadLine),
-        },
     }
 }
 

@@ -65,32 +65,38 @@ fn measure(file: &fs::File) -> io::Result<usize> {
     Ok(file.metadata()?.len() as usize)
 }
 
-fn read(file: &fs::File, at: usize, buf: &mut [u8]) -> io::Result<usize>
-    ensures { IfOk result (λ n. (0 < n) × (n ≤ length buf.old) × (at < 2 ^ 63)) }
+/// A place in the file, as the system counts.
+fn offset(at: usize) -> io::Result<u64>
+    ensures { IfOk result (λ offset. at < 2 ^ 63) }
 {
     if at > MAX_OFFSET {
         return Err(io::ErrorKind::InvalidInput.into());
     }
-    let got = file.read_at(buf, at as u64)?;
-    if got == 0 {
-        Err(io::ErrorKind::UnexpectedEof.into())
-    } else {
-        Ok(got)
+    Ok(at as u64)
+}
+
+/// How many bytes the system has moved, where it has moved some.
+fn some(count: usize, otherwise: io::ErrorKind) -> io::Result<usize>
+    ensures { IfOk result (λ n. (n ≡ count) × (0 < n)) }
+{
+    if count == 0 {
+        return Err(otherwise.into());
     }
+    Ok(count)
+}
+
+fn read(file: &fs::File, at: usize, buf: &mut [u8]) -> io::Result<usize>
+    ensures { IfOk result (λ n. (0 < n) × (n ≤ length buf.old) × (at < 2 ^ 63)) }
+{
+    let count = file.read_at(buf, offset(at)?)?;
+    some(count, io::ErrorKind::UnexpectedEof)
 }
 
 fn write(file: &fs::File, at: usize, bytes: &[u8]) -> io::Result<usize>
     ensures { IfOk result (λ n. (0 < n) × (n ≤ length bytes.now) × (at < 2 ^ 63)) }
 {
-    if at > MAX_OFFSET {
-        return Err(io::ErrorKind::InvalidInput.into());
-    }
-    let put = file.write_at(bytes, at as u64)?;
-    if put == 0 {
-        Err(io::ErrorKind::WriteZero.into())
-    } else {
-        Ok(put)
-    }
+    let count = file.write_at(bytes, offset(at)?)?;
+    some(count, io::ErrorKind::WriteZero)
 }
 
 impl Calls for SystemFile {
