@@ -2,8 +2,12 @@
 
 use crate::mark::Mark;
 use crate::page::Page;
+use crate::piece::Piece;
 use crate::view::{Activity, Refused, Rollbacks, SlowView, WorkerNumbers};
 use std::alloc::AllocError;
+
+/// The marks of a row of two cells.
+const ROW: [Mark; 3] = [Mark::Row, Mark::NumberCell, Mark::RowEnd];
 
 /// Microseconds.
 const SECOND: u64 = 1_000_000;
@@ -78,10 +82,10 @@ fn write_worker(
     } else {
         page.count(Mark::Row, place as u64)?;
     }
-    page.counts(&[
-        (Mark::NumberCell, worker.taken.saturating_sub(worker.closed)),
-        (Mark::NumberCell, worker.taken),
-        (Mark::NumberCell, worker.lines),
+    page.cells(&[
+        worker.taken.saturating_sub(worker.closed),
+        worker.taken,
+        worker.lines,
     ])?;
     page.mark(Mark::NumberCell)?;
     write_seconds(page, worker.busy)?;
@@ -92,10 +96,7 @@ fn write_worker(
 pub(crate) fn write_rollbacks(page: &mut Page<'_>, rollbacks: Rollbacks) -> Result<(), AllocError> {
     page.mark(Mark::CausesHead)?;
     for (cause, count) in causes(rollbacks).as_slice() {
-        page.mark(Mark::Row)?;
-        page.text(cause.as_bytes())?;
-        page.count(Mark::NumberCell, *count)?;
-        page.mark(Mark::RowEnd)?;
+        page.pair(ROW, Piece::Text(cause.as_bytes()), *count)?;
     }
     page.mark(Mark::TableEnd)
 }
@@ -117,12 +118,20 @@ pub(crate) fn write_refusals(page: &mut Page<'_>, refusals: &[Refused]) -> Resul
         return Ok(());
     }
     page.mark(Mark::RefusalsHead)?;
-    for refused in refusals {
-        page.count(Mark::Row, refused.number)?;
-        page.count(Mark::NumberCell, refused.count)?;
-        page.mark(Mark::RowEnd)?;
-    }
+    write_refused(page, ROW, refusals)?;
     page.mark(Mark::TableEnd)
+}
+
+/// Writes the number of each refusal, and how often it was given.
+pub(crate) fn write_refused(
+    page: &mut Page<'_>,
+    marks: [Mark; 3],
+    refusals: &[Refused],
+) -> Result<(), AllocError> {
+    for refused in refusals {
+        page.pair(marks, Piece::Number(refused.number), refused.count)?;
+    }
+    Ok(())
 }
 
 /// Writes the lines that took longest, if there are some.

@@ -1,37 +1,25 @@
 //! What a server has counted, as samples of Prometheus.
 
-use crate::activity::{causes, write_seconds};
+use crate::activity::{causes, write_refused, write_seconds};
 use crate::mark::Mark;
 use crate::page::Page;
+use crate::piece::Piece;
 use crate::view::{Activity, Refused, Rollbacks, Times, WorkerNumbers};
 use std::alloc::AllocError;
 
-/// A number that each worker has.
-#[derive(Clone, Copy)]
-struct Family {
-    head: Mark,
-    sample: Mark,
-}
+/// The numbers that each worker has: the head of their family, and their samples.
+const FAMILIES: [(Mark, Mark); 4] = [
+    (Mark::WorkerTakenFamily, Mark::WorkerTakenSample),
+    (Mark::WorkerOpenFamily, Mark::WorkerOpenSample),
+    (Mark::WorkerLinesFamily, Mark::WorkerLinesSample),
+    (Mark::WorkerBusyFamily, Mark::WorkerBusySample),
+];
 
-const TAKEN: Family = Family {
-    head: Mark::WorkerTakenFamily,
-    sample: Mark::WorkerTakenSample,
-};
+/// The marks of the sample of a cause.
+const CAUSE: [Mark; 3] = [Mark::RollbacksSample, Mark::SampleEnd, Mark::NewLine];
 
-const OPEN: Family = Family {
-    head: Mark::WorkerOpenFamily,
-    sample: Mark::WorkerOpenSample,
-};
-
-const LINES: Family = Family {
-    head: Mark::WorkerLinesFamily,
-    sample: Mark::WorkerLinesSample,
-};
-
-const BUSY: Family = Family {
-    head: Mark::WorkerBusyFamily,
-    sample: Mark::WorkerBusySample,
-};
+/// The marks of the sample of a refusal.
+const REFUSAL: [Mark; 3] = [Mark::RefusalsSample, Mark::SampleEnd, Mark::NewLine];
 
 /// Writes all that was counted.
 pub(crate) fn write_activity(
@@ -43,7 +31,7 @@ pub(crate) fn write_activity(
     write_rollbacks(page, activity.rollbacks)?;
     write_refusals(page, activity.refusals)?;
     write_times(page, activity.times)?;
-    for family in &[TAKEN, OPEN, LINES, BUSY] {
+    for family in &FAMILIES {
         write_family(page, *family, activity.workers)?;
     }
     Ok(())
@@ -52,10 +40,7 @@ pub(crate) fn write_activity(
 fn write_rollbacks(page: &mut Page<'_>, rollbacks: Rollbacks) -> Result<(), AllocError> {
     page.mark(Mark::RollbacksFamily)?;
     for (cause, count) in causes(rollbacks).as_slice() {
-        page.mark(Mark::RollbacksSample)?;
-        page.text(cause.as_bytes())?;
-        page.count(Mark::SampleEnd, *count)?;
-        page.mark(Mark::NewLine)?;
+        page.pair(CAUSE, Piece::Text(cause.as_bytes()), *count)?;
     }
     Ok(())
 }
@@ -65,12 +50,7 @@ fn write_refusals(page: &mut Page<'_>, refusals: &[Refused]) -> Result<(), Alloc
         return Ok(());
     }
     page.mark(Mark::RefusalsFamily)?;
-    for refused in refusals {
-        page.count(Mark::RefusalsSample, refused.number)?;
-        page.count(Mark::SampleEnd, refused.count)?;
-        page.mark(Mark::NewLine)?;
-    }
-    Ok(())
+    write_refused(page, REFUSAL, refusals)
 }
 
 /// Writes how many lines took no longer than each limit.
@@ -99,19 +79,20 @@ fn write_times(page: &mut Page<'_>, times: Times<'_>) -> Result<(), AllocError> 
 /// Writes the samples of a family, one for each worker. The last one is the door.
 fn write_family(
     page: &mut Page<'_>,
-    family: Family,
+    family: (Mark, Mark),
     workers: &[WorkerNumbers],
 ) -> Result<(), AllocError> {
-    page.mark(family.head)?;
+    let (head, sample) = family;
+    page.mark(head)?;
     for (place, worker) in workers.iter().enumerate() {
-        page.mark(family.sample)?;
+        page.mark(sample)?;
         if place + 1 == workers.len() {
             page.mark(Mark::Door)?;
         } else {
             page.number(place as u64)?;
         }
         page.mark(Mark::SampleEnd)?;
-        write_number(page, family, *worker)?;
+        write_number(page, sample, *worker)?;
         page.mark(Mark::NewLine)?;
     }
     Ok(())
@@ -119,10 +100,10 @@ fn write_family(
 
 fn write_number(
     page: &mut Page<'_>,
-    family: Family,
+    sample: Mark,
     worker: WorkerNumbers,
 ) -> Result<(), AllocError> {
-    match family.sample {
+    match sample {
         Mark::WorkerTakenSample => page.number(worker.taken),
         Mark::WorkerOpenSample => page.number(worker.taken.saturating_sub(worker.closed)),
         Mark::WorkerLinesSample => page.number(worker.lines),

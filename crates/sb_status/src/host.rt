@@ -82,16 +82,16 @@ fn write_tenant(page: &mut Page<'_>, tenant: TenantNumbers) -> Result<(), AllocE
     page.count(Mark::TenantLink, tenant.tenant)?;
     page.count(Mark::LinkText, tenant.tenant)?;
     page.mark(Mark::LinkEnd)?;
-    page.counts(&[
-        (Mark::NumberCell, tenant.steps),
-        (Mark::NumberCell, tenant.room),
-        (Mark::NumberCell, tenant.bytes),
-        (Mark::NumberCell, tenant.tables),
-        (Mark::NumberCell, tenant.rows),
-        (Mark::NumberCell, tenant.rules),
-        (Mark::NumberCell, tenant.open),
-        (Mark::NumberCell, tenant.active),
-        (Mark::NumberCell, tenant.changes),
+    page.cells(&[
+        tenant.steps,
+        tenant.room,
+        tenant.bytes,
+        tenant.tables,
+        tenant.rows,
+        tenant.rules,
+        tenant.open,
+        tenant.active,
+        tenant.changes,
     ])?;
     match tenant.age {
         Some(seconds) => {

@@ -49,6 +49,28 @@ impl<'a> Page<'a> {
         Ok(())
     }
 
+    /// A text or a number, and a count of it, with marks before, between and behind the two.
+    pub(crate) fn pair(
+        &mut self,
+        marks: [Mark; 3],
+        counted: Piece<'a>,
+        count: u64,
+    ) -> Result<(), AllocError> {
+        let [before, between, behind] = marks;
+        self.mark(before)?;
+        self.pieces.push(counted)?;
+        self.count(between, count)?;
+        self.mark(behind)
+    }
+
+    /// Cells of a row, each with a number.
+    pub(crate) fn cells(&mut self, numbers: &[u64]) -> Result<(), AllocError> {
+        for number in numbers {
+            self.count(Mark::NumberCell, *number)?;
+        }
+        Ok(())
+    }
+
     /// The bytes of all pieces.
     pub(crate) fn render(&self, alloc: Global, escaping: Escaping) -> Result<Vec<u8>, AllocError>
         ensures { IfOk result (λ page. IsPage escaping page.items) }

@@ -1,7 +1,8 @@
 //! Texts of others, as they stand in a page and in a label.
-ghost use Rattle.std.specs.Prelude.{◌≡◌, ◌++◌, OnOk};
+ghost use Rattle.std.specs.Prelude.{◌≡◌, ◌++◌, [], ◌∷◌, OnOk};
 ghost use Rattle.std.specs.List.{flat_map};
-ghost use Rattle.sb_status.specs.Escape.{escaped, escaped_byte, html_byte, label_byte};
+ghost use Rattle.std.specs.Option.{option_map_or};
+ghost use Rattle.sb_status.specs.Escape.{escaped, escaped_byte};
 
 use std::alloc::AllocError;
 
@@ -31,38 +32,33 @@ pub(crate) fn push_text(
 fn push_byte(out: &mut Vec<u8>, escaping: Escaping, byte: u8) -> Result<(), AllocError>
     ensures { OnOk result (out.new.items ≡ out.old.items ++ escaped_byte escaping byte) }
 {
+    match escape(escaping, byte) {
+        Some(text) => out.extend_from_slice(text.as_bytes()),
+        None => {
+            out.push(byte)?;
+            Ok(())
+        }
+    }
+}
+
+/// What stands for a byte that can't stand for itself.
+fn escape(escaping: Escaping, byte: u8) -> Option<&'static str>
+    ensures { option_map_or (λ text. text.now) result (byte ∷ []) ≡ escaped_byte escaping byte }
+{
     match escaping {
-        Escaping::Html => push_html(out, byte),
-        Escaping::Label => push_label(out, byte),
-    }
-}
-
-fn push_html(out: &mut Vec<u8>, byte: u8) -> Result<(), AllocError>
-    ensures { OnOk result (out.new.items ≡ out.old.items ++ html_byte byte) }
-{
-    match byte {
-        b'&' => out.extend_from_slice(b"&amp;"),
-        b'<' => out.extend_from_slice(b"&lt;"),
-        b'>' => out.extend_from_slice(b"&gt;"),
-        b'"' => out.extend_from_slice(b"&quot;"),
-        b'\'' => out.extend_from_slice(b"&#39;"),
-        _ => {
-            out.push(byte)?;
-            Ok(())
-        }
-    }
-}
-
-fn push_label(out: &mut Vec<u8>, byte: u8) -> Result<(), AllocError>
-    ensures { OnOk result (out.new.items ≡ out.old.items ++ label_byte byte) }
-{
-    match byte {
-        b'\\' => out.extend_from_slice(b"\\\\"),
-        b'"' => out.extend_from_slice(b"\\\""),
-        b'\n' => out.extend_from_slice(b"\\n"),
-        _ => {
-            out.push(byte)?;
-            Ok(())
-        }
+        Escaping::Html => match byte {
+            b'&' => Some("&amp;"),
+            b'<' => Some("&lt;"),
+            b'>' => Some("&gt;"),
+            b'"' => Some("&quot;"),
+            b'\'' => Some("&#39;"),
+            _ => None,
+        },
+        Escaping::Label => match byte {
+            b'\\' => Some("\\\\"),
+            b'"' => Some("\\\""),
+            b'\n' => Some("\\n"),
+            _ => None,
+        },
     }
 }
