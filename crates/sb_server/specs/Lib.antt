@@ -1,7 +1,10 @@
 pub mod Boards
 pub mod Carried
 pub mod Closed
+pub mod Doors
+pub mod Hearings
 pub mod Mailboxes
 pub mod Places
+pub mod Sessions
 pub mod Sockets
 pub mod Visits

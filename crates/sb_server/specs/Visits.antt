@@ -1,12 +1,14 @@
 -- Machine: how a turn of a connection over a stream ends.
-use Rattle.std.specs.Prelude.{◌≡◌, ◌⊎◌, ◌++◌, Bool, true, false, [], ⊤}
+use Rattle.std.specs.Prelude.{◌≡◌, ◌⊎◌, ◌++◌, ◌∷◌, ℕ, Bool, true, false, List, [], ⊤, Result, Ok, Err}
+use Rattle.std.specs.IoError.{error_kind}
+use Rattle.std.specs.declared.io.Error.{Error}
 use Rattle.sb_wire.specs.declared.fault.StreamError.TheVariants.{ReadFault, WriteFault, NoMemory}
 use Rattle.sb_connection.specs.declared.ending.Ending.{Ending}
 use Rattle.sb_connection.specs.declared.ending.Ending.TheVariants.{Well, Fault, Idle, IdleTransaction, ByOperator}
 use Rattle.sb_connection.specs.declared.state.State.TheVariants.{Failed}
-use Rattle.sb_connection.specs.History.{History}
+use Rattle.sb_connection.specs.History.{History, MayReceive}
 use Rattle.sb_connection.specs.Standing.{is_open}
-use Rattle.sb_connection.specs.Traffic.{Traffic, reading_failed, writing_failed}
+use Rattle.sb_connection.specs.Traffic.{Call, Traffic, after_read, blocks, reading_failed, writing_failed}
 use Rattle.sb_server.specs.declared.visit.Next.{Next}
 use Rattle.sb_server.specs.declared.visit.Next.TheVariants.{Waits, GoesOn, Ends}
 
@@ -21,11 +23,39 @@ EndsBy t h is_cut Idle = ⊥
 EndsBy t h is_cut IdleTransaction = ⊥
 EndsBy t h is_cut ByOperator = ⊤
 
--- so it is told, where it ends one
+-- neither is all said, nor did memory run out for a reply
+abbrev pub IsUnderWay : History → Type 0
+IsUnderWay h = (h.state ≡ Failed → ⊥) × ((is_open h.state ≡ false) × (h.pending ≡ []) → ⊥)
+
+-- So it is told, where it ends one. It waits only where something is to be sent or more may come, and goes on at once only where nothing is
+-- to be sent.
 abbrev pub TellsEnd : Traffic → History → Bool → Next → Type 0
-TellsEnd t h is_cut Waits = ⊤
-TellsEnd t h is_cut GoesOn = ⊤
+TellsEnd t h is_cut Waits = IsUnderWay h × ((h.pending ≡ [] → ⊥) ⊎ MayReceive h)
+TellsEnd t h is_cut GoesOn = IsUnderWay h × (h.pending ≡ [])
 TellsEnd t h is_cut (Ends ending) = EndsBy t h is_cut ending
+
+-- so ends one that has been silent for too long
+abbrev pub IsSilence : Ending → Type 0
+IsSilence Idle = ⊤
+IsSilence IdleTransaction = ⊤
+IsSilence ending = ⊥
+
+abbrev pub ends : Next → Bool
+ends Waits = false
+ends GoesOn = false
+ends (Ends ending) = true
+
+-- it read once
+abbrev pub ReadsOnce : Traffic → Traffic → Type 0
+ReadsOnce old new = (bytes : List ℕ) × (answer : Result ℕ Error) × (new ≡ after_read old bytes answer)
+
+abbrev pub is_later : Result ℕ Error → Bool
+is_later (Ok n) = false
+is_later (Err e) = blocks (error_kind e)
+
+-- the last write is to be made again, once there is room
+abbrev pub IsBlocked : Traffic → Type 0
+IsBlocked t = (earlier : List Call) × (last : Call) × (t.writes ≡ earlier ++ last ∷ []) × (is_later last.1 ≡ true)
 
 -- nothing is lost of what was to be sent, and nothing else changes
 abbrev pub SendsSome : History → History → Type 0

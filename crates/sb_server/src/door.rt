@@ -1,5 +1,6 @@
 //! Where connections come in: the listener, and how many are taken.
-ghost use Rattle.std.specs.Prelude.{◌≡◌, ◌↔◌, ◌<◌, ◌-◌, ◌==◌, if◌then◌else◌, IsTrue, MatchOption, None, Some, option_map};
+ghost use Rattle.std.specs.Prelude.{◌≡◌, ◌⊎◌, ◌↔◌, ◌==◌, if◌then◌else◌, false, is_some, IsSome, IsTrue, None, Some};
+ghost use Rattle.sb_server.specs.Doors.{StandsOpen, one_less};
 
 use libc::net as system;
 use sb_connection::{Event, Watch};
@@ -59,7 +60,7 @@ impl<'s> Door<'s> {
 
     /// Whether one more connection is to be taken.
     pub(crate) fn is_open(&self) -> bool
-        ensures { MatchOption self.now.left (IsTrue result) (λ left. IsTrue result ↔ (0 < left)) }
+        ensures { IsTrue result ↔ StandsOpen self.now.left }
     {
         match self.left {
             Some(left) => left > 0,
@@ -83,12 +84,16 @@ impl<'s> Door<'s> {
     }
 
     /// Whether the last one couldn't be taken.
-    pub(crate) fn has_fault(&self) -> bool {
+    pub(crate) fn has_fault(&self) -> bool
+        ensures { result ≡ is_some self.now.fault }
+    {
         self.fault.is_some()
     }
 
     /// How long one may wait for events before the listener is tried again: no time, some time, or any.
-    pub(crate) fn patience(&self) -> Option<Duration> {
+    pub(crate) fn patience(&self) -> Option<Duration>
+        ensures { result ≡ None → StandsOpen self.now.left → (self.now.fault ≡ None) × (self.now.is_due ≡ false) }
+    {
         if !self.is_open() {
             return None;
         }
@@ -100,7 +105,9 @@ impl<'s> Door<'s> {
     }
 
     /// Whether the listener may be tried.
-    fn may_try(&self, now: Option<Instant>) -> bool {
+    fn may_try(&self, now: Option<Instant>) -> bool
+        ensures { IsTrue result → StandsOpen self.now.left }
+    {
         if !self.is_open() {
             return false;
         }
@@ -116,7 +123,10 @@ impl<'s> Door<'s> {
     }
 
     /// The next connection, if one is there and is to be taken.
-    pub(crate) fn take<V: Watch>(&mut self, watch: &V, now: Option<Instant>) -> Option<Client> {
+    pub(crate) fn take<V: Watch>(&mut self, watch: &V, now: Option<Instant>) -> Option<Client>
+        ensures taken { IsSome result → StandsOpen self.old.left × (self.new.left ≡ one_less self.old.left) }
+        ensures others { (self.new.left ≡ self.old.left) ⊎ (self.new.left ≡ one_less self.old.left) }
+    {
         if !self.may_try(now) {
             return None;
         }
@@ -142,7 +152,7 @@ impl<'s> Door<'s> {
 
     /// One was taken, or couldn't be. Behind the last one the port is closed.
     fn use_up(&mut self)
-        ensures { self.new.left ≡ option_map (λ left. left - 1) self.old.left }
+        ensures { self.new.left ≡ one_less self.old.left }
     {
         let Some(left) = self.left else {
             return;
@@ -155,7 +165,10 @@ impl<'s> Door<'s> {
     }
 
     /// Lets the listener alone for a while. It is told once, until a connection can be taken again.
-    fn pause<V: Watch>(&mut self, watch: &V, why: ErrorKind, now: Option<Instant>) {
+    fn pause<V: Watch>(&mut self, watch: &V, why: ErrorKind, now: Option<Instant>)
+        ensures fault { IsSome self.new.fault }
+        ensures others { self.new.left ≡ self.old.left }
+    {
         let millis = match self.fault {
             Some(pause) => LONGEST_PAUSE.min(pause.millis.saturating_mul(2)),
             None => {

@@ -1,7 +1,10 @@
 //! A connection whose first line isn't known yet.
-ghost use Rattle.std.specs.Prelude.{◌≡◌, [], false};
+ghost use Rattle.std.specs.Prelude.{◌≡◌, [], false, IfSome};
+ghost use Rattle.sb_connection.specs.Conversation.{hosting_by};
+ghost use Rattle.sb_connection.specs.Routing.{Routes};
 ghost use Rattle.sb_connection.specs.Traffic.{gave, no_traffic, took};
 ghost use Rattle.sb_server.specs.Carried.{Hears};
+ghost use Rattle.sb_server.specs.Hearings.{HeardBy};
 ghost use Rattle.sb_server.specs.Sockets.{traffic};
 
 use crate::socket::Socket;
@@ -66,7 +69,9 @@ impl Newcomer {
     }
 
     /// Reads until its first line is known, or nothing more is there.
-    pub(crate) fn hear(&mut self, buffer: &mut Vec<u8>, by: Reception) -> Heard {
+    pub(crate) fn hear(&mut self, buffer: &mut Vec<u8>, by: Reception) -> Heard
+        ensures { HeardBy (hosting_by by.keyed by.first by.tenants) self.new.bytes.items self.new.is_cut result }
+    {
         for _read in 0..MOST_READS {
             if let Some(heard) = self.hear_once(buffer, by) {
                 return heard;
@@ -76,7 +81,9 @@ impl Newcomer {
     }
 
     /// Reads once. None where it is to be read again.
-    fn hear_once(&mut self, buffer: &mut Vec<u8>, by: Reception) -> Option<Heard> {
+    fn hear_once(&mut self, buffer: &mut Vec<u8>, by: Reception) -> Option<Heard>
+        ensures { IfSome result (HeardBy (hosting_by by.keyed by.first by.tenants) self.new.bytes.items self.new.is_cut) }
+    {
         if self.is_cut {
             return Some(Heard::NoMemory);
         }
@@ -96,7 +103,9 @@ impl Newcomer {
     }
 
     /// Where it goes by what has come of it, and whether no more comes.
-    fn route(&self, has_ended: bool, by: Reception) -> Route {
+    fn route(&self, has_ended: bool, by: Reception) -> Route
+        ensures { Routes (hosting_by by.keyed by.first by.tenants) self.now.bytes.items has_ended result }
+    {
         route_of(
             self.bytes.as_slice(),
             has_ended,

@@ -1,5 +1,6 @@
 //! The thread at the door: it takes connections, reads their first lines and hands them on.
-ghost use Rattle.std.specs.Prelude.{◌≡◌};
+ghost use Rattle.std.specs.Prelude.{◌≡◌, [], false, None};
+ghost use Rattle.slab.specs.Slab.{slab_len};
 ghost use Rattle.sb_server.specs.Closed.{GainsClosed};
 
 use crate::door::{Client, Door};
@@ -131,7 +132,9 @@ impl<'s, H: Hosting, V: Watch, A: Admission, K: Keeper, C: Clock> Porter<'s, H, 
     }
 
     /// How long it may wait for events.
-    fn patience(&self) -> Option<Duration> {
+    fn patience(&self) -> Option<Duration>
+        ensures { result ≡ None → (slab_len self.now.newcomers ≡ 0) × (self.now.lobby.due.items ≡ []) × (self.now.lobby.all_due ≡ false) }
+    {
         let mut patience = shorter(self.lobby.patience(), self.door.patience());
         if !self.newcomers.is_empty() {
             patience = shorter(patience, Some(Duration::from_millis(SWEEP)));
@@ -294,7 +297,9 @@ impl<'s, H: Hosting, V: Watch, A: Admission, K: Keeper, C: Clock> Porter<'s, H, 
 }
 
 /// The shorter time, where none is any.
-fn shorter(one: Option<Duration>, other: Option<Duration>) -> Option<Duration> {
+fn shorter(one: Option<Duration>, other: Option<Duration>) -> Option<Duration>
+    ensures { result ≡ None → (one ≡ None) × (other ≡ None) }
+{
     match (one, other) {
         (Some(one), Some(other)) => Some(one.min(other)),
         (None, other) => other,

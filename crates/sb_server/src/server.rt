@@ -249,7 +249,10 @@ impl<'s, H: Hosting, V: Watch, A: Admission, K: Keeper, C: Clock> Work<Post, Vec
 
 impl<'s, H: Hosting, V: Watch, A: Admission, K: Keeper, C: Clock> Serving<'s, H, V, A, K, C> {
     /// By what first lines are read.
-    pub(crate) fn reception(&self) -> Reception {
+    pub(crate) fn reception(&self) -> Reception
+        ensures tenants { (result.first ≡ self.now.first_tenant) × (result.tenants ≡ H.tenants self.now.host) }
+        ensures keyed { result.keyed ≡ A.wants self.now.admission.now }
+    {
         Reception {
             first: self.first_tenant,
             tenants: self.host.tenants(),
@@ -270,7 +273,9 @@ impl<'s, H: Hosting, V: Watch, A: Admission, K: Keeper, C: Clock> Serving<'s, H,
     }
 
     /// How long a line takes that is told.
-    pub(crate) fn slow(&self) -> Option<Duration> {
+    pub(crate) fn slow(&self) -> Option<Duration>
+        ensures { result ≡ self.now.terms.slow }
+    {
         self.terms.slow
     }
 
@@ -314,7 +319,9 @@ impl<'s, H: Hosting, V: Watch, A: Admission, K: Keeper, C: Clock> Serving<'s, H,
     }
 
     /// How long a connection may be silent.
-    fn limits(&self) -> Limits {
+    fn limits(&self) -> Limits
+        ensures { (result.idle ≡ self.now.terms.idle) × (result.idle_transaction ≡ self.now.terms.idle_transaction) }
+    {
         Limits {
             idle: self.terms.idle,
             idle_transaction: self.terms.idle_transaction,

@@ -1,10 +1,11 @@
 //! A connection and its stream.
-ghost use Rattle.std.specs.Prelude.{◌≡◌, ◌≤◌, length, IfOk, IfSome, MatchResult, None, Some};
-ghost use Rattle.sb_connection.specs.History.{SameStreams, after_sending};
+ghost use Rattle.std.specs.Prelude.{◌≡◌, ◌<◌, ◌≤◌, ◌⊎◌, ◌↔◌, [], false, true, length, IfNone, IfOk, IfSome, IsFalse, IsSome, IsTrue, MatchResult, None, Some, is_some};
+ghost use Rattle.sb_connection.specs.Conversation.{hosting_by};
+ghost use Rattle.sb_connection.specs.History.{MayReceive, SameStreams, after_sending};
 ghost use Rattle.sb_connection.specs.Traffic.{after_write};
 ghost use Rattle.sb_server.specs.Carried.{Carries};
 ghost use Rattle.sb_server.specs.Closed.{Leaves};
-ghost use Rattle.sb_server.specs.Visits.{EndsBy, SendsSome, TellsEnd};
+ghost use Rattle.sb_server.specs.Visits.{EndsBy, IsBlocked, IsSilence, ReadsOnce, SendsSome, TellsEnd, ends};
 
 use crate::hearing::{Ears, Hearing};
 use crate::newcomer::{Newcomer, Reception};
@@ -79,7 +80,8 @@ impl<H: Hosting, S: Stream + Drop> Visit<H, S> {
         admission: &A,
         buffer: &mut Vec<u8>,
     ) -> Option<Ending>
-        ensures { IfSome result (EndsBy (S.traffic self.new.stream) self.new.connection self.new.is_cut) }
+        ensures fault { IfSome result (EndsBy (S.traffic self.new.stream) self.new.connection self.new.is_cut) }
+        ensures stays { self.old.connection.attached ≡ true → self.new.connection.attached ≡ true }
     {
         self.is_active = false;
         if self.is_ended {
@@ -102,7 +104,9 @@ impl<H: Hosting, S: Stream + Drop> Visit<H, S> {
 
     /// The second part: the replies are sent. What follows.
     pub(crate) fn give_out(&mut self) -> Next
-        ensures { TellsEnd (S.traffic self.new.stream) self.new.connection self.new.is_cut result }
+        ensures tells { TellsEnd (S.traffic self.new.stream) self.new.connection self.new.is_cut result }
+        ensures ended { self.old.is_ended ≡ true → ends result ≡ true }
+        ensures stays { self.new.connection.attached ≡ self.old.connection.attached }
     {
         match self.send() {
             Some(fault) => Next::Ends(fault),
@@ -116,7 +120,10 @@ impl<H: Hosting, S: Stream + Drop> Visit<H, S> {
     }
 
     /// The tenant whose steps its replies tell of, if there are any to send.
-    pub(crate) fn answered(&self) -> Option<u32> {
+    pub(crate) fn answered(&self) -> Option<u32>
+        ensures some { 0 < length self.now.connection.pending → result ≡ self.now.tenant }
+        ensures none { self.now.connection.pending ≡ [] → result ≡ None }
+    {
         if self.connection.wants_write() {
             self.tenant
         } else {
@@ -132,6 +139,7 @@ impl<H: Hosting, S: Stream + Drop> Visit<H, S> {
         admission: &A,
     )
         ensures streams { SameStreams self.old.connection self.new.connection }
+        ensures stays { self.old.connection.attached ≡ true → self.new.connection.attached ≡ true }
         ensures others { (self.new.stream ≡ self.old.stream) × (self.new.is_cut ≡ self.old.is_cut) }
     {
         let before = self.connection.waiting();
@@ -145,7 +153,8 @@ impl<H: Hosting, S: Stream + Drop> Visit<H, S> {
 
     /// What follows on a turn.
     fn next(&self) -> Next
-        ensures { TellsEnd (S.traffic self.now.stream) self.now.connection self.now.is_cut result }
+        ensures tells { TellsEnd (S.traffic self.now.stream) self.now.connection self.now.is_cut result }
+        ensures ended { self.now.is_ended ≡ true → ends result ≡ true }
     {
         if self.connection.has_failed() {
             return Next::Ends(out_of_memory());
@@ -169,7 +178,10 @@ impl<H: Hosting, S: Stream + Drop> Visit<H, S> {
 
     /// Reads once, if the connection wants it. It gives the fault, if there is one.
     fn hear(&mut self, buffer: &mut Vec<u8>) -> Option<Ending>
-        ensures { IfSome result (EndsBy (S.traffic self.new.stream) self.new.connection self.new.is_cut) }
+        ensures fault { IfSome result (EndsBy (S.traffic self.new.stream) self.new.connection self.new.is_cut) }
+        ensures reads { MayReceive self.old.connection → self.old.connection.pending ≡ [] → self.old.is_cut ≡ false
+            → ReadsOnce (S.traffic self.old.stream) (S.traffic self.new.stream) }
+        ensures stays { self.new.connection.attached ≡ self.old.connection.attached }
     {
         if self.is_cut {
             return Some(out_of_memory());
@@ -215,8 +227,9 @@ impl<H: Hosting, S: Stream + Drop> Visit<H, S> {
     /// Sends what waits, as far as the client takes it. It gives the fault, if there is one.
     fn send(&mut self) -> Option<Ending>
         ensures sends { SendsSome self.old.connection self.new.connection }
+        ensures all { IfNone result ((self.new.connection.pending ≡ []) ⊎ IsBlocked (S.traffic self.new.stream)) }
         ensures fault { IfSome result (EndsBy (S.traffic self.new.stream) self.new.connection self.new.is_cut) }
-        ensures cut { self.new.is_cut ≡ self.old.is_cut }
+        ensures others { (self.new.is_cut ≡ self.old.is_cut) × (self.new.is_ended ≡ self.old.is_ended) }
     {
         while self.connection.wants_write() {
             match self.send_once() {
@@ -241,20 +254,26 @@ impl<H: Hosting, S: Stream + Drop> Visit<H, S> {
             (λ _. self.new.connection ≡ self.old.connection) }
         ensures traffic { S.traffic self.new.stream
             ≡ after_write (S.traffic self.old.stream) self.old.connection.pending result }
-        ensures cut { self.new.is_cut ≡ self.old.is_cut }
+        ensures others { (self.new.is_cut ≡ self.old.is_cut) × (self.new.is_ended ≡ self.old.is_ended) }
     {
         self.connection.send(&mut self.stream)
     }
 
     /// Takes note of its newest turn at this time.
-    pub(crate) fn note_turn(&mut self, now: Option<Instant>) {
+    pub(crate) fn note_turn(&mut self, now: Option<Instant>)
+        ensures { self.new.connection ≡ self.old.connection }
+    {
         if self.is_active {
             self.heard = now;
         }
     }
 
     /// How a connection ends that has been silent for too long, if it has.
-    pub(crate) fn silence(&self, now: Instant, limits: &Limits) -> Option<Ending> {
+    pub(crate) fn silence(&self, now: Instant, limits: &Limits) -> Option<Ending>
+        ensures ending { IfSome result IsSilence }
+        ensures due { self.now.is_due ≡ true → result ≡ None }
+        ensures limits { limits.now.idle ≡ None → limits.now.idle_transaction ≡ None → result ≡ None }
+    {
         if self.is_due {
             return None;
         }
@@ -269,7 +288,9 @@ impl<H: Hosting, S: Stream + Drop> Visit<H, S> {
     }
 
     /// Whether it has this session.
-    pub(crate) fn has_session(&self, named: Named) -> bool {
+    pub(crate) fn has_session(&self, named: Named) -> bool
+        ensures { IsTrue result → self.now.connection.attached ≡ true }
+    {
         match self.connection.session() {
             Some(own) => own.tenant == named.tenant && own.session == named.session,
             None => false,
@@ -277,13 +298,16 @@ impl<H: Hosting, S: Stream + Drop> Visit<H, S> {
     }
 
     /// Whether its session has a transaction.
-    pub(crate) fn has_transaction(&self) -> bool {
+    pub(crate) fn has_transaction(&self) -> bool
+        ensures { IsTrue result → self.now.connection.attached ≡ true }
+    {
         self.connection.session().is_some() && self.connection.transacts()
     }
 
     /// Closes the connection with its session, whose receipts are left.
     pub(crate) fn leave<T: Wait, V: Watch>(self, rt: &T, watch: &V, ending: Ending) -> Option<Stub>
-        ensures { Leaves (S.traffic self.stream) self.connection self.is_cut result }
+        ensures leaves { Leaves (S.traffic self.stream) self.connection self.is_cut result }
+        ensures session { self.connection.attached ≡ is_some result }
     {
         let Visit {
             connection,
@@ -303,7 +327,10 @@ impl<H: Hosting> Visit<H, Socket> {
         newcomer: Newcomer,
         tenant: Option<u32>,
         heard: Option<Instant>,
-    ) -> Visit<H, Socket> {
+    ) -> Visit<H, Socket>
+        ensures host { result.connection.hosted ≡ hosting_by by.keyed by.first (H.tenants host) }
+        ensures of { (result.tenant ≡ tenant) × (result.port ≡ newcomer.port) × (result.is_ended ≡ false) }
+    {
         let Newcomer {
             socket,
             port,
@@ -345,13 +372,17 @@ pub(crate) struct Limits {
 
 impl Limits {
     /// Whether there are any.
-    pub(crate) fn are_set(&self) -> bool {
+    pub(crate) fn are_set(&self) -> bool
+        ensures { IsTrue result ↔ (IsSome self.now.idle ⊎ IsSome self.now.idle_transaction) }
+    {
         self.idle.is_some() || self.idle_transaction.is_some()
     }
 }
 
 /// Whether a limit is reached.
-fn is_over(silent: Duration, limit: Option<Duration>) -> bool {
+fn is_over(silent: Duration, limit: Option<Duration>) -> bool
+    ensures { limit ≡ None → IsFalse result }
+{
     match limit {
         Some(limit) => silent >= limit,
         None => false,

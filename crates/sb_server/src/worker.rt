@@ -1,9 +1,10 @@
 //! One worker: it waits for events of its connections, and serves those that have some.
-ghost use Rattle.std.specs.Prelude.{◌≡◌, ◌+◌, ◌≤◌, ◌++◌, [], ℕ, None, Option, option_to_list, vec_len, vec_capacity};
+ghost use Rattle.std.specs.Prelude.{◌≡◌, ◌+◌, ◌≤◌, ◌++◌, ◌==◌, [], ℕ, false, true, cond, length, IsTrue, None, OnOk, OnSome, Some, Option, option_to_list, vec_len, vec_capacity};
 ghost use Rattle.sb_desk.specs.declared.stub.Stub.{Stub as ItsStub};
 ghost use Rattle.slab.specs.Slab.{Updates, get, slab_len};
 ghost use Rattle.sb_server.specs.Closed.{GainsClosed, Leaves};
 ghost use Rattle.sb_server.specs.Places.{place_of};
+ghost use Rattle.sb_server.specs.Sessions.{KeepsSessions, has_one, session_count};
 ghost use Rattle.sb_server.specs.Sockets.{traffic};
 
 use crate::counts::{Cause, Count};
@@ -21,6 +22,7 @@ use mio::{Events, Interest, Poll, Token};
 use sb_connection::{Admission, Ending, Event, Named, Watch};
 use sb_desk::{Hosting, Stub};
 use slab::Slab;
+use std::alloc::AllocError;
 use std::mem;
 use std::rt::Clock;
 use std::sync::Wait;
@@ -112,7 +114,7 @@ impl<'s, H: Hosting, V: Watch, A: Admission, K: Keeper, C: Clock> Worker<'s, H, 
 
     /// Waits until all threads run. Whether they do.
     pub(crate) fn meet(&mut self, events: &mut Events) -> bool
-        ensures { self.new.stubs.items ≡ self.old.stubs.items }
+        ensures { (self.new.stubs.items ≡ self.old.stubs.items) × (self.new.visits ≡ self.old.visits) }
     {
         self.serving.arrive();
         for _look in 0..LOOKS {
@@ -130,7 +132,8 @@ impl<'s, H: Hosting, V: Watch, A: Admission, K: Keeper, C: Clock> Worker<'s, H, 
 
     /// Serves the connections of its place, once all threads run, and closes those that are left.
     pub(crate) fn run<T: Wait>(&mut self, rt: &T, place: usize, events: &mut Events)
-        ensures { GainsClosed self.old.stubs.items self.new.stubs.items }
+        ensures gains { GainsClosed self.old.stubs.items self.new.stubs.items }
+        ensures sessions { KeepsSessions self.old.visits self.new.visits (λ v. v.value.connection.attached) self.old.stubs.items self.new.stubs.items }
     {
         if !self.meet(events) {
             return;
@@ -141,7 +144,8 @@ impl<'s, H: Hosting, V: Watch, A: Admission, K: Keeper, C: Clock> Worker<'s, H, 
 
     /// Serves the connections of its place until none comes and none is left, or the server stops.
     fn serve<T: Wait>(&mut self, rt: &T, place: usize, events: &mut Events)
-        ensures { GainsClosed self.old.stubs.items self.new.stubs.items }
+        ensures gains { GainsClosed self.old.stubs.items self.new.stubs.items }
+        ensures sessions { KeepsSessions self.old.visits self.new.visits (λ v. v.value.connection.attached) self.old.stubs.items self.new.stubs.items }
     {
         for _turn in 0..u64::MAX {
             // what was handed over before the door closed is there, told or not
@@ -164,7 +168,7 @@ impl<'s, H: Hosting, V: Watch, A: Admission, K: Keeper, C: Clock> Worker<'s, H, 
 
     /// Waits for events. Whether it could.
     pub(crate) fn wait(&mut self, events: &mut Events, patience: Option<Duration>) -> bool
-        ensures { self.new.stubs ≡ self.old.stubs }
+        ensures { (self.new.stubs ≡ self.old.stubs) × (self.new.visits ≡ self.old.visits) }
     {
         self.note_busy();
         if self.poll.poll(events, patience).is_err() {
@@ -221,12 +225,16 @@ impl<'s, H: Hosting, V: Watch, A: Admission, K: Keeper, C: Clock> Worker<'s, H, 
     }
 
     /// Whether it has no connection.
-    pub(crate) fn is_empty(&self) -> bool {
+    pub(crate) fn is_empty(&self) -> bool
+        ensures { result ≡ (slab_len self.now.visits == 0) }
+    {
         self.visits.is_empty()
     }
 
     /// How long it may wait for events.
-    pub(crate) fn patience(&self) -> Option<Duration> {
+    pub(crate) fn patience(&self) -> Option<Duration>
+        ensures { result ≡ None → (self.now.due.items ≡ []) × (self.now.all_due ≡ false) × (self.now.answered.items ≡ []) }
+    {
         if !self.answered.is_empty() {
             return Some(Duration::from_millis(PAUSE));
         }
@@ -249,7 +257,8 @@ impl<'s, H: Hosting, V: Watch, A: Admission, K: Keeper, C: Clock> Worker<'s, H, 
 
     /// One event.
     pub(crate) fn note(&mut self, event: &Ready)
-        ensures { self.new.stubs ≡ self.old.stubs }
+        ensures stubs { self.new.stubs ≡ self.old.stubs }
+        ensures sessions { session_count self.old.visits (λ v. v.value.connection.attached) ≤ session_count self.new.visits (λ v. v.value.connection.attached) }
     {
         let token = event.token();
         if token == WAKER {
@@ -261,24 +270,52 @@ impl<'s, H: Hosting, V: Watch, A: Admission, K: Keeper, C: Clock> Worker<'s, H, 
 
     /// Something came of a client, or goes again.
     fn note_client(&mut self, key: usize, hung_up: bool)
-        ensures { self.new.stubs ≡ self.old.stubs }
+        ensures stubs { self.new.stubs ≡ self.old.stubs }
+        ensures sessions { session_count self.old.visits (λ v. v.value.connection.attached) ≤ session_count self.new.visits (λ v. v.value.connection.attached) }
     {
-        let Some(mut visit) = self.visits.try_remove(key) else {
+        let Some(mut visit) = self.take_out(key) else {
             return;
         };
         visit.hung_up |= hung_up;
         self.put_due(visit);
     }
 
+    /// Takes a connection out, if there is one, which is put back or settled.
+    fn take_out(&mut self, key: usize) -> Option<Box<Visit<H, Socket>>>
+        ensures visit { result ≡ get self.old.visits key }
+        ensures updates { Updates self.old.visits self.new.visits key None }
+        ensures sessions { session_count self.old.visits (λ v. v.value.connection.attached) ≡ session_count self.new.visits (λ v. v.value.connection.attached) + cond (has_one result (λ v. v.value.connection.attached)) 1 0 }
+        ensures next { OnSome result (self.new.visits.vacant_key ≡ key) }
+        ensures place { OnSome result (slab_len self.new.visits + 1 ≤ self.new.visits.capacity) }
+        ensures room { OnSome result (vec_len self.new.stubs + (slab_len self.new.visits + 1) ≤ vec_capacity self.new.stubs) }
+        ensures stubs { self.new.stubs ≡ self.old.stubs }
+    {
+        self.visits.try_remove(key)
+    }
+
+    /// Puts a connection into the vacant place, and tells which that is.
+    fn put_back(&mut self, visit: Box<Visit<H, Socket>>) -> usize
+        requires stub { vec_len self.old.stubs + (slab_len self.old.visits + 1) ≤ vec_capacity self.old.stubs }
+        requires place { slab_len self.old.visits + 1 ≤ self.old.visits.capacity }
+        ensures key { result ≡ self.old.visits.vacant_key }
+        ensures updates { Updates self.old.visits self.new.visits self.old.visits.vacant_key (Some visit) }
+        ensures sessions { session_count self.new.visits (λ v. v.value.connection.attached) ≡ session_count self.old.visits (λ v. v.value.connection.attached) + cond visit.value.connection.attached 1 0 }
+        ensures stubs { self.new.stubs ≡ self.old.stubs }
+        ensures due { (self.new.due ≡ self.old.due) × (self.new.all_due ≡ self.old.all_due) }
+    {
+        self.visits.insert_reserved(visit)
+    }
+
     /// Puts a connection back, and serves it next.
     fn put_due(&mut self, mut visit: Box<Visit<H, Socket>>)
         requires stub { vec_len self.old.stubs + (slab_len self.old.visits + 1) ≤ vec_capacity self.old.stubs }
-        requires visit { slab_len self.old.visits + 1 ≤ self.old.visits.capacity }
-        ensures { self.new.stubs ≡ self.old.stubs }
+        requires place { slab_len self.old.visits + 1 ≤ self.old.visits.capacity }
+        ensures sessions { session_count self.new.visits (λ v. v.value.connection.attached) ≡ session_count self.old.visits (λ v. v.value.connection.attached) + cond visit.value.connection.attached 1 0 }
+        ensures others { self.new.stubs ≡ self.old.stubs }
     {
         let was_due = visit.is_due;
         visit.is_due = true;
-        let key = self.visits.insert_reserved(visit);
+        let key = self.put_back(visit);
         if !was_due && self.due.push(key).is_err() {
             self.all_due = true;
         }
@@ -286,7 +323,8 @@ impl<'s, H: Hosting, V: Watch, A: Admission, K: Keeper, C: Clock> Worker<'s, H, 
 
     /// Takes over the connections that were handed to its place.
     fn take_over<T: Wait>(&mut self, rt: &T, place: usize)
-        ensures { self.new.stubs.items ≡ self.old.stubs.items }
+        ensures stubs { self.new.stubs.items ≡ self.old.stubs.items }
+        ensures sessions { session_count self.old.visits (λ v. v.value.connection.attached) ≤ session_count self.new.visits (λ v. v.value.connection.attached) }
     {
         if !self.is_called {
             return;
@@ -304,7 +342,8 @@ impl<'s, H: Hosting, V: Watch, A: Admission, K: Keeper, C: Clock> Worker<'s, H, 
 
     /// Has the sessions end that the worker of this place is told to end.
     fn obey<T: Wait>(&mut self, rt: &T, place: usize)
-        ensures { self.new.stubs.items ≡ self.old.stubs.items }
+        ensures stubs { self.new.stubs.items ≡ self.old.stubs.items }
+        ensures sessions { session_count self.old.visits (λ v. v.value.connection.attached) ≤ session_count self.new.visits (λ v. v.value.connection.attached) }
     {
         for named in self.serving.board.take_ends(rt, self.serving.alloc, place) {
             self.end_session(named);
@@ -313,7 +352,8 @@ impl<'s, H: Hosting, V: Watch, A: Admission, K: Keeper, C: Clock> Worker<'s, H, 
 
     /// Has a session end in its next turn, if one of its connections has it.
     fn end_session(&mut self, named: Named)
-        ensures { self.new.stubs.items ≡ self.old.stubs.items }
+        ensures stubs { self.new.stubs.items ≡ self.old.stubs.items }
+        ensures sessions { session_count self.old.visits (λ v. v.value.connection.attached) ≤ session_count self.new.visits (λ v. v.value.connection.attached) }
     {
         for key in 0..self.visits.capacity() {
             self.end_if(key, named);
@@ -322,23 +362,25 @@ impl<'s, H: Hosting, V: Watch, A: Admission, K: Keeper, C: Clock> Worker<'s, H, 
 
     /// Has a connection end in its next turn, if it has this session.
     fn end_if(&mut self, key: usize, named: Named)
-        ensures { self.new.stubs ≡ self.old.stubs }
+        ensures stubs { self.new.stubs ≡ self.old.stubs }
+        ensures sessions { session_count self.old.visits (λ v. v.value.connection.attached) ≤ session_count self.new.visits (λ v. v.value.connection.attached) }
     {
-        let Some(mut visit) = self.visits.try_remove(key) else {
+        let Some(mut visit) = self.take_out(key) else {
             return;
         };
         if visit.has_session(named) {
             visit.is_ended = true;
             self.put_due(visit);
         } else {
-            self.visits.insert_reserved(visit);
+            self.put_back(visit);
         }
     }
 
     /// Takes over a connection of this place.
     fn settle_in(&mut self, place: usize, letter: Letter)
         requires { place ≡ place_of H.cells (vec_len self.old.serving.now.mailboxes) letter.tenant }
-        ensures { self.new.stubs.items ≡ self.old.stubs.items }
+        ensures stubs { self.new.stubs.items ≡ self.old.stubs.items }
+        ensures sessions { session_count self.old.visits (λ v. v.value.connection.attached) ≤ session_count self.new.visits (λ v. v.value.connection.attached) }
     {
         let Letter { tenant, newcomer } = letter;
         self.admit(Box::into_inner(newcomer), Some(tenant));
@@ -351,10 +393,11 @@ impl<'s, H: Hosting, V: Watch, A: Admission, K: Keeper, C: Clock> Worker<'s, H, 
 
     /// Takes a connection, whose first line names this tenant if it opens a session. One that has no place isn't served.
     pub(crate) fn admit(&mut self, newcomer: Newcomer, tenant: Option<u32>)
-        ensures { self.new.stubs.items ≡ self.old.stubs.items }
+        ensures stubs { self.new.stubs.items ≡ self.old.stubs.items }
+        ensures sessions { session_count self.old.visits (λ v. v.value.connection.attached) ≤ session_count self.new.visits (λ v. v.value.connection.attached) }
     {
         let port = newcomer.port;
-        if self.stubs.reserve(self.visits.len() + 1).is_err() || self.visits.reserve(1).is_err() {
+        if self.stubs.reserve(self.visits.len() + 1).is_err() || self.make_place().is_err() {
             self.refuse(port, Event::NoPlace);
             return;
         }
@@ -379,11 +422,22 @@ impl<'s, H: Hosting, V: Watch, A: Admission, K: Keeper, C: Clock> Worker<'s, H, 
         }
     }
 
+    /// Makes a place for one connection more.
+    fn make_place(&mut self) -> Result<(), AllocError>
+        ensures place { OnOk result (slab_len self.new.visits + 1 ≤ self.new.visits.capacity) }
+        ensures visits { slab_len self.new.visits ≡ slab_len self.old.visits }
+        ensures sessions { session_count self.new.visits (λ v. v.value.connection.attached) ≡ session_count self.old.visits (λ v. v.value.connection.attached) }
+        ensures stubs { self.new.stubs ≡ self.old.stubs }
+    {
+        self.visits.reserve(1)
+    }
+
     /// Has a connection reported from now on, and serves it next.
     fn begin(&mut self, mut visit: Box<Visit<H, Socket>>)
         requires stub { vec_len self.old.stubs + (slab_len self.old.visits + 1) ≤ vec_capacity self.old.stubs }
         requires visit { slab_len self.old.visits + 1 ≤ self.old.visits.capacity }
-        ensures { self.new.stubs ≡ self.old.stubs }
+        ensures stubs { self.new.stubs ≡ self.old.stubs }
+        ensures sessions { session_count self.old.visits (λ v. v.value.connection.attached) ≤ session_count self.new.visits (λ v. v.value.connection.attached) }
     {
         let token = Token(self.visits.vacant_key());
         match visit.register(self.poll.registry(), token) {
@@ -398,7 +452,8 @@ impl<'s, H: Hosting, V: Watch, A: Admission, K: Keeper, C: Clock> Worker<'s, H, 
     /// Gives each connection that is due its turn. Where something is kept, a turn has three parts: all that came is
     /// answered, all answers are kept at once, and then they are sent.
     pub(crate) fn serve_due<T: Wait>(&mut self, rt: &T)
-        ensures { GainsClosed self.old.stubs.items self.new.stubs.items }
+        ensures gains { GainsClosed self.old.stubs.items self.new.stubs.items }
+        ensures sessions { KeepsSessions self.old.visits self.new.visits (λ v. v.value.connection.attached) self.old.stubs.items self.new.stubs.items }
     {
         if !self.keep(rt) {
             return;
@@ -411,7 +466,8 @@ impl<'s, H: Hosting, V: Watch, A: Admission, K: Keeper, C: Clock> Worker<'s, H, 
 
     /// What is left of a turn behind its first part, of those that are due or of all.
     fn finish_due<T: Wait>(&mut self, rt: &T, due: &[usize], all_due: bool)
-        ensures { GainsClosed self.old.stubs.items self.new.stubs.items }
+        ensures gains { GainsClosed self.old.stubs.items self.new.stubs.items }
+        ensures sessions { KeepsSessions self.old.visits self.new.visits (λ v. v.value.connection.attached) self.old.stubs.items self.new.stubs.items }
     {
         if !self.serving.keeper.is_set() {
             return;
@@ -425,7 +481,8 @@ impl<'s, H: Hosting, V: Watch, A: Admission, K: Keeper, C: Clock> Worker<'s, H, 
 
     /// The first part of a turn, of those that are due or of all. Where nothing is kept, it is the whole turn.
     fn take_in_due<T: Wait>(&mut self, rt: &T, due: &[usize], all_due: bool)
-        ensures { GainsClosed self.old.stubs.items self.new.stubs.items }
+        ensures gains { GainsClosed self.old.stubs.items self.new.stubs.items }
+        ensures sessions { KeepsSessions self.old.visits self.new.visits (λ v. v.value.connection.attached) self.old.stubs.items self.new.stubs.items }
     {
         for key in due {
             self.begin_turn(rt, *key);
@@ -436,7 +493,8 @@ impl<'s, H: Hosting, V: Watch, A: Admission, K: Keeper, C: Clock> Worker<'s, H, 
     }
 
     fn take_in_all<T: Wait>(&mut self, rt: &T)
-        ensures { GainsClosed self.old.stubs.items self.new.stubs.items }
+        ensures gains { GainsClosed self.old.stubs.items self.new.stubs.items }
+        ensures sessions { KeepsSessions self.old.visits self.new.visits (λ v. v.value.connection.attached) self.old.stubs.items self.new.stubs.items }
     {
         for key in 0..self.visits.capacity() {
             self.begin_turn(rt, key);
@@ -445,7 +503,8 @@ impl<'s, H: Hosting, V: Watch, A: Admission, K: Keeper, C: Clock> Worker<'s, H, 
 
     /// The last part of a turn, of those that are due or of all.
     fn give_out_due<T: Wait>(&mut self, rt: &T, due: &[usize], all_due: bool)
-        ensures { GainsClosed self.old.stubs.items self.new.stubs.items }
+        ensures gains { GainsClosed self.old.stubs.items self.new.stubs.items }
+        ensures sessions { KeepsSessions self.old.visits self.new.visits (λ v. v.value.connection.attached) self.old.stubs.items self.new.stubs.items }
     {
         for key in due {
             self.give_out(rt, *key);
@@ -456,7 +515,8 @@ impl<'s, H: Hosting, V: Watch, A: Admission, K: Keeper, C: Clock> Worker<'s, H, 
     }
 
     fn give_out_all<T: Wait>(&mut self, rt: &T)
-        ensures { GainsClosed self.old.stubs.items self.new.stubs.items }
+        ensures gains { GainsClosed self.old.stubs.items self.new.stubs.items }
+        ensures sessions { KeepsSessions self.old.visits self.new.visits (λ v. v.value.connection.attached) self.old.stubs.items self.new.stubs.items }
     {
         for key in 0..self.visits.capacity() {
             self.give_out(rt, key);
@@ -465,7 +525,8 @@ impl<'s, H: Hosting, V: Watch, A: Admission, K: Keeper, C: Clock> Worker<'s, H, 
 
     /// The whole turn of a connection, apart from those of others.
     fn serve_apart<T: Wait>(&mut self, rt: &T, key: usize)
-        ensures { GainsClosed self.old.stubs.items self.new.stubs.items }
+        ensures gains { GainsClosed self.old.stubs.items self.new.stubs.items }
+        ensures sessions { KeepsSessions self.old.visits self.new.visits (λ v. v.value.connection.attached) self.old.stubs.items self.new.stubs.items }
     {
         if !self.keep(rt) {
             return;
@@ -476,7 +537,8 @@ impl<'s, H: Hosting, V: Watch, A: Admission, K: Keeper, C: Clock> Worker<'s, H, 
 
     /// What is left of a connection's turn behind its first part.
     fn finish_apart<T: Wait>(&mut self, rt: &T, key: usize)
-        ensures { GainsClosed self.old.stubs.items self.new.stubs.items }
+        ensures gains { GainsClosed self.old.stubs.items self.new.stubs.items }
+        ensures sessions { KeepsSessions self.old.visits self.new.visits (λ v. v.value.connection.attached) self.old.stubs.items self.new.stubs.items }
     {
         if !self.serving.keeper.is_set() {
             return;
@@ -490,7 +552,8 @@ impl<'s, H: Hosting, V: Watch, A: Admission, K: Keeper, C: Clock> Worker<'s, H, 
 
     /// The first part of a connection's turn. Where nothing is kept, it is the whole turn.
     fn begin_turn<T: Wait>(&mut self, rt: &T, key: usize)
-        ensures { GainsClosed self.old.stubs.items self.new.stubs.items }
+        ensures gains { GainsClosed self.old.stubs.items self.new.stubs.items }
+        ensures sessions { KeepsSessions self.old.visits self.new.visits (λ v. v.value.connection.attached) self.old.stubs.items self.new.stubs.items }
     {
         self.take_in(rt, key);
         if !self.serving.keeper.is_set() {
@@ -499,10 +562,12 @@ impl<'s, H: Hosting, V: Watch, A: Admission, K: Keeper, C: Clock> Worker<'s, H, 
     }
 
     /// Reads and answers what came of a connection.
+    #[tactic(auto, using(crate::proofs::Counting::keeps_bit))]
     fn take_in<T: Wait>(&mut self, rt: &T, key: usize)
-        ensures { GainsClosed self.old.stubs.items self.new.stubs.items }
+        ensures gains { GainsClosed self.old.stubs.items self.new.stubs.items }
+        ensures sessions { KeepsSessions self.old.visits self.new.visits (λ v. v.value.connection.attached) self.old.stubs.items self.new.stubs.items }
     {
-        let Some(mut visit) = self.visits.try_remove(key) else {
+        let Some(mut visit) = self.take_out(key) else {
             return;
         };
         visit.is_due = false;
@@ -512,7 +577,7 @@ impl<'s, H: Hosting, V: Watch, A: Admission, K: Keeper, C: Clock> Worker<'s, H, 
             Some(fault) => self.settle(rt, Box::into_inner(visit), fault),
             None => {
                 let answered = visit.answered();
-                self.visits.insert_reserved(visit);
+                self.put_back(visit);
                 self.note_answered(answered);
             }
         }
@@ -533,16 +598,17 @@ impl<'s, H: Hosting, V: Watch, A: Admission, K: Keeper, C: Clock> Worker<'s, H, 
 
     /// Sends the replies of a connection.
     fn give_out<T: Wait>(&mut self, rt: &T, key: usize)
-        ensures { GainsClosed self.old.stubs.items self.new.stubs.items }
+        ensures gains { GainsClosed self.old.stubs.items self.new.stubs.items }
+        ensures sessions { KeepsSessions self.old.visits self.new.visits (λ v. v.value.connection.attached) self.old.stubs.items self.new.stubs.items }
     {
-        let Some(mut visit) = self.visits.try_remove(key) else {
+        let Some(mut visit) = self.take_out(key) else {
             return;
         };
         let next = visit.give_out();
         visit.note_turn(self.now());
         match next {
             Next::Waits => {
-                self.visits.insert_reserved(visit);
+                self.put_back(visit);
             }
             Next::GoesOn => self.put_due(visit),
             Next::Ends(ending) => self.settle(rt, Box::into_inner(visit), ending),
@@ -551,7 +617,7 @@ impl<'s, H: Hosting, V: Watch, A: Admission, K: Keeper, C: Clock> Worker<'s, H, 
 
     /// Has what this tenant was answered kept behind the turn.
     fn note_answered(&mut self, tenant: Option<u32>)
-        ensures { self.new.stubs.items ≡ self.old.stubs.items }
+        ensures { (self.new.stubs.items ≡ self.old.stubs.items) × (self.new.visits ≡ self.old.visits) }
     {
         let Some(tenant) = tenant else {
             return;
@@ -564,21 +630,23 @@ impl<'s, H: Hosting, V: Watch, A: Admission, K: Keeper, C: Clock> Worker<'s, H, 
 
     /// Keeps what tenants were answered. Whether all is kept, and replies may be sent.
     fn keep<T: Wait>(&mut self, rt: &T) -> bool
-        ensures { self.new.stubs.items ≡ self.old.stubs.items }
+        ensures all { IsTrue result → self.new.answered.items ≡ [] }
+        ensures others { (self.new.stubs.items ≡ self.old.stubs.items) × (self.new.visits ≡ self.old.visits) }
     {
         if self.answered.is_empty() {
             return !self.serving.has_lost();
         }
-        let is_kept = self.serving.keep(rt, &self.answered);
-        if is_kept {
-            self.answered.clear();
+        if !self.serving.keep(rt, &self.answered) {
+            return false;
         }
-        is_kept
+        self.answered.clear();
+        true
     }
 
     /// Closes the connections that have been silent for too long.
     pub(crate) fn sweep<T: Wait>(&mut self, rt: &T)
-        ensures { GainsClosed self.old.stubs.items self.new.stubs.items }
+        ensures gains { GainsClosed self.old.stubs.items self.new.stubs.items }
+        ensures sessions { KeepsSessions self.old.visits self.new.visits (λ v. v.value.connection.attached) self.old.stubs.items self.new.stubs.items }
     {
         let Some(now) = self.now() else {
             return;
@@ -594,7 +662,8 @@ impl<'s, H: Hosting, V: Watch, A: Admission, K: Keeper, C: Clock> Worker<'s, H, 
 
     /// Closes a connection that has been silent for too long. What has come is read first.
     fn judge<T: Wait>(&mut self, rt: &T, key: usize, now: Instant)
-        ensures { GainsClosed self.old.stubs.items self.new.stubs.items }
+        ensures gains { GainsClosed self.old.stubs.items self.new.stubs.items }
+        ensures sessions { KeepsSessions self.old.visits self.new.visits (λ v. v.value.connection.attached) self.old.stubs.items self.new.stubs.items }
     {
         if self.silence(key, now).is_none() {
             return;
@@ -617,6 +686,7 @@ impl<'s, H: Hosting, V: Watch, A: Admission, K: Keeper, C: Clock> Worker<'s, H, 
     pub(crate) fn close_all<T: Wait>(&mut self, rt: &T)
         ensures none_left { (key : ℕ) → get self.new.visits key ≡ None }
         ensures gains { GainsClosed self.old.stubs.items self.new.stubs.items }
+        ensures sessions { KeepsSessions self.old.visits self.new.visits (λ v. v.value.connection.attached) self.old.stubs.items self.new.stubs.items }
     {
         for key in 0..self.visits.capacity() {
             self.end(rt, key, Ending::Well);
@@ -627,8 +697,9 @@ impl<'s, H: Hosting, V: Watch, A: Admission, K: Keeper, C: Clock> Worker<'s, H, 
     fn end<T: Wait>(&mut self, rt: &T, key: usize, ending: Ending)
         ensures ends { Updates self.old.visits self.new.visits key None }
         ensures gains { GainsClosed self.old.stubs.items self.new.stubs.items }
+        ensures sessions { KeepsSessions self.old.visits self.new.visits (λ v. v.value.connection.attached) self.old.stubs.items self.new.stubs.items }
     {
-        if let Some(visit) = self.visits.try_remove(key) {
+        if let Some(visit) = self.take_out(key) {
             self.settle(rt, Box::into_inner(visit), ending);
         }
     }
@@ -648,6 +719,7 @@ impl<'s, H: Hosting, V: Watch, A: Admission, K: Keeper, C: Clock> Worker<'s, H, 
         ensures left { (stub : Option ItsStub) × Leaves (traffic visit.stream) visit.connection visit.is_cut stub
             × (self.new.stubs.items ≡ self.old.stubs.items ++ option_to_list stub) }
         ensures others { self.new.visits ≡ self.old.visits }
+        ensures session { length self.new.stubs.items ≡ length self.old.stubs.items + cond visit.connection.attached 1 0 }
         ensures gains { GainsClosed self.old.stubs.items self.new.stubs.items }
     {
         self.note_end(visit.has_transaction());

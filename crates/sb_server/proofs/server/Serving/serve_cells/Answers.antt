@@ -7,6 +7,6 @@ use Rattle.sb_server.proofs.server.Serving.serve_cells.Goals as goal
 -- it begins with none, and gains those of its connections
 pub returns : goal.returns
 returns g c =
-    let gained = c.run.ensures in
+    let gained = c.run.ensures.gains in
     let is = c.into_stubs.ensures ∙ gained.1 ∙ ap (λ (l : List Stub). l ++ gained.0) c.new-worker.ensures in
     subst (λ (l : List Stub). All LeavesClosed l) (sym is) gained.2

@@ -8,8 +8,9 @@ pub loop-key-preserved : goal.loop-key-preserved
 loop-key-preserved g c =
     let old = c.loop-key.self.visits in
     let new = c.end.new.self.visits in
-    let was = c.loop-key.invariant.1 in (
+    let was = c.loop-key.invariant.2 in (
       gains_then c.args.self.now.stubs.items c.loop-key.self.stubs.items c.end.new.self.stubs.items c.loop-key.invariant.0 c.end.ensures.gains,
+      omega arith,
       λ k. (
         (λ below. vacant_after_removal old new c.loop-key.key k c.end.ensures.ends (λ differs. (was k).0 (omega arith))),
         (λ vacant. vacant_after_removal old new c.loop-key.key k c.end.ensures.ends (λ differs. (was k).1 vacant)),

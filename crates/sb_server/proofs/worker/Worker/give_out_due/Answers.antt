@@ -1,9 +1,13 @@
+use Rattle.std.proofs.Common.{arith}
 use Rattle.sb_server.proofs.Gains.{gains_then}
 use Rattle.sb_server.proofs.worker.Worker.give_out_due.Goals as goal
 
 pub loop-key-preserved : goal.loop-key-preserved
-loop-key-preserved g c = gains_then c.args.self.now.stubs.items c.loop-key.self.stubs.items c.give_out.new.self.stubs.items c.loop-key.invariant c.give_out.ensures
+loop-key-preserved g c = (
+  gains_then c.args.self.now.stubs.items c.loop-key.self.stubs.items c.give_out.new.self.stubs.items c.loop-key.invariant.0 c.give_out.ensures.gains,
+  omega arith,
+)
 
 -- all have their turn behind those that were due
-pub returns-then-all_due : goal.returns-then-all_due
-returns-then-all_due g c = gains_then c.args.self.now.stubs.items c.loop-key.self.stubs.items c.give_out_all.new.self.stubs.items c.loop-key.invariant c.give_out_all.ensures
+pub returns-then-all_due-clause-gains : goal.returns-then-all_due-clause-gains
+returns-then-all_due-clause-gains g c = gains_then c.args.self.now.stubs.items c.loop-key.self.stubs.items c.give_out_all.new.self.stubs.items c.loop-key.invariant.0 c.give_out_all.ensures.gains

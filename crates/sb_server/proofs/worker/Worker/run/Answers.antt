@@ -1,9 +1,9 @@
 use Rattle.sb_server.proofs.Gains.{gains_nothing, gains_then}
 use Rattle.sb_server.proofs.worker.Worker.run.Goals as goal
 
-pub returns : goal.returns
-returns g c =
+pub returns-clause-gains : goal.returns-clause-gains
+returns-clause-gains g c =
     let old = c.args.self.now.stubs.items in
     let met = c.meet.new.self.stubs.items in
     let served = c.serve.new.self.stubs.items in
-    gains_then old served c.close_all.new.self.stubs.items (gains_then old met served (gains_nothing old met c.meet.ensures) c.serve.ensures) c.close_all.ensures.gains
+    gains_then old served c.close_all.new.self.stubs.items (gains_then old met served (gains_nothing old met c.meet.ensures.0) c.serve.ensures.gains) c.close_all.ensures.gains

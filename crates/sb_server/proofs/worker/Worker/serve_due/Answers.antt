@@ -1,9 +1,9 @@
 use Rattle.sb_server.proofs.Gains.{gains_nothing, gains_then}
 use Rattle.sb_server.proofs.worker.Worker.serve_due.Goals as goal
 
-pub returns : goal.returns
-returns g c =
+pub returns-clause-gains : goal.returns-clause-gains
+returns-clause-gains g c =
     let old = c.args.self.now.stubs.items in
     let kept = c.keep.new.self.stubs.items in
     let begun = c.take_in_due.new.self.stubs.items in
-    gains_then old begun c.finish_due.new.self.stubs.items (gains_then old kept begun (gains_nothing old kept c.keep.ensures) c.take_in_due.ensures) c.finish_due.ensures
+    gains_then old begun c.finish_due.new.self.stubs.items (gains_then old kept begun (gains_nothing old kept c.keep.ensures.others.0) c.take_in_due.ensures.gains) c.finish_due.ensures.gains

@@ -1,5 +1,9 @@
+use Rattle.std.proofs.Common.{arith}
 use Rattle.sb_server.proofs.Gains.{gains_then}
 use Rattle.sb_server.proofs.worker.Worker.sweep.Goals as goal
 
 pub loop-key-preserved : goal.loop-key-preserved
-loop-key-preserved g c = gains_then c.args.self.now.stubs.items c.loop-key.self.stubs.items c.judge.new.self.stubs.items c.loop-key.invariant c.judge.ensures
+loop-key-preserved g c = (
+  gains_then c.args.self.now.stubs.items c.loop-key.self.stubs.items c.judge.new.self.stubs.items c.loop-key.invariant.0 c.judge.ensures.gains,
+  omega arith,
+)

@@ -1,6 +1,11 @@
+use Rattle.std.proofs.Common.{◌∙◌, ap, Vec}
+use Rattle.std.specs.Global.{Global}
+use Rattle.sb_desk.specs.declared.stub.Stub.{Stub}
 use Rattle.sb_server.proofs.Gains.{gains_nothing}
 use Rattle.sb_server.proofs.worker.Worker.take_in.Goals as goal
 
 -- nothing is closed
-pub returns-in-None : goal.returns-in-None
-returns-in-None g c = gains_nothing c.args.self.now.stubs.items c.note_answered.new.self.stubs.items c.note_answered.ensures
+pub returns-in-None-clause-gains : goal.returns-in-None-clause-gains
+returns-in-None-clause-gains g c =
+    gains_nothing c.args.self.now.stubs.items c.note_answered.new.self.stubs.items
+    (c.note_answered.ensures.0 ∙ ap (λ (stubs : Vec Stub Global). stubs.items) (c.put_back.ensures.stubs ∙ c.take_out.ensures.stubs))

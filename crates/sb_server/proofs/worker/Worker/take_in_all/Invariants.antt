@@ -1,5 +1,8 @@
 use Rattle.sb_server.specs.Closed.{GainsClosed}
+use Rattle.sb_server.specs.Sessions.{KeepsSessions}
 use Rattle.sb_server.proofs.worker.Worker.take_in_all.Given as goal
 
 abbrev pub invariant-loop-key : goal.invariant-loop-key
-invariant-loop-key g l = GainsClosed l.fn.self.stubs.items l.self.stubs.items
+invariant-loop-key g l =
+    GainsClosed l.fn.self.stubs.items l.self.stubs.items
+    × KeepsSessions l.fn.self.visits l.self.visits (λ v. v.value.connection.attached) l.fn.self.stubs.items l.self.stubs.items

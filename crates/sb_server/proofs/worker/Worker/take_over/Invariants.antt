@@ -1,5 +1,6 @@
-use Rattle.std.proofs.Common.{◌≡◌}
+use Rattle.std.proofs.Common.{◌≡◌, ◌≤◌}
+use Rattle.sb_server.specs.Sessions.{session_count}
 use Rattle.sb_server.proofs.worker.Worker.take_over.Given as goal
 
 abbrev pub invariant-loop-letter : goal.invariant-loop-letter
-invariant-loop-letter g l = l.self.stubs.items ≡ l.fn.self.stubs.items
+invariant-loop-letter g l = (l.self.stubs.items ≡ l.fn.self.stubs.items) × (session_count l.fn.self.visits (λ v. v.value.connection.attached) ≤ session_count l.self.visits (λ v. v.value.connection.attached))
