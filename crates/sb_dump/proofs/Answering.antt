@@ -1,16 +1,14 @@
 -- A line, and lists of lines: each of two alike states is answered as the state that both come from.
 use Rattle.std.proofs.Common.{◌≡◌, ◌∙◌, ℕ, zero, suc, ◌+◌, ◌<◌, ◌≤◌, Bool, true, false, not, ◌&&◌, nat_eq, List, [], ◌∷◌, length, inl, inr, Option, Some, None, Result, Ok, Err, refl, sym, ap, subst, eqb-true, arith, IsTrue}
-use Rattle.std.specs.List.{list_any}
-use Rattle.std.proofs.lemmas.Bool.{false≢true, or_parts, or_cases, ltb-true, lt-leb}
-use Rattle.std.proofs.lemmas.Option.{none-some}
+use Rattle.std.proofs.lemmas.Bool.{lt-leb}
 use Rattle.std.proofs.lemmas.List.Elements.{All-head, All-tail}
 use Rattle.sb_value.specs.declared.refusal.Refusal.{Refusal}
 use Rattle.sb_value.specs.declared.refusal.Refusal.TheVariants as refusal
 use Rattle.sb_value.specs.Laws.{PrecedesIsClosure}
-use Rattle.sb_value.specs.Locks.{sessions}
 use Rattle.sb_catalog.specs.Rules.{IsLeastFree, least_free}
 use Rattle.sb_syntax.specs.Text.{command_of}
 use Rattle.sb_syntax.specs.Tree.{Command}
+use Rattle.sb_tenant.proofs.Sharing.{each-session}
 use Rattle.sb_tenant.specs.declared.reply.Answer.{Answer}
 use Rattle.sb_tenant.specs.declared.reply.Reply.{Reply}
 use Rattle.sb_tenant.specs.declared.reply.Reply.TheVariants as reply
@@ -28,34 +26,12 @@ use Rattle.sb_dump.proofs.States.{IsMade, from-renumbered, to-renumbered, steps-
 
 -- ---- no session has a transaction where something is defined
 
-is-in : (o : ℕ) → IsTrue (is_session o) → list_any (λ k. nat_eq k o) sessions ≡ true
-is-in zero h = refl
-is-in (suc zero) h = refl
-is-in (suc (suc zero)) h = refl
-is-in (suc (suc (suc zero))) h = refl
-is-in (suc (suc (suc (suc zero)))) h = refl
-is-in (suc (suc (suc (suc (suc zero))))) h = refl
-is-in (suc (suc (suc (suc (suc (suc zero)))))) h = refl
-is-in (suc (suc (suc (suc (suc (suc (suc zero))))))) h = refl
-is-in (suc (suc (suc (suc (suc (suc (suc (suc n)))))))) h =
-    let below : suc (suc (suc (suc (suc (suc (suc (suc n))))))) < 8 = ltb-true (suc (suc (suc (suc (suc (suc (suc (suc n)))))))) 8 h in absurd (omega (arith, below))
-
-none-of : (p : ℕ → Bool) (o : ℕ) (ss : List ℕ) → list_any (λ k. nat_eq k o) ss ≡ true → list_any p ss ≡ false → p o ≡ false
-none-of p o [] e h = absurd (false≢true e)
-none-of p o (k ∷ ss) e h =
-    elim (or_cases (nat_eq k o) (list_any (λ j. nat_eq j o) ss) e) [
-      | inl here ↦ ap p (sym (eqb-true k o here)) ∙ (or_parts (p k) (list_any p ss) h).0
-      | inr there ↦ none-of p o ss there (or_parts (p k) (list_any p ss) h).1
-    ]
-
 calm-of : (state : State) (s : ℕ) → session_refusal defines state s ≡ None → IsCalm state
 calm-of state s e o io = by (nat_eq o s) refl
   where
     split : (opened own another : Bool) → refusal_by defines opened own another ≡ None → (own ≡ false) × (another ≡ false)
     split true false false p = (refl, refl)
-    split true false true p = absurd (none-some refusal.Busy (sym p))
-    split true true another p = absurd (none-some refusal.InTransaction (sym p))
-    split false own another p = absurd (none-some refusal.NotOpen (sym p))
+    split opened own another p = absurd (cc)
 
     found : (has_transaction (session_at state s) ≡ false) × (another_has_transaction state s ≡ false)
     found = split (is_open (session_at state s)) (has_transaction (session_at state s)) (another_has_transaction state s) e
@@ -64,7 +40,7 @@ calm-of state s e o io = by (nat_eq o s) refl
     by true p = ap (λ k. has_transaction (session_at state k)) (eqb-true o s p) ∙ found.0
     by false p =
         ap (λ b. not b && has_transaction (session_at state o)) (sym p)
-        ∙ none-of (λ x. not (nat_eq x s) && has_transaction (session_at state x)) o sessions (is-in o io) found.1
+        ∙ each-session (λ x. not (nat_eq x s) && has_transaction (session_at state x)) o io found.1
 
 -- ---- a line
 
@@ -87,7 +63,7 @@ module _ (law : PrecedesIsClosure) (free : (used : List ℕ) → IsLeastFree use
     command-same : (c : Command) → IsAnswered tenant (reply_to_command first bound one s c) (reply_to_command tenant bound other s c)
     command-same c =
         subst (λ o. IsAnswered tenant (reply_to_command first bound one s c) (outcome_of tenant bound other s o (walk other.catalog c))) (sym (refusal-same (class_of c)))
-        (outcome-same (session_refusal (class_of c) one s) (walk other.catalog c) (walk one.catalog c) (walk-same law n one.catalog pairs made.pairs c)
+        (outcome-same (session_refusal (class_of c) one s) (walk other.catalog c) (walk one.catalog c) (walk-same law n one.catalog pairs made.catalog.pairs c)
         (λ none. gives-walk (IsCalm one) one.catalog c (λ e. calm-of one s ((λ i. session_refusal (sym e i) one s) ∙ none))))
 
     line-same : (line : List ℕ) → IsAnswered tenant (reply_to first bound one s line) (reply_to tenant bound other s line)
@@ -107,7 +83,7 @@ module _ (law : PrecedesIsClosure) (free : (used : List ℕ) → IsLeastFree use
     where
       same : other ≡ remade n one other.catalog.pairs other.sessions other.steps
       same = λ i. record {
-        catalog = record { tables = made.tables i; rules = made.rules i; rulesets = made.rulesets i; pairs = other.catalog.pairs };
+        catalog = record { tables = made.catalog.tables i; rules = made.catalog.rules i; rulesets = made.catalog.rulesets i; pairs = other.catalog.pairs };
         locks = made.locks i;
         sessions = other.sessions;
         steps = other.steps;

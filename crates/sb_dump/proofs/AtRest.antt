@@ -17,6 +17,7 @@ use Rattle.sb_tenant.specs.TrailLaws.{LegalStatesAreReplayed, OthersStay}
 use Rattle.sb_tenant.specs.WellFormed.{StatesAreWellFormed}
 use Rattle.sb_tenant.specs.Limits.{is_session}
 use Rattle.sb_tenant.specs.State.{State, Session, opening, closed, idle, active, session_at, is_open, has_transaction}
+use Rattle.sb_tenant.proofs.Sharing.{each-session}
 use Rattle.sb_dump.proofs.Numbered.{Row, renumbered_row, IsSteady}
 
 -- ---- a table
@@ -48,34 +49,19 @@ last_number table =
     ∙ behind table.next table.rows 0
     ∙ (let p : table.next + 0 ≡ table.next = omega arith in p)
 
--- the numbers of all rows are greater
-abbrev AreAbove : ℕ → List Row → Type 0
-AreAbove low [] = Unit {0}
-AreAbove low (r ∷ rows) = (low < r.0) × AreAbove low rows
-
-above-rising : (r : Row) (rows : List Row) → AreRising (r ∷ rows) → AreAbove r.0 rows
-above-rising r [] k = tt
-above-rising r (q ∷ rows) k = let p : r.0 < q.0 = k.0 in (k.0, lower rows (above-rising q rows k.1))
-  where
-    lower : (rows : List Row) → AreAbove q.0 rows → AreAbove r.0 rows
-    lower [] h = tt
-    lower (x ∷ rows) h = let p : r.0 < q.0 = k.0 in let o : q.0 < x.0 = h.0 in (omega arith, lower rows h.1)
-
-rising-rest : (r : Row) (rows : List Row) → AreRising (r ∷ rows) → AreRising rows
-rising-rest r [] k = tt
-rising-rest r (q ∷ rows) k = k.1
-
-above : (next low : ℕ) (rows : List Row) → AreAbove low rows → low < next → (k : ℕ) → low < number_at rows next k
-above next low [] h l k = omega arith
-above next low (r ∷ rows) h l zero = h.0
-above next low (r ∷ rows) h l (suc k) = above next low rows h.1 l k
+-- the first row has the least number
+least : (next : ℕ) (r : Row) (rows : List Row) → AreBelow next (r ∷ rows) → AreRising (r ∷ rows) → (k : ℕ) → r.0 < number_at rows next k
+least next r [] below rising k = omega (arith, below.0)
+least next r (q ∷ rows) below rising zero = rising.0
+least next r (q ∷ rows) below rising (suc k) = omega (arith, rising.0, least next q rows below.1 rising.1 k)
 
 rising-rows : (next : ℕ) (rows : List Row) → AreBelow next rows → AreRising rows → (a b : ℕ) → a < b → number_at rows next a < number_at rows next b
 rising-rows next [] below rising a b l = omega arith
 rising-rows next (r ∷ rows) below rising zero zero l = absurd (omega (arith, l))
-rising-rows next (r ∷ rows) below rising zero (suc b) l = above next r.0 rows (above-rising r rows rising) below.0 b
+rising-rows next (r ∷ rows) below rising zero (suc b) l = least next r rows below rising b
 rising-rows next (r ∷ rows) below rising (suc a) zero l = absurd (omega (arith, l))
-rising-rows next (r ∷ rows) below rising (suc a) (suc b) l = rising-rows next rows below.1 (rising-rest r rows rising) a b (omega (arith, l))
+rising-rows next (r ∷ []) below rising (suc a) (suc b) l = omega (arith, l)
+rising-rows next (r ∷ q ∷ rows) below rising (suc a) (suc b) l = rising-rows next (q ∷ rows) below.1 rising.1 a b (omega (arith, l))
 
 -- ---- tables
 
@@ -198,29 +184,8 @@ same-session tenant n idle idle a b e = refl
 same-session tenant n idle (active changes marks) a b e = absurd (cc)
 same-session tenant n (active changes marks) other a b e = absurd (cc)
 
-in-sessions : (s : ℕ) → IsTrue (is_session s) → list_any (λ k. nat_eq k s) sessions ≡ true
-in-sessions zero is = refl
-in-sessions (suc zero) is = refl
-in-sessions (suc (suc zero)) is = refl
-in-sessions (suc (suc (suc zero))) is = refl
-in-sessions (suc (suc (suc (suc zero)))) is = refl
-in-sessions (suc (suc (suc (suc (suc zero))))) is = refl
-in-sessions (suc (suc (suc (suc (suc (suc zero)))))) is = refl
-in-sessions (suc (suc (suc (suc (suc (suc (suc zero))))))) is = refl
-in-sessions (suc (suc (suc (suc (suc (suc (suc (suc s)))))))) is =
-    let p : suc (suc (suc (suc (suc (suc (suc (suc s))))))) < 8 = ltb-true (suc (suc (suc (suc (suc (suc (suc (suc s)))))))) 8 is in absurd (omega (arith, p))
-
-none-of : (test : ℕ → Bool) (ks : List ℕ) (s : ℕ) → list_any test ks ≡ false → list_any (λ k. nat_eq k s) ks ≡ true → test s ≡ false
-none-of test [] s none is = absurd (cc)
-none-of test (k ∷ ks) s none is =
-    let parts = or_parts (test k) (list_any test ks) none in by (nat_eq k s) refl is parts.0 (none-of test ks s parts.1)
-  where
-    by : (b : Bool) → nat_eq k s ≡ b → (b || list_any (λ k. nat_eq k s) ks) ≡ true → test k ≡ false → (list_any (λ k. nat_eq k s) ks ≡ true → test s ≡ false) → test s ≡ false
-    by true p is' first rest = sym (ap test (eqb-true k s p)) ∙ first
-    by false p is' first rest = rest is'
-
 quiet : (state : State) → IsAtRest state → (s : ℕ) → IsTrue (is_session s) → has_transaction (session_at state s) ≡ false
-quiet state rest s is = none-of (λ k. has_transaction (session_at state k)) sessions s rest.ended (in-sessions s is)
+quiet state rest s is = each-session (λ k. has_transaction (session_at state k)) s is rest.ended
 
 -- the state that both come from: the tables as they are shown, and no locks
 abbrev plain_state : State → State
@@ -237,11 +202,13 @@ from_plain : (tenant : ℕ) (one other : State) → map shown one.catalog.tables
     HaveSamePairs other.catalog.pairs one.catalog.pairs → IsAtRest one → IsAtRest other → ((s : ℕ) → IsTrue (is_session s) → is_open (session_at one s) ≡ is_open (session_at other s)) → AreUnlocked other →
     IsRenumbered tenant (numbers_in other.catalog.tables) (plain_state one) other
 from_plain tenant one other tables rules rulesets pairs first second same unlocked = record {
-  numbering_is = subst (λ (es : List Shown). IsNumbering (numbers_in other.catalog.tables) (map plain es)) (sym tables) (numbering_in other.catalog.tables second.apart second.tables);
-  tables = sym (renumbered_plain other.catalog.tables second.apart) ∙ ap (λ (es : List Shown). map (renumbered_entry (numbers_in other.catalog.tables)) (map plain es)) (sym tables);
-  rules = rules;
-  rulesets = rulesets;
-  pairs = pairs;
+  catalog = record {
+    numbering_is = subst (λ (es : List Shown). IsNumbering (numbers_in other.catalog.tables) (map plain es)) (sym tables) (numbering_in other.catalog.tables second.apart second.tables);
+    tables = sym (renumbered_plain other.catalog.tables second.apart) ∙ ap (λ (es : List Shown). map (renumbered_entry (numbers_in other.catalog.tables)) (map plain es)) (sym tables);
+    rules = rules;
+    rulesets = rulesets;
+    pairs = pairs;
+  };
   locks = unlocked;
   sessions = λ s is. same-session tenant (numbers_in other.catalog.tables) (session_at one s) (session_at other s) (quiet one first s is) (quiet other second s is) (same s is);
 }

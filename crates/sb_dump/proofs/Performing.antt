@@ -69,7 +69,7 @@ module _ (law : PrecedesIsClosure) (first tenant bound : ℕ) (n : Numbering) (o
     processing : process bound (setting_of tenant other s) eligible (progress_of other s) ≡ renumbered_processing tenant n (process bound (setting_of first one s) eligible (progress_of one s))
     processing =
         (λ i. process bound (setting-same tenant n one other made first s i) eligible (progress-same tenant n one other made s is i))
-        ∙ process-same law tenant n (setting_of first one s) pairs made.pairs (without-numbered tenant n one other made s) bound eligible (progress_of one s)
+        ∙ process-same law tenant n (setting_of first one s) pairs made.catalog.pairs (without-numbered tenant n one other made s) bound eligible (progress_of one s)
 
     stands : (outcome : Outcome) (p : Progress) → IsMade tenant n (stands_as one s finish (stands_after outcome p)) (stands_as other s finish (stands_after outcome (again p)))
     stands Done p = finishes p
@@ -159,28 +159,28 @@ module _ (law : PrecedesIsClosure) (first tenant bound : ℕ) (n : Numbering) (o
     perform-itself (process_ruleset name) f = process-at-same (λ id. is_active one.catalog.rules id && is_member one.catalog.rulesets name id) stays (goes-on tenant n one other made s)
     perform-itself (process_rule rule) f = process-at-same (λ id. nat_eq id rule && is_active one.catalog.rules id) stays (goes-on tenant n one other made s)
     perform-itself (create_table name columns) f =
-        kept (with_table one.catalog name columns) (with_table other.catalog name columns) (created-numbered free n one.catalog.tables made.numbering name columns)
-        (created-tables free n one.catalog.tables made.numbering name columns) refl refl made.pairs
+        kept (with_table one.catalog name columns) (with_table other.catalog name columns) (created-numbered free n one.catalog.tables made.catalog.numbering_is name columns)
+        (created-tables free n one.catalog.tables made.catalog.numbering_is name columns) refl refl made.catalog.pairs
     perform-itself (drop_table id) f = (
       numbered_without id n,
-      with-catalog tenant n one other made (numbered_without id n) (without_table one.catalog id) (without_table other.catalog id) (dropped-numbered n id one.catalog.tables made.numbering)
-          (dropped-tables n id one.catalog.tables) refl refl made.pairs (λ o io. without-transaction tenant n (numbered_without id n) (session_at one o) (f o io)),
+      with-catalog tenant n one other made (numbered_without id n) (without_table one.catalog id) (without_table other.catalog id) (dropped-numbered n id one.catalog.tables made.catalog.numbering_is)
+          (dropped-tables n id one.catalog.tables) refl refl made.catalog.pairs (λ o io. without-transaction tenant n (numbered_without id n) (session_at one o) (f o io)),
       refl,
     )
     perform-itself (create_rule new) f =
-        kept (with_rule one.catalog new) (with_rule other.catalog new) made.numbering refl refl refl (append-same pairs one.catalog.pairs made.pairs new.pairs)
-    perform-itself (alter_rule new) f = kept (with_altered one.catalog new) (with_altered other.catalog new) made.numbering refl refl refl (λ a b. refl)
-    perform-itself (drop_rule id) f = kept (without_rule one.catalog id) (without_rule other.catalog id) made.numbering refl refl refl (pairs-without-same id pairs one.catalog.pairs made.pairs)
-    perform-itself (activate_rule id) f = kept (with_active one.catalog id true) (with_active other.catalog id true) made.numbering refl refl refl made.pairs
-    perform-itself (deactivate_rule id) f = kept (with_active one.catalog id false) (with_active other.catalog id false) made.numbering refl refl refl made.pairs
-    perform-itself (create_ruleset name) f = kept (with_ruleset one.catalog name) (with_ruleset other.catalog name) made.numbering refl refl refl made.pairs
-    perform-itself (drop_ruleset name) f = kept (without_ruleset one.catalog name) (without_ruleset other.catalog name) made.numbering refl refl refl made.pairs
-    perform-itself (add_rules name ids) f = kept (with_members one.catalog name ids) (with_members other.catalog name ids) made.numbering refl refl refl made.pairs
-    perform-itself (del_rules name ids) f = kept (without_members one.catalog name ids) (without_members other.catalog name ids) made.numbering refl refl refl made.pairs
+        kept (with_rule one.catalog new) (with_rule other.catalog new) made.catalog.numbering_is refl refl refl (append-same pairs one.catalog.pairs made.catalog.pairs new.pairs)
+    perform-itself (alter_rule new) f = kept (with_altered one.catalog new) (with_altered other.catalog new) made.catalog.numbering_is refl refl refl (λ a b. refl)
+    perform-itself (drop_rule id) f = kept (without_rule one.catalog id) (without_rule other.catalog id) made.catalog.numbering_is refl refl refl (pairs-without-same id pairs one.catalog.pairs made.catalog.pairs)
+    perform-itself (activate_rule id) f = kept (with_active one.catalog id true) (with_active other.catalog id true) made.catalog.numbering_is refl refl refl made.catalog.pairs
+    perform-itself (deactivate_rule id) f = kept (with_active one.catalog id false) (with_active other.catalog id false) made.catalog.numbering_is refl refl refl made.catalog.pairs
+    perform-itself (create_ruleset name) f = kept (with_ruleset one.catalog name) (with_ruleset other.catalog name) made.catalog.numbering_is refl refl refl made.catalog.pairs
+    perform-itself (drop_ruleset name) f = kept (without_ruleset one.catalog name) (without_ruleset other.catalog name) made.catalog.numbering_is refl refl refl made.catalog.pairs
+    perform-itself (add_rules name ids) f = kept (with_members one.catalog name ids) (with_members other.catalog name ids) made.catalog.numbering_is refl refl refl made.catalog.pairs
+    perform-itself (del_rules name ids) f = kept (without_members one.catalog name ids) (without_members other.catalog name ids) made.catalog.numbering_is refl refl refl made.catalog.pairs
     perform-itself (query q) f = request-same (query_locks q) (select_seen first one s q) (select_seen tenant other s q) (selected q)
     perform-itself (change statement) f = request-same (statement_locks statement) (perform_change first one s statement) (perform_change tenant other s statement) (changes statement)
 
     pub perform-same : (d c : Resolved) → IsSame d c → Fits (IsCalm one) c → IsAnswered tenant (perform first bound one s c) (perform tenant bound other s d)
     perform-same _ c is_same f = perform-itself c f
     perform-same _ _ (is_altered {id = id} {parts = parts} {ps = ps} {qs = qs} h) f =
-        kept (with_altered one.catalog (record { id = id; parts = parts; pairs = qs })) (with_altered other.catalog (record { id = id; parts = parts; pairs = ps })) made.numbering refl refl refl h
+        kept (with_altered one.catalog (record { id = id; parts = parts; pairs = qs })) (with_altered other.catalog (record { id = id; parts = parts; pairs = ps })) made.catalog.numbering_is refl refl refl h

@@ -21,16 +21,22 @@ turn_steps bound t before after line a done (inl (longer, number, (is_one, inl (
 turn_steps bound t before after line a done (inl (longer, number, (is_one, inr (told, aborted, may)))) = absurd (true≢false (sym done ∙ ap is_done told))
 turn_steps bound t before after line a done (inr (full, told, same)) = absurd (true≢false (sym done ∙ ap (λ (x : Answer). is_done x.reply) told))
 
-pub one_sent : (old new : Cell) (id : ℕ) (line : List ℕ) (given : Result Answer StepError) → hosts old id ≡ true → IsDone given → AnswersEvent old id 0 line given new → AreSent id (line ∷ []) old new
+one_sent : (old new : Cell) (id : ℕ) (line : List ℕ) (given : Result Answer StepError) → hosts old id ≡ true → IsDone given → AnswersEvent old id 0 line given new → AreSent id (line ∷ []) old new
 one_sent old new id line (Err e) hosted done answers = absurd done
 one_sent old new id line (Ok a) hosted done answers =
     let by : AnswersBy true true old id 0 line (Ok a) new = subst (λ (b : Bool). AnswersBy b true old id 0 line (Ok a) new) hosted answers in
     (ap (λ b. state_of id b (trails new id)) by.2.2 ∙ turn_steps old.bound id (trails old id) (trails new id) line a done by.0, by.2)
 
 -- what a line that is done shows
-pub where_done : {A E P Q : Type 0} (r : Result A E) → (P → Q) → OnOk r P → OnOk r Q
+where_done : {A E P Q : Type 0} (r : Result A E) → (P → Q) → OnOk r P → OnOk r Q
 where_done (Ok a) shows done = shows done
 where_done (Err e) shows done = done
+
+-- a line that is sent to the tenant by its number, and is done
+pub done_sent : {A E : Type 0} (old new : Cell) (id number : ℕ) (line : List ℕ) (given : Result Answer StepError) (checked : Result A E) → hosts old id ≡ true → number ≡ id →
+    AnswersEvent old number 0 line given new → OnOk checked (IsDone given) → OnOk checked (AreSent id (line ∷ []) old new)
+done_sent old new id number line given checked hosted is answers =
+    where_done checked (λ done. one_sent old new id line given hosted done (subst (λ (t : ℕ). AnswersEvent old t 0 line given new) is answers))
 
 -- ---- lines one after another
 

@@ -1,5 +1,6 @@
 -- A tenant without transactions, and what it is compared by.
-use Rattle.std.proofs.Common.{◌≡◌, ℕ, zero, suc, ◌+◌, ◌<◌, Bool, true, false, ◌||◌, List, [], ◌∷◌, ◌++◌, drop, refl, sym, ap, ◌∙◌, subst, arith}
+use Rattle.std.proofs.Common.{◌≡◌, ℕ, ◌+◌, ◌<◌, Bool, true, false, ◌||◌, List, [], ◌∷◌, ◌++◌, drop, get_or, refl, sym, ap, ◌∙◌, subst, arith, add-one, drop-cons}
+use Rattle.std.proofs.lemmas.List.FromFn.{get_or-range_with_len}
 use Rattle.std.specs.Prelude.{flat_map}
 use Rattle.std.specs.List.{list_any}
 use Rattle.std.proofs.lemmas.Bool.{or_parts, true≢false}
@@ -19,15 +20,12 @@ abbrev pub busy_from : State → ℕ → Bool
 busy_from state k = list_any (λ s. has_transaction (session_at state s)) (drop k sessions)
 
 pub busy_next : (state : State) (k : ℕ) → k < 8 → busy_from state k ≡ (has_transaction (session_at state k) || busy_from state (k + 1))
-busy_next state zero h = refl
-busy_next state (suc zero) h = refl
-busy_next state (suc (suc zero)) h = refl
-busy_next state (suc (suc (suc zero))) h = refl
-busy_next state (suc (suc (suc (suc zero)))) h = refl
-busy_next state (suc (suc (suc (suc (suc zero))))) h = refl
-busy_next state (suc (suc (suc (suc (suc (suc zero)))))) h = refl
-busy_next state (suc (suc (suc (suc (suc (suc (suc zero))))))) h = refl
-busy_next state (suc (suc (suc (suc (suc (suc (suc (suc k)))))))) h = absurd (omega (arith, h))
+busy_next state k h =
+    ap (list_any (λ s. has_transaction (session_at state s))) split
+    ∙ ap (λ n. has_transaction (session_at state n) || busy_from state (k + 1)) (get_or-range_with_len 0 8 k 0 h ∙ (let p : 0 + k ≡ k = omega arith in p))
+  where
+    split : drop k sessions ≡ get_or sessions k 0 ∷ drop (k + 1) sessions
+    split = rw (add-one k) (drop-cons sessions k 0 h)
 
 -- a session with a transaction is found
 pub busy_at : (state : State) (k s : ℕ) → k < 8 → s ≡ k → busy_from state 0 ≡ busy_from state k → has_transaction (session_at state s) ≡ true → is_busy state ≡ true

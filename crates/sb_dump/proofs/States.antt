@@ -9,7 +9,7 @@ use Rattle.sb_process.specs.Setting.{Progress}
 use Rattle.sb_tenant.specs.Limits.{is_session}
 use Rattle.sb_tenant.specs.State.{State, Session, closed, idle, active, Catalog, session_at, with_session, is_open, has_transaction, another_has_transaction, changes_of, marks_of, tables_without, setting_of, progress_of, with_progress, rolled_back, committed}
 use Rattle.sb_tenant.specs.Alike.{HaveSamePairs}
-use Rattle.sb_dump.specs.Alike.{Numbering, IsNumbering, renumbered_change, renumbered_entry, IsRenumberedSession, IsRenumbered}
+use Rattle.sb_dump.specs.Alike.{Numbering, IsNumbering, renumbered_change, renumbered_entry, IsRenumberedCatalog, IsRenumberedSession, IsRenumbered}
 use Rattle.sb_dump.proofs.Numbered.{tables_after, numbering_after}
 use Rattle.sb_dump.proofs.Processing.{renumbered_progress, renumbered_setting}
 
@@ -36,25 +36,17 @@ module _ (tenant : ℕ) (n : Numbering) where
   to-session : (a b : Session) → b ≡ renumbered_session tenant n a → IsRenumberedSession tenant n a b
   to-session a b e = subst (IsRenumberedSession tenant n a) (sym e) (renumbered a)
 
-  open-same : (a : Session) → is_open (renumbered_session tenant n a) ≡ is_open a
-  open-same closed = refl
-  open-same idle = refl
-  open-same (active cs ms) = refl
+  -- what is read of it is the same
+  record IsReadSame (a b : Session) : Type 0 where
+    opened : is_open b ≡ is_open a
+    transaction : has_transaction b ≡ has_transaction a
+    changes : changes_of b ≡ map (renumbered_change tenant n) (changes_of a)
+    marks : marks_of b ≡ marks_of a
 
-  transaction-same : (a : Session) → has_transaction (renumbered_session tenant n a) ≡ has_transaction a
-  transaction-same closed = refl
-  transaction-same idle = refl
-  transaction-same (active cs ms) = refl
-
-  changes-same : (a : Session) → changes_of (renumbered_session tenant n a) ≡ map (renumbered_change tenant n) (changes_of a)
-  changes-same closed = refl
-  changes-same idle = refl
-  changes-same (active cs ms) = refl
-
-  marks-same : (a : Session) → marks_of (renumbered_session tenant n a) ≡ marks_of a
-  marks-same closed = refl
-  marks-same idle = refl
-  marks-same (active cs ms) = refl
+  read-same : (a : Session) → IsReadSame a (renumbered_session tenant n a)
+  read-same closed = record { opened = refl; transaction = refl; changes = refl; marks = refl }
+  read-same idle = record { opened = refl; transaction = refl; changes = refl; marks = refl }
+  read-same (active cs ms) = record { opened = refl; transaction = refl; changes = refl; marks = refl }
 
 -- by whatever numbering, where it has no transaction
 pub without-transaction : (tenant : ℕ) (n m : Numbering) (a : Session) → has_transaction a ≡ false → renumbered_session tenant n a ≡ renumbered_session tenant m a
@@ -91,32 +83,20 @@ all-same r f g (o ∷ ss) is h = (λ i. h o is.0 i ++ all-same r f g ss is.1 h i
 -- ---- a state
 
 pub record IsMade (tenant : ℕ) (n : Numbering) (one other : State) : Type 0 where
-  pub numbering : IsNumbering n one.catalog.tables
-  pub tables : other.catalog.tables ≡ map (renumbered_entry n) one.catalog.tables
-  pub rules : other.catalog.rules ≡ one.catalog.rules
-  pub rulesets : other.catalog.rulesets ≡ one.catalog.rulesets
-  pub pairs : HaveSamePairs other.catalog.pairs one.catalog.pairs
+  pub catalog : IsRenumberedCatalog n one.catalog other.catalog
   pub locks : other.locks ≡ one.locks
   pub sessions : (s : ℕ) → IsTrue (is_session s) → session_at other s ≡ renumbered_session tenant n (session_at one s)
 
 pub from-renumbered : (tenant : ℕ) (n : Numbering) (one other : State) → IsRenumbered tenant n one other → IsMade tenant n one other
 from-renumbered tenant n one other h = record {
-  numbering = h.numbering_is;
-  tables = h.tables;
-  rules = h.rules;
-  rulesets = h.rulesets;
-  pairs = h.pairs;
+  catalog = h.catalog;
   locks = λ i s table mode. h.locks s table mode i;
   sessions = λ s is. from-session tenant n (session_at one s) (session_at other s) (h.sessions s is);
 }
 
 pub to-renumbered : (tenant : ℕ) (n : Numbering) (one other : State) → IsMade tenant n one other → IsRenumbered tenant n one other
 to-renumbered tenant n one other h = record {
-  numbering_is = h.numbering;
-  tables = h.tables;
-  rules = h.rules;
-  rulesets = h.rulesets;
-  pairs = h.pairs;
+  catalog = h.catalog;
   locks = λ s table mode i. h.locks i s table mode;
   sessions = λ s is. to-session tenant n (session_at one s) (session_at other s) (h.sessions s is);
 }
@@ -129,11 +109,7 @@ module _ (tenant : ℕ) (n : Numbering) (one other : State) (made : IsMade tenan
   pub put : (s : ℕ) (a b : Session) (before after : Locks) → b ≡ renumbered_session tenant n a → after ≡ before →
       IsMade tenant n (record (with_session one s a) { locks = before }) (record (with_session other s b) { locks = after })
   put s a b before after e f = record {
-    numbering = made.numbering;
-    tables = made.tables;
-    rules = made.rules;
-    rulesets = made.rulesets;
-    pairs = made.pairs;
+    catalog = made.catalog;
     locks = f;
     sessions = λ o is. by o (nat_eq o s) (made.sessions o is);
   }
@@ -150,22 +126,14 @@ module _ (tenant : ℕ) (n : Numbering) (one other : State) (made : IsMade tenan
       HaveSamePairs b.pairs a.pairs → ((s : ℕ) → IsTrue (is_session s) → renumbered_session tenant n (session_at one s) ≡ renumbered_session tenant m (session_at one s)) →
       IsMade tenant m (record one { catalog = a }) (record other { catalog = b })
   with-catalog m a b numbering tables rules rulesets pairs same = record {
-    numbering = numbering;
-    tables = tables;
-    rules = rules;
-    rulesets = rulesets;
-    pairs = pairs;
+    catalog = record { numbering_is = numbering; tables = tables; rules = rules; rulesets = rulesets; pairs = pairs };
     locks = made.locks;
     sessions = λ s is. made.sessions s is ∙ same s is;
   }
 
   pub steps-made : (k l : ℕ) → IsMade tenant n (record one { steps = k }) (record other { steps = l })
   steps-made k l = record {
-    numbering = made.numbering;
-    tables = made.tables;
-    rules = made.rules;
-    rulesets = made.rulesets;
-    pairs = made.pairs;
+    catalog = made.catalog;
     locks = made.locks;
     sessions = made.sessions;
   }
@@ -173,10 +141,10 @@ module _ (tenant : ℕ) (n : Numbering) (one other : State) (made : IsMade tenan
   -- ---- what is read of the sessions
 
   pub is-open-same : (s : ℕ) → IsTrue (is_session s) → is_open (session_at other s) ≡ is_open (session_at one s)
-  is-open-same s is = (λ i. is_open (made.sessions s is i)) ∙ open-same tenant n (session_at one s)
+  is-open-same s is = (λ i. is_open (made.sessions s is i)) ∙ (read-same tenant n (session_at one s)).opened
 
   pub has-same : (s : ℕ) → IsTrue (is_session s) → has_transaction (session_at other s) ≡ has_transaction (session_at one s)
-  has-same s is = (λ i. has_transaction (made.sessions s is i)) ∙ transaction-same tenant n (session_at one s)
+  has-same s is = (λ i. has_transaction (made.sessions s is i)) ∙ (read-same tenant n (session_at one s)).transaction
 
   pub another-same : (s : ℕ) → another_has_transaction other s ≡ another_has_transaction one s
   another-same s =
@@ -184,7 +152,7 @@ module _ (tenant : ℕ) (n : Numbering) (one other : State) (made : IsMade tenan
       (λ o is i. not (nat_eq o s) && has-same o is i)
 
   changes-at : (s : ℕ) → IsTrue (is_session s) → changes_of (session_at other s) ≡ map r (changes_of (session_at one s))
-  changes-at s is = (λ i. changes_of (made.sessions s is i)) ∙ changes-same tenant n (session_at one s)
+  changes-at s is = (λ i. changes_of (made.sessions s is i)) ∙ (read-same tenant n (session_at one s)).changes
 
   -- ---- what processing works on
 
@@ -193,8 +161,8 @@ module _ (tenant : ℕ) (n : Numbering) (one other : State) (made : IsMade tenan
 
   pub without-same : (s : ℕ) → tables_without other s ≡ map (renumbered_entry n) (tables_without one s)
   without-same s =
-      (λ i. after_all (lists i) (made.tables i))
-      ∙ tables_after tenant n (others s) one.catalog.tables made.numbering
+      (λ i. after_all (lists i) (made.catalog.tables i))
+      ∙ tables_after tenant n (others s) one.catalog.tables made.catalog.numbering_is
     where
       lists : flat_map (λ o. changes_of (session_at other o)) (filter (λ o. not (nat_eq o s)) sessions) ≡ map r (others s)
       lists =
@@ -202,12 +170,12 @@ module _ (tenant : ℕ) (n : Numbering) (one other : State) (made : IsMade tenan
           (are-filtered (λ o. not (nat_eq o s)) sessions are-sessions) changes-at
 
   pub without-numbered : (s : ℕ) → IsNumbering n (tables_without one s)
-  without-numbered s = numbering_after n (others s) one.catalog.tables made.numbering
+  without-numbered s = numbering_after n (others s) one.catalog.tables made.catalog.numbering_is
 
   pub setting-same : (first s : ℕ) → setting_of tenant other s ≡ renumbered_setting tenant n other.catalog.pairs (setting_of first one s)
   setting-same first s = λ i. record {
     who = record { tenant = tenant; session = s };
-    rules = made.rules i;
+    rules = made.catalog.rules i;
     pairs = other.catalog.pairs;
     base = without-same s i;
   }
@@ -220,18 +188,20 @@ module _ (tenant : ℕ) (n : Numbering) (one other : State) (made : IsMade tenan
   }
     where
       marks : marks_of (session_at other s) ≡ marks_of (session_at one s)
-      marks = (λ i. marks_of (made.sessions s is i)) ∙ marks-same tenant n (session_at one s)
+      marks = (λ i. marks_of (made.sessions s is i)) ∙ (read-same tenant n (session_at one s)).marks
 
   pub goes-on : (s : ℕ) (p : Progress) → IsMade tenant n (with_progress one s p) (with_progress other s (renumbered_progress tenant n p))
   goes-on s p = put s (active p.changes p.marks) (active (map r p.changes) p.marks) p.locks p.locks refl refl
 
   pub committed-same : (s : ℕ) → IsTrue (is_session s) → IsMade tenant n (committed one s) (committed other s)
   committed-same s is = record {
-    numbering = numbering_after n (changes_of (session_at one s)) one.catalog.tables made.numbering;
-    tables = (λ i. after_all (changes-at s is i) (made.tables i)) ∙ tables_after tenant n (changes_of (session_at one s)) one.catalog.tables made.numbering;
-    rules = made.rules;
-    rulesets = made.rulesets;
-    pairs = made.pairs;
+    catalog = record {
+      numbering_is = numbering_after n (changes_of (session_at one s)) one.catalog.tables made.catalog.numbering_is;
+      tables = (λ i. after_all (changes-at s is i) (made.catalog.tables i)) ∙ tables_after tenant n (changes_of (session_at one s)) one.catalog.tables made.catalog.numbering_is;
+      rules = made.catalog.rules;
+      rulesets = made.catalog.rulesets;
+      pairs = made.catalog.pairs;
+    };
     locks = (back s).locks;
     sessions = (back s).sessions;
   }

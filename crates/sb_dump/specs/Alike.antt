@@ -5,7 +5,7 @@ use Rattle.sb_value.specs.declared.lock.Mode.{Mode}
 use Rattle.sb_value.specs.Table.{Table, Entry, has_table}
 use Rattle.sb_tenant.specs.Alike.{HaveSamePairs}
 use Rattle.sb_tenant.specs.Limits.{is_session}
-use Rattle.sb_tenant.specs.State.{State, Session, closed, idle, active, session_at}
+use Rattle.sb_tenant.specs.State.{State, Catalog, Session, closed, idle, active, session_at}
 
 -- for each table and each of its tuples another number
 abbrev pub Numbering : Type 0
@@ -38,13 +38,17 @@ IsRenumberedSession tenant numbering (active changes marks) idle = ⊥
 IsRenumberedSession tenant numbering (active changes marks) (active renumbered same) =
     (renumbered ≡ map (renumbered_change tenant numbering) changes) × ((rule : ℕ) → same rule ≡ marks rule)
 
+-- the catalog is the other one with its tuples numbered so
+pub record IsRenumberedCatalog (numbering : Numbering) (one other : Catalog) : Type 0 where
+  pub numbering_is : IsNumbering numbering one.tables
+  pub tables : other.tables ≡ map (renumbered_entry numbering) one.tables
+  pub rules : other.rules ≡ one.rules
+  pub rulesets : other.rulesets ≡ one.rulesets
+  pub pairs : HaveSamePairs other.pairs one.pairs
+
 -- the state is the other one with its tuples numbered so, of the tenant of that number
 pub record IsRenumbered (tenant : ℕ) (numbering : Numbering) (one other : State) : Type 0 where
-  pub numbering_is : IsNumbering numbering one.catalog.tables
-  pub tables : other.catalog.tables ≡ map (renumbered_entry numbering) one.catalog.tables
-  pub rules : other.catalog.rules ≡ one.catalog.rules
-  pub rulesets : other.catalog.rulesets ≡ one.catalog.rulesets
-  pub pairs : HaveSamePairs other.catalog.pairs one.catalog.pairs
+  pub catalog : IsRenumberedCatalog numbering one.catalog other.catalog
   pub locks : (s table : ℕ) (mode : Mode) → other.locks s table mode ≡ one.locks s table mode
   pub sessions :
       (s : ℕ) → IsTrue (is_session s) → IsRenumberedSession tenant numbering (session_at one s) (session_at other s)

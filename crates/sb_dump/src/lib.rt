@@ -11,6 +11,7 @@ mod parts;
 mod play;
 mod rows;
 mod rules;
+mod same;
 mod same_definitions;
 mod same_tables;
 mod script;

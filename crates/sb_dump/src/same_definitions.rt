@@ -2,8 +2,9 @@
 ghost use Rattle.std.specs.Prelude.{◌≡◌, ◌+◌, ℕ, IsTrue};
 ghost use Rattle.sb_dump.specs.Compared.{AreSameFrom, HaveSameBefore};
 
+use crate::same::{Same, are_same};
 use crate::same_tables::same_name;
-use crate::trees::{same_actions, same_rule_condition};
+use crate::trees::same_rule_condition;
 use sb_catalog::{Definitions, Rule};
 use sb_priority::Priorities;
 use sb_rulesets::Rulesets;
@@ -15,33 +16,21 @@ pub(crate) fn same_definitions(one: &Definitions, other: &Definitions) -> bool
     ensures rulesets { IsTrue result → one.now.rulesets ≡ other.now.rulesets }
     ensures order { IsTrue result → (b : ℕ) → HaveSameBefore one.now.order.before other.now.order.before b }
 {
-    same_rules(one.rules.rules(), other.rules.rules())
+    are_same(one.rules.rules(), other.rules.rules())
         && same_rulesets(&one.rulesets, &other.rulesets)
         && same_order(&one.order, &other.order)
 }
 
-fn same_rules(one: &[Rule], other: &[Rule]) -> bool
-    ensures { IsTrue result → one.now ≡ other.now }
-{
-    match one {
-        [] => other.is_empty(),
-        [first, rest @ ..] => match other {
-            [second, others @ ..] => same_rule(first, second) && same_rules(rest, others),
-            [] => false,
-        },
+impl Same for Rule {
+    fn is_same(&self, other: &Rule) -> bool {
+        self.id == other.id
+            && same_name(&self.name, &other.name)
+            && self.table == other.table
+            && same_triggers(self.triggers, other.triggers)
+            && same_rule_condition(&self.condition, &other.condition)
+            && are_same(self.actions.as_slice(), other.actions.as_slice())
+            && self.active == other.active
     }
-}
-
-fn same_rule(one: &Rule, other: &Rule) -> bool
-    ensures { IsTrue result → one.now ≡ other.now }
-{
-    one.id == other.id
-        && same_name(&one.name, &other.name)
-        && one.table == other.table
-        && same_triggers(one.triggers, other.triggers)
-        && same_rule_condition(&one.condition, &other.condition)
-        && same_actions(one.actions.as_slice(), other.actions.as_slice())
-        && one.active == other.active
 }
 
 fn same_triggers(one: Triggers, other: Triggers) -> bool

@@ -5,6 +5,7 @@ ghost use Rattle.sb_tables.specs.Held.{entries};
 ghost use Rattle.sb_tenant.specs.Alike.{shown};
 ghost use Rattle.sb_value.specs.Table.{has_table, values};
 
+use crate::same::{Same, are_same};
 use sb_tables::{Table, Tables};
 use sb_value::{ColumnDefinition, Name, Row, TableId, same_row};
 
@@ -119,7 +120,7 @@ fn same_held(one: &Held<'_>, other: &Held<'_>) -> bool
 {
     one.id == other.id
         && same_name(one.name, other.name)
-        && same_columns(one.table.columns(), other.table.columns())
+        && are_same(one.table.columns(), other.table.columns())
         && same_rows(one.table, other.table)
 }
 
@@ -130,22 +131,10 @@ pub(crate) fn same_name(one: &Name, other: &Name) -> bool
     one.is_same(other)
 }
 
-fn same_columns(one: &[ColumnDefinition], other: &[ColumnDefinition]) -> bool
-    ensures { IsTrue result → one.now ≡ other.now }
-{
-    match one {
-        [] => other.is_empty(),
-        [first, rest @ ..] => match other {
-            [second, others @ ..] => same_column(*first, *second) && same_columns(rest, others),
-            [] => false,
-        },
+impl Same for ColumnDefinition {
+    fn is_same(&self, other: &ColumnDefinition) -> bool {
+        same_name(&self.name, &other.name) && self.of == other.of
     }
-}
-
-fn same_column(one: ColumnDefinition, other: ColumnDefinition) -> bool
-    ensures { IsTrue result → one ≡ other }
-{
-    same_name(&one.name, &other.name) && one.of == other.of
 }
 
 /// Whether the rows have the same values, in the same order.

@@ -1,12 +1,13 @@
 //! Whether conditions and actions are the same trees.
 ghost use Rattle.std.specs.Prelude.{◌≡◌, IsTrue};
 
+use crate::same::{Same, are_same};
 use sb_check::{
     Action, Assignment, Column, Condition, ConditionNode, Expression, ExpressionNode, Items,
     Operand, OperandNode, Query, Source, Statement,
 };
 use sb_syntax::{Arithmetic, Comparison};
-use sb_value::{TupleIter, Tuples, same_row};
+use sb_value::{TupleIter, Tuples, Value, same_row};
 
 /// Whether two conditions of rules are the same, or both aren't there.
 pub(crate) fn same_rule_condition(one: &Option<Query>, other: &Option<Query>) -> bool
@@ -21,31 +22,18 @@ pub(crate) fn same_rule_condition(one: &Option<Query>, other: &Option<Query>) ->
     }
 }
 
-/// Whether two lists of actions are the same.
-pub(crate) fn same_actions(one: &[Action], other: &[Action]) -> bool
-    ensures { IsTrue result → one.now ≡ other.now }
-{
-    match one {
-        [] => other.is_empty(),
-        [first, rest @ ..] => match other {
-            [second, others @ ..] => same_action(first, second) && same_actions(rest, others),
-            [] => false,
-        },
-    }
-}
-
-fn same_action(one: &Action, other: &Action) -> bool
-    ensures { IsTrue result → one.now ≡ other.now }
-{
-    match one {
-        Action::Change(statement) => match other {
-            Action::Change(second) => same_statement(statement, second),
-            Action::Rollback => false,
-        },
-        Action::Rollback => match other {
-            Action::Rollback => true,
-            Action::Change(_) => false,
-        },
+impl Same for Action {
+    fn is_same(&self, other: &Action) -> bool {
+        match self {
+            Action::Change(statement) => match other {
+                Action::Change(second) => same_statement(statement, second),
+                Action::Rollback => false,
+            },
+            Action::Rollback => match other {
+                Action::Rollback => true,
+                Action::Change(_) => false,
+            },
+        }
     }
 }
 
@@ -68,7 +56,7 @@ fn same_statement(one: &Statement, other: &Statement) -> bool
         Statement::Update(table, list, condition) => match other {
             Statement::Update(to, others, second) => {
                 *table == *to
-                    && same_assignments(list.as_slice(), others.as_slice())
+                    && are_same(list.as_slice(), others.as_slice())
                     && same_condition(condition, second)
             }
             _ => false,
@@ -95,24 +83,10 @@ fn same_rest(mut one: TupleIter<'_>, mut other: TupleIter<'_>) -> bool
     }
 }
 
-fn same_assignments(one: &[Assignment], other: &[Assignment]) -> bool
-    ensures { IsTrue result → one.now ≡ other.now }
-{
-    match one {
-        [] => other.is_empty(),
-        [first, rest @ ..] => match other {
-            [second, others @ ..] => {
-                same_assignment(first, second) && same_assignments(rest, others)
-            }
-            [] => false,
-        },
+impl Same for Assignment {
+    fn is_same(&self, other: &Assignment) -> bool {
+        self.place == other.place && same_operand(&self.operand, &other.operand)
     }
-}
-
-fn same_assignment(one: &Assignment, other: &Assignment) -> bool
-    ensures { IsTrue result → one.now ≡ other.now }
-{
-    one.place == other.place && same_operand(&one.operand, &other.operand)
 }
 
 #[cycle(same)]
@@ -120,7 +94,7 @@ fn same_query(one: &Query, other: &Query) -> bool
     ensures { IsTrue result → one.now ≡ other.now }
 {
     same_items(&one.items, &other.items)
-        && same_sources(one.sources.as_slice(), other.sources.as_slice())
+        && are_same(one.sources.as_slice(), other.sources.as_slice())
         && same_condition(&one.condition, &other.condition)
 }
 
@@ -128,15 +102,10 @@ fn same_query(one: &Query, other: &Query) -> bool
 fn same_operand(one: &Operand, other: &Operand) -> bool
     ensures { IsTrue result → one.now ≡ other.now }
 {
-    match &one.node {
-        OperandNode::Expression(e) => match &other.node {
-            OperandNode::Expression(second) => same_expression(e, second),
-            OperandNode::ScalarSubquery(_) => false,
-        },
-        OperandNode::ScalarSubquery(query) => match &other.node {
-            OperandNode::ScalarSubquery(second) => same_query(query, second),
-            OperandNode::Expression(_) => false,
-        },
+    match (&one.node, &other.node) {
+        (OperandNode::Expression(a), OperandNode::Expression(b)) => same_expression(a, b),
+        (OperandNode::ScalarSubquery(a), OperandNode::ScalarSubquery(b)) => same_query(a, b),
+        _ => false,
     }
 }
 
@@ -144,96 +113,65 @@ fn same_operand(one: &Operand, other: &Operand) -> bool
 fn same_condition(one: &Condition, other: &Condition) -> bool
     ensures { IsTrue result → one.now ≡ other.now }
 {
-    match &one.node {
-        ConditionNode::Always => match &other.node {
-            ConditionNode::Always => true,
-            _ => false,
-        },
-        ConditionNode::Disjunction(a, b) => match &other.node {
-            ConditionNode::Disjunction(c, d) => same_condition(a, c) && same_condition(b, d),
-            _ => false,
-        },
-        ConditionNode::Conjunction(a, b) => match &other.node {
-            ConditionNode::Conjunction(c, d) => same_condition(a, c) && same_condition(b, d),
-            _ => false,
-        },
-        ConditionNode::Negation(a) => match &other.node {
-            ConditionNode::Negation(c) => same_condition(a, c),
-            _ => false,
-        },
-        ConditionNode::Compare(a, by, b) => match &other.node {
-            ConditionNode::Compare(c, with, d) => {
-                same_comparison(*by, *with) && same_expression(a, c) && same_operand(b, d)
-            }
-            _ => false,
-        },
-        ConditionNode::In(a, query) => match &other.node {
-            ConditionNode::In(c, second) => same_expression(a, c) && same_query(query, second),
-            _ => false,
-        },
-        ConditionNode::Exists(query) => match &other.node {
-            ConditionNode::Exists(second) => same_query(query, second),
-            _ => false,
-        },
+    match (&one.node, &other.node) {
+        (ConditionNode::Always, ConditionNode::Always) => true,
+        (ConditionNode::Disjunction(a, b), ConditionNode::Disjunction(c, d)) => {
+            same_condition(a, c) && same_condition(b, d)
+        }
+        (ConditionNode::Conjunction(a, b), ConditionNode::Conjunction(c, d)) => {
+            same_condition(a, c) && same_condition(b, d)
+        }
+        (ConditionNode::Negation(a), ConditionNode::Negation(c)) => same_condition(a, c),
+        (ConditionNode::Compare(a, by, b), ConditionNode::Compare(c, with, d)) => {
+            same_comparison(*by, *with) && same_expression(a, c) && same_operand(b, d)
+        }
+        (ConditionNode::In(a, query), ConditionNode::In(c, second)) => {
+            same_expression(a, c) && same_query(query, second)
+        }
+        (ConditionNode::Exists(query), ConditionNode::Exists(second)) => same_query(query, second),
+        _ => false,
     }
 }
 
 fn same_items(one: &Items, other: &Items) -> bool
     ensures { IsTrue result → one.now ≡ other.now }
 {
-    match one {
-        Items::All => match other {
-            Items::All => true,
-            _ => false,
-        },
-        Items::Count => match other {
-            Items::Count => true,
-            _ => false,
-        },
-        Items::Sum(e) => match other {
-            Items::Sum(second) => same_expression(e, second),
-            _ => false,
-        },
-        Items::Each(list) => match other {
-            Items::Each(others) => same_expressions(list.as_slice(), others.as_slice()),
-            _ => false,
-        },
+    match (one, other) {
+        (Items::All, Items::All) => true,
+        (Items::Count, Items::Count) => true,
+        (Items::Sum(e), Items::Sum(second)) => same_expression(e, second),
+        (Items::Each(list), Items::Each(others)) => are_same(list.as_slice(), others.as_slice()),
+        _ => false,
     }
 }
 
-fn same_expressions(one: &[Expression], other: &[Expression]) -> bool
-    ensures { IsTrue result → one.now ≡ other.now }
-{
-    match one {
-        [] => other.is_empty(),
-        [first, rest @ ..] => match other {
-            [second, others @ ..] => {
-                same_expression(first, second) && same_expressions(rest, others)
-            }
-            [] => false,
-        },
+impl Same for Expression {
+    fn is_same(&self, other: &Expression) -> bool {
+        same_expression(self, other)
     }
 }
 
 fn same_expression(one: &Expression, other: &Expression) -> bool
     ensures { IsTrue result → one.now ≡ other.now }
 {
-    match &one.node {
-        ExpressionNode::Literal(value) => match &other.node {
-            ExpressionNode::Literal(second) => value.is_same(second),
-            _ => false,
-        },
-        ExpressionNode::Column(column) => match &other.node {
-            ExpressionNode::Column(second) => same_column(*column, *second),
-            _ => false,
-        },
-        ExpressionNode::Binary(a, by, b) => match &other.node {
-            ExpressionNode::Binary(c, with, d) => {
-                same_arithmetic(*by, *with) && same_expression(a, c) && same_expression(b, d)
-            }
-            _ => false,
-        },
+    match (&one.node, &other.node) {
+        (ExpressionNode::Literal(value), ExpressionNode::Literal(second)) => {
+            same_value(value, second)
+        }
+        (ExpressionNode::Column(column), ExpressionNode::Column(second)) => {
+            same_column(*column, *second)
+        }
+        (ExpressionNode::Binary(a, by, b), ExpressionNode::Binary(c, with, d)) => {
+            same_arithmetic(*by, *with) && same_expression(a, c) && same_expression(b, d)
+        }
+        _ => false,
     }
+}
+
+fn same_value(one: &Value, other: &Value) -> bool
+    ensures { IsTrue result → one.now ≡ other.now }
+{
+    one.is_same(other)
 }
 
 fn same_column(one: Column, other: Column) -> bool
@@ -254,41 +192,29 @@ fn same_comparison(one: Comparison, other: Comparison) -> bool
     one as u8 == other as u8
 }
 
-fn same_sources(one: &[Source], other: &[Source]) -> bool
-    ensures { IsTrue result → one.now ≡ other.now }
-{
-    match one {
-        [] => other.is_empty(),
-        [first, rest @ ..] => match other {
-            [second, others @ ..] => same_source(*first, *second) && same_sources(rest, others),
-            [] => false,
-        },
-    }
-}
-
-fn same_source(one: Source, other: Source) -> bool
-    ensures { IsTrue result → one ≡ other }
-{
-    match one {
-        Source::Table(table) => match other {
-            Source::Table(second) => table == second,
-            _ => false,
-        },
-        Source::Inserted => match other {
-            Source::Inserted => true,
-            _ => false,
-        },
-        Source::Deleted => match other {
-            Source::Deleted => true,
-            _ => false,
-        },
-        Source::OldUpdated => match other {
-            Source::OldUpdated => true,
-            _ => false,
-        },
-        Source::NewUpdated => match other {
-            Source::NewUpdated => true,
-            _ => false,
-        },
+impl Same for Source {
+    fn is_same(&self, other: &Source) -> bool {
+        match *self {
+            Source::Table(table) => match *other {
+                Source::Table(second) => table == second,
+                _ => false,
+            },
+            Source::Inserted => match *other {
+                Source::Inserted => true,
+                _ => false,
+            },
+            Source::Deleted => match *other {
+                Source::Deleted => true,
+                _ => false,
+            },
+            Source::OldUpdated => match *other {
+                Source::OldUpdated => true,
+                _ => false,
+            },
+            Source::NewUpdated => match *other {
+                Source::NewUpdated => true,
+                _ => false,
+            },
+        }
     }
 }

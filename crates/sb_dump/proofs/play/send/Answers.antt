@@ -1,11 +1,8 @@
-use Rattle.std.proofs.Common.{ℕ, ◌∙◌, subst}
-use Rattle.sb_cell.specs.Tenants.{AnswersEvent}
-use Rattle.sb_dump.proofs.Playing.{one_sent, where_done}
+use Rattle.std.proofs.Common.{◌∙◌}
+use Rattle.sb_dump.proofs.Playing.{done_sent}
 use Rattle.sb_dump.proofs.play.send.Goals as goal
 
 pub returns : goal.returns
 returns c =
-    let given = c.step-answer.result in
-    let after = c.step-answer.new.self in
-    let answers = subst (λ (t : ℕ). AnswersEvent c.args.cell.now t 0 c.args.line.now given after) (c.from.ensures ∙ c.number.ensures.value) c.step-answer.ensures.step in
-    where_done c.check.result (λ done. one_sent c.args.cell.now after c.args.id c.args.line.now given c.requires done answers) c.check.ensures
+    done_sent c.args.cell.now c.step-answer.new.self c.args.id _ c.args.line.now c.step-answer.result c.check.result c.requires (c.from.ensures ∙ c.number.ensures.value)
+    c.step-answer.ensures.step c.check.ensures
