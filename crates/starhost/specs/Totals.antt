@@ -1,5 +1,6 @@
 -- Promise: what a server tells in its last line.
-use Rattle.std.specs.Prelude.{ℕ, ◌≡◌, ◌++◌, List, length, codes, decimal, Vec}
+use Rattle.std.specs.Prelude.{ℕ, ◌≡◌, ◌++◌, List, Option, length, codes, decimal, Vec}
+use Rattle.std.specs.Io.KnownBytes.{Appends}
 use Rattle.std.specs.Global.{Global}
 use Rattle.sb_tenant.specs.declared.reply.Entry.{Entry}
 use Rattle.sb_wire.specs.Counts.{totals_line}
@@ -17,6 +18,10 @@ TellsTrails bound tenants line =
 -- the first line of a server
 abbrev pub listening_line : ℕ → List ℕ
 listening_line port = codes "listening " ++ decimal port ++ codes "\n"
+
+-- a server writes it, and nothing else
+abbrev pub TellsPort : Option (List ℕ) → Option (List ℕ) → Type 0
+TellsPort before after = (port : ℕ) × Appends before after (listening_line port)
 
 -- a server tells its port, and at its end its trails
 abbrev pub TellsServer : ℕ → ℕ → List ℕ → Type 0

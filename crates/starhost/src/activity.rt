@@ -13,7 +13,7 @@ const MICROSECOND: u64 = 1_000;
 
 /// What was counted, copied from a board.
 #[derive(Drop)]
-struct Counted {
+pub(crate) struct Counted {
     workers: Vec<WorkerNumbers>,
     considerations: u64,
     rollbacks: Rollbacks,
@@ -24,33 +24,43 @@ struct Counted {
     slowest: Vec<SlowLine>,
 }
 
-/// The page of a host with these tenants.
-pub(crate) fn page_of<T: Wait>(
-    rt: &T,
-    alloc: Global,
-    board: &Board,
-    host: HostNumbers<'_>,
-    tenants: &[TenantNumbers],
-) -> Result<Vec<u8>, AllocError> {
-    let counted = Counted::read(rt, alloc, board)?;
-    let slowest = counted.slowest(alloc)?;
-    host_page(alloc, host, counted.activity(slowest.as_slice()), tenants)
+/// A host with its tenants, and what was counted.
+#[derive(Drop)]
+pub(crate) struct Overview {
+    pub(crate) tenants: Vec<TenantNumbers>,
+    pub(crate) host: HostNumbers<'static>,
+    pub(crate) counted: Counted,
 }
 
-/// Its samples.
-pub(crate) fn samples_of<T: Wait>(
-    rt: &T,
-    alloc: Global,
-    board: &Board,
-    host: HostNumbers<'_>,
-    tenants: &[TenantNumbers],
-) -> Result<Vec<u8>, AllocError> {
-    let counted = Counted::read(rt, alloc, board)?;
-    metrics(alloc, host, counted.activity(&[]), tenants)
+impl Overview {
+    /// Its page.
+    pub(crate) fn page(&self, alloc: Global) -> Result<Vec<u8>, AllocError> {
+        let slowest = self.counted.slowest(alloc)?;
+        host_page(
+            alloc,
+            self.host,
+            self.counted.activity(slowest.as_slice()),
+            self.tenants.as_slice(),
+        )
+    }
+
+    /// Its samples.
+    pub(crate) fn samples(&self, alloc: Global) -> Result<Vec<u8>, AllocError> {
+        metrics(
+            alloc,
+            self.host,
+            self.counted.activity(&[]),
+            self.tenants.as_slice(),
+        )
+    }
 }
 
 impl Counted {
-    fn read<T: Wait>(rt: &T, alloc: Global, board: &Board) -> Result<Counted, AllocError> {
+    pub(crate) fn read<T: Wait>(
+        rt: &T,
+        alloc: Global,
+        board: &Board,
+    ) -> Result<Counted, AllocError> {
         let mut counted = Counted {
             workers: Vec::new(alloc),
             considerations: board.count(Count::Considerations),

@@ -6,12 +6,11 @@ ghost use Rattle.sb_words.specs.Within.{AreRun};
 use crate::dumping::undumped;
 use crate::fault::Fault;
 use crate::journal::Journal as Log;
-use crate::recording::Playing;
-use crate::saving::{Noted, noted_of};
+use crate::recording::played_journal;
+use crate::saving::{Noted, Notes, noted_of};
 use sb_dump::Script;
 use sb_durable::{
-    File as JournalFile, Head, Journal, JournalError, Record, StartError, Syncing, Wary, open_path,
-    play, sync_folder,
+    File as JournalFile, Head, Journal, JournalError, Record, Syncing, Wary, open_path, sync_folder,
 };
 use sb_host::{Host, Lending, Naming, Opened};
 use sb_wire::StreamError;
@@ -102,25 +101,18 @@ impl<'c, H: Lending, T: Wait + Eprint + Clock + Files<File = File>> Compaction<'
             self.log.tell_no_journal(path, &error);
             return Err(Fault::CannotOpenJournal);
         }
-        let mut journal = match self.open(path) {
-            Ok(journal) => journal,
-            Err(error) => {
-                self.log.tell_no_journal(path, &error);
-                return Err(Fault::CannotOpenJournal);
-            }
-        };
-        let mut playing = Playing::new(self.rt, self.log);
-        match play(self.rt, self.alloc, self.host, &mut journal, &mut playing) {
+        match played_journal(
+            self.rt,
+            self.alloc,
+            self.host,
+            path,
+            Syncing::Always,
+            self.head,
+            self.log,
+        ) {
             Ok(_) => Ok(()),
-            Err(error) => {
-                self.log.tell_no_journal(path, &error);
-                Err(Fault::CannotOpenJournal)
-            }
+            Err(why) => Err(why),
         }
-    }
-
-    fn open(&self, path: &str) -> Result<Journal<JournalFile<Wary>>, StartError> {
-        open_path(self.rt, self.alloc, path, Syncing::Always, self.head)
     }
 
     /// Writes a journal beside this path, and then gives it the name.
@@ -144,7 +136,7 @@ impl<'c, H: Lending, T: Wait + Eprint + Clock + Files<File = File>> Compaction<'
     fn write_beside(&self, beside: &str, path: &str) -> Result<(), Fault> {
         // nor is what an earlier try left
         let _removed = fs::remove_file(self.rt, beside);
-        let mut journal = match self.open(beside) {
+        let mut journal = match open_path(self.rt, self.alloc, beside, Syncing::Always, self.head) {
             Ok(journal) => journal,
             Err(error) => {
                 self.log.tell_no_journal(beside, &error);
@@ -173,7 +165,8 @@ impl<'c, H: Lending, T: Wait + Eprint + Clock + Files<File = File>> Compaction<'
     /// Writes the tenants that were ever opened.
     fn write_all(&self, journal: &mut Journal<JournalFile<Wary>>) -> Result<(), Fault> {
         for tenant in 0..self.host.tenants() {
-            match noted_of(self.rt, self.alloc, self.host, self.bound, tenant) {
+            let notes = Notes::new(self.alloc, self.bound);
+            match noted_of(self.rt, self.host, tenant, notes) {
                 Noted::Unused => {}
                 Noted::Lacking(error) => return Err(undumped(u64::from(tenant), error)),
                 Noted::Script(script) => {

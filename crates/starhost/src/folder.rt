@@ -1,5 +1,5 @@
 //! Files of tenants in a folder: one file for each, named by the tenant's number.
-ghost use Rattle.std.specs.Prelude.{◌≡◌, ◌+◌, IfOk, codes, string_bytes};
+ghost use Rattle.std.specs.Prelude.{◌≡◌, ◌+◌, IfOk, IfSome, codes, string_bytes};
 ghost use Rattle.starhost.specs.Saving.{file_name};
 
 use crate::fault::Fault;
@@ -72,6 +72,24 @@ impl<'a> Folder<'a> {
             return Err(Fault::Stream(StreamError::NoMemory));
         };
         Ok(write_beside(rt, self.path, beside.as_str(), path.as_str(), text))
+    }
+}
+
+/// The folder at this path, if there is one, for tenants from 0 on. Why there is none is written in the log.
+pub(crate) fn found_folder<'a, R: Eprint + Clock + Files>(
+    rt: &R,
+    path: Option<&'a str>,
+    journal: &Journal<'_, R>,
+) -> Option<Folder<'a>>
+    ensures { IfSome result (λ folder. folder.first ≡ 0) }
+{
+    let folder = Folder {
+        path: path?,
+        first: 0,
+    };
+    match folder.is_found(rt, journal) {
+        true => Some(folder),
+        false => None,
     }
 }
 

@@ -2,7 +2,7 @@
 ghost use Rattle.std.specs.Prelude.{◌≡◌, ◌++◌, ◌<◌, ◌≤◌, List, ℕ, IfOk, OnOk};
 ghost use Rattle.std.specs.Io.KnownBytes.{Appends};
 ghost use Rattle.sb_host.specs.Opening.{AreNames};
-ghost use Rattle.starhost.specs.Totals.{TellsServer, TellsTrails, listening_line};
+ghost use Rattle.starhost.specs.Totals.{TellsPort, TellsServer, TellsTrails};
 ghost use Rattle.sb_words.specs.Within.{AreServer};
 
 use crate::closing::finish;
@@ -13,9 +13,11 @@ use crate::listening::listen;
 use crate::loading::load_all;
 use crate::memory::memory_file;
 use crate::saving::save_all;
+use crate::script_files::ScriptFiles;
 use crate::script_source::FolderScripts;
 use crate::server::{OUT_OF_MEMORY, opened_by, unserved};
 use crate::showing::Pages;
+use crate::system::System;
 use crate::terms::{Plan, plan_of};
 use crate::watching::{StatusPort, bound_to, serve_beside};
 use sb_host::{Host, Lending, Naming, Opened, Stub};
@@ -23,25 +25,19 @@ use sb_server::{Acceptor, Admission, Beside, Board, Keeper, NoBeside, Open, Unke
 use sb_wire::Sink;
 use sb_words::{Paths, Serving};
 use std::alloc::{AllocError, Global};
-use std::fs::File;
 use std::marker::Brand;
-use std::net::{Net, TcpListener, TcpStream};
-use std::rt::{Clock, Files};
-use std::sync::Wait;
-use std::thread::Threads;
+use std::net::TcpListener;
+use std::rt::Clock;
 use std::time::Instant;
 
 /// Serves connections as a server does, on tenants that a journal or files keep.
-pub(crate) fn keep<
-    T: Threads
-        + Wait
-        + Net<Listener = TcpListener, Stream = TcpStream>
-        + Eprint
-        + Clock
-        + Files<File = File>
-        + Sync,
-    W: Sink,
->(rt: &T, alloc: Global, serving: Serving, paths: Paths<'_>, writer: &mut W) -> Result<(), Fault>
+pub(crate) fn keep<T: System + Sync, W: Sink>(
+    rt: &T,
+    alloc: Global,
+    serving: Serving,
+    paths: Paths<'_>,
+    writer: &mut W,
+) -> Result<(), Fault>
     requires { AreServer serving }
     ensures { OnOk result ((text : List ℕ)
         × Appends (W.contents writer.old) (W.contents writer.new) text
@@ -55,17 +51,7 @@ pub(crate) fn keep<
 }
 
 /// Serves a host of these parts.
-fn keep_host<
-    N: Naming + Send + Sync,
-    T: Threads
-        + Wait
-        + Net<Listener = TcpListener, Stream = TcpStream>
-        + Eprint
-        + Clock
-        + Files<File = File>
-        + Sync,
-    W: Sink,
->(
+fn keep_host<N: Naming + Send + Sync, T: System + Sync, W: Sink>(
     rt: &T,
     alloc: Global,
     opened: Opened,
@@ -170,24 +156,13 @@ pub(crate) struct Served {
     saved: Result<(), Fault>,
 }
 
-impl<
-    'k,
-    H: Lending + Sync,
-    T: Threads
-        + Wait
-        + Net<Listener = TcpListener, Stream = TcpStream>
-        + Eprint
-        + Clock
-        + Files<File = File>
-        + Sync,
-> Keeping<'k, H, T>
+impl<'k, H: Lending + Sync, T: System + Sync> Keeping<'k, H, T>
 where
     H::Session: Send,
 {
     /// Has the tenants as they were kept, and serves connections until none comes any more.
     fn serve<W: Sink>(&self, writer: &mut W) -> Result<Served, Fault>
-        ensures { OnOk result ((port : ℕ)
-            × Appends (W.contents writer.old) (W.contents writer.new) (listening_line port)) }
+        ensures { OnOk result (TellsPort (W.contents writer.old) (W.contents writer.new)) }
     {
         let loaded = match self.prepare() {
             Ok(stubs) => stubs,
@@ -212,8 +187,7 @@ where
         loaded: Vec<Stub>,
         writer: &mut W,
     ) -> Result<Served, Fault>
-        ensures { OnOk result ((port : ℕ)
-            × Appends (W.contents writer.old) (W.contents writer.new) (listening_line port)) }
+        ensures { OnOk result (TellsPort (W.contents writer.old) (W.contents writer.new)) }
     {
         match self.paths.journal {
             Some(path) => self.record(path, gate, writer),
@@ -229,8 +203,7 @@ where
         loaded: Vec<Stub>,
         writer: &mut W,
     ) -> Result<Served, Fault>
-        ensures { OnOk result ((port : ℕ)
-            × Appends (W.contents writer.old) (W.contents writer.new) (listening_line port)) }
+        ensures { OnOk result (TellsPort (W.contents writer.old) (W.contents writer.new)) }
     {
         let port = match self.status_port(gate.admission) {
             Ok(port) => port,
@@ -339,14 +312,16 @@ where
     /// Writes the tenants to their files, if that is asked for.
     fn save(&self) -> Result<(), Fault> {
         match self.paths.dump_to {
-            Some(path) => save_all(
-                self.rt,
-                self.alloc,
-                self.host,
-                self.plan.bound,
-                folder_at(self.plan, path),
-                self.journal,
-            ),
+            Some(path) => {
+                let files = ScriptFiles {
+                    rt: self.rt,
+                    alloc: self.alloc,
+                    bound: self.plan.bound,
+                    folder: folder_at(self.plan, path),
+                    journal: self.journal,
+                };
+                save_all(&files, self.host)
+            }
             None => Ok(()),
         }
     }

@@ -1,23 +1,20 @@
 //! The keys of a server: those of a file, which is read before it listens, and again where it changes.
-ghost use Rattle.std.specs.Prelude.{◌≡◌, ℕ, OnOk};
-ghost use Rattle.std.specs.Io.KnownBytes.{Appends};
-ghost use Rattle.starhost.specs.Totals.{listening_line};
+ghost use Rattle.std.specs.Prelude.{◌≡◌, OnOk};
+ghost use Rattle.starhost.specs.Totals.{TellsPort};
 
 use crate::fault::Fault;
 use crate::keeping::{Gate, Keeping, Served};
 use crate::key_list::KeyList;
 use crate::key_source::{KeyLists, KeySource, Stamp, Unread};
 use crate::key_watch::KeyWatch;
+use crate::system::System;
 use sb_host::{Lending, Stub};
 use sb_wire::Sink;
 use sb_words::Keys;
 use std::alloc::Global;
 use std::fs::{self, File};
 use std::io::Read;
-use std::net::{Net, TcpListener, TcpStream};
-use std::rt::{Clock, Files};
-use std::sync::Wait;
-use std::thread::Threads;
+use std::rt::Files;
 
 /// The most bytes of a file of keys, which are more than 800,000 lines.
 const MOST_BYTES: u64 = 1 << 26;
@@ -70,17 +67,7 @@ impl<'k, 'p, T: Files<File = File>> KeySource<AnyLists> for KeyFile<'k, 'p, T> {
     }
 }
 
-impl<
-    'k,
-    H: Lending + Sync,
-    T: Threads
-        + Wait
-        + Net<Listener = TcpListener, Stream = TcpStream>
-        + Eprint
-        + Clock
-        + Files<File = File>
-        + Sync,
-> Keeping<'k, H, T>
+impl<'k, H: Lending + Sync, T: System + Sync> Keeping<'k, H, T>
 where
     H::Session: Send,
 {
@@ -91,8 +78,7 @@ where
         loaded: Vec<Stub>,
         writer: &mut W,
     ) -> Result<Served, Fault>
-        ensures { OnOk result ((port : ℕ)
-            × Appends (W.contents writer.old) (W.contents writer.new) (listening_line port)) }
+        ensures { OnOk result (TellsPort (W.contents writer.old) (W.contents writer.new)) }
     {
         let file = KeyFile {
             rt: self.rt,
@@ -110,8 +96,7 @@ where
         loaded: Vec<Stub>,
         writer: &mut W,
     ) -> Result<Served, Fault>
-        ensures { OnOk result ((port : ℕ)
-            × Appends (W.contents writer.old) (W.contents writer.new) (listening_line port)) }
+        ensures { OnOk result (TellsPort (W.contents writer.old) (W.contents writer.new)) }
     {
         let stamp = source.stamp();
         let keys = match source.read() {

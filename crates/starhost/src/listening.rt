@@ -1,8 +1,7 @@
 //! The beginning of a server: it listens, and tells its port.
-ghost use Rattle.std.specs.Prelude.{◌≡◌, ℕ, IfErr, IfOk, OnOk};
-ghost use Rattle.std.specs.Io.KnownBytes.{Appends};
+ghost use Rattle.std.specs.Prelude.{◌≡◌, IfErr, IfOk, OnOk};
 ghost use Rattle.starhost.specs.Ends.{FailsToListen};
-ghost use Rattle.starhost.specs.Totals.{listening_line};
+ghost use Rattle.starhost.specs.Totals.{TellsPort, listening_line};
 ghost use Rattle.starhost.specs.declared.fault.Fault.TheVariants as fault;
 
 use crate::fault::Fault;
@@ -26,8 +25,7 @@ pub(crate) fn listen<T: Net<Listener = TcpListener, Stream = TcpStream> + Eprint
     journal: &Journal<'_, T>,
     writer: &mut W,
 ) -> Result<TcpListener, Fault>
-    ensures ok { OnOk result ((port : ℕ)
-        × Appends (W.contents writer.old) (W.contents writer.new) (listening_line port)) }
+    ensures ok { OnOk result (TellsPort (W.contents writer.old) (W.contents writer.new)) }
     ensures err { IfErr result (FailsToListen W.refuses W.contents writer.old writer.new) }
 {
     let listener = match TcpListener::bind(rt, address) {

@@ -12,7 +12,7 @@ ghost use Rattle.sb_words.specs.Within.{AreRun};
 
 use crate::dumping::Nowhere;
 use crate::fault::Fault;
-use crate::folder::Folder;
+use crate::folder::found_folder;
 use crate::journal::Journal;
 use crate::script_source::{FolderScripts, ScriptSource, Unopened};
 use sb_cell::{Cell, ample_buckets};
@@ -99,13 +99,9 @@ pub(crate) fn loaded_cell<T: Eprint + Clock + Files>(
     ensures err { IfErr result (IsUnloaded run.tenants) }
 {
     let journal = Journal::new(rt, Severity::Info);
-    let Some(path) = load else {
+    let Some(folder) = found_folder(rt, load, &journal) else {
         return Err(Fault::NoFolder);
     };
-    let folder = Folder { path, first: 0 };
-    if !folder.is_found(rt, &journal) {
-        return Err(Fault::NoFolder);
-    }
     let buckets = ample_buckets(run.tenants);
     let Ok(mut cell) = Cell::with_buckets(alloc, 0, 1, run.tenants, run.bound, buckets) else {
         return Err(Fault::Stream(StreamError::NoMemory));

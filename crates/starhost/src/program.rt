@@ -36,32 +36,23 @@ use crate::refusing::{refuse, refuse_part};
 use crate::replaying::replay;
 use crate::running::run_loaded;
 use crate::server::serve;
+use crate::system::System;
 use crate::telling::{SUCCESS, fault, tell_run, tell_stream_end};
 use crate::writing::dump_all;
 use sb_wire::{Sink, Source, StreamError, Summary, run_fresh, write_bytes};
 use sb_words::{ALLOWED, Asked, HELP, Paths, Request, Run, VERSION, read_words, words_ask_once};
 use std::alloc::Global;
 use std::convert::AsStr;
-use std::fs::File;
-use std::net::{Net, TcpListener, TcpStream};
-use std::rt::{Clock, Files};
-use std::sync::Wait;
-use std::thread::Threads;
 
 /// Does what the program's words ask for, and gives its status.
-pub fn command<
-    T: Threads
-        + Wait
-        + Net<Listener = TcpListener, Stream = TcpStream>
-        + Eprint
-        + Clock
-        + Files<File = File>
-        + Sync,
-    S: AsStr,
-    R: Source,
-    W: Sink,
-    E: Sink,
->(rt: &T, alloc: Global, words: &[S], reader: &mut R, writer: &mut W, errors: &mut Console<E>) -> u8
+pub fn command<T: System + Sync, S: AsStr, R: Source, W: Sink, E: Sink>(
+    rt: &T,
+    alloc: Global,
+    words: &[S],
+    reader: &mut R,
+    writer: &mut W,
+    errors: &mut Console<E>,
+) -> u8
     // with status 0, words that ask for a run have the definition's text for the input
     ensures runs { (r : ItsRun) → AskFor (map S.text words.now) (request.Run r)
         → result ≡ 0 → IfSome (R.remaining reader.old) (λ input. (text : List ℕ)
@@ -147,18 +138,7 @@ pub fn command<
 }
 
 /// Does what is asked for, and gives the status.
-fn answer<
-    T: Threads
-        + Wait
-        + Net<Listener = TcpListener, Stream = TcpStream>
-        + Eprint
-        + Clock
-        + Files<File = File>
-        + Sync,
-    R: Source,
-    W: Sink,
-    E: Sink,
->(
+fn answer<T: System + Sync, R: Source, W: Sink, E: Sink>(
     rt: &T,
     alloc: Global,
     wanted: Request,

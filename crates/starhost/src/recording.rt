@@ -1,8 +1,7 @@
 //! A server with a journal: it begins as the journal leaves it, and what is answered is recorded before it is sent.
-ghost use Rattle.std.specs.Prelude.{◌≡◌, ℕ, OnOk};
-ghost use Rattle.std.specs.Io.KnownBytes.{Appends};
+ghost use Rattle.std.specs.Prelude.{◌≡◌, OnOk};
 ghost use Rattle.std.specs.Thread.{IsSend, IsSync};
-ghost use Rattle.starhost.specs.Totals.{listening_line};
+ghost use Rattle.starhost.specs.Totals.{TellsPort};
 
 use crate::fault::Fault;
 use crate::flushing::Flusher;
@@ -10,22 +9,23 @@ use crate::journal::Journal;
 use crate::keeping::{Gate, Keeping, Served};
 use crate::listening::listen;
 use crate::showing::Pages;
+use crate::system::System;
 use crate::watching::StatusPort;
 use sb_durable::{
-    File as JournalFile, Head, JournalError, Played, Progress, Recorder, Syncing, Wary, open_path,
-    play,
+    File as JournalFile, Head, Journal as Records, JournalError, Played, Progress, Recorder,
+    Syncing, Wary, open_path, play,
 };
 use sb_host::{Lending, Stub};
 use sb_server::{Admission, Beside, Keeper, Kept};
 use sb_wire::Sink;
 use sb_words::Syncs;
+use std::alloc::Global;
 use std::fs::File;
-use std::net::{Net, TcpListener, TcpStream};
+use std::net::TcpListener;
 use std::rt::{Clock, Files};
 use std::sync::Wait;
 use std::sync::atomic::{AtomicBool, Ordering};
 use std::thread;
-use std::thread::Threads;
 use std::time::{Duration, Instant};
 
 /// How far a journal is played is told once in so many seconds.
@@ -108,6 +108,33 @@ pub(crate) fn syncing_of(syncs: Syncs) -> Syncing {
     }
 }
 
+/// The journal at this path, which is played to a host, and what that leaves. Why it can't be is told.
+pub(crate) fn played_journal<H: Lending, T: Wait + Eprint + Clock + Files<File = File>>(
+    rt: &T,
+    alloc: Global,
+    host: H,
+    path: &str,
+    syncing: Syncing,
+    head: Head,
+    log: &Journal<'_, T>,
+) -> Result<(Records<JournalFile<Wary>>, Played), Fault> {
+    let mut file = match open_path(rt, alloc, path, syncing, head) {
+        Ok(file) => file,
+        Err(error) => {
+            log.tell_no_journal(path, &error);
+            return Err(Fault::CannotOpenJournal);
+        }
+    };
+    let mut playing = Playing::new(rt, log);
+    match play(rt, alloc, host, &mut file, &mut playing) {
+        Ok(played) => Ok((file, played)),
+        Err(error) => {
+            log.tell_no_journal(path, &error);
+            Err(Fault::CannotOpenJournal)
+        }
+    }
+}
+
 /// Tells how far a journal is played.
 #[derive(Drop)]
 pub(crate) struct Playing<'k, T> {
@@ -142,17 +169,7 @@ impl<'k, T: Eprint + Clock> Progress for Playing<'k, T> {
     }
 }
 
-impl<
-    'k,
-    H: Lending + Sync,
-    T: Threads
-        + Wait
-        + Net<Listener = TcpListener, Stream = TcpStream>
-        + Eprint
-        + Clock
-        + Files<File = File>
-        + Sync,
-> Keeping<'k, H, T>
+impl<'k, H: Lending + Sync, T: System + Sync> Keeping<'k, H, T>
 where
     H::Session: Send,
 {
@@ -163,8 +180,7 @@ where
         gate: Gate<'_, '_, A, G>,
         writer: &mut W,
     ) -> Result<Served, Fault>
-        ensures { OnOk result ((port : ℕ)
-            × Appends (W.contents writer.old) (W.contents writer.new) (listening_line port)) }
+        ensures { OnOk result (TellsPort (W.contents writer.old) (W.contents writer.new)) }
     {
         let (recorder, stubs) = match self.restart(path) {
             Ok(restarted) => restarted,
@@ -186,8 +202,7 @@ where
         stubs: Vec<Stub>,
         writer: &mut W,
     ) -> Result<Served, Fault>
-        ensures { OnOk result ((port : ℕ)
-            × Appends (W.contents writer.old) (W.contents writer.new) (listening_line port)) }
+        ensures { OnOk result (TellsPort (W.contents writer.old) (W.contents writer.new)) }
     {
         let flusher = match Flusher::open(self.rt, path, self.journal) {
             Ok(flusher) => flusher,
@@ -246,26 +261,26 @@ where
             bound: u64::from(self.plan.bound),
         };
         let syncing = syncing_of(self.paths.syncs);
-        let mut file = match open_path(self.rt, self.alloc, path, syncing, head) {
-            Ok(file) => file,
-            Err(error) => {
-                self.journal.tell_no_journal(path, &error);
-                return Err(Fault::CannotOpenJournal);
-            }
-        };
-        let mut playing = Playing::new(self.rt, self.journal);
-        match play(self.rt, self.alloc, self.host, &mut file, &mut playing) {
+        match played_journal(
+            self.rt,
+            self.alloc,
+            self.host,
+            path,
+            syncing,
+            head,
+            self.journal,
+        ) {
             Ok(
-                Played {
-                    stubs,
-                    recorded,
-                    ..
-                },
-            ) => Ok((Recorder::new(self.alloc, self.host, file, recorded), stubs)),
-            Err(error) => {
-                self.journal.tell_no_journal(path, &error);
-                Err(Fault::CannotOpenJournal)
-            }
+                (
+                    file,
+                    Played {
+                        stubs,
+                        recorded,
+                        ..
+                    },
+                ),
+            ) => { Ok((Recorder::new(self.alloc, self.host, file, recorded), stubs)) }
+            Err(why) => Err(why),
         }
     }
 }

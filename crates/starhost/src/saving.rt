@@ -1,18 +1,14 @@
 //! The tenants of a host, written to the files of a folder.
-ghost use Rattle.std.specs.Prelude.{◌≡◌, ◌⊎◌, ◌≤◌, IfErr};
+ghost use Rattle.std.specs.Prelude.{◌≡◌, ◌⊎◌, ◌≤◌};
 ghost use Rattle.starhost.specs.Saving.{IsNotedOf, IsNotedOfSome};
-ghost use Rattle.starhost.specs.declared.fault.Fault.TheVariants as fault;
-ghost use Rattle.sb_wire.specs.declared.fault.StreamError.TheVariants as stream;
 
-use crate::dumping::{text_of, undumped};
+use crate::dumping::undumped;
 use crate::fault::Fault;
-use crate::folder::Folder;
-use crate::journal::Journal;
+use crate::script_files::ScriptFiles;
 use sb_dump::{DumpError, Script, dump};
 use sb_host::{Lending, Reading, Tried};
 use sb_status::Patience;
 use sb_tenant::Tenant;
-use sb_wire::StreamError;
 use std::alloc::Global;
 use std::rt::{Clock, Files};
 use std::sync::Wait;
@@ -29,11 +25,24 @@ pub(crate) enum Noted {
 
 /// Notes the script of a tenant.
 #[derive(Drop)]
-struct Notes {
+pub(crate) struct Notes {
     alloc: Global,
     bound: u32,
     noted: Noted,
     ghost few: { bound ≤ 1000 },
+}
+
+impl Notes {
+    pub(crate) fn new(alloc: Global, bound: u32) -> Notes
+        requires { bound ≤ 1000 }
+        ensures { (result.bound ≡ bound) × (result.noted ≡ Noted.Unused) }
+    {
+        Notes {
+            alloc,
+            bound,
+            noted: Noted::Unused,
+        }
+    }
 }
 
 impl Reading for Notes {
@@ -63,19 +72,13 @@ fn script_of(alloc: Global, tenant: &Tenant, bound: u32) -> Noted
 /// Writes the file of each tenant that was ever opened. Where one isn't written the others are all the same, and the
 /// first fault is given.
 pub(crate) fn save_all<T: Wait + Eprint + Clock + Files, H: Lending>(
-    rt: &T,
-    alloc: Global,
+    files: &ScriptFiles<'_, '_, T>,
     host: H,
-    bound: u32,
-    folder: Folder<'_>,
-    journal: &Journal<'_, T>,
-) -> Result<(), Fault>
-    requires { bound ≤ 1000 }
-{
+) -> Result<(), Fault> {
     let mut ended = Ok(());
     for tenant in 0..host.tenants() {
-        if let Err(why) = save_one(rt, alloc, host, bound, folder, journal, tenant) {
-            journal.tell_unsaved(folder.number_of(tenant));
+        if let Err(why) = save_one(files, host, tenant) {
+            files.tell_unsaved(tenant);
             if ended.is_ok() {
                 ended = Err(why);
             }
@@ -86,40 +89,24 @@ pub(crate) fn save_all<T: Wait + Eprint + Clock + Files, H: Lending>(
 
 /// Writes the file of a tenant, if it was ever opened.
 fn save_one<T: Wait + Eprint + Clock + Files, H: Lending>(
-    rt: &T,
-    alloc: Global,
+    files: &ScriptFiles<'_, '_, T>,
     host: H,
-    bound: u32,
-    folder: Folder<'_>,
-    journal: &Journal<'_, T>,
     tenant: u32,
-) -> Result<(), Fault>
-    requires { bound ≤ 1000 }
-{
-    let number = folder.number_of(tenant);
-    match noted_of(rt, alloc, host, bound, tenant) {
+) -> Result<(), Fault> {
+    let number = files.folder.number_of(tenant);
+    let notes = Notes::new(files.alloc, files.bound);
+    match noted_of(files.rt, host, tenant, notes) {
         Noted::Unused => Ok(()),
         Noted::Lacking(error) => Err(undumped(number, error)),
-        Noted::Script(script) => write_script(rt, alloc, folder, journal, number, &script),
+        Noted::Script(script) => files.write(number, &script),
     }
 }
 
 /// The script of a tenant.
-pub(crate) fn noted_of<T: Wait, H: Lending>(
-    rt: &T,
-    alloc: Global,
-    host: H,
-    bound: u32,
-    tenant: u32,
-) -> Noted
-    requires { bound ≤ 1000 }
-    ensures { IsNotedOfSome bound (H.tenants host) tenant result }
+pub(crate) fn noted_of<T: Wait, H: Lending>(rt: &T, host: H, tenant: u32, mut notes: Notes) -> Noted
+    requires { notes.noted ≡ Noted.Unused }
+    ensures { IsNotedOfSome notes.bound (H.tenants host) tenant result }
 {
-    let mut notes = Notes {
-        alloc,
-        bound,
-        noted: Noted::Unused,
-    };
     let _is_there = host.read(rt, tenant, &mut notes);
     let Notes { noted, .. } = notes;
     noted
@@ -128,46 +115,16 @@ pub(crate) fn noted_of<T: Wait, H: Lending>(
 /// The script of a tenant, unless its cell is busy for too long.
 pub(crate) fn noted_in<T: Clock, H: Lending>(
     patience: &mut Patience<'_, T>,
-    alloc: Global,
     host: H,
-    bound: u32,
     tenant: u32,
+    mut notes: Notes,
 ) -> Noted
-    requires { bound ≤ 1000 }
-    ensures { (result ≡ Noted.Lacking DumpError.Busy) ⊎ IsNotedOfSome bound (H.tenants host) tenant result }
+    requires { notes.noted ≡ Noted.Unused }
+    ensures { (result ≡ Noted.Lacking DumpError.Busy) ⊎ IsNotedOfSome notes.bound (H.tenants host) tenant result }
 {
-    let mut notes = Notes {
-        alloc,
-        bound,
-        noted: Noted::Unused,
-    };
     if let Tried::Held = patience.read(host, tenant, &mut notes) {
         return Noted::Lacking(DumpError::Busy);
     }
     let Notes { noted, .. } = notes;
     noted
-}
-
-/// Writes a script to the file of the tenant with this number.
-pub(crate) fn write_script<T: Eprint + Clock + Files>(
-    rt: &T,
-    alloc: Global,
-    folder: Folder<'_>,
-    journal: &Journal<'_, T>,
-    number: u64,
-    script: &Script,
-) -> Result<(), Fault>
-    ensures { IfErr result (λ why. (why ≡ fault.Stream stream.NoMemory) ⊎ (why ≡ fault.CannotWrite number)) }
-{
-    let Ok(text) = text_of(alloc, script) else {
-        return Err(Fault::Stream(StreamError::NoMemory));
-    };
-    match folder.write(rt, alloc, number, text.as_slice()) {
-        Ok(Ok(())) => Ok(()),
-        Ok(Err(error)) => {
-            journal.tell_cannot_write(number, &error);
-            Err(Fault::CannotWrite { tenant: number })
-        }
-        Err(_) => Err(Fault::Stream(StreamError::NoMemory)),
-    }
 }

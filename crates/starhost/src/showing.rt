@@ -2,11 +2,11 @@
 ghost use Rattle.std.specs.Prelude.{◌≡◌, ◌⊎◌, ◌+◌, ◌<◌, ◌≤◌, IfOk, IfSome, MatchOption};
 ghost use Rattle.starhost.specs.Showing.{IsTurnedAway};
 
-use crate::activity::{page_of, samples_of};
+use crate::activity::{Counted, Overview};
 use crate::dumping::text_of;
 use crate::guarding::is_let_in;
 use crate::memory::resident;
-use crate::saving::{Noted, noted_in};
+use crate::saving::{Noted, Notes, noted_in};
 use sb_dump::DumpError;
 use sb_host::{Lending, SESSION_LIMIT, SessionId, Tried};
 use sb_server::{Admission, Board, Named};
@@ -107,34 +107,21 @@ impl<'k, H: Lending, A: Admission, T: Wait + Clock> Pages<'k, H, A, T> {
     }
 
     fn host_page(&self, shelf: &mut Shelf) -> Result<Shown, AllocError> {
-        let tenants = self.all_numbers(shelf)?;
-        let body = page_of(
-            self.rt,
-            self.alloc,
-            self.board,
-            self.host_numbers(),
-            &tenants,
-        )?;
-        Ok(Shown {
-            status: Status::Found,
-            kind: Kind::Page,
-            body,
-        })
+        let overview = self.overview(shelf)?;
+        Ok(found(Kind::Page, overview.page(self.alloc)?))
     }
 
     fn metrics(&self, shelf: &mut Shelf) -> Result<Shown, AllocError> {
-        let tenants = self.all_numbers(shelf)?;
-        let body = samples_of(
-            self.rt,
-            self.alloc,
-            self.board,
-            self.host_numbers(),
-            &tenants,
-        )?;
-        Ok(Shown {
-            status: Status::Found,
-            kind: Kind::Samples,
-            body,
+        let overview = self.overview(shelf)?;
+        Ok(found(Kind::Samples, overview.samples(self.alloc)?))
+    }
+
+    /// The host with its tenants, and what the workers have counted.
+    fn overview(&self, shelf: &mut Shelf) -> Result<Overview, AllocError> {
+        Ok(Overview {
+            tenants: self.all_numbers(shelf)?,
+            host: self.host_numbers(),
+            counted: Counted::read(self.rt, self.alloc, self.board)?,
         })
     }
 
@@ -285,13 +272,10 @@ impl<'k, H: Lending, A: Admission, T: Wait + Clock> Pages<'k, H, A, T> {
             return told(self.alloc, Status::NotFound, b"no such tenant\n");
         };
         let mut patience = Patience::new(self.rt);
-        match noted_in(&mut patience, self.alloc, self.host, self.bound, place) {
+        let notes = Notes::new(self.alloc, self.bound);
+        match noted_in(&mut patience, self.host, place, notes) {
             Noted::Unused => told(self.alloc, Status::Found, b""),
-            Noted::Script(script) => Ok(Shown {
-                status: Status::Found,
-                kind: Kind::Text,
-                body: text_of(self.alloc, &script)?,
-            }),
+            Noted::Script(script) => Ok(found(Kind::Text, text_of(self.alloc, &script)?)),
             Noted::Lacking(DumpError::Busy) => told(
                 self.alloc,
                 Status::Busy,
@@ -326,11 +310,16 @@ fn told(alloc: Global, status: Status, text: &[u8]) -> Result<Shown, AllocError>
 }
 
 fn view_shown(alloc: Global, view: &TenantView) -> Result<Shown, AllocError> {
-    Ok(Shown {
+    Ok(found(Kind::Page, tenant_page(alloc, view)?))
+}
+
+/// What is shown of what there is.
+fn found(kind: Kind, body: Vec<u8>) -> Shown {
+    Shown {
         status: Status::Found,
-        kind: Kind::Page,
-        body: tenant_page(alloc, view)?,
-    })
+        kind,
+        body,
+    }
 }
 
 /// Why a request isn't answered by what it asks for.

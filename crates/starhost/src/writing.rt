@@ -5,9 +5,9 @@ ghost use Rattle.sb_words.specs.Within.{AreRun};
 
 use crate::dumping::{answered, undumped};
 use crate::fault::Fault;
-use crate::folder::Folder;
+use crate::folder::found_folder;
 use crate::journal::Journal;
-use crate::saving::write_script;
+use crate::script_files::ScriptFiles;
 use sb_cell::Cell;
 use sb_dump::dump;
 use sb_wire::Source;
@@ -30,18 +30,21 @@ pub(crate) fn dump_all<T: Eprint + Clock + Files, R: Source>(
         (λ input. RefusesDumps asked.tenants asked.bound input why)) }
 {
     let journal = Journal::new(rt, Severity::Info);
-    let Some(path) = into else {
+    let Some(folder) = found_folder(rt, into, &journal) else {
         return Err(Fault::NoFolder);
     };
-    let folder = Folder { path, first: 0 };
-    if !folder.is_found(rt, &journal) {
-        return Err(Fault::NoFolder);
-    }
     let cell = match answered(alloc, asked, reader) {
         Ok(cell) => cell,
         Err(error) => return Err(Fault::Stream(error)),
     };
-    match write_each(rt, alloc, &cell, asked, folder, &journal) {
+    let files = ScriptFiles {
+        rt,
+        alloc,
+        bound: asked.bound,
+        folder,
+        journal: &journal,
+    };
+    match write_each(&files, &cell, asked.tenants) {
         None => Ok(()),
         Some(why) => Err(why),
     }
@@ -50,24 +53,20 @@ pub(crate) fn dump_all<T: Eprint + Clock + Files, R: Source>(
 /// Writes the file of each tenant that was opened. Where one isn't written the others are all the same, and the first
 /// fault is given.
 fn write_each<T: Eprint + Clock + Files>(
-    rt: &T,
-    alloc: Global,
+    files: &ScriptFiles<'_, '_, T>,
     cell: &Cell,
-    asked: Run,
-    folder: Folder<'_>,
-    journal: &Journal<'_, T>,
+    tenants: u32,
 ) -> Option<Fault>
-    requires few { asked.bound ≤ 1000 }
-    requires first { folder.first ≡ 0 }
-    ensures all { result ≡ None → (t : ℕ) → t < asked.tenants → HasScript asked.bound cell.now t }
+    requires { files.now.folder.first ≡ 0 }
+    ensures all { result ≡ None → (t : ℕ) → t < tenants → HasScript files.now.bound cell.now t }
     ensures why { IfSome result (λ why. (t : ℕ) × IsUndumped cell.now t why) }
 {
     let mut first = None;
-    for tenant in 0..asked.tenants {
-        match write_one(rt, alloc, cell, asked.bound, folder, journal, tenant) {
+    for tenant in 0..tenants {
+        match write_one(files, cell, tenant) {
             Ok(()) => {}
             Err(why) => {
-                journal.tell_unsaved(folder.number_of(tenant));
+                files.tell_unsaved(tenant);
                 first = earlier(first, why);
             }
         }
@@ -87,28 +86,23 @@ fn earlier(first: Option<Fault>, next: Fault) -> Option<Fault>
 
 /// Writes the file of a tenant, if it was opened.
 fn write_one<T: Eprint + Clock + Files>(
-    rt: &T,
-    alloc: Global,
+    files: &ScriptFiles<'_, '_, T>,
     cell: &Cell,
-    bound: u32,
-    folder: Folder<'_>,
-    journal: &Journal<'_, T>,
     tenant: u32,
 ) -> Result<(), Fault>
-    requires few { bound ≤ 1000 }
-    requires first { folder.first ≡ 0 }
-    ensures ok { OnOk result (HasScript bound cell.now tenant) }
+    requires { files.now.folder.first ≡ 0 }
+    ensures ok { OnOk result (HasScript files.now.bound cell.now tenant) }
     ensures err { IfErr result (IsUndumped cell.now tenant) }
 {
-    let number = folder.number_of(tenant);
+    let number = files.folder.number_of(tenant);
     let Some(own) = cell.tenant(tenant) else {
         return Err(Fault::NoTenant { tenant: number });
     };
     if own.trail().is_empty() {
         return Ok(());
     }
-    match dump(alloc, own, bound) {
-        Ok(script) => write_script(rt, alloc, folder, journal, number, &script),
+    match dump(files.alloc, own, files.bound) {
+        Ok(script) => files.write(number, &script),
         Err(error) => Err(undumped(number, error)),
     }
 }

@@ -14,7 +14,7 @@ loop-tenant-preserved g c =
     let k = c.loop-tenant.tenant in
     elim c.match-write_one.branch [
       | in-Ok w ↦ record {
-        all = λ none. one_more c.args.asked.bound k c.args.cell.now (so_far.all (sym w.first-is ∙ none)) w.in-Ok.ensures.ok;
+        all = λ none. one_more c.args.files.now.bound k c.args.cell.now (so_far.all (sym w.first-is ∙ none)) w.in-Ok.ensures.ok;
         why = subst (λ (o : Option Fault). IfSome o P) (sym w.first-is) so_far.why;
       }
       | in-Err w ↦ record {

@@ -6,6 +6,6 @@ use Rattle.starhost.proofs.writing.write_each.Given as goal
 -- the tenants so far have scripts, or there is a fault
 abbrev pub invariant-loop-tenant : goal.invariant-loop-tenant
 invariant-loop-tenant g l = record {
-  all : l.first ≡ None → (t : ℕ) → t < l.tenant → HasScript l.asked.bound l.cell t;
+  all : l.first ≡ None → (t : ℕ) → t < l.tenant → HasScript l.files.bound l.cell t;
   why : IfSome l.first (λ why. (t : ℕ) × IsUndumped l.cell t why);
 }

@@ -1,0 +1,24 @@
+//! What the program asks of the system.
+
+use std::fs::File;
+use std::net::{Net, TcpListener, TcpStream};
+use std::rt::{Clock, Files};
+use std::sync::Wait;
+use std::thread::Threads;
+
+/// A system with threads, sockets, files, a clock and a standard error.
+pub trait System: Threads
+    + Wait
+    + Net<Listener = TcpListener, Stream = TcpStream>
+    + Eprint
+    + Clock
+    + Files<File = File> {}
+
+impl<
+    T: Threads
+        + Wait
+        + Net<Listener = TcpListener, Stream = TcpStream>
+        + Eprint
+        + Clock
+        + Files<File = File>,
+> System for T {}
