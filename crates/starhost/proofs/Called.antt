@@ -1,19 +1,13 @@
 -- The lines of a file, as calls of a session.
-use Rattle.std.proofs.Common.{◌≡◌, ◌∙◌, ◌⊎◌, ◌+◌, ℕ, zero, suc, Bool, true, false, List, [], ◌∷◌, ◌++◌, map, append_assoc, append-nil, Option, Some, None, Result, Ok, codes, inl, inr, refl, sym, ap, subst, arith}
+use Rattle.std.proofs.Common.{◌≡◌, ◌∙◌, ◌+◌, ℕ, zero, suc, false, List, [], ◌∷◌, ◌++◌, append_assoc, append-nil, Option, Some, None, Ok, codes, refl, sym, ap, subst, arith}
 use Rattle.std.proofs.lemmas.List.{map-append}
 use Rattle.std.proofs.lemmas.List.Elements.{All-append, All-cons, All-nil}
 use Rattle.std.specs.Prelude.{IfSome, ⊤, option_to_list}
-use Rattle.std.specs.Io.KnownBytes.{Consumes, IsAtEnd}
 use Rattle.sb_tenant.specs.declared.reply.Answer.{Answer}
 use Rattle.sb_tenant.specs.declared.reply.Reply.TheVariants as told
-use Rattle.sb_wire.specs.Lines.{Piece, line, too_long, pieces_of}
-use Rattle.sb_wire.specs.Responses.{AreAnswered}
-use Rattle.sb_wire.specs.Stream.{AreFirst}
 use Rattle.sb_host.specs.Desk.{AnswersOnce, Calls, IsNumbered, LeavesStub, Receipt, Session, Stub, list_by, newcomer, numbered, receipt, shown}
-use Rattle.starhost.specs.Calling.{AreTakenBy, CallsBy, CallsLine, IsPlayedIn, LeaveAll, LeavesFor, TakesCall, TakesCalls}
-use Rattle.starhost.specs.Playing.{HasLines, IsTaken}
-use Rattle.starhost.specs.declared.playing.Progress.{Progress}
-use Rattle.starhost.proofs.Loaded.{read_whole}
+use Rattle.starhost.specs.Calling.{AreTakenBy, IsPlayedIn, LeaveAll, LeavesFor, TakesCall, TakesCalls}
+use Rattle.starhost.specs.Playing.{IsTaken, TakesEach}
 
 -- ---- one line
 
@@ -73,34 +67,11 @@ both_called old mid new one two first second = record {
   };
 }
 
--- ---- the lines of a file
-
-good_call : (old new : Session) (p : Piece) → CallsBy false old p new → (own : List ℕ) × (p ≡ line own) × TakesCalls (own ∷ []) old new
-good_call old new (line own) takes = (own, refl, one_called old new own takes)
-good_call old new too_long none = absurd none
-
-abbrev is_bad : Session × Progress → Bool
-is_bad state = state.1.is_bad
-
-stream_called : (old new : Session × Progress) (ps : List Piece) (text : List ℕ) → AreAnswered CallsLine is_bad old ps text new → new.1.is_bad ≡ false
-    → (lines : List (List ℕ)) × (ps ≡ map line lines) × TakesCalls lines old.0 new.0
-stream_called old new [] text answered fine = ([], refl, subst (λ (s : Session × Progress). TakesCalls [] old.0 s.0) (sym answered.1) (none_called old.0))
-stream_called old new (p ∷ ps) text (first, rest, mid, is, going, one, more) fine =
-    let here = good_call old.0 mid.0 p (subst (λ (b : Bool). CallsBy b old.0 p mid.0) (still ps more) one.1) in
-    let behind = stream_called mid new ps rest more fine in
-    (here.0 ∷ behind.0, (λ i. here.1 i ∷ behind.1 i), both_called old.0 mid.0 new.0 (here.0 ∷ []) behind.0 here.2 behind.2)
-  where
-    still : (ps : List Piece) → AreAnswered CallsLine is_bad mid ps rest new → mid.1.is_bad ≡ false
-    still [] end = subst (λ (s : Session × Progress). s.1.is_bad ≡ false) end.1 fine
-    still (q ∷ qs) next = next.4
-
-pub file_called : (old new : Session × Progress) (file rest : Option (List ℕ)) (seen : List ℕ) (pieces : List Piece) (text : List ℕ)
-    → AreAnswered CallsLine (λ s. s.1.is_bad) old pieces text new → new.1.is_bad ≡ false → Consumes file rest seen
-    → ((new.1.is_bad ≡ true) × AreFirst pieces seen) ⊎ (IsAtEnd rest × (pieces ≡ pieces_of seen))
-    → (lines : List (List ℕ)) × HasLines file lines × TakesCalls lines old.0 new.0
-file_called old new file rest seen pieces text answered fine reads (inl (over, first)) = cc
-file_called old new file rest seen pieces text answered fine reads (inr (ended, whole)) =
-    let called = stream_called old new pieces text answered fine in (called.0, read_whole file rest seen pieces called.0 reads ended whole called.1, called.2)
+-- lines that are taken one after another
+pub each_called : (lines : List (List ℕ)) (old new : Session) → TakesEach TakesCall lines old new → TakesCalls lines old new
+each_called [] old new same = subst (λ (s : Session). TakesCalls [] old s) (sym same) (none_called old)
+each_called (own ∷ more) old new (mid, taken, behind) =
+    both_called old mid new (own ∷ []) more (one_called old mid own taken) (each_called more mid new behind)
 
 -- ---- a closed session
 

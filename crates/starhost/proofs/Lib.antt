@@ -4,6 +4,7 @@ mod Servers
 mod Commands
 mod Dumped
 mod Loaded
+mod Played
 mod Called
 mod Written
 mod Digests

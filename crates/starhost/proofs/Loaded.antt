@@ -1,10 +1,9 @@
 -- Tenants of a cell that scripts made.
-use Rattle.std.proofs.Common.{◌≡◌, ◌∙◌, ◌⊎◌, ◌<◌, ◌≤◌, ◌+◌, ◌%◌, ◌==◌, ◌/◌, ◌&&◌, nat_lt, ℕ, Bool, true, false, List, [], ◌∷◌, ◌++◌, Option, Some, None, Result, Ok, Err, OnOk, codes, inl, inr, refl, sym, ap, subst, eq-eqb, arith, map}
+use Rattle.std.proofs.Common.{◌≡◌, ◌∙◌, ◌⊎◌, ◌<◌, ◌≤◌, ◌+◌, ◌%◌, ◌==◌, ◌/◌, ◌&&◌, nat_lt, ℕ, Bool, true, false, List, [], ◌∷◌, ◌++◌, Option, Some, None, Result, Ok, Err, OnOk, inl, inr, refl, sym, ap, subst, eq-eqb, arith}
 use Rattle.std.proofs.lemmas.Bool.{cases_lt, ne_eqb}
-use Rattle.std.proofs.lemmas.List.{append-nil}
 use Rattle.std.proofs.Math.Nat.{eq-or-lt_of_le}
 use Rattle.std.specs.Prelude.{IfSome, IsFalse}
-use Rattle.std.specs.Io.KnownBytes.{Appends, Consumes, IsAtEnd}
+use Rattle.std.specs.Io.KnownBytes.{Appends}
 use Rattle.sb_tenant.specs.declared.reply.Answer.{Answer}
 use Rattle.sb_tenant.specs.declared.reply.Entry.{Entry}
 use Rattle.sb_tenant.specs.State.{State, opening}
@@ -14,12 +13,9 @@ use Rattle.sb_cell.specs.declared.StepError.{StepError}
 use Rattle.sb_cell.specs.Events.{IsTurn}
 use Rattle.sb_cell.specs.Tenants.{AnswersBy, AnswersEvent, Cell, IsNew, IsSame, hosts, states, trail_of, trails}
 use Rattle.sb_dump.specs.Dumps.{as_session, played, whole_session}
-use Rattle.sb_wire.specs.Lines.{Piece, line, too_long, pieces_of}
-use Rattle.sb_wire.specs.Responses.{AreAnswered}
-use Rattle.sb_wire.specs.Stream.{AnswersInput, AreFirst}
+use Rattle.sb_wire.specs.Stream.{AnswersInput}
 use Rattle.starhost.specs.Loading.{AnswersLoaded, IsLoaded, IsLoadedFrom, IsScripted, IsScriptedBy}
-use Rattle.starhost.specs.Playing.{AreTaken, HasLines, IsStarted, IsTaken, Plays, PlaysBy, Sends}
-use Rattle.starhost.specs.declared.playing.Progress.{Progress}
+use Rattle.starhost.specs.Playing.{AreTaken, IsStarted, IsTaken, Sends, TakesEach, TakesLine}
 
 -- ---- one line
 
@@ -80,48 +76,14 @@ sends_both old mid new t one two first second = record {
   same = (second.same.0 ∙ first.same.0, second.same.1 ∙ first.same.1, second.same.2 ∙ first.same.2, second.same.3 ∙ first.same.3);
 }
 
-pub sends_none : (cell : Cell) (t : ℕ) → Sends t [] cell cell
+sends_none : (cell : Cell) (t : ℕ) → Sends t [] cell cell
 sends_none cell t = record { sent = refl; taken = tt; others = λ u other. refl; same = (refl, refl, refl, refl) }
 
--- ---- the lines of a file
-
--- a line that isn't a bad one
-good_line : (t : ℕ) (old new : Cell) (p : Piece) → PlaysBy false t old p new → (own : List ℕ) × (p ≡ line own) × Sends t (own ∷ []) old new
-good_line t old new (line own) (a, taken, answers) = (own, refl, one_sent old new t own a taken answers)
-good_line t old new too_long none = absurd none
-
-module _ (t : ℕ) where
-  abbrev is_bad : Cell × Progress → Bool
-  is_bad state = state.1.is_bad
-
-  -- lines, none of which was a bad one
-  pub stream_sent : (old new : Cell × Progress) (ps : List Piece) (text : List ℕ) → AreAnswered (Plays t) is_bad old ps text new → new.1.is_bad ≡ false
-      → (lines : List (List ℕ)) × (ps ≡ map line lines) × Sends t lines old.0 new.0
-  stream_sent old new [] text answered fine = ([], refl, subst (λ (s : Cell × Progress). Sends t [] old.0 s.0) (sym answered.1) (sends_none old.0 t))
-  stream_sent old new (p ∷ ps) text (first, rest, mid, is, going, one, more) fine =
-      let here = good_line t old.0 mid.0 p (subst (λ (b : Bool). PlaysBy b t old.0 p mid.0) (still ps more) one.1) in
-      let behind = stream_sent mid new ps rest more fine in
-      (here.0 ∷ behind.0, (λ i. here.1 i ∷ behind.1 i), sends_both old.0 mid.0 new.0 t (here.0 ∷ []) behind.0 here.2 behind.2)
-    where
-      still : (ps : List Piece) → AreAnswered (Plays t) is_bad mid ps rest new → mid.1.is_bad ≡ false
-      still [] end = subst (λ (s : Cell × Progress). s.1.is_bad ≡ false) end.1 fine
-      still (q ∷ qs) next = next.4
-
--- a file that was read to its end has the lines that were answered
-pub read_whole : (file rest : Option (List ℕ)) (seen : List ℕ) (pieces : List Piece) (lines : List (List ℕ)) → Consumes file rest seen → IsAtEnd rest
-    → pieces ≡ pieces_of seen → pieces ≡ map line lines → HasLines file lines
-read_whole None rest seen pieces lines reads ended whole are = tt
-read_whole (Some bytes) None seen pieces lines reads ended whole are = absurd reads
-read_whole (Some bytes) (Some left) seen pieces lines reads ended whole are =
-    ap pieces_of (reads ∙ ap (λ x. seen ++ x) ended ∙ append-nil seen) ∙ sym whole ∙ are
-
-pub file_played : (t : ℕ) (old new : Cell × Progress) (file rest : Option (List ℕ)) (seen : List ℕ) (pieces : List Piece) (text : List ℕ)
-    → AreAnswered (Plays t) (λ s. s.1.is_bad) old pieces text new → new.1.is_bad ≡ false → Consumes file rest seen
-    → ((new.1.is_bad ≡ true) × AreFirst pieces seen) ⊎ (IsAtEnd rest × (pieces ≡ pieces_of seen))
-    → (lines : List (List ℕ)) × HasLines file lines × Sends t lines old.0 new.0
-file_played t old new file rest seen pieces text answered fine reads (inl (over, first)) = cc
-file_played t old new file rest seen pieces text answered fine reads (inr (ended, whole)) =
-    let sent = stream_sent t old new pieces text answered fine in (sent.0, read_whole file rest seen pieces sent.0 reads ended whole sent.1, sent.2)
+-- lines that are taken one after another
+pub each_sent : (t : ℕ) (lines : List (List ℕ)) (old new : Cell) → TakesEach (TakesLine t) lines old new → Sends t lines old new
+each_sent t [] old new same = subst (λ (c : Cell). Sends t [] old c) (sym same) (sends_none old t)
+each_sent t (own ∷ more) old new (mid, taken, behind) =
+    sends_both old mid new t (own ∷ []) more (one_sent old mid t own taken.0 taken.1 taken.2) (each_sent t more mid new behind)
 
 -- ---- all tenants
 

@@ -1,18 +1,16 @@
 -- Promise: how the files of a host's tenants are played, and what the sessions leave.
-use Rattle.std.specs.Prelude.{◌≡◌, ◌⊎◌, ◌<◌, ◌+◌, ℕ, zero, suc, Bool, true, false, List, [], ◌∷◌, ◌++◌, map, Option, None, Some, option_to_list, Result, Ok, Err, ⊤, codes}
+use Rattle.std.specs.Prelude.{◌≡◌, ◌⊎◌, ◌<◌, ◌+◌, ℕ, zero, suc, List, [], ◌∷◌, ◌++◌, map, Option, None, Some, option_to_list, Result, Ok, Err, ⊤, codes}
 use Rattle.std.specs.List.{All}
 use Rattle.sb_tenant.specs.declared.reply.Answer.{Answer}
 use Rattle.sb_tenant.specs.declared.reply.Reply.TheVariants as told
 use Rattle.sb_tenant.specs.State.{session_at}
 use Rattle.sb_tenant.specs.Tenant.{Tenant, state}
-use Rattle.sb_wire.specs.Lines.{Piece, line, too_long}
 use Rattle.sb_wire.specs.declared.fault.StreamError.TheVariants as stream
 use Rattle.sb_host.specs.Desk.{CallError, Calls, Receipt, Session, Stub, numbered, receipt}
 use Rattle.sb_host.specs.Lending.{Lends}
 use Rattle.starhost.specs.Playing.{IsTaken, MayEnd, MayHave, MayLack}
 use Rattle.starhost.specs.declared.fault.Fault.{Fault}
 use Rattle.starhost.specs.declared.fault.Fault.TheVariants.{CannotLoad, Stream}
-use Rattle.starhost.specs.declared.playing.Progress.{Progress}
 use Rattle.starhost.specs.declared.playing.Unplayed.{Unplayed}
 
 -- ---- one line
@@ -29,17 +27,6 @@ TakesCall old own new = (answer : Answer) × IsTaken answer.reply × Calls old o
 -- or otherwise
 abbrev pub RefusesCall : Session → List ℕ → Session → Type 0
 RefusesCall old own new = (given : Result Answer CallError) × IsUntakenCall given × Calls old own given new
-
--- a line of a file is a call, and is a bad one where it is refused. One that is too long is bad, too, and is no call
-abbrev pub CallsBy : Bool → Session → Piece → Session → Type 0
-CallsBy false old (line own) new = TakesCall old own new
-CallsBy false old too_long new = ⊥
-CallsBy true old (line own) new = RefusesCall old own new
-CallsBy true old too_long new = new ≡ old
-
--- so it is by a player, which answers nothing
-abbrev pub CallsLine : Session × Progress → Piece → List ℕ → Session × Progress → Type 0
-CallsLine old piece text new = (text ≡ []) × CallsBy new.1.is_bad old.0 piece new.0
 
 -- ---- the lines of a file
 

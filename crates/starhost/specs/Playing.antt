@@ -11,7 +11,7 @@ use Rattle.sb_tenant.specs.declared.reply.Answer.{Answer}
 use Rattle.sb_tenant.specs.declared.reply.Reply.{Reply}
 use Rattle.sb_tenant.specs.declared.reply.Reply.TheVariants as reply
 use Rattle.sb_wire.specs.Lines.{Piece, line, too_long, pieces_of}
-use Rattle.starhost.specs.declared.playing.Progress.{Progress}
+use Rattle.starhost.specs.declared.player.Progress.{Progress}
 use Rattle.starhost.specs.declared.playing.Unplayed.{Unplayed}
 use Rattle.starhost.specs.declared.playing.Unplayed.TheVariants as unplayed
 
@@ -88,13 +88,20 @@ TakesLine t old own new = (answer : Answer) × IsTaken answer.reply × AnswersEv
 abbrev pub RefusesLine : ℕ → ItsCell → List ℕ → ItsCell → Type 0
 RefusesLine t old own new = (given : Result Answer StepError) × IsUntaken given × AnswersEvent old t 0 own given new
 
--- a line of a file is sent, and is a bad one where it is refused. One that is too long is bad, too, and isn't sent
-abbrev pub PlaysBy : Bool → ℕ → ItsCell → Piece → ItsCell → Type 0
-PlaysBy false t old (line own) new = TakesLine t old own new
-PlaysBy false t old too_long new = ⊥
-PlaysBy true t old (line own) new = RefusesLine t old own new
-PlaysBy true t old too_long new = new ≡ old
+-- lines are sent to something, by what one leaves that is taken or refused
+module _ {S : Type 0} (takes refuses : S → List ℕ → S → Type 0) where
+  -- a line of a file is sent, and is a bad one where it is refused. One that is too long is bad, too, and isn't sent
+  abbrev pub PlaysBy : Bool → S → Piece → S → Type 0
+  PlaysBy false old (line own) new = takes old own new
+  PlaysBy false old too_long new = ⊥
+  PlaysBy true old (line own) new = refuses old own new
+  PlaysBy true old too_long new = new ≡ old
 
--- so it is by a player, which answers nothing
-abbrev pub Plays : ℕ → ItsCell × Progress → Piece → List ℕ → ItsCell × Progress → Type 0
-Plays t old piece text new = (text ≡ []) × PlaysBy new.1.is_bad t old.0 piece new.0
+  -- so it is by a player, which answers nothing
+  abbrev pub Plays : S × Progress → Piece → List ℕ → S × Progress → Type 0
+  Plays old piece text new = (text ≡ []) × PlaysBy new.1.is_bad old.0 piece new.0
+
+-- lines are taken, one after another
+abbrev pub TakesEach : {S : Type 0} → (S → List ℕ → S → Type 0) → List (List ℕ) → S → S → Type 0
+TakesEach takes [] old new = new ≡ old
+TakesEach {S} takes (own ∷ more) old new = (mid : S) × takes old own mid × TakesEach takes more mid new

@@ -1,73 +1,37 @@
 //! The tenants of a host, made from their files.
 ghost use Rattle.std.specs.Prelude.{◌≡◌, ◌⊎◌, ◌+◌, ◌++◌, ◌<◌, List, ℕ, None, false, IfErr, IfOk, OnErr, OnOk, option_to_list};
-ghost use Rattle.starhost.specs.Calling.{CallsBy, IsPlayedIn, IsUnplayedOf, LeaveAll, LeavesFor, RefusesCall, StandsAs, TakesCall, TakesCalls};
+ghost use Rattle.starhost.specs.Calling.{IsPlayedIn, IsUnplayedOf, LeaveAll, LeavesFor, RefusesCall, StandsAs, TakesCall};
 ghost use Rattle.starhost.specs.Playing.{HasLines};
 ghost use Rattle.starhost.specs.declared.fault.Fault.TheVariants as fault;
-ghost use Rattle.sb_wire.specs.Seen.{piece_seen};
 ghost use Rattle.sb_wire.specs.declared.fault.StreamError.TheVariants as stream;
 
-use crate::dumping::Nowhere;
 use crate::fault::Fault;
-use crate::playing::{Progress, Unplayed, is_taken, told, unsettled};
+use crate::player::{Sender, play_lines};
+use crate::playing::{Unplayed, is_taken, told, unsettled};
 use crate::script_source::{ScriptSource, Unopened};
 use sb_host::{Calling, Lending, Reading, Stub};
 use sb_server::Caller;
 use sb_tenant::Tenant;
-use sb_wire::{Fallible, Piece, Responder, StreamError, answer_stream};
-use std::alloc::{AllocError, Global};
+use sb_wire::StreamError;
+use std::alloc::Global;
 use std::io::Read;
 use std::sync::Wait;
 
 const OUT_OF_MEMORY: Fault = Fault::Stream(StreamError::NoMemory);
 
-/// Calls a session with the lines of a file, until one isn't answered as a line of a script is.
+/// Calls a session with lines.
 #[derive(Drop)]
-struct Player<'r, T> {
+struct ToSession<'r, T> {
     rt: &'r T,
 }
 
-impl<'r, T: Wait, S: Calling> Responder<Caller<S>, Progress> for Player<'r, T> {
-    ghost use Rattle.starhost.specs.Calling.{CallsLine};
+impl<'r, T: Wait, S: Calling> Sender<Caller<S>> for ToSession<'r, T> {
+    ghost takes = { λ _. TakesCall };
 
-    ghost responds = { λ _. CallsLine };
+    ghost refuses = { λ _. RefusesCall };
 
-    ghost over = { λ p. p.1.is_bad };
-
-    fn respond(
-        &self,
-        alloc: Global,
-        piece: Piece<'_>,
-        _out: &mut Vec<u8>,
-        first: &mut Caller<S>,
-        second: &mut Progress,
-    ) -> Result<(), AllocError> {
-        play_line(self.rt, alloc, piece, first, second);
-        Ok(())
-    }
-
-    fn is_over(&self, _first: &Caller<S>, second: &Progress) -> bool {
-        second.is_bad
-    }
-}
-
-/// Calls the session with a line.
-fn play_line<T: Wait, S: Calling>(
-    rt: &T,
-    alloc: Global,
-    piece: Piece<'_>,
-    caller: &mut Caller<S>,
-    progress: &mut Progress,
-)
-    ensures { CallsBy progress.new.is_bad caller.old (piece_seen piece.entry) caller.new }
-{
-    progress.line = progress.line.saturating_add(1);
-    progress.is_bad = true;
-    let Piece::Line(line) = piece else {
-        return;
-    };
-    match call(rt, alloc, line, caller) {
-        Ok(()) => progress.is_bad = false,
-        Err(told) => progress.told = told,
+    fn send(&self, alloc: Global, line: &[u8], to: &mut Caller<S>) -> Result<(), Vec<u8>> {
+        call(self.rt, alloc, line, to)
     }
 }
 
@@ -205,7 +169,7 @@ fn play<T: Wait, H: Lending, F: Read + Drop>(
         return Err(Unplayed::NoSession);
     };
     let mut caller = Caller::new(session);
-    let played = play_lines(rt, alloc, &mut caller, file);
+    let played = play_lines(alloc, ToSession { rt }, &mut caller, file);
     let ending = ending_of(rt, host, tenant);
     let has_ended = caller.ended();
     let stub = caller.close(rt);
@@ -219,35 +183,5 @@ fn play<T: Wait, H: Lending, F: Read + Drop>(
     match ending {
         Some(why) => Err(why),
         None => Ok(stub),
-    }
-}
-
-/// Calls a session with the lines of a file.
-fn play_lines<T: Wait, S: Calling, F: Read + Drop>(
-    rt: &T,
-    alloc: Global,
-    caller: &mut Caller<S>,
-    file: F,
-) -> Result<(), Unplayed>
-    ensures { OnOk result ((lines : List (List ℕ)) × HasLines (F.remaining file) lines × TakesCalls lines caller.old caller.new) }
-{
-    let mut reader = Fallible { inner: file };
-    let mut progress = Progress::new(alloc);
-    let player = Player { rt };
-    let ended = answer_stream(
-        alloc,
-        &mut reader,
-        &mut Nowhere,
-        &player,
-        caller,
-        &mut progress,
-    );
-    let Progress { line, is_bad, told } = progress;
-    if is_bad {
-        return Err(Unplayed::Line { line, told });
-    }
-    match ended {
-        Ok(()) => Ok(()),
-        Err(error) => Err(Unplayed::Stream(error)),
     }
 }

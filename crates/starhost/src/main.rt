@@ -23,6 +23,7 @@ mod listening;
 mod loading;
 mod memory;
 mod parsing;
+mod player;
 mod playing;
 mod program;
 mod recording;

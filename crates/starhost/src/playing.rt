@@ -2,50 +2,26 @@
 ghost use Rattle.std.specs.Prelude.{◌≡◌, ◌⊎◌, ◌∷◌, ◌↔◌, [], List, ℕ, false, IfErr, IfOk, IsTrue, OnErr, OnOk};
 ghost use Rattle.sb_cell.specs.Tenants.{IsNew};
 ghost use Rattle.starhost.specs.Loading.{IsLoaded, IsLoadedFrom, IsUnloaded};
-ghost use Rattle.starhost.specs.Playing.{HasLines, IsPlayed, IsSettled, IsStarted, IsTaken, MayEnd, PlaysBy, RefusesLine, Sends, TakesLine};
+ghost use Rattle.starhost.specs.Playing.{HasLines, IsPlayed, IsSettled, IsStarted, IsTaken, MayEnd, RefusesLine, Sends, TakesLine};
 ghost use Rattle.starhost.specs.declared.fault.Fault.TheVariants as fault;
 ghost use Rattle.sb_tenant.specs.State.{session_at};
 ghost use Rattle.sb_tenant.specs.Tenant.{state};
-ghost use Rattle.sb_wire.specs.Seen.{piece_seen};
 ghost use Rattle.sb_wire.specs.declared.fault.StreamError.TheVariants as stream;
 ghost use Rattle.sb_words.specs.Within.{AreRun};
 
-use crate::dumping::Nowhere;
 use crate::fault::Fault;
 use crate::folder::found_folder;
 use crate::journal::Journal;
+use crate::player::{Sender, play_lines};
 use crate::script_source::{FolderScripts, ScriptSource, Unopened};
 use sb_cell::{Cell, ample_buckets};
 use sb_host::SessionId;
 use sb_tenant::{Reply, Tenant};
-use sb_wire::{Fallible, Piece, Responder, StreamError, answer_stream, write_bare_reply};
+use sb_wire::{StreamError, write_bare_reply};
 use sb_words::{Run, Severity};
-use std::alloc::{AllocError, Global};
+use std::alloc::Global;
 use std::io::Read;
 use std::rt::{Clock, Files};
-
-/// How far a file is played.
-#[derive(Drop)]
-pub(crate) struct Progress {
-    /// The newest line, counted from 1.
-    pub(crate) line: u64,
-    /// It wasn't answered as a line of a script is.
-    pub(crate) is_bad: bool,
-    /// What it was answered then.
-    pub(crate) told: Vec<u8>,
-}
-
-impl Progress {
-    pub(crate) fn new(alloc: Global) -> Progress
-        ensures { result.is_bad ≡ false }
-    {
-        Progress {
-            line: 0,
-            is_bad: false,
-            told: Vec::new(alloc),
-        }
-    }
-}
 
 /// Why a file wasn't played to its end.
 #[derive(Drop)]
@@ -178,7 +154,7 @@ fn play<F: Read + Drop>(
         Ok(()) => {}
         Err(why) => return Err(why),
     }
-    match play_lines(alloc, cell, tenant, file) {
+    match send_lines(alloc, cell, tenant, file) {
         Ok(()) => {}
         Err(why) => return Err(why),
     }
@@ -199,7 +175,7 @@ fn send_own(alloc: Global, cell: &mut Cell, tenant: u32, line: &[u8]) -> Result<
 }
 
 /// Sends the lines of a file, behind which the tenant's session stands between two transactions.
-fn play_lines<F: Read + Drop>(
+fn send_lines<F: Read + Drop>(
     alloc: Global,
     cell: &mut Cell,
     tenant: u32,
@@ -208,24 +184,9 @@ fn play_lines<F: Read + Drop>(
     ensures { OnOk result ((lines : List (List ℕ)) × HasLines (F.remaining file) lines × Sends tenant lines cell.old cell.new
         × IsSettled tenant cell.new) }
 {
-    let mut reader = Fallible { inner: file };
-    let mut progress = Progress::new(alloc);
-    let player = Player { tenant };
-    let ended = answer_stream(
-        alloc,
-        &mut reader,
-        &mut Nowhere,
-        &player,
-        cell,
-        &mut progress,
-    );
-    let Progress { line, is_bad, told } = progress;
-    if is_bad {
-        return Err(Unplayed::Line { line, told });
-    }
-    match ended {
+    match play_lines(alloc, ToTenant { tenant }, cell, file) {
         Ok(()) => check_end(cell, tenant),
-        Err(error) => Err(Unplayed::Stream(error)),
+        Err(why) => Err(why),
     }
 }
 
@@ -242,48 +203,19 @@ fn check_end(cell: &Cell, tenant: u32) -> Result<(), Unplayed>
     }
 }
 
-/// Sends lines to a tenant in its first session, until one isn't answered as a line of a script is.
+/// Sends lines to a tenant in its first session.
 #[derive(Drop)]
-struct Player {
+struct ToTenant {
     tenant: u32,
 }
 
-impl Responder<Cell, Progress> for Player {
-    ghost use Rattle.starhost.specs.Playing.{Plays};
+impl Sender<Cell> for ToTenant {
+    ghost takes = { λ s. TakesLine s.tenant };
 
-    ghost responds = { λ p. Plays p.tenant };
+    ghost refuses = { λ s. RefusesLine s.tenant };
 
-    ghost over = { λ s. s.1.is_bad };
-
-    fn respond(
-        &self,
-        alloc: Global,
-        piece: Piece<'_>,
-        _out: &mut Vec<u8>,
-        first: &mut Cell,
-        second: &mut Progress,
-    ) -> Result<(), AllocError> {
-        play_line(alloc, piece, self.tenant, first, second);
-        Ok(())
-    }
-
-    fn is_over(&self, _first: &Cell, second: &Progress) -> bool {
-        second.is_bad
-    }
-}
-
-/// Sends a line.
-fn play_line(alloc: Global, piece: Piece<'_>, tenant: u32, cell: &mut Cell, progress: &mut Progress)
-    ensures { PlaysBy progress.new.is_bad tenant cell.old (piece_seen piece.entry) cell.new }
-{
-    progress.line = progress.line.saturating_add(1);
-    progress.is_bad = true;
-    let Piece::Line(line) = piece else {
-        return;
-    };
-    match send(alloc, cell, tenant, line) {
-        Ok(()) => progress.is_bad = false,
-        Err(told) => progress.told = told,
+    fn send(&self, alloc: Global, line: &[u8], to: &mut Cell) -> Result<(), Vec<u8>> {
+        send(alloc, to, self.tenant, line)
     }
 }
 

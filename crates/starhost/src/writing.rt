@@ -1,5 +1,5 @@
 //! Dumps of all tenants that an input opened, to the files of a folder.
-ghost use Rattle.std.specs.Prelude.{◌≡◌, ◌≢◌, ◌⊎◌, ◌<◌, ◌≤◌, ℕ, None, Some, IfErr, IfSome, OnOk};
+ghost use Rattle.std.specs.Prelude.{◌≡◌, ◌≢◌, ◌⊎◌, ◌<◌, ℕ, None, Some, IfErr, IfSome, OnOk};
 ghost use Rattle.starhost.specs.Dumping.{HasScript, HaveScripts, IsUndumped, RefusesDumps};
 ghost use Rattle.sb_words.specs.Within.{AreRun};
 

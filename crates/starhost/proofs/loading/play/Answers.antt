@@ -1,5 +1,5 @@
 use Rattle.std.proofs.Common.{◌∙◌, sym}
-use Rattle.starhost.proofs.Called.{closed_played}
+use Rattle.starhost.proofs.Called.{closed_played, each_called}
 use Rattle.starhost.proofs.loading.play.Goals as goal
 
 -- the session was opened, called with the lines, stood where a script may end, and was closed
@@ -8,4 +8,4 @@ returns-in-None g c =
     let opened = c.in-Ok.ensures in
     let called = c.in-Ok-played.ensures in
     let going = sym c.ended-has_ended.ensures ∙ c.if-has_ended.false in
-    (called.0, called.1, closed_played c.args.tenant opened.2.0 _ _ called.0 _ (c.new-caller.ensures ∙ opened.2.1) called.2 going c.close-stub.ensures, c.in-None.ensures)
+    (called.0, called.1, closed_played c.args.tenant opened.2.0 _ _ called.0 _ (c.new-caller.ensures ∙ opened.2.1) (each_called called.0 _ _ called.2) going c.close-stub.ensures, c.in-None.ensures)
