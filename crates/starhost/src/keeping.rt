@@ -205,15 +205,29 @@ where
     ) -> Result<Served, Fault>
         ensures { OnOk result (TellsPort (W.contents writer.old) (W.contents writer.new)) }
     {
-        let port = match self.status_port(gate.admission) {
-            Ok(port) => port,
-            Err(why) => return Err(why),
-        };
-        let listener = match listen(self.rt, self.alloc, self.plan.address, self.journal, writer) {
-            Ok(listener) => listener,
-            Err(why) => return Err(why),
-        };
-        self.serve_at(&listener, &port, gate, keeper, loaded)
+        match self.ports(gate.admission, writer) {
+            Ok((listener, port)) => self.serve_at(&listener, &port, gate, keeper, loaded),
+            Err(why) => Err(why),
+        }
+    }
+
+    /// Listens at the status port, if there is to be one, and at the server's, which is told.
+    pub(crate) fn ports<'a, A: Admission, W: Sink>(
+        &'a self,
+        admission: &'a A,
+        writer: &mut W,
+    ) -> Result<(TcpListener, Option<StatusPort<Pages<'a, H, A, T>>>), Fault>
+        ensures { OnOk result (TellsPort (W.contents writer.old) (W.contents writer.new)) }
+    {
+        match self.status_port(admission) {
+            Ok(port) => {
+                match listen(self.rt, self.alloc, self.plan.address, self.journal, writer) {
+                    Ok(listener) => Ok((listener, port)),
+                    Err(why) => Err(why),
+                }
+            }
+            Err(why) => Err(why),
+        }
     }
 
     /// Serves the connections of this port, and shows what there is at the other one.
@@ -253,7 +267,7 @@ where
     }
 
     /// Listens at the status port, if there is to be one.
-    pub(crate) fn status_port<'a, A: Admission>(
+    fn status_port<'a, A: Admission>(
         &'a self,
         admission: &'a A,
     ) -> Result<Option<StatusPort<Pages<'a, H, A, T>>>, Fault> {

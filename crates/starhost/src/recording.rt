@@ -7,7 +7,6 @@ use crate::fault::Fault;
 use crate::flushing::Flusher;
 use crate::journal::Journal;
 use crate::keeping::{Gate, Keeping, Served};
-use crate::listening::listen;
 use crate::showing::Pages;
 use crate::system::System;
 use crate::watching::StatusPort;
@@ -212,12 +211,8 @@ where
             }
         };
         let recording = Recording::new(recorder, self.journal, Some(&flusher));
-        let port = match self.status_port(gate.admission) {
-            Ok(port) => port,
-            Err(why) => return Err(why),
-        };
-        let listener = match listen(self.rt, self.alloc, self.plan.address, self.journal, writer) {
-            Ok(listener) => listener,
+        let (listener, port) = match self.ports(gate.admission, writer) {
+            Ok(ports) => ports,
             Err(why) => return Err(why),
         };
         let served = self.serve_beside(&flusher, (&listener, &port), gate, &recording, stubs);
