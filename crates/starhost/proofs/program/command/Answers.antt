@@ -1,6 +1,8 @@
-use Rattle.std.proofs.Common.{◌≡◌, ◌⊎◌, ℕ, map, inl, inr, refl, subst}
+use Rattle.std.proofs.Common.{◌≡◌, ◌⊎◌, ℕ, List, map, inl, inr, refl, subst}
+use Rattle.clap.specs.Words.{Text}
 use Rattle.clap.specs.declared.error.kind.ErrorKind.TheVariants.{DisplayHelp, DisplayVersion}
-use Rattle.sb_words.specs.Words.{IsAsked}
+use Rattle.sb_words.specs.Words.{AskFor, IsAsked}
+use Rattle.sb_words.specs.declared.request.Request.{Request}
 use Rattle.sb_words.specs.declared.request.Request.TheVariants.{Run, Load, Serve, Keep, Replay, Parse, Dump, DumpAll, Key, Record}
 use Rattle.starhost.specs.Going.{Succeeds}
 use Rattle.starhost.proofs.Runs.{as_asked, asked_for, few_texts}
@@ -8,76 +10,27 @@ use Rattle.starhost.proofs.program.command.Goals as goal
 
 -- ---- what words ask for is answered, and they ask for nothing else
 
-pub returns-in-Ok-For-clause-runs : goal.returns-in-Ok-For-clause-runs
-returns-in-Ok-For-clause-runs g c = λ r asks ok. let b = c.in-Ok-For in
-    as_asked c.words_ask_once.ensures.once (map g.S.AsStr.text c.args.words.now)
-    (Succeeds g.R.Read.remaining g.W.Write.contents c.args.reader.now c.answer.new.reader c.args.writer.now c.answer.new.writer)
-    b.field-0 b.asked (Run r) b.paths b.ensures.asked b.field-0-is asks (c.answer.ensures.succeeds ok)
-
-pub returns-in-Ok-For-clause-serves : goal.returns-in-Ok-For-clause-serves
-returns-in-Ok-For-clause-serves g c = λ s asks ok. let b = c.in-Ok-For in
-    as_asked c.words_ask_once.ensures.once (map g.S.AsStr.text c.args.words.now)
-    (Succeeds g.R.Read.remaining g.W.Write.contents c.args.reader.now c.answer.new.reader c.args.writer.now c.answer.new.writer)
-    b.field-0 b.asked (Serve s) b.paths b.ensures.asked b.field-0-is asks (c.answer.ensures.succeeds ok)
-
-pub returns-in-Ok-For-clause-replays : goal.returns-in-Ok-For-clause-replays
-returns-in-Ok-For-clause-replays g c = λ h asks ok. let b = c.in-Ok-For in
-    as_asked c.words_ask_once.ensures.once (map g.S.AsStr.text c.args.words.now)
-    (Succeeds g.R.Read.remaining g.W.Write.contents c.args.reader.now c.answer.new.reader c.args.writer.now c.answer.new.writer)
-    b.field-0 b.asked (Replay h) b.paths b.ensures.asked b.field-0-is asks (c.answer.ensures.succeeds ok)
-
-pub returns-in-Ok-For-clause-parses : goal.returns-in-Ok-For-clause-parses
-returns-in-Ok-For-clause-parses g c = λ asks ok. let b = c.in-Ok-For in
-    as_asked c.words_ask_once.ensures.once (map g.S.AsStr.text c.args.words.now)
-    (Succeeds g.R.Read.remaining g.W.Write.contents c.args.reader.now c.answer.new.reader c.args.writer.now c.answer.new.writer)
-    b.field-0 b.asked Parse b.paths b.ensures.asked b.field-0-is asks (c.answer.ensures.succeeds ok)
-
-pub returns-in-Ok-For-clause-dumps : goal.returns-in-Ok-For-clause-dumps
-returns-in-Ok-For-clause-dumps g c = λ d asks ok. let b = c.in-Ok-For in
-    as_asked c.words_ask_once.ensures.once (map g.S.AsStr.text c.args.words.now)
-    (Succeeds g.R.Read.remaining g.W.Write.contents c.args.reader.now c.answer.new.reader c.args.writer.now c.answer.new.writer)
-    b.field-0 b.asked (Dump d) b.paths b.ensures.asked b.field-0-is asks (c.answer.ensures.succeeds ok)
-
-pub returns-in-Ok-For-clause-keeps : goal.returns-in-Ok-For-clause-keeps
-returns-in-Ok-For-clause-keeps g c = λ s asks ok. let b = c.in-Ok-For in
-    as_asked c.words_ask_once.ensures.once (map g.S.AsStr.text c.args.words.now)
-    (Succeeds g.R.Read.remaining g.W.Write.contents c.args.reader.now c.answer.new.reader c.args.writer.now c.answer.new.writer)
-    b.field-0 b.asked (Keep s) b.paths b.ensures.asked b.field-0-is asks (c.answer.ensures.succeeds ok)
-
-pub returns-in-Ok-For-clause-loads : goal.returns-in-Ok-For-clause-loads
-returns-in-Ok-For-clause-loads g c = λ r asks ok. let b = c.in-Ok-For in
-    as_asked c.words_ask_once.ensures.once (map g.S.AsStr.text c.args.words.now)
-    (Succeeds g.R.Read.remaining g.W.Write.contents c.args.reader.now c.answer.new.reader c.args.writer.now c.answer.new.writer)
-    b.field-0 b.asked (Load r) b.paths b.ensures.asked b.field-0-is asks (c.answer.ensures.succeeds ok)
-
-pub returns-in-Ok-For-clause-dumps_all : goal.returns-in-Ok-For-clause-dumps_all
-returns-in-Ok-For-clause-dumps_all g c = λ r asks ok. let b = c.in-Ok-For in
-    as_asked c.words_ask_once.ensures.once (map g.S.AsStr.text c.args.words.now)
-    (Succeeds g.R.Read.remaining g.W.Write.contents c.args.reader.now c.answer.new.reader c.args.writer.now c.answer.new.writer)
-    b.field-0 b.asked (DumpAll r) b.paths b.ensures.asked b.field-0-is asks (c.answer.ensures.succeeds ok)
-
-pub returns-in-Ok-For-clause-records : goal.returns-in-Ok-For-clause-records
-returns-in-Ok-For-clause-records g c = λ r asks ok. let b = c.in-Ok-For in
-    as_asked c.words_ask_once.ensures.once (map g.S.AsStr.text c.args.words.now)
-    (Succeeds g.R.Read.remaining g.W.Write.contents c.args.reader.now c.answer.new.reader c.args.writer.now c.answer.new.writer)
-    b.field-0 b.asked (Record r) b.paths b.ensures.asked b.field-0-is asks (c.answer.ensures.succeeds ok)
-
-pub returns-in-Ok-For-clause-digests : goal.returns-in-Ok-For-clause-digests
-returns-in-Ok-For-clause-digests g c = λ asks ok. let b = c.in-Ok-For in
-    as_asked c.words_ask_once.ensures.once (map g.S.AsStr.text c.args.words.now)
-    (Succeeds g.R.Read.remaining g.W.Write.contents c.args.reader.now c.answer.new.reader c.args.writer.now c.answer.new.writer)
-    b.field-0 b.asked Key b.paths b.ensures.asked b.field-0-is asks (c.answer.ensures.succeeds ok)
-
-pub returns-in-Ok-For-clause-usual : goal.returns-in-Ok-For-clause-usual
-returns-in-Ok-For-clause-usual g c = λ few ok. let words = map g.S.AsStr.text c.args.words.now in let b = c.in-Ok-For in
-    as_asked c.words_ask_once.ensures.once words
-    (Succeeds g.R.Read.remaining g.W.Write.contents c.args.reader.now c.answer.new.reader c.args.writer.now c.answer.new.writer)
-    b.field-0 b.asked (Run (record { tenants = 16; bound = 1000 })) b.paths b.ensures.asked b.field-0-is
-    (c.words_ask_once.ensures.usual words (few_texts g.S.AsStr.text c.args.words.now few)) (c.answer.ensures.succeeds ok)
-
-pub returns-in-Ok-For-clause-asked : goal.returns-in-Ok-For-clause-asked
-returns-in-Ok-For-clause-asked g c = let b = c.in-Ok-For in
-    inl (b.asked, asked_for (map g.S.AsStr.text c.args.words.now) b.field-0 b.asked b.paths b.ensures.asked b.field-0-is, c.answer.ensures.goes)
+pub returns-in-Ok-For : goal.returns-in-Ok-For
+returns-in-Ok-For g c =
+    let b = c.in-Ok-For in
+    let words : List Text = map g.S.AsStr.text c.args.words.now in
+    let Has : Request → Type 0 = Succeeds g.R.Read.remaining g.W.Write.contents c.args.reader.now c.answer.new.reader c.args.writer.now c.answer.new.writer in
+    let has : (q : Request) → AskFor words q → c.answer.result ≡ 0 → Has q = λ q asks ok.
+        as_asked c.words_ask_once.ensures.once words Has b.field-0 b.asked q b.paths b.ensures.asked b.field-0-is asks (c.answer.ensures.succeeds ok) in
+    record {
+      runs = λ r. has (Run r);
+      usual = λ few. has (Run (record { tenants = 16; bound = 1000 })) (c.words_ask_once.ensures.usual words (few_texts g.S.AsStr.text c.args.words.now few));
+      serves = λ s. has (Serve s);
+      replays = λ h. has (Replay h);
+      parses = has Parse;
+      dumps = λ d. has (Dump d);
+      keeps = λ s. has (Keep s);
+      loads = λ r. has (Load r);
+      dumps_all = λ r. has (DumpAll r);
+      records = λ r. has (Record r);
+      digests = has Key;
+      asked = inl (b.asked, asked_for words b.field-0 b.asked b.paths b.ensures.asked b.field-0-is, c.answer.ensures.goes);
+    }
 
 -- ---- questions, and words that are refused
 
