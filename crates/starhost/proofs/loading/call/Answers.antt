@@ -5,7 +5,7 @@ use Rattle.starhost.proofs.loading.call.Goals as goal
 
 -- there is no reply
 pub returns-in-Err-clause-err : goal.returns-in-Err-clause-err
-returns-in-Err-clause-err g c = (Err c.in-Err.field-0, tt, c.in-Err.ensures.err.1, c.in-Err.ensures.err.0)
+returns-in-Err-clause-err g c = (Err c.in-Err.field-0, tt, (c.in-Err.ensures.err.1, c.in-Err.ensures.err.0))
 
 -- the newest answer is the step's
 pub unreachable-requires : goal.unreachable-requires

@@ -8,4 +8,11 @@ returns-in-None g c =
     let opened = c.in-Ok.ensures in
     let called = c.in-Ok-played.ensures in
     let going = sym c.ended-has_ended.ensures ∙ c.if-has_ended.false in
-    (called.0, called.1, closed_played c.args.tenant opened.2.0 _ _ called.0 _ (c.new-caller.ensures ∙ opened.2.1) (each_called called.0 _ _ called.2) going c.close-stub.ensures, c.in-None.ensures)
+    let begun = c.new-caller.result in
+    let after = c.play_lines-played.new.to in (
+      called.0,
+      called.1,
+      closed_played c.args.tenant opened.2.0 begun after called.0 c.close-stub.result (c.new-caller.ensures ∙ opened.2.1)
+          (each_called called.0 begun after called.2) going c.close-stub.ensures,
+      c.in-None.ensures,
+    )
