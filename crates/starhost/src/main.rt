@@ -44,7 +44,9 @@ mod writing;
 use crate::console::Console;
 use crate::program::command;
 use sb_wire::{Fallible, StreamError};
+use std::fs::File;
 use std::io::IsTerminal as _;
+use std::net::{TcpListener, TcpStream};
 use std::process::ExitCode;
 use std::{env, io};
 
@@ -62,6 +64,8 @@ fn main(rt: HostRuntime) -> ExitCode {
     let Ok(words) = given.collect::<Vec<String>>(rt.alloc()) else {
         return unread(&rt, true);
     };
+    // for the proof of the call: what files and sockets such a system has
+    let _kinds: Option<(File, TcpListener, TcpStream)> = None;
     let mut reader = Fallible { inner: rt.reader() };
     let mut writer = Fallible {
         inner: io::writer(&rt),

@@ -16,7 +16,7 @@ returns-in-Ok-For g c =
     let words : List Text = map g.S.AsStr.text c.args.words.now in
     let Has : Request → Type 0 = Succeeds g.R.Read.remaining g.W.Write.contents c.args.reader.now c.answer.new.reader c.args.writer.now c.answer.new.writer in
     let has : (q : Request) → AskFor words q → c.answer.result ≡ 0 → Has q = λ q asks ok.
-        as_asked c.words_ask_once.ensures.once words Has b.field-0 b.asked q b.paths b.ensures.asked b.field-0-is asks (c.answer.ensures.succeeds ok) in
+    as_asked c.words_ask_once.ensures.once words Has b.field-0 b.asked q b.paths b.ensures.asked b.field-0-is asks (c.answer.ensures.succeeds ok) in
     record {
       runs = λ r. has (Run r);
       usual = λ few. has (Run (record { tenants = 16; bound = 1000 })) (c.words_ask_once.ensures.usual words (few_texts g.S.AsStr.text c.args.words.now few));
