@@ -294,7 +294,7 @@ def ages(program):
 WIDE = "create table w (a int)\nbegin\n" + "".join("insert into w values " + ", ".join(f"({i})" for i in range(at, at + 250)) + "\n" for at in range(0, 1000, 250)) + "commit"
 # a million pairs, each of which is looked at
 PAIRS = "select * from w x, w y where x.a * y.a - x.a > 0 and x.a + y.a = "
-# considered as often as a row of t is short of 900, each time at the cost of these pairs
+# considered as often as a row of t is short of 900, each time at half the cost of such a line
 AGAIN = f"""create table t (a int)
 create rule again on t when inserted, updated(a) if {PAIRS}5 then update t set a = a + 1 where a < 900
 begin"""
@@ -321,7 +321,7 @@ def slow(program):
     server.get("/")
     run(file, "rollback")
     run(file, AGAIN)
-    run(file, f"insert into t values ({900 - min(900, int(LONG / one))})")
+    run(file, f"insert into t values ({900 - min(900, int(2 * LONG / one))})")
     began = time.monotonic()
     file.write("commit\n")
     file.flush()
