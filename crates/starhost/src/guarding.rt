@@ -1,6 +1,6 @@
 //! Whose key opens which page.
-ghost use Rattle.std.specs.Prelude.{◌≡◌, ◌+◌, IsTrue, drop};
-ghost use Rattle.starhost.specs.Showing.{holder_of};
+ghost use Rattle.std.specs.Prelude.{◌≡◌, ◌+◌, IfOk, IsTrue, drop, option_copied, true};
+ghost use Rattle.starhost.specs.Showing.{Opens, holder_of};
 
 use sb_server::Admission;
 use sb_status::{Credentials, Request, Route, number};
@@ -15,7 +15,10 @@ pub(crate) fn is_let_in<A: Admission, T: Wait>(
     admission: &A,
     route: Route,
     request: &Request<'_>,
-) -> Result<bool, AllocError> {
+) -> Result<bool, AllocError>
+    ensures { IfOk result (λ let_in. IsTrue let_in → A.wants admission.now ≡ true
+        → Opens (A.admits admission.now) route (option_copied request.now.authorization)) }
+{
     if !admission.wants_key() {
         return Ok(true);
     }
@@ -29,7 +32,9 @@ fn is_opened<A: Admission, T: Wait>(
     admission: &A,
     route: Route,
     header: Option<&[u8]>,
-) -> Result<bool, AllocError> {
+) -> Result<bool, AllocError>
+    ensures { IfOk result (λ opened. IsTrue opened → Opens (A.admits admission.now) route (option_copied header.entry)) }
+{
     let Some(value) = header else {
         return Ok(false);
     };

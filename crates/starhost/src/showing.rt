@@ -1,6 +1,6 @@
 //! What the status port answers.
-ghost use Rattle.std.specs.Prelude.{◌≡◌, ◌⊎◌, ◌+◌, ◌<◌, ◌≤◌, IfOk, IfSome, MatchOption};
-ghost use Rattle.starhost.specs.Showing.{IsTurnedAway};
+ghost use Rattle.std.specs.Prelude.{◌≡◌, ◌⊎◌, ◌+◌, ◌<◌, ◌≤◌, IfOk, IfSome, MatchOption, option_copied};
+ghost use Rattle.starhost.specs.Showing.{IsGuarded, IsTurnedAway};
 
 use crate::activity::{Counted, Overview};
 use crate::dumping::text_of;
@@ -80,7 +80,10 @@ impl<'k, H: Lending, A: Admission, T: Wait + Clock> Pages<'k, H, A, T> {
     }
 
     /// The page that a request asks for, if who asks may see it.
-    fn shown(&self, request: &Request<'_>, shelf: &mut Shelf) -> Result<Shown, AllocError> {
+    fn shown(&self, request: &Request<'_>, shelf: &mut Shelf) -> Result<Shown, AllocError>
+        ensures { IfOk result (λ shown. IsGuarded (A.wants self.now.admission.now) (A.admits self.now.admission.now)
+            request.now.target.now (option_copied request.now.authorization) shown.status) }
+    {
         let route = route_of(request.target);
         if let Some(refusal) = refusal_of(route, request) {
             return told(self.alloc, refusal.status, refusal.text);
