@@ -12,8 +12,8 @@ record; no more is refused then than the file. N requests for memory (60) are re
 them (refuse.c, compiled by cc): where a record lacks memory, replies wait. Each of N calls on files (40) fails in turn
 (refuse_disk.c), with --sync always and second: the server ends with a fault, and what it answered is there. With second
 there is a sync each second under load and one behind the last line, none of it while nothing comes, and one that fails
-ends the server before its next reply. Then what can't be: two servers on one file, another number of tenants, another
-bound, a full disk. The first thing that isn't as it is to be ends this with status 1.
+ends the server before its next reply; a run makes one before it ends. Then what can't be: two servers on one file,
+another number of tenants, another bound, a full disk. The first thing that isn't as it is to be ends this with status 1.
 """
 
 import argparse
@@ -372,6 +372,21 @@ def feels_late_sync(program, room, library):
     need(status == 1 and told[-1] == "fault: journal failed" and "journal: " in log, f"a sync that failed: {status}, {log[-400:]}")
 
 
+def settles_a_run(program, room, library):
+    """With --sync second a run syncs what it wrote before it ends, and fails where that sync does."""
+    lines = b"0 0 open\n0 0 create table t (a int)\n0 0 begin\n0 0 insert into t values (1)\n0 0 commit\n"
+    for name, refused in (("settled", {}), ("unsettled", {"ONLY": "fdatasync", "FAILED": "1"})):
+        file, noted = os.path.join(room, name), os.path.join(room, f"noted-{name}")
+        environment = {**os.environ, "LD_PRELOAD": library, "NOTED": noted, **refused}
+        words = [program, "run", "--tenants", "1", "--journal", file, "--sync", "second"]
+        ran = subprocess.run(words, input=lines, capture_output=True, env=environment)
+        need(ran.returncode == (1 if refused else 0), f"a run with --sync second, {name}: status {ran.returncode}")
+        need((b"fault: journal failed" in ran.stderr) == bool(refused), f"a run with --sync second, {name}: {ran.stderr!r}")
+        if not refused:
+            syncs, writes = syncs_in(noted)
+            need(syncs and writes and syncs[-1] >= writes[-1], f"a run's last sync: {syncs}, its last write: {writes[-1:]}")
+
+
 def share_bounds_file(program, room):
     """With --tenant-memory a tenant writes no more than its share, also over several starts; others go on."""
     file, share, long = os.path.join(room, "share"), 1 << 20, "select " + "x" * 4000
@@ -463,6 +478,7 @@ def main():
             print(f"--sync {sync}: each of {asked.calls} calls on files fails in turn: {ended} ended the server, and what it answered is there")
         print(f"--sync second: {syncs_by_seconds(program, room, library)} syncs in 7 seconds, a second apart, the last behind the last line")
         feels_late_sync(program, room, library)
+        settles_a_run(program, room, library)
         cannot_be(program, room)
         print(f"--tenant-memory 1: a greedy tenant's part of the file is {share_bounds_file(program, room)} bytes over three starts")
         print(f"a full disk ends the server behind {full_disk(program, room)} answers, and they are there")
