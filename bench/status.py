@@ -5,10 +5,10 @@
 
 PROGRAM is crates/starhost/out/starhost where no word is given. Told in one line each: the pages of a small tenant and the
 samples, byte by byte as bench/status_pages has them (numbers that vary are written as N); what Prometheus' `promtool` says
-of the samples, where it is installed; what is counted; how old a session's last line is; slow lines; a page while a step runs; a session that is ended;
-hostile requests, and silent connections while a client of the server goes on; whom keys let in. The first thing that isn't
-as it is to be ends this with status 1. With --write the files of bench/status_pages are written anew, and with --shots a
-headless Chromium draws the pages to that folder.
+of the samples, where it is installed; what is counted; how old a session's last line is, and the server; slow lines; a page
+while a step runs; a session that is ended; hostile requests, and silent connections while a client of the server goes on;
+whom keys let in. The first thing that isn't as it is to be ends this with status 1. With --write the files of
+bench/status_pages are written anew, and with --shots a headless Chromium draws the pages to that folder.
 """
 
 import argparse
@@ -263,8 +263,9 @@ def counts(program):
 
 def ages(program):
     """How long ago a session's last line was: as long as its client is silent, also where it is opened again."""
+    began = time.monotonic()
     server = Server(program)
-    before = time.monotonic()
+    listens = before = time.monotonic()
     stream, file, reply = server.client("3 2")
     for line, state in [(None, "open"), ("begin", "in a transaction"), ("select", "in a transaction"), ("end", "open")]:
         if line == "end":
@@ -285,10 +286,14 @@ def ages(program):
         expect(f"a session behind {line}", found is not None, True)
         if not int(asked - after) <= int(found.group(1)) <= int(told - before) + 1:
             sys.exit(f"behind {line} a client is silent for {asked - after:.1f} s, and the page tells {found.group(1)} s")
+    asked = time.monotonic()
+    up = server.sample("filgwesha_uptime_seconds")
+    if not int(asked - listens) <= up <= time.monotonic() - began:
+        sys.exit(f"a server that listens for {asked - listens:.1f} s is up for {up} s")
     stream.close()
     file.close()
     server.stop()
-    print("ages: a session's last line is as old as its client is silent")
+    print("ages: a session's last line is as old as its client is silent, and a server as it listens")
 
 
 WIDE = "create table w (a int)\nbegin\n" + "".join("insert into w values " + ", ".join(f"({i})" for i in range(at, at + 250)) + "\n" for at in range(0, 1000, 250)) + "commit"
