@@ -3,11 +3,11 @@ use Rattle.std.proofs.Common.{◌≡◌, ◌≢◌, ◌∙◌, ◌<◌, ◌≤�
 use Rattle.std.proofs.Math.Nat.{eq-or-lt_of_le}
 use Rattle.std.specs.Prelude.{IfSome}
 use Rattle.sb_cell.specs.Tenants.{Cell}
-use Rattle.starhost.specs.Dumping.{HasScript, HaveScripts, IsUndumped, RefusesDumps}
+use Rattle.starhost.specs.Dumping.{FirstUnwritten, HasScript, HaveScripts, RefusesDumps}
 use Rattle.starhost.specs.declared.fault.Fault.{Fault}
 use Rattle.starhost.specs.declared.fault.Fault.TheVariants.{NoFolder, Stream}
 use Rattle.sb_wire.specs.declared.fault.StreamError.{StreamError}
-use Rattle.starhost.proofs.Dumped.{Leaves, refused}
+use Rattle.starhost.proofs.Dumped.{Leaves}
 
 pub one_more : (bound k : ℕ) (cell : Cell) → ((t : ℕ) → t < k → HasScript bound cell t) → HasScript bound cell k → (t : ℕ) → t < k + 1 → HasScript bound cell t
 one_more bound k cell so_far here t below = by (eq-or-lt_of_le (omega arith))
@@ -23,10 +23,10 @@ module _ (tenants bound : ℕ) (cell : Cell) where
   all_written (Some bytes) left each =
       record { leaves = left.0; each = subst (λ (c : Cell). (t : ℕ) → t < tenants → HasScript bound c t) (sym left.1) each }
 
-  pub some_unwritten : (input : Option (List ℕ)) (why : Fault) → IfSome input (Leaves tenants bound cell) → ((t : ℕ) × IsUndumped cell t why)
+  pub some_unwritten : (input : Option (List ℕ)) (why : Fault) → IfSome input (Leaves tenants bound cell) → FirstUnwritten tenants bound cell why
       → IfSome input (λ bytes. RefusesDumps tenants bound bytes why)
   some_unwritten None why left un = tt
-  some_unwritten (Some bytes) why left un = inr (un.0, refused tenants bound un.0 cell bytes why left un.1)
+  some_unwritten (Some bytes) why left un = inr (inr (left.0, subst (λ (c : Cell). FirstUnwritten tenants bound c why) (sym left.1) un))
 
   pub no_folder : (input : Option (List ℕ)) → IfSome input (λ bytes. RefusesDumps tenants bound bytes NoFolder)
   no_folder None = tt
@@ -34,12 +34,12 @@ module _ (tenants bound : ℕ) (cell : Cell) where
 
 pub stream_fault : (tenants bound : ℕ) (input : Option (List ℕ)) (e : StreamError) → IfSome input (λ bytes. RefusesDumps tenants bound bytes (Stream e))
 stream_fault tenants bound None e = tt
-stream_fault tenants bound (Some bytes) e = inr (0, tt)
+stream_fault tenants bound (Some bytes) e = inr (inl (e, refl))
 
 -- the first fault stays, and there is one from then on
-pub still_none : {X : Type 0} (first next : Option Fault) (why : Fault) → ((first ≢ None) × (next ≡ first)) ⊎ (next ≡ Some why) → next ≡ None → X
+pub still_none : {X : Type 0} (first next : Option Fault) (why : Fault) → ((first ≢ None) × (next ≡ first)) ⊎ ((first ≡ None) × (next ≡ Some why)) → next ≡ None → X
 still_none first next why (inl (some, same)) none = absurd (some (sym same ∙ none))
-still_none first next why (inr is) none = absurd (ne_some why (sym none ∙ is))
+still_none first next why (inr (missing, is)) none = absurd (ne_some why (sym none ∙ is))
   where
     ne_some : (w : Fault) → None ≡ Some w → ⊥
     ne_some w e = subst IsThere (sym e) tt
@@ -48,6 +48,6 @@ still_none first next why (inr is) none = absurd (ne_some why (sym none ∙ is))
         IsThere None = ⊥
         IsThere (Some f) = Unit {0}
 
-pub first_why : (P : Fault → Type 0) (first next : Option Fault) (why : Fault) → IfSome first P → P why → ((first ≢ None) × (next ≡ first)) ⊎ (next ≡ Some why) → IfSome next P
+pub first_why : (P : Fault → Type 0) (first next : Option Fault) (why : Fault) → IfSome first P → (first ≡ None → P why) → ((first ≢ None) × (next ≡ first)) ⊎ ((first ≡ None) × (next ≡ Some why)) → IfSome next P
 first_why P first next why before here (inl (some, same)) = subst (λ (o : Option Fault). IfSome o P) (sym same) before
-first_why P first next why before here (inr is) = subst (λ (o : Option Fault). IfSome o P) (sym is) here
+first_why P first next why before here (inr (missing, is)) = subst (λ (o : Option Fault). IfSome o P) (sym is) (here missing)

@@ -1,9 +1,12 @@
 -- Promise: the digest of the key that an input's first line is.
-use Rattle.std.specs.Prelude.{◌≡◌, ℕ, Bool, true, false, List, [], ◌∷◌, ◌++◌, codes, Option}
+use Rattle.std.specs.Prelude.{◌≡◌, ◌⊎◌, ℕ, Bool, true, false, List, [], ◌∷◌, ◌++◌, codes, Option}
 use Rattle.std.specs.Io.KnownBytes.{Appends, Consumes}
 use Rattle.sb_words.specs.Keys.{hex_digest, is_key}
 use Rattle.sb_wire.specs.Lines.{Piece, line, too_long}
 use Rattle.sb_wire.specs.Stream.{AreFirst}
+use Rattle.starhost.specs.Faults.{IsOfStream}
+use Rattle.starhost.specs.declared.fault.Fault.{Fault}
+use Rattle.starhost.specs.declared.fault.Fault.TheVariants.{BadKey}
 use Rattle.starhost.specs.declared.digesting.Digested.{Digested}
 use Rattle.starhost.specs.declared.digesting.Digested.TheVariants.{Awaits, Told, NoKey}
 
@@ -19,6 +22,10 @@ pub record TellsDigest (input rest held holds : Option (List ℕ)) : Type 0 wher
   pub first : AreFirst (line key ∷ []) seen
   pub is_key : is_key key ≡ true
   pub appends : Appends held holds (digest_text key)
+
+-- a stream failed, or its first line is no key
+abbrev pub RefusesDigest : Fault → Type 0
+RefusesDigest why = IsOfStream why ⊎ (why ≡ BadKey)
 
 -- ---- as a stream
 

@@ -1,7 +1,9 @@
 -- Promise: why a server or a replay ends early, and the lines that tell it.
 use Rattle.std.specs.Prelude.{ℕ, ◌≡◌, ◌⊎◌, ◌+◌, List, ◌++◌, Option, Result, Ok, Err, codes, decimal}
 use Rattle.sb_wire.specs.Faults.{fault_line}
+use Rattle.sb_wire.specs.declared.fault.StreamError.{StreamError}
 use Rattle.sb_wire.specs.declared.fault.StreamError.TheVariants as stream
+use Rattle.sb_words.specs.declared.keys.KeysError.TheVariants as keys
 use Rattle.sb_host.specs.declared.finish.FinishError.{FinishError}
 use Rattle.sb_host.specs.declared.finish.FinishError.TheVariants as finish
 use Rattle.sb_server.specs.declared.server.ServeError.{ServeError}
@@ -10,6 +12,8 @@ use Rattle.sb_replay.specs.declared.error.ReplayError.{ReplayError}
 use Rattle.sb_replay.specs.declared.error.ReplayError.TheVariants as replay
 use Rattle.starhost.specs.Does.{Tells}
 use Rattle.starhost.specs.declared.fault.Fault.{Fault}
+use Rattle.starhost.specs.declared.key_source.Unread.{Unread}
+use Rattle.starhost.specs.declared.key_source.Unread.TheVariants.{File, TooLong, Keys}
 use Rattle.starhost.specs.declared.fault.Fault.TheVariants.{Stream, CannotListen, CannotWait, CannotStart, WaitingFailed, CannotOpenJournal, JournalFailed, BadLine, NoTenant, TenantBusy, NoFolder, CannotLoad, CannotWrite, CannotDump, CannotAttach, TrailMissing, TrailMismatch, CannotWriteJournal, NoKeys, BadKeys, BadKey}
 
 -- ---- the lines
@@ -56,6 +60,17 @@ module _ {E : Type 0} (denies : E → Type 0) (told : E → Option (List ℕ)) (
   TellsEnd (Err why) status = (status ≡ 1) × TellsFault why
 
 -- ---- the reasons
+
+-- of a stream that failed
+abbrev pub IsOfStream : Fault → Type 0
+IsOfStream why = (e : StreamError) × (why ≡ Stream e)
+
+-- of keys that weren't read
+abbrev pub unread_as : Unread → Fault
+unread_as (File e) = NoKeys
+unread_as TooLong = NoKeys
+unread_as (Keys (keys.BadLine n)) = BadKeys n
+unread_as (Keys keys.NoMemory) = Stream stream.NoMemory
 
 -- of a host that wasn't finished, whose tenants have this first number
 abbrev pub unfinished_as : ℕ → FinishError → Fault

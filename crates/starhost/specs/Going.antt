@@ -8,7 +8,7 @@ use Rattle.sb_wire.specs.declared.fault.StreamError.{StreamError}
 use Rattle.sb_wire.specs.declared.summary.Summary.{Summary}
 use Rattle.sb_words.specs.declared.request.Request.{Request}
 use Rattle.sb_words.specs.declared.request.Request.TheVariants.{Run, Load, Serve, Keep, Replay, Parse, Dump, DumpAll, Compact, Key, Record}
-use Rattle.starhost.specs.Digesting.{TellsDigest}
+use Rattle.starhost.specs.Digesting.{RefusesDigest, TellsDigest}
 use Rattle.starhost.specs.Does.{GoesFresh, Tells, TellsRun, line_of, status_of}
 use Rattle.starhost.specs.Dumping.{DumpsInput, HaveScripts, RefusesDump, RefusesDumps}
 use Rattle.starhost.specs.Ends.{EndsEarly}
@@ -67,4 +67,4 @@ module _ {R W E : Type 0} (fails : R → Type 0) (remaining : R → Option (List
       (ended : Result (Unit {0}) Fault) × TellsEnd denies told errors more ended status × (after ≡ writer)
       × IfErr ended (λ why. IfSome (remaining reader) (λ input. RefusesDumps r.tenants r.bound input why))
   Goes (Compact r) = (ended : Result (Unit {0}) Fault) × TellsEnd denies told errors more ended status × (rest ≡ reader) × (after ≡ writer)
-  Goes Key = (ended : Result (Unit {0}) Fault) × TellsEnd denies told errors more ended status
+  Goes Key = (ended : Result (Unit {0}) Fault) × TellsEnd denies told errors more ended status × IfErr ended RefusesDigest

@@ -38,6 +38,12 @@ MayEnd session (Some why) = ⊥
 abbrev pub IsSettled : ℕ → ItsCell → Type 0
 IsSettled t cell = (own : ItsTenant) × (tenant_at cell t ≡ Some own) × MayEnd (session_at (state own) 0) None
 
+-- or the cell has no such tenant, or this is why it may not
+abbrev pub IsUnsettled : ℕ → ItsCell → Unplayed → Type 0
+IsUnsettled t cell why =
+    ((tenant_at cell t ≡ None) × (why ≡ unplayed.NoSession))
+    ⊎ ((own : ItsTenant) × (tenant_at cell t ≡ Some own) × MayEnd (session_at (state own) 0) (Some why))
+
 -- lines of a tenant's first session, one after another, each of which has such a reply
 abbrev pub AreTaken : ℕ → ℕ → State → List (List ℕ) → Type 0
 AreTaken t bound state [] = ⊤

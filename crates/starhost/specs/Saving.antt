@@ -1,8 +1,13 @@
 -- Promise: what is written of the tenants of a host, and by which names.
 use Rattle.std.specs.Prelude.{◌≡◌, ◌⊎◌, ◌≤◌, ◌++◌, ℕ, true, List, [], codes, decimal}
 use Rattle.sb_dump.specs.Dumps.{Dumps, is_busy}
+use Rattle.sb_dump.specs.declared.dumps.DumpError.{DumpError}
 use Rattle.sb_dump.specs.declared.dumps.DumpError.TheVariants.{Busy}
+use Rattle.sb_wire.specs.declared.fault.StreamError.TheVariants as stream
 use Rattle.sb_tenant.specs.Tenant.{Tenant, state}
+use Rattle.starhost.specs.Dumping.{undumped_as}
+use Rattle.starhost.specs.declared.fault.Fault.{Fault}
+use Rattle.starhost.specs.declared.fault.Fault.TheVariants.{CannotWrite, Stream}
 use Rattle.starhost.specs.declared.saving.Noted.{Noted}
 use Rattle.starhost.specs.declared.saving.Noted.TheVariants as noted
 
@@ -15,6 +20,11 @@ abbrev pub IsNotedOf : ℕ → Tenant → Noted → Type 0
 IsNotedOf bound own noted.Unused = own.trail ≡ []
 IsNotedOf bound own (noted.Script script) = Dumps bound own script
 IsNotedOf bound own (noted.Lacking why) = why ≡ Busy → is_busy (state own) ≡ true
+
+-- its script isn't in its file: it has none, for this reason, or the file can't be written, or memory ran out
+abbrev pub IsUnsaved : ℕ → Fault → Type 0
+IsUnsaved number why =
+    (why ≡ CannotWrite number) ⊎ ((why ≡ Stream stream.NoMemory) ⊎ ((e : DumpError) × (why ≡ undumped_as number e)))
 
 -- of so many tenants there is none of that number; or a tenant of it has this
 abbrev pub IsNotedOfSome : ℕ → ℕ → ℕ → Noted → Type 0

@@ -1,6 +1,6 @@
 //! The digest of a key, as a file of keys names it.
-ghost use Rattle.std.specs.Prelude.{◌≡◌, ◌++◌, OnErr, OnOk};
-ghost use Rattle.starhost.specs.Digesting.{TellsDigest, digest_text};
+ghost use Rattle.std.specs.Prelude.{◌≡◌, ◌++◌, IfErr, OnErr, OnOk};
+ghost use Rattle.starhost.specs.Digesting.{RefusesDigest, TellsDigest, digest_text};
 
 use crate::fault::Fault;
 use sb_wire::{Piece, Responder, Sink, Source, answer_stream};
@@ -23,8 +23,9 @@ pub(crate) fn tell_digest<R: Source, W: Sink>(
     reader: &mut R,
     writer: &mut W,
 ) -> Result<(), Fault>
-    ensures { OnOk result (TellsDigest (R.remaining reader.old) (R.remaining reader.new)
+    ensures ok { OnOk result (TellsDigest (R.remaining reader.old) (R.remaining reader.new)
         (W.contents writer.old) (W.contents writer.new)) }
+    ensures err { IfErr result RefusesDigest }
 {
     let mut digested = Digested::Awaits;
     match answer_stream(alloc, reader, writer, &Digester, &mut (), &mut digested) {

@@ -1,7 +1,8 @@
 //! A run whose lines are in a journal before they are answered.
-ghost use Rattle.std.specs.Prelude.{◌≡◌, List, ℕ, false, is_ok, is_some, true, IfOk, IfSome, OnOk};
+ghost use Rattle.std.specs.Prelude.{◌≡◌, ◌⊎◌, Err, List, ℕ, false, is_ok, is_some, true, IfErr, IfOk, IfSome, OnOk};
 ghost use Rattle.std.specs.Io.KnownBytes.{Appends};
 ghost use Rattle.starhost.specs.Journaled.{AnswersJournaled, IsBegun};
+ghost use Rattle.starhost.specs.declared.fault.Fault.TheVariants as fault;
 ghost use Rattle.sb_words.specs.Within.{AreRun};
 
 use crate::fault::Fault;
@@ -115,7 +116,9 @@ fn end_by<T: Eprint + Clock, D: Disk>(
     recording: &Recording<D>,
     ended: Result<(), StreamError>,
 ) -> Result<(), Fault>
-    ensures { OnOk result ((is_ok ended ≡ true) × (is_some recording.now.fault ≡ false)) }
+    ensures ok { OnOk result ((is_ok ended ≡ true) × (is_some recording.now.fault ≡ false)) }
+    ensures err { IfErr result (λ why. ((is_some recording.now.fault ≡ true) × (why ≡ fault.JournalFailed))
+        ⊎ ((e : _) × (ended ≡ Err e) × (why ≡ fault.Stream e))) }
 {
     if let Some(error) = recording.fault {
         log.tell_not_recorded(&error);

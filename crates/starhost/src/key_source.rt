@@ -1,5 +1,6 @@
 //! Where lists of keys are read.
 ghost use Rattle.std.specs.Prelude.{◌≡◌, Bool, IfOk, true};
+ghost use Rattle.starhost.specs.Faults.{unread_as};
 ghost use Rattle.sb_words.specs.Keys.{Table};
 ghost use Rattle.sb_words.specs.Seen.{table_of};
 
@@ -31,7 +32,9 @@ impl Display for Unread {
 
 impl Unread {
     /// What a server ends with that can't begin.
-    pub(crate) fn fault(&self) -> Fault {
+    pub(crate) fn fault(&self) -> Fault
+        ensures { result ≡ unread_as self.now }
+    {
         match self {
             Unread::Keys(KeysError::BadLine { line }) => Fault::BadKeys { line: *line as u64 },
             Unread::Keys(KeysError::NoMemory) => Fault::Stream(StreamError::NoMemory),

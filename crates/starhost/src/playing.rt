@@ -2,7 +2,7 @@
 ghost use Rattle.std.specs.Prelude.{◌≡◌, ◌⊎◌, ◌∷◌, ◌↔◌, [], List, ℕ, false, IfErr, IfOk, IsTrue, OnErr, OnOk};
 ghost use Rattle.sb_cell.specs.Tenants.{IsNew};
 ghost use Rattle.starhost.specs.Loading.{IsLoaded, IsLoadedFrom, IsUnloaded};
-ghost use Rattle.starhost.specs.Playing.{HasLines, IsPlayed, IsSettled, IsStarted, IsTaken, MayEnd, RefusesLine, Sends, TakesLine};
+ghost use Rattle.starhost.specs.Playing.{HasLines, IsPlayed, IsSettled, IsStarted, IsTaken, IsUnsettled, MayEnd, RefusesLine, Sends, TakesLine};
 ghost use Rattle.starhost.specs.declared.fault.Fault.TheVariants as fault;
 ghost use Rattle.sb_tenant.specs.State.{session_at};
 ghost use Rattle.sb_tenant.specs.Tenant.{state};
@@ -192,7 +192,8 @@ fn send_lines<F: Read + Drop>(
 
 /// Whether a script may end where the tenant's session stands so.
 fn check_end(cell: &Cell, tenant: u32) -> Result<(), Unplayed>
-    ensures { OnOk result (IsSettled tenant cell.now) }
+    ensures ok { OnOk result (IsSettled tenant cell.now) }
+    ensures err { IfErr result (IsUnsettled tenant cell.now) }
 {
     match cell.tenant(tenant) {
         Some(own) => match unsettled(own) {

@@ -1,5 +1,5 @@
 //! A server with a journal: it begins as the journal leaves it, and what is answered is recorded before it is sent.
-ghost use Rattle.std.specs.Prelude.{◌≡◌, OnOk};
+ghost use Rattle.std.specs.Prelude.{◌≡◌, ◌↔◌, OnOk};
 ghost use Rattle.std.specs.Thread.{IsSend, IsSync};
 ghost use Rattle.starhost.specs.Totals.{TellsPort};
 
@@ -100,7 +100,9 @@ impl<'k, H: Lending, T: Eprint + Clock> Keeper
 }
 
 /// Whether what is written is synced at once.
-pub(crate) fn syncing_of(syncs: Syncs) -> Syncing {
+pub(crate) fn syncing_of(syncs: Syncs) -> Syncing
+    ensures { result ≡ Syncing.Always ↔ syncs ≡ Syncs.Always }
+{
     match syncs {
         Syncs::Always => Syncing::Always,
         Syncs::Second | Syncs::Never => Syncing::Never,

@@ -1,6 +1,6 @@
 //! The tenants of a host, written to the files of a folder.
-ghost use Rattle.std.specs.Prelude.{◌≡◌, ◌⊎◌, ◌≤◌};
-ghost use Rattle.starhost.specs.Saving.{IsNotedOf, IsNotedOfSome};
+ghost use Rattle.std.specs.Prelude.{◌≡◌, ◌⊎◌, ◌≤◌, ◌+◌, IfErr};
+ghost use Rattle.starhost.specs.Saving.{IsNotedOf, IsNotedOfSome, IsUnsaved};
 
 use crate::dumping::undumped;
 use crate::fault::Fault;
@@ -92,7 +92,9 @@ fn save_one<T: Wait + Eprint + Clock + Files, H: Lending>(
     files: &ScriptFiles<'_, '_, T>,
     host: H,
     tenant: u32,
-) -> Result<(), Fault> {
+) -> Result<(), Fault>
+    ensures { IfErr result (IsUnsaved (files.now.folder.first + tenant)) }
+{
     let number = files.folder.number_of(tenant);
     let notes = Notes::new(files.alloc, files.bound);
     match noted_of(files.rt, host, tenant, notes) {

@@ -303,7 +303,7 @@ fn refuse(alloc: Global, status: Status, body: &[u8]) -> Result<Vec<u8>, AllocEr
 }
 
 fn told(alloc: Global, status: Status, text: &[u8]) -> Result<Shown, AllocError>
-    ensures { IfOk result (λ shown. shown.status ≡ status) }
+    ensures { IfOk result (λ shown. (shown.status ≡ status) × (shown.kind ≡ Kind.Text) × (shown.body.items ≡ text.now)) }
 {
     Ok(Shown {
         status,
@@ -312,12 +312,16 @@ fn told(alloc: Global, status: Status, text: &[u8]) -> Result<Shown, AllocError>
     })
 }
 
-fn view_shown(alloc: Global, view: &TenantView) -> Result<Shown, AllocError> {
+fn view_shown(alloc: Global, view: &TenantView) -> Result<Shown, AllocError>
+    ensures { IfOk result (λ shown. (shown.status ≡ Status.Found) × (shown.kind ≡ Kind.Page)) }
+{
     Ok(found(Kind::Page, tenant_page(alloc, view)?))
 }
 
 /// What is shown of what there is.
-fn found(kind: Kind, body: Vec<u8>) -> Shown {
+fn found(kind: Kind, body: Vec<u8>) -> Shown
+    ensures { (result.status ≡ Status.Found) × (result.kind ≡ kind) × (result.body ≡ body) }
+{
     Shown {
         status: Status::Found,
         kind,

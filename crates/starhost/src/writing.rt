@@ -1,6 +1,6 @@
 //! Dumps of all tenants that an input opened, to the files of a folder.
 ghost use Rattle.std.specs.Prelude.{◌≡◌, ◌≢◌, ◌⊎◌, ◌<◌, ℕ, None, Some, IfErr, IfSome, OnOk};
-ghost use Rattle.starhost.specs.Dumping.{HasScript, HaveScripts, IsUndumped, RefusesDumps};
+ghost use Rattle.starhost.specs.Dumping.{FirstUnwritten, HasScript, HaveScripts, IsUnwritten, RefusesDumps};
 ghost use Rattle.sb_words.specs.Within.{AreRun};
 
 use crate::dumping::{answered, undumped};
@@ -59,7 +59,7 @@ fn write_each<T: Eprint + Clock + Files>(
 ) -> Option<Fault>
     requires { files.now.folder.first ≡ 0 }
     ensures all { result ≡ None → (t : ℕ) → t < tenants → HasScript files.now.bound cell.now t }
-    ensures why { IfSome result (λ why. (t : ℕ) × IsUndumped cell.now t why) }
+    ensures why { IfSome result (FirstUnwritten tenants files.now.bound cell.now) }
 {
     let mut first = None;
     for tenant in 0..tenants {
@@ -76,7 +76,7 @@ fn write_each<T: Eprint + Clock + Files>(
 
 /// The fault that came first.
 fn earlier(first: Option<Fault>, next: Fault) -> Option<Fault>
-    ensures { ((first ≢ None) × (result ≡ first)) ⊎ (result ≡ Some next) }
+    ensures { ((first ≢ None) × (result ≡ first)) ⊎ ((first ≡ None) × (result ≡ Some next)) }
 {
     match first {
         Some(why) => Some(why),
@@ -92,7 +92,7 @@ fn write_one<T: Eprint + Clock + Files>(
 ) -> Result<(), Fault>
     requires { files.now.folder.first ≡ 0 }
     ensures ok { OnOk result (HasScript files.now.bound cell.now tenant) }
-    ensures err { IfErr result (IsUndumped cell.now tenant) }
+    ensures err { IfErr result (IsUnwritten cell.now tenant) }
 {
     let number = files.folder.number_of(tenant);
     let Some(own) = cell.tenant(tenant) else {

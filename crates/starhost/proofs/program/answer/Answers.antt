@@ -106,10 +106,10 @@ returns-in-Compact-clause-goes g c =
 
 pub returns-in-Key-clause-succeeds : goal.returns-in-Key-clause-succeeds
 returns-in-Key-clause-succeeds g c = λ ok. subst (Succeeds g.R.Read.remaining g.W.Write.contents c.args.reader.now c.tell_digest-ended.new.reader c.args.writer.now c.tell_digest-ended.new.writer) (sym c.in-Key.is)
-    (went_well g.E.Sink.refuses g.E.Write.contents c.args.errors.now.sink c.tell_end-in-Key.new.errors c.tell_digest-ended.result c.tell_end-in-Key.result c.tell_end-in-Key.ensures ok c.tell_digest-ended.ensures)
+    (went_well g.E.Sink.refuses g.E.Write.contents c.args.errors.now.sink c.tell_end-in-Key.new.errors c.tell_digest-ended.result c.tell_end-in-Key.result c.tell_end-in-Key.ensures ok c.tell_digest-ended.ensures.ok)
 
 pub returns-in-Key-clause-goes : goal.returns-in-Key-clause-goes
 returns-in-Key-clause-goes g c =
     subst (Goes g.R.Source.fails g.R.Read.remaining g.W.Sink.refuses g.W.Write.contents g.E.Sink.refuses g.E.Write.contents
     c.args.reader.now c.tell_digest-ended.new.reader c.args.writer.now c.tell_digest-ended.new.writer c.args.errors.now.is_terminal c.args.errors.now.sink c.tell_end-in-Key.new.errors c.tell_end-in-Key.result) (sym c.in-Key.is)
-    (c.tell_digest-ended.result, c.tell_end-in-Key.ensures)
+    (c.tell_digest-ended.result, c.tell_end-in-Key.ensures, c.tell_digest-ended.ensures.err)
