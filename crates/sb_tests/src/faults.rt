@@ -14,8 +14,12 @@ use std::thread::Threads;
 /// Whether a replay of the first tenant's session ended so: its receipts are gone where it is closed, and else it is open.
 fn is_expected(error: ReplayError, is_closed: bool) -> bool {
     match error {
-        ReplayError::Attach { tenant, .. } => !is_closed && tenant == 0,
-        ReplayError::Finish(FinishError::Missing { tenant, .. }) => is_closed && tenant == 0,
+        ReplayError::Attach { tenant, session } => {
+            !is_closed && tenant == 0 && session.number() == 0
+        }
+        ReplayError::Finish(FinishError::Missing { tenant, session }) => {
+            is_closed && tenant == 0 && session.number() == 0
+        }
         _ => false,
     }
 }

@@ -53,8 +53,8 @@ fn call<S: Calling, R: Wait + Abort>(
     line: &[u8],
     may_lack: bool,
 ) {
-    if session.step(rt, alloc, line, &NoGate).is_err() {
-        assert!(rt; may_lack);
+    if let Err(error) = session.step(rt, alloc, line, &NoGate) {
+        assert!(rt; may_lack && error == CallError::NotBegun);
         let _ = session.step(rt, alloc, line, &NoGate);
     }
     assert!(rt; is_ok(session.last(), may_lack));

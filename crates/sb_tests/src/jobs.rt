@@ -2,7 +2,7 @@
 ghost use Rattle.sb_host.specs.Opening.{AreNames};
 
 use crate::hosts::{attach, finish, is_ok};
-use sb_host::{Calling, Gate, Host, Hosting, Naming, Opened, Stub};
+use sb_host::{CallError, Calling, Gate, Host, Hosting, Naming, Opened, Stub};
 use sb_pool::{Done, Job, Pool, PoolError};
 use sb_value::SessionId;
 use std::alloc::Global;
@@ -103,13 +103,10 @@ fn close_done<S: Calling, R: Wait + Abort>(
             result: called,
             ..
         } = job;
-        assert!(rt;
-            if called.is_ok() {
-                is_ok(session.last(), may_lack)
-            } else {
-                may_lack
-            }
-        );
+        match called {
+            Ok(()) => assert!(rt; is_ok(session.last(), may_lack)),
+            Err(error) => assert!(rt; may_lack && error == CallError::NotBegun),
+        }
         stubs.push(session.close(rt)).expect(rt, "a stub");
     }
 }
