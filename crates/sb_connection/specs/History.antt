@@ -36,6 +36,10 @@ after_end h = record h { at_end = true }
 abbrev pub after_sending : History → ℕ → History
 after_sending h count = record h { handed = h.handed ++ take count h.pending; pending = drop count h.pending }
 
+-- behind so many bytes that wait to be sent no line is answered, and none is read
+abbrev pub pending_limit : ℕ
+pending_limit = 65_536
+
 -- lines are answered, more bytes may come, and all that came are looked at
 abbrev pub MayReceive : History → Type 0
 MayReceive h = (is_open h.state ≡ true) × (h.at_end ≡ false) × (h.waiting ≡ [])

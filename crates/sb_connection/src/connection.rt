@@ -3,7 +3,7 @@ ghost use Rattle.std.specs.Prelude.{◌≡◌, ◌<◌, ◌≤◌, ◌↔◌, le
 ghost use Rattle.sb_connection.specs.Conversation.{hosting_by};
 ghost use Rattle.sb_connection.specs.Admission.{LetsIn};
 ghost use Rattle.sb_connection.specs.Exchanges.{IsClosed};
-ghost use Rattle.sb_connection.specs.History.{Converses, IsSettled, MayReceive, SameStreams, after_end, after_receiving, after_sending, nothing_yet};
+ghost use Rattle.sb_connection.specs.History.{Converses, IsSettled, MayReceive, SameStreams, after_end, after_receiving, after_sending, nothing_yet, pending_limit};
 ghost use Rattle.sb_connection.specs.Standing.{is_open};
 ghost use Rattle.sb_connection.specs.Traffic.{after_write};
 
@@ -57,6 +57,7 @@ impl<H: Hosting> Connection<H> {
     pub fn wants_read(&self) -> bool
         ensures may { IsTrue result → MayReceive self.now }
         ensures wants { MayReceive self.now → self.now.pending ≡ [] → IsTrue result }
+        ensures few { IsTrue result → length self.now.pending < pending_limit }
     {
         self.machine.wants_read()
     }
@@ -90,6 +91,8 @@ impl<H: Hosting> Connection<H> {
         ensures goes { IsTrue result → length self.new.waiting < length self.old.waiting }
         ensures lets { LetsIn (A.admits admission.now) self.old self.new }
         ensures stays { self.old.attached ≡ true → self.new.attached ≡ true }
+        // replies don't pile up
+        ensures full { pending_limit ≤ length self.old.pending → self.new ≡ self.old }
     {
         for _line in 0..LINES_A_TURN {
             if !self.machine.step(rt, watch, admission) {

@@ -1,8 +1,8 @@
 //! The steps of a connection, each of which answers a line.
-ghost use Rattle.std.specs.Prelude.{◌≡◌, ◌≤◌, [], false, true, None, length, ◌⊎◌, IfOk, IsFalse, IsTrue, MatchBool, OnErr, OnOk};
+ghost use Rattle.std.specs.Prelude.{◌≡◌, ◌<◌, ◌≤◌, [], false, true, None, length, ◌⊎◌, IfOk, IsFalse, IsTrue, MatchBool, OnErr, OnOk};
 ghost use Rattle.sb_wire.specs.Lines.{line};
 ghost use Rattle.sb_connection.specs.Conversation.{hosting_by};
-ghost use Rattle.sb_connection.specs.History.{MayReceive, after_end, after_receiving, after_sending, nothing_yet};
+ghost use Rattle.sb_connection.specs.History.{MayReceive, after_end, after_receiving, after_sending, nothing_yet, pending_limit};
 ghost use Rattle.sb_connection.specs.Machine.{Answers, Finishes, Steps};
 ghost use Rattle.sb_connection.specs.Responding.{over};
 ghost use Rattle.sb_connection.specs.Standing.{is_open};
@@ -143,7 +143,8 @@ impl<H: Hosting> Machine<H> {
         admission: &A,
     ) -> bool
         requires { is_open self.old.history.state ≡ true → over self.old.talk ≡ false }
-        ensures { Steps (A.admits admission.now) self.old result self.new }
+        ensures steps { Steps (A.admits admission.now) self.old result self.new }
+        ensures full { pending_limit ≤ length self.old.history.pending → self.new ≡ self.old }
     {
         if !self.may_answer() {
             return false;
@@ -284,6 +285,7 @@ impl<H: Hosting> Machine<H> {
     fn may_answer(&self) -> bool
         ensures open { IsTrue result → is_open self.now.history.state ≡ true }
         ensures not { IsFalse result → (is_open self.now.history.state ≡ false) ⊎ (self.now.history.pending ≡ [] → ⊥) }
+        ensures few { IsTrue result → length self.now.history.pending < pending_limit }
     {
         if !self.state.is_open() {
             return false;
@@ -293,7 +295,8 @@ impl<H: Hosting> Machine<H> {
 
     /// Whether a reply may be added to what waits to be sent.
     fn has_room(&self) -> bool
-        ensures { self.now.history.pending ≡ [] → IsTrue result }
+        ensures empty { self.now.history.pending ≡ [] → IsTrue result }
+        ensures few { IsTrue result → length self.now.history.pending < pending_limit }
     {
         if self.sent == self.output.len() {
             return true;
@@ -314,6 +317,7 @@ impl<H: Hosting> Machine<H> {
     pub(crate) fn wants_read(&self) -> bool
         ensures may { IsTrue result → MayReceive self.now.history }
         ensures wants { MayReceive self.now.history → self.now.history.pending ≡ [] → IsTrue result }
+        ensures few { IsTrue result → length self.now.history.pending < pending_limit }
     {
         if !self.may_receive() {
             return false;

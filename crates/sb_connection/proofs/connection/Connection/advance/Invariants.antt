@@ -1,6 +1,6 @@
 use Rattle.std.proofs.Common.{◌≡◌, ◌+◌, ◌≤◌, length, true}
 use Rattle.sb_connection.specs.Admission.{LetsIn}
-use Rattle.sb_connection.specs.History.{SameStreams}
+use Rattle.sb_connection.specs.History.{SameStreams, pending_limit}
 use Rattle.sb_connection.specs.Machine.{Holds}
 use Rattle.sb_connection.proofs.connection.Connection.advance.Given as goal
 
@@ -10,5 +10,6 @@ invariant-loop-line g l = record {
   holds : Holds l.self-inside.machine;
   lets : LetsIn (g.A.Admission.admits l.admission) l.fn.self l.self-inside.machine.history;
   stays : l.fn.self.attached ≡ true → l.self-inside.machine.history.attached ≡ true;
+  full : pending_limit ≤ length l.fn.self.pending → l.self-inside.machine.history ≡ l.fn.self;
   goes : length l.self-inside.machine.history.waiting + l._line ≤ length l.fn.self.waiting;
 }
