@@ -1,6 +1,5 @@
 -- Machine: what is had of what is asked for where the status is 0, and how it ends with any status.
 use Rattle.std.specs.Prelude.{◌≡◌, ◌⊎◌, ℕ, Bool, List, Option, Result, IfErr, IfSome, ⊤}
-use Rattle.std.specs.Io.KnownBytes.{Appends}
 use Rattle.sb_replay.specs.Replay.{Fails, Replays}
 use Rattle.sb_replay.specs.declared.error.ReplayError.{ReplayError}
 use Rattle.sb_wire.specs.Stream.{AnswersFresh, MayFail, OnWriteFault}
@@ -22,14 +21,14 @@ use Rattle.starhost.specs.declared.fault.Fault.{Fault}
 module _ {R W : Type 0} (remaining : R → Option (List ℕ)) (contents : W → Option (List ℕ)) (reader rest : R) (writer after : W) where
   -- with status 0 the writer has this, for all of the input where it is known
   abbrev pub Succeeds : Request → Type 0
-  Succeeds (Run r) = IfSome (remaining reader) (λ input. (text : List ℕ) × Appends (contents writer) (contents after) text × AnswersFresh r.tenants r.bound input text)
-  Succeeds (Load r) = IfSome (remaining reader) (λ input. (text : List ℕ) × Appends (contents writer) (contents after) text × AnswersLoaded r.tenants r.bound input text)
-  Succeeds (Record r) = IfSome (remaining reader) (λ input. (text : List ℕ) × Appends (contents writer) (contents after) text × AnswersJournaled r.tenants r.bound input text)
-  Succeeds (Serve s) = (text : List ℕ) × Appends (contents writer) (contents after) text × TellsServer s.hosting.run.bound s.hosting.run.tenants text
-  Succeeds (Keep s) = (text : List ℕ) × Appends (contents writer) (contents after) text × TellsServer s.hosting.run.bound s.hosting.run.tenants text
-  Succeeds (Replay h) = IfSome (remaining reader) (λ input. (text : List ℕ) × Appends (contents writer) (contents after) text × Replays h.run.tenants h.run.bound input text)
-  Succeeds Parse = IfSome (remaining reader) (λ input. (text : List ℕ) × Appends (contents writer) (contents after) text × TellsLines input text)
-  Succeeds (Dump d) = IfSome (remaining reader) (λ input. (text : List ℕ) × Appends (contents writer) (contents after) text × DumpsInput d.run.tenants d.run.bound d.tenant input text)
+  Succeeds (Run r) = WritesOf remaining contents reader writer after (AnswersFresh r.tenants r.bound)
+  Succeeds (Load r) = WritesOf remaining contents reader writer after (AnswersLoaded r.tenants r.bound)
+  Succeeds (Record r) = WritesOf remaining contents reader writer after (AnswersJournaled r.tenants r.bound)
+  Succeeds (Serve s) = Writes contents writer after (TellsServer s.hosting.run.bound s.hosting.run.tenants)
+  Succeeds (Keep s) = Writes contents writer after (TellsServer s.hosting.run.bound s.hosting.run.tenants)
+  Succeeds (Replay h) = WritesOf remaining contents reader writer after (Replays h.run.tenants h.run.bound)
+  Succeeds Parse = WritesOf remaining contents reader writer after TellsLines
+  Succeeds (Dump d) = WritesOf remaining contents reader writer after (DumpsInput d.run.tenants d.run.bound d.tenant)
   Succeeds (DumpAll r) = (after ≡ writer) × IfSome (remaining reader) (HaveScripts r.tenants r.bound)
   Succeeds (Compact r) = ⊤
   Succeeds Key = TellsDigest (remaining reader) (remaining rest) (contents writer) (contents after)

@@ -1,9 +1,9 @@
 //! The end of a server: its host is finished, and the trails are counted.
-ghost use Rattle.std.specs.Prelude.{◌≡◌, List, ℕ, IfErr, IfOk, OnOk};
-ghost use Rattle.std.specs.Io.KnownBytes.{Appends};
+ghost use Rattle.std.specs.Prelude.{◌≡◌, IfErr, IfOk, OnOk};
 ghost use Rattle.starhost.specs.Ends.{FailsToTell};
 ghost use Rattle.starhost.specs.Faults.{unfinished_as};
 ghost use Rattle.starhost.specs.Totals.{TellsTrails, trails_line};
+ghost use Rattle.starhost.specs.Writing.{Writes};
 
 use crate::fault::Fault;
 use sb_host::{FinishError, Host, Naming, Report, Stub};
@@ -47,9 +47,7 @@ pub(crate) fn finish<N: Naming, W: Sink>(
     stubs: Vec<Stub>,
     writer: &mut W,
 ) -> Result<(), Fault>
-    ensures ok { OnOk result ((line : List ℕ)
-        × Appends (W.contents writer.old) (W.contents writer.new) line
-        × TellsTrails N.bound host line) }
+    ensures ok { OnOk result (Writes W.contents writer.old writer.new (TellsTrails N.bound host)) }
     ensures err { IfErr result (λ why. FailsToTell W.refuses W.contents N.bound host first_tenant stubs.items
         writer.old writer.new why) }
 {

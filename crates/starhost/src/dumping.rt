@@ -1,11 +1,12 @@
 //! A dump: the lines of an input, and the script of one tenant as they leave it.
-ghost use Rattle.std.specs.Prelude.{◌≡◌, List, ℕ, None, Ok, Some, IfErr, IfOk, IfSome, IsOk, OnOk, length};
+ghost use Rattle.std.specs.Prelude.{◌≡◌, None, Ok, Some, IfErr, IfOk, IfSome, IsOk, OnOk, length};
 ghost use Rattle.std.specs.Io.{WritesAtMost};
 ghost use Rattle.std.specs.Io.KnownBytes.{Appends, Keeps, WriteAppends};
 ghost use Rattle.sb_cell.specs.Tenants.{tenant_at};
 ghost use Rattle.sb_dump.specs.Dumps.{Dumps};
 ghost use Rattle.sb_tenant.specs.Tenant.{Tenant as ItsTenant};
 ghost use Rattle.starhost.specs.Dumping.{DumpsInput, IsUndumped, LeavesTenants, RefusesDump, script_text, undumped_as};
+ghost use Rattle.starhost.specs.Writing.{WritesOf};
 ghost use Rattle.sb_words.specs.Within.{AreDump, AreRun};
 
 use crate::fault::Fault;
@@ -59,9 +60,8 @@ pub(crate) fn dump_tenant<R: Source, W: Sink>(
     writer: &mut W,
 ) -> Result<(), Fault>
     requires { AreDump asked }
-    ensures ok { OnOk result (IfSome (R.remaining reader.old) (λ input. (text : List ℕ)
-        × Appends (W.contents writer.old) (W.contents writer.new) text
-        × DumpsInput asked.run.tenants asked.run.bound asked.tenant input text)) }
+    ensures ok { OnOk result (WritesOf R.remaining W.contents reader.old writer.old writer.new
+        (DumpsInput asked.run.tenants asked.run.bound asked.tenant)) }
     ensures err { IfErr result (λ why. IfSome (R.remaining reader.old)
         (λ input. RefusesDump asked.run.tenants asked.run.bound asked.tenant input why)) }
 {

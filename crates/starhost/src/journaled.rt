@@ -1,8 +1,8 @@
 //! A run whose lines are in a journal before they are answered.
-ghost use Rattle.std.specs.Prelude.{◌≡◌, ◌⊎◌, Err, List, ℕ, false, is_ok, is_some, true, IfErr, IfOk, IfSome, OnOk};
-ghost use Rattle.std.specs.Io.KnownBytes.{Appends};
+ghost use Rattle.std.specs.Prelude.{◌≡◌, ◌⊎◌, Err, false, is_ok, is_some, true, IfErr, IfOk, OnOk};
 ghost use Rattle.starhost.specs.Journaled.{AnswersJournaled, IsBegun};
 ghost use Rattle.starhost.specs.declared.fault.Fault.TheVariants as fault;
+ghost use Rattle.starhost.specs.Writing.{WritesOf};
 ghost use Rattle.sb_words.specs.Within.{AreRun};
 
 use crate::fault::Fault;
@@ -28,9 +28,8 @@ pub(crate) fn run_journaled<T: Wait + Eprint + Clock + Files<File = File>, R: So
     writer: &mut W,
 ) -> Result<(), Fault>
     requires { AreRun asked }
-    ensures { OnOk result (IfSome (R.remaining reader.old) (λ input. (text : List ℕ)
-        × Appends (W.contents writer.old) (W.contents writer.new) text
-        × AnswersJournaled asked.tenants asked.bound input text)) }
+    ensures { OnOk result (WritesOf R.remaining W.contents reader.old writer.old writer.new
+        (AnswersJournaled asked.tenants asked.bound)) }
 {
     let log = Log::new(rt, Severity::Info);
     let Some(path) = paths.journal else {

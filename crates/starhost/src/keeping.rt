@@ -1,8 +1,8 @@
 //! A server that keeps its tenants: in a journal, or in files that it reads before and writes behind.
-ghost use Rattle.std.specs.Prelude.{◌≡◌, ◌++◌, ◌<◌, ◌≤◌, List, ℕ, IfOk, OnOk};
-ghost use Rattle.std.specs.Io.KnownBytes.{Appends};
+ghost use Rattle.std.specs.Prelude.{◌≡◌, ◌++◌, ◌<◌, ◌≤◌, IfOk, OnOk};
 ghost use Rattle.sb_host.specs.Opening.{AreNames};
 ghost use Rattle.starhost.specs.Totals.{TellsPort, TellsServer, TellsTrails};
+ghost use Rattle.starhost.specs.Writing.{Writes};
 ghost use Rattle.sb_words.specs.Within.{AreServer};
 
 use crate::closing::finish;
@@ -39,9 +39,8 @@ pub(crate) fn keep<T: System + Sync, W: Sink>(
     writer: &mut W,
 ) -> Result<(), Fault>
     requires { AreServer serving }
-    ensures { OnOk result ((text : List ℕ)
-        × Appends (W.contents writer.old) (W.contents writer.new) text
-        × TellsServer serving.hosting.run.bound serving.hosting.run.tenants text) }
+    ensures { OnOk result (Writes W.contents writer.old writer.new
+        (TellsServer serving.hosting.run.bound serving.hosting.run.tenants)) }
 {
     let plan = plan_of(serving);
     match opened_by(alloc, plan) {
@@ -63,9 +62,7 @@ fn keep_host<N: Naming + Send + Sync, T: System + Sync, W: Sink>(
     requires cells { opened.cells ≡ plan.cells }
     requires bound { plan.bound ≤ 1000 }
     requires workers { (0 < plan.terms.workers) × (plan.terms.workers ≤ 16) }
-    ensures { OnOk result ((text : List ℕ)
-        × Appends (W.contents writer.old) (W.contents writer.new) text
-        × TellsServer opened.bound opened.tenants text) }
+    ensures { OnOk result (Writes W.contents writer.old writer.new (TellsServer opened.bound opened.tenants)) }
 {
     let Ok(host) = Host::<N>::new(alloc, opened) else {
         return Err(OUT_OF_MEMORY);
@@ -115,9 +112,7 @@ fn finish_served<N: Naming, W: Sink>(
     served: Served,
     writer: &mut W,
 ) -> Result<(), Fault>
-    ensures { OnOk result ((line : List ℕ)
-        × Appends (W.contents writer.old) (W.contents writer.new) line
-        × TellsTrails N.bound host line) }
+    ensures { OnOk result (Writes W.contents writer.old writer.new (TellsTrails N.bound host)) }
 {
     let Served { stubs, saved } = served;
     match finish(alloc, host, first_tenant, stubs, writer) {

@@ -1,8 +1,8 @@
 //! Which lines of an input are commands.
-ghost use Rattle.std.specs.Prelude.{◌≡◌, ◌≤◌, ◌+◌, ◌++◌, List, ℕ, codes, decimal, length, IfOk, IfSome, OnErr, OnOk};
-ghost use Rattle.std.specs.Io.KnownBytes.{Appends};
+ghost use Rattle.std.specs.Prelude.{◌≡◌, ◌≤◌, ◌+◌, ◌++◌, List, ℕ, codes, decimal, length, IfOk, OnErr, OnOk};
 ghost use Rattle.sb_wire.specs.Stream.{MayFail, OnWriteFault};
 ghost use Rattle.starhost.specs.Parsing.{ParsesStream, TellsBytes, TellsLines};
+ghost use Rattle.starhost.specs.Writing.{WritesOf};
 
 use sb_syntax::{ParseError, TEXT_LIMIT, parse};
 use sb_wire::{Piece, Responder, Sink, Source, StreamError, answer_stream, push_labelled};
@@ -14,8 +14,7 @@ pub(crate) fn parse_lines<R: Source, W: Sink>(
     reader: &mut R,
     writer: &mut W,
 ) -> Result<(), StreamError>
-    ensures ok { OnOk result (IfSome (R.remaining reader.old) (λ input. (text : List ℕ)
-        × Appends (W.contents writer.old) (W.contents writer.new) text × TellsLines input text)) }
+    ensures ok { OnOk result (WritesOf R.remaining W.contents reader.old writer.old writer.new TellsLines) }
     ensures goes { ParsesStream R.fails R.remaining reader.old reader.new
         (W.contents writer.old) (W.contents writer.new) result }
     ensures refused { OnWriteFault result (MayFail W.refuses W.contents writer.new) }

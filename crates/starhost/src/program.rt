@@ -1,6 +1,5 @@
 //! What a command line is answered.
-ghost use Rattle.std.specs.Prelude.{◌≡◌, ◌≤◌, ◌⊎◌, List, ℕ, IfSome, length, map};
-ghost use Rattle.std.specs.Io.KnownBytes.{Appends};
+ghost use Rattle.std.specs.Prelude.{◌≡◌, ◌≤◌, ◌⊎◌, IfSome, length, map};
 ghost use Rattle.sb_wire.specs.Stream.{AnswersFresh};
 ghost use Rattle.starhost.specs.Does.{GoesFresh, Shows, Tells, TellsRun, status_of};
 ghost use Rattle.sb_wire.specs.Faults.{fault_line};
@@ -13,6 +12,7 @@ ghost use Rattle.starhost.specs.Dumping.{DumpsInput, HaveScripts};
 ghost use Rattle.starhost.specs.Going.{Goes, Succeeds};
 ghost use Rattle.starhost.specs.Journaled.{AnswersJournaled};
 ghost use Rattle.starhost.specs.Loading.{AnswersLoaded};
+ghost use Rattle.starhost.specs.Writing.{Writes, WritesOf};
 ghost use Rattle.sb_words.specs.declared.request.Dumping.{Dumping as ItsDumping};
 ghost use Rattle.sb_words.specs.declared.request.Hosting.{Hosting as ItsHosting};
 ghost use Rattle.sb_words.specs.declared.request.Request.{Request as ItsRequest};
@@ -55,50 +55,41 @@ pub fn command<T: System + Sync, S: AsStr, R: Source, W: Sink, E: Sink>(
 ) -> u8
     // with status 0, words that ask for a run have the definition's text for the input
     ensures runs { (r : ItsRun) → AskFor (map S.text words.now) (request.Run r)
-        → result ≡ 0 → IfSome (R.remaining reader.old) (λ input. (text : List ℕ)
-        × Appends (W.contents writer.old) (W.contents writer.new) text
-        × AnswersFresh r.tenants r.bound input text) }
-    ensures usual { length words.now ≤ 1 → result ≡ 0 → IfSome (R.remaining reader.old)
-        (λ input. (text : List ℕ) × Appends (W.contents writer.old) (W.contents writer.new) text
-        × AnswersFresh 16 1000 input text) }
+        → result ≡ 0 → WritesOf R.remaining W.contents reader.old writer.old writer.new
+        (AnswersFresh r.tenants r.bound) }
+    ensures usual { length words.now ≤ 1 → result ≡ 0 →
+        WritesOf R.remaining W.contents reader.old writer.old writer.new (AnswersFresh 16 1000) }
     // and words that ask for a server its port and its trails
     ensures serves { (s : ItsServing) → AskFor (map S.text words.now) (request.Serve s)
-        → result ≡ 0 → (text : List ℕ)
-        × Appends (W.contents writer.old) (W.contents writer.new) text
-        × TellsServer s.hosting.run.bound s.hosting.run.tenants text }
+        → result ≡ 0 → Writes W.contents writer.old writer.new
+        (TellsServer s.hosting.run.bound s.hosting.run.tenants) }
     // and words that ask for a replay what the sessions of the input were answered
     ensures replays { (h : ItsHosting) → AskFor (map S.text words.now) (request.Replay h)
-        → result ≡ 0 → IfSome (R.remaining reader.old) (λ input. (text : List ℕ)
-        × Appends (W.contents writer.old) (W.contents writer.new) text
-        × Replays h.run.tenants h.run.bound input text) }
+        → result ≡ 0 → WritesOf R.remaining W.contents reader.old writer.old writer.new
+        (Replays h.run.tenants h.run.bound) }
     // and words that ask for it which lines of the input are commands
     ensures parses { AskFor (map S.text words.now) request.Parse
-        → result ≡ 0 → IfSome (R.remaining reader.old) (λ input. (text : List ℕ)
-        × Appends (W.contents writer.old) (W.contents writer.new) text × TellsLines input text) }
+        → result ≡ 0 → WritesOf R.remaining W.contents reader.old writer.old writer.new TellsLines }
     // and words that ask for a dump the script of a tenant, as the input leaves it
     ensures dumps { (d : ItsDumping) → AskFor (map S.text words.now) (request.Dump d)
-        → result ≡ 0 → IfSome (R.remaining reader.old) (λ input. (text : List ℕ)
-        × Appends (W.contents writer.old) (W.contents writer.new) text
-        × DumpsInput d.run.tenants d.run.bound d.tenant input text) }
+        → result ≡ 0 → WritesOf R.remaining W.contents reader.old writer.old writer.new
+        (DumpsInput d.run.tenants d.run.bound d.tenant) }
     // and words that ask for a server with files what a server has
     ensures keeps { (s : ItsServing) → AskFor (map S.text words.now) (request.Keep s)
-        → result ≡ 0 → (text : List ℕ)
-        × Appends (W.contents writer.old) (W.contents writer.new) text
-        × TellsServer s.hosting.run.bound s.hosting.run.tenants text }
+        → result ≡ 0 → Writes W.contents writer.old writer.new
+        (TellsServer s.hosting.run.bound s.hosting.run.tenants) }
     // and words that ask for a run on files what it is answered on tenants that scripts made
     ensures loads { (r : ItsRun) → AskFor (map S.text words.now) (request.Load r)
-        → result ≡ 0 → IfSome (R.remaining reader.old) (λ input. (text : List ℕ)
-        × Appends (W.contents writer.old) (W.contents writer.new) text
-        × AnswersLoaded r.tenants r.bound input text) }
+        → result ≡ 0 → WritesOf R.remaining W.contents reader.old writer.old writer.new
+        (AnswersLoaded r.tenants r.bound) }
     // and words that ask for a dump of all nothing, where each tenant has a script as the input leaves it
     ensures dumps_all { (r : ItsRun) → AskFor (map S.text words.now) (request.DumpAll r)
         → result ≡ 0 → (writer.new ≡ writer.old)
         × IfSome (R.remaining reader.old) (HaveScripts r.tenants r.bound) }
     // and words that ask for a run with a journal what it is answered on tenants that a journal made
     ensures records { (r : ItsRun) → AskFor (map S.text words.now) (request.Record r)
-        → result ≡ 0 → IfSome (R.remaining reader.old) (λ input. (text : List ℕ)
-        × Appends (W.contents writer.old) (W.contents writer.new) text
-        × AnswersJournaled r.tenants r.bound input text) }
+        → result ≡ 0 → WritesOf R.remaining W.contents reader.old writer.old writer.new
+        (AnswersJournaled r.tenants r.bound) }
     // and words that ask for it the digest of the key that the input's first line is
     ensures digests { AskFor (map S.text words.now) request.Key
         → result ≡ 0 → TellsDigest (R.remaining reader.old) (R.remaining reader.new)
@@ -204,9 +195,8 @@ fn run<R: Source, W: Sink, E: Sink>(
     errors: &mut Console<E>,
 ) -> u8
     requires { AreRun asked }
-    ensures runs { result ≡ 0 → IfSome (R.remaining reader.old)
-        (λ input. (text : List ℕ) × Appends (W.contents writer.old) (W.contents writer.new) text
-        × AnswersFresh asked.tenants asked.bound input text) }
+    ensures runs { result ≡ 0 → WritesOf R.remaining W.contents reader.old writer.old writer.new
+        (AnswersFresh asked.tenants asked.bound) }
     ensures goes { (ended : _) × (summary : _) × (result ≡ status_of ended)
         × GoesFresh R.fails R.remaining W.refuses W.contents asked.tenants asked.bound
         reader.old reader.new writer.old writer.new ended summary

@@ -1,9 +1,9 @@
 //! A replay, told as the program tells it.
-ghost use Rattle.std.specs.Prelude.{◌≡◌, List, ℕ, IfErr, IfSome, OnOk};
-ghost use Rattle.std.specs.Io.KnownBytes.{Appends};
+ghost use Rattle.std.specs.Prelude.{◌≡◌, IfErr, OnOk};
 ghost use Rattle.sb_replay.specs.Replay.{Fails, Replays};
 ghost use Rattle.sb_replay.specs.declared.error.ReplayError.{ReplayError as ItsError};
 ghost use Rattle.starhost.specs.Faults.{unplayed_as};
+ghost use Rattle.starhost.specs.Writing.{WritesOf};
 ghost use Rattle.sb_words.specs.Within.{AreHost};
 
 use crate::closing::fault_of;
@@ -26,9 +26,8 @@ pub(crate) fn replay<T: Threads + Wait + Eprint + Clock + Sync, R: Source, W: Si
     writer: &mut W,
 ) -> Result<(), Fault>
     requires { AreHost hosting }
-    ensures ok { OnOk result (IfSome (R.remaining reader.old) (λ input. (text : List ℕ)
-        × Appends (W.contents writer.old) (W.contents writer.new) text
-        × Replays hosting.run.tenants hosting.run.bound input text)) }
+    ensures ok { OnOk result (WritesOf R.remaining W.contents reader.old writer.old writer.new
+        (Replays hosting.run.tenants hosting.run.bound)) }
     ensures err { IfErr result (λ why. (e : ItsError) × (why ≡ unplayed_as e)
         × Fails R.fails R.remaining W.refuses W.contents hosting.run.tenants hosting.run.bound
         reader.old reader.new writer.old writer.new e) }

@@ -1,13 +1,12 @@
 //! A run on tenants that are made from files first.
-ghost use Rattle.std.specs.Prelude.{◌≡◌, ◌⊎◌, List, ℕ, IfSome};
-ghost use Rattle.std.specs.Io.KnownBytes.{Appends};
-ghost use Rattle.sb_cell.specs.Tenants.{Cell as ItsCell};
+ghost use Rattle.std.specs.Prelude.{◌≡◌, ◌⊎◌};
 ghost use Rattle.sb_wire.specs.Counts.{Summarizes};
 ghost use Rattle.sb_wire.specs.Stream.{AnswersInput, EndsBy, MayFail, OnWriteFault, Streams};
 ghost use Rattle.starhost.specs.Does.{TellsRun, status_of};
 ghost use Rattle.starhost.specs.Faults.{TellsFault};
 ghost use Rattle.starhost.specs.Loading.{AnswersLoaded, GoesLoaded, IsUnloaded};
 ghost use Rattle.starhost.specs.declared.fault.Fault.{Fault as ItsFault};
+ghost use Rattle.starhost.specs.Writing.{WritesOf};
 ghost use Rattle.sb_words.specs.Within.{AreRun};
 
 use crate::console::Console;
@@ -31,9 +30,8 @@ pub(crate) fn run_loaded<T: Eprint + Clock + Files, R: Source, W: Sink, E: Sink>
     errors: &mut Console<E>,
 ) -> u8
     requires { AreRun asked }
-    ensures loads { result ≡ 0 → IfSome (R.remaining reader.old)
-        (λ input. (text : List ℕ) × Appends (W.contents writer.old) (W.contents writer.new) text
-        × AnswersLoaded asked.tenants asked.bound input text) }
+    ensures loads { result ≡ 0 → WritesOf R.remaining W.contents reader.old writer.old writer.new
+        (AnswersLoaded asked.tenants asked.bound) }
     ensures goes { ((why : ItsFault) × IsUnloaded asked.tenants why × (result ≡ 1) × (reader.new ≡ reader.old)
         × (writer.new ≡ writer.old) × TellsFault E.refuses E.contents errors.old.sink errors.new.sink why)
         ⊎ ((ended : _) × (summary : _) × (result ≡ status_of ended)
@@ -56,9 +54,8 @@ fn run_on<R: Source, W: Sink, E: Sink>(
     writer: &mut W,
     errors: &mut Console<E>,
 ) -> u8
-    ensures runs { result ≡ 0 → IfSome (R.remaining reader.old)
-        (λ input. (text : List ℕ) × Appends (W.contents writer.old) (W.contents writer.new) text
-        × AnswersInput cell.old input text cell.new) }
+    ensures runs { result ≡ 0 → WritesOf R.remaining W.contents reader.old writer.old writer.new
+        (λ input text. AnswersInput cell.old input text cell.new) }
     ensures goes { (ended : _) × (summary : _) × (result ≡ status_of ended)
         × (s : Streams cell.old (R.remaining reader.old) (W.contents writer.old)
         cell.new (R.remaining reader.new) (W.contents writer.new))

@@ -1,10 +1,10 @@
 //! A server, from its port to its last line.
-ghost use Rattle.std.specs.Prelude.{◌≡◌, ◌<◌, ◌≤◌, List, ℕ, IfErr, IfOk, OnOk};
-ghost use Rattle.std.specs.Io.KnownBytes.{Appends};
+ghost use Rattle.std.specs.Prelude.{◌≡◌, ◌<◌, ◌≤◌, IfErr, IfOk, OnOk};
 ghost use Rattle.sb_host.specs.Opening.{AreNames};
 ghost use Rattle.starhost.specs.Ends.{EndsEarly, FailsToServe};
 ghost use Rattle.starhost.specs.Faults.{unserved_as};
 ghost use Rattle.starhost.specs.Totals.{TellsServer, TellsTrails};
+ghost use Rattle.starhost.specs.Writing.{Writes};
 ghost use Rattle.sb_words.specs.Within.{AreServer};
 
 use crate::closing::finish;
@@ -33,9 +33,8 @@ pub(crate) fn serve<
     W: Sink,
 >(rt: &T, alloc: Global, serving: Serving, writer: &mut W) -> Result<(), Fault>
     requires { AreServer serving }
-    ensures ok { OnOk result ((text : List ℕ)
-        × Appends (W.contents writer.old) (W.contents writer.new) text
-        × TellsServer serving.hosting.run.bound serving.hosting.run.tenants text) }
+    ensures ok { OnOk result (Writes W.contents writer.old writer.new
+        (TellsServer serving.hosting.run.bound serving.hosting.run.tenants)) }
     ensures err { IfErr result (EndsEarly W.refuses W.contents serving.hosting.run.bound serving.hosting.run.tenants
         serving.first_tenant writer.old writer.new) }
 {
@@ -68,9 +67,8 @@ fn serve_host<
     requires named { AreNames N.table N.tenants N.cells N.bound N.name N.parts opened }
     requires cells { opened.cells ≡ plan.cells }
     requires workers { (0 < plan.terms.workers) × (plan.terms.workers ≤ 16) }
-    ensures ok { OnOk result ((text : List ℕ)
-        × Appends (W.contents writer.old) (W.contents writer.new) text
-        × TellsServer opened.bound opened.tenants text) }
+    ensures ok { OnOk result (Writes W.contents writer.old writer.new
+        (TellsServer opened.bound opened.tenants)) }
     ensures err { IfErr result (EndsEarly W.refuses W.contents opened.bound opened.tenants plan.terms.first_tenant
         writer.old writer.new) }
 {
@@ -110,9 +108,7 @@ pub fn serve_by<
     writer: &mut W,
 ) -> Result<(), Fault>
     requires { (0 < acceptor.now.terms.workers) × (acceptor.now.terms.workers ≤ 16) }
-    ensures ok { OnOk result ((line : List ℕ)
-        × Appends (W.contents writer.old) (W.contents writer.new) line
-        × TellsTrails N.bound host line) }
+    ensures ok { OnOk result (Writes W.contents writer.old writer.new (TellsTrails N.bound host)) }
     ensures err { IfErr result (FailsToServe W.refuses W.contents N.bound host acceptor.now.terms.first_tenant
         writer.old writer.new) }
 {
