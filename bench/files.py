@@ -114,6 +114,11 @@ def are_kept(program, tenants, seed, room):
     return sum(len(text) for text in wanted.values())
 
 
+def tells_folder(ended, path):
+    """Whether the log says why there is no folder at this path."""
+    return f"no folder {path}: " + ("it is a file" if path == __file__ else "") in ended[2]
+
+
 def loads_fail(program, room):
     folder = os.path.join(room, "bad")
     os.mkdir(folder)
@@ -121,11 +126,11 @@ def loads_fail(program, room):
         a_load_fails(program, kind, folder, number + 5)
     for words in (["--load", folder + "/none"], ["--dump-to", folder + "/none"], ["--load", __file__], ["--dump-to", __file__]):
         ended = Server(program, words).stop()
-        if fault_of(ended)[:2] != (1, "fault: no folder") or ended[1]:
+        if fault_of(ended)[:2] != (1, "fault: no folder") or ended[1] or not tells_folder(ended, words[1]):
             fail(f"{words}: {ended}")
     for words in (f"run --load {folder}/none", f"run --load {__file__}", f"dump --into {folder}/none", f"dump --into {__file__}"):
         ended = run(program, words, ["0 0 open"])
-        if fault_of(ended)[:2] != (1, "fault: no folder") or ended[1]:
+        if fault_of(ended)[:2] != (1, "fault: no folder") or ended[1] or not tells_folder(ended, words.split()[-1]):
             fail(f"{words}: {ended}")
 
 

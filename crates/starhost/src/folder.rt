@@ -49,7 +49,11 @@ impl<'a> Folder<'a> {
         journal: &Journal<'_, R>,
     ) -> bool {
         match fs::metadata(rt, self.path) {
-            Ok(found) => found.is_dir(),
+            Ok(found) if found.is_dir() => true,
+            Ok(_) => {
+                journal.tell_no_folder(self.path, &"it is a file");
+                false
+            }
             Err(error) => {
                 journal.tell_no_folder(self.path, &error);
                 false

@@ -81,7 +81,7 @@ impl<'r, T: Eprint + Clock> Journal<'r, T> {
     }
 
     /// Tells why a folder isn't used.
-    pub(crate) fn tell_no_folder(&self, folder: &str, why: &io::Error) {
+    pub(crate) fn tell_no_folder<D: Display>(&self, folder: &str, why: &D) {
         self.write(Severity::Error, &format_args!("no folder {folder}: {why}"));
     }
 
