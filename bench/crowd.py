@@ -503,6 +503,7 @@ def unread_replies(program):
     stream.sendall(b"select * from t\n" * 20)
     time.sleep(2)
     unread = server.memory() - before
+    need(unread < 60_000, f"replies pile up: {unread:,} KB for a client that doesn't read")
     missing = 20 * len(wanted)
     while missing > 0:
         part = stream.recv(1 << 20)
@@ -510,6 +511,8 @@ def unread_replies(program):
         missing -= len(part)
     need(say(stream, b"rollback\n") == b"ok\n", "the line behind large replies")
     read = server.memory() - before
+    # the trail keeps them once, and nothing else does
+    need(read < 250_000, f"sent replies are kept: {read:,} KB")
     server.stop()
     print(f"20 replies of {len(wanted):,} bytes: {unread:,} KB more while nobody reads them, {read:,} KB more behind them")
 

@@ -29,11 +29,11 @@ leaves tenants bound fresh cell held holds None new answers = tt
 leaves tenants bound fresh cell held holds (Some bytes) new answers =
     (record { fresh = fresh; is_new = new; told = answers.0; cell = cell; answered = answers.2 }, refl)
 
-module _ (tenants bound t : ℕ) (cell : Cell) where
-  pub stream_failed : (input : Option (List ℕ)) (e : StreamError) → IfSome input (λ bytes. RefusesDump tenants bound t bytes (Stream e))
-  stream_failed None e = tt
-  stream_failed (Some bytes) e = inl (e, refl)
+pub stream_failed : (tenants bound t : ℕ) (input : Option (List ℕ)) (e : StreamError) → IfSome input (λ bytes. RefusesDump tenants bound t bytes (Stream e))
+stream_failed tenants bound t None e = tt
+stream_failed tenants bound t (Some bytes) e = inl (e, refl)
 
+module _ (tenants bound t : ℕ) (cell : Cell) where
   pub refuses : (input : Option (List ℕ)) (why : Fault) → IfSome input (Leaves tenants bound cell) → IsUndumped cell t why
       → IfSome input (λ bytes. RefusesDump tenants bound t bytes why)
   refuses None why left un = tt

@@ -1,11 +1,11 @@
 -- The scripts of all tenants, as the input leaves them.
-use Rattle.std.proofs.Common.{◌≡◌, ◌≢◌, ◌∙◌, ◌<◌, ◌≤◌, ◌+◌, ◌⊎◌, ℕ, List, Option, Some, None, inl, inr, refl, sym, subst, arith}
+use Rattle.std.proofs.Common.{◌≡◌, ◌≢◌, ◌∙◌, ◌<◌, ◌+◌, ◌⊎◌, ℕ, List, Option, Some, None, inl, inr, refl, sym, subst, arith}
 use Rattle.std.proofs.Math.Nat.{eq-or-lt_of_le}
 use Rattle.std.specs.Prelude.{IfSome}
 use Rattle.sb_cell.specs.Tenants.{Cell}
 use Rattle.starhost.specs.Dumping.{FirstUnwritten, HasScript, HaveScripts, RefusesDumps}
 use Rattle.starhost.specs.declared.fault.Fault.{Fault}
-use Rattle.starhost.specs.declared.fault.Fault.TheVariants.{NoFolder, Stream}
+use Rattle.starhost.specs.declared.fault.Fault.TheVariants.{Stream}
 use Rattle.sb_wire.specs.declared.fault.StreamError.{StreamError}
 use Rattle.starhost.proofs.Dumped.{Leaves}
 
@@ -27,10 +27,6 @@ module _ (tenants bound : ℕ) (cell : Cell) where
       → IfSome input (λ bytes. RefusesDumps tenants bound bytes why)
   some_unwritten None why left un = tt
   some_unwritten (Some bytes) why left un = inr (inr (left.0, subst (λ (c : Cell). FirstUnwritten tenants bound c why) (sym left.1) un))
-
-  pub no_folder : (input : Option (List ℕ)) → IfSome input (λ bytes. RefusesDumps tenants bound bytes NoFolder)
-  no_folder None = tt
-  no_folder (Some bytes) = inl refl
 
 pub stream_fault : (tenants bound : ℕ) (input : Option (List ℕ)) (e : StreamError) → IfSome input (λ bytes. RefusesDumps tenants bound bytes (Stream e))
 stream_fault tenants bound None e = tt

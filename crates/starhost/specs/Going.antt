@@ -16,6 +16,7 @@ use Rattle.starhost.specs.Journaled.{AnswersJournaled}
 use Rattle.starhost.specs.Loading.{AnswersLoaded, GoesLoaded, IsUnloaded}
 use Rattle.starhost.specs.Parsing.{ParsesStream, TellsLines}
 use Rattle.starhost.specs.Totals.{TellsServer}
+use Rattle.starhost.specs.Writing.{Writes, WritesOf}
 use Rattle.starhost.specs.declared.fault.Fault.{Fault}
 
 module _ {R W : Type 0} (remaining : R → Option (List ℕ)) (contents : W → Option (List ℕ)) (reader rest : R) (writer after : W) where

@@ -1,5 +1,6 @@
 pub mod Terms
 pub mod Totals
+pub mod Writing
 pub mod Parsing
 pub mod Digesting
 pub mod Dumping

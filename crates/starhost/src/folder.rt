@@ -1,5 +1,5 @@
 //! Files of tenants in a folder: one file for each, named by the tenant's number.
-ghost use Rattle.std.specs.Prelude.{◌≡◌, ◌+◌, IfOk, IfSome, Some, codes, string_bytes};
+ghost use Rattle.std.specs.Prelude.{◌≡◌, ◌+◌, IfOk, IfSome, Some, codes, option_copied, string_bytes};
 ghost use Rattle.starhost.specs.Saving.{file_name};
 
 use crate::fault::Fault;
@@ -85,7 +85,7 @@ pub(crate) fn found_folder<'a, R: Eprint + Clock + Files>(
     path: Option<&'a str>,
     journal: &Journal<'_, R>,
 ) -> Option<Folder<'a>>
-    ensures { IfSome result (λ folder. (folder.first ≡ 0) × (path ≡ Some folder.path)) }
+    ensures { IfSome result (λ folder. (folder.first ≡ 0) × (option_copied path.entry ≡ Some folder.path.now)) }
 {
     let folder = Folder {
         path: path?,

@@ -14,6 +14,6 @@ returns-in-Ok-write_script-clause-ok g c =
     dumps c.args.asked.run.tenants c.args.asked.run.bound c.args.asked.tenant c.in-Ok.cell (g.R.Read.remaining c.args.reader.now) (g.W.Write.contents c.args.writer.now)
     (g.W.Write.contents c.write_script.new.writer) c.in-Ok-script_of.script c.in-Ok.ensures c.in-Ok-script_of.ensures.ok c.in-Ok-write_script.ensures
 
-pub returns-in-Err-write_script-clause-err : goal.returns-in-Err-write_script-clause-err
-returns-in-Err-write_script-clause-err g c =
+pub returns-clause-err : goal.returns-clause-err
+returns-clause-err g c =
     stream_failed c.args.asked.run.tenants c.args.asked.run.bound c.args.asked.tenant (g.R.Read.remaining c.args.reader.now) c.in-Err-write_script.error

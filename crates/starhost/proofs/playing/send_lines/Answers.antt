@@ -6,4 +6,4 @@ pub returns-in-Ok : goal.returns-in-Ok
 returns-in-Ok g c =
     let taken = c.in-Ok.ensures in
     where_ok c.check_end.result
-    (λ settled. (taken.0, taken.1, each_sent c.args.tenant taken.0 c.args.cell.now c.play_lines.new.to taken.2, settled)) c.check_end.ensures
+    (λ settled. (taken.0, taken.1, each_sent c.args.tenant taken.0 c.args.cell.now c.play_lines.new.to taken.2, settled)) c.check_end.ensures.ok

@@ -1,4 +1,4 @@
-use Rattle.starhost.proofs.Written.{all_written, no_folder, some_unwritten, stream_fault}
+use Rattle.starhost.proofs.Written.{all_written, some_unwritten, stream_fault}
 use Rattle.starhost.proofs.writing.dump_all.Goals as goal
 
 pub returns-in-Err-clause-err : goal.returns-in-Err-clause-err

@@ -1,4 +1,4 @@
-use Rattle.std.proofs.Common.{◌∙◌, ◌<◌, Option, Some, arith, subst, sym}
+use Rattle.std.proofs.Common.{◌∙◌, ◌<◌, Option, arith, subst, sym}
 use Rattle.std.specs.Prelude.{IfSome}
 use Rattle.starhost.specs.Dumping.{FirstUnwritten}
 use Rattle.starhost.specs.declared.fault.Fault.{Fault}
