@@ -35,13 +35,13 @@ returns-in-Ok-For g c =
 -- ---- questions, and words that are refused
 
 pub returns-in-Ok-Help-clause-usual : goal.returns-in-Ok-Help-clause-usual
-returns-in-Ok-Help-clause-usual g c = λ few ok. absurd (c.words_ask_once.ensures.one_thing _ _ (c.words_ask_once.ensures.usual _ (few_texts g.S.AsStr.text c.args.words.now few)) DisplayHelp (rw c.in-Ok-Help.field-0-is at c.in-Ok-Help.ensures.asked))
+returns-in-Ok-Help-clause-usual g c = λ few ok. let words : List Text = map g.S.AsStr.text c.args.words.now in absurd (c.words_ask_once.ensures.one_thing words _ (c.words_ask_once.ensures.usual words (few_texts g.S.AsStr.text c.args.words.now few)) DisplayHelp (rw c.in-Ok-Help.field-0-is at c.in-Ok-Help.ensures.asked))
 
 pub returns-in-Ok-Help-clause-asked : goal.returns-in-Ok-Help-clause-asked
 returns-in-Ok-Help-clause-asked g c = inr (inl (rw c.in-Ok-Help.field-0-is at c.in-Ok-Help.ensures.asked, refl, c.show.ensures))
 
 pub returns-in-Ok-Version-clause-usual : goal.returns-in-Ok-Version-clause-usual
-returns-in-Ok-Version-clause-usual g c = λ few ok. absurd (c.words_ask_once.ensures.one_thing _ _ (c.words_ask_once.ensures.usual _ (few_texts g.S.AsStr.text c.args.words.now few)) DisplayVersion (rw c.in-Ok-Version.field-0-is at c.in-Ok-Version.ensures.asked))
+returns-in-Ok-Version-clause-usual g c = λ few ok. let words : List Text = map g.S.AsStr.text c.args.words.now in absurd (c.words_ask_once.ensures.one_thing words _ (c.words_ask_once.ensures.usual words (few_texts g.S.AsStr.text c.args.words.now few)) DisplayVersion (rw c.in-Ok-Version.field-0-is at c.in-Ok-Version.ensures.asked))
 
 pub returns-in-Ok-Version-clause-asked : goal.returns-in-Ok-Version-clause-asked
 returns-in-Ok-Version-clause-asked g c = inr (inr (inl (rw c.in-Ok-Version.field-0-is at c.in-Ok-Version.ensures.asked, refl, c.show-in-Ok-Version.ensures)))
