@@ -24,6 +24,7 @@ mod route;
 mod rule_rows;
 mod samples;
 mod shelf;
+mod spot;
 mod tenant;
 mod text;
 mod tracing;
