@@ -1,12 +1,12 @@
 -- To whom a session is opened, and how many lines stand before it.
-use Rattle.std.proofs.Common.{◌≡◌, ◌∙◌, ◌⊎◌, sym, ap, subst, refl, inl, inr, ℕ, Bool, true, false, List, [], ◌∷◌, ◌++◌, Option, Some, None}
+use Rattle.std.proofs.Common.{◌≡◌, ◌∙◌, ◌⊎◌, sym, ap, subst, refl, inl, inr, ℕ, Bool, true, false, List, [], ◌∷◌, Option, Some, None}
 use Rattle.std.specs.Prelude.{is_some}
 use Rattle.std.proofs.lemmas.Bool.{false≢true}
 use Rattle.sb_wire.specs.Lines.{Piece, last_piece, line, too_long}
 use Rattle.sb_wire.specs.Responses.{AreAnswered}
 use Rattle.sb_desk.specs.Calls.{Session}
 use Rattle.sb_connection.specs.Admission.{BringsKey, LetsIn}
-use Rattle.sb_connection.specs.Conversation.{Hosted, Visitor, named_of, visitor_of}
+use Rattle.sb_connection.specs.Conversation.{Hosted, Visitor, visitor_of}
 use Rattle.sb_connection.specs.History.{History, SameStreams}
 use Rattle.sb_connection.specs.Responding.{Admits, Greets, GreetsLine, GreetsVisitor, Responds, RespondsBy, State, anyone, over}
 use Rattle.sb_connection.specs.Routing.{Begins}

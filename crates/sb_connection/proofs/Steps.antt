@@ -94,23 +94,31 @@ module _ (k : Talking) (holds : Holds k) where
   stands_sent Over count pieces lost b so = so
   stands_sent Failed count pieces lost b so = so
 
+  -- the same is told where something was sent, or no more comes
+  holds_with : (at_end : Bool) (handed pending : List ℕ) → holds.text ≡ (handed ++ pending) ++ holds.tells.lost
+      → Stands h.state (record h { at_end = at_end; handed = handed; pending = pending }) taken holds.pieces holds.tells.lost (over k.talk)
+      → Holds (record k { history = record h { at_end = at_end; handed = handed; pending = pending } })
+  holds_with at_end handed pending whole so = record {
+    pieces = holds.pieces;
+    text = holds.text;
+    tells = record {
+      taken = taken;
+      split = holds.tells.split;
+      lost = holds.tells.lost;
+      whole = whole;
+      stands = so;
+    };
+    is_open = holds.is_open;
+    attached = holds.attached;
+    answered = holds.answered;
+  }
+
   pub holds_sent : (count : ℕ) → Holds (record k { history = after_sending h count })
   holds_sent count =
       let sent : (h.handed ++ take count h.pending) ++ drop count h.pending ≡ h.handed ++ h.pending =
-      append_assoc h.handed (take count h.pending) (drop count h.pending) ∙ ap (λ (t : List ℕ). h.handed ++ t) (take-append-drop count h.pending) in record {
-        pieces = holds.pieces;
-        text = holds.text;
-        tells = record {
-          taken = taken;
-          split = holds.tells.split;
-          lost = holds.tells.lost;
-          whole = holds.tells.whole ∙ ap (λ (t : List ℕ). t ++ holds.tells.lost) (sym sent);
-          stands = stands_sent h.state count holds.pieces holds.tells.lost (over k.talk) holds.tells.stands;
-        };
-        is_open = holds.is_open;
-        attached = holds.attached;
-        answered = holds.answered;
-      }
+      append_assoc h.handed (take count h.pending) (drop count h.pending) ∙ ap (λ (t : List ℕ). h.handed ++ t) (take-append-drop count h.pending) in
+      holds_with h.at_end (h.handed ++ take count h.pending) (drop count h.pending) (holds.tells.whole ∙ ap (λ (t : List ℕ). t ++ holds.tells.lost) (sym sent))
+      (stands_sent h.state count holds.pieces holds.tells.lost (over k.talk) holds.tells.stands)
 
   module _ (going : is_open h.state ≡ true) where
     standing : AreComplete taken holds.pieces × (holds.tells.lost ≡ []) × (over k.talk ≡ false)
@@ -118,6 +126,36 @@ module _ (k : Talking) (holds : Holds k) where
 
     pub not_over : over k.talk ≡ false
     not_over = standing.2
+
+    -- what is told behind lines more: nothing is lost of their text
+    all_told : (new : History) (seen : List ℕ) (pieces : List Piece) (own : List ℕ) (is_over : Bool) → new.received ≡ seen ++ new.waiting → new.handed ≡ h.handed → new.pending ≡ h.pending ++ own
+        → Stands new.state new seen pieces [] is_over → (t : Tells new pieces (holds.text ++ own) is_over) × (t.taken ≡ seen)
+    all_told new seen pieces own is_over split same added so = (
+      record {
+        taken = seen;
+        split = split;
+        lost = [];
+        whole = whole_then new.handed new.pending own standing.1 same added ∙ sym (append-nil (new.handed ++ new.pending));
+        stands = so;
+      },
+      refl,
+    )
+
+    -- or memory ran out for it
+    none_told : (new : History) (seen : List ℕ) (pieces : List Piece) (own : List ℕ) (is_over : Bool) → new.received ≡ seen ++ new.waiting → new.handed ≡ h.handed → new.pending ≡ h.pending
+        → Stands new.state new seen pieces own is_over → (t : Tells new pieces (holds.text ++ own) is_over) × (t.taken ≡ seen)
+    none_told new seen pieces own is_over split same left so = (
+      record {
+        taken = seen;
+        split = split;
+        lost = own;
+        whole =
+            whole_then new.handed (h.pending ++ own) own standing.1 same refl ∙ sym (append_assoc new.handed h.pending own)
+            ∙ ap (λ (t : List ℕ). (new.handed ++ t) ++ own) (sym left);
+        stands = so;
+      },
+      refl,
+    )
 
     stands_open : (new : History) (others : List ℕ) → new.state ≡ h.state → AreComplete others holds.pieces → Stands new.state new others holds.pieces holds.tells.lost (over k.talk)
     stands_open new others same all = subst (λ (s : stands.State). Stands s new others holds.pieces holds.tells.lost (over k.talk)) (sym (same ∙ open_is h.state going)) (all, standing.1, standing.2)
@@ -139,20 +177,7 @@ module _ (k : Talking) (holds : Holds k) where
     }
 
     pub holds_ended : Holds (record k { history = after_end h })
-    holds_ended = record {
-      pieces = holds.pieces;
-      text = holds.text;
-      tells = record {
-        taken = taken;
-        split = holds.tells.split;
-        lost = holds.tells.lost;
-        whole = holds.tells.whole;
-        stands = stands_open (after_end h) taken refl standing.0;
-      };
-      is_open = holds.is_open;
-      attached = holds.attached;
-      answered = holds.answered;
-    }
+    holds_ended = holds_with true h.handed h.pending holds.tells.whole (stands_open (after_end h) taken refl standing.0)
 
     -- ---- a step
 
@@ -187,40 +212,14 @@ module _ (k : Talking) (holds : Holds k) where
           a.streams.2 ∙ holds.tells.split ∙ ap (λ (t : List ℕ). taken ++ t) split ∙ sym (append_assoc taken fed behind)
           ∙ ap (λ (t : List ℕ). (taken ++ fed) ++ t) (sym a.waiting)
 
+      stands_by : (s : stands.State) (lost : List ℕ) → new.history.state ≡ s → Stands s new.history (taken ++ fed) pieces lost (over new.talk) → Stands new.history.state new.history (taken ++ fed) pieces lost (over new.talk)
+      stands_by s lost is so = subst (λ (now : stands.State). Stands now new.history (taken ++ fed) pieces lost (over new.talk)) (sym is) so
+
       told : (s : stands.State) → new.history.state ≡ s → Adds s h.pending a.text new.history.pending (over new.talk) → (t : Tells new.history pieces (holds.text ++ a.text) (over new.talk)) × (t.taken ≡ taken ++ fed)
-      told Open is (added, going_on) = (
-        record {
-          taken = taken ++ fed;
-          split = new_split;
-          lost = [];
-          whole = whole_then new.history.handed new.history.pending a.text standing.1 a.streams.3 added ∙ sym (append-nil (new.history.handed ++ new.history.pending));
-          stands = subst (λ (s : stands.State). Stands s new.history (taken ++ fed) pieces [] (over new.talk)) (sym is) (complete, refl, going_on);
-        },
-        refl,
-      )
+      told Open is (added, going_on) = all_told new.history (taken ++ fed) pieces a.text (over new.talk) new_split a.streams.3 added (stands_by Open [] is (complete, refl, going_on))
       told Answered is none = absurd none
-      told Over is (added, at_last) = (
-        record {
-          taken = taken ++ fed;
-          split = new_split;
-          lost = [];
-          whole = whole_then new.history.handed new.history.pending a.text standing.1 a.streams.3 added ∙ sym (append-nil (new.history.handed ++ new.history.pending));
-          stands = subst (λ (s : stands.State). Stands s new.history (taken ++ fed) pieces [] (over new.talk)) (sym is) (complete, refl, at_last);
-        },
-        refl,
-      )
-      told Failed is same = (
-        record {
-          taken = taken ++ fed;
-          split = new_split;
-          lost = a.text;
-          whole =
-              whole_then new.history.handed (h.pending ++ a.text) a.text standing.1 a.streams.3 refl ∙ sym (append_assoc new.history.handed h.pending a.text)
-              ∙ ap (λ (t : List ℕ). (new.history.handed ++ t) ++ a.text) (sym same);
-          stands = subst (λ (s : stands.State). Stands s new.history (taken ++ fed) pieces a.text (over new.talk)) (sym is) (inl complete);
-        },
-        refl,
-      )
+      told Over is (added, at_last) = all_told new.history (taken ++ fed) pieces a.text (over new.talk) new_split a.streams.3 added (stands_by Over [] is (complete, refl, at_last))
+      told Failed is same = none_told new.history (taken ++ fed) pieces a.text (over new.talk) new_split a.streams.3 same (stands_by Failed a.text is (inl complete))
 
       pub holds_line : Holds (record new { opened = line [] })
       holds_line =
@@ -284,29 +283,13 @@ module _ (k : Talking) (holds : Holds k) where
 
       last_told : (s : stands.State) → new.history.state ≡ s → AddsLast s h.pending a.text new.history.pending → (t : Tells new.history all (holds.text ++ a.text) (over new.talk)) × (t.taken ≡ taken)
       last_told Open is added = absurd added
-      last_told Answered is added = (
-        record {
-          taken = taken;
-          split = last_split;
-          lost = [];
-          whole = whole_then new.history.handed new.history.pending a.text standing.1 a.streams.3 added ∙ sym (append-nil (new.history.handed ++ new.history.pending));
-          stands = subst (λ (s : stands.State). Stands s new.history taken all [] (over new.talk)) (sym is) (are_all, refl, a.streams.1 ∙ at_end);
-        },
-        refl,
-      )
+      last_told Answered is added =
+          all_told new.history taken all a.text (over new.talk) last_split a.streams.3 added
+          (subst (λ (s : stands.State). Stands s new.history taken all [] (over new.talk)) (sym is) (are_all, refl, a.streams.1 ∙ at_end))
       last_told Over is added = absurd added
-      last_told Failed is same = (
-        record {
-          taken = taken;
-          split = last_split;
-          lost = a.text;
-          whole =
-              whole_then new.history.handed (h.pending ++ a.text) a.text standing.1 a.streams.3 refl ∙ sym (append_assoc new.history.handed h.pending a.text)
-              ∙ ap (λ (t : List ℕ). (new.history.handed ++ t) ++ a.text) (sym same);
-          stands = subst (λ (s : stands.State). Stands s new.history taken all a.text (over new.talk)) (sym is) (inr are_all);
-        },
-        refl,
-      )
+      last_told Failed is same =
+          none_told new.history taken all a.text (over new.talk) last_split a.streams.3 same
+          (subst (λ (s : stands.State). Stands s new.history taken all a.text (over new.talk)) (sym is) (inr are_all))
 
       pub holds_last : Holds new
       holds_last =

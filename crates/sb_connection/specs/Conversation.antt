@@ -7,6 +7,7 @@ use Rattle.sb_tenant.specs.Limits.{session_count}
 use Rattle.sb_wire.specs.Lines.{Addressed, Piece, addressed_of, line, too_long, number_before, number_of}
 use Rattle.sb_wire.specs.Output.{ended_lines}
 use Rattle.sb_wire.specs.ReplyText.{reply_lines}
+use Rattle.sb_wire.specs.Responses.{StopsBy}
 use Rattle.sb_wire.specs.Seen.{refusal_line}
 use Rattle.sb_wire.specs.declared.refusal.WireRefusal.TheVariants as wire
 use Rattle.sb_desk.specs.declared.desk.AttachError.{AttachError}
@@ -14,6 +15,7 @@ use Rattle.sb_desk.specs.declared.desk.AttachError.TheVariants as attach
 use Rattle.sb_desk.specs.Calls.{Attached}
 use Rattle.sb_desk.specs.declared.stub.Stub.{Stub}
 use Rattle.sb_connection.specs.declared.greeting.Named.{Named}
+use Rattle.sb_connection.specs.declared.serve.Served.{Served}
 use Rattle.sb_connection.specs.Exchanges.{AreCalls, AreReceipts, Exchange, has_ended, line_in, said_text}
 
 -- ---- the tenants of a host, as lines name them
@@ -133,3 +135,9 @@ pub record Conversation (hosted : Hosted) (input held rest holds : Option (List 
   pub left : List ℕ
   pub whole : text ≡ written ++ left
   pub appends : Appends held holds written
+
+-- that of a host without keys over a reader and a writer, and how it ends
+abbrev pub ServesOne : {R : Type 0} → ℕ → (R → Type 0) → (R → Option (List ℕ)) → R → R → Option (List ℕ) → Option (List ℕ) → Served → Type 0
+ServesOne tenants fails remaining before after held holds served =
+    (c : Conversation (hosting 0 tenants) (remaining before) held (remaining after) holds served.stub)
+    × StopsBy fails remaining after c.over c.seen c.pieces c.left served.ended

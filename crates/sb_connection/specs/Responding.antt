@@ -1,5 +1,5 @@
 -- Machine: how a connection answers one line.
-use Rattle.std.specs.Prelude.{◌≡◌, ◌⊎◌, ⊤, ℕ, Bool, true, false, List, [], ◌∷◌, Option, Some, None, Ok, Err}
+use Rattle.std.specs.Prelude.{◌≡◌, ◌⊎◌, ⊤, ℕ, Bool, true, false, List, [], ◌∷◌, ◌++◌, Option, Some, None, OnErr, OnOk, Result, Ok, Err}
 use Rattle.sb_wire.specs.Lines.{Piece, line, too_long}
 use Rattle.sb_wire.specs.Output.{ended_lines}
 use Rattle.sb_wire.specs.Seen.{refusal_line}
@@ -73,6 +73,10 @@ RespondsBy admits hosted (Some s) p text new = (e : Exchange) × (after : Sessio
 
 abbrev pub Responds : Admits → Hosted → State → Piece → List ℕ → State → Type 0
 Responds admits hosted old p text new = RespondsBy admits hosted old.0 p text new
+
+-- such a text is written behind what there was, or nothing where memory runs out
+abbrev pub WritesText : {T E : Type 0} → (List ℕ → Type 0) → List ℕ → Result T E → List ℕ → Type 0
+WritesText Is old result new = (text : List ℕ) × Is text × OnOk result (new ≡ old ++ text) × OnErr result (new ≡ old)
 
 -- a session is closed, if there is one
 abbrev pub LeavesSome : Option Session → Option Stub → Type 0

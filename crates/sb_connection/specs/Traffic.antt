@@ -52,16 +52,15 @@ uses_none bytes (Err e) = false
 abbrev pub has_ended : Traffic → Bool
 has_ended t = list_any (λ call. uses_none call.0 call.1) t.reads
 
--- a read is to be made again, at once or later
-abbrev pub passes : ErrorKind → Bool
-passes WouldBlock = true
-passes Interrupted = true
-passes kind = false
-
 -- a write is to be made again, once there is room
 abbrev pub blocks : ErrorKind → Bool
 blocks WouldBlock = true
 blocks kind = false
+
+-- a read is to be made again, at once or later
+abbrev pub passes : ErrorKind → Bool
+passes Interrupted = true
+passes kind = blocks kind
 
 abbrev pub fails : (ErrorKind → Bool) → Result ℕ Error → Bool
 fails again (Ok n) = false

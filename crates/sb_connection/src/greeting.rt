@@ -1,9 +1,9 @@
 //! The first line of a connection.
-ghost use Rattle.std.specs.Prelude.{◌≡◌, ◌++◌, ◌∷◌, [], List, ℕ, None, OnOk, OnErr, true};
+ghost use Rattle.std.specs.Prelude.{◌≡◌, ◌++◌, ◌∷◌, [], None, OnOk, OnErr, true};
 ghost use Rattle.sb_wire.specs.Output.{ended_lines};
 ghost use Rattle.sb_wire.specs.Seen.{piece_seen, refusal_line};
 ghost use Rattle.sb_connection.specs.Conversation.{attach_lines, hosting, hosting_by, named_by, named_of, tenant_at, visitor_of};
-ghost use Rattle.sb_connection.specs.Responding.{Greets, GreetsNamed, GreetsVisitor};
+ghost use Rattle.sb_connection.specs.Responding.{Greets, GreetsNamed, GreetsVisitor, WritesText};
 
 use crate::admission::Admission;
 use crate::caller::Caller;
@@ -103,11 +103,8 @@ pub(crate) fn greet<T: Wait, H: Hosting, V: Watch, A: Admission>(
     away: &mut bool,
 ) -> Result<(), AllocError>
     requires { session.old ≡ None }
-    ensures { (text : List ℕ)
-        × Greets (A.admits talk.now.admission.now) (hosting_by talk.now.keyed talk.now.first (H.tenants talk.now.host)) (piece_seen piece.entry)
-        text session.new away.new
-        × OnOk result (out.new.items ≡ out.old.items ++ text)
-        × OnErr result (out.new.items ≡ out.old.items) }
+    ensures { WritesText (λ text. Greets (A.admits talk.now.admission.now) (hosting_by talk.now.keyed talk.now.first (H.tenants talk.now.host))
+        (piece_seen piece.entry) text session.new away.new) out.old.items result out.new.items }
 {
     match piece {
         Piece::TooLong => turn_away(talk.watch, out, away, WireRefusal::TooLong),
@@ -129,11 +126,9 @@ fn greet_visitor<T: Wait, H: Hosting, V: Watch, A: Admission>(
     away: &mut bool,
 ) -> Result<(), AllocError>
     requires { session.old ≡ None }
-    ensures { (text : List ℕ)
-        × GreetsVisitor (A.admits talk.now.admission.now) (hosting_by talk.now.keyed talk.now.first (H.tenants talk.now.host))
-        (visitor_of line.now) text session.new away.new
-        × OnOk result (out.new.items ≡ out.old.items ++ text)
-        × OnErr result (out.new.items ≡ out.old.items) }
+    ensures { WritesText (λ text. GreetsVisitor (A.admits talk.now.admission.now)
+        (hosting_by talk.now.keyed talk.now.first (H.tenants talk.now.host)) (visitor_of line.now) text session.new away.new)
+        out.old.items result out.new.items }
 {
     let Some(visitor) = Visitor::split(line) else {
         return turn_away(talk.watch, out, away, WireRefusal::BadKey);
@@ -173,10 +168,8 @@ fn open<T: Wait, H: Hosting, V: Watch, A: Admission>(
     away: &mut bool,
 ) -> Result<(), AllocError>
     requires { session.old ≡ None }
-    ensures { (text : List ℕ)
-        × GreetsNamed (hosting_by talk.now.keyed talk.now.first (H.tenants talk.now.host)) named text session.new away.new
-        × OnOk result (out.new.items ≡ out.old.items ++ text)
-        × OnErr result (out.new.items ≡ out.old.items) }
+    ensures { WritesText (λ text. GreetsNamed (hosting_by talk.now.keyed talk.now.first (H.tenants talk.now.host)) named text
+        session.new away.new) out.old.items result out.new.items }
 {
     let tenant = tenant_at(talk.first, talk.host.tenants(), named.tenant);
     match talk.host.attach(talk.rt, alloc, tenant, named.session) {

@@ -44,14 +44,14 @@ pub(crate) struct Machine<H: Hosting> {
     /// The client sends no more.
     pub(crate) at_end: bool,
     pub(crate) session: Option<Caller<H::Session>>,
+    /// None was opened, and none will be.
+    pub(crate) away: bool,
     /// What the first line names.
     pub(crate) named: Option<Named>,
     /// It is told that a line wasn't begun.
     pub(crate) tells_unbegun: bool,
     /// It has a transaction.
     pub(crate) transacts: bool,
-    /// No session was opened.
-    pub(crate) away: bool,
     /// The line that stands open behind what is taken of the input.
     pub(crate) lines: Lines,
     pub(crate) input: Vec<u8>,
@@ -101,10 +101,10 @@ impl<H: Hosting> Machine<H> {
             state: State::Open,
             at_end: false,
             session: None,
+            away: false,
             named: None,
             tells_unbegun: false,
             transacts: false,
-            away: false,
             lines: Lines::new(),
             input: Vec::new(alloc),
             taken: 0,

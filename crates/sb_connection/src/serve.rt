@@ -1,9 +1,8 @@
 //! A connection from its first line to the end of its session.
-ghost use Rattle.std.specs.Prelude.{◌≡◌, IfSome};
-ghost use Rattle.sb_connection.specs.Conversation.{Conversation, hosting};
+ghost use Rattle.std.specs.Prelude.{IfSome};
+ghost use Rattle.sb_connection.specs.Conversation.{ServesOne};
 ghost use Rattle.sb_connection.specs.Exchanges.{IsClosed};
 ghost use Rattle.sb_connection.specs.Responding.{LeavesSome};
-ghost use Rattle.sb_wire.specs.Responses.{StopsBy};
 ghost use Rattle.sb_wire.specs.Stream.{MayFail, OnWriteFault};
 
 use crate::admission::Open;
@@ -34,9 +33,7 @@ pub fn serve_one<T: Wait, H: Hosting, R: Source, W: Sink>(
     writer: &mut W,
     host: H,
 ) -> Served
-    ensures goes { (c : Conversation (hosting 0 (H.tenants host)) (R.remaining reader.old) (W.contents writer.old)
-        (R.remaining reader.new) (W.contents writer.new) result.stub)
-        × StopsBy R.fails R.remaining reader.new c.over c.seen c.pieces c.left result.ended }
+    ensures goes { ServesOne (H.tenants host) R.fails R.remaining reader.old reader.new (W.contents writer.old) (W.contents writer.new) result }
     ensures refused { OnWriteFault result.ended (MayFail W.refuses W.contents writer.new) }
     ensures closed { IfSome result.stub (λ stub. IsClosed stub.receipts.items) }
 {
@@ -52,9 +49,7 @@ pub fn serve_one_with<T: Wait, H: Hosting, R: Source, W: Sink, V: Watch>(
     host: H,
     watch: &V,
 ) -> Served
-    ensures goes { (c : Conversation (hosting 0 (H.tenants host)) (R.remaining reader.old) (W.contents writer.old)
-        (R.remaining reader.new) (W.contents writer.new) result.stub)
-        × StopsBy R.fails R.remaining reader.new c.over c.seen c.pieces c.left result.ended }
+    ensures goes { ServesOne (H.tenants host) R.fails R.remaining reader.old reader.new (W.contents writer.old) (W.contents writer.new) result }
     ensures refused { OnWriteFault result.ended (MayFail W.refuses W.contents writer.new) }
     ensures closed { IfSome result.stub (λ stub. IsClosed stub.receipts.items) }
 {

@@ -2,6 +2,7 @@
 
 use crate::parts::deed_of;
 use sb_catalog::Catalog;
+use sb_syntax::Kind;
 use sb_tenant::{Entry, Reply};
 use sb_value::RULE_LIMIT;
 use std::alloc::{AllocError, Global};
@@ -68,10 +69,10 @@ fn note(
         origin.head = place;
         origin.condition = None;
     }
-    if deed.has_condition {
+    if deed.has(Kind::If) {
         origin.condition = Some(place);
     }
-    if deed.has_actions {
+    if deed.has(Kind::Then) {
         origin.actions = place;
     }
     Ok(())

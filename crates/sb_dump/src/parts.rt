@@ -51,13 +51,22 @@ pub(crate) fn part(alloc: Global, line: &[u8], word: Kind) -> Result<&[u8], Allo
 }
 
 /// What a line does to a rule.
-#[derive(Clone, Copy)]
+#[derive(Drop)]
 pub(crate) struct Deed {
     pub(crate) rule: Name,
     /// Whether it creates the rule; otherwise it alters it.
     pub(crate) creates: bool,
-    pub(crate) has_condition: bool,
-    pub(crate) has_actions: bool,
+    tokens: Vec<Token>,
+}
+
+impl Deed {
+    /// Whether it gives the rule the part that begins behind this word.
+    pub(crate) fn has(&self, word: Kind) -> bool {
+        self.tokens
+            .as_slice()
+            .iter()
+            .any(|token| token.kind == word)
+    }
 }
 
 /// What a line does to a rule, if it creates or alters one.
@@ -77,11 +86,6 @@ pub(crate) fn deed_of(alloc: Global, line: &[u8]) -> Result<Option<Deed>, AllocE
     Ok(Some(Deed {
         rule: Name::new(name),
         creates,
-        has_condition: has(tokens.as_slice(), Kind::If),
-        has_actions: has(tokens.as_slice(), Kind::Then),
+        tokens,
     }))
-}
-
-fn has(tokens: &[Token], kind: Kind) -> bool {
-    tokens.iter().any(|token| token.kind == kind)
 }

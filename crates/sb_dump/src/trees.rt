@@ -194,27 +194,13 @@ fn same_comparison(one: Comparison, other: Comparison) -> bool
 
 impl Same for Source {
     fn is_same(&self, other: &Source) -> bool {
-        match *self {
-            Source::Table(table) => match *other {
-                Source::Table(second) => table == second,
-                _ => false,
-            },
-            Source::Inserted => match *other {
-                Source::Inserted => true,
-                _ => false,
-            },
-            Source::Deleted => match *other {
-                Source::Deleted => true,
-                _ => false,
-            },
-            Source::OldUpdated => match *other {
-                Source::OldUpdated => true,
-                _ => false,
-            },
-            Source::NewUpdated => match *other {
-                Source::NewUpdated => true,
-                _ => false,
-            },
+        match (self, other) {
+            (Source::Table(table), Source::Table(second)) => *table == *second,
+            (Source::Inserted, Source::Inserted) => true,
+            (Source::Deleted, Source::Deleted) => true,
+            (Source::OldUpdated, Source::OldUpdated) => true,
+            (Source::NewUpdated, Source::NewUpdated) => true,
+            _ => false,
         }
     }
 }

@@ -5,8 +5,8 @@ ghost use Rattle.sb_server.specs.Boards.{AreSlowestFirst, IsSessionFrom, desk_co
 
 use crate::counts::{Count, Tally};
 use crate::last_lines::LastLines;
+use crate::seat::WAKER;
 use crate::slow_line::SlowLine;
-use crate::worker::WAKER;
 use mio::{Poll, Waker};
 use sb_connection::Named;
 use std::alloc::{AllocError, Global};

@@ -9,7 +9,8 @@ use crate::mailbox::Letter;
 use crate::newcomer::{Heard, Newcomer};
 use crate::server::Serving;
 use crate::socket::Socket;
-use crate::worker::{SWEEP, Worker, is_time};
+use crate::sweeps::{SWEEP, Sweeps};
+use crate::worker::Worker;
 use mio::event::Event as Ready;
 use mio::{Events, Token};
 use sb_connection::{Admission, Event, Route, Watch};
@@ -41,7 +42,7 @@ pub(crate) struct Porter<'s, H: Hosting, V, A, K, C> {
     door: Door<'s>,
     newcomers: Slab<Box<Newcomer>>,
     /// When late newcomers were looked for.
-    swept: Option<Instant>,
+    sweeps: Sweeps,
     /// The workers know that no more connections come.
     has_told: bool,
 }
@@ -55,7 +56,7 @@ impl<'s, H: Hosting, V: Watch, A: Admission, K: Keeper, C: Clock> Porter<'s, H, 
             lobby,
             door,
             newcomers,
-            swept: None,
+            sweeps: Sweeps::none_yet(),
             has_told: false,
         }
     }
@@ -259,13 +260,10 @@ impl<'s, H: Hosting, V: Watch, A: Admission, K: Keeper, C: Clock> Porter<'s, H, 
         if self.newcomers.is_empty() {
             return;
         }
-        let Some(now) = self.now() else {
-            return;
-        };
-        if !is_time(self.swept, now) {
+        let now = self.now();
+        if self.sweeps.next(now).is_none() {
             return;
         }
-        self.swept = Some(now);
         for key in 0..self.newcomers.capacity() {
             self.judge(rt, key);
         }

@@ -12,9 +12,10 @@ use crate::keeper::{Keeper, Kept};
 use crate::mailbox::{Letter, Mailbox};
 use crate::newcomer::Reception;
 use crate::porter::{FIRST_LINE, Porter};
+use crate::seat::Seat;
 use crate::visit::Limits;
-use crate::worker::{Seat, WAKER, Worker};
-use mio::{Events, Poll, Waker};
+use crate::worker::Worker;
+use mio::{Events, Waker};
 use sb_connection::{Admission, Watch};
 use sb_desk::{Hosting, Stub};
 use sb_workers::Work;
@@ -26,12 +27,6 @@ use std::sync::atomic::{AtomicBool, AtomicUsize, Ordering};
 use std::thread::Threads;
 use std::time::{Duration, Instant};
 
-/// How many events a worker is told of at once.
-const EVENTS: usize = 256;
-
-/// The most bytes that a read gives.
-const PIECE: usize = 65_536;
-
 /// How long a server serves, and whom.
 #[derive(Clone, Copy, Debug)]
 pub struct Terms {
@@ -41,12 +36,12 @@ pub struct Terms {
     pub first_tenant: u32,
     /// How many connections are taken, or 0, which is without end.
     pub connections: u64,
+    /// It stops where the program's input ends.
+    pub until_input_ends: bool,
     /// A connection is closed that has sent no line for so long.
     pub idle: Option<Duration>,
     /// A connection is closed that has sent no line for so long in a transaction.
     pub idle_transaction: Option<Duration>,
-    /// It stops where the program's input ends.
-    pub until_input_ends: bool,
     /// A line that takes so long is told.
     pub slow: Option<Duration>,
 }
@@ -158,8 +153,7 @@ impl<'s, H: Hosting, V, A, K, C> Serving<'s, H, V, A, K, C> {
 
     /// No more connections are handed over.
     pub(crate) fn close_door(&self) {
-        self.is_door_closed.store(true, Ordering::SeqCst);
-        self.wake_all();
+        self.raise(&self.is_door_closed);
     }
 
     pub(crate) fn is_stopping(&self) -> bool {
@@ -168,31 +162,39 @@ impl<'s, H: Hosting, V, A, K, C> Serving<'s, H, V, A, K, C> {
 
     /// Ends the service.
     pub(crate) fn stop(&self) {
-        self.stopping.store(true, Ordering::SeqCst);
-        self.wake_all();
+        self.raise(&self.stopping);
     }
 
     /// Ends it since a thread is missing.
     pub(crate) fn lack_thread(&self) {
-        self.lacks_thread.store(true, Ordering::SeqCst);
-        self.stop();
+        self.stop_by(&self.lacks_thread);
     }
 
     /// Ends it since a thread can't wait for events.
     pub(crate) fn fail_poll(&self) {
-        self.has_failed.store(true, Ordering::SeqCst);
-        self.stop();
+        self.stop_by(&self.has_failed);
     }
 
     /// Ends it since something wasn't kept.
     pub(crate) fn lose(&self) {
-        self.has_lost.store(true, Ordering::SeqCst);
-        self.stop();
+        self.stop_by(&self.has_lost);
     }
 
     /// Whether something wasn't kept.
     pub(crate) fn has_lost(&self) -> bool {
         self.has_lost.load(Ordering::SeqCst)
+    }
+
+    /// Ends it for what this flag tells.
+    fn stop_by(&self, flag: &AtomicBool) {
+        flag.store(true, Ordering::SeqCst);
+        self.stop();
+    }
+
+    /// Sets a flag that each thread looks at.
+    fn raise(&self, flag: &AtomicBool) {
+        flag.store(true, Ordering::SeqCst);
+        self.wake_all();
     }
 
     fn wake_all(&self) {
@@ -226,11 +228,12 @@ enum Role {
     Worker(usize),
 }
 
-/// A seat, and who works there.
+/// A seat, the events that are told there, and who works there.
 #[derive(Drop)]
 pub(crate) struct Post {
     role: Role,
     seat: Seat,
+    events: Events,
 }
 
 impl<'s, H: Hosting, V: Watch, A: Admission, K: Keeper, C: Clock> Work<Post, Vec<Stub>>
@@ -240,9 +243,14 @@ impl<'s, H: Hosting, V: Watch, A: Admission, K: Keeper, C: Clock> Work<Post, Vec
     ghost does = { λ _ stubs. LeaveClosed stubs };
 
     fn work<R: Wait>(&self, rt: &R, post: Post) -> Vec<Stub> {
-        match post.role {
-            Role::Door => self.keep_door(rt, post.seat),
-            Role::Worker(place) => self.serve_cells(rt, place, post.seat),
+        let Post {
+            role,
+            seat,
+            mut events,
+        } = post;
+        match role {
+            Role::Door => self.keep_door(rt, seat, &mut events),
+            Role::Worker(place) => self.serve_cells(rt, place, seat, &mut events),
         }
     }
 }
@@ -288,33 +296,29 @@ impl<'s, H: Hosting, V: Watch, A: Admission, K: Keeper, C: Clock> Serving<'s, H,
     }
 
     /// Takes connections at the door, and closes those that open no session.
-    fn keep_door<R: Wait>(&self, rt: &R, seat: Seat) -> Vec<Stub>
+    fn keep_door<R: Wait>(&self, rt: &R, seat: Seat, events: &mut Events) -> Vec<Stub>
         ensures { LeaveClosed result }
     {
-        let Seat {
-            poll,
-            mut events,
-            buffer,
-        } = seat;
         let place = self.mailboxes.len();
-        let lobby = Worker::new(self, place, self.lobby_limits(), poll, buffer);
+        let lobby = Worker::new(self, place, self.lobby_limits(), seat);
         let door = Door::new(self.listener, self.terms.connections);
         let mut porter = Porter::new(lobby, door);
-        porter.run(rt, &mut events, self.terms.until_input_ends);
+        porter.run(rt, events, self.terms.until_input_ends);
         porter.into_stubs()
     }
 
     /// Serves the connections of the cells of this place.
-    fn serve_cells<R: Wait>(&self, rt: &R, place: usize, seat: Seat) -> Vec<Stub>
+    fn serve_cells<R: Wait>(
+        &self,
+        rt: &R,
+        place: usize,
+        seat: Seat,
+        events: &mut Events,
+    ) -> Vec<Stub>
         ensures { LeaveClosed result }
     {
-        let Seat {
-            poll,
-            mut events,
-            buffer,
-        } = seat;
-        let mut worker = Worker::new(self, place, self.limits(), poll, buffer);
-        worker.run(rt, place, &mut events);
+        let mut worker = Worker::new(self, place, self.limits(), seat);
+        worker.run(rt, place, events);
         worker.into_stubs()
     }
 
@@ -339,14 +343,7 @@ impl<'s, H: Hosting, V: Watch, A: Admission, K: Keeper, C: Clock> Serving<'s, H,
 
 /// Serves the connections that are taken, each worker and the door in a thread of its own, and leaves the receipts of all
 /// sessions. What is done beside is done in this thread.
-pub fn serve_all<
-    H: Hosting + Sync,
-    V: Watch + Sync,
-    A: Admission + Sync,
-    K: Keeper + Sync,
-    G: Beside,
-    R: Threads + Wait + Net + Clock + Sync,
->(
+pub fn serve_all<H, V, A, K, G, R>(
     rt: &R,
     alloc: Global,
     acceptor: &Acceptor<'_, V, A, K>,
@@ -354,6 +351,12 @@ pub fn serve_all<
     beside: &G,
 ) -> Result<Vec<Stub>, ServeError>
 where
+    H: Hosting + Sync,
+    V: Watch + Sync,
+    A: Admission + Sync,
+    K: Keeper + Sync,
+    G: Beside,
+    R: Threads + Wait + Net + Clock + Sync,
     H::Session: Send,
     requires workers { (0 < acceptor.now.terms.workers) × (acceptor.now.terms.workers ≤ 16) }
     ensures { IfOk result (λ stubs. All LeavesClosed stubs.items) }
@@ -362,12 +365,13 @@ where
     if acceptor.listener.set_nonblocking(true).is_err() {
         return Err(ServeError::NoPlace);
     }
-    let (seat, waker) = take_seat(rt, alloc)?;
+    let (seat, events, waker) = Seat::take(rt, alloc)?;
     let mut mailboxes = Vec::new(alloc);
     let mut posts = posts(rt, alloc, acceptor.board, terms.workers, &mut mailboxes)?;
     let door = Post {
         role: Role::Door,
         seat,
+        events,
     };
     if posts.push(door).is_err() {
         return Err(ServeError::NoMemory);
@@ -406,24 +410,6 @@ where
     }
 }
 
-/// Where a thread waits, and what wakes it.
-fn take_seat<R: Net>(rt: &R, alloc: Global) -> Result<(Seat, Waker), ServeError> {
-    let Ok(poll) = Poll::new(rt) else {
-        return Err(ServeError::NoPlace);
-    };
-    let Ok(waker) = Waker::new(poll.registry(), WAKER) else {
-        return Err(ServeError::NoPlace);
-    };
-    let events = Events::with_capacity(alloc, EVENTS)?;
-    let buffer = vec![in alloc; 0u8; PIECE]?;
-    let seat = Seat {
-        poll,
-        events,
-        buffer,
-    };
-    Ok((seat, waker))
-}
-
 /// A post for each worker, and its mailbox.
 fn posts<R: Net + Wait>(
     rt: &R,
@@ -438,12 +424,12 @@ fn posts<R: Net + Wait>(
 {
     let mut posts = Vec::new(alloc);
     for number in 0..workers {
-        let (seat, waker) = take_seat(rt, alloc)?;
+        let (seat, events, waker) = Seat::take(rt, alloc)?;
         if board.hang_bell(rt, number, &seat.poll).is_err() {
             return Err(ServeError::NoPlace);
         }
         if mailboxes.push(Mailbox::new(alloc, number, waker)).is_err()
-            || posts.push(worker_post(number, seat)).is_err()
+            || posts.push(worker_post(number, seat, events)).is_err()
         {
             return Err(ServeError::NoMemory);
         }
@@ -452,10 +438,11 @@ fn posts<R: Net + Wait>(
 }
 
 /// That of the worker at this place.
-fn worker_post(place: usize, seat: Seat) -> Post {
+fn worker_post(place: usize, seat: Seat, events: Events) -> Post {
     Post {
         role: Role::Worker(place),
         seat,
+        events,
     }
 }
 

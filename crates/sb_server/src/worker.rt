@@ -13,8 +13,10 @@ use crate::input::{has_ended, watch_input};
 use crate::keeper::Keeper;
 use crate::mailbox::Letter;
 use crate::newcomer::{Heard, Newcomer};
+use crate::seat::{Seat, WAKER};
 use crate::server::Serving;
 use crate::socket::Socket;
+use crate::sweeps::{SWEEP, Sweeps};
 use crate::visit::{Limits, Next, Visit};
 use mio::event::Event as Ready;
 use mio::unix::SourceFd;
@@ -28,11 +30,6 @@ use std::rt::Clock;
 use std::sync::Wait;
 use std::time::{Duration, Instant};
 
-pub(crate) const WAKER: Token = Token(usize::MAX);
-
-/// How often connections that may be silent for too long are looked at, in milliseconds.
-pub(crate) const SWEEP: u64 = 1_000;
-
 /// How often it is looked whether all threads run, and for so many milliseconds.
 const LOOKS: usize = 100;
 
@@ -41,12 +38,13 @@ const LOOK: u64 = 100;
 /// Where there was no memory to keep answers, it is tried again after so many milliseconds.
 const PAUSE: u64 = 100;
 
-/// What a worker begins with.
-#[derive(Drop)]
-pub(crate) struct Seat {
-    pub(crate) poll: Poll,
-    pub(crate) events: Events,
-    pub(crate) buffer: Vec<u8>,
+/// A part of a turn.
+#[derive(Clone, Copy)]
+enum Part {
+    /// What came is answered. Where nothing is kept, it is the whole turn.
+    First,
+    /// Replies are sent.
+    Last,
 }
 
 /// A worker with its connections, by their tokens.
@@ -71,7 +69,7 @@ pub(crate) struct Worker<'s, H: Hosting, V, A, K, C> {
     /// When it was told of events, where lines are timed.
     woke: Option<Instant>,
     /// When silent connections were looked for.
-    swept: Option<Instant>,
+    sweeps: Sweeps,
     /// Each connection has a place for its receipts.
     ghost room: { vec_len stubs + slab_len visits ≤ vec_capacity stubs },
 }
@@ -82,11 +80,11 @@ impl<'s, H: Hosting, V: Watch, A: Admission, K: Keeper, C: Clock> Worker<'s, H, 
         serving: &'s Serving<'s, H, V, A, K, C>,
         place: usize,
         limits: Limits,
-        poll: Poll,
-        buffer: Vec<u8>,
+        seat: Seat,
     ) -> Self
         ensures { result.stubs.items ≡ [] }
     {
+        let Seat { poll, buffer } = seat;
         Worker {
             serving,
             place,
@@ -100,7 +98,7 @@ impl<'s, H: Hosting, V: Watch, A: Admission, K: Keeper, C: Clock> Worker<'s, H, 
             stubs: Vec::new(serving.alloc),
             is_called: true,
             woke: None,
-            swept: None,
+            sweeps: Sweeps::none_yet(),
         }
     }
 
@@ -460,83 +458,30 @@ impl<'s, H: Hosting, V: Watch, A: Admission, K: Keeper, C: Clock> Worker<'s, H, 
         }
         let due = mem::replace(&mut self.due, Vec::new(self.serving.alloc));
         let all_due = mem::replace(&mut self.all_due, false);
-        self.take_in_due(rt, &due, all_due);
-        self.finish_due(rt, &due, all_due);
+        self.give_turn(rt, &due, all_due);
     }
 
-    /// What is left of a turn behind its first part, of those that are due or of all.
-    fn finish_due<T: Wait>(&mut self, rt: &T, due: &[usize], all_due: bool)
-        ensures gains { GainsClosed self.old.stubs.items self.new.stubs.items }
-        ensures sessions { KeepsSessions self.old.visits self.new.visits (λ v. v.value.connection.attached) self.old.stubs.items self.new.stubs.items }
-    {
-        if !self.serving.keeper.is_set() {
-            return;
-        }
-        if self.keep(rt) {
-            self.give_out_due(rt, due, all_due);
-        } else {
-            self.all_due = true;
-        }
-    }
-
-    /// The first part of a turn, of those that are due or of all. Where nothing is kept, it is the whole turn.
-    fn take_in_due<T: Wait>(&mut self, rt: &T, due: &[usize], all_due: bool)
-        ensures gains { GainsClosed self.old.stubs.items self.new.stubs.items }
-        ensures sessions { KeepsSessions self.old.visits self.new.visits (λ v. v.value.connection.attached) self.old.stubs.items self.new.stubs.items }
-    {
-        for key in due {
-            self.begin_turn(rt, *key);
-        }
-        if all_due {
-            self.take_in_all(rt);
-        }
-    }
-
-    fn take_in_all<T: Wait>(&mut self, rt: &T)
-        ensures gains { GainsClosed self.old.stubs.items self.new.stubs.items }
-        ensures sessions { KeepsSessions self.old.visits self.new.visits (λ v. v.value.connection.attached) self.old.stubs.items self.new.stubs.items }
-    {
-        for key in 0..self.visits.capacity() {
-            self.begin_turn(rt, key);
-        }
-    }
-
-    /// The last part of a turn, of those that are due or of all.
-    fn give_out_due<T: Wait>(&mut self, rt: &T, due: &[usize], all_due: bool)
-        ensures gains { GainsClosed self.old.stubs.items self.new.stubs.items }
-        ensures sessions { KeepsSessions self.old.visits self.new.visits (λ v. v.value.connection.attached) self.old.stubs.items self.new.stubs.items }
-    {
-        for key in due {
-            self.give_out(rt, *key);
-        }
-        if all_due {
-            self.give_out_all(rt);
-        }
-    }
-
-    fn give_out_all<T: Wait>(&mut self, rt: &T)
-        ensures gains { GainsClosed self.old.stubs.items self.new.stubs.items }
-        ensures sessions { KeepsSessions self.old.visits self.new.visits (λ v. v.value.connection.attached) self.old.stubs.items self.new.stubs.items }
-    {
-        for key in 0..self.visits.capacity() {
-            self.give_out(rt, key);
-        }
-    }
-
-    /// The whole turn of a connection, apart from those of others.
+    /// Gives a connection its turn apart from those of others.
     fn serve_apart<T: Wait>(&mut self, rt: &T, key: usize)
         ensures gains { GainsClosed self.old.stubs.items self.new.stubs.items }
         ensures sessions { KeepsSessions self.old.visits self.new.visits (λ v. v.value.connection.attached) self.old.stubs.items self.new.stubs.items }
     {
-        if !self.keep(rt) {
-            return;
+        if self.keep(rt) {
+            self.give_turn(rt, &[key], false);
         }
-        self.begin_turn(rt, key);
-        self.finish_apart(rt, key);
     }
 
-    /// What is left of a connection's turn behind its first part.
-    fn finish_apart<T: Wait>(&mut self, rt: &T, key: usize)
+    /// The turn of these connections, or of all.
+    fn give_turn<T: Wait>(&mut self, rt: &T, keys: &[usize], all: bool)
+        ensures gains { GainsClosed self.old.stubs.items self.new.stubs.items }
+        ensures sessions { KeepsSessions self.old.visits self.new.visits (λ v. v.value.connection.attached) self.old.stubs.items self.new.stubs.items }
+    {
+        self.do_part(rt, Part::First, keys, all);
+        self.finish(rt, keys, all);
+    }
+
+    /// What is left of their turn behind its first part.
+    fn finish<T: Wait>(&mut self, rt: &T, keys: &[usize], all: bool)
         ensures gains { GainsClosed self.old.stubs.items self.new.stubs.items }
         ensures sessions { KeepsSessions self.old.visits self.new.visits (λ v. v.value.connection.attached) self.old.stubs.items self.new.stubs.items }
     {
@@ -544,9 +489,41 @@ impl<'s, H: Hosting, V: Watch, A: Admission, K: Keeper, C: Clock> Worker<'s, H, 
             return;
         }
         if self.keep(rt) {
-            self.give_out(rt, key);
+            self.do_part(rt, Part::Last, keys, all);
         } else {
             self.all_due = true;
+        }
+    }
+
+    /// A part of the turn of these connections, or of all.
+    fn do_part<T: Wait>(&mut self, rt: &T, part: Part, keys: &[usize], all: bool)
+        ensures gains { GainsClosed self.old.stubs.items self.new.stubs.items }
+        ensures sessions { KeepsSessions self.old.visits self.new.visits (λ v. v.value.connection.attached) self.old.stubs.items self.new.stubs.items }
+    {
+        for key in keys {
+            self.do_part_of(rt, part, *key);
+        }
+        if all {
+            self.do_part_of_all(rt, part);
+        }
+    }
+
+    fn do_part_of_all<T: Wait>(&mut self, rt: &T, part: Part)
+        ensures gains { GainsClosed self.old.stubs.items self.new.stubs.items }
+        ensures sessions { KeepsSessions self.old.visits self.new.visits (λ v. v.value.connection.attached) self.old.stubs.items self.new.stubs.items }
+    {
+        for key in 0..self.visits.capacity() {
+            self.do_part_of(rt, part, key);
+        }
+    }
+
+    fn do_part_of<T: Wait>(&mut self, rt: &T, part: Part, key: usize)
+        ensures gains { GainsClosed self.old.stubs.items self.new.stubs.items }
+        ensures sessions { KeepsSessions self.old.visits self.new.visits (λ v. v.value.connection.attached) self.old.stubs.items self.new.stubs.items }
+    {
+        match part {
+            Part::First => self.begin_turn(rt, key),
+            Part::Last => self.give_out(rt, key),
         }
     }
 
@@ -648,13 +625,10 @@ impl<'s, H: Hosting, V: Watch, A: Admission, K: Keeper, C: Clock> Worker<'s, H, 
         ensures gains { GainsClosed self.old.stubs.items self.new.stubs.items }
         ensures sessions { KeepsSessions self.old.visits self.new.visits (λ v. v.value.connection.attached) self.old.stubs.items self.new.stubs.items }
     {
-        let Some(now) = self.now() else {
+        let now = self.now();
+        let Some(now) = self.sweeps.next(now) else {
             return;
         };
-        if !is_time(self.swept, now) {
-            return;
-        }
-        self.swept = Some(now);
         for key in 0..self.visits.capacity() {
             self.judge(rt, key, now);
         }
@@ -726,13 +700,5 @@ impl<'s, H: Hosting, V: Watch, A: Admission, K: Keeper, C: Clock> Worker<'s, H, 
         if let Some(stub) = visit.leave(rt, self.serving.watch, ending) {
             self.stubs.push_reserved(stub);
         }
-    }
-}
-
-/// Whether it is time to look for silent connections again.
-pub(crate) fn is_time(swept: Option<Instant>, now: Instant) -> bool {
-    match swept {
-        Some(swept) => now.duration_since(swept) >= Duration::from_millis(SWEEP),
-        None => true,
     }
 }

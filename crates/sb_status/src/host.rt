@@ -7,7 +7,7 @@ use crate::activity::{write_refusals, write_rollbacks, write_slowest, write_sums
 use crate::mark::Mark;
 use crate::page::Page;
 use crate::text::Escaping;
-use crate::view::{Activity, HostNumbers, TenantNumbers};
+use crate::view::{Activity, HostNumbers, HostView, TenantNumbers};
 use std::alloc::{AllocError, Global};
 
 const MINUTE: u64 = 60;
@@ -18,15 +18,15 @@ const DAY: u64 = 24 * HOUR;
 
 const KILOBYTE: u64 = 1024;
 
-/// The host's numbers, a row for each of these tenants, and what was counted.
-pub fn host_page(
-    alloc: Global,
-    host: HostNumbers<'_>,
-    activity: Activity<'_>,
-    tenants: &[TenantNumbers],
-) -> Result<Vec<u8>, AllocError>
+/// All that is shown of a server, as a page.
+pub fn host_page(alloc: Global, view: HostView<'_>) -> Result<Vec<u8>, AllocError>
     ensures { IfOk result (λ page. IsPage escaping.Html page.items) }
 {
+    let HostView {
+        host,
+        activity,
+        tenants,
+    } = view;
     let mut page = Page::new(alloc);
     page.mark(Mark::Head)?;
     write_facts(&mut page, host, activity)?;

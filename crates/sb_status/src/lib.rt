@@ -24,6 +24,7 @@ mod route;
 mod rule_rows;
 mod samples;
 mod shelf;
+mod spot;
 mod tenant;
 mod text;
 mod tracing;
@@ -47,7 +48,7 @@ pub use shelf::Shelf;
 pub use tenant::tenant_page;
 pub use text::Escaping;
 pub use view::{
-    Activity, Bucket, ColumnView, HostNumbers, Refused, Rollbacks, RuleView, RulesetView,
+    Activity, Bucket, ColumnView, HostNumbers, HostView, Refused, Rollbacks, RuleView, RulesetView,
     SessionState, SessionView, SlowView, TableView, TenantNumbers, TenantView, Times, TriggersView,
     WorkerNumbers,
 };

@@ -1,48 +1,15 @@
 //! The picture of a tenant's rules.
 
-use crate::graph::Graph;
-use crate::layers::{Layout, Place};
+use crate::layers::Layout;
 use crate::mark::Mark;
 use crate::nodes::Nodes;
 use crate::page::Page;
+use crate::spot::{Curve, HEIGHT, LETTER, Spot};
 use crate::view::{RuleView, TenantView};
 use std::alloc::{AllocError, Global};
 
 /// The most arrows that are drawn.
 const MOST_ARROWS: u64 = 4096;
-
-/// The sizes of the picture, in pixels.
-const MARGIN: u64 = 40;
-
-const GAP: u64 = 90;
-
-const ROW: u64 = 56;
-
-const HEIGHT: u64 = 30;
-
-const LETTER: u64 = 8;
-
-/// How far an arrow goes straight on before it bends.
-const BEND: u64 = 40;
-
-/// Where a node's box is.
-#[derive(Clone, Copy)]
-struct Spot {
-    place: Place,
-    left: u64,
-    right: u64,
-    top: u64,
-    middle: u64,
-}
-
-/// From where to where an arrow goes, and where its curve bends.
-#[derive(Clone, Copy)]
-struct Curve {
-    from: (u64, u64),
-    first: (u64, u64),
-    second: (u64, u64),
-    to: (u64, u64),
-}
 
 /// A picture that is being drawn.
 #[derive(Drop)]
@@ -89,9 +56,9 @@ fn begin(page: &mut Page<'_>, layout: &Layout, width: u64) -> Result<(), AllocEr
     let mut right: u64 = 0;
     let mut bottom: u64 = 0;
     for place in layout.places.as_slice() {
-        let spot = spot_of(*place, width);
-        right = right.max(spot.right.saturating_add(GAP));
-        bottom = bottom.max(spot.top.saturating_add(ROW));
+        let end = Spot::of(*place, width).end();
+        right = right.max(end.0);
+        bottom = bottom.max(end.1);
     }
     page.counts(&[
         (Mark::SvgWidth, right),
@@ -100,61 +67,6 @@ fn begin(page: &mut Page<'_>, layout: &Layout, width: u64) -> Result<(), AllocEr
         (Mark::Blank, bottom),
     ])?;
     page.mark(Mark::SvgHead)
-}
-
-fn spot_of(place: Place, width: u64) -> Spot {
-    let left = MARGIN.saturating_add(place.layer.saturating_mul(width.saturating_add(GAP)));
-    let top = MARGIN.saturating_add(place.row.saturating_mul(ROW));
-    Spot {
-        place,
-        left,
-        right: left.saturating_add(width),
-        top,
-        middle: top.saturating_add(HEIGHT / 2),
-    }
-}
-
-/// The way from one box to another.
-fn curve_of(from: Spot, to: Spot) -> Curve {
-    let layers = to.place.layer.saturating_sub(from.place.layer);
-    if layers > 0 {
-        // where it passes other layers it goes below their boxes
-        let fall = if layers > 1 { BEND } else { 0 };
-        return Curve {
-            from: (from.right, from.middle),
-            first: (
-                from.right.saturating_add(BEND),
-                from.middle.saturating_add(fall),
-            ),
-            second: (to.left.saturating_sub(BEND), to.middle.saturating_add(fall)),
-            to: (to.left, to.middle),
-        };
-    }
-    if from.place.layer == to.place.layer {
-        let rise = if from.place.row == to.place.row {
-            HEIGHT
-        } else {
-            0
-        };
-        return Curve {
-            from: (from.right, from.middle.saturating_sub(rise / 4)),
-            first: (
-                from.right.saturating_add(BEND),
-                from.middle.saturating_sub(rise),
-            ),
-            second: (
-                to.right.saturating_add(BEND),
-                to.middle.saturating_add(rise),
-            ),
-            to: (to.right, to.middle.saturating_add(rise / 4)),
-        };
-    }
-    Curve {
-        from: (from.left, from.middle),
-        first: (from.left.saturating_sub(BEND), from.middle),
-        second: (to.right.saturating_add(BEND), to.middle),
-        to: (to.right, to.middle),
-    }
 }
 
 impl<'d, 'v> Drawing<'d, 'v> {
@@ -189,7 +101,7 @@ impl<'d, 'v> Drawing<'d, 'v> {
         let (Some(start), Some(end)) = (places.get(from), places.get(to)) else {
             return Ok(());
         };
-        let curve = curve_of(spot_of(*start, self.width), spot_of(*end, self.width));
+        let curve = Curve::between(Spot::of(*start, self.width), Spot::of(*end, self.width));
         let mark = if is_order {
             Mark::OrderArrow
         } else if self.layout.reaches(to, from) {
@@ -216,7 +128,7 @@ impl<'d, 'v> Drawing<'d, 'v> {
     fn all_rules(&mut self, rules: &'v [RuleView]) -> Result<(), AllocError> {
         for (node, rule) in rules.iter().enumerate() {
             if let Some(place) = self.layout.places.as_slice().get(node) {
-                self.rule(spot_of(*place, self.width), rule)?;
+                self.rule(Spot::of(*place, self.width), rule)?;
             }
         }
         Ok(())
@@ -224,27 +136,29 @@ impl<'d, 'v> Drawing<'d, 'v> {
 
     /// The box of a rule with its name, and a word where it is on a cycle.
     fn rule(&mut self, spot: Spot, rule: &'v RuleView) -> Result<(), AllocError> {
-        let mark = match (spot.place.is_on_cycle, rule.is_active) {
+        let mark = match (spot.is_on_cycle(), rule.is_active) {
             (true, true) => Mark::CycleBox,
             (true, false) => Mark::InactiveCycleBox,
             (false, true) => Mark::RuleBox,
             (false, false) => Mark::InactiveBox,
         };
+        let (left, top) = spot.corner();
+        let name = spot.name();
         self.page.counts(&[
-            (mark, spot.left),
-            (Mark::BoxTop, spot.top),
+            (mark, left),
+            (Mark::BoxTop, top),
             (Mark::BoxWidth, self.width),
             (Mark::BoxHeight, HEIGHT),
-            (Mark::NameAt, spot.left.saturating_add(LETTER)),
-            (Mark::TextTop, spot.middle.saturating_add(5)),
+            (Mark::NameAt, name.0),
+            (Mark::TextTop, name.1),
         ])?;
         self.page.mark(Mark::TextBegin)?;
         self.page.text(rule.name.as_slice())?;
         self.page.mark(Mark::TextEnd)?;
-        if spot.place.is_on_cycle {
-            self.page
-                .count(Mark::WordAt, spot.left.saturating_add(LETTER))?;
-            self.page.count(Mark::TextTop, spot.top.saturating_sub(4))?;
+        if spot.is_on_cycle() {
+            let word = spot.word();
+            self.page.count(Mark::WordAt, word.0)?;
+            self.page.count(Mark::TextTop, word.1)?;
             self.page.mark(Mark::CycleWord)?;
         }
         Ok(())

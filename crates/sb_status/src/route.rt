@@ -55,11 +55,11 @@ fn route_behind(rest: &[u8]) -> Route
     ensures { NamesBehind rest.now result }
 {
     match rest.strip_suffix(DUMP) {
+        None => route_without(rest),
         Some(digits) => match number(digits) {
             Some(tenant) => Route::Dump(tenant),
             None => Route::Unknown,
         },
-        None => route_without(rest),
     }
 }
 

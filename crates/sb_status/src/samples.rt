@@ -7,7 +7,7 @@ use crate::counters::write_activity;
 use crate::mark::Mark;
 use crate::page::Page;
 use crate::text::Escaping;
-use crate::view::{Activity, HostNumbers, TenantNumbers};
+use crate::view::{HostNumbers, HostView, TenantNumbers};
 use std::alloc::{AllocError, Global};
 
 /// A number that each tenant has.
@@ -21,20 +21,15 @@ struct Family {
 /// How many numbers each tenant has.
 const FAMILIES: usize = 10;
 
-/// All samples, in the text format 0.0.4.
-pub fn metrics(
-    alloc: Global,
-    host: HostNumbers<'_>,
-    activity: Activity<'_>,
-    tenants: &[TenantNumbers],
-) -> Result<Vec<u8>, AllocError>
+/// All of it as samples, in the text format 0.0.4.
+pub fn metrics(alloc: Global, view: HostView<'_>) -> Result<Vec<u8>, AllocError>
     ensures { IfOk result (λ page. IsPage escaping.Label page.items) }
 {
     let mut page = Page::new(alloc);
-    write_host(&mut page, host)?;
-    write_activity(&mut page, activity)?;
+    write_host(&mut page, view.host)?;
+    write_activity(&mut page, view.activity)?;
     for place in 0..FAMILIES {
-        write_family(&mut page, place, tenants)?;
+        write_family(&mut page, place, view.tenants)?;
     }
     page.render(alloc, Escaping::Label)
 }

@@ -111,6 +111,14 @@ pub struct Activity<'a> {
     pub slowest: &'a [SlowView<'a>],
 }
 
+/// What is shown of a server: its numbers, what it has counted, and a row for each of these tenants.
+#[derive(Clone, Copy)]
+pub struct HostView<'a> {
+    pub host: HostNumbers<'a>,
+    pub activity: Activity<'a>,
+    pub tenants: &'a [TenantNumbers],
+}
+
 /// What a tenant is.
 #[derive(Drop)]
 pub struct TenantView {

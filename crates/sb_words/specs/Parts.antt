@@ -1,5 +1,5 @@
 -- Promise: the parts of a command line: their names, the commands that have them, and the ranges of numbers.
-use Rattle.std.specs.Prelude.{ℕ, Bool, true, false, List, [], ◌∷◌, Option, Some, None, codes}
+use Rattle.std.specs.Prelude.{ℕ, Bool, true, false, not, ◌||◌, List, [], ◌∷◌, Option, Some, None, codes}
 use Rattle.clap.specs.Words.{Text}
 use Rattle.sb_words.specs.Meanings.{meaning_of}
 use Rattle.sb_words.specs.declared.part.Part.{Part}
@@ -51,68 +51,59 @@ name_of Log = codes "log"
 name_of Slow = codes "slow"
 name_of UntilInputEnds = codes "until-input-ends"
 
--- commands on tenants
-abbrev pub has_tenants : Verb → Bool
-has_tenants Parse = false
-has_tenants Key = false
-has_tenants verb = true
-
-abbrev pub is_dump : Verb → Bool
-is_dump Dump = true
-is_dump verb = false
-
-abbrev pub is_compact : Verb → Bool
-is_compact Compact = true
-is_compact verb = false
-
-abbrev pub is_serve : Verb → Bool
-is_serve Serve = true
-is_serve verb = false
-
--- commands on a host
-abbrev pub has_host : Verb → Bool
-has_host Serve = true
-has_host Replay = true
-has_host verb = false
-
--- commands that may begin with files, or with a journal
-abbrev pub may_load : Verb → Bool
-may_load Run = true
-may_load Serve = true
-may_load verb = false
+-- whether two commands are the same
+abbrev pub same : Verb → Verb → Bool
+same Run Run = true
+same Serve Serve = true
+same Replay Replay = true
+same Parse Parse = true
+same Dump Dump = true
+same Compact Compact = true
+same Key Key = true
+same verb other = false
 
 -- whether a command has the part; what isn't named is a server's
 abbrev pub has : Part → Verb → Bool
 has Command verb = true
-has Old verb = is_compact verb
-has New verb = is_compact verb
-has Tenants verb = has_tenants verb
-has Bound verb = has_tenants verb
-has Tenant verb = is_dump verb
-has Into verb = is_dump verb
-has Load verb = may_load verb
-has Journal verb = may_load verb
-has Sync verb = may_load verb
-has Cells verb = has_host verb
-has Workers verb = has_host verb
-has option verb = is_serve verb
+has Old verb = same verb Compact
+has New verb = same verb Compact
+has Tenants verb = not (same verb Parse || same verb Key)
+has Bound verb = not (same verb Parse || same verb Key)
+has Tenant verb = same verb Dump
+has Into verb = same verb Dump
+has Load verb = same verb Run || same verb Serve
+has Journal verb = same verb Run || same verb Serve
+has Sync verb = same verb Run || same verb Serve
+has Cells verb = same verb Serve || same verb Replay
+has Workers verb = same verb Serve || same verb Replay
+has option verb = same verb Serve
 
 -- the numbers from the least to the most, and the usual one
 abbrev pub range : ℕ → ℕ → ℕ → Option Range
 range least most usual = Some (record { least = least; most = most; usual = usual })
+
+-- those of cells and workers, of ports, and of seconds without a line
+abbrev pub few : Option Range
+few = range 1 16 4
+
+abbrev pub ports : Option Range
+ports = range 0 65535 0
+
+abbrev pub idle_seconds : Option Range
+idle_seconds = range 0 86400 0
 
 -- which numbers an option may have, if it has one
 abbrev pub range_of : Part → Option Range
 range_of Tenant = range 0 255 0
 range_of Tenants = range 1 256 16
 range_of Bound = range 1 1000 1000
-range_of Cells = range 1 16 4
-range_of Workers = range 1 16 4
-range_of Port = range 0 65535 0
-range_of Status = range 0 65535 0
+range_of Cells = few
+range_of Workers = few
+range_of Port = ports
+range_of Status = ports
 range_of Connections = range 0 1000000 0
-range_of Idle = range 0 86400 0
-range_of IdleTransaction = range 0 86400 0
+range_of Idle = idle_seconds
+range_of IdleTransaction = idle_seconds
 range_of FirstTenant = range 0 999999000 0
 range_of TenantMemory = range 0 1048576 0
 range_of Slow = range 0 86400000 1000

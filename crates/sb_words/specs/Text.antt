@@ -9,12 +9,6 @@ use Rattle.hex.specs.Hex.{decode_sized}
 use Rattle.memchr.specs.Find.{is_byte}
 use Rattle.sb_words.specs.Keys.{Table, keys_limit, no_keys, with_key}
 
-abbrev pub newline : ℕ
-newline = 10
-
-abbrev pub space : ℕ
-space = 32
-
 -- a comment begins with it
 abbrev pub hash : ℕ
 hash = 35
@@ -52,6 +46,9 @@ holder_of word = if bytes_eq word (codes "status") then Some status_holder else 
 abbrev pub digest_of : List ℕ → Option (List ℕ)
 digest_of bytes = result_ok (decode_sized bytes 32)
 
+abbrev pub space : ℕ
+space = 32
+
 -- a holder, a space and a digest
 abbrev pub key_of : List ℕ → Option Key
 key_of bytes =
@@ -77,6 +74,9 @@ with_line table line = with_said table (said line)
 abbrev pub with_lines : Table → ℕ → List (List ℕ) → Result Table ℕ
 with_lines table n [] = Ok table
 with_lines table n (line ∷ lines) = option_map_or (λ more. with_lines more (n + 1) lines) (with_line table line) (Err (n + 1))
+
+abbrev pub newline : ℕ
+newline = 10
 
 -- of a text; its first line has the number 1
 abbrev pub keys_of : List ℕ → Result Table ℕ

@@ -201,8 +201,9 @@ fn serving_of(matches: &ArgMatches<'_>) -> Serving
     ensures is { result ≡ spec.serving_in (rows_of (found_of matches.now)) }
     ensures within { AreServer result }
 {
+    let hosting = hosting_of(matches);
     Serving {
-        hosting: hosting_of(matches),
+        hosting,
         port: number_at(matches, Part::Port),
         connections: number_at(matches, Part::Connections),
         idle: number_at(matches, Part::Idle),

@@ -27,7 +27,7 @@ pub loop-line-preserved : goal.loop-line-preserved
 loop-line-preserved g c =
     let so_far = c.loop-line.invariant in
     let same = c.step.ensures.steps.streams in
-    let fewer : length c.step.new.self.history.waiting < length c.loop-line.self-inside.machine.history.waiting = c.if-not-step.ensures.goes so_far.holds refl in
+    let fewer : length c.step.new.self.history.waiting < length c.loop-line.self-inside.machine.history.waiting = c.if-not-step.ensures.steps.goes so_far.holds refl in
     record {
       streams = (same.0 ∙ so_far.streams.0, same.1 ∙ so_far.streams.1, same.2 ∙ so_far.streams.2, same.3 ∙ so_far.streams.3);
       holds = c.step.ensures.steps.holds so_far.holds;

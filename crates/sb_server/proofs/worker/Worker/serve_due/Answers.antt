@@ -5,5 +5,4 @@ pub returns-clause-gains : goal.returns-clause-gains
 returns-clause-gains g c =
     let old = c.args.self.now.stubs.items in
     let kept = c.keep.new.self.stubs.items in
-    let begun = c.take_in_due.new.self.stubs.items in
-    gains_then old begun c.finish_due.new.self.stubs.items (gains_then old kept begun (gains_nothing old kept c.keep.ensures.others.0) c.take_in_due.ensures.gains) c.finish_due.ensures.gains
+    gains_then old kept c.give_turn.new.self.stubs.items (gains_nothing old kept c.keep.ensures.others.0) c.give_turn.ensures.gains

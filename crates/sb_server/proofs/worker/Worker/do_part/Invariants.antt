@@ -1,6 +1,6 @@
 use Rattle.sb_server.specs.Closed.{GainsClosed}
 use Rattle.sb_server.specs.Sessions.{KeepsSessions}
-use Rattle.sb_server.proofs.worker.Worker.take_in_due.Given as goal
+use Rattle.sb_server.proofs.worker.Worker.do_part.Given as goal
 
 abbrev pub invariant-loop-key : goal.invariant-loop-key
 invariant-loop-key g l =

@@ -1,8 +1,0 @@
-use Rattle.sb_server.proofs.Gains.{gains_nothing, gains_then}
-use Rattle.sb_server.proofs.worker.Worker.finish_apart.Goals as goal
-
-pub returns-then-keep-clause-gains : goal.returns-then-keep-clause-gains
-returns-then-keep-clause-gains g c =
-    let old = c.args.self.now.stubs.items in
-    let kept = c.keep.new.self.stubs.items in
-    gains_then old kept c.give_out.new.self.stubs.items (gains_nothing old kept c.keep.ensures.others.0) c.give_out.ensures.gains

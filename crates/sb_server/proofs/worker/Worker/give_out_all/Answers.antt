@@ -1,9 +1,0 @@
-use Rattle.std.proofs.Common.{arith}
-use Rattle.sb_server.proofs.Gains.{gains_then}
-use Rattle.sb_server.proofs.worker.Worker.give_out_all.Goals as goal
-
-pub loop-key-preserved : goal.loop-key-preserved
-loop-key-preserved g c = (
-  gains_then c.args.self.now.stubs.items c.loop-key.self.stubs.items c.give_out.new.self.stubs.items c.loop-key.invariant.0 c.give_out.ensures.gains,
-  omega arith,
-)

@@ -1,8 +1,0 @@
-use Rattle.sb_server.specs.Closed.{GainsClosed}
-use Rattle.sb_server.specs.Sessions.{KeepsSessions}
-use Rattle.sb_server.proofs.worker.Worker.give_out_due.Given as goal
-
-abbrev pub invariant-loop-key : goal.invariant-loop-key
-invariant-loop-key g l =
-    GainsClosed l.fn.self.stubs.items l.self.stubs.items
-    × KeepsSessions l.fn.self.visits l.self.visits (λ v. v.value.connection.attached) l.fn.self.stubs.items l.self.stubs.items
