@@ -76,18 +76,8 @@ survives_then old mid step same makes steps n head file s = record {
 }
 
 survives_fewer : (cell : Cell) (steps : List Step) (m n : ℕ) (head : Head) (file : List ℕ) → m ≤ n → Survives cell steps n head file → Survives cell steps m head file
-survives_fewer cell steps m n head file few s = record {
-  first = s.first;
-  more = s.more;
-  split = s.split;
-  enough = omega (arith, few, s.enough);
-  between = s.between;
-  run = s.run;
-  records = s.records;
-  are = s.are;
-  keeps = s.keeps;
-  states = s.states;
-}
+survives_fewer cell steps m n head file few s =
+    record { first = s.first; more = s.more; split = s.split; enough = omega (arith, few, s.enough); between = s.between; run = s.run; records = s.records; are = s.are; keeps = s.keeps; states = s.states }
 
 -- ---- line by line
 
@@ -228,23 +218,8 @@ module _ {D : Type 0} {g : Ghosts D} (seen : D → List ℕ) (may_leave : D → 
   pub runs : (old new : Cell × Recording D g) (pieces : List Piece) (h0 h1 : Option (List ℕ)) (left : List ℕ) → AnswersLines (Responds seen may_leave) (λ s. is_some s.1.fault) old h0 [] pieces new h1 left → Kept seen may_leave new
       → (r : RunsRecorded old.0 new.0 pieces h0 h1 left (λ head. Tells seen may_leave old.1.journal head old.0) (may_leave (disk_of new.1.journal))) × (is_some new.1.fault ≡ false → (r.untold ≡ []) × (r.unanswered ≡ []))
   runs old new pieces h0 h1 left lines kept =
-      let all = goes seen may_leave old pieces lines.text new lines.answered kept in (
-        record {
-          told = all.told;
-          untold = all.untold;
-          split = all.split;
-          responses = all.responses;
-          answers = all.answers;
-          written = lines.written;
-          whole = all.text_is ∙ lines.whole;
-          appends = lines.appends;
-          unanswered = all.unanswered;
-          few = all.few;
-          run = all.run;
-          survives = all.survives;
-        },
-        all.whole,
-      )
+      let all = goes seen may_leave old pieces lines.text new lines.answered kept in
+      (record { told = all.told; untold = all.untold; split = all.split; responses = all.responses; answers = all.answers; written = lines.written; whole = all.text_is ∙ lines.whole; appends = lines.appends; unanswered = all.unanswered; few = all.few; run = all.run; survives = all.survives }, all.whole)
 
 -- all of an input is answered where nothing is left, and no step failed
 pub answers_all : (old new : Cell) (pieces : List Piece) (h0 h1 : Option (List ℕ)) (left : List ℕ) (told_by : Head → Type 0) (crash : List ℕ → Type 0) (r : RunsRecorded old new pieces h0 h1 left told_by crash) (input : List ℕ)

@@ -1,6 +1,6 @@
 //! Why a journal doesn't go on.
 ghost use Rattle.std.specs.Prelude.{◌≡◌};
-ghost use Rattle.sb_durable.specs.declared.error.JournalError.TheVariants.{Device, Memory};
+ghost use Rattle.sb_durable.specs.declared.error.JournalError.TheVariants as reason;
 
 use std::alloc::{AllocError, AllocFailed};
 use std::io;
@@ -25,7 +25,7 @@ pub enum JournalError {
 }
 
 impl From<io::Error> for JournalError {
-    ghost from_gives = { λ error e. e ≡ Device error };
+    ghost from_gives = { λ error e. e ≡ reason.Device error };
 
     fn from(error: io::Error) -> Self {
         JournalError::Device(error)
@@ -33,7 +33,7 @@ impl From<io::Error> for JournalError {
 }
 
 impl From<AllocError> for JournalError {
-    ghost from_gives = { λ _ e. e ≡ Memory };
+    ghost from_gives = { λ _ e. e ≡ reason.Memory };
 
     fn from(_: AllocError) -> Self {
         JournalError::Memory
@@ -41,7 +41,7 @@ impl From<AllocError> for JournalError {
 }
 
 impl<T: Drop> From<AllocFailed<T>> for JournalError {
-    ghost from_gives = { λ _ e. e ≡ Memory };
+    ghost from_gives = { λ _ e. e ≡ reason.Memory };
 
     fn from(_: AllocFailed<T>) -> Self {
         JournalError::Memory

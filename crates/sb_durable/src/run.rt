@@ -4,7 +4,6 @@ ghost use Rattle.std.specs.Io.KnownBytes.{Appends, Consumes};
 ghost use Rattle.sb_cell.specs.Tenants.{AnswersEvent, IsSame};
 ghost use Rattle.sb_durable.specs.Journal.{disk_of};
 ghost use Rattle.sb_wire.specs.Lines.{Piece as ItsPiece};
-ghost use Rattle.sb_wire.specs.Output.{text_behind};
 ghost use Rattle.sb_wire.specs.Responses.{StopsBy};
 ghost use Rattle.sb_wire.specs.Seen.{addressed_seen};
 ghost use Rattle.sb_wire.specs.Stream.{IsSeenInTime, MayFail, OnWriteFault};
@@ -19,7 +18,7 @@ use sb_tenant::{Answer, Reply};
 use sb_value::Refusal;
 use sb_wire::{
     Addressed, Piece, Prefix, Responder, Sink, Source, StreamError, WireRefusal, answer_stream,
-    write_refusal, write_reply,
+    write_answer, write_refusal,
 };
 use std::alloc::{AllocError, Global};
 
@@ -195,22 +194,5 @@ fn answer_line<D: Disk>(
             recording.fault = Some(error);
             Ok(())
         }
-    }
-}
-
-/// Writes what a step was answered.
-fn write_answer(
-    out: &mut Vec<u8>,
-    prefix: &Prefix,
-    given: &Result<Answer, StepError>,
-) -> Result<(), AllocError>
-    ensures ok { OnOk result (out.new.items ≡ out.old.items ++ text_behind prefix.now given.now) }
-    ensures err { OnErr result (out.new.items ≡ out.old.items) }
-{
-    match given {
-        Ok(answer) => write_reply(out, prefix, &answer.reply),
-        Err(StepError::NoTenant) => write_refusal(out, prefix, WireRefusal::NoTenant),
-        Err(StepError::NoSession) => write_refusal(out, prefix, WireRefusal::NoSession),
-        Err(StepError::NotBegun) => write_refusal(out, prefix, WireRefusal::NotBegun),
     }
 }

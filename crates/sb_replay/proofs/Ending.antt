@@ -1,7 +1,7 @@
 -- What closed sessions leave, gathered by session.
 use Rattle.std.proofs.Common.{◌≡◌, ℕ, ◌+◌, ◌<◌, ◌≤◌, ◌==◌, ◌&&◌, Bool, true, false, cond, List, [], ◌∷◌, ◌++◌, Option, Some, None, refl, sym, ap, ◌∙◌, subst, append_assoc, append-nil, eq-eqb, eqb-true, arith, Vec}
 use Rattle.std.specs.Global.{Global}
-use Rattle.std.proofs.lemmas.Bool.{and_parts, true≢false}
+use Rattle.std.proofs.lemmas.Bool.{and_parts}
 use Rattle.sb_desk.specs.declared.receipts.Receipt.{Receipt}
 use Rattle.sb_desk.specs.Receipts.{newcomer}
 use Rattle.sb_desk.specs.Calls.{Calls, Session, shown}
@@ -20,12 +20,7 @@ use Rattle.sb_replay.proofs.Playing.{Finished, Reaches}
 -- ---- the receipts of one stub
 
 own_receipts : (t s : ℕ) (x : Stub) → x.tenant ≡ t → x.session ≡ s → receipts_in t s x ≡ x.receipts.items
-own_receipts t s x e f = by (x.tenant == t) (x.session == s) (eq-eqb x.tenant t e) (eq-eqb x.session s f)
-  where
-    by : (a b : Bool) → a ≡ true → b ≡ true → cond (a && b) x.receipts.items [] ≡ x.receipts.items
-    by true true h k = refl
-    by true false h k = absurd (true≢false (sym k))
-    by false b h k = absurd (true≢false (sym h))
+own_receipts t s x e f = rw (eq-eqb x.tenant t e, eq-eqb x.session s f) refl
 
 no_receipts : (t s : ℕ) (x : Stub) → ((x.tenant ≡ t) × (x.session ≡ s) → ⊥) → receipts_in t s x ≡ []
 no_receipts t s x h = by ((x.tenant == t) && (x.session == s)) (λ e. let p = and_parts (x.tenant == t) (x.session == s) e in h (eqb-true _ _ p.0, eqb-true _ _ p.1))
@@ -101,46 +96,37 @@ apart : (j k : ℕ) → (j ≡ k → ⊥) → (tenant_at k ≡ tenant_at j) × (
 apart j k other same = other (omega (arith, same.0, same.1))
 
 module _ {N : Type 0} where
-  -- a session before these parts has no receipts in their stubs
-  earlier : (j k : ℕ) (rows : List (Vec (Vec ℕ Global) Global)) (parts : List (Part N)) (sheets : List Sheet) (stubs : List Stub)
-      → j < k → AllFrom Finished k rows parts → AllCut Closes parts sheets stubs → gathered (tenant_at j) (session_at j) stubs ≡ []
-  earlier j k [] [] [] stubs below finished none = ap (gathered (tenant_at j) (session_at j)) none
-  earlier j k [] [] (sheet ∷ sheets) stubs below finished closes = absurd closes
-  earlier j k [] (part ∷ parts) sheets stubs below finished closes = absurd finished
-  earlier j k (row ∷ rows) [] sheets stubs below finished closes = absurd finished
-  earlier j k (row ∷ rows) (part ∷ parts) [] stubs below finished closes = absurd closes
-  earlier j k (row ∷ rows) (part ∷ parts) (sheet ∷ sheets) stubs below finished (own, rest, cut, (is, close), closes) =
-      let t = tenant_at j in
-      let s = session_at j in
-      let here : gathered t s own ≡ [] =
-      elsewhere (tenant_at k) (session_at k) (lines_of row.items) part.session part.sheet own finished.0.0 close t s (apart j k (λ e. omega (arith, e, below))) in
-      let behind : gathered t s rest ≡ [] = earlier j (k + 1) rows parts sheets rest (omega (arith, below)) finished.1 closes in
-      ap (gathered t s) cut ∙ gathered-append t s own rest ∙ ap (λ (l : List Receipt). l ++ gathered t s rest) here ∙ behind
-
-  -- each session was attended; `all` are the receipts of each rank
-  pub all_attended : (all : ℕ → List Receipt) (k : ℕ) (rows : List (Vec (Vec ℕ Global) Global)) (parts : List (Part N)) (sheets : List Sheet) (stubs : List Stub)
+  -- each session was attended, and one before these has no receipts in their stubs; `all` are the receipts of each rank
+  attended_from : (all : ℕ → List Receipt) (k : ℕ) (rows : List (Vec (Vec ℕ Global) Global)) (parts : List (Part N)) (sheets : List Sheet) (stubs : List Stub)
       → ((j : ℕ) → k ≤ j → all j ≡ gathered (tenant_at j) (session_at j) stubs)
       → AllFrom Finished k rows parts → AllCut Closes parts sheets stubs
-      → AllFrom (AttendedAt all) k rows sheets
-  all_attended all k [] [] [] stubs are finished closes = tt
-  all_attended all k [] [] (sheet ∷ sheets) stubs are finished closes = absurd closes
-  all_attended all k [] (part ∷ parts) sheets stubs are finished closes = absurd finished
-  all_attended all k (row ∷ rows) [] sheets stubs are finished closes = absurd finished
-  all_attended all k (row ∷ rows) (part ∷ parts) [] stubs are finished closes = absurd closes
-  all_attended all k (row ∷ rows) (part ∷ parts) (sheet ∷ sheets) stubs are finished (own, rest, cut, (is, close), closes) =
+      → AllFrom (AttendedAt all) k rows sheets × ((j : ℕ) → j < k → gathered (tenant_at j) (session_at j) stubs ≡ [])
+  attended_from all k [] [] [] stubs are finished none = (tt, λ j below. ap (gathered (tenant_at j) (session_at j)) none)
+  attended_from all k [] [] (sheet ∷ sheets) stubs are finished closes = absurd closes
+  attended_from all k [] (part ∷ parts) sheets stubs are finished closes = absurd finished
+  attended_from all k (row ∷ rows) [] sheets stubs are finished closes = absurd finished
+  attended_from all k (row ∷ rows) (part ∷ parts) [] stubs are finished closes = absurd closes
+  attended_from all k (row ∷ rows) (part ∷ parts) (sheet ∷ sheets) stubs are finished (own, rest, cut, (is, close), closes) =
       let t = tenant_at k in
       let s = session_at k in
-      let behind : gathered t s rest ≡ [] = earlier k (k + 1) rows parts sheets rest (omega arith) finished.1 closes in
+      let past : (j : ℕ) → (j ≡ k → ⊥) → gathered (tenant_at j) (session_at j) stubs ≡ gathered (tenant_at j) (session_at j) rest =
+      λ j other.
+      let u = tenant_at j in
+      let r = session_at j in
+      let away : gathered u r own ≡ [] = elsewhere t s (lines_of row.items) part.session part.sheet own finished.0.0 close u r (apart j k other) in
+      ap (gathered u r) cut ∙ gathered-append u r own rest ∙ ap (λ (l : List Receipt). l ++ gathered u r rest) away in
+      let others : AllFrom (AttendedAt all) (k + 1) rows sheets × ((j : ℕ) → j < k + 1 → gathered (tenant_at j) (session_at j) rest ≡ []) =
+      attended_from all (k + 1) rows parts sheets rest (λ j above. are j (omega (arith, above)) ∙ past j (λ e. omega (arith, e, above))) finished.1 closes in
+      let behind : gathered t s rest ≡ [] = others.1 k (omega arith) in
       let mine : all k ≡ gathered t s own =
       are k (omega arith) ∙ ap (gathered t s) cut ∙ gathered-append t s own rest ∙ ap (λ (l : List Receipt). gathered t s own ++ l) behind ∙ append-nil (gathered t s own) in
       let done : Attended t s (lines_of row.items) (gathered t s own) part.sheet = attended t s (lines_of row.items) part.session part.sheet own finished.0.0 finished.0.1 close in (
-        subst (λ (x : Sheet). Attended t s (lines_of row.items) (all k) x) (sym is) (subst (λ (l : List Receipt). Attended t s (lines_of row.items) l part.sheet) (sym mine) done),
-        all_attended all (k + 1) rows parts sheets rest
-            (λ j above.
-            let u = tenant_at j in
-            let r = session_at j in
-            let away : gathered u r own ≡ [] =
-            elsewhere t s (lines_of row.items) part.session part.sheet own finished.0.0 close u r (apart j k (λ e. omega (arith, e, above))) in
-            are j (omega (arith, above)) ∙ ap (gathered u r) cut ∙ gathered-append u r own rest ∙ ap (λ (l : List Receipt). l ++ gathered u r rest) away)
-            finished.1 closes,
+        (subst (λ (x : Sheet). Attended t s (lines_of row.items) (all k) x) (sym is) (subst (λ (l : List Receipt). Attended t s (lines_of row.items) l part.sheet) (sym mine) done), others.0),
+        λ j below. past j (λ e. omega (arith, e, below)) ∙ others.1 j (omega (arith, below)),
       )
+
+  -- from the first one on
+  pub all_attended : (all : ℕ → List Receipt) (rows : List (Vec (Vec ℕ Global) Global)) (parts : List (Part N)) (sheets : List Sheet) (stubs : List Stub)
+      → ((j : ℕ) → all j ≡ gathered (tenant_at j) (session_at j) stubs)
+      → AllFrom Finished 0 rows parts → AllCut Closes parts sheets stubs → AllFrom (AttendedAt all) 0 rows sheets
+  all_attended all rows parts sheets stubs are finished closes = (attended_from all 0 rows parts sheets stubs (λ j above. are j) finished closes).0

@@ -45,17 +45,9 @@ module _ (tenants : ℕ) where
       ∙ sym (map-append Some asks (a ∷ []))
 
   bad_more : (ps : List Piece) (p : Piece) (n : ℕ) (why : WireRefusal) → IsFirstBad tenants ps n why → IsFirstBad tenants (ps ++ p ∷ []) n why
-  bad_more ps p n why b = record {
-    good = b.good;
-    asks = b.asks;
-    are_good = b.are_good;
-    bad = b.bad;
-    is_bad = b.is_bad;
-    reason = b.reason;
-    behind = b.behind ++ p ∷ [];
-    are = ap (λ (l : List Piece). l ++ p ∷ []) b.are ∙ append_assoc b.good (b.bad ∷ b.behind) (p ∷ []);
-    number = b.number;
-  }
+  bad_more ps p n why b =
+      let are : ps ++ p ∷ [] ≡ b.good ++ b.bad ∷ (b.behind ++ p ∷ []) = ap (λ (l : List Piece). l ++ p ∷ []) b.are ∙ append_assoc b.good (b.bad ∷ b.behind) (p ∷ []) in
+      record { good = b.good; asks = b.asks; are_good = b.are_good; bad = b.bad; is_bad = b.is_bad; reason = b.reason; behind = b.behind ++ p ∷ []; are = are; number = b.number }
 
   taken : (ps : List Piece) (p : Piece) (old new : Script) (n : ℕ) (q : Progress) → old.tenants ≡ tenants → Gathers ps old (Going n) → TakesBy old n p q new → Gathers (ps ++ p ∷ []) new q
   taken ps p old new n (Going m) same (asks, are, count, rows) (a, is, next, adds) = (

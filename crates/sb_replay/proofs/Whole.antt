@@ -33,7 +33,7 @@ plays_through rounds rows parts sheets stubs few opens (last, moves, closes) =
     let P : Vec (Vec ℕ Global) Global → Type 0 = λ row. length row.items ≤ rounds in
     let finished : AllFrom Finished 0 rows last =
     then_zip P Opens (MovesIn rounds) Finished (λ k row old new within opened on. plays_all rounds k row old new within opened on) 0 rows parts last (recursion_from_All P rows few) opens moves in
-    all_attended (λ j. gathered (tenant_at j) (session_at j) stubs) 0 rows last sheets stubs (λ j _. refl) finished closes
+    all_attended (λ j. gathered (tenant_at j) (session_at j) stubs) rows last sheets stubs (λ j. refl) finished closes
 
 -- ---- one session
 

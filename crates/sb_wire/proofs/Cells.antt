@@ -8,8 +8,8 @@ use Rattle.sb_wire.specs.Lines.{Piece, pieces_of}
 use Rattle.sb_wire.specs.Output.{AreAnswers, IsOutput}
 use Rattle.sb_wire.specs.Apart.{RunsApart}
 use Rattle.sb_wire.specs.Counts.{Counts}
-use Rattle.sb_wire.specs.Responses.{AnswersStream, AreAnswered, StopsBy}
-use Rattle.sb_wire.specs.Stream.{states, AnswersCounted, AnswersInput, AnswersPieces, EndsBy, Streams}
+use Rattle.sb_wire.specs.Responses.{AnswersLines, AnswersStream, AreAnswered, StopsBy}
+use Rattle.sb_wire.specs.Stream.{states, AnswersCounted, AnswersInput, AnswersPieces, EndsBy, Replies, Streams}
 use Rattle.sb_wire.specs.declared.fault.StreamError.{StreamError}
 use Rattle.sb_wire.specs.declared.fault.StreamError.TheVariants.{ReadFault, WriteFault, NoMemory}
 use Rattle.sb_wire.specs.declared.summary.Summary.{Summary}
@@ -50,6 +50,13 @@ told old new (p ∷ ps) text (first, rest, mid, is, going, (r, said, own, same, 
       subst (λ (t : List ℕ). Counts (p ∷ ps) t old.1 new.1) (sym is) (counts-then (p ∷ []) ps first rest old.1 mid.1 new.1 count next.1),
     )
 
+-- and so they are where a first part of the text is written
+replied : (old new : Counted) (held holds : Option (List ℕ)) (waiting left : List ℕ) (ps : List Piece) (lines : AnswersLines AnswersCounted goes_on old held waiting ps new holds left)
+    → (r : Replies old.0 held waiting ps new.0 holds left) × Counts ps r.text old.1 new.1
+replied old new held holds waiting left ps lines =
+    let all = told old new ps lines.text lines.answered in
+    (record { text = lines.text; answered = all.0; written = lines.written; whole = lines.whole; appends = lines.appends }, all.1)
+
 module _ {R : Type 0} (fails : R → Type 0) (remaining : R → Option (List ℕ)) (reader : R) where
   stops : (seen : List ℕ) (pieces : List Piece) (left : List ℕ) (r : Result (Unit {0}) StreamError) → StopsBy fails remaining reader false seen pieces left r → EndsBy fails remaining reader seen pieces left r
   stops seen pieces left (Ok x) (none, inl (over, first)) = absurd (false≢true over)
@@ -62,18 +69,8 @@ module _ {R : Type 0} (fails : R → Type 0) (remaining : R → Option (List ℕ
     pub cell-stream : (s : AnswersStream AnswersCounted goes_on old input h0 new (remaining reader) h2) → StopsBy fails remaining reader false s.seen s.pieces s.left r
         → (t : Streams old.0 input h0 new.0 (remaining reader) h2) × EndsBy fails remaining reader t.seen t.pieces t.left r × Counts t.pieces t.replies.text old.1 new.1
     cell-stream s end =
-        let all = told old new s.pieces s.lines.text s.lines.answered in (
-          record {
-            seen = s.seen;
-            reads = s.reads;
-            in_time = s.in_time;
-            pieces = s.pieces;
-            left = s.left;
-            replies = record { text = s.lines.text; answered = all.0; written = s.lines.written; whole = s.lines.whole; appends = s.lines.appends };
-          },
-          stops s.seen s.pieces s.left r end,
-          all.1,
-        )
+        let all = replied old new h0 h2 [] s.left s.pieces s.lines in
+        (record { seen = s.seen; reads = s.reads; in_time = s.in_time; pieces = s.pieces; left = s.left; replies = all.0 }, stops s.seen s.pieces s.left r end, all.1)
 
 -- what it says where all went well
 pub stream-ok : {R : Type 0} (fails : R → Type 0) (remaining : R → Option (List ℕ)) (reader : R) (a c : Cell) (input h0 h2 : Option (List ℕ)) (r : Result (Unit {0}) StreamError) (s : Streams a input h0 c (remaining reader) h2)

@@ -21,28 +21,20 @@ pieces_seen (Some piece) = piece_seen piece ∷ []
 abbrev pub addressed_seen : Addressed → ItsAddressed
 addressed_seen a = record { tenant = a.tenant; session = a.session; command = a.command.now }
 
--- the number of a refusal, and its name
+-- the number of a refusal, its name, and the line that refuses
+abbrev pub wire_told : WireRefusal → ℕ × List ℕ × List ℕ
+wire_told refusal.TooLong = (11, codes "TooLong", codes "no 11 TooLong")
+wire_told refusal.BadLine = (12, codes "BadLine", codes "no 12 BadLine")
+wire_told refusal.NoTenant = (13, codes "NoTenant", codes "no 13 NoTenant")
+wire_told refusal.NoSession = (14, codes "NoSession", codes "no 14 NoSession")
+wire_told refusal.BadKey = (15, codes "BadKey", codes "no 15 BadKey")
+wire_told refusal.NotBegun = (92, codes "NotBegun", codes "no 92 NotBegun")
+
 abbrev pub wire_number : WireRefusal → ℕ
-wire_number refusal.TooLong = 11
-wire_number refusal.BadLine = 12
-wire_number refusal.NoTenant = 13
-wire_number refusal.NoSession = 14
-wire_number refusal.BadKey = 15
-wire_number refusal.NotBegun = 92
+wire_number r = (wire_told r).0
 
 abbrev pub wire_name : WireRefusal → List ℕ
-wire_name refusal.TooLong = codes "TooLong"
-wire_name refusal.BadLine = codes "BadLine"
-wire_name refusal.NoTenant = codes "NoTenant"
-wire_name refusal.NoSession = codes "NoSession"
-wire_name refusal.BadKey = codes "BadKey"
-wire_name refusal.NotBegun = codes "NotBegun"
+wire_name r = (wire_told r).1
 
--- the line that refuses
 abbrev pub refusal_line : WireRefusal → List ℕ
-refusal_line refusal.TooLong = codes "no 11 TooLong"
-refusal_line refusal.BadLine = codes "no 12 BadLine"
-refusal_line refusal.NoTenant = codes "no 13 NoTenant"
-refusal_line refusal.NoSession = codes "no 14 NoSession"
-refusal_line refusal.BadKey = codes "no 15 BadKey"
-refusal_line refusal.NotBegun = codes "no 92 NotBegun"
+refusal_line r = (wire_told r).2

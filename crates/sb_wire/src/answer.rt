@@ -32,7 +32,7 @@ pub(crate) fn answer_piece(
     match piece {
         Piece::TooLong => refuse_line(out, summary, WireRefusal::TooLong),
         Piece::Line(line) => match Addressed::split(line) {
-            Some(addressed) => answer_line(alloc, cell, addressed, out, summary),
+            Some(addressed) => answer_line(alloc, addressed, cell, out, summary),
             None => refuse_line(out, summary, WireRefusal::BadLine),
         },
     }
@@ -57,8 +57,8 @@ fn refuse_line(
 /// Makes the step of an addressed line, and writes its answer.
 fn answer_line(
     alloc: Global,
-    cell: &mut Cell,
     line: Addressed<'_>,
+    cell: &mut Cell,
     out: &mut Vec<u8>,
     summary: &mut Summary,
 ) -> Result<(), AllocError>
@@ -74,8 +74,8 @@ fn answer_line(
     write_answer(out, &Prefix::new(line.tenant, line.session), &given)
 }
 
-/// Writes what a step was answered.
-fn write_answer(
+/// Adds the text that a step was answered with, each line with the prefix: its reply, or why it wasn't made.
+pub fn write_answer(
     out: &mut Vec<u8>,
     prefix: &Prefix,
     given: &Result<Answer, StepError>,

@@ -45,7 +45,7 @@ pub fn write_refusal(
         out.old.items ++ prefixed prefix.now (refusal_line refusal ∷ [])) }
     ensures err { OnErr result (out.new.items ≡ out.old.items) }
 {
-    push_whole_line(out, prefix.start(), refusal.text().as_bytes())
+    push_line(out, prefix.start(), refusal.text().as_bytes())
 }
 
 /// Adds the line of a refusal.
@@ -54,7 +54,7 @@ pub fn write_bare_refusal(out: &mut Vec<u8>, refusal: WireRefusal) -> Result<(),
         out.old.items ++ ended_lines (refusal_line refusal ∷ [])) }
     ensures err { OnErr result (out.new.items ≡ out.old.items) }
 {
-    push_whole_line(out, &[], refusal.text().as_bytes())
+    push_line(out, &[], refusal.text().as_bytes())
 }
 
 /// Adds all lines, or nothing.
@@ -65,20 +65,6 @@ fn push_whole_reply(out: &mut Vec<u8>, start: &[u8], reply: &Reply) -> Result<()
 {
     let before = out.len();
     let pushed = push_reply(out, start, reply);
-    if pushed.is_err() {
-        out.truncate(before);
-    }
-    pushed
-}
-
-/// Adds the line, or nothing.
-fn push_whole_line(out: &mut Vec<u8>, start: &[u8], line: &[u8]) -> Result<(), AllocError>
-    ensures ok { OnOk result (out.new.items ≡
-        out.old.items ++ started_lines start.now (line.now ∷ [])) }
-    ensures err { OnErr result (out.new.items ≡ out.old.items) }
-{
-    let before = out.len();
-    let pushed = push_line(out, start, line);
     if pushed.is_err() {
         out.truncate(before);
     }

@@ -53,17 +53,10 @@ pub fn answer_stream<S, T, A: Responder<S, T>, R: Source, W: Sink>(
     for _read in 0..MOST_READS {
         let count = read_piece(reader, buffer.as_mut_slice())?;
         if count == 0 {
-            return answer_last(
-                &pending.lines,
-                writer,
-                responder,
-                first,
-                second,
-                &mut pending.out,
-            );
+            return answer_last(&mut pending, responder, first, second, writer);
         }
         let bytes = &buffer.as_slice()[..count];
-        answer_bytes(bytes, &mut pending, writer, responder, first, second)?;
+        answer_bytes(bytes, responder, first, second, &mut pending, writer)?;
         if responder.is_over(first, second) {
             return Ok(());
         }
@@ -82,47 +75,43 @@ fn read_piece<R: Source>(reader: &mut R, buf: &mut [u8]) -> Result<usize, Stream
     loop {
         match reader.read_some(buf) {
             Ok(count) => return Ok(count),
-            Err(error) => {
-                if !tries.again(&error) {
-                    return Err(StreamError::ReadFault);
-                }
-            }
+            Err(error) if tries.again(&error) => {}
+            Err(_) => return Err(StreamError::ReadFault),
         }
     }
 }
 
 /// Answers the line that stands open at the end.
 fn answer_last<S, T, A: Responder<S, T>, W: Sink>(
-    lines: &Lines,
-    writer: &mut W,
+    pending: &mut Pending,
     responder: &A,
     first: &mut S,
     second: &mut T,
-    out: &mut Vec<u8>,
+    writer: &mut W,
 ) -> Result<(), StreamError>
     requires { A.over (first.old, second.old) ≡ false }
-    ensures replies { (left : List ℕ)
-        × AnswersLines (A.responds responder.now) A.over (first.old, second.old) (W.contents writer.old) out.old.items
-        (last_piece lines.now) (first.new, second.new) (W.contents writer.new) left
-        × OnOk result (left ≡ []) }
     ensures refused { OnWriteFault result (MayFail W.refuses W.contents writer.new) }
     ensures reads { IfErr result (λ e. e ≢ StreamError.ReadFault) }
+    ensures replies { (left : List ℕ)
+        × AnswersLines (A.responds responder.now) A.over (first.old, second.old) (W.contents writer.old)
+        pending.old.out.items (last_piece pending.old.lines) (first.new, second.new) (W.contents writer.new) left
+        × OnOk result (left ≡ []) }
 {
-    let Some(piece) = lines.finish() else {
-        return write_out(writer, out);
+    let Some(piece) = pending.lines.finish() else {
+        return write_out(writer, &mut pending.out);
     };
-    answer_next(piece, writer, responder, first, second, out)?;
-    write_out(writer, out)
+    answer_next(piece, responder, first, second, &mut pending.out, writer)?;
+    write_out(writer, &mut pending.out)
 }
 
-/// Answers the lines that these bytes complete, and writes the replies.
+/// Answers the lines that these bytes complete, until the stream is over, and writes the replies.
 fn answer_bytes<S, T, A: Responder<S, T>, W: Sink>(
     bytes: &[u8],
-    pending: &mut Pending,
-    writer: &mut W,
     responder: &A,
     first: &mut S,
     second: &mut T,
+    pending: &mut Pending,
+    writer: &mut W,
 ) -> Result<(), StreamError>
     requires { A.over (first.old, second.old) ≡ false }
     ensures takes { (left : List ℕ)
@@ -133,47 +122,25 @@ fn answer_bytes<S, T, A: Responder<S, T>, W: Sink>(
     ensures refused { OnWriteFault result (MayFail W.refuses W.contents writer.new) }
     ensures reads { IfErr result (λ e. e ≢ StreamError.ReadFault) }
 {
-    answer_lines(bytes, pending, writer, responder, first, second)?;
-    write_out(writer, &mut pending.out)
-}
-
-/// Answers the lines that these bytes complete, until the stream is over.
-fn answer_lines<S, T, A: Responder<S, T>, W: Sink>(
-    bytes: &[u8],
-    pending: &mut Pending,
-    writer: &mut W,
-    responder: &A,
-    first: &mut S,
-    second: &mut T,
-) -> Result<(), StreamError>
-    requires { A.over (first.old, second.old) ≡ false }
-    ensures takes { (left : List ℕ)
-        × (t : AnswersBytes (A.responds responder.now) A.over (first.old, second.old) (W.contents writer.old)
-        pending.old.out.items pending.old.lines bytes.now (first.new, second.new) (W.contents writer.new) left)
-        × OnOk result ((left ≡ pending.new.out.items)
-        × (A.over (first.new, second.new) ≡ false → (t.ahead ≡ []) × (t.opened ≡ pending.new.lines))) }
-    ensures refused { OnWriteFault result (MayFail W.refuses W.contents writer.new) }
-    ensures reads { IfErr result (λ e. e ≢ StreamError.ReadFault) }
-{
     let mut rest = bytes;
     while !rest.is_empty() {
-        let behind = answer_first(rest, pending, writer, responder, first, second)?;
+        let behind = answer_first(rest, responder, first, second, pending, writer)?;
         if responder.is_over(first, second) {
-            return Ok(());
+            return write_out(writer, &mut pending.out);
         }
         rest = behind;
     }
-    Ok(())
+    write_out(writer, &mut pending.out)
 }
 
 /// Answers the first line that these bytes complete, and gives those behind it. Without such a line all are kept.
 fn answer_first<'a, S, T, A: Responder<S, T>, W: Sink>(
     bytes: &'a [u8],
-    pending: &mut Pending,
-    writer: &mut W,
     responder: &A,
     first: &mut S,
     second: &mut T,
+    pending: &mut Pending,
+    writer: &mut W,
 ) -> Result<&'a [u8], StreamError>
     requires { A.over (first.old, second.old) ≡ false }
     ensures takes { (left : List ℕ)
@@ -184,36 +151,16 @@ fn answer_first<'a, S, T, A: Responder<S, T>, W: Sink>(
     ensures refused { OnWriteFault result (MayFail W.refuses W.contents writer.new) }
     ensures reads { IfErr result (λ e. e ≢ StreamError.ReadFault) }
 {
-    let Some(whole) = pending.lines.whole(bytes) else {
-        return answer_open(bytes, pending, writer, responder, first, second);
-    };
-    answer_next(whole.0, writer, responder, first, second, &mut pending.out)?;
-    Ok(whole.1)
-}
-
-/// The same, where the line may stand open already.
-fn answer_open<'a, S, T, A: Responder<S, T>, W: Sink>(
-    bytes: &'a [u8],
-    pending: &mut Pending,
-    writer: &mut W,
-    responder: &A,
-    first: &mut S,
-    second: &mut T,
-) -> Result<&'a [u8], StreamError>
-    requires { A.over (first.old, second.old) ≡ false }
-    ensures takes { (left : List ℕ)
-        × (t : AnswersBytes (A.responds responder.now) A.over (first.old, second.old) (W.contents writer.old)
-        pending.old.out.items pending.old.lines bytes.now (first.new, second.new) (W.contents writer.new) left)
-        × IfOk result (λ behind. (left ≡ pending.new.out.items) × (t.opened ≡ pending.new.lines)
-        × (t.ahead ≡ behind.now) × (0 < length bytes.now → length behind.now < length bytes.now)) }
-    ensures refused { OnWriteFault result (MayFail W.refuses W.contents writer.new) }
-    ensures reads { IfErr result (λ e. e ≢ StreamError.ReadFault) }
-{
+    if let Some(whole) = pending.lines.whole(bytes) {
+        answer_next(whole.0, responder, first, second, &mut pending.out, writer)?;
+        return Ok(whole.1);
+    }
+    // the line may stand open already
     let Some(behind) = pending.lines.feed(bytes) else {
         return Ok(&[]);
     };
     let line = pending.lines.line();
-    answer_next(line, writer, responder, first, second, &mut pending.out)?;
+    answer_next(line, responder, first, second, &mut pending.out, writer)?;
     pending.lines.clear();
     Ok(behind)
 }
@@ -221,11 +168,11 @@ fn answer_open<'a, S, T, A: Responder<S, T>, W: Sink>(
 /// Answers a line, and writes the replies so far where they are many.
 fn answer_next<S, T, A: Responder<S, T>, W: Sink>(
     piece: Piece<'_>,
-    writer: &mut W,
     responder: &A,
     first: &mut S,
     second: &mut T,
     out: &mut Vec<u8>,
+    writer: &mut W,
 ) -> Result<(), StreamError>
     requires { A.over (first.old, second.old) ≡ false }
     ensures replies { (left : List ℕ)
@@ -286,11 +233,8 @@ pub fn write_bytes<W: Sink>(writer: &mut W, bytes: &[u8]) -> Result<(), StreamEr
         match writer.write_some(rest) {
             Ok(0) => return Err(StreamError::WriteFault),
             Ok(count) => rest = &rest[count..],
-            Err(error) => {
-                if !tries.again(&error) {
-                    return Err(StreamError::WriteFault);
-                }
-            }
+            Err(error) if tries.again(&error) => {}
+            Err(_) => return Err(StreamError::WriteFault),
         }
     }
     Ok(())
@@ -305,11 +249,8 @@ fn flush<W: Sink>(writer: &mut W) -> Result<(), StreamError>
     loop {
         match writer.flush_all() {
             Ok(()) => return Ok(()),
-            Err(error) => {
-                if !tries.again(&error) {
-                    return Err(StreamError::WriteFault);
-                }
-            }
+            Err(error) if tries.again(&error) => {}
+            Err(_) => return Err(StreamError::WriteFault),
         }
     }
 }

@@ -20,10 +20,12 @@ fn put(out: &mut Vec<u8>, bytes: &[u8])
     }
 }
 
+/// Adds a line, or nothing.
 pub(crate) fn push_line(out: &mut Vec<u8>, start: &[u8], line: &[u8]) -> Result<(), AllocError>
     ensures ok { OnOk result (out.new.items ≡
         out.old.items ++ started_lines start.now (line.now ∷ [])) }
     ensures err { OnErr result (IsInFront out.old.items out.new.items) }
+    ensures same { OnErr result (out.new.items ≡ out.old.items) }
 {
     out.reserve(start.len() + line.len() + 1)?;
     put(out, start);

@@ -9,8 +9,8 @@ use Rattle.sb_replay.specs.declared.error.ReplayError.{ReplayError}
 use Rattle.sb_replay.proofs.Whole.{and_appends, replays_known}
 use Rattle.sb_replay.proofs.replaying.replay.Goals as goal
 
-pub returns-clause-ok : goal.returns-clause-ok
-returns-clause-ok g c =
+pub returns : goal.returns
+returns g c =
     let input = g.R.Read.remaining c.args.reader.now in
     let before = g.W.Write.contents c.args.writer.now in
     let after = g.W.Write.contents c.write_out.new.writer in
@@ -19,24 +19,17 @@ returns-clause-ok g c =
     let text = c.in-Ok-finish.text.items in
     let script = subst (λ (n : ℕ). IfSome input (λ bytes. HoldsScript n bytes rows)) c.tenants.ensures c.in-Ok.ensures.ok in
     let replays = replays_known c.args.host g.N.Naming.bound input text rows closed.sheets.items closed.stubs.items c.steps_fix_the_order.ensures script c.in-Ok-play_all.ensures.ok c.in-Ok-finish.ensures.ok in
-    let writes = c.write_out.ensures.writes in
-    on_ok_weaker c.write_out.result
-    (λ none.
-    let all : writes.0 ≡ text = sym (append-nil writes.0) ∙ ap (λ (l : List ℕ). writes.0 ++ l) (sym none) ∙ sym writes.2 ∙ c.as_slice.ensures.value in
-    and_appends c.args.host g.N.Naming.bound input before after text replays (subst (Appends before after) all writes.3))
-    writes.4
-
-pub returns-clause-err : goal.returns-clause-err
-returns-clause-err g c =
-    let input = g.R.Read.remaining c.args.reader.now in
-    let rows = c.in-Ok.rows.items in
-    let closed = c.in-Ok-play_all.closed in
-    let text = c.in-Ok-finish.text.items in
-    let script = subst (λ (n : ℕ). IfSome input (λ bytes. HoldsScript n bytes rows)) c.tenants.ensures c.in-Ok.ensures.ok in
-    let replays = replays_known c.args.host g.N.Naming.bound input text rows closed.sheets.items closed.stubs.items c.steps_fix_the_order.ensures script c.in-Ok-play_all.ensures.ok c.in-Ok-finish.ensures.ok in
-    let writes = c.write_out.ensures.writes in
-    not_written c.write_out.result _ _ c.write_out.ensures.fault c.write_out.ensures.refused
-    (λ refused. (text, writes.0, writes.1, replays, sym c.as_slice.ensures.value ∙ writes.2, writes.3, refused))
+    let writes = c.write_out.ensures.writes in record {
+      ok =
+          on_ok_weaker c.write_out.result
+          (λ none.
+          let all : writes.0 ≡ text = sym (append-nil writes.0) ∙ ap (λ (l : List ℕ). writes.0 ++ l) (sym none) ∙ sym writes.2 ∙ c.as_slice.ensures.value in
+          and_appends c.args.host g.N.Naming.bound input before after text replays (subst (Appends before after) all writes.3))
+          writes.4;
+      err =
+          not_written c.write_out.result _ _ c.write_out.ensures.fault c.write_out.ensures.refused
+          (λ refused. (text, writes.0, writes.1, replays, sym c.as_slice.ensures.value ∙ writes.2, writes.3, refused));
+    }
 
 pub returns-in-Err-play_all-clause-err : goal.returns-in-Err-play_all-clause-err
 returns-in-Err-play_all-clause-err g c =

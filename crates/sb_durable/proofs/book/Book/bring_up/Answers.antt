@@ -53,9 +53,9 @@ returns-clause-ok g c =
 
 pub returns-clause-err : goal.returns-clause-err
 returns-clause-err g c =
-    on_err_weaker c.commit.result (λ fails head records waiting has.
-    let disk = g.D.Disk in
-    let a = c.loop-tenant.invariant head records waiting has in
-    let h = front_of disk.seen disk.may_leave _ _ head records waiting a.0 a.1 in
-    let b = fails head (records ++ h.front) h.back h.has in
-    (a.0, takes_last disk.seen disk.may_leave (IsSpent c.commit.new.self.journal.log) _ _ _ head records waiting a.0 a.1 h b, a.2)) c.commit.ensures.err
+    let among : List Part → Type 0 = AreAmong c.args.tenants.now in
+    on_err_weaker c.commit.result
+    (λ fails.
+    takes_then g.D.Disk.seen g.D.Disk.may_leave (IsSpent c.commit.new.self.journal.log) among among among _ _ _
+    (λ head records waiting has. let a = c.loop-tenant.invariant head records waiting has in (a.0, a.1, a.2)) (λ head records waiting has. ([], fails head records waiting has, tt))
+    (among-append c.args.tenants.now)) c.commit.ensures.err

@@ -1,6 +1,6 @@
 use Rattle.std.proofs.Common.{◌≡◌, false, length}
 use Rattle.sb_wire.specs.Responses.{AnswersBytes}
-use Rattle.sb_wire.proofs.stream.answer_lines.Given as goal
+use Rattle.sb_wire.proofs.stream.answer_bytes.Given as goal
 
 -- the lines that a first part of the bytes completes are answered, and the stream goes on
 abbrev pub invariant-loop-rest : goal.invariant-loop-rest
