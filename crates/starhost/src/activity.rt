@@ -2,7 +2,7 @@
 
 use sb_server::{Board, Cause, Count, LIMITS, SlowLine};
 use sb_status::{
-    Activity, Bucket, HostNumbers, Refused, Rollbacks, SlowView, TenantNumbers, Times,
+    Activity, Bucket, HostNumbers, HostView, Refused, Rollbacks, SlowView, TenantNumbers, Times,
     WorkerNumbers, host_page, metrics,
 };
 use std::alloc::{AllocError, Global};
@@ -36,22 +36,21 @@ impl Overview {
     /// Its page.
     pub(crate) fn page(&self, alloc: Global) -> Result<Vec<u8>, AllocError> {
         let slowest = self.counted.slowest(alloc)?;
-        host_page(
-            alloc,
-            self.host,
-            self.counted.activity(slowest.as_slice()),
-            self.tenants.as_slice(),
-        )
+        host_page(alloc, self.view(slowest.as_slice()))
     }
 
     /// Its samples.
     pub(crate) fn samples(&self, alloc: Global) -> Result<Vec<u8>, AllocError> {
-        metrics(
-            alloc,
-            self.host,
-            self.counted.activity(&[]),
-            self.tenants.as_slice(),
-        )
+        metrics(alloc, self.view(&[]))
+    }
+
+    /// All of it, with these lines.
+    fn view<'v>(&'v self, slowest: &'v [SlowView<'v>]) -> HostView<'v> {
+        HostView {
+            host: self.host,
+            activity: self.counted.activity(slowest),
+            tenants: self.tenants.as_slice(),
+        }
     }
 }
 
