@@ -42,10 +42,7 @@ fn check_full(sheets: &[Sheet], trails: &[Vec<Entry>]) -> Result<(), FinishError
 {
     for sheet in sheets {
         if denies(trails, sheet) {
-            return Err(FinishError::Mismatch {
-                tenant: sheet.tenant(),
-                session: sheet.number(),
-            });
+            return Err(sheet.mismatch());
         }
     }
     Ok(())

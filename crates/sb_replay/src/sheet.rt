@@ -2,7 +2,7 @@
 ghost use Rattle.std.specs.Prelude.{◌≡◌, ◌||◌, IfOk, OnOk};
 ghost use Rattle.sb_replay.specs.Sheets.{Gives, Tells, TellsGiven, TellsText, fresh, lines_of};
 
-use sb_host::{CallError, Naming, Session};
+use sb_host::{CallError, FinishError, Naming, Session};
 use sb_tenant::{Answer, Reply};
 use sb_value::{Refusal, SessionId};
 use sb_wire::{Prefix, WireRefusal, write_refusal, write_reply};
@@ -48,6 +48,13 @@ impl Sheet {
         }
     }
 
+    /// Whose it is.
+    pub(crate) fn tenant(&self) -> u32
+        ensures { result ≡ self.now.tenant }
+    {
+        self.tenant
+    }
+
     /// The next command.
     pub(crate) fn next_command(&mut self) -> Option<Vec<u8>>
         ensures { Gives self.old result self.new }
@@ -70,18 +77,14 @@ impl Sheet {
         Ok(())
     }
 
-    /// Whose it is.
-    pub(crate) fn tenant(&self) -> u32
-        ensures { result ≡ self.now.tenant }
+    /// That its session doesn't agree with the trail.
+    pub(crate) fn mismatch(&self) -> FinishError
+        ensures { result ≡ FinishError.Mismatch self.now.tenant self.now.number }
     {
-        self.tenant
-    }
-
-    /// Its number.
-    pub(crate) fn number(&self) -> SessionId
-        ensures { result ≡ self.now.number }
-    {
-        self.number
+        FinishError::Mismatch {
+            tenant: self.tenant,
+            session: self.number,
+        }
     }
 
     /// Whether it was answered that the trail is full.
