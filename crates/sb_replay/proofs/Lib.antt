@@ -1,5 +1,6 @@
 mod Commands
 mod Lines
+mod Rows
 mod Lists
 mod Playing
 mod Ending
