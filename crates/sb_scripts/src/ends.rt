@@ -12,7 +12,7 @@ pub struct Failing<'a> {
 }
 
 impl<'a> Failing<'a> {
-    pub fn new(header: &Header, input: &'a [u8]) -> Failing<'a> {
+    pub fn new(header: Header, input: &'a [u8]) -> Failing<'a> {
         let given = input.len().min(header.fails as usize);
         Failing {
             rest: &input[..given],
@@ -40,7 +40,7 @@ pub struct Narrow<'a> {
 }
 
 impl<'a> Narrow<'a> {
-    pub fn new(header: &Header, out: &'a mut Vec<u8>) -> Narrow<'a> {
+    pub fn new(header: Header, out: &'a mut Vec<u8>) -> Narrow<'a> {
         Narrow {
             out,
             room: header.room as usize,

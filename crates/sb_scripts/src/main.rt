@@ -21,6 +21,7 @@
 //! of more than nine equal lines in a row has one of them and their number.
 #![tactic(auto)]
 
+mod block;
 mod ends;
 mod fault;
 mod header;

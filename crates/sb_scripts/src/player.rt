@@ -1,5 +1,6 @@
 //! Plays blocks one after another.
 
+use crate::block::Block;
 use crate::fault::ScriptFault;
 use crate::header::{Header, Lines};
 use crate::memory::play_memory;
@@ -72,12 +73,16 @@ impl Player {
         };
         let mut text = Vec::new(self.alloc);
         let commands = self.commands.as_slice();
+        let block = Block {
+            header,
+            lines: commands,
+        };
         match header.lines {
-            Lines::Stream => play_stream(self.alloc, &header, commands, &mut text)?,
+            Lines::Stream => play_stream(self.alloc, block, &mut text)?,
             Lines::Syntax => play_syntax(self.alloc, commands, &mut text)?,
             Lines::Memory => play_memory(commands, &mut text)?,
             Lines::Tenant => play_tenant(self.alloc, commands, &mut text)?,
-            Lines::Shared => play_shared(self.alloc, &header, commands, &mut text)?,
+            Lines::Shared => play_shared(self.alloc, block, &mut text)?,
         }
         self.commands.clear();
         push_folded(text.as_slice(), &mut self.answers)

@@ -1,8 +1,8 @@
 //! A block as lines of several tenants on one cell, with what the log and the index that they share
 //! hold.
 
+use crate::block::Block;
 use crate::fault::ScriptFault;
-use crate::header::Header;
 use crate::repeat::push_number;
 use crate::stream::{fresh_cell, push_end};
 use sb_cell::Cell;
@@ -16,12 +16,8 @@ use std::alloc::{AllocError, Global};
 /// Adds the replies to these lines, and behind each how many changes open transactions have. At the
 /// end come the rows that session 0 of each tenant has inserted into its first table since it began
 /// its transaction, each as its time and the rules that it may trigger.
-pub fn play_shared(
-    alloc: Global,
-    header: &Header,
-    lines: &[u8],
-    out: &mut Vec<u8>,
-) -> Result<(), ScriptFault> {
+pub fn play_shared(alloc: Global, block: Block<'_>, out: &mut Vec<u8>) -> Result<(), ScriptFault> {
+    let Block { header, lines } = block;
     let mut cell = fresh_cell(alloc, header)?;
     let mut summary = Summary::new();
     for line in lines.split(|byte| *byte == b'\n') {

@@ -1,5 +1,6 @@
 //! A block as a stream on a fresh cell.
 
+use crate::block::Block;
 use crate::ends::{Failing, Narrow};
 use crate::fault::ScriptFault;
 use crate::header::{Each, Header};
@@ -18,45 +19,37 @@ const MOST_BOUND: u32 = 1000;
 const MOST_BUCKETS: u32 = 65_536;
 
 /// Plays these lines once, or for each failure that the header says.
-pub fn play_stream(
-    alloc: Global,
-    header: &Header,
-    input: &[u8],
-    out: &mut Vec<u8>,
-) -> Result<(), ScriptFault> {
+pub fn play_stream(alloc: Global, block: Block<'_>, out: &mut Vec<u8>) -> Result<(), ScriptFault> {
+    let header = block.header;
     match header.each {
-        Each::Once => play_once(alloc, header, input, out),
+        Each::Once => play_once(alloc, block, out),
         Each::Fails => {
             for fails in 0..header.fails {
-                play_once(alloc, &Header { fails, ..*header }, input, out)?;
+                play_once(alloc, block.below(Header { fails, ..header }), out)?;
             }
             Ok(())
         }
         Each::Room => {
             for room in 0..header.room {
-                play_once(alloc, &Header { room, ..*header }, input, out)?;
+                play_once(alloc, block.below(Header { room, ..header }), out)?;
             }
             Ok(())
         }
-        Each::Reads => play_reads(alloc, header, input, out),
-        Each::Writes => play_writes(alloc, header, input, out),
+        Each::Reads => play_reads(alloc, block, out),
+        Each::Writes => play_writes(alloc, block, out),
     }
 }
 
 /// Plays these lines with the first read failing, with the second, and so on to the last. Plays in a
 /// row that are answered the same are one with their number.
-fn play_reads(
-    alloc: Global,
-    header: &Header,
-    input: &[u8],
-    out: &mut Vec<u8>,
-) -> Result<(), ScriptFault> {
+fn play_reads(alloc: Global, block: Block<'_>, out: &mut Vec<u8>) -> Result<(), ScriptFault> {
+    let Block { header, lines } = block;
     let mut last = Vec::new(alloc);
     let mut times: u32 = 0;
     let mut fails: u32 = 0;
-    for _ in input.chunks(header.pieces.max(1) as usize) {
+    for _ in lines.chunks(header.pieces.max(1) as usize) {
         let mut text = Vec::new(alloc);
-        play_once(alloc, &Header { fails, ..*header }, input, &mut text)?;
+        play_once(alloc, block.below(Header { fails, ..header }), &mut text)?;
         if text.as_slice() != last.as_slice() {
             push_times(last.as_slice(), times, b" reads)\n", out)?;
             last = text;
@@ -70,17 +63,12 @@ fn play_reads(
 
 /// Plays these lines, and again with each smaller room for the answer. A play that wrote just so much
 /// of the answer is counted, any other shown.
-fn play_writes(
-    alloc: Global,
-    header: &Header,
-    input: &[u8],
-    out: &mut Vec<u8>,
-) -> Result<(), ScriptFault> {
+fn play_writes(alloc: Global, block: Block<'_>, out: &mut Vec<u8>) -> Result<(), ScriptFault> {
     let mut whole = Vec::new(alloc);
-    play_once(alloc, header, input, &mut whole)?;
+    play_once(alloc, block, &mut whole)?;
     let mut times: u32 = 0;
     for room in 0..whole.len() {
-        if ends_behind(alloc, header, input, &whole[..room], out)? {
+        if ends_behind(alloc, block, &whole[..room], out)? {
             times = times.saturating_add(1);
         }
     }
@@ -91,19 +79,18 @@ fn play_writes(
 /// added.
 fn ends_behind(
     alloc: Global,
-    header: &Header,
-    input: &[u8],
+    block: Block<'_>,
     begun: &[u8],
     out: &mut Vec<u8>,
 ) -> Result<bool, ScriptFault> {
     let narrow = Header {
         room: u32::try_from(begun.len()).unwrap_or(u32::MAX),
-        ..*header
+        ..block.header
     };
     let mut wanted = Vec::from_slice(alloc, begun)?;
     push_end(Err(StreamError::WriteFault), &mut wanted)?;
     let mut text = Vec::new(alloc);
-    play_once(alloc, &narrow, input, &mut text)?;
+    play_once(alloc, block.below(narrow), &mut text)?;
     if text.as_slice() == wanted.as_slice() {
         return Ok(true);
     }
@@ -112,16 +99,12 @@ fn ends_behind(
 }
 
 /// Adds the replies to these lines, and the fault that ends them, if one does.
-fn play_once(
-    alloc: Global,
-    header: &Header,
-    input: &[u8],
-    out: &mut Vec<u8>,
-) -> Result<(), ScriptFault> {
+fn play_once(alloc: Global, block: Block<'_>, out: &mut Vec<u8>) -> Result<(), ScriptFault> {
+    let Block { header, lines } = block;
     let mut cell = fresh_cell(alloc, header)?;
-    let sent = input.len().saturating_sub(header.cut as usize);
+    let sent = lines.len().saturating_sub(header.cut as usize);
     let mut reader = Fallible {
-        inner: Failing::new(header, &input[..sent]),
+        inner: Failing::new(header, &lines[..sent]),
     };
     let mut writer = Fallible {
         inner: Narrow::new(header, out),
@@ -132,11 +115,11 @@ fn play_once(
 }
 
 /// A cell with the tenants, the bound and the buckets that a header says.
-pub fn fresh_cell(alloc: Global, header: &Header) -> Result<Cell, ScriptFault> {
+pub fn fresh_cell(alloc: Global, header: Header) -> Result<Cell, ScriptFault> {
     if header.tenants > MOST_TENANTS || header.bound > MOST_BOUND {
         return Err(ScriptFault::BadHeader);
     }
-    let Header { tenants, bound, .. } = *header;
+    let Header { tenants, bound, .. } = header;
     match header.buckets {
         None => Ok(Cell::new(alloc, 0, 1, tenants, bound)?),
         Some(buckets) if buckets > 0 && buckets <= MOST_BUCKETS => {
