@@ -1,5 +1,5 @@
 -- Promise: the parts of a command line: their names, the commands that have them, and the ranges of numbers.
-use Rattle.std.specs.Prelude.{ℕ, Bool, true, false, not, ◌||◌, List, [], ◌∷◌, Option, Some, None, codes}
+use Rattle.std.specs.Prelude.{◌==◌, ℕ, Bool, true, not, ◌||◌, List, [], ◌∷◌, Option, Some, None, codes}
 use Rattle.clap.specs.Words.{Text}
 use Rattle.sb_words.specs.Meanings.{meaning_of}
 use Rattle.sb_words.specs.declared.part.Part.{Part}
@@ -51,16 +51,19 @@ name_of Log = codes "log"
 name_of Slow = codes "slow"
 name_of UntilInputEnds = codes "until-input-ends"
 
+-- the place of a command among all
+abbrev pub place_of : Verb → ℕ
+place_of Run = 0
+place_of Serve = 1
+place_of Replay = 2
+place_of Parse = 3
+place_of Dump = 4
+place_of Compact = 5
+place_of Key = 6
+
 -- whether two commands are the same
 abbrev pub same : Verb → Verb → Bool
-same Run Run = true
-same Serve Serve = true
-same Replay Replay = true
-same Parse Parse = true
-same Dump Dump = true
-same Compact Compact = true
-same Key Key = true
-same verb other = false
+same one other = place_of one == place_of other
 
 -- whether a command has the part; what isn't named is a server's
 abbrev pub has : Part → Verb → Bool
