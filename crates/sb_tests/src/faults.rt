@@ -12,13 +12,13 @@ use std::test::Fail;
 use std::thread::Threads;
 
 /// Whether a replay of the first tenant's session ended so: its receipts are gone where it is closed, and else it is open.
-fn is_expected(error: ReplayError, is_closed: bool) -> bool {
+fn is_expected(error: &ReplayError, is_closed: bool) -> bool {
     match error {
         ReplayError::Attach { tenant, session } => {
-            !is_closed && tenant == 0 && session.number() == 0
+            !is_closed && *tenant == 0 && session.number() == 0
         }
         ReplayError::Finish(FinishError::Missing { tenant, session }) => {
-            is_closed && tenant == 0 && session.number() == 0
+            is_closed && *tenant == 0 && session.number() == 0
         }
         _ => false,
     }
@@ -35,7 +35,7 @@ fn fail<N: Naming + Send + Sync, R: Threads + Wait + Abort + Clock + Sync>(
     let mut text = Vec::new(alloc);
     match replay(rt, alloc, &mut reader, &mut text, host, 1) {
         Ok(()) => assert!(rt; false),
-        Err(error) => assert!(rt; text.as_slice().is_empty() && is_expected(error, is_closed)),
+        Err(error) => assert!(rt; text.as_slice().is_empty() && is_expected(&error, is_closed)),
     }
 }
 
