@@ -16,7 +16,7 @@ use Rattle.sb_host.specs.declared.gathering.Place.{Place}
 use Rattle.sb_desk.specs.declared.stub.Stub.{Stub}
 use Rattle.sb_host.specs.Comparing.{Audits, FailsAt, IsFirstStray, RowAgrees, RowFails, due_at}
 use Rattle.sb_host.specs.Finish.{AgreeBefore, Agrees, AreTrails, Finishes, IsMismatch, IsMissing, gathered, rank, row_at, wanted}
-use Rattle.sb_host.proofs.Rows.{row_past}
+use Rattle.sb_host.specs.Rows.{row_past}
 
 -- an audit against legal trails is the whole check
 pub finishes : (bound tenants : ℕ) (stubs : List Stub) (trails : List (Vec Entry Global)) (result : Result Report FinishError) → AreTrails bound tenants trails → Audits trails stubs result → Finishes bound tenants stubs result

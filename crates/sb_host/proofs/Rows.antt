@@ -1,5 +1,5 @@
 -- The receipts of stubs, gathered in rows.
-use Rattle.std.proofs.Common.{◌≡◌, ℕ, zero, suc, ◌+◌, ◌<◌, ◌≤◌, ◌==◌, ◌&&◌, Bool, true, false, cond, nat_le, MatchOption, List, [], ◌∷◌, ◌++◌, length, get_or, set, Option, Some, None, Vec, refl, sym, ap, ◌∙◌, subst, inl, inr, ◌⊎◌, append_assoc, append-nil, length-append, eq-eqb, eqb-true, arith}
+use Rattle.std.proofs.Common.{◌≡◌, ℕ, zero, suc, ◌+◌, ◌<◌, ◌≤◌, ◌==◌, ◌&&◌, Bool, true, false, cond, nat_le, MatchOption, List, [], ◌∷◌, ◌++◌, length, set, Option, Some, None, Vec, refl, sym, ap, ◌∙◌, subst, inl, inr, ◌⊎◌, append_assoc, append-nil, length-append, eq-eqb, eqb-true, arith}
 use Rattle.std.specs.Global.{Global}
 use Rattle.std.proofs.lemmas.Bool.{and_parts, cases_eq, leb-false, leb-true, true≢false}
 use Rattle.sb_tenant.specs.Limits.{session_count}
@@ -12,19 +12,6 @@ use Rattle.sb_host.specs.Finish.{gathered, rank, receipts_in, row_at}
 -- ---- rows
 
 module _ {A : Type 0} where
-  pub row_past : (rows : List (Vec A Global)) (n : ℕ) → length rows ≤ n → row_at rows n ≡ []
-  row_past [] n h = refl
-  row_past (v ∷ vs) zero h = absurd (omega arith)
-  row_past (v ∷ vs) (suc n) h = row_past vs n (omega arith)
-
-  pub row_read : (rows : List (Vec A Global)) (n : ℕ) (v : Vec A Global) → n < length rows → v ≡ get_or rows n v → row_at rows n ≡ v.items
-  row_read rows n v below is = at rows n below ∙ ap (λ (w : Vec A Global). w.items) (sym is)
-    where
-      at : (ws : List (Vec A Global)) (k : ℕ) → k < length ws → row_at ws k ≡ (get_or ws k v).items
-      at [] k h = absurd (omega arith)
-      at (w ∷ ws) zero h = refl
-      at (w ∷ ws) (suc k) h = at ws k (omega arith)
-
   pub row_set : (rows : List (Vec A Global)) (n : ℕ) (v : Vec A Global) → n < length rows → row_at (set rows n v) n ≡ v.items
   row_set [] n v h = absurd (omega arith)
   row_set (w ∷ ws) zero v h = refl

@@ -103,11 +103,7 @@ impl<'h, N: Naming> Session<'h, N> {
         ensures* after { let row = session_of N.row N.table N.tenants N.cells N.bound N.name N.parts in
             sem 𝓛 (follows_so row row self.entry.ghost_name none (λ _ _. ⊤) (λ n. CallsTo self.old line.now result n)) }
     {
-        self.step_with(rt, alloc, line, &NoGate)?;
-        match self.receipts.last() {
-            Some(answer) => Ok(answer),
-            None => unreachable!(),
-        }
+        self.call_with(rt, alloc, line, &NoGate)
     }
 
     /// Makes the step `end`, unless the session has ended, and leaves its receipts.

@@ -1,6 +1,5 @@
 mod Commands
 mod Lines
-mod Rows
 mod Lists
 mod Playing
 mod Ending

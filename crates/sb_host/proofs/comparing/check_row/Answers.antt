@@ -4,7 +4,8 @@ use Rattle.sb_desk.specs.declared.receipts.Receipt.{Receipt}
 use Rattle.sb_desk.specs.Receipts.{receipts_of}
 use Rattle.sb_host.specs.Comparing.{Compares}
 use Rattle.sb_host.specs.Finish.{row_at}
-use Rattle.sb_host.proofs.Rows.{row_read, row_stays}
+use Rattle.sb_host.proofs.Rows.{row_stays}
+use Rattle.sb_host.specs.Rows.{row_read}
 use Rattle.sb_host.proofs.comparing.check_row.Goals as goal
 
 pub returns-clause-found : goal.returns-clause-found

@@ -1,6 +1,7 @@
 use Rattle.std.proofs.Common.{◌≡◌, ℕ, ◌+◌, ◌*◌, ◌<◌, ◌++◌, length, set, sym, ap, ◌∙◌, arith}
 use Rattle.sb_host.specs.Finish.{rank, row_at}
-use Rattle.sb_host.proofs.Rows.{deals, row_read}
+use Rattle.sb_host.proofs.Rows.{deals}
+use Rattle.sb_host.specs.Rows.{row_read}
 use Rattle.sb_host.proofs.gathering.deal.Goals as goal
 
 pub returns-clause-rows : goal.returns-clause-rows

@@ -1,6 +1,6 @@
 use Rattle.std.proofs.Common.{List, length, leb, sym, ap, ◌∙◌}
 use Rattle.sb_tenant.specs.declared.reply.Entry.{Entry}
-use Rattle.sb_replay.proofs.Rows.{row_past, row_read}
+use Rattle.sb_host.specs.Rows.{row_past, row_read}
 use Rattle.sb_replay.proofs.finishing.has_full_trail.Goals as goal
 use Rattle.sb_tenant.specs.Limits.{trail_limit}
 
