@@ -1,5 +1,5 @@
 -- What the log and the index of a cell hold.
-use Rattle.std.proofs.Common.{◌≡◌, ℕ, ◌/◌, true, false, cond, ◌&&◌, [], Some, refl, sym, ap, ◌∙◌, subst}
+use Rattle.std.proofs.Common.{◌≡◌, ℕ, ◌/◌, true, false, cond, ◌&&◌, [], Some, get_or, refl, sym, ap, ◌∙◌, subst}
 use Rattle.std.specs.List.{slice_get}
 use Rattle.std.proofs.Math.Bool.{and-false}
 use Rattle.sb_value.specs.declared.id.Who.{Who}
@@ -13,7 +13,7 @@ use Rattle.sb_tenant.specs.Trail.{state_of}
 use Rattle.sb_cell.specs.Hosting.{IsHosted}
 use Rattle.sb_cell.specs.Memory.{HoldsTransactions, HoldsRules, AreInStep}
 use Rattle.sb_cell.specs.Tenants.{Cell, hosts, states, tenant_at, trail_of}
-use Rattle.sb_cell.proofs.Hosted.{at_place, by_place, found, nobody, number_is}
+use Rattle.sb_cell.proofs.Hosted.{at_place, by_place, found, nobody, number_is, read_at}
 
 module _ (c : Cell) (h : IsHosted c) where
   pub are_in_step : AreInStep c
@@ -65,3 +65,9 @@ module _ (c : Cell) (h : IsHosted c) where
       let here = h.tenants (t / c.stride) w at in
       let id : w.id ≡ t = here.id ∙ number_is c t h hosted in
       λ i. state_of (id i) (here.bound i) (trail_of (sym (by_place c t hosted ∙ at) i))
+
+  -- the tenant that is read at its place of a cell that is seen so has the state that is seen
+  pub shown_to : (seen : Cell) → c ≡ seen → (t : ℕ) (w : Tenant) → hosts seen t ≡ true → w ≡ get_or c.tenants (t / c.stride) w → state w ≡ states seen t
+  shown_to seen is t w hosted read =
+      let here : hosts c t ≡ true = subst (λ (x : Cell). hosts x t ≡ true) (sym is) hosted in
+      shown t w here (read_at c t here w read) ∙ ap (λ (x : Cell). states x t) is

@@ -6,7 +6,7 @@ use Rattle.sb_cell.specs.contracts.cell.Cell.{the_view}
 use Rattle.sb_cell.specs.Hosting.{IsAt}
 use Rattle.sb_cell.specs.Tenants.{Cell, AnswersEvent, hosts, states}
 use Rattle.sb_cell.proofs.Hosted.{read_at}
-use Rattle.sb_cell.proofs.Memory.{shown}
+use Rattle.sb_cell.proofs.Memory.{shown_to}
 use Rattle.sb_cell.proofs.Cells.{IsCalled, after_hosted, event, stepped}
 use Rattle.sb_cell.proofs.cell.Cell.end.Goals as goal
 
@@ -18,10 +18,9 @@ end-requires-clause-in_step c =
 
 pub end-requires-clause-open : goal.end-requires-clause-open
 end-requires-clause-open c =
-    let v = the_view c.self.inside in
-    let hosted = subst (λ (x : Cell). hosts x c.args.tenant ≡ true) (sym c.self.view_is) c.requires.hosted in
-    let same = shown v c.self.invariant c.args.tenant c.index_mut.result.now hosted (read_at v c.args.tenant hosted c.index_mut.result.now c.index_mut.ensures.value) ∙ ap (λ (x : Cell). states x c.args.tenant) c.self.view_is in
-    ap (λ (st : State). is_open (session_at st c.args.session)) same ∙ c.requires.open
+    ap (λ (st : State). is_open (session_at st c.args.session))
+    (shown_to (the_view c.self.inside) c.self.invariant c.args.self.now c.self.view_is c.args.tenant c.index_mut.result.now c.requires.hosted c.index_mut.ensures.value)
+    ∙ c.requires.open
 
 -- ---- the tenant that is there
 

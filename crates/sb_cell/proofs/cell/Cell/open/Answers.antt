@@ -12,24 +12,20 @@ use Rattle.sb_cell.specs.contracts.cell.Cell.{the_view}
 use Rattle.sb_cell.specs.Hosting.{IsAt}
 use Rattle.sb_cell.specs.Tenants.{Cell, AnswersEvent, hosts, states}
 use Rattle.sb_cell.proofs.Hosted.{read_at}
-use Rattle.sb_cell.proofs.Memory.{shown}
+use Rattle.sb_cell.proofs.Memory.{shown_to}
 use Rattle.sb_cell.proofs.Cells.{IsCalled, after_hosted, event, open_left, stepped, unbegun, untouched}
 use Rattle.sb_cell.proofs.cell.Cell.open.Goals.{in-Ok, in-Err}
 use Rattle.sb_cell.proofs.cell.Cell.open.Goals as goal
 
+-- the tenant that opens the session is in the state that the cell shows
+is_shown : (c : goal.After-index_mut) → state c.index_mut.result.now ≡ states c.args.self.now c.args.tenant
+is_shown c = shown_to (the_view c.self.inside) c.self.invariant c.args.self.now c.self.view_is c.args.tenant c.index_mut.result.now c.requires.hosted c.index_mut.ensures.value
+
 pub open-requires-clause-closed : goal.open-requires-clause-closed
-open-requires-clause-closed c =
-    let v = the_view c.self.inside in
-    let hosted = subst (λ (x : Cell). hosts x c.args.tenant ≡ true) (sym c.self.view_is) c.requires.hosted in
-    let same = shown v c.self.invariant c.args.tenant c.index_mut.result.now hosted (read_at v c.args.tenant hosted c.index_mut.result.now c.index_mut.ensures.value) ∙ ap (λ (x : Cell). states x c.args.tenant) c.self.view_is in
-    ap (λ (st : State). is_open (session_at st c.args.session)) same ∙ c.requires.closed
+open-requires-clause-closed c = ap (λ (st : State). is_open (session_at st c.args.session)) (is_shown c) ∙ c.requires.closed
 
 pub open-requires-clause-room : goal.open-requires-clause-room
-open-requires-clause-room c =
-    let v = the_view c.self.inside in
-    let hosted = subst (λ (x : Cell). hosts x c.args.tenant ≡ true) (sym c.self.view_is) c.requires.hosted in
-    let same = shown v c.self.invariant c.args.tenant c.index_mut.result.now hosted (read_at v c.args.tenant hosted c.index_mut.result.now c.index_mut.ensures.value) ∙ ap (λ (x : Cell). states x c.args.tenant) c.self.view_is in
-    ap (λ (st : State). nat_le trail_limit st.steps) same ∙ c.requires.room
+open-requires-clause-room c = ap (λ (st : State). nat_le trail_limit st.steps) (is_shown c) ∙ c.requires.room
 
 -- ---- the tenant that is there
 
@@ -46,7 +42,7 @@ is_one : (c : goal.Joined-open) → is_session c.args.session ≡ true
 is_one c = let below : c.args.session < 8 = search rules in lt-ltb c.args.session 8 below
 
 same_state : (c : goal.Joined-open) → state c.index_mut.result.now ≡ states c.args.self.now c.args.tenant
-same_state c = shown (the_view c.self.inside) c.self.invariant c.args.tenant c.index_mut.result.now (hosted c) (at c) ∙ ap (λ (x : Cell). states x c.args.tenant) c.self.view_is
+same_state c = shown_to (the_view c.self.inside) c.self.invariant c.args.self.now c.self.view_is c.args.tenant c.index_mut.result.now c.requires.hosted c.index_mut.ensures.value
 
 left : (c : goal.Joined-open) → c.open.new.self ≡ c.index_mut.result.now → LeavesLine c.index_mut.result.now c.args.session (codes "open") c.open.new.self
 left c same =
