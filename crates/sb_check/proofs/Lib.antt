@@ -1,5 +1,5 @@
 mod SourceWalk
-mod Shares
+mod Filled
 mod Results
 mod Equations
 mod StatementWalk

@@ -82,12 +82,11 @@ pub(crate) fn table_named<'a, S: Schema>(
 }
 
 /// Whether updates of any kind trigger.
-#[tactic(auto, using(crate::proofs::Shares::shares_itself))]
+#[tactic(auto, using(crate::proofs::Filled::has_some))]
 pub(crate) fn has_updates(triggers: &Triggers) -> bool
     ensures { result ≡ spec.has_updates triggers.now }
 {
-    let columns = triggers.columns;
-    triggers.updated || columns.intersects(columns)
+    triggers.updated || !triggers.columns.is_empty()
 }
 
 /// Whether a rule with these triggers has that transition table.

@@ -1,6 +1,6 @@
 -- A rule is triggered where a walk over new changes of one of its kinds meets a tuple with one of its operations.
-use Rattle.std.proofs.Math.Bool.{or_comm, or-false}
-use Rattle.std.proofs.lemmas.Bool.{and_parts, and_from, or_left, or_right, or_cases}
+use Rattle.std.proofs.Math.Bool.{not-not, or_comm, or-false}
+use Rattle.std.proofs.lemmas.Bool.{and_parts, or_left, or_right, or_cases}
 use Rattle.std.proofs.Common.{◌≡◌, ℕ, ◌≤◌, Bool, true, false, ◌||◌, ◌&&◌, ◌==◌, cond, nat_le, nat_lt, List, [], ◌∷◌, ◌++◌, Some, None, map, reverse, refl, sym, ap, subst, ◌∙◌, inl, inr, eqb-true}
 use Rattle.std.specs.List.{list_any}
 use Rattle.std.proofs.lemmas.List.{reverse-append}
@@ -74,18 +74,19 @@ module _ (p : ℕ → Bool) where
 
 -- ---- kinds
 
-share_own : (xs ys : List Bool) → share_place xs ys ≡ true → share_place xs xs ≡ true
-share_own [] ys h = h
-share_own (x ∷ xs) [] h = absurd (cc)
-share_own (x ∷ xs) (y ∷ ys) h = elim (or_cases (x && y) (share_place xs ys) h) [
-  | inl here ↦ or_left (x && x) (share_place xs xs) (and_from x x (and_parts x y here).0 (and_parts x y here).0)
-  | inr there ↦ or_right (x && x) (share_place xs xs) (share_own xs ys there)
+-- a set that shares a place has one
+has_one : (xs ys : List Bool) → share_place xs ys ≡ true → list_any (λ b. b) xs ≡ true
+has_one [] ys h = h
+has_one (x ∷ xs) [] h = absurd (cc)
+has_one (x ∷ xs) (y ∷ ys) h = elim (or_cases (x && y) (share_place xs ys) h) [
+  | inl here ↦ or_left x (list_any (λ b. b) xs) (and_parts x y here).0
+  | inr there ↦ or_right x (list_any (λ b. b) xs) (has_one xs ys there)
 ]
 
-or_own : (b : Bool) (xs ys : List Bool) → (b || share_place xs ys) ≡ true → (b || share_place xs xs) ≡ true
-or_own b xs ys h = elim (or_cases b (share_place xs ys) h) [
-  | inl any ↦ or_left b (share_place xs xs) any
-  | inr listed ↦ or_right b (share_place xs xs) (share_own xs ys listed)
+may_update : (triggers : Triggers) (columns : List Bool) → has_update triggers columns ≡ true → names_kind triggers Updated ≡ true
+may_update triggers columns h = elim (or_cases triggers.updated (share_place triggers.columns columns) h) [
+  | inl any ↦ or_left triggers.updated _ any
+  | inr listed ↦ or_right triggers.updated _ (not-not (list_any (λ b. b) triggers.columns) ∙ has_one triggers.columns columns listed)
 ]
 
 -- where a change is an operation, its kind may be one
@@ -94,9 +95,9 @@ named triggers Inserted c h = h
 named triggers Deleted c h = h
 named triggers Updated c h = by (same_row (old_row c) (new_row c)) h
   where
-    by : (b : Bool) → is_operation triggers (cond b None (Some (net.Updated (old_row c) (new_row c) (differing (old_row c) (new_row c))))) ≡ true → has_update triggers triggers.columns ≡ true
+    by : (b : Bool) → is_operation triggers (cond b None (Some (net.Updated (old_row c) (new_row c) (differing (old_row c) (new_row c))))) ≡ true → names_kind triggers Updated ≡ true
     by true h = absurd (cc)
-    by false h = or_own triggers.updated triggers.columns (differing (old_row c) (new_row c)) h
+    by false h = may_update triggers (differing (old_row c) (new_row c)) h
 
 -- ---- the walks of a log
 

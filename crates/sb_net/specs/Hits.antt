@@ -1,8 +1,9 @@
 -- Machine: which tuples trigger a rule.
-use Rattle.std.specs.Prelude.{ℕ, Bool, ◌&&◌, List}
+use Rattle.std.specs.Prelude.{ℕ, Bool, not, ◌&&◌, ◌||◌, List}
 use Rattle.std.specs.List.{list_any}
+use Rattle.sb_value.specs.Flags.{has_none}
 use Rattle.sb_value.specs.Laws.{kind_triggers}
-use Rattle.sb_value.specs.NetEffect.{net_effect, has_update, is_operation}
+use Rattle.sb_value.specs.NetEffect.{net_effect, is_operation}
 use Rattle.sb_value.specs.declared.change.Kind.{Kind}
 use Rattle.sb_value.specs.declared.change.Kind.TheVariants.{Inserted, Deleted, Updated}
 use Rattle.sb_value.specs.declared.change.Change.{Change}
@@ -25,4 +26,4 @@ any_hit triggers table kind changes records = list_any (λ r. kind_triggers kind
 abbrev pub names_kind : Triggers → Kind → Bool
 names_kind triggers Inserted = triggers.inserted
 names_kind triggers Deleted = triggers.deleted
-names_kind triggers Updated = has_update triggers triggers.columns
+names_kind triggers Updated = triggers.updated || not (has_none triggers.columns)

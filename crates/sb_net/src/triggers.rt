@@ -59,7 +59,7 @@ fn names_kind(triggers: &Triggers, kind: Kind) -> bool
     match kind {
         Kind::Inserted => triggers.inserted,
         Kind::Deleted => triggers.deleted,
-        Kind::Updated => triggers.updated || triggers.columns.intersects(triggers.columns),
+        Kind::Updated => triggers.updated || !triggers.columns.is_empty(),
     }
 }
 

@@ -1,7 +1,7 @@
 //! Sets of column places.
 ghost use Rattle.std.specs.Prelude.{◌≡◌, ◌<◌, ◌==◌, ◌||◌, ℕ, slice_set, true, false};
 ghost use Rattle.sb_value.specs.Columns.{with_place};
-ghost use Rattle.sb_value.specs.Flags.{no_flags, flag_at, union, share_place};
+ghost use Rattle.sb_value.specs.Flags.{no_flags, flag_at, has_none, union, share_place};
 
 use std::marker::Model;
 
@@ -77,5 +77,12 @@ impl Columns {
         ensures { result ≡ share_place self other }
     {
         self.bits & other.bits != 0
+    }
+
+    /// Whether no place is in the set.
+    pub fn is_empty(self) -> bool
+        ensures { result ≡ has_none self }
+    {
+        self.bits == 0
     }
 }
