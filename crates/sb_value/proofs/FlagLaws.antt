@@ -13,27 +13,22 @@ use Rattle.sb_value.specs.WordsInverse.{length-flags_of}
 
 -- ---- both sets, either set
 
-max_is_one : (x y : ℕ) → x < 2 → y < 2 → nat_eq (max x y) 1 ≡ (nat_eq x 1 || nat_eq y 1)
-max_is_one zero zero g h = refl
-max_is_one zero (suc zero) g h = refl
-max_is_one (suc zero) zero g h = refl
-max_is_one (suc zero) (suc zero) g h = refl
-max_is_one (suc (suc x)) y g h = absurd (omega arith)
-max_is_one x (suc (suc y)) g h = absurd (omega arith)
-
-min_is_one : (x y : ℕ) → x < 2 → y < 2 → nat_eq (min x y) 1 ≡ (nat_eq x 1 && nat_eq y 1)
-min_is_one zero zero g h = refl
-min_is_one zero (suc zero) g h = refl
-min_is_one (suc zero) zero g h = refl
-min_is_one (suc zero) (suc zero) g h = refl
-min_is_one (suc (suc x)) y g h = absurd (omega arith)
-min_is_one x (suc (suc y)) g h = absurd (omega arith)
+-- what two operations make the same of each two bits, they make the same of all
+of_bits : (f : ℕ → ℕ → ℕ) (g : Bool → Bool → Bool) →
+    nat_eq (f 0 0) 1 ≡ g false false → nat_eq (f 0 1) 1 ≡ g false true → nat_eq (f 1 0) 1 ≡ g true false → nat_eq (f 1 1) 1 ≡ g true true →
+    (x y : ℕ) → x < 2 → y < 2 → nat_eq (f x y) 1 ≡ g (nat_eq x 1) (nat_eq y 1)
+of_bits f g none right left both zero zero low low2 = none
+of_bits f g none right left both zero (suc zero) low low2 = right
+of_bits f g none right left both (suc zero) zero low low2 = left
+of_bits f g none right left both (suc zero) (suc zero) low low2 = both
+of_bits f g none right left both (suc (suc x)) y low low2 = absurd (omega arith)
+of_bits f g none right left both x (suc (suc y)) low low2 = absurd (omega arith)
 
 flag_or : (a b i : ℕ) → nat_eq (bit_at (bit_or a b) i) 1 ≡ (nat_eq (bit_at a i) 1 || nat_eq (bit_at b i) 1)
-flag_or a b i = ap (λ x. nat_eq x 1) (bit_at_or a b i) ∙ max_is_one (bit_at a i) (bit_at b i) (bit_at-lt a i) (bit_at-lt b i)
+flag_or a b i = ap (λ x. nat_eq x 1) (bit_at_or a b i) ∙ of_bits max (λ p q. p || q) refl refl refl refl (bit_at a i) (bit_at b i) (bit_at-lt a i) (bit_at-lt b i)
 
 flag_and : (a b i : ℕ) → nat_eq (bit_at (bit_and a b) i) 1 ≡ (nat_eq (bit_at a i) 1 && nat_eq (bit_at b i) 1)
-flag_and a b i = ap (λ x. nat_eq x 1) (bit_at_and a b i) ∙ min_is_one (bit_at a i) (bit_at b i) (bit_at-lt a i) (bit_at-lt b i)
+flag_and a b i = ap (λ x. nat_eq x 1) (bit_at_and a b i) ∙ of_bits min (λ p q. p && q) refl refl refl refl (bit_at a i) (bit_at b i) (bit_at-lt a i) (bit_at-lt b i)
 
 flags_from-or : (n i a b : ℕ) → flags_from n i (bit_or a b) ≡ union (flags_from n i a) (flags_from n i b)
 unfolding flags_from

@@ -21,14 +21,11 @@ last_of-append c (b ∷ cs) d ds = last_of-append b cs d ds
 
 -- ---- the kinds of a first and a last change
 
+-- the first and the last change of one life: all begins with an insert and ends with a delete
 abbrev pub span : Kind → Kind → Bool
 span Inserted last = true
-span Updated Inserted = false
-span Updated Updated = true
-span Updated Deleted = true
-span Deleted Inserted = false
-span Deleted Updated = false
 span Deleted Deleted = true
+span first last = may_follow first last
 
 span_itself : (k : Kind) → span k k ≡ true
 span_itself Inserted = refl
@@ -43,6 +40,11 @@ span_onward Updated Deleted Inserted h s = s
 span_onward Updated Deleted Updated h s = refl
 span_onward Updated Deleted Deleted h s = refl
 span_onward Deleted d e h s = absurd (false≢true h)
+
+none_inserts : (k : Kind) → may_follow k Inserted ≡ false
+none_inserts Inserted = refl
+none_inserts Updated = refl
+none_inserts Deleted = refl
 
 pub span_of : (c : Change) (cs : List Change) → IsLife (c ∷ cs) → span c.kind (last_of c cs).kind ≡ true
 span_of c [] h = span_itself c.kind
@@ -88,37 +90,35 @@ module _ (p q r s : Change) (row : old_row r ≡ new_row q) where
   shifted : (P : List Value → Type 0) → P (new_row q) → P (old_row r)
   shifted P h = subst P (sym row) h
 
+  -- updates, and then a part that ends with a delete
+  joined_deleted : Some (net.Deleted (old_row p)) ≡ then_net (update_between (old_row p) (new_row q)) (Some (net.Deleted (old_row r)))
+  joined_deleted = shifted (λ b. Some (net.Deleted (old_row p)) ≡ then_net (update_between (old_row p) (new_row q)) (Some (net.Deleted b))) (update_deleted (old_row p) (new_row q))
+
+  -- a row that the first part inserts, with the second part
+  inserted : (m d e : Kind) → may_follow m d ≡ true → span d e ≡ true → net_between Inserted e p s ≡ then_net (Some (net.Inserted (new_row q))) (net_between d e r s)
+  inserted m Updated Updated f v = shifted (λ b. Some (net.Inserted (new_row s)) ≡ then_net (Some (net.Inserted (new_row q))) (update_between b (new_row s))) (insert_updated (new_row q) (new_row s))
+  inserted m Updated Deleted f v = refl
+  inserted m Updated Inserted f v = absurd (false≢true v)
+  inserted m Deleted Deleted f v = refl
+  inserted m Deleted Updated f v = absurd (false≢true v)
+  inserted m Deleted Inserted f v = absurd (false≢true v)
+  inserted m Inserted e f v = absurd (false≢true (sym (none_inserts m) ∙ f))
+
   joined : (k m d e : Kind) → span k m ≡ true → may_follow m d ≡ true → span d e ≡ true → net_between k e p s ≡ then_net (net_between k m p q) (net_between d e r s)
-  joined Inserted Inserted Updated Updated u f v = shifted (λ b. Some (net.Inserted (new_row s)) ≡ then_net (Some (net.Inserted (new_row q))) (update_between b (new_row s))) (insert_updated (new_row q) (new_row s))
-  joined Inserted Inserted Updated Deleted u f v = refl
-  joined Inserted Inserted Updated Inserted u f v = absurd (false≢true v)
-  joined Inserted Inserted Deleted Deleted u f v = refl
-  joined Inserted Inserted Deleted Updated u f v = absurd (false≢true v)
-  joined Inserted Inserted Deleted Inserted u f v = absurd (false≢true v)
-  joined Inserted Inserted Inserted e u f v = absurd (false≢true f)
-  joined Inserted Updated Updated Updated u f v = shifted (λ b. Some (net.Inserted (new_row s)) ≡ then_net (Some (net.Inserted (new_row q))) (update_between b (new_row s))) (insert_updated (new_row q) (new_row s))
-  joined Inserted Updated Updated Deleted u f v = refl
-  joined Inserted Updated Updated Inserted u f v = absurd (false≢true v)
-  joined Inserted Updated Deleted Deleted u f v = refl
-  joined Inserted Updated Deleted Updated u f v = absurd (false≢true v)
-  joined Inserted Updated Deleted Inserted u f v = absurd (false≢true v)
-  joined Inserted Updated Inserted e u f v = absurd (false≢true f)
-  joined Inserted Deleted d e u f v = absurd (false≢true f)
-  joined Updated Inserted d e u f v = absurd (false≢true u)
+  joined Inserted Inserted d e u f v = inserted Inserted d e f v
+  joined Inserted Updated d e u f v = inserted Updated d e f v
   joined Updated Updated Updated Updated u f v =
       shifted (λ b. update_between (old_row p) (new_row s) ≡ then_net (update_between (old_row p) (new_row q)) (update_between b (new_row s))) (update_updated (old_row p) (new_row q) (new_row s))
-  joined Updated Updated Updated Deleted u f v =
-      shifted (λ b. Some (net.Deleted (old_row p)) ≡ then_net (update_between (old_row p) (new_row q)) (Some (net.Deleted b))) (update_deleted (old_row p) (new_row q))
+  joined Updated Updated Updated Deleted u f v = joined_deleted
+  joined Updated Updated Deleted Deleted u f v = joined_deleted
   joined Updated Updated Updated Inserted u f v = absurd (false≢true v)
-  joined Updated Updated Deleted Deleted u f v =
-      shifted (λ b. Some (net.Deleted (old_row p)) ≡ then_net (update_between (old_row p) (new_row q)) (Some (net.Deleted b))) (update_deleted (old_row p) (new_row q))
   joined Updated Updated Deleted Updated u f v = absurd (false≢true v)
   joined Updated Updated Deleted Inserted u f v = absurd (false≢true v)
   joined Updated Updated Inserted e u f v = absurd (false≢true f)
-  joined Updated Deleted d e u f v = absurd (false≢true f)
+  joined k Deleted d e u f v = absurd (false≢true f)
+  joined Updated Inserted d e u f v = absurd (false≢true u)
   joined Deleted Inserted d e u f v = absurd (false≢true u)
   joined Deleted Updated d e u f v = absurd (false≢true u)
-  joined Deleted Deleted d e u f v = absurd (false≢true f)
 
 then_net-None : (n : Option Net) → then_net n None ≡ n
 then_net-None None = refl

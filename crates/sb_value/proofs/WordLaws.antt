@@ -1,9 +1,8 @@
 -- Sets in several words: what holds of the flags of one word holds of theirs.
-use Rattle.std.proofs.Common.{◌≡◌, ℕ, zero, suc, ◌+◌, ◌-◌, ◌*◌, ◌/◌, ◌%◌, ◌^◌, ◌<◌, ◌≤◌, nat_lt, nat_eq, Bool, true, false, not, ◌&&◌, ◌||◌, List, [], ◌∷◌, ◌++◌, length, replicate, slice_set, slice_index_or, bit_and, bit_or, refl, sym, ap, subst, ◌∙◌, arith, ne_eqb}
+use Rattle.std.proofs.Common.{◌≡◌, ℕ, zero, suc, ◌+◌, ◌-◌, ◌*◌, ◌/◌, ◌%◌, ◌^◌, ◌<◌, ◌≤◌, nat_lt, nat_eq, Bool, true, false, ◌&&◌, ◌||◌, List, [], ◌∷◌, ◌++◌, length, slice_set, slice_index_or, bit_and, bit_or, refl, sym, ap, subst, ◌∙◌, arith, ne_eqb}
 use Rattle.std.proofs.lemmas.Bool.{ltb-true, ltb-false}
 use Rattle.std.proofs.lemmas.List.{length-append, set-append_left, set-append_right}
 use Rattle.std.proofs.lemmas.Nat.{or_lt, and_le_l, le_or_l}
-use Rattle.std.specs.List.{list_any}
 use Rattle.std.specs.Int.Bits.{or_zero_l}
 use Rattle.sb_value.specs.Flags.{flags_of, flag_at, has_none, union, intersection, IsFirstFrom}
 use Rattle.sb_value.specs.Words.{flags_in, AreWords}
@@ -134,40 +133,42 @@ both f [] ys = []
 both f (x ∷ xs) [] = []
 both f (x ∷ xs) (y ∷ ys) = f x y ∷ both f xs ys
 
--- the words of an operation on two sets
-pub four_both : (f : ℕ → ℕ → ℕ) (xs ys : List ℕ) → AreWords 4 xs → AreWords 4 ys →
-    f (slice_index_or xs 0 0) (slice_index_or ys 0 0) ∷ f (slice_index_or xs 1 0) (slice_index_or ys 1 0) ∷ f (slice_index_or xs 2 0) (slice_index_or ys 2 0) ∷ f (slice_index_or xs 3 0) (slice_index_or ys 3 0) ∷ [] ≡ both f xs ys
-four_both f xs ys h g = sym (λ i. both f (four xs h i) (four ys g i))
+-- a word of either set, and one of both, has 64 bits again
+pub or_below : (xs ys : List ℕ) (i : ℕ) → AreWords 4 xs → AreWords 4 ys → bit_or (slice_index_or xs i 0) (slice_index_or ys i 0) < 2 ^ 64
+or_below xs ys i h k = or_lt 64 _ _ (word_below 4 xs i h) (word_below 4 ys i k)
 
-pub flags_in-or : (n : ℕ) (xs ys : List ℕ) → AreWords n xs → AreWords n ys → flags_in (both bit_or xs ys) ≡ union (flags_in xs) (flags_in ys)
+pub and_below : (xs ys : List ℕ) (i : ℕ) → AreWords 4 xs → bit_and (slice_index_or xs i 0) (slice_index_or ys i 0) < 2 ^ 64
+and_below xs ys i h = omega (arith, and_le_l (slice_index_or xs i 0) (slice_index_or ys i 0), word_below 4 xs i h)
+
+-- an operation on words is one on their flags, place by place
+pub record IsWordwise (f : ℕ → ℕ → ℕ) (g : List Bool → List Bool → List Bool) : Type 0 where
+  pub none : g [] [] ≡ []
+  pub append : (xs ys us vs : List Bool) → length xs ≡ length us → g (xs ++ ys) (us ++ vs) ≡ g xs us ++ g ys vs
+  pub flags : (x y : ℕ) → flags_of 64 (f x y) ≡ g (flags_of 64 x) (flags_of 64 y)
+
+pub or_is_wordwise : IsWordwise bit_or union
+or_is_wordwise = record { none = refl; append = union-append; flags = flags_of-or 64 }
+
+pub and_is_wordwise : IsWordwise bit_and intersection
+and_is_wordwise = record { none = refl; append = intersection-append; flags = flags_of-and 64 }
+
+flags_in-both : (f : ℕ → ℕ → ℕ) (g : List Bool → List Bool → List Bool) → IsWordwise f g → (n : ℕ) (xs ys : List ℕ) → AreWords n xs → AreWords n ys → flags_in (both f xs ys) ≡ g (flags_in xs) (flags_in ys)
 unfolding flags_in
-flags_in-or zero xs ys h g =
-    (λ i. flags_in (both bit_or (h i) (g i))) ∙ sym (λ i. union (flags_in (h i)) (flags_in (g i)))
-flags_in-or (suc n) [] ys h g = absurd h
-flags_in-or (suc n) (x ∷ xs) [] h g = absurd g
-flags_in-or (suc n) (x ∷ xs) (y ∷ ys) h g =
-    (λ i. flags_of-or 64 x y i ++ flags_in-or n xs ys h.1 g.1 i) ∙ sym (union-append (flags_of 64 x) (flags_in xs) (flags_of 64 y) (flags_in ys) (as_long x y))
+flags_in-both f g is zero xs ys h k = (λ i. flags_in (both f (h i) (k i))) ∙ sym ((λ i. g (flags_in (h i)) (flags_in (k i))) ∙ is.none)
+flags_in-both f g is (suc n) [] ys h k = absurd h
+flags_in-both f g is (suc n) (x ∷ xs) [] h k = absurd k
+flags_in-both f g is (suc n) (x ∷ xs) (y ∷ ys) h k =
+    (λ i. is.flags x y i ++ flags_in-both f g is n xs ys h.1 k.1 i) ∙ sym (is.append (flags_of 64 x) (flags_in xs) (flags_of 64 y) (flags_in ys) (as_long x y))
 
-pub flags_in-and : (n : ℕ) (xs ys : List ℕ) → AreWords n xs → AreWords n ys → flags_in (both bit_and xs ys) ≡ intersection (flags_in xs) (flags_in ys)
-unfolding flags_in
-flags_in-and zero xs ys h g =
-    (λ i. flags_in (both bit_and (h i) (g i))) ∙ sym (λ i. intersection (flags_in (h i)) (flags_in (g i)))
-flags_in-and (suc n) [] ys h g = absurd h
-flags_in-and (suc n) (x ∷ xs) [] h g = absurd g
-flags_in-and (suc n) (x ∷ xs) (y ∷ ys) h g =
-    (λ i. flags_of-and 64 x y i ++ flags_in-and n xs ys h.1 g.1 i) ∙ sym (intersection-append (flags_of 64 x) (flags_in xs) (flags_of 64 y) (flags_in ys) (as_long x y))
+-- the four words of such an operation on two sets
+abbrev pub four_of : (ℕ → ℕ → ℕ) → List ℕ → List ℕ → List ℕ
+four_of f xs ys = f (slice_index_or xs 0 0) (slice_index_or ys 0 0) ∷ f (slice_index_or xs 1 0) (slice_index_or ys 1 0) ∷ f (slice_index_or xs 2 0) (slice_index_or ys 2 0) ∷ f (slice_index_or xs 3 0) (slice_index_or ys 3 0) ∷ []
 
-pub are_words-or : (n : ℕ) (xs ys : List ℕ) → AreWords n xs → AreWords n ys → AreWords n (both bit_or xs ys)
-are_words-or zero xs ys h g = λ i. both bit_or (h i) (g i)
-are_words-or (suc n) [] ys h g = absurd h
-are_words-or (suc n) (x ∷ xs) [] h g = absurd g
-are_words-or (suc n) (x ∷ xs) (y ∷ ys) h g = (or_lt 64 x y h.0 g.0, are_words-or n xs ys h.1 g.1)
+four_both : (f : ℕ → ℕ → ℕ) (xs ys : List ℕ) → AreWords 4 xs → AreWords 4 ys → four_of f xs ys ≡ both f xs ys
+four_both f xs ys h k = sym (λ i. both f (four xs h i) (four ys k i))
 
-pub are_words-and : (n : ℕ) (xs ys : List ℕ) → AreWords n xs → AreWords n ys → AreWords n (both bit_and xs ys)
-are_words-and zero xs ys h g = λ i. both bit_and (h i) (g i)
-are_words-and (suc n) [] ys h g = absurd h
-are_words-and (suc n) (x ∷ xs) [] h g = absurd g
-are_words-and (suc n) (x ∷ xs) (y ∷ ys) h g = (omega (arith, and_le_l x y, h.0), are_words-and n xs ys h.1 g.1)
+pub flags_in-four : (f : ℕ → ℕ → ℕ) (g : List Bool → List Bool → List Bool) → IsWordwise f g → (xs ys : List ℕ) → AreWords 4 xs → AreWords 4 ys → flags_in (four_of f xs ys) ≡ g (flags_in xs) (flags_in ys)
+flags_in-four f g is xs ys h k = ap flags_in (four_both f xs ys h k) ∙ flags_in-both f g is 4 xs ys h k
 
 -- ---- no number, the first number
 

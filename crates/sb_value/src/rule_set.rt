@@ -85,6 +85,7 @@ impl RuleSet {
     }
 
     /// The rules that either set has.
+    #[tactic(auto, using(crate::proofs::WordLaws::or_below))]
     pub fn union(self, other: RuleSet) -> RuleSet
         ensures value { result ≡ union self other }
         ensures members { (k : ℕ) → flag_at result k ≡ (flag_at self k || flag_at other k) }
@@ -97,6 +98,7 @@ impl RuleSet {
     }
 
     /// The rules that both sets have.
+    #[tactic(auto, using(crate::proofs::WordLaws::and_below))]
     pub fn intersection(self, other: RuleSet) -> RuleSet
         ensures value { result ≡ intersection self other }
         ensures members { (k : ℕ) → flag_at result k ≡ (flag_at self k && flag_at other k) }

@@ -1,18 +1,10 @@
-use Rattle.std.proofs.Common.{◌∙◌, sym, ap, subst, List, Bool, ℕ, bit_or}
+use Rattle.std.proofs.Common.{◌∙◌, ap, List, Bool, bit_or}
 use Rattle.sb_value.specs.Flags.{flag_at, union}
-use Rattle.sb_value.specs.Words.{flags_in, AreWords}
 use Rattle.sb_value.proofs.FlagLaws.{flag_at-union}
-use Rattle.sb_value.proofs.WordLaws.{four_both, flags_in-or, are_words-or}
+use Rattle.sb_value.proofs.WordLaws.{or_is_wordwise, flags_in-four}
 use Rattle.sb_value.proofs.rule_set.RuleSet.union.Goals as goal
-
-pub invariant_of-result : goal.invariant_of-result
-invariant_of-result c =
-    subst (λ (ws : List ℕ). AreWords 4 ws) (sym (four_both bit_or c.self.inside.words c.other.inside.words c.self.invariant c.other.invariant)) (are_words-or 4 c.self.inside.words c.other.inside.words c.self.invariant c.other.invariant)
 
 pub returns : goal.returns
 returns c =
-    let value =
-    ap flags_in (four_both bit_or c.self.inside.words c.other.inside.words c.self.invariant c.other.invariant)
-    ∙ flags_in-or 4 c.self.inside.words c.other.inside.words c.self.invariant c.other.invariant
-    ∙ (λ i. union (c.self.view_is i) (c.other.view_is i)) in
+    let value = flags_in-four bit_or union or_is_wordwise c.self.inside.words c.other.inside.words c.self.invariant c.other.invariant ∙ (λ i. union (c.self.view_is i) (c.other.view_is i)) in
     record { value = value; members = λ k. ap (λ (s : List Bool). flag_at s k) value ∙ flag_at-union c.args.self c.args.other k }
