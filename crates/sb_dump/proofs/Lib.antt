@@ -1,7 +1,6 @@
 pub mod Places
 pub mod Playing
 pub mod Resting
-pub mod Values
 mod Numbered
 mod Walks
 mod Seeing

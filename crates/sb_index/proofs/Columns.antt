@@ -2,7 +2,6 @@
 use Rattle.std.proofs.Math.Bool.{or_assoc}
 use Rattle.std.proofs.Common.{◌≡◌, ℕ, zero, suc, ◌+◌, ◌<◌, Bool, true, false, ◌&&◌, ◌||◌, cond, Some, None, nat_eq, nat_lt, List, [], ◌∷◌, ◌++◌, map, drop, get_or, refl, sym, ap, ◌∙◌, arith, add-one, replicate}
 use Rattle.sb_value.specs.Flags.{flag_at, share_place}
-use Rattle.sb_index.specs.Operation.{places}
 use Rattle.sb_value.specs.Laws.{kind_triggers}
 use Rattle.sb_value.specs.Columns.{differing}
 use Rattle.sb_value.specs.NetEffect.{update_between, is_operation, has_update}
@@ -17,6 +16,7 @@ use Rattle.sb_value.specs.declared.change.Kind.TheVariants.{Inserted, Deleted, U
 use Rattle.sb_index.specs.Stands.{column_flags, triggers_in, in_table, no_table}
 use Rattle.sb_index.specs.Operation.{Operation}
 use Rattle.sb_index.specs.Operation.Operation.{insert, delete, update, update_of}
+use Rattle.sb_index.specs.Places.{at_place}
 use Rattle.sb_index.proofs.Flags.{share_place-drop}
 
 -- the flags of the columns before i
@@ -24,17 +24,6 @@ abbrev pub marked : List (List Bool) → List Bool → ℕ → ℕ → ℕ → �
 marked old named rule i k r = flag_at (get_or old k []) r || (nat_eq r rule && (nat_lt k i && flag_at named k))
 
 -- ---- columns in turn
-
-at_place : (f : ℕ → Bool) (i : ℕ) → i < 8 → flag_at (map f places) i ≡ f i
-at_place f zero h = refl
-at_place f (suc zero) h = refl
-at_place f (suc (suc zero)) h = refl
-at_place f (suc (suc (suc zero))) h = refl
-at_place f (suc (suc (suc (suc zero)))) h = refl
-at_place f (suc (suc (suc (suc (suc zero))))) h = refl
-at_place f (suc (suc (suc (suc (suc (suc zero)))))) h = refl
-at_place f (suc (suc (suc (suc (suc (suc (suc zero))))))) h = refl
-at_place f (suc (suc (suc (suc (suc (suc (suc (suc i)))))))) h = absurd (omega arith)
 
 -- the rules so far with those of the columns that are left
 abbrev pub left_from : List (List Bool) → List Bool → List Bool → ℕ → ℕ → Bool

@@ -1,3 +1,4 @@
 pub mod TableSets
 pub mod Operation
+pub mod Places
 pub mod Stands

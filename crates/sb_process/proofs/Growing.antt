@@ -23,6 +23,7 @@ use Rattle.sb_rawlog.specs.Sessions.{records_by, changes_by, changes_between, ma
 use Rattle.sb_tables.specs.Held.{Held, entries}
 use Rattle.sb_index.specs.Operation.{Operation, names, places}
 use Rattle.sb_index.specs.Operation.Operation.{insert, delete, update, update_of}
+use Rattle.sb_index.specs.Places.{at_place}
 use Rattle.sb_index.specs.Stands.{stands, triggers_of}
 use Rattle.sb_index.specs.TableSets.{TableSets}
 use Rattle.sb_locks.specs.Held.{held}
@@ -97,17 +98,6 @@ lives_from lives origin cs ds s proper table tuple =
     (subst IsLife (filtered (is_of table tuple) cs ds) (lives (entries origin) (cs ++ ds) table tuple (tables_are origin table s) proper))
 
 -- ---- the index
-
-at_place : (f : ℕ → Bool) (i : ℕ) → i < 8 → flag_at (map f places) i ≡ f i
-at_place f zero h = refl
-at_place f (suc zero) h = refl
-at_place f (suc (suc zero)) h = refl
-at_place f (suc (suc (suc zero))) h = refl
-at_place f (suc (suc (suc (suc zero)))) h = refl
-at_place f (suc (suc (suc (suc (suc zero))))) h = refl
-at_place f (suc (suc (suc (suc (suc (suc zero)))))) h = refl
-at_place f (suc (suc (suc (suc (suc (suc (suc zero))))))) h = refl
-at_place f (suc (suc (suc (suc (suc (suc (suc (suc i)))))))) h = absurd (omega arith)
 
 -- a set that has what another has shares a place where the other does
 shared : (xs named ys : List Bool) → length ys ≤ length xs → ((k : ℕ) → k < length xs → flag_at named k ≡ true → flag_at xs k ≡ true) → share_place named ys ≡ true → share_place xs ys ≡ true

@@ -13,7 +13,7 @@ use Rattle.sb_value.specs.declared.net.Net.TheVariants as net
 use Rattle.sb_value.specs.declared.change.Kind.{Kind}
 use Rattle.sb_value.specs.declared.change.Kind.TheVariants.{Inserted, Deleted, Updated}
 use Rattle.sb_value.specs.declared.value.Value.{Value}
-use Rattle.sb_value.proofs.ValueLaws.{same_row_is}
+use Rattle.sb_value.specs.ValueEquality.{same_row_is}
 
 pub last_of-append : (c : Change) (cs : List Change) (d : Change) (ds : List Change) → last_of c (cs ++ d ∷ ds) ≡ last_of d ds
 last_of-append c [] d ds = refl

@@ -5,7 +5,8 @@ use Rattle.std.specs.List.{list_any}
 use Rattle.std.proofs.lemmas.Bool.{true≢false, eqb-true, false≢true, and_parts, and_from, or_cases, or_left, or_right, cases_Bool}
 use Rattle.std.proofs.lemmas.List.Elements.{filter-append}
 use Rattle.sb_value.proofs.NetLaws.{last_of-append, span, span_of, life_after, life_before, append-nil}
-use Rattle.sb_value.proofs.ValueLaws.{same_row_is, same_place_is}
+use Rattle.sb_value.proofs.ValueLaws.{same_place_is}
+use Rattle.sb_value.specs.ValueEquality.{same_row_is}
 use Rattle.sb_value.specs.Columns.{same_place, differ_at, differing}
 use Rattle.sb_value.specs.Flags.{share_place}
 use Rattle.sb_value.specs.NetEffect.{is_of, history, last_of, update_between, net_between, net_of, net_effect, with_number, tuples_of, has_update, is_operation, is_triggered}

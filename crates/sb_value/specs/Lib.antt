@@ -8,6 +8,7 @@ pub mod Words
 pub mod WordsInverse
 pub mod Tree
 pub mod Values
+pub mod ValueEquality
 pub mod Tuples
 pub mod Literal
 pub mod Columns

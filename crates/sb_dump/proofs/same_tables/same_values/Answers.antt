@@ -1,5 +1,5 @@
 use Rattle.std.proofs.Common.{sym, ◌∙◌}
-use Rattle.sb_dump.proofs.Values.{same_row_is}
+use Rattle.sb_value.specs.ValueEquality.{same_row_is}
 use Rattle.sb_dump.proofs.same_tables.same_values.Goals as goal
 
 pub returns : goal.returns

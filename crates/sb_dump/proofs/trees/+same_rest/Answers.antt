@@ -1,5 +1,5 @@
 use Rattle.std.proofs.Common.{sym, ◌∷◌, ◌∙◌}
-use Rattle.sb_dump.proofs.Values.{same_row_is}
+use Rattle.sb_value.specs.ValueEquality.{same_row_is}
 use Rattle.sb_dump.proofs.trees.+same_rest.Goals as goal
 
 -- the first tuples are equal, and so are the rest

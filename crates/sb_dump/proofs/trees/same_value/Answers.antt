@@ -1,5 +1,5 @@
 use Rattle.std.proofs.Common.{sym, ◌∙◌}
-use Rattle.sb_dump.proofs.Values.{same_value_is}
+use Rattle.sb_value.specs.ValueEquality.{same_value_is}
 use Rattle.sb_dump.proofs.trees.same_value.Goals as goal
 
 pub returns : goal.returns

@@ -1,7 +1,7 @@
--- Values and rows that test as equal are equal.
-use Rattle.std.proofs.Common.{◌≡◌, true, List, [], ◌∷◌, ap, refl}
+-- Machine: values and rows that pass the test of equality are equal.
+use Rattle.std.proofs.Common.{◌≡◌, true, List, [], ◌∷◌, refl, ap}
+use Rattle.std.proofs.lemmas.Bool.{false≢true, and_parts}
 use Rattle.std.specs.Cmp.{signed_Decides}
-use Rattle.std.proofs.lemmas.Bool.{and_parts, false≢true}
 use Rattle.sb_value.specs.NameEquality.{same_name_is}
 use Rattle.sb_value.specs.Values.{same_value, same_row}
 use Rattle.sb_value.specs.declared.value.Value.{Value}
