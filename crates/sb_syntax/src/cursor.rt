@@ -6,7 +6,7 @@ ghost use Rattle.sb_syntax.specs.Reading.{Gives};
 ghost use Rattle.sb_syntax.specs.Cursor.{AllWithin, lexemes};
 
 use crate::error::Fault;
-use crate::kind::{Kind, same_kind};
+use crate::kind::Kind;
 use std::marker::Model;
 
 /// A token: its kind, and where its bytes begin and end.
@@ -81,12 +81,12 @@ impl<'a> Cursor<'a> {
     }
 
     /// Whether the next token is of that kind.
-    #[tactic(auto, unfolding(crate::specs::Reading::sees))]
+    #[tactic(auto, unfolding(crate::specs::Input::same_kind, crate::specs::Reading::sees))]
     pub fn sees(&self, kind: Kind) -> bool
         ensures { result ≡ spec.sees kind self.now }
     {
         match self.tokens {
-            [token, ..] => same_kind(token.kind, kind),
+            [token, ..] => token.kind == kind,
             [] => false,
         }
     }
@@ -130,13 +130,13 @@ impl<'a> Cursor<'a> {
 
     /// The bytes of the next token, if it is of this kind.
     #[inline(always)]
-    #[tactic(auto, unfolding(crate::specs::Reading::bytes_of, crate::specs::Reading::next))]
+    #[tactic(auto, unfolding(crate::specs::Input::same_kind, crate::specs::Reading::bytes_of, crate::specs::Reading::next))]
     pub fn bytes_of(&self, kind: Kind) -> Option<&'a [u8]>
         ensures { spec.bytes_of kind self.now
             ≡ option_map (λ bytes. (bytes.now, spec.next self.now)) result }
     {
         match self.tokens {
-            [token, ..] if same_kind(token.kind, kind) => {
+            [token, ..] if token.kind == kind => {
                 Some(&self.text[token.start as usize..token.end as usize])
             }
             _ => None,

@@ -13,4 +13,5 @@ bytes_first kind text [] d some same = absurd (omega arith)
 bytes_first kind text (t ∷ ts) d some same = rw same refl
 
 pub returns-in-len1-up : goal.returns-in-len1-up
-returns-in-len1-up c = rw (sym c.self.view_is) (bytes_first c.args.kind c.self.inside.text.now c.self.inside.tokens.now _ c.in-len1-up.len_at_least (sym c.same_kind.ensures ∙ c.if-same_kind.true))
+unfolding same_kind
+returns-in-len1-up c = rw (sym c.self.view_is) (bytes_first c.args.kind c.self.inside.text.now c.self.inside.tokens.now _ c.in-len1-up.len_at_least (sym c.eq.ensures ∙ c.if-eq.true))

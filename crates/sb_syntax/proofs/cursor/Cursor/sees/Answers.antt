@@ -12,4 +12,5 @@ sees_first kind text [] d some = absurd (omega arith)
 sees_first kind text (t ∷ ts) d some = refl
 
 pub returns-in-len1-up : goal.returns-in-len1-up
-returns-in-len1-up c = c.same_kind.ensures ∙ sym (sees_first c.args.kind c.self.inside.text.now c.self.inside.tokens.now _ c.in-len1-up.len_at_least) ∙ ap (sees c.args.kind) c.self.view_is
+unfolding same_kind
+returns-in-len1-up c = c.eq.ensures ∙ sym (sees_first c.args.kind c.self.inside.text.now c.self.inside.tokens.now _ c.in-len1-up.len_at_least) ∙ ap (sees c.args.kind) c.self.view_is
