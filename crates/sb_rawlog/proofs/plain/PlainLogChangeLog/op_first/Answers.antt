@@ -1,16 +1,5 @@
-use Rattle.std.proofs.Common.{length, sym, ap, ◌∙◌}
-use Rattle.sb_rawlog.specs.Changes.{is_op}
-use Rattle.sb_rawlog.specs.Records.{walk}
-use Rattle.sb_rawlog.proofs.Rises.{read}
-use Rattle.sb_rawlog.proofs.Spots.{op_spot, from_all, none_from_all}
+use Rattle.sb_rawlog.proofs.KeySteps.{op_step}
 use Rattle.sb_rawlog.proofs.plain.PlainLogChangeLog.op_first.Goals as goal
 
 pub returns : goal.returns
-returns c =
-    let rs = c.args.self.now.items.items in
-    let p = is_op c.args.who c.args.table c.args.kind in
-    let f = from_all p c.args.since c.deref.result.now rs c.len.result c.in-Some.i c.deref.ensures.value (c.len.ensures ∙ sym c.deref.ensures.len ∙ ap length c.deref.ensures.value) c.in-Some.ensures in
-    op_spot _ rs (walk p c.args.since rs) c.args.who c.args.table c.args.kind c.args.since c.in-Some.i c.index.result.now f (read rs c.in-Some.i c.index.result.now c.index.ensures f.within) (λ s e. (_, e))
-
-pub returns-in_default : goal.returns-in_default
-returns-in_default c = none_from_all (is_op c.args.who c.args.table c.args.kind) c.args.since c.deref.result.now c.args.self.now.items.items c.len.result c.deref.ensures.value (c.len.ensures ∙ sym c.deref.ensures.len ∙ ap length c.deref.ensures.value) c.in_default.ensures
+returns c = op_step _ _ c.args.since _ c.args.who c.args.table c.args.kind c.first_for.result c.first_for.ensures
