@@ -1,6 +1,7 @@
 -- A step for a key is a step of the walk that the key names.
 use Rattle.std.proofs.lemmas.Bool.{and_parts}
-use Rattle.std.proofs.Common.{◌≡◌, ℕ, Bool, true, ◌&&◌, ◌==◌, List, Option, Some, None, refl, sym, subst, eqb-true}
+use Rattle.std.proofs.Common.{◌≡◌, ℕ, Bool, true, ◌&&◌, ◌==◌, List, length, take, Option, Some, None, refl, sym, ap, ◌∙◌, subst, eqb-true}
+use Rattle.std.proofs.Math.Seq.{take-length}
 use Rattle.sb_value.specs.declared.id.Who.{Who}
 use Rattle.sb_value.specs.declared.change.Kind.{Kind}
 use Rattle.sb_value.specs.declared.change.Change.{Change}
@@ -9,8 +10,8 @@ use Rattle.sb_rawlog.specs.declared.key.Key.TheVariants.{Op as OpKey, Tuple as T
 use Rattle.sb_rawlog.specs.declared.spot.Spot.{Spot}
 use Rattle.sb_rawlog.specs.Changes.{author, is_by, same_kind, is_op, is_tuple}
 use Rattle.sb_rawlog.specs.Keys.{fits}
-use Rattle.sb_rawlog.specs.KeySteps.{spot_of, KeySpot, KeyStep}
-use Rattle.sb_rawlog.specs.Records.{Record}
+use Rattle.sb_rawlog.specs.KeySteps.{spot_of, KeySpot, KeyStep, KeyFirst, KeyNext}
+use Rattle.sb_rawlog.specs.Records.{Record, walk, before}
 use Rattle.sb_rawlog.specs.Steps.{Comes, OpSpot, OpStep, TupleSpot, TupleStep}
 use Rattle.sb_rawlog.proofs.Sessions.{author_is}
 use Rattle.sb_rawlog.proofs.Spots.{same_kind-eq}
@@ -44,3 +45,11 @@ module _ (ok : Spot → Type 0) (rs : List Record) (since : ℕ) (todo : List Re
       let of = of_tuple who table tuple h.found.1 h.good in
       subst (TupleSpot ok rs who table tuple since todo) (sym h.is)
       (record { stands = subst ok h.is h.stands; who_is = of.0; table_is = of.1.0; tuple_is = of.1.1; since_is = refl; comes = comes (TupleKey who table tuple) s h })
+
+-- the step among the first records of a list: among all, or among those before the spot's time
+module _ (ok : Spot → Type 0) (rs : List Record) (key : Key) (end : ℕ) (o : Option Spot) where
+  pub in_all : (since : ℕ) → end ≡ length rs → KeyStep ok rs key since (walk (fits key) since (take end rs)) o → KeyFirst ok rs key since o
+  in_all since whole = subst (λ l. KeyStep ok rs key since (walk (fits key) since l) o) (ap (λ n. take n rs) whole ∙ take-length rs)
+
+  pub in_front : (at : Spot) → before at.time rs ≡ take end rs → KeyStep ok rs key at.since (walk (fits key) at.since (take end rs)) o → KeyNext ok rs key at o
+  in_front at front = subst (λ l. KeyStep ok rs key at.since (walk (fits key) at.since l) o) (sym front)

@@ -1,5 +1,5 @@
 -- Machine: what a step of a walk for a key answers.
-use Rattle.std.specs.Prelude.{◌≡◌, ℕ, Bool, true, List, [], ◌∷◌, Option, Some, None}
+use Rattle.std.specs.Prelude.{◌≡◌, ℕ, true, List, [], ◌∷◌, Option, Some, None}
 use Rattle.sb_rawlog.specs.declared.key.Key.{Key}
 use Rattle.sb_rawlog.specs.declared.spot.Spot.{Spot}
 use Rattle.sb_rawlog.specs.Changes.{author}

@@ -1,9 +1,10 @@
 //! A log kept as a plain list.
-ghost use Rattle.std.specs.Prelude.{◌≡◌, ◌+◌, ◌≤◌, [], length, take, vec_capacity};
-ghost use Rattle.sb_rawlog.specs.Records.{Rising, Rising-prop, walk};
+ghost use Rattle.std.specs.Prelude.{◌≡◌, ◌+◌, ◌<◌, ◌≤◌, [], Some, length, take, slice_get, vec_capacity};
+ghost use Rattle.sb_value.specs.declared.change.Change.{Change};
+ghost use Rattle.sb_rawlog.specs.Records.{Rising, Rising-prop, walk, before, change_at};
 ghost use Rattle.sb_rawlog.specs.Found.{InList};
 ghost use Rattle.sb_rawlog.specs.Keys.{fits};
-ghost use Rattle.sb_rawlog.specs.KeySteps.{KeyStep, KeyFirst, KeyNext};
+ghost use Rattle.sb_rawlog.specs.KeySteps.{KeyStep};
 
 use crate::find::{index_of, newest_before};
 use crate::key::Key;
@@ -49,20 +50,15 @@ impl PlainLog {
         Some(spot_for(i, since, *time, change))
     }
 
-    /// The newest change that fits the key and is no older than `since`.
-    fn first_for(&self, key: &Key, since: u64) -> Option<Spot>
-        ensures { let rs = self.now.items.items in KeyFirst (InList rs) rs key.now since result }
+    /// The index of the record of the time, which was given the place.
+    fn index(&self, place: usize, time: u64) -> usize
+        requires { (c : Change) × (change_at time self.now.items.items ≡ Some c) }
+        ensures within { result < length self.now.items.items }
+        ensures record { let rs = self.now.items.items in
+            (c : Change) → change_at time rs ≡ Some c → slice_get rs result ≡ Some (time, c) }
+        ensures front { let rs = self.now.items.items in before time rs ≡ take result rs }
     {
-        self.newest_for(key, since, self.items.len())
-    }
-
-    /// The next older change that fits the key.
-    fn next_for(&self, key: &Key, spot: Spot) -> Option<Spot>
-        requires { InList self.now.items.items spot }
-        ensures { let rs = self.now.items.items in KeyNext (InList rs) rs key.now spot result }
-    {
-        let end = index_of(&self.items, spot.place, spot.time);
-        self.newest_for(key, spot.since, end)
+        index_of(&self.items, place, time)
     }
 }
 
@@ -107,19 +103,23 @@ impl ChangeLog for PlainLog {
     }
 
     fn op_first(&self, who: Who, table: TableId, kind: Kind, since: u64) -> Option<Spot> {
-        self.first_for(&Key::Op(who, table, kind), since)
+        self.newest_for(&Key::Op(who, table, kind), since, self.items.len())
     }
 
     fn op_next(&self, spot: Spot) -> Option<Spot> {
-        self.next_for(&Key::Op(spot.who, spot.table, spot.kind), spot)
+        let key = Key::Op(spot.who, spot.table, spot.kind);
+        let end = self.index(spot.place, spot.time);
+        self.newest_for(&key, spot.since, end)
     }
 
     fn tuple_first(&self, who: Who, table: TableId, tuple: u64, since: u64) -> Option<Spot> {
-        self.first_for(&Key::Tuple(who, table, tuple), since)
+        self.newest_for(&Key::Tuple(who, table, tuple), since, self.items.len())
     }
 
     fn tuple_next(&self, spot: Spot) -> Option<Spot> {
-        self.next_for(&Key::Tuple(spot.who, spot.table, spot.tuple), spot)
+        let key = Key::Tuple(spot.who, spot.table, spot.tuple);
+        let end = self.index(spot.place, spot.time);
+        self.newest_for(&key, spot.since, end)
     }
 
     fn tuple_back(&self, _spot: Spot) -> Option<Spot> {
@@ -127,7 +127,7 @@ impl ChangeLog for PlainLog {
     }
 
     fn get(&self, spot: Spot) -> (u64, &Change) {
-        let (time, change) = &self.items[index_of(&self.items, spot.place, spot.time)];
+        let (time, change) = &self.items[self.index(spot.place, spot.time)];
         (*time, change)
     }
 

@@ -1,5 +1,10 @@
-use Rattle.sb_rawlog.proofs.KeySteps.{op_step}
+use Rattle.std.proofs.Common.{◌≡◌, length, vec_len, ◌∙◌, arith}
+use Rattle.sb_rawlog.specs.declared.key.Key.TheVariants.{Op}
+use Rattle.sb_rawlog.proofs.KeySteps.{in_all, op_step}
 use Rattle.sb_rawlog.proofs.plain.PlainLogChangeLog.op_first.Goals as goal
 
 pub returns : goal.returns
-returns c = op_step _ _ c.args.since _ c.args.who c.args.table c.args.kind c.first_for.result c.first_for.ensures
+returns c =
+    let rs = c.args.self.now.items.items in let long : vec_len c.args.self.now.items ≡ length rs = omega arith in
+    op_step _ rs c.args.since _ c.args.who c.args.table c.args.kind c.newest_for.result
+    (in_all _ rs (Op c.args.who c.args.table c.args.kind) c.len.result c.newest_for.result c.args.since (c.len.ensures ∙ long) c.newest_for.ensures)
