@@ -108,8 +108,7 @@ impl ChangeLog for PlainLog {
 
     fn op_next(&self, spot: Spot) -> Option<Spot> {
         let key = Key::Op(spot.who, spot.table, spot.kind);
-        let end = self.index(spot.place, spot.time);
-        self.newest_for(&key, spot.since, end)
+        self.newest_for(&key, spot.since, self.index(spot.place, spot.time))
     }
 
     fn tuple_first(&self, who: Who, table: TableId, tuple: u64, since: u64) -> Option<Spot> {
@@ -118,8 +117,7 @@ impl ChangeLog for PlainLog {
 
     fn tuple_next(&self, spot: Spot) -> Option<Spot> {
         let key = Key::Tuple(spot.who, spot.table, spot.tuple);
-        let end = self.index(spot.place, spot.time);
-        self.newest_for(&key, spot.since, end)
+        self.newest_for(&key, spot.since, self.index(spot.place, spot.time))
     }
 
     fn tuple_back(&self, _spot: Spot) -> Option<Spot> {
