@@ -5,6 +5,7 @@ pub mod Marks
 pub mod Ahead
 pub mod Takes
 pub mod Seen
+pub mod KeySteps
 pub mod Steps
 pub mod Free
 pub mod Taken

@@ -1,17 +1,15 @@
 -- What the steps of a plain log answer, from the index that was found.
-use Rattle.std.proofs.lemmas.Bool.{and_parts}
-use Rattle.std.proofs.Common.{◌≡◌, ℕ, ◌+◌, Bool, true, not, ◌&&◌, ◌==◌, List, [], ◌∷◌, ◌++◌, length, take, drop, Some, slice_get, refl, sym, ap, ◌∙◌, subst, eqb-true}
+use Rattle.std.proofs.Common.{◌≡◌, ℕ, ◌+◌, Bool, true, not, ◌==◌, List, [], ◌∷◌, ◌++◌, length, take, drop, Some, slice_get, refl, sym, ap, ◌∙◌, subst}
 use Rattle.std.proofs.Math.Seq.{take-length}
 use Rattle.sb_value.specs.declared.id.Who.{Who}
 use Rattle.sb_value.specs.declared.change.Kind.{Kind}
 use Rattle.sb_value.specs.declared.change.Kind.TheVariants.{Inserted, Deleted, Updated}
 use Rattle.sb_value.specs.declared.change.Change.{Change}
-use Rattle.sb_rawlog.specs.Changes.{same_kind, is_op, is_tuple, is_by}
-use Rattle.sb_rawlog.specs.declared.spot.Spot.{Spot}
+use Rattle.sb_rawlog.specs.Changes.{same_kind, is_by}
 use Rattle.sb_rawlog.specs.Records.{Record, Rising, walk, before, without, others, change_at}
 use Rattle.sb_rawlog.specs.Found.{Found}
-use Rattle.sb_rawlog.specs.Steps.{OpSpot, TupleSpot, Newest}
-use Rattle.sb_rawlog.proofs.Rises.{before-index, split_at, without-split, rising-filter}
+use Rattle.sb_rawlog.specs.Steps.{Newest}
+use Rattle.sb_rawlog.proofs.Rises.{split_at, without-split, rising-filter}
 
 pub same_kind-eq : (a b : Kind) → same_kind a b ≡ true → a ≡ b
 same_kind-eq Inserted Inserted e = refl
@@ -23,14 +21,6 @@ same_kind-eq Deleted Updated e = absurd (cc)
 same_kind-eq Updated Inserted e = absurd (cc)
 same_kind-eq Updated Deleted e = absurd (cc)
 same_kind-eq Updated Updated e = refl
-
-pub is_op-kind : (who : Who) (table : ℕ) (kind : Kind) (c : Change) → is_op who table kind c ≡ true → c.kind ≡ kind
-is_op-kind who table kind c e =
-    same_kind-eq c.kind kind (and_parts (c.table == table) (same_kind c.kind kind) (and_parts (is_by who c) ((c.table == table) && same_kind c.kind kind) e).1).1
-
-pub is_tuple-tuple : (who : Who) (table tuple : ℕ) (c : Change) → is_tuple who table tuple c ≡ true → c.tuple ≡ tuple
-is_tuple-tuple who table tuple c e =
-    eqb-true c.tuple tuple (and_parts (c.table == table) (c.tuple == tuple) (and_parts (is_by who c) ((c.table == table) && (c.tuple == tuple)) e).1).1
 
 module _ (p : Change → Bool) (since : ℕ) (rs todo : List Record) (i : ℕ) (r : Record) (f : Found p since rs todo i) (e : slice_get rs i ≡ Some r) where
   is_it : f.record_at ≡ r
@@ -45,52 +35,16 @@ module _ (p : Change → Bool) (since : ℕ) (rs todo : List Record) (i : ℕ) (
   pub it_fits : p r.1 ≡ true
   it_fits = subst (λ (q : Record). p q.1 ≡ true) is_it f.fits
 
-pub op_spot : (ok : Spot → Type 0) (rs todo : List Record) (who : Who) (table : ℕ) (kind : Kind) (since i : ℕ) (r : Record) → Found (is_op who table kind) since rs todo i → slice_get rs i ≡ Some r
-    → ((s : Spot) → change_at s.time rs ≡ Some r.1 → ok s) → OpSpot ok rs who table kind since todo (record { place = i; time = r.0; since = since; who = who; table = table; kind = kind; tuple = r.1.tuple })
-op_spot ok rs todo who table kind since i r f e fine =
-    let p = is_op who table kind in let here = it_here p since rs todo i r f e in
-    record {
-      stands = fine _ here;
-      who_is = refl;
-      table_is = refl;
-      kind_is = refl;
-      since_is = refl;
-      comes = record { change = r.1; here = here; first = it_first p since rs todo i r f e; kind = sym (is_op-kind who table kind r.1 (it_fits p since rs todo i r f e)); tuple = refl };
-    }
-
-pub tuple_spot : (ok : Spot → Type 0) (rs todo : List Record) (who : Who) (table tuple since i : ℕ) (r : Record) → Found (is_tuple who table tuple) since rs todo i → slice_get rs i ≡ Some r
-    → ((s : Spot) → change_at s.time rs ≡ Some r.1 → ok s) → TupleSpot ok rs who table tuple since todo (record { place = i; time = r.0; since = since; who = who; table = table; kind = r.1.kind; tuple = tuple })
-tuple_spot ok rs todo who table tuple since i r f e fine =
-    let p = is_tuple who table tuple in let here = it_here p since rs todo i r f e in
-    record {
-      stands = fine _ here;
-      who_is = refl;
-      table_is = refl;
-      tuple_is = refl;
-      since_is = refl;
-      comes = record { change = r.1; here = here; first = it_first p since rs todo i r f e; kind = refl; tuple = sym (is_tuple-tuple who table tuple r.1 (it_fits p since rs todo i r f e)) };
-    }
-
 abbrev pub newest_found : (who : Who) (rs todo : List Record) (i : ℕ) (r : Record) → Found (is_by who) 0 rs todo i → todo ≡ walk (is_by who) 0 rs → slice_get rs i ≡ Some r → Newest who rs r.1
 newest_found who rs todo i r f is e = record { time = r.0; here = it_here (is_by who) 0 rs todo i r f e; first = sym is ∙ it_first (is_by who) 0 rs todo i r f e }
 
--- what was found in a list that is the log's: in all of it, or before a time
+-- what was found in a list that is the log's: in all of it
 pub from_all : (p : Change → Bool) (since : ℕ) (ds rs : List Record) (end i : ℕ) → ds ≡ rs → end ≡ length rs → Found p since ds (walk p since (take end ds)) i → Found p since rs (walk p since rs) i
 from_all p since ds rs end i same whole f =
     subst (λ (l : List Record). Found p since rs (walk p since l) i) (ap (λ n. take n rs) whole ∙ take-length rs) (subst (λ (l : List Record). Found p since l (walk p since (take end l)) i) same f)
 
 pub none_from_all : (p : Change → Bool) (since : ℕ) (ds rs : List Record) (end : ℕ) → ds ≡ rs → end ≡ length rs → walk p since (take end ds) ≡ [] → walk p since rs ≡ []
 none_from_all p since ds rs end same whole none = ap (walk p since) (sym (take-length rs) ∙ (λ j. take (sym whole j) (sym same j))) ∙ none
-
-module _ (p : Change → Bool) (since : ℕ) (ds rs : List Record) (end time : ℕ) (c : Change) (clock : ℕ) (same : ds ≡ rs) (up : Rising 0 rs clock) (e : slice_get rs end ≡ Some (time, c)) where
-  front : take end ds ≡ before time rs
-  front = ap (take end) same ∙ sym (before-index rs end (time, c) clock up e)
-
-  pub from_time : (i : ℕ) → Found p since ds (walk p since (take end ds)) i → Found p since rs (walk p since (before time rs)) i
-  from_time i f = subst (λ (l : List Record). Found p since rs (walk p since l) i) front (subst (λ (l : List Record). Found p since l (walk p since (take end ds)) i) same f)
-
-  pub none_from_time : walk p since (take end ds) ≡ [] → walk p since (before time rs) ≡ []
-  none_from_time none = ap (walk p since) (sym front) ∙ none
 
 -- what is left when a record is taken out
 pub removed : (rs news : List Record) (clock i : ℕ) (r : Record) → Rising 0 rs clock → slice_get rs i ≡ Some r → news ≡ take i rs ++ drop (i + 1) rs → news ≡ without r.0 rs

@@ -1,6 +1,6 @@
 -- What the steps of a walk over a log in places answer, from what the search along a list found.
 use Rattle.std.proofs.lemmas.Bool.{and_parts}
-use Rattle.std.proofs.Common.{◌≡◌, ℕ, ◌%◌, Bool, true, ◌&&◌, ◌==◌, nat_le, List, [], ◌∷◌, reverse, length, get_or, Option, Some, None, MatchOption, refl, sym, ap, ◌∙◌, subst, arith, eq-eqb, eqb-true}
+use Rattle.std.proofs.Common.{◌≡◌, ℕ, ◌%◌, Bool, true, ◌&&◌, ◌==◌, nat_le, List, [], ◌∷◌, reverse, length, get_or, Option, Some, None, MatchOption, refl, sym, ap, ◌∙◌, subst, arith, eq-eqb}
 use Rattle.std.specs.List.{filter}
 use Rattle.sb_value.specs.declared.id.Who.{Who}
 use Rattle.sb_value.specs.declared.change.Kind.{Kind}
@@ -18,30 +18,26 @@ use Rattle.sb_rawlog.specs.declared.spot.Spot.{Spot}
 use Rattle.sb_rawlog.specs.Buckets.{group, mixed, kind_number, session_number, bucket, key_bucket, list_of, by_which}
 use Rattle.sb_rawlog.specs.Changes.{author, is_by, same_kind, is_op, is_tuple}
 use Rattle.sb_rawlog.specs.Keys.{fits}
+use Rattle.sb_rawlog.specs.KeySteps.{KeySpot, KeyFirst, KeyNext}
 use Rattle.sb_rawlog.specs.Places.{HoldsLog}
 use Rattle.sb_rawlog.specs.Raw.{Raw, Stands}
 use Rattle.sb_rawlog.specs.Records.{Record, Rising, walk, before, change_at}
 use Rattle.sb_rawlog.specs.Search.{selects, spot_for, Hit}
-use Rattle.sb_rawlog.specs.Steps.{OpSpot, OpStep, TupleSpot, TupleStep, Newest}
+use Rattle.sb_rawlog.specs.Steps.{Newest}
 use Rattle.sb_rawlog.proofs.Seen.{get-shown, shown_node, falls-rise, rising-before, change_there, first_found, none_found, before-places, before-before, first_older, length-seen}
 use Rattle.sb_rawlog.proofs.Sessions.{author_is}
-use Rattle.sb_rawlog.proofs.Spots.{is_op-kind, is_tuple-tuple}
+use Rattle.sb_rawlog.proofs.KeySteps.{of_op, of_tuple}
 
 -- ---- keys
-
-table_is : (who : Who) (table : ℕ) (c : Change) (b : Bool) → (is_by who c && ((c.table == table) && b)) ≡ true → c.table ≡ table
-table_is who table c b e = eqb-true c.table table (and_parts (c.table == table) b (and_parts (is_by who c) ((c.table == table) && b) e).1).0
 
 -- what fits a key lies in the key's bucket
 pub fits_bucket : (n : ℕ) (k : Key) (c : Change) → fits k c ≡ true → bucket n (list_of k) c ≡ key_bucket n k
 fits_bucket n (OpKey who table kind) c e =
-    let by : author c ≡ who = author_is who c (and_parts (is_by who c) ((c.table == table) && same_kind c.kind kind) e).0 in
-    let t = table_is who table c (same_kind c.kind kind) e in let k = is_op-kind who table kind c e in
-    λ j. mixed (group (by j).tenant (by j).session (t j)) (kind_number (k j)) % n
+    let of = of_op who table kind c e in
+    λ j. mixed (group (of.0 j).tenant (of.0 j).session (of.1.0 j)) (kind_number (of.1.1 j)) % n
 fits_bucket n (TupleKey who table tuple) c e =
-    let by : author c ≡ who = author_is who c (and_parts (is_by who c) ((c.table == table) && (c.tuple == tuple)) e).0 in
-    let t = table_is who table c (c.tuple == tuple) e in let k = is_tuple-tuple who table tuple c e in
-    λ j. mixed (group (by j).tenant (by j).session (t j)) (k j) % n
+    let of = of_tuple who table tuple c e in
+    λ j. mixed (group (of.0 j).tenant (of.0 j).session (of.1.0 j)) (of.1.1 j) % n
 fits_bucket n (SessionKey who) c e = let by : author c ≡ who = author_is who c e in λ j. session_number (by j).tenant (by j).session
 
 is_by-author : (who : Who) (c : Change) → who ≡ author c → is_by who c ≡ true
@@ -146,56 +142,30 @@ module _ (cs : List (Option (Node Change))) (ops tuples sessions : List (Option 
       pub no_next : filter (selects p since) (entries cs next_places) ≡ [] → walk p since (before t rs) ≡ []
       no_next e = none_found p since (entries cs (older cs t order)) (before t rs) rest_is (sym (enough (older cs t order)) ∙ e)
 
-  -- ---- the spots of the two walks
+  -- ---- the spots of a walk for a key
 
-  pub op_spot : (who : Who) (table : ℕ) (kind : Kind) (since : ℕ) (ps : List ℕ) (todo : List Record) (s : Spot) → (hit : Hit (is_op who table kind) since cs ps s)
-      → todo ≡ (hit.node.time, hit.node.item) ∷ walk (is_op who table kind) since (before hit.node.time rs) → OpSpot (Stands value) rs who table kind since todo s
-  op_spot who table kind since ps todo s hit first =
-      let n = hit.node in let c = n.item in
-      subst (OpSpot (Stands value) rs who table kind since todo) (sym hit.is) (record {
-        stands = stands_at s.place since n hit.here;
-        who_is = author_is who c (and_parts (is_by who c) ((c.table == table) && same_kind c.kind kind) hit.fits).0;
-        table_is = table_is who table c (same_kind c.kind kind) hit.fits;
-        kind_is = is_op-kind who table kind c hit.fits;
-        since_is = refl;
-        comes = record { change = c; here = place_change s.place n hit.here; first = first; kind = refl; tuple = refl };
-      })
+  key_spot : (k : Key) (since : ℕ) (ps : List ℕ) (todo : List Record) (s : Spot) → (hit : Hit (fits k) since cs ps s) → todo ≡ (hit.node.time, hit.node.item) ∷ walk (fits k) since (before hit.node.time rs)
+      → KeySpot (Stands value) rs k since todo s
+  key_spot k since ps todo s hit first =
+      record {
+        found = (hit.node.time, hit.node.item);
+        is = hit.is;
+        stands = subst (Stands value) (sym hit.is) (stands_at s.place since hit.node hit.here);
+        here = place_change s.place hit.node hit.here;
+        good = hit.fits;
+        first = first;
+      }
 
-  pub tuple_spot : (who : Who) (table tuple since : ℕ) (ps : List ℕ) (todo : List Record) (s : Spot) → (hit : Hit (is_tuple who table tuple) since cs ps s)
-      → todo ≡ (hit.node.time, hit.node.item) ∷ walk (is_tuple who table tuple) since (before hit.node.time rs) → TupleSpot (Stands value) rs who table tuple since todo s
-  tuple_spot who table tuple since ps todo s hit first =
-      let n = hit.node in let c = n.item in
-      subst (TupleSpot (Stands value) rs who table tuple since todo) (sym hit.is) (record {
-        stands = stands_at s.place since n hit.here;
-        who_is = author_is who c (and_parts (is_by who c) ((c.table == table) && (c.tuple == tuple)) hit.fits).0;
-        table_is = table_is who table c (c.tuple == tuple) hit.fits;
-        tuple_is = is_tuple-tuple who table tuple c hit.fits;
-        since_is = refl;
-        comes = record { change = c; here = place_change s.place n hit.here; first = first; kind = refl; tuple = refl };
-      })
+  pub key_first_is : (k : Key) (since : ℕ) (o : Option Spot) → let ps = first_places k since in
+      MatchOption o (filter (selects (fits k) since) (entries cs ps) ≡ []) (Hit (fits k) since cs ps) → KeyFirst (Stands value) rs k since o
+  key_first_is k since None h = no_first k since h
+  key_first_is k since (Some s) h = key_spot k since (first_places k since) _ s h (first_walk k since s h)
 
-  pub op_first_is : (who : Who) (table : ℕ) (kind : Kind) (since : ℕ) (o : Option Spot)
-      → MatchOption o (filter (selects (is_op who table kind) since) (entries cs (first_places (OpKey who table kind) since)) ≡ []) (Hit (is_op who table kind) since cs (first_places (OpKey who table kind) since))
-      → OpStep (Stands value) rs who table kind since (walk (is_op who table kind) since rs) o
-  op_first_is who table kind since None h = no_first (OpKey who table kind) since h
-  op_first_is who table kind since (Some s) h = op_spot who table kind since (first_places (OpKey who table kind) since) _ s h (first_walk (OpKey who table kind) since s h)
-
-  pub tuple_first_is : (who : Who) (table tuple since : ℕ) (o : Option Spot)
-      → MatchOption o (filter (selects (is_tuple who table tuple) since) (entries cs (first_places (TupleKey who table tuple) since)) ≡ []) (Hit (is_tuple who table tuple) since cs (first_places (TupleKey who table tuple) since))
-      → TupleStep (Stands value) rs who table tuple since (walk (is_tuple who table tuple) since rs) o
-  tuple_first_is who table tuple since None h = no_first (TupleKey who table tuple) since h
-  tuple_first_is who table tuple since (Some s) h = tuple_spot who table tuple since (first_places (TupleKey who table tuple) since) _ s h (first_walk (TupleKey who table tuple) since s h)
-
-  module _ (at : Spot) (n : Node Change) (here : get_or cs at.place None ≡ Some n) (when : n.time ≡ at.time) where
-    pub op_next_is : (good : is_op at.who at.table at.kind n.item ≡ true) (o : Option Spot) → let k = OpKey at.who at.table at.kind in let ps = next_places k at.since at.place n here good at.time when in
-        MatchOption o (filter (selects (fits k) at.since) (entries cs ps) ≡ []) (Hit (fits k) at.since cs ps) → OpStep (Stands value) rs at.who at.table at.kind at.since (walk (fits k) at.since (before at.time rs)) o
-    op_next_is good None h = no_next (OpKey at.who at.table at.kind) at.since at.place n here good at.time when h
-    op_next_is good (Some s) h = op_spot at.who at.table at.kind at.since (next_places (OpKey at.who at.table at.kind) at.since at.place n here good at.time when) _ s h (next_walk (OpKey at.who at.table at.kind) at.since at.place n here good at.time when s h)
-
-    pub tuple_next_is : (good : is_tuple at.who at.table at.tuple n.item ≡ true) (o : Option Spot) → let k = TupleKey at.who at.table at.tuple in let ps = next_places k at.since at.place n here good at.time when in
-        MatchOption o (filter (selects (fits k) at.since) (entries cs ps) ≡ []) (Hit (fits k) at.since cs ps) → TupleStep (Stands value) rs at.who at.table at.tuple at.since (walk (fits k) at.since (before at.time rs)) o
-    tuple_next_is good None h = no_next (TupleKey at.who at.table at.tuple) at.since at.place n here good at.time when h
-    tuple_next_is good (Some s) h = tuple_spot at.who at.table at.tuple at.since (next_places (TupleKey at.who at.table at.tuple) at.since at.place n here good at.time when) _ s h (next_walk (TupleKey at.who at.table at.tuple) at.since at.place n here good at.time when s h)
+  pub key_next_is : (k : Key) (at : Spot) (n : Node Change) (here : get_or cs at.place None ≡ Some n) (good : fits k n.item ≡ true) (when : n.time ≡ at.time) (o : Option Spot)
+      → let ps = next_places k at.since at.place n here good at.time when in
+      MatchOption o (filter (selects (fits k) at.since) (entries cs ps) ≡ []) (Hit (fits k) at.since cs ps) → KeyNext (Stands value) rs k at o
+  key_next_is k at n here good when None h = no_next k at.since at.place n here good at.time when h
+  key_next_is k at n here good when (Some s) h = key_spot k at.since (next_places k at.since at.place n here good at.time when) _ s h (next_walk k at.since at.place n here good at.time when s h)
 
   abbrev pub newest_is : (who : Who) (s : Spot) → (hit : Hit (is_by who) 0 cs (first_places (SessionKey who) 0) s) → Newest who rs hit.node.item
   newest_is who s hit = record { time = hit.node.time; here = place_change s.place hit.node hit.here; first = first_walk (SessionKey who) 0 s hit }

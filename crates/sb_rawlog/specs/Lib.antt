@@ -6,6 +6,7 @@ pub mod Found
 pub mod Heads
 pub mod Steps
 pub mod Buckets
+pub mod KeySteps
 pub mod Search
 pub mod Places
 pub mod Raw

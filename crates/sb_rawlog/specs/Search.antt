@@ -7,8 +7,8 @@ use Rattle.sb_rawlog.specs.Logs.{entries}
 use Rattle.sb_rawlog.specs.declared.key.Key.{Key}
 use Rattle.sb_rawlog.specs.declared.node.Which.{Which}
 use Rattle.sb_rawlog.specs.Buckets.{list_of}
-use Rattle.sb_rawlog.specs.Changes.{author}
 use Rattle.sb_rawlog.specs.Keys.{fits}
+use Rattle.sb_rawlog.specs.KeySteps.{spot_of}
 use Rattle.sb_rawlog.specs.Links.{IsChain}
 use Rattle.sb_rawlog.specs.Records.{Record}
 use Rattle.sb_rawlog.specs.declared.spot.Spot.{Spot}
@@ -17,7 +17,7 @@ abbrev pub selects : (Change → Bool) → ℕ → Record → Bool
 selects p since r = nat_le since r.0 && p r.1
 
 abbrev pub spot_for : ℕ → ℕ → Node Change → Spot
-spot_for place since n = record { place = place; time = n.time; since = since; who = author n.item; table = n.item.table; kind = n.item.kind; tuple = n.item.tuple }
+spot_for place since n = spot_of place since (n.time, n.item)
 
 -- the spot's change comes first of those of the places that are selected
 pub record Hit (p : Change → Bool) (since : ℕ) (cs : List (Option (Node Change))) (ps : List ℕ) (s : Spot) : Type 0 where

@@ -1,14 +1,15 @@
 //! A log kept as a plain list.
-ghost use Rattle.std.specs.Prelude.{◌≡◌, ◌+◌, ◌≤◌, [], Some, length, slice_get, vec_capacity, MatchOption};
+ghost use Rattle.std.specs.Prelude.{◌≡◌, ◌+◌, ◌<◌, ◌≤◌, [], Some, length, take, slice_get, vec_capacity};
 ghost use Rattle.sb_value.specs.declared.change.Change.{Change};
 ghost use Rattle.sb_rawlog.specs.Records.{Rising, Rising-prop, walk, before, change_at};
-ghost use Rattle.sb_rawlog.specs.Found.{Found};
+ghost use Rattle.sb_rawlog.specs.Found.{InList};
 ghost use Rattle.sb_rawlog.specs.Keys.{fits};
+ghost use Rattle.sb_rawlog.specs.KeySteps.{KeyStep};
 
 use crate::find::{index_of, newest_before};
 use crate::key::Key;
 use crate::log::ChangeLog;
-use crate::spot::Spot;
+use crate::spot::{Spot, spot_for};
 use sb_value::{Change, Kind, TableId, Who};
 use std::alloc::{AllocError, Global};
 
@@ -35,6 +36,30 @@ impl PlainLog {
             room: 0,
         }
     }
+
+    /// The newest of the first `end` changes that fits the key and is no older than `since`.
+    fn newest_for(&self, key: &Key, since: u64, end: usize) -> Option<Spot>
+        requires { end ≤ length self.now.items.items }
+        ensures { let rs = self.now.items.items in
+            KeyStep (InList rs) rs key.now since (walk (fits key.now) since (take end rs)) result }
+    {
+        let Some(i) = newest_before(&self.items, end, since, key) else {
+            return None;
+        };
+        let (time, change) = &self.items[i];
+        Some(spot_for(i, since, *time, change))
+    }
+
+    /// The index of the record of the time, which was given the place.
+    fn index(&self, place: usize, time: u64) -> usize
+        requires { (c : Change) × (change_at time self.now.items.items ≡ Some c) }
+        ensures within { result < length self.now.items.items }
+        ensures record { let rs = self.now.items.items in
+            (c : Change) → change_at time rs ≡ Some c → slice_get rs result ≡ Some (time, c) }
+        ensures front { let rs = self.now.items.items in before time rs ≡ take result rs }
+    {
+        index_of(&self.items, place, time)
+    }
 }
 
 impl ChangeLog for PlainLog {
@@ -44,7 +69,7 @@ impl ChangeLog for PlainLog {
 
     ghost room = { λ l. l.room };
 
-    ghost stands = { λ l s. (c : Change) × (change_at s.time l.items.items ≡ Some c) };
+    ghost stands = { λ l. InList l.items.items };
 
     fn reserve(&mut self, n: usize) -> Result<(), AllocError> {
         if n <= self.room {
@@ -78,75 +103,21 @@ impl ChangeLog for PlainLog {
     }
 
     fn op_first(&self, who: Who, table: TableId, kind: Kind, since: u64) -> Option<Spot> {
-        let session = who;
-        let key = Key::Op(session, table, kind);
-        let Some(i) = newest_before(&self.items, self.items.len(), since, &key) else {
-            return None;
-        };
-        let (time, change) = &self.items[i];
-        Some(Spot {
-            place: i,
-            time: *time,
-            since,
-            who,
-            table,
-            kind,
-            tuple: change.tuple,
-        })
+        self.newest_for(&Key::Op(who, table, kind), since, self.items.len())
     }
 
     fn op_next(&self, spot: Spot) -> Option<Spot> {
         let key = Key::Op(spot.who, spot.table, spot.kind);
-        let end = index_of(&self.items, spot.place, spot.time);
-        let Some(i) = newest_before(&self.items, end, spot.since, &key) else {
-            return None;
-        };
-        let (time, change) = &self.items[i];
-        Some(Spot {
-            place: i,
-            time: *time,
-            since: spot.since,
-            who: spot.who,
-            table: spot.table,
-            kind: spot.kind,
-            tuple: change.tuple,
-        })
+        self.newest_for(&key, spot.since, self.index(spot.place, spot.time))
     }
 
     fn tuple_first(&self, who: Who, table: TableId, tuple: u64, since: u64) -> Option<Spot> {
-        let session = who;
-        let key = Key::Tuple(session, table, tuple);
-        let Some(i) = newest_before(&self.items, self.items.len(), since, &key) else {
-            return None;
-        };
-        let (time, change) = &self.items[i];
-        Some(Spot {
-            place: i,
-            time: *time,
-            since,
-            who,
-            table,
-            kind: change.kind,
-            tuple,
-        })
+        self.newest_for(&Key::Tuple(who, table, tuple), since, self.items.len())
     }
 
     fn tuple_next(&self, spot: Spot) -> Option<Spot> {
         let key = Key::Tuple(spot.who, spot.table, spot.tuple);
-        let end = index_of(&self.items, spot.place, spot.time);
-        let Some(i) = newest_before(&self.items, end, spot.since, &key) else {
-            return None;
-        };
-        let (time, change) = &self.items[i];
-        Some(Spot {
-            place: i,
-            time: *time,
-            since: spot.since,
-            who: spot.who,
-            table: spot.table,
-            kind: change.kind,
-            tuple: spot.tuple,
-        })
+        self.newest_for(&key, spot.since, self.index(spot.place, spot.time))
     }
 
     fn tuple_back(&self, _spot: Spot) -> Option<Spot> {
@@ -154,7 +125,7 @@ impl ChangeLog for PlainLog {
     }
 
     fn get(&self, spot: Spot) -> (u64, &Change) {
-        let (time, change) = &self.items[index_of(&self.items, spot.place, spot.time)];
+        let (time, change) = &self.items[self.index(spot.place, spot.time)];
         (*time, change)
     }
 

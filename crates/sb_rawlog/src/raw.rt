@@ -1,5 +1,7 @@
 //! A log whose changes lie in numbered places.
-ghost use Rattle.std.specs.Prelude.{◌≡◌, ◌+◌, ◌<◌, ◌≤◌, [], length, IfOk};
+ghost use Rattle.std.specs.Prelude.{◌≡◌, ◌+◌, ◌<◌, ◌≤◌, true, [], length, IfOk};
+ghost use Rattle.sb_rawlog.specs.Keys.{fits};
+ghost use Rattle.sb_rawlog.specs.KeySteps.{KeyFirst, KeyNext};
 ghost use Rattle.sb_rawlog.specs.Records.{others};
 ghost use Rattle.sb_rawlog.specs.Sessions.{OthersStay, TakesLast};
 ghost use Rattle.sb_rawlog.specs.Steps.{SpotsStay, TakesNewest};
@@ -11,10 +13,10 @@ use crate::heads::Heads;
 use crate::key::Key;
 use crate::lists::link;
 use crate::log::ChangeLog;
-use crate::node::{Node, Which};
+use crate::node::Node;
 use crate::places::{add_places, claim, enter, give_back, spare_places, take_out};
-use crate::search::{search, spot_for};
-use crate::spot::Spot;
+use crate::search::search;
+use crate::spot::{Spot, spot_for};
 use sb_arena::Arena;
 use sb_value::{Change, Kind, TableId, Who};
 use std::alloc::{AllocError, Global};
@@ -63,6 +65,25 @@ impl RawLog {
             clock: 0,
             room: 0,
         })
+    }
+
+    /// The newest change that fits the key and is no older than `since`.
+    #[inline(always)]
+    fn first_for(&self, key: &Key, since: u64) -> Option<Spot>
+        ensures { KeyFirst (Stands self.now) (records_of self.now) key.now since result }
+    {
+        let head = self.heads.first(key);
+        search(&self.arena, head, since, key)
+    }
+
+    /// The next older change that fits the key, as the spot's own does.
+    #[inline(always)]
+    fn next_for(&self, key: &Key, spot: Spot) -> Option<Spot>
+        requires { (stands : Stands self.now spot) × (fits key.now stands.change ≡ true) }
+        ensures { KeyNext (Stands self.now) (records_of self.now) key.now spot result }
+    {
+        let behind = link(&self.arena, key.list(), spot.place);
+        search(&self.arena, behind, spot.since, key)
     }
 
     /// Takes the session's newest change out of its place.
@@ -140,27 +161,19 @@ impl ChangeLog for RawLog {
     }
 
     fn op_first(&self, who: Who, table: TableId, kind: Kind, since: u64) -> Option<Spot> {
-        let key = Key::Op(who, table, kind);
-        let head = self.heads.first(&key);
-        search(&self.arena, head, since, &key)
+        self.first_for(&Key::Op(who, table, kind), since)
     }
 
     fn op_next(&self, spot: Spot) -> Option<Spot> {
-        let key = Key::Op(spot.who, spot.table, spot.kind);
-        let behind = link(&self.arena, Which::Op, spot.place);
-        search(&self.arena, behind, spot.since, &key)
+        self.next_for(&Key::Op(spot.who, spot.table, spot.kind), spot)
     }
 
     fn tuple_first(&self, who: Who, table: TableId, tuple: u64, since: u64) -> Option<Spot> {
-        let key = Key::Tuple(who, table, tuple);
-        let head = self.heads.first(&key);
-        search(&self.arena, head, since, &key)
+        self.first_for(&Key::Tuple(who, table, tuple), since)
     }
 
     fn tuple_next(&self, spot: Spot) -> Option<Spot> {
-        let key = Key::Tuple(spot.who, spot.table, spot.tuple);
-        let behind = link(&self.arena, Which::Tuple, spot.place);
-        search(&self.arena, behind, spot.since, &key)
+        self.next_for(&Key::Tuple(spot.who, spot.table, spot.tuple), spot)
     }
 
     fn tuple_back(&self, spot: Spot) -> Option<Spot> {
@@ -177,7 +190,7 @@ impl ChangeLog for RawLog {
         if older.time < spot.since || older.time >= spot.time || !key.fits(&older.item) {
             return None;
         }
-        Some(spot_for(place, spot.since, older))
+        Some(spot_for(place, spot.since, older.time, &older.item))
     }
 
     fn get(&self, spot: Spot) -> (u64, &Change) {

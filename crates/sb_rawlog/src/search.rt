@@ -1,32 +1,12 @@
 //! The walk along a list of a log in places.
-ghost use Rattle.std.specs.Prelude.{◌≡◌};
 ghost use Rattle.sb_rawlog.specs.Buckets.{list_of};
-ghost use Rattle.sb_rawlog.specs.Search.{spot_for, BeginsList, FindsFirst};
+ghost use Rattle.sb_rawlog.specs.Search.{BeginsList, FindsFirst};
 
 use crate::key::Key;
 use crate::node::Node;
-use crate::spot::Spot;
+use crate::spot::{Spot, spot_for};
 use sb_arena::Arena;
-use sb_value::{Change, Who};
-
-/// The spot of the change in the place.
-pub(crate) fn spot_for(place: usize, since: u64, node: &Node<Change>) -> Spot
-    ensures { result ≡ spot_for place since node.now }
-{
-    let change = &node.item;
-    Spot {
-        place,
-        time: node.time,
-        since,
-        who: Who {
-            tenant: change.tenant,
-            session: change.session,
-        },
-        table: change.table,
-        kind: change.kind,
-        tuple: change.tuple,
-    }
-}
+use sb_value::Change;
 
 /// The first change from `head` on that fits the key and is no older than `since`.
 #[inline(always)]
@@ -50,7 +30,7 @@ pub(crate) fn search(
             return None;
         }
         if key.fits(&node.item) {
-            return Some(spot_for(place, since, node));
+            return Some(spot_for(place, since, node.time, &node.item));
         }
         at = node.links.get(list);
     }

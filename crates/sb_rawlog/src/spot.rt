@@ -1,6 +1,8 @@
 //! Where a walk stands.
+ghost use Rattle.std.specs.Prelude.{◌≡◌};
+ghost use Rattle.sb_rawlog.specs.KeySteps.{spot_of};
 
-use sb_value::{Kind, TableId, Who};
+use sb_value::{Change, Kind, TableId, Who};
 
 /// Names a record of a log: its place there and its time, whose and of what it is, and how far back its walk goes.
 #[derive(Clone, Copy)]
@@ -12,4 +14,22 @@ pub struct Spot {
     pub table: TableId,
     pub kind: Kind,
     pub tuple: u64,
+}
+
+/// The spot of the change that lies in the place with its time, on a walk that goes back to `since`.
+pub(crate) fn spot_for(place: usize, since: u64, time: u64, change: &Change) -> Spot
+    ensures { result ≡ spot_of place since (time, change.now) }
+{
+    Spot {
+        place,
+        time,
+        since,
+        who: Who {
+            tenant: change.tenant,
+            session: change.session,
+        },
+        table: change.table,
+        kind: change.kind,
+        tuple: change.tuple,
+    }
 }

@@ -37,21 +37,22 @@ returns-then-fits c = λ top ps h.
     (finds w p c.args.since c.args.arena.now c.args.head c.in-Some.place n (sym c.in-Some-get.ensures) (subst (Ahead w (selects p c.args.since) c.args.arena.now c.args.head) c.in-Some.is c.steps.invariant)
     good (and_from (nat_le c.args.since n.time) (p n.item) (le-leb c.args.since n.time c.if-node-since.false) good) top ps h)
 
-pub steps-smaller : goal.steps-smaller
-steps-smaller c =
+-- the next place is further on in the list
+onward : (c : goal.After-get-at) → let cs = c.args.arena.now in Ahead (list_of c.args.key.now) (selects (fits c.args.key.now) c.args.since) cs c.args.head c.get-at.result × (left cs c.get-at.result < left cs c.steps.at)
+onward c =
     let w = list_of c.args.key.now in let p = fits c.args.key.now in let n = c.in-Some-get.node.now in
     let on = goes_on w p c.args.since c.args.arena.now c.args.head c.in-Some.place n (sym c.in-Some-get.ensures)
     (subst (Ahead w (selects p c.args.since) c.args.arena.now c.args.head) c.in-Some.is c.steps.invariant) (and_right (nat_le c.args.since n.time) (p n.item) (sym c.fits.ensures ∙ c.if-fits.false)) in
-    let next = ap (link_in w) (sym c.in-Some-get.ensures) ∙ ap (λ l. link_of l n.links) (sym c.list-list.ensures) ∙ sym c.get-at.ensures in
-    subst (λ (k : Option ℕ × Option ℕ). left c.args.arena.now k.0 < left c.args.arena.now k.1) (λ j. (next j, sym c.in-Some.is j)) on.1
+    let next = ap (link_in w) (sym c.in-Some-get.ensures) ∙ ap (λ l. link_of l n.links) (sym c.list-list.ensures) ∙ sym c.get-at.ensures in (
+      subst (Ahead w (selects p c.args.since) c.args.arena.now c.args.head) next on.0,
+      subst (λ (k : Option ℕ × Option ℕ). left c.args.arena.now k.0 < left c.args.arena.now k.1) (λ j. (next j, sym c.in-Some.is j)) on.1,
+    )
+
+pub steps-smaller : goal.steps-smaller
+steps-smaller c = (onward c).1
 
 pub steps-preserved : goal.steps-preserved
-steps-preserved c =
-    let w = list_of c.args.key.now in let p = fits c.args.key.now in let n = c.in-Some-get.node.now in
-    let on = goes_on w p c.args.since c.args.arena.now c.args.head c.in-Some.place n (sym c.in-Some-get.ensures)
-    (subst (Ahead w (selects p c.args.since) c.args.arena.now c.args.head) c.in-Some.is c.steps.invariant) (and_right (nat_le c.args.since n.time) (p n.item) (sym c.fits.ensures ∙ c.if-fits.false)) in
-    let next = ap (link_in w) (sym c.in-Some-get.ensures) ∙ ap (λ l. link_of l n.links) (sym c.list-list.ensures) ∙ sym c.get-at.ensures in
-    subst (Ahead w (selects p c.args.since) c.args.arena.now c.args.head) next on.0
+steps-preserved c = (onward c).0
 
 pub returns : goal.returns
 returns c =

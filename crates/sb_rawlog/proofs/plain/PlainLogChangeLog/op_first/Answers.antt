@@ -1,16 +1,10 @@
-use Rattle.std.proofs.Common.{length, sym, ap, ◌∙◌}
-use Rattle.sb_rawlog.specs.Changes.{is_op}
-use Rattle.sb_rawlog.specs.Records.{walk}
-use Rattle.sb_rawlog.proofs.Rises.{read}
-use Rattle.sb_rawlog.proofs.Spots.{op_spot, from_all, none_from_all}
+use Rattle.std.proofs.Common.{◌≡◌, length, vec_len, ◌∙◌, arith}
+use Rattle.sb_rawlog.specs.declared.key.Key.TheVariants.{Op}
+use Rattle.sb_rawlog.proofs.KeySteps.{in_all, op_step}
 use Rattle.sb_rawlog.proofs.plain.PlainLogChangeLog.op_first.Goals as goal
 
 pub returns : goal.returns
 returns c =
-    let rs = c.args.self.now.items.items in
-    let p = is_op c.args.who c.args.table c.args.kind in
-    let f = from_all p c.args.since c.deref.result.now rs c.len.result c.in-Some.i c.deref.ensures.value (c.len.ensures ∙ sym c.deref.ensures.len ∙ ap length c.deref.ensures.value) c.in-Some.ensures in
-    op_spot _ rs (walk p c.args.since rs) c.args.who c.args.table c.args.kind c.args.since c.in-Some.i c.index.result.now f (read rs c.in-Some.i c.index.result.now c.index.ensures f.within) (λ s e. (_, e))
-
-pub returns-in_default : goal.returns-in_default
-returns-in_default c = none_from_all (is_op c.args.who c.args.table c.args.kind) c.args.since c.deref.result.now c.args.self.now.items.items c.len.result c.deref.ensures.value (c.len.ensures ∙ sym c.deref.ensures.len ∙ ap length c.deref.ensures.value) c.in_default.ensures
+    let rs = c.args.self.now.items.items in let long : vec_len c.args.self.now.items ≡ length rs = omega arith in
+    op_step _ rs c.args.since _ c.args.who c.args.table c.args.kind c.newest_for.result
+    (in_all _ rs (Op c.args.who c.args.table c.args.kind) c.len.result c.newest_for.result c.args.since (c.len.ensures ∙ long) c.newest_for.ensures)

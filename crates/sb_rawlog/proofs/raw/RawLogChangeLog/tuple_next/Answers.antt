@@ -1,21 +1,9 @@
-use Rattle.std.proofs.Common.{sym, ap, ◌∙◌, subst}
-use Rattle.sb_rawlog.specs.declared.key.Key.TheVariants.{Tuple as TupleKey}
-use Rattle.sb_rawlog.specs.Raw.{Raw, Stands, records_of}
-use Rattle.sb_rawlog.specs.Keys.{fits}
-use Rattle.sb_rawlog.specs.Steps.{TupleNext}
-use Rattle.sb_rawlog.proofs.Steps.{standing, tuple_fits, next_chain, next_places, tuple_next_is}
+use Rattle.sb_rawlog.proofs.KeySteps.{tuple_step}
+use Rattle.sb_rawlog.proofs.Steps.{tuple_fits}
 use Rattle.sb_rawlog.proofs.raw.RawLogChangeLog.tuple_next.Goals as goal
 
-pub link-behind-requires : goal.link-behind-requires
-link-behind-requires c = let a = c.self.inside in let inv = c.self.invariant in let n = standing a.arena a.heads.ops.items a.heads.tuples.items a.heads.sessions.items inv.order a.clock a.room inv.holds c.args.spot (subst (λ (v : Raw). Stands v c.args.spot) (sym c.self.view_is) c.requires) in (n.0, n.1.0)
-
-pub search-requires : goal.search-requires
-search-requires c = let a = c.self.inside in let inv = c.self.invariant in let k = TupleKey c.args.spot.who c.args.spot.table c.args.spot.tuple in let s = c.args.spot in let st = subst (λ (v : Raw). Stands v s) (sym c.self.view_is) c.requires in
-    let n = standing a.arena a.heads.ops.items a.heads.tuples.items a.heads.sessions.items inv.order a.clock a.room inv.holds s st in let good = ap (fits k) n.1.1.1 ∙ tuple_fits s st.change st.who st.table st.tuple in
-    (s.time, (next_places a.arena a.heads.ops.items a.heads.tuples.items a.heads.sessions.items inv.order a.clock a.room inv.holds k s.since s.place n.0 n.1.0 good s.time n.1.1.0, next_chain a.arena a.heads.ops.items a.heads.tuples.items a.heads.sessions.items inv.order a.clock a.room inv.holds k s.since s.place n.0 n.1.0 good s.time n.1.1.0 c.link-behind.result c.link-behind.ensures))
+pub next_for-requires : goal.next_for-requires
+next_for-requires c = let s = c.args.spot in let st = c.requires in (st, tuple_fits s st.change st.who st.table st.tuple)
 
 pub returns : goal.returns
-returns c = let a = c.self.inside in let inv = c.self.invariant in let k = TupleKey c.args.spot.who c.args.spot.table c.args.spot.tuple in let s = c.args.spot in let st = subst (λ (v : Raw). Stands v s) (sym c.self.view_is) c.requires in
-    let n = standing a.arena a.heads.ops.items a.heads.tuples.items a.heads.sessions.items inv.order a.clock a.room inv.holds s st in let good = ap (fits k) n.1.1.1 ∙ tuple_fits s st.change st.who st.table st.tuple in
-    subst (λ (v : Raw). TupleNext (Stands v) (records_of v) s c.search.result) c.self.view_is
-    (tuple_next_is a.arena a.heads.ops.items a.heads.tuples.items a.heads.sessions.items inv.order a.clock a.room inv.holds s n.0 n.1.0 n.1.1.0 good c.search.result (c.search.ensures s.time (next_places a.arena a.heads.ops.items a.heads.tuples.items a.heads.sessions.items inv.order a.clock a.room inv.holds k s.since s.place n.0 n.1.0 good s.time n.1.1.0) (next_chain a.arena a.heads.ops.items a.heads.tuples.items a.heads.sessions.items inv.order a.clock a.room inv.holds k s.since s.place n.0 n.1.0 good s.time n.1.1.0 c.link-behind.result c.link-behind.ensures)))
+returns c = let s = c.args.spot in tuple_step _ _ s.since _ s.who s.table s.tuple c.next_for.result c.next_for.ensures
