@@ -1,5 +1,6 @@
 pub mod Printable
 pub mod Turns
+pub mod Lists
 pub mod Depth
 pub mod TokenLaws
 pub mod Loops

@@ -8,6 +8,7 @@ ghost use Rattle.sb_syntax.specs.Views as view;
 use crate::cursor::Cursor;
 use crate::error::Fault;
 use crate::kind::Kind;
+use crate::list::{Item, list};
 use crate::literal::{name, name_after, names};
 use crate::rule::{alteration, rule};
 use crate::statement::{change, whole_query};
@@ -31,31 +32,21 @@ fn column_type(tokens: &mut Cursor<'_>) -> Result<ColumnType, Fault>
     }
 }
 
-#[tactic(auto, unfolding(crate::specs::Reading::definition))]
-fn definition(tokens: &mut Cursor<'_>) -> Result<ColumnDefinition, Fault>
-    ensures { Gives (λ c. c) (spec.definition tokens.old) result tokens.old tokens.new }
-{
-    let name = name(tokens)?;
-    let of = column_type(tokens)?;
-    Ok(ColumnDefinition { name, of })
+impl Item for ColumnDefinition {
+    ghost gives = { λ old r new. Gives (λ c. c) (spec.definition old) r old new };
+
+    #[tactic(auto, unfolding(crate::specs::Reading::definition))]
+    fn read(_: Global, tokens: &mut Cursor<'_>) -> Result<ColumnDefinition, Fault> {
+        let name = name(tokens)?;
+        let of = column_type(tokens)?;
+        Ok(ColumnDefinition { name, of })
+    }
 }
 
-#[tactic(auto, unfolding(crate::specs::Reading::columns, crate::specs::Reading::separated_to))]
 fn columns(alloc: Global, tokens: &mut Cursor<'_>) -> Result<Vec<ColumnDefinition>, Fault>
     ensures { Gives (λ v. v.items) (spec.columns tokens.old) result tokens.old tokens.new }
 {
-    let mut all = Vec::new(alloc);
-    let first = definition(tokens)?;
-    all.push(first)?;
-    'more: while tokens.sees(Kind::Comma) {
-        if all.len() >= MAX_COLUMNS {
-            return Ok(all);
-        }
-        tokens.skip();
-        let item = definition(tokens)?;
-        all.push(item)?;
-    }
-    Ok(all)
+    list(alloc, tokens, Kind::Comma, Some(MAX_COLUMNS))
 }
 
 #[tactic(auto, unfolding(crate::specs::Reading::creates_table))]

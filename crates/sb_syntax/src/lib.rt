@@ -7,6 +7,7 @@ mod error;
 mod expression;
 mod kind;
 mod lexer;
+mod list;
 mod literal;
 mod query;
 mod rule;

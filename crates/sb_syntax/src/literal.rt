@@ -11,6 +11,7 @@ ghost use Rattle.sb_syntax.specs.Reading.{Gives};
 use crate::cursor::Cursor;
 use crate::error::Fault;
 use crate::kind::Kind;
+use crate::list::{Item, list};
 use sb_value::{NAME_LIMIT, Name, TEXT_LIMIT, Text, Value};
 use std::alloc::{AllocError, Global};
 
@@ -38,20 +39,19 @@ pub fn name_after(tokens: &mut Cursor<'_>, kind: Kind) -> Result<Name, Fault>
     name(tokens)
 }
 
+impl Item for Name {
+    ghost gives = { λ old r new. Gives (λ n. n) (spec.name old) r old new };
+
+    fn read(_: Global, tokens: &mut Cursor<'_>) -> Result<Name, Fault> {
+        name(tokens)
+    }
+}
+
 /// Names with commas between them.
-#[tactic(auto, unfolding(crate::specs::Reading::names, crate::specs::Reading::separated))]
 pub fn names(alloc: Global, tokens: &mut Cursor<'_>) -> Result<Vec<Name>, Fault>
     ensures { Gives (λ v. v.items) (spec.names tokens.old) result tokens.old tokens.new }
 {
-    let mut all = Vec::new(alloc);
-    let first = name(tokens)?;
-    all.push(first)?;
-    'more: while tokens.sees(Kind::Comma) {
-        tokens.skip();
-        let item = name(tokens)?;
-        all.push(item)?;
-    }
-    Ok(all)
+    list(alloc, tokens, Kind::Comma, None)
 }
 
 const LIMIT: u64 = 0x8000_0000_0000_0000;

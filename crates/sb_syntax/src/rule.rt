@@ -8,6 +8,7 @@ ghost use Rattle.sb_syntax.specs.Views as view;
 use crate::cursor::Cursor;
 use crate::error::Fault;
 use crate::kind::Kind;
+use crate::list::{Item, list};
 use crate::literal::{name_after, names};
 use crate::query::query;
 use crate::statement::{MAX_DEPTH, change};
@@ -32,40 +33,33 @@ fn updated_of(alloc: Global, tokens: &mut Cursor<'_>) -> Result<Trigger, Fault>
     Ok(Trigger::UpdateOf(columns))
 }
 
-#[tactic(auto, unfolding(crate::specs::Reading::trigger, crate::specs::Reading::updated, crate::specs::Reading::word))]
-fn trigger(alloc: Global, tokens: &mut Cursor<'_>) -> Result<Trigger, Fault>
-    ensures { Gives view.trigger (spec.trigger tokens.old) result tokens.old tokens.new }
-{
-    match tokens.peek() {
-        Some(Kind::Inserted) => {
-            tokens.expect(Kind::Inserted)?;
-            Ok(Trigger::Insert)
-        }
-        Some(Kind::Deleted) => {
-            tokens.expect(Kind::Deleted)?;
-            Ok(Trigger::Delete)
-        }
-        _ => {
-            tokens.expect(Kind::Updated)?;
-            updated_of(alloc, tokens)
+impl Item for Trigger {
+    ghost gives = { λ old r new. Gives view.trigger (spec.trigger old) r old new };
+
+    #[tactic(auto, unfolding(crate::specs::Reading::trigger, crate::specs::Reading::updated, crate::specs::Reading::word))]
+    fn read(alloc: Global, tokens: &mut Cursor<'_>) -> Result<Trigger, Fault> {
+        match tokens.peek() {
+            Some(Kind::Inserted) => {
+                tokens.expect(Kind::Inserted)?;
+                Ok(Trigger::Insert)
+            }
+            Some(Kind::Deleted) => {
+                tokens.expect(Kind::Deleted)?;
+                Ok(Trigger::Delete)
+            }
+            _ => {
+                tokens.expect(Kind::Updated)?;
+                updated_of(alloc, tokens)
+            }
         }
     }
 }
 
-#[tactic(auto, unfolding(crate::specs::Reading::separated))]
 fn triggers(alloc: Global, tokens: &mut Cursor<'_>) -> Result<Vec<Trigger>, Fault>
     ensures { Gives (λ v. map view.trigger v.items)
         (spec.separated Kind.Comma spec.trigger tokens.old) result tokens.old tokens.new }
 {
-    let mut all = Vec::new(alloc);
-    let first = trigger(alloc, tokens)?;
-    all.push(first)?;
-    'more: while tokens.sees(Kind::Comma) {
-        tokens.skip();
-        let item = trigger(alloc, tokens)?;
-        all.push(item)?;
-    }
-    Ok(all)
+    list(alloc, tokens, Kind::Comma, None)
 }
 
 #[tactic(auto, unfolding(crate::specs::Reading::condition_if))]
@@ -80,35 +74,25 @@ fn condition(alloc: Global, tokens: &mut Cursor<'_>) -> Result<Option<Query>, Fa
     Ok(Some(query(alloc, tokens, MAX_DEPTH)?))
 }
 
-#[tactic(auto, unfolding(crate::specs::Reading::action, crate::specs::Reading::word))]
-fn action(alloc: Global, tokens: &mut Cursor<'_>) -> Result<Action, Fault>
-    ensures { Gives view.action (spec.action tokens.old) result tokens.old tokens.new }
-{
-    if tokens.sees(Kind::Rollback) {
-        tokens.expect(Kind::Rollback)?;
-        Ok(Action::Rollback)
-    } else {
-        Ok(Action::Change(change(alloc, tokens)?))
+impl Item for Action {
+    ghost gives = { λ old r new. Gives view.action (spec.action old) r old new };
+
+    #[tactic(auto, unfolding(crate::specs::Reading::action, crate::specs::Reading::word))]
+    fn read(alloc: Global, tokens: &mut Cursor<'_>) -> Result<Action, Fault> {
+        if tokens.sees(Kind::Rollback) {
+            tokens.expect(Kind::Rollback)?;
+            Ok(Action::Rollback)
+        } else {
+            Ok(Action::Change(change(alloc, tokens)?))
+        }
     }
 }
 
-#[tactic(auto, unfolding(crate::specs::Reading::actions, crate::specs::Reading::separated_to))]
 fn actions(alloc: Global, tokens: &mut Cursor<'_>) -> Result<Vec<Action>, Fault>
     ensures { Gives (λ v. map view.action v.items)
         (spec.actions tokens.old) result tokens.old tokens.new }
 {
-    let mut all = Vec::new(alloc);
-    let first = action(alloc, tokens)?;
-    all.push(first)?;
-    'more: while tokens.sees(Kind::Semicolon) {
-        if all.len() >= MAX_ACTIONS {
-            return Ok(all);
-        }
-        tokens.skip();
-        let item = action(alloc, tokens)?;
-        all.push(item)?;
-    }
-    Ok(all)
+    list(alloc, tokens, Kind::Semicolon, Some(MAX_ACTIONS))
 }
 
 /// The names behind this word, if it stands there.

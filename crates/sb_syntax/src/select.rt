@@ -9,6 +9,7 @@ use crate::cursor::Cursor;
 use crate::error::Fault;
 use crate::expression::{expr, table};
 use crate::kind::Kind;
+use crate::list::{Item, list};
 use crate::literal::name;
 use crate::tree::{Expression, Items, SourceReference, TableReference};
 use sb_value::Name;
@@ -47,23 +48,19 @@ fn sum_rows(alloc: Global, tokens: &mut Cursor<'_>) -> Result<Items, Fault>
     Ok(Items::Sum(summand))
 }
 
-#[tactic(auto, unfolding(crate::specs::Reading::expressions, crate::specs::Reading::separated_to))]
+impl Item for Expression {
+    ghost gives = { λ old r new. Gives view.expression (spec.expr old) r old new };
+
+    fn read(alloc: Global, tokens: &mut Cursor<'_>) -> Result<Expression, Fault> {
+        expr(alloc, tokens)
+    }
+}
+
 fn expressions(alloc: Global, tokens: &mut Cursor<'_>) -> Result<Vec<Expression>, Fault>
     ensures { Gives (λ v. map view.expression v.items)
         (spec.expressions tokens.old) result tokens.old tokens.new }
 {
-    let mut all = Vec::new(alloc);
-    let first = expr(alloc, tokens)?;
-    all.push(first)?;
-    'more: while tokens.sees(Kind::Comma) {
-        if all.len() >= MAX_ITEMS {
-            return Ok(all);
-        }
-        tokens.skip();
-        let item = expr(alloc, tokens)?;
-        all.push(item)?;
-    }
-    Ok(all)
+    list(alloc, tokens, Kind::Comma, Some(MAX_ITEMS))
 }
 
 /// What a query lists.

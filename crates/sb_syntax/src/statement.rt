@@ -8,6 +8,7 @@ ghost use Rattle.sb_syntax.specs.Views as view;
 use crate::cursor::Cursor;
 use crate::error::Fault;
 use crate::kind::Kind;
+use crate::list::{Item, list};
 use crate::literal::{literal_value, name};
 use crate::query::{filter, operand, query};
 use crate::tree::{Assignment, Condition, Query, Statement};
@@ -103,30 +104,23 @@ fn insert(alloc: Global, tokens: &mut Cursor<'_>) -> Result<Statement, Fault>
     }
 }
 
-#[tactic(auto, unfolding(crate::specs::Reading::assignment))]
-fn assignment(alloc: Global, tokens: &mut Cursor<'_>) -> Result<Assignment, Fault>
-    ensures { Gives view.assignment (spec.assignment tokens.old) result tokens.old tokens.new }
-{
-    let column = name(tokens)?;
-    tokens.expect(Kind::Equal)?;
-    let operand = operand(alloc, tokens, MAX_DEPTH)?;
-    Ok(Assignment { column, operand })
+impl Item for Assignment {
+    ghost gives = { λ old r new. Gives view.assignment (spec.assignment old) r old new };
+
+    #[tactic(auto, unfolding(crate::specs::Reading::assignment))]
+    fn read(alloc: Global, tokens: &mut Cursor<'_>) -> Result<Assignment, Fault> {
+        let column = name(tokens)?;
+        tokens.expect(Kind::Equal)?;
+        let operand = operand(alloc, tokens, MAX_DEPTH)?;
+        Ok(Assignment { column, operand })
+    }
 }
 
-#[tactic(auto, unfolding(crate::specs::Reading::separated))]
 fn assignments(alloc: Global, tokens: &mut Cursor<'_>) -> Result<Vec<Assignment>, Fault>
     ensures { Gives (λ v. map view.assignment v.items)
         (spec.separated Kind.Comma spec.assignment tokens.old) result tokens.old tokens.new }
 {
-    let mut all = Vec::new(alloc);
-    let first = assignment(alloc, tokens)?;
-    all.push(first)?;
-    'more: while tokens.sees(Kind::Comma) {
-        tokens.skip();
-        let item = assignment(alloc, tokens)?;
-        all.push(item)?;
-    }
-    Ok(all)
+    list(alloc, tokens, Kind::Comma, None)
 }
 
 /// The condition of a statement, if one stands there.

@@ -1,30 +1,10 @@
-use Rattle.std.proofs.Common.{refl, length, ◌-◌, suc, arith, map, ap, ◌∙◌}
-use Rattle.std.proofs.lemmas.Result.{err_from_is_err_and}
-use Rattle.std.proofs.lemmas.List.{map-append}
-use Rattle.sb_syntax.specs.Views as view
+use Rattle.std.proofs.Common.{map, refl}
 use Rattle.sb_syntax.specs.declared.kind.Kind.TheVariants.{Semicolon}
-use Rattle.sb_syntax.specs.Reading.{pushes, action}
-use Rattle.sb_syntax.proofs.Turns.{goes_up-next, goes_up-err, goes_up-end, goes_up-full, seen_falls, pushes_yes, pushes_no, one_longer}
+use Rattle.sb_syntax.specs.Reading.{action, actions}
+use Rattle.sb_syntax.specs.Views as view
+use Rattle.sb_syntax.proofs.Lists.{limited_gives}
 use Rattle.sb_syntax.proofs.rule.actions.Goals as goal
 
-pub returns-in_err-item : goal.returns-in_err-item
-returns-in_err-item c =
-    let p = err_from_is_err_and c.from_residual-in_err-item.result c.from_residual-in_err-item.ensures.1 in
-    rw (p.1, p.2) (goes_up-err (pushes Semicolon) action _ _ _ (8 - suc (length c.more.all.items)) _ c.more.tokens _ _ _ _ (omega arith) c.more.invariant.goes_on refl (pushes_yes Semicolon c.more.tokens c.sees.result c.sees.ensures c.more-test.true) c.skip.ensures.value c.in_err-item.ensures)
-
-pub more-smaller : goal.more-smaller
-more-smaller c = seen_falls Semicolon c.more.tokens c.skip.new.self _ c.sees.result c.sees.ensures c.more-test.true c.skip.ensures.value c.in_ok-item.ensures.1
-
-pub more-preserved : goal.more-preserved
-more-preserved c =
-    let l = one_longer _ _ _ c.in_ok-push-2.ensures.items in
-    record {
-      goes_on = goes_up-next (pushes Semicolon) action _ _ _ _ _ _ c.more.tokens c.skip.new.self _ _ _ _ refl (omega (arith, l)) c.more.invariant.goes_on refl (pushes_yes Semicolon c.more.tokens c.sees.result c.sees.ensures c.more-test.true) c.skip.ensures.value c.in_ok-item.ensures (ap (map view.action) c.in_ok-push-2.ensures.items ∙ map-append view.action _ _);
-      few = omega (arith, l);
-    }
-
-pub returns-then-len-ge-MAX_ACTIONS : goal.returns-then-len-ge-MAX_ACTIONS
-returns-then-len-ge-MAX_ACTIONS c = goes_up-full (pushes Semicolon) action _ _ _ _ c.more.tokens (omega arith) c.more.invariant.goes_on
-
 pub returns : goal.returns
-returns c = goes_up-end (pushes Semicolon) action _ _ _ _ c.more.tokens _ c.more.invariant.goes_on refl (pushes_no Semicolon c.more.tokens c.sees.result c.sees.ensures c.more-test.false)
+unfolding actions
+returns c = limited_gives view.action action Semicolon c.args.tokens.now (λ v. v.items) (λ v. map view.action v.items) (λ v. refl) c.list.new.tokens 7 _ c.list.ensures.read c.list.ensures.all c.list.ensures.refused
