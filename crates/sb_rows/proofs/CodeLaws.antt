@@ -1,5 +1,5 @@
 -- Codes: texts in order, and how many come before one.
-use Rattle.std.proofs.Common.{◌≡◌, ◌≤◌, ◌<◌, ℕ, zero, suc, ◌+◌, pos, Bool, true, false, cond, Bor, List, [], ◌∷◌, length, get_or, map, Ordering, Less, Equal, Greater, refl, sym, ap, ◌∙◌, arith}
+use Rattle.std.proofs.Common.{◌≡◌, ◌≤◌, ◌<◌, ◌^◌, ℕ, zero, suc, ◌+◌, pos, Bool, true, false, cond, Bor, List, [], ◌∷◌, length, get_or, map, Ordering, Less, Equal, Greater, refl, sym, ap, ◌∙◌, to_z, w64, arith}
 use Rattle.std.specs.Cmp.{IsStrictWeakOrder, int_cmp_is}
 use Rattle.std.specs.Cmp.Lexicographic.{slice_cmp}
 use Rattle.std.specs.List.{Contains, count_by}
@@ -7,7 +7,7 @@ use Rattle.std.specs.List.Sorted.{IsPartitionedBy, IsPartitionPoint}
 use Rattle.std.specs.Ordering.{int_cmp, is_le, is_lt, nat_cmp, ordering_index, ordering_reverse}
 use Rattle.std.proofs.lemmas.Bool.{false≢true}
 use Rattle.std.proofs.lemmas.Cmp.{int_cmp_total, nat_list_cmp_total, tied_itself}
-use Rattle.std.proofs.lemmas.Int.{ints}
+use Rattle.std.proofs.lemmas.Int.{ints, to_z_pos}
 use Rattle.std.proofs.lemmas.List.Sorted.{ranks_by, searchable_from_sorted}
 use Rattle.std.proofs.lemmas.List.Sums.{sum_by-cons}
 use Rattle.std.proofs.lemmas.Map.Lookups.{exact_bytes}
@@ -37,7 +37,7 @@ parted text texts up i j d le lt h =
     (searchable_from_sorted nat_list_cmp_total (λ (a : Bor (List ℕ)). a.now) texts text up i j d le lt) h
 
 -- how many stand before a place
-pub count_parted : {X : Type 0} (p : X → Bool) (xs : List X) (n : ℕ) → n ≤ length xs → IsPartitionPoint (λ x. p x ≡ true) (λ x. p x ≡ false) xs n → count_by p xs ≡ n
+count_parted : {X : Type 0} (p : X → Bool) (xs : List X) (n : ℕ) → n ≤ length xs → IsPartitionPoint (λ x. p x ≡ true) (λ x. p x ≡ false) xs n → count_by p xs ≡ n
 count_parted p [] n le parts = omega arith
 count_parted p (x ∷ xs) zero le parts =
     sum_by-cons (λ y. cond (p y) 1 0) x xs
@@ -48,15 +48,18 @@ count_parted p (x ∷ xs) (suc n) le parts =
     ∙ ap (λ b. cond b 1 0 + count_by p xs) (parts.0 0 x (omega arith) (omega arith))
     ∙ omega (arith, count_parted p xs n (omega arith) ((λ k d h j. parts.0 (suc k) d (omega arith) (omega arith)), (λ k d h j. parts.1 (suc k) d (omega arith) (omega arith))))
 
-pub count_seen_by : (p : List ℕ → Bool) (texts : List (Bor (List ℕ))) → count_by (λ (other : Bor (List ℕ)). p other.now) texts ≡ count_by p (map (λ t. t.now) texts)
+count_seen_by : (p : List ℕ → Bool) (texts : List (Bor (List ℕ))) → count_by (λ (other : Bor (List ℕ)). p other.now) texts ≡ count_by p (map (λ t. t.now) texts)
 count_seen_by p [] = refl
 count_seen_by p (t ∷ texts) =
     sum_by-cons (λ (y : Bor (List ℕ)). cond (p y.now) 1 0) t texts
     ∙ ap (λ n. cond (p t.now) 1 0 + n) (count_seen_by p texts)
     ∙ sym (sum_by-cons (λ y. cond (p y) 1 0) t.now (map (λ u. u.now) texts))
 
-pub count_seen : (text : List ℕ) (texts : List (Bor (List ℕ))) → count_by (λ other. precedes other.now text) texts ≡ code_of (map (λ t. t.now) texts) text
-count_seen text texts = count_seen_by (λ other. precedes other text) texts
+-- the place that parts the texts by a test is how many pass it
+pub count_at : (p : List ℕ → Bool) (seen : List (Bor (List ℕ))) (texts : List (List ℕ)) (n : ℕ) → map (λ t. t.now) seen ≡ texts → n ≤ length seen → n < 2 ^ 63
+    → IsPartitionPoint (λ (t : Bor (List ℕ)). p t.now ≡ true) (λ (t : Bor (List ℕ)). p t.now ≡ false) seen n → to_z w64 n ≡ pos (count_by p texts)
+count_at p seen texts n same within small parts =
+    to_z_pos w64 n small ∙ ap pos (sym (count_parted (λ (t : Bor (List ℕ)). p t.now) seen n within parts) ∙ count_seen_by p seen ∙ ap (count_by p) same)
 
 -- what an order tells of those that don't come behind it
 lower_or_same : (o r : Ordering) → ordering_index o ≤ ordering_index r → is_le r ≡ true → is_le o ≡ true
@@ -192,27 +195,21 @@ keys_in_order_back texts a b two =
 one_more : (x t : List ℕ) (xs : List (List ℕ)) → Contains xs t → Contains (x ∷ xs) t
 one_more x t xs one = (suc one.0, omega (arith, one.1), one.2)
 
+-- another text in front counts in both or in neither
+other_in_front : (x t : List ℕ) (xs : List (List ℕ)) → is_lt (text_cmp x t) ≡ is_le (text_cmp x t) → code_of (x ∷ xs) t < reached_of (x ∷ xs) t → code_of xs t < reached_of xs t
+other_in_front x t xs both h = omega (
+  arith,
+  h,
+  sum_by-cons (λ y. cond (precedes y t) 1 0) x xs,
+  sum_by-cons (λ y. cond (reaches y t) 1 0) x xs,
+  ap bit both,
+)
+
 first_or_later : (o : Ordering) (x t : List ℕ) (xs : List (List ℕ)) → text_cmp x t ≡ o → (code_of xs t < reached_of xs t → Contains xs t)
     → code_of (x ∷ xs) t < reached_of (x ∷ xs) t → Contains (x ∷ xs) t
 first_or_later Equal x t xs is later h = (0, omega arith, exact_bytes x t is)
-first_or_later Less x t xs is later h =
-    one_more x t xs (later (omega (
-      arith,
-      h,
-      sum_by-cons (λ y. cond (precedes y t) 1 0) x xs,
-      sum_by-cons (λ y. cond (reaches y t) 1 0) x xs,
-      ap (λ o. bit (is_lt o)) is,
-      ap (λ o. bit (is_le o)) is,
-    )))
-first_or_later Greater x t xs is later h =
-    one_more x t xs (later (omega (
-      arith,
-      h,
-      sum_by-cons (λ y. cond (precedes y t) 1 0) x xs,
-      sum_by-cons (λ y. cond (reaches y t) 1 0) x xs,
-      ap (λ o. bit (is_lt o)) is,
-      ap (λ o. bit (is_le o)) is,
-    )))
+first_or_later Less x t xs is later h = one_more x t xs (later (other_in_front x t xs (rw is refl) h))
+first_or_later Greater x t xs is later h = one_more x t xs (later (other_in_front x t xs (rw is refl) h))
 
 pub contained : (texts : List (List ℕ)) (t : List ℕ) → code_of texts t < reached_of texts t → Contains texts t
 contained [] t h = absurd (omega (arith, h))

@@ -1,5 +1,5 @@
 -- A loop that changes the elements of a list one after another.
-use Rattle.std.proofs.Common.{◌≡◌, ◌≤◌, ◌<◌, ℕ, ◌+◌, List, length, get_or, set, ◌∙◌, inl, inr, subst, refl, sym, length-set, arith}
+use Rattle.std.proofs.Common.{◌≡◌, ◌≤◌, ◌<◌, ℕ, ◌+◌, List, length, get_or, set, ◌∙◌, inl, inr, subst, refl, sym, length-set, le_refl, arith}
 use Rattle.std.proofs.lemmas.Bool.{cases_eq}
 use Rattle.std.proofs.lemmas.List.{get_or-set_same, get_or-set_other}
 
@@ -21,3 +21,7 @@ changed_more f d first k xs v so within is = record {
   ];
   rest = λ j h. get_or-set_other xs k j v d (λ e. omega (arith, e)) ∙ so.rest j (omega arith);
 }
+
+-- the next one to be changed is still the first list's
+pub next_unchanged : {X : Type 0} (f : ℕ → X) (d : X) (first : List X) (k : ℕ) (xs : List X) → IsChanged f d first k xs → get_or xs k d ≡ get_or first k d
+next_unchanged f d first k xs so = so.rest k (le_refl k)

@@ -1,15 +1,15 @@
 -- What each call leaves of a table's slots.
-use Rattle.std.proofs.Common.{◌≡◌, ℕ, ◌+◌, ◌-◌, ◌<◌, ◌≤◌, true, false, cond, ◌==◌, ◌&&◌, List, [], ◌∷◌, ◌++◌, map, length, take, set, get_or, Option, Some, None, IsSome, refl, sym, ◌∙◌, ap, subst, arith}
+use Rattle.std.proofs.Common.{◌≡◌, ℕ, suc, ◌+◌, ◌-◌, ◌<◌, ◌≤◌, true, false, cond, ◌==◌, ◌&&◌, List, [], ◌∷◌, ◌++◌, map, length, take, drop, set, get_or, Option, Some, None, IsSome, refl, sym, ◌∙◌, ap, subst, arith}
 use Rattle.std.proofs.lemmas.Bool.{false≢true}
 use Rattle.std.specs.Prelude.{option_to_list}
 use Rattle.std.proofs.lemmas.List.{get_or-map, length-set, map_push, length_push, length-map}
 use Rattle.sb_value.specs.declared.value.Value.{Value}
 use Rattle.sb_value.specs.declared.value.ColumnDefinition.{ColumnDefinition}
 use Rattle.sb_tables.specs.declared.slot.Slot.{Slot}
-use Rattle.sb_tables.specs.Rising.{Rises, IsPlace, AllBelow}
+use Rattle.sb_tables.specs.Rising.{Rises, IsPlace, AllBelow, AllFrom}
 use Rattle.sb_tables.specs.Slots.{numbers, live_rows, AreSound}
 use Rattle.sb_tables.specs.Stored.{Stored, numbers_of, put}
-use Rattle.sb_tables.proofs.RisingLaws.{below_before, from_on, rises_push, rises_front}
+use Rattle.sb_tables.proofs.RisingLaws.{below_before, below_to, from_on, rises_push, rises_front}
 use Rattle.sb_tables.proofs.RowLaws.{Numbered, row_of, others, replaced, length-others, put-replaces}
 use Rattle.sb_tables.proofs.SlotLaws.{live_rises, live-append, live-mark, live-put, length-live_set, length-numbers, numbers-set, row-at, row_if, live-last, live_slots, live-live, numbers-live, live_at_most}
 
@@ -23,8 +23,19 @@ same_stored columns rows more next room places others a b = λ i. stored columns
 pub numbered : (ss : List Slot) (i : ℕ) (s : Slot) → i < length (numbers ss) → s ≡ get_or ss i s → s.number ≡ get_or (numbers ss) i 0
 numbered ss i s lt e = ap (λ x. x.number) e ∙ sym (get_or-map (λ x. x.number) ss i s 0 (omega (arith, length-numbers ss)))
 
-pub numbered_at : (ss : List Slot) (i : ℕ) (d : Slot) → i < length (numbers ss) → (get_or ss i d).number ≡ get_or (numbers ss) i 0
+numbered_at : (ss : List Slot) (i : ℕ) (d : Slot) → i < length (numbers ss) → (get_or ss i d).number ≡ get_or (numbers ss) i 0
 numbered_at ss i d lt = sym (get_or-map (λ x. x.number) ss i d 0 (omega (arith, length-numbers ss)))
+
+-- where the number of the slot at a place is below another, those in front of it are too; where it isn't, those behind it aren't either
+pub slots_below : (ss : List Slot) (high n i : ℕ) (d : Slot) → Rises 0 (numbers ss) high → i < length ss → (get_or ss i d).number < n → AllBelow n (take (suc i) (numbers ss))
+slots_below ss high n i d h lt b =
+    let within : i < length (numbers ss) = omega (arith, length-numbers ss) in
+    below_to 0 (numbers ss) high n i h within (subst (λ m. m < n) (numbered_at ss i d within) b)
+
+pub slots_from : (ss : List Slot) (high n i : ℕ) (d : Slot) → Rises 0 (numbers ss) high → i < length ss → n ≤ (get_or ss i d).number → AllFrom n (drop i (numbers ss))
+slots_from ss high n i d h lt b =
+    let within : i < length (numbers ss) = omega (arith, length-numbers ss) in
+    from_on 0 (numbers ss) high n i h within (subst (λ m. n ≤ m) (numbered_at ss i d within) b)
 
 -- the row of a number is that of its slot, unless it is deleted
 pub row_here : (ss : List Slot) (high n i : ℕ) (s : Slot) → Rises 0 (numbers ss) high → i < length (numbers ss) → get_or (numbers ss) i 0 ≡ n → s ≡ get_or ss i s → row_of n (live_rows ss) ≡ row_if n s

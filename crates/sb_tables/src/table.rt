@@ -41,6 +41,7 @@ impl Model for Table {
 
 impl Table {
     ghost use Rattle.sb_tables.specs.Held.{inserted};
+    ghost use Rattle.sb_tables.specs.Rising.{IsPlace};
     ghost use Rattle.sb_tables.specs.Stored.{Stored, IsStored, IsWithoutLast, with_row, without_row, with_row_at, with_row_put};
     ghost use Rattle.sb_tables.specs.Stored.{numbers_of};
     ghost use Rattle.sb_value.specs.declared.value.Value.{Value as Item};
@@ -135,12 +136,20 @@ impl Table {
         Ok(number)
     }
 
+    /// The place of a row.
+    fn place(&self, tuple: u64) -> usize
+        requires { IsSome (row_at self.now.table tuple) }
+        ensures { IsPlace tuple self.now.places result }
+    {
+        place_of(self.slots.as_slice(), tuple)
+    }
+
     /// Deletes a row. Its place stays until the table is settled.
     pub fn mark_deleted(&mut self, tuple: u64)
         requires { IsSome (row_at self.old.table tuple) }
         ensures { self.new ≡ record self.old { table = without_row tuple self.old.table } }
     {
-        let place = place_of(self.slots.as_slice(), tuple);
+        let place = self.place(tuple);
         self.slots[place].live = false;
         self.deleted += 1;
     }
@@ -151,7 +160,7 @@ impl Table {
         ensures old { row_at self.old.table tuple ≡ Some result }
         ensures new { self.new ≡ record self.old { table = with_row_at tuple row self.old.table } }
     {
-        let place = place_of(self.slots.as_slice(), tuple);
+        let place = self.place(tuple);
         mem::replace(&mut self.slots[place].row, row)
     }
 

@@ -3,29 +3,23 @@ use Rattle.sb_value.specs.Table.{row_at}
 use Rattle.sb_tables.specs.declared.slot.Slot.{Slot}
 use Rattle.sb_tables.specs.Rising.{IsPlace}
 use Rattle.sb_tables.specs.Slots.{numbers}
-use Rattle.sb_tables.proofs.SlotLaws.{has_slot, Has}
 use Rattle.sb_tables.proofs.TableLaws.{same_stored, numbered, rows-mark, sound-mark, numbers-write}
 use Rattle.sb_tables.proofs.table.Table.mark_deleted.Goals as goal
-
-pub place_of-place-requires-clause-there : goal.place_of-place-requires-clause-there
-place_of-place-requires-clause-there c =
-    subst (λ ss. Has (numbers ss) c.args.tuple) (sym c.as_slice.ensures.value)
-    (has_slot c.self.inside.slots.items c.args.tuple (subst (λ s. IsSome (row_at s.table c.args.tuple)) (sym c.self.view_is) c.requires))
 
 pub invariant_of-self : goal.invariant_of-self
 invariant_of-self c =
     let ss = c.self.inside.slots.items in
-    let at : IsPlace c.args.tuple (numbers ss) c.place_of-place.result = subst (λ l. IsPlace c.args.tuple (numbers l) c.place_of-place.result) c.as_slice.ensures.value c.place_of-place.ensures in
-    sound-mark ss c.self.inside.deleted c.self.inside.next c.self.inside.room _ c.args.tuple c.place_of-place.result c.self.invariant at _
-    (numbered ss c.place_of-place.result c.index_mut.result.now at.within c.index_mut.ensures.value) refl
+    let at : IsPlace c.args.tuple (numbers ss) c.place-place.result = subst (λ s. IsPlace c.args.tuple s.places c.place-place.result) (sym c.self.view_is) c.place-place.ensures in
+    sound-mark ss c.self.inside.deleted c.self.inside.next c.self.inside.room _ c.args.tuple c.place-place.result c.self.invariant at _
+    (numbered ss c.place-place.result c.index_mut.result.now at.within c.index_mut.ensures.value) refl
     (subst (λ s. IsSome (row_at s.table c.args.tuple)) (sym c.self.view_is) c.requires)
 
 pub returns : goal.returns
 returns c =
     let ss = c.self.inside.slots.items in
-    let at : IsPlace c.args.tuple (numbers ss) c.place_of-place.result = subst (λ l. IsPlace c.args.tuple (numbers l) c.place_of-place.result) c.as_slice.ensures.value c.place_of-place.ensures in
+    let at : IsPlace c.args.tuple (numbers ss) c.place-place.result = subst (λ s. IsPlace c.args.tuple s.places c.place-place.result) (sym c.self.view_is) c.place-place.ensures in
     let slot : Slot = record { number = c.index_mut.result.now.number; row = c.index_mut.result.now.row; live = false } in
     rw (← c.self.view_is) (same_stored _ _ _ _ _ _ _
-    (rows-mark ss c.self.inside.deleted c.self.inside.next c.self.inside.room _ c.args.tuple c.place_of-place.result c.self.invariant at slot refl)
-    (numbers-write ss c.self.inside.deleted c.self.inside.next c.self.inside.room _ c.args.tuple c.place_of-place.result c.self.invariant at slot
-    (numbered ss c.place_of-place.result c.index_mut.result.now at.within c.index_mut.ensures.value)))
+    (rows-mark ss c.self.inside.deleted c.self.inside.next c.self.inside.room _ c.args.tuple c.place-place.result c.self.invariant at slot refl)
+    (numbers-write ss c.self.inside.deleted c.self.inside.next c.self.inside.room _ c.args.tuple c.place-place.result c.self.invariant at slot
+    (numbered ss c.place-place.result c.index_mut.result.now at.within c.index_mut.ensures.value)))
