@@ -224,64 +224,46 @@ rule-reads y ts mid rest first (g.rule {n = n} {on = on} {all = all} {query = qu
     let a = rule_head-reads n on all ts mid x first d b.1 b.2 in
     (rw (a.0, b.0) refl, a.1)
 
--- where the parts of an alteration end, from the last one back
-record EndsPart (ts : Input) : Type 0 where
-  rule : EndsRule ts
-  no_follows : sees k.Follows ts ≡ false
-  no_precedes : sees k.Precedes ts ≡ false
-  no_then : sees k.Then ts ≡ false
-  no_if : sees k.If ts ≡ false
-
-nothing-part : (ts : Input) → kind_at ts ≡ None → EndsPart ts
-nothing-part ts none = record {
-  rule = record { query = nothing-follows ts none; no_semicolon = nothing-seen k.Semicolon ts none };
-  no_follows = nothing-seen k.Follows ts none;
-  no_precedes = nothing-seen k.Precedes ts none;
-  no_then = nothing-seen k.Then ts none;
-  no_if = nothing-seen k.If ts none;
-}
-
-nopriority-first : (ns : List Name) (ts rest : Input) → IsListed k.NoPriority ns ts rest → kind_at rest ≡ None → EndsPart ts
-unfolding same_kind
-nopriority-first ns ts rest g.not_listed none = nothing-part ts none
-nopriority-first ns ts rest (g.listed {x = x} is d) none = record {
-  rule = record { query = stops-query k.NoPriority ts x is refl refl refl refl refl refl refl refl; no_semicolon = is-other k.NoPriority k.Semicolon ts x is refl };
-  no_follows = is-other k.NoPriority k.Follows ts x is refl;
-  no_precedes = is-other k.NoPriority k.Precedes ts x is refl;
-  no_then = is-other k.NoPriority k.Then ts x is refl;
-  no_if = is-other k.NoPriority k.If ts x is refl;
-}
-
--- what stands before a list of follows ends there, and so on
-record EndsLists (ts : Input) : Type 0 where
-  rule : EndsRule ts
-  no_precedes : sees k.Precedes ts ≡ false
-  no_then : sees k.Then ts ≡ false
-  no_if : sees k.If ts ≡ false
-
-follows-part : (ns : List Name) (ts rest : Input) → IsListed k.Follows ns ts rest → EndsPart rest → EndsLists ts
-unfolding same_kind
-follows-part ns ts rest g.not_listed end = record { rule = end.rule; no_precedes = end.no_precedes; no_then = end.no_then; no_if = end.no_if }
-follows-part ns ts rest (g.listed {x = x} is d) end = record {
-  rule = record { query = stops-query k.Follows ts x is refl refl refl refl refl refl refl refl; no_semicolon = is-other k.Follows k.Semicolon ts x is refl };
-  no_precedes = is-other k.Follows k.Precedes ts x is refl;
-  no_then = is-other k.Follows k.Then ts x is refl;
-  no_if = is-other k.Follows k.If ts x is refl;
-}
-
+-- where the actions of an alteration end, and so the list behind them, and so the next one
 record EndsActions (ts : Input) : Type 0 where
   rule : EndsRule ts
   no_then : sees k.Then ts ≡ false
   no_if : sees k.If ts ≡ false
 
-precedes-part : (ns : List Name) (ts rest : Input) → IsListed k.Precedes ns ts rest → EndsLists rest → EndsActions ts
-unfolding same_kind
-precedes-part ns ts rest g.not_listed end = record { rule = end.rule; no_then = end.no_then; no_if = end.no_if }
-precedes-part ns ts rest (g.listed {x = x} is d) end = record {
-  rule = record { query = stops-query k.Precedes ts x is refl refl refl refl refl refl refl refl; no_semicolon = is-other k.Precedes k.Semicolon ts x is refl };
-  no_then = is-other k.Precedes k.Then ts x is refl;
-  no_if = is-other k.Precedes k.If ts x is refl;
+record EndsPrecedes (ts : Input) : Type 0 where
+  actions : EndsActions ts
+  no_precedes : sees k.Precedes ts ≡ false
+
+record EndsFollows (ts : Input) : Type 0 where
+  precedes : EndsPrecedes ts
+  no_follows : sees k.Follows ts ≡ false
+
+nothing-actions : (ts : Input) → kind_at ts ≡ None → EndsActions ts
+nothing-actions ts none = record {
+  rule = record { query = nothing-follows ts none; no_semicolon = nothing-seen k.Semicolon ts none };
+  no_then = nothing-seen k.Then ts none;
+  no_if = nothing-seen k.If ts none;
 }
+
+nopriority-part : (ns : List Name) (ts rest : Input) → IsListed k.NoPriority ns ts rest → kind_at rest ≡ None → EndsFollows ts
+unfolding same_kind
+nopriority-part ns ts rest g.not_listed none = record { precedes = record { actions = nothing-actions ts none; no_precedes = nothing-seen k.Precedes ts none }; no_follows = nothing-seen k.Follows ts none }
+nopriority-part ns ts rest (g.listed {x = x} is d) none =
+    let rule : EndsRule ts = record { query = stops-query k.NoPriority ts x is refl refl refl refl refl refl refl refl; no_semicolon = is-other k.NoPriority k.Semicolon ts x is refl } in
+    let actions : EndsActions ts = record { rule = rule; no_then = is-other k.NoPriority k.Then ts x is refl; no_if = is-other k.NoPriority k.If ts x is refl } in
+    record { precedes = record { actions = actions; no_precedes = is-other k.NoPriority k.Precedes ts x is refl }; no_follows = is-other k.NoPriority k.Follows ts x is refl }
+
+follows-part : (ns : List Name) (ts rest : Input) → IsListed k.Follows ns ts rest → EndsFollows rest → EndsPrecedes ts
+unfolding same_kind
+follows-part ns ts rest g.not_listed end = end.precedes
+follows-part ns ts rest (g.listed {x = x} is d) end =
+    let rule : EndsRule ts = record { query = stops-query k.Follows ts x is refl refl refl refl refl refl refl refl; no_semicolon = is-other k.Follows k.Semicolon ts x is refl } in
+    record { actions = record { rule = rule; no_then = is-other k.Follows k.Then ts x is refl; no_if = is-other k.Follows k.If ts x is refl }; no_precedes = is-other k.Follows k.Precedes ts x is refl }
+
+precedes-part : (ns : List Name) (ts rest : Input) → IsListed k.Precedes ns ts rest → EndsPrecedes rest → EndsActions ts
+unfolding same_kind
+precedes-part ns ts rest g.not_listed end = end.actions
+precedes-part ns ts rest (g.listed is d) end = record { rule = precedes-first ns ts rest (g.listed is d) end.actions.rule; no_then = is-other k.Precedes k.Then ts _ is refl; no_if = is-other k.Precedes k.If ts _ is refl }
 
 then-reads : (all : Option (List Action)) (ts rest : Input) → IsThen all ts rest → EndsActions rest → Reads r.actions_then all ts rest × StopsQuery ts × (sees k.If ts ≡ false)
 unfolding r.actions_then same_kind
@@ -295,14 +277,14 @@ unfolding r.alteration
 alteration-reads w ts mid rest first (g.alteration {n = n} {query = query} {steps = steps} {before = before} {after = after} {apart = apart} {x = x} {y = y} {z = z} {u = u} {v = v} (g.phrase {x = i} {y = j} a b c) d h e f l) none =
     let same : i ≡ mid = sym (is-next k.Alter ts i a) ∙ is-next k.Alter ts mid first in
     let b2 : Is k.Rule mid j = subst (λ (i : Input). Is k.Rule i j) same b in
-    let last = nopriority-first apart v rest l none in
+    let last = nopriority-part apart v rest l none in
     let lists = follows-part after u v f last in
     let ends = precedes-part before z u e lists in
     let m = after-reads k.Rule n mid j x b2 c in
     let t = then-reads steps y z h ends in
     let q = if-reads query x y d t.1 t.2 in
-    let p = listed-reads k.Precedes before z u e lists.no_precedes lists.rule.query.no_comma in
-    let o = listed-reads k.Follows after u v f last.no_follows last.rule.query.no_comma in
+    let p = listed-reads k.Precedes before z u e lists.no_precedes lists.actions.rule.query.no_comma in
+    let o = listed-reads k.Follows after u v f last.no_follows last.precedes.actions.rule.query.no_comma in
     let s = listed-reads k.NoPriority apart v rest l (nothing-seen k.NoPriority rest none) (nothing-seen k.Comma rest none) in
     (rw (m.0, q.0, t.0.0, p.0, o.0, s.0) refl, is-kind k.Rule mid j b2)
 
