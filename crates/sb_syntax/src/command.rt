@@ -12,7 +12,7 @@ use crate::list::{Item, list};
 use crate::literal::{name, name_after, names};
 use crate::rule::{alteration, rule};
 use crate::statement::{change, whole_query};
-use crate::tree::{AlterationText, Command, RuleText};
+use crate::tree::Command;
 use sb_value::{ColumnDefinition, ColumnType, Name};
 use std::alloc::Global;
 
@@ -23,13 +23,11 @@ const MAX_COLUMNS: usize = 8;
 fn column_type(tokens: &mut Cursor<'_>) -> Result<ColumnType, Fault>
     ensures { Gives (λ t. t) (spec.column_type tokens.old) result tokens.old tokens.new }
 {
-    if tokens.sees(Kind::IntType) {
-        tokens.expect(Kind::IntType)?;
-        Ok(ColumnType::Int)
-    } else {
-        tokens.expect(Kind::TextType)?;
-        Ok(ColumnType::Text)
+    if tokens.eat(Kind::IntType) {
+        return Ok(ColumnType::Int);
     }
+    tokens.expect(Kind::TextType)?;
+    Ok(ColumnType::Text)
 }
 
 impl Item for ColumnDefinition {
@@ -61,13 +59,6 @@ fn create_table(alloc: Global, tokens: &mut Cursor<'_>) -> Result<Command, Fault
     Ok(Command::CreateTable(table, columns))
 }
 
-fn boxed_rule(alloc: Global, tokens: &mut Cursor<'_>) -> Result<Box<RuleText>, Fault>
-    ensures { Gives (λ r. view.rule r.value) (spec.rule tokens.old) result tokens.old tokens.new }
-{
-    let rule = rule(alloc, tokens)?;
-    Ok(Box::new(alloc, rule)?)
-}
-
 #[tactic(auto, unfolding(crate::specs::Reading::creates))]
 fn create(alloc: Global, tokens: &mut Cursor<'_>) -> Result<Command, Fault>
     ensures { Gives view.command (spec.creates tokens.old) result tokens.old tokens.new }
@@ -76,7 +67,7 @@ fn create(alloc: Global, tokens: &mut Cursor<'_>) -> Result<Command, Fault>
     match tokens.peek() {
         Some(Kind::Table) => create_table(alloc, tokens),
         Some(Kind::Ruleset) => Ok(Command::CreateRuleset(name_after(tokens, Kind::Ruleset)?)),
-        _ => Ok(Command::CreateRule(boxed_rule(alloc, tokens)?)),
+        _ => Ok(Command::CreateRule(Box::new(alloc, rule(alloc, tokens)?)?)),
     }
 }
 
@@ -138,20 +129,13 @@ fn alter_ruleset(alloc: Global, tokens: &mut Cursor<'_>) -> Result<Command, Faul
     }
 }
 
-fn boxed_alteration(alloc: Global, tokens: &mut Cursor<'_>) -> Result<Box<AlterationText>, Fault>
-    ensures { Gives (λ r. view.alteration r.value) (spec.alteration tokens.old) result tokens.old tokens.new }
-{
-    let alteration = alteration(alloc, tokens)?;
-    Ok(Box::new(alloc, alteration)?)
-}
-
 #[tactic(auto, unfolding(crate::specs::Reading::alters))]
 fn alter(alloc: Global, tokens: &mut Cursor<'_>) -> Result<Command, Fault>
     ensures { Gives view.command (spec.alters tokens.old) result tokens.old tokens.new }
 {
     tokens.expect(Kind::Alter)?;
     match tokens.peek() {
-        Some(Kind::Rule) => Ok(Command::AlterRule(boxed_alteration(alloc, tokens)?)),
+        Some(Kind::Rule) => Ok(Command::AlterRule(Box::new(alloc, alteration(alloc, tokens)?)?)),
         _ => alter_ruleset(alloc, tokens),
     }
 }
