@@ -2,7 +2,7 @@
 
 ghost use Rattle.std.specs.Prelude.{◌≡◌, length};
 ghost use Rattle.sb_syntax.specs.Reading as spec;
-ghost use Rattle.sb_syntax.specs.Reading.{Gives};
+ghost use Rattle.sb_syntax.specs.Reading.{Gives, and_then};
 ghost use Rattle.sb_syntax.specs.Views as view;
 
 use crate::cursor::Cursor;
@@ -140,22 +140,14 @@ fn alter(alloc: Global, tokens: &mut Cursor<'_>) -> Result<Command, Fault>
     }
 }
 
-#[tactic(auto, unfolding(crate::specs::Reading::activates))]
-fn activate(tokens: &mut Cursor<'_>) -> Result<Command, Fault>
-    ensures { Gives view.command (spec.activates tokens.old) result tokens.old tokens.new }
+/// The name of a rule, behind this word and `rule`.
+fn rule_behind(tokens: &mut Cursor<'_>, kind: Kind) -> Result<Name, Fault>
+    ensures { Gives (λ n. n)
+        (and_then (spec.expect kind tokens.old) (λ _. spec.name_after Kind.Rule))
+        result tokens.old tokens.new }
 {
-    tokens.expect(Kind::Activate)?;
-    let rule = name_after(tokens, Kind::Rule)?;
-    Ok(Command::ActivateRule(rule))
-}
-
-#[tactic(auto, unfolding(crate::specs::Reading::deactivates))]
-fn deactivate(tokens: &mut Cursor<'_>) -> Result<Command, Fault>
-    ensures { Gives view.command (spec.deactivates tokens.old) result tokens.old tokens.new }
-{
-    tokens.expect(Kind::Deactivate)?;
-    let rule = name_after(tokens, Kind::Rule)?;
-    Ok(Command::DeactivateRule(rule))
+    tokens.expect(kind)?;
+    name_after(tokens, Kind::Rule)
 }
 
 /// A command of one word.
@@ -168,7 +160,7 @@ fn word(tokens: &mut Cursor<'_>, kind: Kind, command: Command) -> Result<Command
     Ok(command)
 }
 
-#[tactic(auto, unfolding(crate::specs::Reading::leading_command))]
+#[tactic(auto, unfolding(crate::specs::Reading::leading_command, crate::specs::Reading::activates, crate::specs::Reading::deactivates))]
 fn leading_command(alloc: Global, tokens: &mut Cursor<'_>) -> Result<Command, Fault>
     ensures { Gives view.command (spec.leading_command tokens.old) result tokens.old tokens.new }
 {
@@ -181,8 +173,11 @@ fn leading_command(alloc: Global, tokens: &mut Cursor<'_>) -> Result<Command, Fa
         Some(Kind::Create) => create(alloc, tokens),
         Some(Kind::Drop) => drop_named(tokens),
         Some(Kind::Alter) => alter(alloc, tokens),
-        Some(Kind::Activate) => activate(tokens),
-        Some(Kind::Deactivate) => deactivate(tokens),
+        Some(Kind::Activate) => Ok(Command::ActivateRule(rule_behind(tokens, Kind::Activate)?)),
+        Some(Kind::Deactivate) => Ok(Command::DeactivateRule(rule_behind(
+            tokens,
+            Kind::Deactivate,
+        )?)),
         Some(Kind::Process) => process(tokens),
         Some(Kind::Select) => Ok(Command::Query(whole_query(alloc, tokens)?)),
         _ => Ok(Command::Change(change(alloc, tokens)?)),
