@@ -1,5 +1,5 @@
 -- The same of changes, rules and commands.
-use Rattle.std.proofs.Common.{◌≡◌, ◌≤◌, ℕ, false, List, [], ◌∷◌, length, Option, Some, None, ap, sym, ◌∙◌, subst, refl, arith}
+use Rattle.std.proofs.Common.{◌≡◌, ◌≤◌, ℕ, false, List, [], ◌∷◌, length, Option, Some, None, ap, sym, ◌∙◌, refl, arith}
 use Rattle.std.proofs.lemmas.Option.{same_Some}
 use Rattle.sb_value.specs.declared.value.Value.{Value}
 use Rattle.sb_value.specs.declared.value.ColumnType.{ColumnType}
@@ -13,7 +13,7 @@ use Rattle.sb_syntax.specs.Grammar as g
 use Rattle.sb_syntax.specs.Grammar.{IsName, IsLiteral, IsOperand, IsFilter, IsQuery, IsColumnType, IsDefinition, IsTuple, IsAssignment, IsChange, IsNames, IsTrigger, IsAction, IsIf, IsThen, IsListed, IsPhrase, IsRuleHead, IsRuleBody, IsRule, IsAlteration, IsLeadingCommand, Separated, IsCommand, max_depth, max_columns, max_actions}
 use Rattle.sb_syntax.specs.Reading as r
 use Rattle.sb_syntax.specs.Reading.{Reader, Joins, and_then, kind_at, sees, next, expect, bytes_of, ◌>>=◌, ◌>>◌, pure, pushes}
-use Rattle.sb_syntax.proofs.TokenLaws.{Reads, is-kind, is-sees, is-other, is-next, is-shorter, is-expect}
+use Rattle.sb_syntax.proofs.TokenLaws.{Reads, is-kind, is-sees, is-other, is-shorter, is-expect}
 use Rattle.sb_syntax.proofs.Loops.{separated-reads, separated_to-reads}
 use Rattle.sb_syntax.proofs.CompleteLaws.{mapped, name-reads, literal-reads, Stops}
 use Rattle.sb_syntax.proofs.CompleteQueries.{StopsQuery, stops, stops-query, no_separator, filter-first, operand-reads, filter-reads, query-reads}
@@ -194,15 +194,14 @@ unfolding no_columns same_kind
 if-first w ts mid rest g.always is = (is-other k.Then k.LeftParen ts rest is refl, is-other k.Then k.Comma ts rest is refl)
 if-first w ts mid rest (g.if_query {x = x} first d) is = (is-other k.If k.LeftParen ts x first refl, is-other k.If k.Comma ts x first refl)
 
-rule_head-reads : (n on : Name) (all : List Trigger) (ts mid rest : Input) → Is k.Create ts mid → IsRuleHead n on all ts rest → no_columns rest → sees k.Comma rest ≡ false → (r.rule_head mid ≡ Some ((n, on, all), rest)) × (kind_at mid ≡ Some k.Rule)
+rule_head-reads : (n on : Name) (all : List Trigger) (ts rest : Input) → IsRuleHead n on all ts rest → no_columns rest → sees k.Comma rest ≡ false
+    → (mid : Input) × Is k.Create ts mid × (r.rule_head mid ≡ Some ((n, on, all), rest)) × (kind_at mid ≡ Some k.Rule)
 unfolding r.rule_head
-rule_head-reads n on all ts mid rest first (g.rule_head {x = x} {y = y} {z = z} {w = w} (g.phrase {x = u} {y = v} a b c) d e f h) stop none =
-    let same : u ≡ mid = sym (is-next k.Create ts u a) ∙ is-next k.Create ts mid first in
-    let b2 : Is k.Rule mid v = subst (λ (i : Input). Is k.Rule i v) same b in
-    let l = after-reads k.Rule n mid v x b2 c in
+rule_head-reads n on all ts rest (g.rule_head {x = x} {y = y} {z = z} {w = w} (g.phrase {x = u} {y = v} a b c) d e f h) stop none =
+    let l = after-reads k.Rule n u v x b c in
     let m = after-reads k.On on x y z d e in
     let t = separated-reads k.Comma IsTrigger r.trigger no_columns comma-no_columns trigger-reads all w rest h stop (no_separator k.Comma rest none) in
-    (rw (l.0, m.0, is-expect k.When z w f, t.0) refl, is-kind k.Rule mid v b2)
+    (u, a, rw (l.0, m.0, is-expect k.When z w f, t.0) refl, is-kind k.Rule u v b)
 
 rule_body-reads : (head : r.RuleHead) (query : Option Query) (steps : List Action) (before after : List Name) (ts rest : Input) → IsRuleBody query steps before after ts rest → kind_at rest ≡ None
     → (r.rule_body head ts ≡ Some (r.rule_of head query steps before after, rest)) × no_columns ts × (sees k.Comma ts ≡ false)
@@ -217,71 +216,53 @@ rule_body-reads head query steps before after ts rest (g.rule_body {x = x} {y = 
     let i = if-first query ts x y a b in
     (rw (q.0, is-expect k.Then x y b, s.0, p.0, f.0) refl, i.0, i.1)
 
-rule-reads : (y : RuleText) (ts mid rest : Input) → Is k.Create ts mid → IsRule y ts rest → kind_at rest ≡ None → (r.rule mid ≡ Some (y, rest)) × (kind_at mid ≡ Some k.Rule)
+rule-reads : (y : RuleText) (ts rest : Input) → IsRule y ts rest → kind_at rest ≡ None → (mid : Input) × Is k.Create ts mid × (r.rule mid ≡ Some (y, rest)) × (kind_at mid ≡ Some k.Rule)
 unfolding r.rule
-rule-reads y ts mid rest first (g.rule {n = n} {on = on} {all = all} {query = query} {steps = steps} {before = before} {after = after} {x = x} d h) none =
+rule-reads y ts rest (g.rule {n = n} {on = on} {all = all} {query = query} {steps = steps} {before = before} {after = after} {x = x} d h) none =
     let b = rule_body-reads (n, on, all) query steps before after x rest h none in
-    let a = rule_head-reads n on all ts mid x first d b.1 b.2 in
-    (rw (a.0, b.0) refl, a.1)
+    let a = rule_head-reads n on all ts x d b.1 b.2 in
+    (a.0, a.1, rw (a.2, b.0) refl, a.3)
 
--- where the parts of an alteration end, from the last one back
-record EndsPart (ts : Input) : Type 0 where
-  rule : EndsRule ts
-  no_follows : sees k.Follows ts ≡ false
-  no_precedes : sees k.Precedes ts ≡ false
-  no_then : sees k.Then ts ≡ false
-  no_if : sees k.If ts ≡ false
-
-nothing-part : (ts : Input) → kind_at ts ≡ None → EndsPart ts
-nothing-part ts none = record {
-  rule = record { query = nothing-follows ts none; no_semicolon = nothing-seen k.Semicolon ts none };
-  no_follows = nothing-seen k.Follows ts none;
-  no_precedes = nothing-seen k.Precedes ts none;
-  no_then = nothing-seen k.Then ts none;
-  no_if = nothing-seen k.If ts none;
-}
-
-nopriority-first : (ns : List Name) (ts rest : Input) → IsListed k.NoPriority ns ts rest → kind_at rest ≡ None → EndsPart ts
-unfolding same_kind
-nopriority-first ns ts rest g.not_listed none = nothing-part ts none
-nopriority-first ns ts rest (g.listed {x = x} is d) none = record {
-  rule = record { query = stops-query k.NoPriority ts x is refl refl refl refl refl refl refl refl; no_semicolon = is-other k.NoPriority k.Semicolon ts x is refl };
-  no_follows = is-other k.NoPriority k.Follows ts x is refl;
-  no_precedes = is-other k.NoPriority k.Precedes ts x is refl;
-  no_then = is-other k.NoPriority k.Then ts x is refl;
-  no_if = is-other k.NoPriority k.If ts x is refl;
-}
-
--- what stands before a list of follows ends there, and so on
-record EndsLists (ts : Input) : Type 0 where
-  rule : EndsRule ts
-  no_precedes : sees k.Precedes ts ≡ false
-  no_then : sees k.Then ts ≡ false
-  no_if : sees k.If ts ≡ false
-
-follows-part : (ns : List Name) (ts rest : Input) → IsListed k.Follows ns ts rest → EndsPart rest → EndsLists ts
-unfolding same_kind
-follows-part ns ts rest g.not_listed end = record { rule = end.rule; no_precedes = end.no_precedes; no_then = end.no_then; no_if = end.no_if }
-follows-part ns ts rest (g.listed {x = x} is d) end = record {
-  rule = record { query = stops-query k.Follows ts x is refl refl refl refl refl refl refl refl; no_semicolon = is-other k.Follows k.Semicolon ts x is refl };
-  no_precedes = is-other k.Follows k.Precedes ts x is refl;
-  no_then = is-other k.Follows k.Then ts x is refl;
-  no_if = is-other k.Follows k.If ts x is refl;
-}
-
+-- where the actions of an alteration end, and so the list behind them, and so the next one
 record EndsActions (ts : Input) : Type 0 where
   rule : EndsRule ts
   no_then : sees k.Then ts ≡ false
   no_if : sees k.If ts ≡ false
 
-precedes-part : (ns : List Name) (ts rest : Input) → IsListed k.Precedes ns ts rest → EndsLists rest → EndsActions ts
-unfolding same_kind
-precedes-part ns ts rest g.not_listed end = record { rule = end.rule; no_then = end.no_then; no_if = end.no_if }
-precedes-part ns ts rest (g.listed {x = x} is d) end = record {
-  rule = record { query = stops-query k.Precedes ts x is refl refl refl refl refl refl refl refl; no_semicolon = is-other k.Precedes k.Semicolon ts x is refl };
-  no_then = is-other k.Precedes k.Then ts x is refl;
-  no_if = is-other k.Precedes k.If ts x is refl;
+record EndsPrecedes (ts : Input) : Type 0 where
+  actions : EndsActions ts
+  no_precedes : sees k.Precedes ts ≡ false
+
+record EndsFollows (ts : Input) : Type 0 where
+  precedes : EndsPrecedes ts
+  no_follows : sees k.Follows ts ≡ false
+
+nothing-actions : (ts : Input) → kind_at ts ≡ None → EndsActions ts
+nothing-actions ts none = record {
+  rule = record { query = nothing-follows ts none; no_semicolon = nothing-seen k.Semicolon ts none };
+  no_then = nothing-seen k.Then ts none;
+  no_if = nothing-seen k.If ts none;
 }
+
+nopriority-part : (ns : List Name) (ts rest : Input) → IsListed k.NoPriority ns ts rest → kind_at rest ≡ None → EndsFollows ts
+unfolding same_kind
+nopriority-part ns ts rest g.not_listed none = record { precedes = record { actions = nothing-actions ts none; no_precedes = nothing-seen k.Precedes ts none }; no_follows = nothing-seen k.Follows ts none }
+nopriority-part ns ts rest (g.listed {x = x} is d) none =
+    let rule : EndsRule ts = record { query = stops-query k.NoPriority ts x is refl refl refl refl refl refl refl refl; no_semicolon = is-other k.NoPriority k.Semicolon ts x is refl } in
+    let actions : EndsActions ts = record { rule = rule; no_then = is-other k.NoPriority k.Then ts x is refl; no_if = is-other k.NoPriority k.If ts x is refl } in
+    record { precedes = record { actions = actions; no_precedes = is-other k.NoPriority k.Precedes ts x is refl }; no_follows = is-other k.NoPriority k.Follows ts x is refl }
+
+follows-part : (ns : List Name) (ts rest : Input) → IsListed k.Follows ns ts rest → EndsFollows rest → EndsPrecedes ts
+unfolding same_kind
+follows-part ns ts rest g.not_listed end = end.precedes
+follows-part ns ts rest (g.listed {x = x} is d) end =
+    let rule : EndsRule ts = record { query = stops-query k.Follows ts x is refl refl refl refl refl refl refl refl; no_semicolon = is-other k.Follows k.Semicolon ts x is refl } in
+    record { actions = record { rule = rule; no_then = is-other k.Follows k.Then ts x is refl; no_if = is-other k.Follows k.If ts x is refl }; no_precedes = is-other k.Follows k.Precedes ts x is refl }
+
+precedes-part : (ns : List Name) (ts rest : Input) → IsListed k.Precedes ns ts rest → EndsPrecedes rest → EndsActions ts
+unfolding same_kind
+precedes-part ns ts rest g.not_listed end = end.actions
+precedes-part ns ts rest (g.listed is d) end = record { rule = precedes-first ns ts rest (g.listed is d) end.actions.rule; no_then = is-other k.Precedes k.Then ts _ is refl; no_if = is-other k.Precedes k.If ts _ is refl }
 
 then-reads : (all : Option (List Action)) (ts rest : Input) → IsThen all ts rest → EndsActions rest → Reads r.actions_then all ts rest × StopsQuery ts × (sees k.If ts ≡ false)
 unfolding r.actions_then same_kind
@@ -290,21 +271,19 @@ then-reads w ts rest (g.then_actions {actions = all} {x = x} is d le) end =
     let m = actions-reads all x rest d le end.rule.query end.rule.no_semicolon in
     ((rw (is-sees k.Then ts x is, is-expect k.Then ts x is, m.0) refl, omega (arith, is-shorter k.Then ts x is, m.1)), then-stops ts x is, is-other k.Then k.If ts x is refl)
 
-alteration-reads : (y : AlterationText) (ts mid rest : Input) → Is k.Alter ts mid → IsAlteration y ts rest → kind_at rest ≡ None → (r.alteration mid ≡ Some (y, rest)) × (kind_at mid ≡ Some k.Rule)
+alteration-reads : (y : AlterationText) (ts rest : Input) → IsAlteration y ts rest → kind_at rest ≡ None → (mid : Input) × Is k.Alter ts mid × (r.alteration mid ≡ Some (y, rest)) × (kind_at mid ≡ Some k.Rule)
 unfolding r.alteration
-alteration-reads w ts mid rest first (g.alteration {n = n} {query = query} {steps = steps} {before = before} {after = after} {apart = apart} {x = x} {y = y} {z = z} {u = u} {v = v} (g.phrase {x = i} {y = j} a b c) d h e f l) none =
-    let same : i ≡ mid = sym (is-next k.Alter ts i a) ∙ is-next k.Alter ts mid first in
-    let b2 : Is k.Rule mid j = subst (λ (i : Input). Is k.Rule i j) same b in
-    let last = nopriority-first apart v rest l none in
+alteration-reads w ts rest (g.alteration {n = n} {query = query} {steps = steps} {before = before} {after = after} {apart = apart} {x = x} {y = y} {z = z} {u = u} {v = v} (g.phrase {x = i} {y = j} a b c) d h e f l) none =
+    let last = nopriority-part apart v rest l none in
     let lists = follows-part after u v f last in
     let ends = precedes-part before z u e lists in
-    let m = after-reads k.Rule n mid j x b2 c in
+    let m = after-reads k.Rule n i j x b c in
     let t = then-reads steps y z h ends in
     let q = if-reads query x y d t.1 t.2 in
-    let p = listed-reads k.Precedes before z u e lists.no_precedes lists.rule.query.no_comma in
-    let o = listed-reads k.Follows after u v f last.no_follows last.rule.query.no_comma in
+    let p = listed-reads k.Precedes before z u e lists.no_precedes lists.actions.rule.query.no_comma in
+    let o = listed-reads k.Follows after u v f last.no_follows last.precedes.actions.rule.query.no_comma in
     let s = listed-reads k.NoPriority apart v rest l (nothing-seen k.NoPriority rest none) (nothing-seen k.Comma rest none) in
-    (rw (m.0, q.0, t.0.0, p.0, o.0, s.0) refl, is-kind k.Rule mid j b2)
+    (i, a, rw (m.0, q.0, t.0.0, p.0, o.0, s.0) refl, is-kind k.Rule i j b)
 
 -- ---- commands
 
@@ -341,15 +320,11 @@ word-reads : (kind : Kind) (command : Command) (ts rest : Input) → Is kind ts 
 unfolding r.leading_command r.word
 word-reads kind command ts rest is by = rw (is-kind kind ts rest is, by, is-expect kind ts rest is) refl
 
-rule_first : (y : RuleText) (ts rest : Input) → IsRule y ts rest → (mid : Input) × Is k.Create ts mid
-rule_first y ts rest (g.rule (g.rule_head (g.phrase {x = u} a b c) d e f h) body) = (u, a)
-
 creates_rule-reads : (y : RuleText) (ts rest : Input) → IsRule y ts rest → kind_at rest ≡ None → r.leading_command ts ≡ Some (tree.create_rule y, rest)
 unfolding r.leading_command r.creates
 creates_rule-reads y ts rest d none =
-    let f = rule_first y ts rest d in
-    let m = rule-reads y ts f.0 rest f.1 d none in
-    rw (is-kind k.Create ts f.0 f.1, is-expect k.Create ts f.0 f.1, m.1, m.0) refl
+    let m = rule-reads y ts rest d none in
+    rw (is-kind k.Create ts m.0 m.1, is-expect k.Create ts m.0 m.1, m.3, m.2) refl
 
 -- the commands of two words and a name
 phrase-reads : (first second : Kind) (f : Name → Command) (p : Reader Command) (n : Name) (ts rest : Input) → IsPhrase first second n ts rest → r.leading_command_by (Some first) ≡ p → ((x : Input) → Is first ts x → kind_at x ≡ Some second → p ts ≡ (r.name_after second >>= λ n. pure (f n)) x)
@@ -387,15 +362,11 @@ processes-reads : (ts x rest : Input) → Is k.Process ts x → Is k.Rules x res
 unfolding r.leading_command r.processes r.word
 processes-reads ts x rest a b = rw (is-kind k.Process ts x a, is-expect k.Process ts x a, is-kind k.Rules x rest b, is-expect k.Rules x rest b) refl
 
-alteration_first : (y : AlterationText) (ts rest : Input) → IsAlteration y ts rest → (mid : Input) × Is k.Alter ts mid
-alteration_first y ts rest (g.alteration (g.phrase {x = u} a b c) d e f h l) = (u, a)
-
 alters_rule-reads : (y : AlterationText) (ts rest : Input) → IsAlteration y ts rest → kind_at rest ≡ None → r.leading_command ts ≡ Some (tree.alter_rule y, rest)
 unfolding r.leading_command r.alters
 alters_rule-reads y ts rest d none =
-    let f = alteration_first y ts rest d in
-    let m = alteration-reads y ts f.0 rest f.1 d none in
-    rw (is-kind k.Alter ts f.0 f.1, is-expect k.Alter ts f.0 f.1, m.1, m.0) refl
+    let m = alteration-reads y ts rest d none in
+    rw (is-kind k.Alter ts m.0 m.1, is-expect k.Alter ts m.0 m.1, m.3, m.2) refl
 
 adds_rules-reads : (n : Name) (ns : List Name) (ts x y rest : Input) → IsPhrase k.Alter k.Ruleset n ts x → Is k.AddRules x y → IsNames ns y rest → kind_at rest ≡ None → r.leading_command ts ≡ Some (tree.add_rules n ns, rest)
 unfolding r.leading_command r.alters r.alters_ruleset r.alters_from r.adds_rules

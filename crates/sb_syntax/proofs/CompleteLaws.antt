@@ -1,5 +1,5 @@
 -- What the grammar has, the reader reads.
-use Rattle.std.proofs.Common.{◌∙◌, sym, ◌≡◌, ◌≤◌, ◌^◌, ℕ, Bool, true, false, cond, List, ◌∷◌, length, Option, Some, None, ap, refl, arith}
+use Rattle.std.proofs.Common.{◌∙◌, sym, ◌≡◌, ◌≤◌, ◌^◌, ℕ, Bool, true, false, cond, ◌||◌, List, ◌∷◌, length, Option, Some, None, is_some, ap, refl, arith}
 use Rattle.std.proofs.lemmas.Bool.{lt-ltb, le-leb, and_from}
 use Rattle.std.proofs.lemmas.List.Sums.{list_all-from_AllPass}
 use Rattle.sb_value.specs.Printable.{is_printable}
@@ -111,14 +111,7 @@ column-reads c ts rest (g.qualified {table = q} {n = n} {x = x} {y = y} (g.trans
 
 abbrev pub begins : Option Kind → Bool
 begins (Some k.Name) = true
-begins (Some k.Integer) = true
-begins (Some k.Text) = true
-begins (Some k.Minus) = true
-begins (Some k.Inserted) = true
-begins (Some k.Deleted) = true
-begins (Some k.OldUpdated) = true
-begins (Some k.NewUpdated) = true
-begins _ = false
+begins kind = r.is_literal kind || is_some (r.transition_of kind)
 
 literal-kind : (v : Value) (ts rest : Input) → IsLiteral v ts rest → (r.is_literal (kind_at ts) ≡ true) × (begins (kind_at ts) ≡ true)
 unfolding kind_at

@@ -317,39 +317,17 @@ behind-sound first by made y ts rest e =
     let s = two_steps (expect first ts) (λ _ mid. by (kind_at mid) mid) (y, rest) e in
     made (kind_at s.1) y ts s.1 rest (expect-is first ts s.1 s.0 s.2) s.3
 
-creates-sound : Sound r.creates IsLeadingCommand
-unfolding r.creates
-creates-sound = behind-sound k.Create r.creates_by creates_by-sound
+-- a word, and a name behind another one
+named-sound : (first second : Kind) (f : Name → Command) → ((n : Name) (ts rest : Input) → IsPhrase first second n ts rest → IsLeadingCommand (f n) ts rest) → Sound (expect first >> (r.name_after second >>= λ n. pure (f n))) IsLeadingCommand
+named-sound first second f made = behind-sound first (λ _. r.name_after second >>= λ n. pure (f n)) (λ _. phrase-sound first second f made)
 
-drops-sound : Sound r.drops IsLeadingCommand
-unfolding r.drops
-drops-sound = behind-sound k.Drop r.drops_by drops_by-sound
-
-processes-sound : Sound r.processes IsLeadingCommand
-unfolding r.processes
-processes-sound = behind-sound k.Process r.processes_by processes_by-sound
-
-activates-sound : Sound r.activates IsLeadingCommand
-unfolding r.activates
-activates-sound = behind-sound k.Activate (λ _. r.name_after k.Rule >>= λ n. pure (tree.activate_rule n)) (λ _. phrase-sound k.Activate k.Rule tree.activate_rule (λ _ _ _ d. g.activates d))
-
-deactivates-sound : Sound r.deactivates IsLeadingCommand
-unfolding r.deactivates
-deactivates-sound = behind-sound k.Deactivate (λ _. r.name_after k.Rule >>= λ n. pure (tree.deactivate_rule n)) (λ _. phrase-sound k.Deactivate k.Rule tree.deactivate_rule (λ _ _ _ d. g.deactivates d))
-
-adds_rules-sound : (n : Name) (ts mid : Input) → IsPhrase k.Alter k.Ruleset n ts mid → (y : Command) (rest : Input) → r.adds_rules n mid ≡ Some (y, rest) → IsLeadingCommand y ts rest
-unfolding r.adds_rules
-adds_rules-sound n ts mid d y rest e =
-    let s = two_steps (expect k.AddRules mid) (λ _. r.names >>= λ ns. pure (tree.add_rules n ns)) (y, rest) e in
-    let ns = two_steps (r.names s.1) (λ ns. pure (tree.add_rules n ns)) (y, rest) s.3 in
-    same_read (λ z m. IsLeadingCommand z ts m) _ y ns.1 rest ns.3 (g.adds_rules d (expect-is k.AddRules mid s.1 s.0 s.2) (names-sound ns.0 s.1 ns.1 ns.2))
-
-removes_rules-sound : (n : Name) (ts mid : Input) → IsPhrase k.Alter k.Ruleset n ts mid → (y : Command) (rest : Input) → r.removes_rules n mid ≡ Some (y, rest) → IsLeadingCommand y ts rest
-unfolding r.removes_rules
-removes_rules-sound n ts mid d y rest e =
-    let s = two_steps (expect k.DelRules mid) (λ _. r.names >>= λ ns. pure (tree.del_rules n ns)) (y, rest) e in
-    let ns = two_steps (r.names s.1) (λ ns. pure (tree.del_rules n ns)) (y, rest) s.3 in
-    same_read (λ z m. IsLeadingCommand z ts m) _ y ns.1 rest ns.3 (g.removes_rules d (expect-is k.DelRules mid s.1 s.0 s.2) (names-sound ns.0 s.1 ns.1 ns.2))
+-- a word, and names behind it
+names_behind-sound : (word : Kind) (f : List Name → Command) (ts mid : Input) → ((ns : List Name) (x rest : Input) → Is word mid x → IsNames ns x rest → IsLeadingCommand (f ns) ts rest)
+    → (y : Command) (rest : Input) → (expect word >> (r.names >>= λ ns. pure (f ns))) mid ≡ Some (y, rest) → IsLeadingCommand y ts rest
+names_behind-sound word f ts mid made y rest e =
+    let s = two_steps (expect word mid) (λ _. r.names >>= λ ns. pure (f ns)) (y, rest) e in
+    let ns = two_steps (r.names s.1) (λ ns. pure (f ns)) (y, rest) s.3 in
+    same_read (λ z m. IsLeadingCommand z ts m) _ y ns.1 rest ns.3 (made ns.0 s.1 ns.1 (expect-is word mid s.1 s.0 s.2) (names-sound ns.0 s.1 ns.1 ns.2))
 
 alters_rule-sound : Behind k.Alter (r.alteration >>= λ r. pure (tree.alter_rule r))
 alters_rule-sound y ts mid rest is e =
@@ -357,37 +335,34 @@ alters_rule-sound y ts mid rest is e =
     same_read (λ z m. IsLeadingCommand z ts m) _ y s.1 rest s.3 (g.alters_rule (alteration-sound s.0 ts mid s.1 is s.2))
 
 alters_ruleset-sound : Behind k.Alter r.alters_ruleset
-unfolding r.alters_ruleset r.alters_from
+unfolding r.alters_ruleset r.alters_from r.adds_rules r.removes_rules
 alters_ruleset-sound y ts mid rest is e =
     let n = two_steps (r.name_after k.Ruleset mid) r.alters_from (y, rest) e in
     let d = after-sound k.Ruleset n.0 mid n.1 n.2 in
     let whole : IsPhrase k.Alter k.Ruleset n.0 ts n.1 = g.phrase is d.1 d.2 in
     elim (chosen (sees k.AddRules n.1) (r.adds_rules n.0 n.1) (r.removes_rules n.0 n.1) (y, rest) n.3) [
-      | inl p ↦ adds_rules-sound n.0 ts n.1 whole y rest p.1
-      | inr p ↦ removes_rules-sound n.0 ts n.1 whole y rest p.1
+      | inl p ↦ names_behind-sound k.AddRules (tree.add_rules n.0) ts n.1 (λ _ _ _ is d. g.adds_rules whole is d) y rest p.1
+      | inr p ↦ names_behind-sound k.DelRules (tree.del_rules n.0) ts n.1 (λ _ _ _ is d. g.removes_rules whole is d) y rest p.1
     ]
 
 alters_by-sound : (kind : Option Kind) → Behind k.Alter (r.alters_by kind)
 alters_by-sound (Some k.Rule) = alters_rule-sound
 alters_by-sound _ = alters_ruleset-sound
 
-alters-sound : Sound r.alters IsLeadingCommand
-unfolding r.alters
-alters-sound = behind-sound k.Alter r.alters_by alters_by-sound
-
 -- by the first token
 leading_command_by-sound : (kind : Option Kind) → Sound (r.leading_command_by kind) IsLeadingCommand
+unfolding r.creates r.drops r.alters r.activates r.deactivates r.processes
 leading_command_by-sound (Some k.Open) = word-sound IsLeadingCommand k.Open tree.open_session (λ _ _ d. g.opens d)
 leading_command_by-sound (Some k.End) = word-sound IsLeadingCommand k.End tree.end_session (λ _ _ d. g.ends d)
 leading_command_by-sound (Some k.Begin) = word-sound IsLeadingCommand k.Begin tree.begin (λ _ _ d. g.begins d)
 leading_command_by-sound (Some k.Commit) = word-sound IsLeadingCommand k.Commit tree.commit (λ _ _ d. g.commits d)
 leading_command_by-sound (Some k.Rollback) = word-sound IsLeadingCommand k.Rollback tree.rollback (λ _ _ d. g.rolls_back d)
-leading_command_by-sound (Some k.Create) = creates-sound
-leading_command_by-sound (Some k.Drop) = drops-sound
-leading_command_by-sound (Some k.Alter) = alters-sound
-leading_command_by-sound (Some k.Activate) = activates-sound
-leading_command_by-sound (Some k.Deactivate) = deactivates-sound
-leading_command_by-sound (Some k.Process) = processes-sound
+leading_command_by-sound (Some k.Create) = behind-sound k.Create r.creates_by creates_by-sound
+leading_command_by-sound (Some k.Drop) = behind-sound k.Drop r.drops_by drops_by-sound
+leading_command_by-sound (Some k.Alter) = behind-sound k.Alter r.alters_by alters_by-sound
+leading_command_by-sound (Some k.Activate) = named-sound k.Activate k.Rule tree.activate_rule (λ _ _ _ d. g.activates d)
+leading_command_by-sound (Some k.Deactivate) = named-sound k.Deactivate k.Rule tree.deactivate_rule (λ _ _ _ d. g.deactivates d)
+leading_command_by-sound (Some k.Process) = behind-sound k.Process r.processes_by processes_by-sound
 leading_command_by-sound (Some k.Select) = mapped-sound tree.query (r.query_to max_depth) (IsQuery max_depth) IsLeadingCommand (λ _ _ _ d. g.queries d) (query-sound max_depth)
 leading_command_by-sound _ = mapped-sound tree.change r.change IsChange IsLeadingCommand (λ _ _ _ d. g.changes d) change-sound
 

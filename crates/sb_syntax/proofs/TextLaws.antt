@@ -1,6 +1,7 @@
 -- Tokens of a text: the functions against what the tokens are.
 use Rattle.std.proofs.Common.{◌≡◌, ◌↔◌, ◌≤◌, ◌+◌, ◌-◌, ◌==◌, ℕ, zero, suc, Bool, true, false, cond, List, [], ◌∷◌, ◌++◌, length, drop, take, Option, Some, None, Result, Ok, Err, IfOk, IfErr, option_map, refl, ap, sym, ◌∙◌, subst, length-append, arith}
 use Rattle.std.proofs.lemmas.Bool.{eqb-true}
+use Rattle.std.proofs.lemmas.List.{take-append-drop, length-take-le}
 use Rattle.std.proofs.lemmas.Option.{same_Some}
 use Rattle.sb_syntax.specs.declared.cursor.Token.{Token}
 use Rattle.sb_syntax.specs.declared.kind.Kind.{Kind}
@@ -27,20 +28,10 @@ unfolding token_at symbol_at
 space-none [] = refl
 space-none (c ∷ bs) = refl
 
-pub take_and_drop : (n : ℕ) (xs : List ℕ) → xs ≡ take n xs ++ drop n xs
-take_and_drop zero xs = refl
-take_and_drop (suc n) [] = refl
-take_and_drop (suc n) (x ∷ xs) = ap (λ ys. x ∷ ys) (take_and_drop n xs)
-
-length_take : (n : ℕ) (xs : List ℕ) → n ≤ length xs → length (take n xs) ≡ n
-length_take zero xs le = refl
-length_take (suc n) [] le = absurd (omega arith)
-length_take (suc n) (x ∷ xs) le = let e = length_take n xs (omega arith) in omega (arith, e)
-
 a_token : (at : ℕ) (kind : Kind) (n : ℕ) (text : List ℕ) (ts : List Token) → IsToken kind (take n text) (drop n text) → n ≤ length text → AreTokens (at + n) (drop n text) ts → AreTokens at text (put kind at n ts)
 a_token at kind n text ts is le rest =
-    let e = length_take n text le in
-    subst (λ (m : ℕ). AreTokens at text (put kind at m ts)) e (lex.token is (take_and_drop n text) (subst (λ (m : ℕ). AreTokens (at + m) (drop n text) ts) (sym e) rest))
+    let e = length-take-le n text le in
+    subst (λ (m : ℕ). AreTokens at text (put kind at m ts)) e (lex.token is (sym (take-append-drop n text)) (subst (λ (m : ℕ). AreTokens (at + m) (drop n text) ts) (sym e) rest))
 
 -- how the two steps of a token go
 split_map : {A B : Type 0} (f : A → B) (r : Option A) (y : B) → option_map f r ≡ Some y → (x : A) × (r ≡ Some x) × (f x ≡ y)

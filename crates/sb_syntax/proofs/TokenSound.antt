@@ -1,7 +1,8 @@
 -- A token that the function finds is one.
-use Rattle.std.proofs.Common.{◌≡◌, ◌≤◌, ◌+◌, ◌==◌, ℕ, zero, suc, true, false, cond, List, [], ◌∷◌, ◌++◌, length, drop, take, Option, Some, None, option_map, nat_le, is_some, codes, refl, ap, sym, ◌∙◌, subst, inl, inr, ◌⊎◌, arith}
+use Rattle.std.proofs.Common.{◌≡◌, ◌≤◌, ◌+◌, ◌==◌, ℕ, suc, true, false, cond, List, [], ◌∷◌, ◌++◌, length, drop, take, Option, Some, None, option_map, nat_le, is_some, codes, refl, ap, sym, ◌∙◌, subst, inl, inr, ◌⊎◌, arith}
 use Rattle.std.specs.Str.{bytes_eq}
 use Rattle.std.proofs.lemmas.Bool.{eqb-true, leb-true, and_from}
+use Rattle.std.proofs.lemmas.List.{take-append-drop, length-take-le}
 use Rattle.std.proofs.lemmas.Option.{same_Some}
 use Rattle.sb_value.specs.Printable.{is_printable}
 use Rattle.sb_syntax.specs.declared.kind.Kind.{Kind}
@@ -20,16 +21,6 @@ Fits kind n text = IsToken kind (take n text) (drop n text) × (1 ≤ n) × (n �
 
 fits : (text : List ℕ) (a kind : Kind) (m n : ℕ) → ◌≡◌ {A = Option (Kind × ℕ)} (Some (a, m)) (Some (kind, n)) → Fits a m text → Fits kind n text
 fits text a kind m n e h = let q = same_Some {A = Kind × ℕ} (a, m) (kind, n) e in subst (λ (p : Kind × ℕ). Fits p.0 p.1 text) q h
-
-take_and_drop : (n : ℕ) (xs : List ℕ) → take n xs ++ drop n xs ≡ xs
-take_and_drop zero xs = refl
-take_and_drop (suc n) [] = refl
-take_and_drop (suc n) (x ∷ xs) = ap (λ ys. x ∷ ys) (take_and_drop n xs)
-
-length_take : (n : ℕ) (xs : List ℕ) → n ≤ length xs → length (take n xs) ≡ n
-length_take zero xs le = refl
-length_take (suc n) [] le = absurd (omega arith)
-length_take (suc n) (x ∷ xs) le = let e = length_take n xs (omega arith) in omega (arith, e)
 
 -- a text with a transition word begins with one of two
 pub begins-transition : (text : List ℕ) (kind : Kind) → transition text ≡ Some kind → (take 11 text ≡ codes "old-updated") ⊎ (take 11 text ≡ codes "new-updated")
@@ -54,10 +45,10 @@ transition-long text kind e = elim (begins-transition text kind e) [
 word-sound : (kind : Kind) (n b : ℕ) (bs : List ℕ) → is_letter b ≡ true → (t : Option Kind) → transition (b ∷ bs) ≡ t → word_by (b ∷ bs) t ≡ Some (kind, n) → Fits kind n (b ∷ bs)
 word-sound kind n b bs letter (Some a) is e =
     let le = transition-long (b ∷ bs) a is in
-    fits (b ∷ bs) a kind 11 n e (lex.transition_word (length_take 11 (b ∷ bs) le) (ap transition (take_and_drop 11 (b ∷ bs)) ∙ is), omega arith, le)
+    fits (b ∷ bs) a kind 11 n e (lex.transition_word (length-take-le 11 (b ∷ bs) le) (ap transition (take-append-drop 11 (b ∷ bs)) ∙ is), omega arith, le)
 word-sound kind n b bs letter None is e =
     let m = prefix_len is_word bs in
-    let h : Fits (word_kind (b ∷ take m bs)) (suc m) (b ∷ bs) = (lex.word letter (all-run is_word bs) (run-ends is_word bs) (ap (λ xs. transition (b ∷ xs)) (take_and_drop m bs) ∙ is), omega arith, omega (arith, prefix_len-le-length is_word bs)) in
+    let h : Fits (word_kind (b ∷ take m bs)) (suc m) (b ∷ bs) = (lex.word letter (all-run is_word bs) (run-ends is_word bs) (ap (λ xs. transition (b ∷ xs)) (take-append-drop m bs) ∙ is), omega arith, omega (arith, prefix_len-le-length is_word bs)) in
     fits (b ∷ bs) _ kind _ n e (subst (λ (j : ℕ). Fits (word_kind (take j (b ∷ bs))) j (b ∷ bs)) (sym (goes_on is_word b bs (letter-word b letter))) h)
 
 integer-sound : (kind : Kind) (n b : ℕ) (bs : List ℕ) → is_digit b ≡ true → integer_at (b ∷ bs) ≡ Some (kind, n) → Fits kind n (b ∷ bs)

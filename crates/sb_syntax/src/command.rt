@@ -2,7 +2,7 @@
 
 ghost use Rattle.std.specs.Prelude.{◌≡◌, length};
 ghost use Rattle.sb_syntax.specs.Reading as spec;
-ghost use Rattle.sb_syntax.specs.Reading.{Gives};
+ghost use Rattle.sb_syntax.specs.Reading.{Gives, and_then};
 ghost use Rattle.sb_syntax.specs.Views as view;
 
 use crate::cursor::Cursor;
@@ -12,7 +12,7 @@ use crate::list::{Item, list};
 use crate::literal::{name, name_after, names};
 use crate::rule::{alteration, rule};
 use crate::statement::{change, whole_query};
-use crate::tree::{AlterationText, Command, RuleText};
+use crate::tree::Command;
 use sb_value::{ColumnDefinition, ColumnType, Name};
 use std::alloc::Global;
 
@@ -23,13 +23,11 @@ const MAX_COLUMNS: usize = 8;
 fn column_type(tokens: &mut Cursor<'_>) -> Result<ColumnType, Fault>
     ensures { Gives (λ t. t) (spec.column_type tokens.old) result tokens.old tokens.new }
 {
-    if tokens.sees(Kind::IntType) {
-        tokens.expect(Kind::IntType)?;
-        Ok(ColumnType::Int)
-    } else {
-        tokens.expect(Kind::TextType)?;
-        Ok(ColumnType::Text)
+    if tokens.eat(Kind::IntType) {
+        return Ok(ColumnType::Int);
     }
+    tokens.expect(Kind::TextType)?;
+    Ok(ColumnType::Text)
 }
 
 impl Item for ColumnDefinition {
@@ -61,13 +59,6 @@ fn create_table(alloc: Global, tokens: &mut Cursor<'_>) -> Result<Command, Fault
     Ok(Command::CreateTable(table, columns))
 }
 
-fn boxed_rule(alloc: Global, tokens: &mut Cursor<'_>) -> Result<Box<RuleText>, Fault>
-    ensures { Gives (λ r. view.rule r.value) (spec.rule tokens.old) result tokens.old tokens.new }
-{
-    let rule = rule(alloc, tokens)?;
-    Ok(Box::new(alloc, rule)?)
-}
-
 #[tactic(auto, unfolding(crate::specs::Reading::creates))]
 fn create(alloc: Global, tokens: &mut Cursor<'_>) -> Result<Command, Fault>
     ensures { Gives view.command (spec.creates tokens.old) result tokens.old tokens.new }
@@ -76,7 +67,7 @@ fn create(alloc: Global, tokens: &mut Cursor<'_>) -> Result<Command, Fault>
     match tokens.peek() {
         Some(Kind::Table) => create_table(alloc, tokens),
         Some(Kind::Ruleset) => Ok(Command::CreateRuleset(name_after(tokens, Kind::Ruleset)?)),
-        _ => Ok(Command::CreateRule(boxed_rule(alloc, tokens)?)),
+        _ => Ok(Command::CreateRule(Box::new(alloc, rule(alloc, tokens)?)?)),
     }
 }
 
@@ -138,40 +129,25 @@ fn alter_ruleset(alloc: Global, tokens: &mut Cursor<'_>) -> Result<Command, Faul
     }
 }
 
-fn boxed_alteration(alloc: Global, tokens: &mut Cursor<'_>) -> Result<Box<AlterationText>, Fault>
-    ensures { Gives (λ r. view.alteration r.value) (spec.alteration tokens.old) result tokens.old tokens.new }
-{
-    let alteration = alteration(alloc, tokens)?;
-    Ok(Box::new(alloc, alteration)?)
-}
-
 #[tactic(auto, unfolding(crate::specs::Reading::alters))]
 fn alter(alloc: Global, tokens: &mut Cursor<'_>) -> Result<Command, Fault>
     ensures { Gives view.command (spec.alters tokens.old) result tokens.old tokens.new }
 {
     tokens.expect(Kind::Alter)?;
     match tokens.peek() {
-        Some(Kind::Rule) => Ok(Command::AlterRule(boxed_alteration(alloc, tokens)?)),
+        Some(Kind::Rule) => Ok(Command::AlterRule(Box::new(alloc, alteration(alloc, tokens)?)?)),
         _ => alter_ruleset(alloc, tokens),
     }
 }
 
-#[tactic(auto, unfolding(crate::specs::Reading::activates))]
-fn activate(tokens: &mut Cursor<'_>) -> Result<Command, Fault>
-    ensures { Gives view.command (spec.activates tokens.old) result tokens.old tokens.new }
+/// The name of a rule, behind this word and `rule`.
+fn rule_behind(tokens: &mut Cursor<'_>, kind: Kind) -> Result<Name, Fault>
+    ensures { Gives (λ n. n)
+        (and_then (spec.expect kind tokens.old) (λ _. spec.name_after Kind.Rule))
+        result tokens.old tokens.new }
 {
-    tokens.expect(Kind::Activate)?;
-    let rule = name_after(tokens, Kind::Rule)?;
-    Ok(Command::ActivateRule(rule))
-}
-
-#[tactic(auto, unfolding(crate::specs::Reading::deactivates))]
-fn deactivate(tokens: &mut Cursor<'_>) -> Result<Command, Fault>
-    ensures { Gives view.command (spec.deactivates tokens.old) result tokens.old tokens.new }
-{
-    tokens.expect(Kind::Deactivate)?;
-    let rule = name_after(tokens, Kind::Rule)?;
-    Ok(Command::DeactivateRule(rule))
+    tokens.expect(kind)?;
+    name_after(tokens, Kind::Rule)
 }
 
 /// A command of one word.
@@ -184,7 +160,7 @@ fn word(tokens: &mut Cursor<'_>, kind: Kind, command: Command) -> Result<Command
     Ok(command)
 }
 
-#[tactic(auto, unfolding(crate::specs::Reading::leading_command))]
+#[tactic(auto, unfolding(crate::specs::Reading::leading_command, crate::specs::Reading::activates, crate::specs::Reading::deactivates))]
 fn leading_command(alloc: Global, tokens: &mut Cursor<'_>) -> Result<Command, Fault>
     ensures { Gives view.command (spec.leading_command tokens.old) result tokens.old tokens.new }
 {
@@ -197,8 +173,11 @@ fn leading_command(alloc: Global, tokens: &mut Cursor<'_>) -> Result<Command, Fa
         Some(Kind::Create) => create(alloc, tokens),
         Some(Kind::Drop) => drop_named(tokens),
         Some(Kind::Alter) => alter(alloc, tokens),
-        Some(Kind::Activate) => activate(tokens),
-        Some(Kind::Deactivate) => deactivate(tokens),
+        Some(Kind::Activate) => Ok(Command::ActivateRule(rule_behind(tokens, Kind::Activate)?)),
+        Some(Kind::Deactivate) => Ok(Command::DeactivateRule(rule_behind(
+            tokens,
+            Kind::Deactivate,
+        )?)),
         Some(Kind::Process) => process(tokens),
         Some(Kind::Select) => Ok(Command::Query(whole_query(alloc, tokens)?)),
         _ => Ok(Command::Change(change(alloc, tokens)?)),

@@ -9,28 +9,6 @@ pub enum ParseError {
     NoMemory,
 }
 
-impl From<AllocError> for ParseError {
-    ghost use Rattle.std.specs.Prelude.{◌≡◌};
-    ghost use Rattle.sb_syntax.specs.declared.error.ParseError.TheVariants.{NoMemory};
-
-    ghost from_gives = { λ _ e. e ≡ NoMemory };
-
-    fn from(_: AllocError) -> ParseError {
-        ParseError::NoMemory
-    }
-}
-
-impl<T: Drop> From<AllocFailed<T>> for ParseError {
-    ghost use Rattle.std.specs.Prelude.{◌≡◌};
-    ghost use Rattle.sb_syntax.specs.declared.error.ParseError.TheVariants.{NoMemory};
-
-    ghost from_gives = { λ _ e. e ≡ NoMemory };
-
-    fn from(_: AllocFailed<T>) -> ParseError {
-        ParseError::NoMemory
-    }
-}
-
 /// Why nothing was read.
 #[derive(Clone, Copy)]
 pub enum Fault {

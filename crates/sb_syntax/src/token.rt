@@ -26,7 +26,9 @@ fn cut(alloc: Global, text: &[u8]) -> Result<Vec<Token>, ParseError>
         return Err(ParseError::NoMemory);
     }
     // Each token has a byte, so that there is room for all of them.
-    let mut all = Vec::with_capacity(alloc, text.len())?;
+    let Ok(mut all) = Vec::with_capacity(alloc, text.len()) else {
+        return Err(ParseError::NoMemory);
+    };
     let mut at = 0;
     'more: while at < text.len() {
         if text[at] == b' ' {

@@ -6,7 +6,7 @@ pub returns-in_default-clause-value : goal.returns-in_default-clause-value
 returns-in_default-clause-value c = at_end c.args.bytes.now c.in_default.len_below
 
 pub returns-in-Some-clause-value : goal.returns-in-Some-clause-value
-returns-in-Some-clause-value c = at_alone c.args.bytes.now c.in-Some.kind c.in-len1-up.len_at_least c.in-Some.ensures.0 c.in-Some.ensures.1 c.in-Some.ensures.2
+returns-in-Some-clause-value c = at_alone c.args.bytes.now c.in-Some.kind c.in-len1-up.len_at_least c.in-Some.ensures.found.0 c.in-Some.ensures.found.1 c.in-Some.ensures.found.2
 
 pub returns-then-is_digit-clause-value : goal.returns-then-is_digit-clause-value
 returns-then-is_digit-clause-value c = c.integer.ensures.value ∙ at_digit c.args.bytes.now c.in-len1-up.len_at_least (sym c.is_digit.ensures ∙ c.if-is_digit.true)
