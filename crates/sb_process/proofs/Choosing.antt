@@ -13,7 +13,8 @@ use Rattle.sb_value.specs.Table.{IsProper}
 use Rattle.sb_value.specs.Order.{chosen}
 use Rattle.sb_catalog.specs.declared.rule.Rule.{Rule}
 use Rattle.sb_catalog.specs.Rules.{AreNumbered, numbered}
-use Rattle.sb_priority.specs.Ranks.{ranked}
+use Rattle.sb_index.specs.TableSets.{TableSets}
+use Rattle.sb_priority.specs.Ranks.{Ranks, ranked}
 use Rattle.sb_rawlog.specs.Records.{Record}
 use Rattle.sb_rawlog.specs.Sessions.{MarksCut, changes_since, mark_at}
 use Rattle.sb_tables.specs.Held.{Held, entries}
@@ -22,7 +23,8 @@ use Rattle.sb_process.specs.Represents.{Represents, AreCandidates, AreUntriggere
 use Rattle.sb_process.specs.Setting.{Setting, Progress, transition, rule_is_triggered, rule_tables, is_candidate, next_rule}
 use Rattle.sb_process.specs.Transactions.{Kept, mark_of, is_candidate_of}
 use Rattle.sb_process.specs.Triggered.{is_hit, AreSifted, CanTest, CanTestAll, HasCandidates}
-use Rattle.sb_process.specs.Work.{AreActive}
+use Rattle.sb_process.specs.Work.{AreActive, IsWork}
+use Rattle.sb_process.proofs.Testing.{can-test}
 
 -- each of the rules is found under its number
 abbrev pub AreFound : List Rule → List Rule → Type 0
@@ -122,6 +124,32 @@ pub next-chosen : (set : List Bool) (eligible : ℕ → Bool) (setting : Setting
 next-chosen set eligible setting progress all ids found same listed h e =
     ap (option_and_then (numbered all)) (e ∙ ap (chosen setting.pairs) (ap (ranked set) listed ∙ ranked-candidates set eligible progress all h))
     ∙ ap (λ (rules : List Rule). option_and_then (numbered rules) (chosen setting.pairs (map (λ (rule : Rule). rule.id) (filter (is_candidate eligible progress) rules)))) (sym same)
+
+-- ---- while processing
+
+module _ {origin : List Held} {d : Database} {session : ℕ} {records : List Record} {clock : ℕ} {index : List (List TableSets)} {catalog : List Rule} {order : Ranks} {setting : Setting} {progress : Progress}
+    (w : IsWork origin d session records clock index catalog order setting progress) (cut : MarksCut records) where
+  pub can-sift : ProperListsHaveLives → CanTestAll (who_in d session) d.transactions records catalog
+  can-sift lives =
+      can-test (who_in d session) d.transactions records catalog (lives-since origin d session records clock setting progress w.transaction cut lives)
+      (subst (AreUntriggered (who_in d session) d.transactions records) w.rules w.transaction.untriggered)
+
+  module _ (own : AreNumbered catalog) {eligible set : List Bool} {new : Kept} (s : AreSifted (who_in d session) records clock catalog eligible d.transactions new set) where
+    -- what is chosen of the sifted candidates is the next rule
+    pub next-of : AreActive (flag_at eligible) catalog → (found : Option ℕ) → found ≡ chosen setting.pairs (ranked set order.rules) → option_and_then (numbered catalog) found ≡ next_rule setting (flag_at eligible) progress
+    next-of active found is =
+        next-chosen set (flag_at eligible) setting progress catalog order.rules found w.rules w.ordered.listed
+        (has-candidates origin d session records clock setting progress w.transaction cut eligible set new catalog s catalog (all-found catalog own) active
+        (subst (AreCandidates d.transactions session progress) w.rules w.transaction.candidates)) is
+
+    pub work-on : {after : Database} → after ≡ record d { transactions = new } → IsWork origin after session records clock index catalog order setting progress
+    work-on {after} same = subst (λ (x : Database). IsWork origin x session records clock index catalog order setting progress) (sym same)
+        record {
+          transaction = represents-sifted origin d session records clock setting progress w.transaction cut eligible set new catalog s (subst (AreFound catalog) (sym w.rules) (all-found catalog own));
+          rules = w.rules;
+          indexed = w.indexed;
+          ordered = w.ordered;
+        }
 
 pub taken-ok : (result : Result Transition AllocError) (a b : Transition) → a ≡ b → IfOk result (λ t. t ≡ a) → IfOk result (λ t. t ≡ b)
 taken-ok (Ok t) a b e h = h ∙ e

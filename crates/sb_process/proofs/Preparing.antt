@@ -10,6 +10,7 @@ use Rattle.sb_value.specs.declared.change.Kind.TheVariants.{Inserted, Deleted, U
 use Rattle.sb_value.specs.declared.id.Who.{Who}
 use Rattle.sb_value.specs.Table.{Table, IsProper, new_row, after_kind, has_table, table_at}
 use Rattle.sb_rawlog.specs.Records.{Record}
+use Rattle.sb_rawlog.specs.Sessions.{OthersStay}
 use Rattle.sb_eval.specs.Laws.{inserts, counted_with, AreMakeable}
 use Rattle.sb_tables.specs.Undo.{places_after}
 use Rattle.sb_tables.specs.Stored.{Stored}
@@ -18,11 +19,14 @@ use Rattle.sb_process.specs.Made.{AreNumbered, AreStored, EachBelow, NumbersBelo
 use Rattle.sb_process.specs.Make.{HasPlaceFor, room_after}
 use Rattle.sb_process.specs.Ready.{CanApply, HavePlacesFor, copies_of}
 use Rattle.sb_process.specs.declared.database.Database.{Database}
-use Rattle.sb_process.specs.Represents.{Represents}
+use Rattle.sb_process.specs.Leaves.{Leaves}
+use Rattle.sb_process.specs.Represents.{Represents, who_in}
 use Rattle.sb_process.specs.Setting.{Setting, Progress}
 use Rattle.sb_process.proofs.Making.{number-entries, number-room, entries-room, table-stored, room-with_stored}
 use Rattle.sb_process.proofs.Settling.{none-with, sound-room}
 use Rattle.sb_process.proofs.Growing.{few}
+use Rattle.sb_process.proofs.Numbers.{each-weaken}
+use Rattle.sb_process.proofs.Requests.{stands_with}
 use Rattle.sb_process.proofs.Applying.{stored-with_stored, next_below}
 
 -- ---- room
@@ -128,19 +132,18 @@ pub with_room : (d : Database) (tables : List Held) (session : ℕ) (records mor
 with_room d tables session records more clock later setting progress origin r same kept still =
     subst (λ (rs : List Record). Represents origin (record d { tables = tables }) session rs later setting progress) (sym kept)
     (subst (λ (time : ℕ). Represents origin (record d { tables = tables }) session records time setting progress) (sym still)
-    record {
-      who = r.who;
-      changes = r.changes;
-      past = r.past;
-      tested = r.tested;
-      untriggered = r.untriggered;
-      marks = r.marks;
-      base = r.base;
-      made = record { numbered = r.made.numbered; stored = r.made.stored; proper = r.made.proper; made = same ∙ r.made.made };
-      locks = r.locks;
-      locked = r.locked;
-      candidates = r.candidates;
-    })
+    (stands_with r tables d.locks progress.locks (record { numbered = r.made.numbered; stored = r.made.stored; proper = r.made.proper; made = same ∙ r.made.made }) r.locks r.locked r.candidates))
 
 pub numbers_same : (n : ℕ) (one other : List Held) → map without_room one ≡ map without_room other → NumbersBelow n one → NumbersBelow n other
 numbers_same n one other e b = subst (EachBelow n) (same_entries one other e) b
+
+-- what has only more room leaves all as it was
+pub leaves-prepared : (d : Database) {tables : List Held} {session : ℕ} {records more : List Record} {clock later : ℕ} → map without_room tables ≡ map without_room d.tables → more ≡ records → later ≡ clock →
+    Leaves 0 d (record d { tables = tables }) session records more clock later
+leaves-prepared d {tables} {session} {records} same kept still = record {
+  id = refl;
+  sessions = λ s r other. (refl, refl, refl);
+  others = subst (λ (rs : List Record). OthersStay (who_in d session) records rs) (sym kept) (λ other differs. refl);
+  times = (omega (arith, still), omega (arith, still));
+  numbers = λ n below. each-weaken n (n + 0) (entries tables) (omega arith) (numbers_same n d.tables tables (sym same) below);
+}

@@ -1,5 +1,5 @@
 -- Processing, consideration by consideration.
-use Rattle.std.proofs.Common.{◌≡◌, ◌≢◌, ◌∙◌, ◌⊎◌, inl, inr, ℕ, zero, suc, ◌≤◌, Bool, true, false, nat_eq, cond, List, [], ◌∷◌, ◌++◌, length, map, filter, Option, Some, None, option_and_then, Result, Ok, Err, IfOk, OnOk, refl, sym, ap, subst, append_assoc, append-nil}
+use Rattle.std.proofs.Common.{◌≡◌, ◌≢◌, ◌∙◌, ◌⊎◌, inl, inr, ℕ, zero, suc, Bool, true, false, nat_eq, cond, List, [], ◌∷◌, ◌++◌, map, filter, Option, Some, None, option_and_then, Result, Ok, Err, IfOk, OnOk, refl, sym, ap, subst, append_assoc, append-nil}
 use Rattle.std.proofs.lemmas.Option.{none-some, same_Some}
 use Rattle.std.specs.declared.alloc.AllocError.{AllocError}
 use Rattle.sb_value.specs.declared.refusal.Refusal.{Refusal}
@@ -13,7 +13,6 @@ use Rattle.sb_tables.specs.Held.{Held, has_number}
 use Rattle.sb_index.specs.TableSets.{TableSets}
 use Rattle.sb_priority.specs.Ranks.{Ranks}
 use Rattle.sb_rawlog.specs.Records.{Record}
-use Rattle.sb_rawlog.specs.Sessions.{OthersStay}
 use Rattle.sb_eval.specs.Statement.{query_locks}
 use Rattle.sb_check.specs.Condition.{Query}
 use Rattle.sb_process.specs.declared.Outcome.{Outcome}
@@ -23,12 +22,13 @@ use Rattle.sb_process.specs.declared.database.Database.{Database}
 use Rattle.sb_process.specs.Consider.{ran, rolled_back, refused, Considered, was_false, was_true, was_refused, consider}
 use Rattle.sb_process.specs.Process.{Processing, ended, after_verdict, process, stands_after}
 use Rattle.sb_catalog.specs.Definitions.{AreIndexed}
-use Rattle.sb_process.specs.Represents.{Represents, IsTakenBack, who_in}
+use Rattle.sb_process.specs.Represents.{Represents, IsTakenBack}
 use Rattle.sb_process.specs.Running.{IsRunning, ComesTo, Goes, Notes, Finds, outcome_noted, verdict_noted, verdict_of, outcome_of, left_by, is_done}
 use Rattle.sb_process.specs.Setting.{Setting, Progress, is_candidate, next_rule}
-use Rattle.sb_process.specs.Transactions.{Kept, OtherSessionsStay}
-use Rattle.sb_process.specs.Work.{CanRun, IsConditionThere, AreActionsThere, IsWork, Stands, Processes}
-use Rattle.sb_process.proofs.Running.{there-same, actions-there, same-numbers}
+use Rattle.sb_process.specs.Transactions.{OtherSessionsStay}
+use Rattle.sb_process.specs.Work.{CanRun, CanRunRule, IsConditionThere, IsWork, Stands, Processes}
+use Rattle.sb_process.proofs.Leaving.{sessions-on}
+use Rattle.sb_process.proofs.Running.{there-same, actions-there, same-numbers, comes-on}
 
 -- ---- a verdict
 
@@ -158,21 +158,13 @@ module _ (setting : Setting) (eligible : ℕ → Bool) (progress : Progress) (al
 
 -- ---- the work goes on
 
-pub sessions-on : (a b c : Kept) (session : ℕ) → OtherSessionsStay a b session → OtherSessionsStay b c session → OtherSessionsStay a c session
-sessions-on a b c session f h s r other = ((h s r other).0 ∙ (f s r other).0, (h s r other).1 ∙ (f s r other).1, (h s r other).2 ∙ (f s r other).2)
-
-pub others-on : (session : ℕ) (old mid : Database) (a b c : List Record) → mid.id ≡ old.id → OthersStay (who_in old session) a b → OthersStay (who_in mid session) b c → OthersStay (who_in old session) a c
-others-on session old mid a b c same f h = λ other differs. h other (λ e. differs (e ∙ ap (λ (id : ℕ). record { tenant = id; session = session }) same)) ∙ f other differs
-
 -- the rule that is next is in the catalog
-found-can-run : (tables : List Held) (rules : List Rule) (id : ℕ) (rule : Rule) → numbered rules id ≡ Some rule → CanRun tables rules →
-    IsConditionThere tables rule.condition × AreActionsThere tables rule.actions × (length rule.actions ≤ 8)
+found-can-run : (tables : List Held) (rules : List Rule) (id : ℕ) (rule : Rule) → numbered rules id ≡ Some rule → CanRun tables rules → CanRunRule tables rule
 found-can-run tables [] id rule e h = absurd (none-some rule e)
 found-can-run tables (r ∷ rules) id rule e h = by (nat_eq r.id id) e (λ p. found-can-run tables rules id rule p h.1)
   where
-    by : (b : Bool) → cond b (Some r) (numbered rules id) ≡ Some rule → (numbered rules id ≡ Some rule → IsConditionThere tables rule.condition × AreActionsThere tables rule.actions × (length rule.actions ≤ 8)) →
-        IsConditionThere tables rule.condition × AreActionsThere tables rule.actions × (length rule.actions ≤ 8)
-    by true p rest = subst (λ (x : Rule). IsConditionThere tables x.condition × AreActionsThere tables x.actions × (length x.actions ≤ 8)) (same_Some r rule p) h.0
+    by : (b : Bool) → cond b (Some r) (numbered rules id) ≡ Some rule → (numbered rules id ≡ Some rule → CanRunRule tables rule) → CanRunRule tables rule
+    by true p rest = subst (CanRunRule tables) (same_Some r rule p) h.0
     by false p rest = rest p
 
 and-then-some : (f : ℕ → Option Rule) (o : Option ℕ) (rule : Rule) → option_and_then f o ≡ Some rule → (id : ℕ) × (f id ≡ Some rule)
@@ -183,38 +175,61 @@ condition-there : (old new : List Held) → ((id : ℕ) → has_number new id �
 condition-there old new e None h = tt
 condition-there old new e (Some q) h = there-same old new e (query_locks q) h
 
-module _ (origin : List Held) (session : ℕ) (index : List (List TableSets)) (catalog : List Rule) (order : Ranks) (setting : Setting) (progress : Progress) (d : Database) (records : List Record) (clock : ℕ)
-    (w : IsWork origin d session records clock index catalog order setting progress) where
-  pub running-of : IsRunning origin d session records clock index setting progress
-  running-of = record { transaction = w.transaction; indexed = subst (AreIndexed index d.id) (sym w.rules) w.indexed }
-
-  module _ (new : Database) (later : List Record) (time : ℕ) (after : Progress) (k : ComesTo origin new session later time setting progress after) where
-    pub work-after : new.id ≡ d.id → IsWork origin new session later time index catalog order setting after
-    work-after same = record { transaction = k.stands; rules = w.rules; indexed = subst (λ (id : ℕ). AreIndexed index id catalog) (sym same) w.indexed; ordered = w.ordered }
-
-    -- a look at the candidates changes neither tables nor locks
-    pub comes-looked : (looked : Database) → IsWork origin looked session later time index catalog order setting after → ComesTo origin looked session later time setting progress after
-    comes-looked looked v = record { stands = v.transaction; locks = k.locks }
-
-    pub rule-can-run : (eligible : ℕ → Bool) (rule : Rule) → next_rule setting eligible after ≡ Some rule → CanRun d.tables catalog →
-        IsConditionThere new.tables rule.condition × AreActionsThere new.tables rule.actions × (length rule.actions ≤ 8)
-    rule-can-run eligible rule e h =
-        let found = and-then-some (numbered setting.rules) (chosen setting.pairs (map (λ (x : Rule). x.id) (filter (is_candidate eligible after) setting.rules))) rule e in
-        let can = found-can-run d.tables catalog found.0 rule (ap (λ (rules : List Rule). numbered rules found.0) (sym w.rules) ∙ found.1) h in
-        let same = same-numbers origin session setting progress d records clock w.transaction new later time after k in
-        (condition-there d.tables new.tables same rule.condition can.0, actions-there d.tables new.tables same rule.actions can.1, can.2)
-
--- a look for the next rule, from where the work has come to
-pub looks : {origin : List Held} {start now seen : Database} {session : ℕ} {records later : List Record} {clock time : ℕ} {index : List (List TableSets)} {catalog : List Rule} {order : Ranks} {setting : Setting} {progress after : Progress} →
-    IsWork origin start session records clock index catalog order setting progress → ComesTo origin now session later time setting progress after → now.id ≡ start.id →
-    (IsWork origin now session later time index catalog order setting after → IsWork origin seen session later time index catalog order setting after) →
-    IsWork origin now session later time index catalog order setting after × IsWork origin seen session later time index catalog order setting after × ComesTo origin seen session later time setting progress after
-looks {origin} {start} {now} {seen} {session} {records} {later} {clock} {time} {index} {catalog} {order} {setting} {progress} {after} w k same on =
-    let work = work-after origin session index catalog order setting progress start records clock w now later time after k same in
-    (work, on work, comes-looked origin session index catalog order setting progress start records clock w now later time after k seen (on work))
-
 pub if-ok : {A : Type 0} (P : A → Type 0) (r : Result A AllocError) (x : A) → r ≡ Ok x → IfOk r P → P x
 if-ok P r x e h = subst (λ s. IfOk s P) e h
+
+-- from where the work has come to
+module _ {origin : List Held} {start now : Database} {session : ℕ} {records later : List Record} {clock time : ℕ} {index : List (List TableSets)} {catalog : List Rule} {order : Ranks} {setting : Setting} {progress : Progress} {eligible : ℕ → Bool} {all left : ℕ} {old mid : List (ℕ × Verdict)}
+    (w : IsWork origin start session records clock index catalog order setting progress) (r : Reaches (λ q. ComesTo origin now session later time setting progress q) setting eligible progress all left old mid) (same : now.id ≡ start.id) where
+  pub at-work : IsWork origin now session later time index catalog order setting r.after
+  at-work = record { transaction = r.comes_to.stands; rules = w.rules; indexed = subst (λ (id : ℕ). AreIndexed index id catalog) (sym same) w.indexed; ordered = w.ordered }
+
+  -- the next rule is looked for, which changes neither tables nor locks
+  module _ {seen : Database} (on : IsWork origin now session later time index catalog order setting r.after → IsWork origin seen session later time index catalog order setting r.after) where
+    pub looked-on : ComesTo origin seen session later time setting progress r.after
+    looked-on = record { stands = (on at-work).transaction; locks = r.comes_to.locks }
+
+    pub runs-on : IsRunning origin seen session later time index setting r.after
+    runs-on = let v = on at-work in record { transaction = v.transaction; indexed = subst (AreIndexed index seen.id) (sym v.rules) v.indexed }
+
+    -- the transaction goes on with what the rule comes to
+    pub considered-on : {new : Database} {last : List Record} {end : ℕ} → (IsRunning origin seen session later time index setting r.after → (after : Progress) × ComesTo origin new session last end setting r.after after) →
+        (after : Progress) × ComesTo origin new session last end setting progress after
+    considered-on {new} {last} {end} goes =
+        let come = goes runs-on in
+        (come.0, comes-on origin session setting progress r.after come.0 seen new later last time end looked-on come.1)
+
+    module _ {found : Option Rule} (next : IsWork origin now session later time index catalog order setting r.after → found ≡ next_rule setting eligible r.after) where
+      pub looked-done : found ≡ None → Finds (λ q. ComesTo origin seen session later time setting progress q) (process all setting eligible progress) old mid Done
+      looked-done none = finds-done setting eligible progress all left old mid (λ q. ComesTo origin now session later time setting progress q) r (λ q. ComesTo origin seen session later time setting progress q) (λ h. looked-on) (sym (next at-work) ∙ none)
+
+      pub looked-limit : (rule : Rule) → found ≡ Some rule → left ≡ 0 → Finds (λ q. ComesTo origin seen session later time setting progress q) (process all setting eligible progress) old mid ByLimit
+      looked-limit rule some none = finds-limit setting eligible progress all left old mid (λ q. ComesTo origin now session later time setting progress q) r (λ q. ComesTo origin seen session later time setting progress q) rule none (sym (next at-work) ∙ some)
+
+      module _ (rule : Rule) (some : found ≡ Some rule) where
+        is-next : next_rule setting eligible r.after ≡ Some rule
+        is-next = sym (next at-work) ∙ some
+
+        pub looked-can-run : CanRun start.tables catalog → CanRunRule seen.tables rule
+        looked-can-run h =
+            let chosen_id = and-then-some (numbered setting.rules) (chosen setting.pairs (map (λ (x : Rule). x.id) (filter (is_candidate eligible r.after) setting.rules))) rule is-next in
+            let can = found-can-run start.tables catalog chosen_id.0 rule (ap (λ (rules : List Rule). numbered rules chosen_id.0) (sym w.rules) ∙ chosen_id.1) h in
+            let there = same-numbers origin session setting progress start records clock w.transaction seen later time r.after looked-on in
+            (condition-there start.tables seen.tables there rule.condition can.0, actions-there start.tables seen.tables there rule.actions can.1, can.2)
+
+        -- the rule is considered and noted
+        module _ {new : Database} {last : List Record} {end : ℕ} {verdicts : List (ℕ × Verdict)} {result : Result (Option Outcome) AllocError}
+            (noted : IsRunning origin seen session later time index setting r.after → IfOk result (λ o. Notes (λ q. ComesTo origin new session last end setting r.after q) rule.id r.after (consider setting rule r.after) mid verdicts o)) (n : ℕ) (more : left ≡ suc n) where
+          notes : (ending : Option Outcome) → result ≡ Ok ending → Notes (λ q. ComesTo origin new session last end setting r.after q) rule.id r.after (consider setting rule r.after) mid verdicts ending
+          notes ending is = if-ok (λ (o : Option Outcome). Notes (λ q. ComesTo origin new session last end setting r.after q) rule.id r.after (consider setting rule r.after) mid verdicts o) result ending is (noted runs-on)
+
+          pub turn-ends : (o : Outcome) → result ≡ Ok (Some o) → Finds (λ q. ComesTo origin new session last end setting progress q) (process all setting eligible progress) old verdicts o
+          turn-ends o is = finds-outcome setting eligible progress all left old mid (λ q. ComesTo origin now session later time setting progress q) r rule is-next n more verdicts (λ q. ComesTo origin new session last end setting r.after q) (Some o) (notes (Some o) is)
+              (λ q. ComesTo origin new session last end setting progress q) o refl
+
+          pub turn-goes-on : result ≡ Ok None → Reaches (λ q. ComesTo origin new session last end setting progress q) setting eligible progress all n old verdicts
+          turn-goes-on is = reaches-more setting eligible progress all left old mid (λ q. ComesTo origin now session later time setting progress q) r rule is-next n more verdicts (λ q. ComesTo origin new session last end setting r.after q) None (notes None is)
+              (λ q. ComesTo origin new session last end setting progress q) (λ q h. comes-on origin session setting progress r.after q seen new later last time end looked-on h) refl
 
 -- ---- the end
 

@@ -15,6 +15,7 @@ use Rattle.sb_value.specs.declared.net.Transition.{Transition}
 use Rattle.sb_check.specs.declared.tree.Statement.{Statement}
 use Rattle.sb_eval.specs.Statement.{statement_locks, write_of}
 use Rattle.sb_eval.specs.Target.{target, mentioned}
+use Rattle.sb_process.specs.Made.{AreMade}
 use Rattle.sb_process.specs.Setting.{Setting, Progress, seen_with, tables_seen}
 use Rattle.sb_process.specs.View.{seen_by}
 use Rattle.sb_process.specs.Request.{AreThere, IsLocked, IsAnswer, after_request, refusal_for}
@@ -31,7 +32,7 @@ use Rattle.sb_rawlog.specs.Records.{Record}
 use Rattle.sb_locks.specs.Held.{Holders, held}
 use Rattle.sb_process.proofs.LockLists.{reads, locks_of}
 use Rattle.sb_process.proofs.Making.{entries-made}
-use Rattle.sb_process.proofs.Settling.{same_number, some_numbered}
+use Rattle.sb_process.proofs.Settling.{same_number, some_numbered, some_copied, some_mapped}
 
 -- ---- names
 
@@ -43,14 +44,6 @@ conflict_there tables held session (r ∷ request) table h e = by (conflicts hel
         (first_conflict held session request ≡ Some table → has_number tables table ≡ true) → has_number tables table ≡ true
     by true p rest = ap (has_number tables) (sym (same_Some r.0 table p)) ∙ h.0
     by false p rest = rest p
-
-some_copied : {A : Type 0} (r : Option (Bor A)) → is_some (option_copied r) ≡ is_some r
-some_copied None = refl
-some_copied (Some x) = refl
-
-some_mapped : {A B : Type 0} (f : A → B) (o : Option A) → is_some (option_map f o) ≡ is_some o
-some_mapped f None = refl
-some_mapped f (Some x) = refl
 
 pub has_name_of : (tables : List Held) (held : Locks) (session : ℕ) (request : List (ℕ × Mode)) (table : ℕ) (r : Option (Bor (List ℕ))) → AreThere tables request →
     first_conflict held session request ≡ Some table → option_copied r ≡ option_map (λ (h : Held). h.name) (numbered tables table) → IsSome r
@@ -92,7 +85,7 @@ same_candidates : (kept : Kept) (session : ℕ) (p : Progress) (more : Locks) (r
 same_candidates kept session p more [] h = tt
 same_candidates kept session p more (rule ∷ rules) h = (h.0, same_candidates kept session p more rules h.1)
 
-module _ (d : Database) (session : ℕ) (records : List Record) (clock : ℕ) (setting : Setting) (progress : Progress) (origin : List Held) (r : Represents origin d session records clock setting progress) where
+module _ {origin : List Held} {d : Database} {session : ℕ} {records : List Record} {clock : ℕ} {setting : Setting} {progress : Progress} (r : Represents origin d session records clock setting progress) where
   -- the tables in memory are those that are seen
   pub seen_tables : entries d.tables ≡ tables_seen setting progress
   seen_tables = entries-made origin progress.changes d.tables r.made ∙ ap (after_all progress.changes) r.base
@@ -112,14 +105,17 @@ module _ (d : Database) (session : ℕ) (records : List Record) (clock : ℕ) (s
   pub same_conflict : (list : List (ℕ × Mode)) → first_conflict progress.locks setting.who.session list ≡ first_conflict (held d.locks) session list
   same_conflict list = λ i. first_conflict (sym same_locks i) (same_session i) list
 
+  pub found_conflict : {list asked : List (ℕ × Mode)} {found : Option ℕ} → asked ≡ list → first_conflict (held d.locks) session asked ≡ found → first_conflict progress.locks setting.who.session list ≡ found
+  found_conflict {list} {asked} {found} same e = same_conflict list ∙ ap (first_conflict (held d.locks) session) (sym same) ∙ e
+
   -- a statement sees what memory holds
   pub same_seen : (t : Transition) (p : Progress) → p.changes ≡ progress.changes → seen_with setting t p ≡ seen_by d.tables t (who_in d session)
   same_seen t p e = λ i. record { tables = (ap (λ cs. after_all cs setting.base) e ∙ sym seen_tables) i; transition = t; who = r.who i }
 
-  -- with more locks
-  pub with_more : (more : Holders) (list : List (ℕ × Mode)) → ((s t : ℕ) (m : Mode) → held more s t m ≡ with_locks (held d.locks) session list s t m) →
-      Represents origin (record d { locks = more }) session records clock setting (record progress { locks = with_locks progress.locks setting.who.session list })
-  with_more more list taken = record {
+  -- with the same changes made of other tables, and under other locks
+  pub stands_with : (tables : List Held) (holders : Holders) (locks : Locks) → AreMade origin progress.changes tables → ((s t : ℕ) (m : Mode) → held holders s t m ≡ locks s t m) → AreLocked locks session progress.changes →
+      AreCandidates d.transactions session (record progress { locks = locks }) setting.rules → Represents origin (record d { tables = tables; locks = holders }) session records clock setting (record progress { locks = locks })
+  stands_with tables holders locks made are_held are_locked are_candidates = record {
     who = r.who;
     changes = r.changes;
     past = r.past;
@@ -127,11 +123,19 @@ module _ (d : Database) (session : ℕ) (records : List Record) (clock : ℕ) (s
     untriggered = r.untriggered;
     marks = r.marks;
     base = r.base;
-    made = r.made;
-    locks = λ s t m. taken s t m ∙ (λ i. with_locks (same_locks i) (sym same_session i) list s t m);
-    locked = still_locked progress.locks setting.who.session session list progress.changes r.locked;
-    candidates = same_candidates d.transactions session progress (with_locks progress.locks setting.who.session list) setting.rules r.candidates;
+    made = made;
+    locks = are_held;
+    locked = are_locked;
+    candidates = are_candidates;
   }
+
+  -- with more locks
+  pub with_more : (more : Holders) (list : List (ℕ × Mode)) → ((s t : ℕ) (m : Mode) → held more s t m ≡ with_locks (held d.locks) session list s t m) →
+      Represents origin (record d { locks = more }) session records clock setting (record progress { locks = with_locks progress.locks setting.who.session list })
+  with_more more list taken =
+      let locks : Locks = with_locks progress.locks setting.who.session list in
+      stands_with d.tables more locks r.made (λ s t m. taken s t m ∙ (λ i. with_locks (same_locks i) (sym same_session i) list s t m)) (still_locked progress.locks setting.who.session session list progress.changes r.locked)
+      (same_candidates d.transactions session progress locks setting.rules r.candidates)
 
 -- ---- the definition, where the request is refused or granted
 

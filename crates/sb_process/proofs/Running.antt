@@ -8,7 +8,7 @@ use Rattle.sb_value.specs.declared.lock.Mode.{Mode}
 use Rattle.sb_value.specs.declared.refusal.Refusal.{Refusal}
 use Rattle.sb_value.specs.declared.refusal.Refusal.TheVariants.{Locked, NoMemory}
 use Rattle.sb_value.specs.Locks.{Locks, same_mode, first_conflict, with_locks, released}
-use Rattle.sb_value.specs.Table.{after_all, name_at}
+use Rattle.sb_value.specs.Table.{name_at}
 use Rattle.sb_check.specs.declared.tree.Statement.{Statement}
 use Rattle.sb_check.specs.declared.tree.Action.{Action}
 use Rattle.sb_check.specs.declared.tree.Action.TheVariants as action
@@ -19,15 +19,14 @@ use Rattle.sb_rawlog.specs.Records.{Record}
 use Rattle.sb_process.specs.declared.database.Database.{Database}
 use Rattle.sb_process.specs.declared.consider.Consideration.{Consideration}
 use Rattle.sb_process.specs.declared.consider.Consideration.TheVariants.{False}
-use Rattle.sb_process.specs.Consider.{Ending, ran, rolled_back, refused, Considered, was_false, was_true, was_refused, with_changes, run_statement, run_actions, test_rows}
-use Rattle.sb_process.specs.Represents.{Represents, who_in}
+use Rattle.sb_process.specs.Consider.{Ending, ran, rolled_back, refused, Considered, was_false, was_true, was_refused, with_changes, run_statement, run_actions, test_rows, test_condition, consider}
+use Rattle.sb_process.specs.Represents.{Represents}
 use Rattle.sb_process.specs.Request.{AreThere, IsAnswer, after_request}
 use Rattle.sb_process.specs.Running.{ComesTo, Tests, Acts, Ends, Goes, truth}
-use Rattle.sb_process.specs.Setting.{Setting, Progress, marked, seen_with}
+use Rattle.sb_process.specs.Setting.{Setting, Progress, marked, rule_tables, seen_with}
 use Rattle.sb_process.specs.Statement.{changes_meant, with_changes_of, after_statement, counted, Runs}
-use Rattle.sb_process.specs.View.{seen_by}
 use Rattle.sb_process.specs.Work.{AreActionsThere}
-use Rattle.sb_process.proofs.Requests.{seen_tables, same_session}
+use Rattle.sb_process.proofs.Requests.{same_session}
 use Rattle.sb_process.proofs.Sharing.{there}
 
 -- ---- locks
@@ -69,11 +68,6 @@ rest-there tables action.Rollback actions h = h
 rest-there tables (action.Change statement) actions h = h.1
 
 module _ (origin : List Held) (session : ℕ) (setting : Setting) (progress : Progress) (d : Database) (records : List Record) (clock : ℕ) (r : Represents origin d session records clock setting progress) where
-  -- a statement with these transition tables sees what memory holds
-  pub seen-same : (tables : Transition) (p : Progress) → p.changes ≡ progress.changes → seen_with setting tables p ≡ seen_by d.tables tables (who_in d session)
-  seen-same tables p e =
-      λ i. record { tables = (ap (λ cs. after_all cs setting.base) e ∙ sym (seen_tables d session records clock setting progress origin r)) i; transition = tables; who = r.who i }
-
   module _ (new : Database) (later : List Record) (time : ℕ) where
     pub same-numbers : (after : Progress) → ComesTo origin new session later time setting progress after → (id : ℕ) → has_number new.tables id ≡ has_number d.tables id
     same-numbers after n id = there origin new.tables after.changes n.stands.made id ∙ sym (there origin d.tables progress.changes r.made id)
@@ -81,14 +75,14 @@ module _ (origin : List Held) (session : ℕ) (setting : Setting) (progress : Pr
     -- after the request, after the statement
     pub comes-request : (list : List (ℕ × Mode)) → Represents origin new session later time setting (after_request setting list progress) →
         ComesTo origin new session later time setting progress (after_request setting list progress)
-    comes-request list n = record { stands = n; locks = released-after setting progress list session (same_session d session records clock setting progress origin r) }
+    comes-request list n = record { stands = n; locks = released-after setting progress list session (same_session r) }
 
     pub comes-statement : (tables : Transition) (statement : Statement) → Represents origin new session later time setting (after_statement setting tables statement progress) →
         ComesTo origin new session later time setting progress (after_statement setting tables statement progress)
     comes-statement tables statement n = record {
       stands = n;
       locks = λ s t m. ap (λ (l : Locks). released l session s t m) (same-locks (changes_meant setting tables statement progress) (after_request setting (statement_locks statement) progress))
-          ∙ released-after setting progress (statement_locks statement) session (same_session d session records clock setting progress origin r) s t m;
+          ∙ released-after setting progress (statement_locks statement) session (same_session r) s t m;
     }
 
     pub comes-same : Represents origin new session later time setting progress → ComesTo origin new session later time setting progress progress
@@ -295,9 +289,27 @@ module _ (setting : Setting) (tables : Transition) (rule : Rule) where
     goes-true R q last e (inl n) = inl (subst (λ (t : Result (Bool × Progress) Refusal). Goes R (considered t) last) (sym e) n)
     goes-true R q last e (inr n) = inr n
 
--- a mark and locks leave the tables and the number of the tenant
+-- the answer where the condition isn't true, behind the mark
+module _ (origin : List Held) (session : ℕ) (setting : Setting) (rule : Rule) (progress : Progress) (tables : Transition) (new : Database) (records : List Record) (clock : ℕ) (taken : tables ≡ rule_tables progress rule) (result : Result Bool Refusal)
+    (h : Tests (ComesTo origin new session records clock setting (marked rule progress)) (test_condition setting tables rule.condition (marked rule progress)) result ⊎ (result ≡ Err NoMemory)) where
+  abbrev stands : Progress → Type 0
+  stands p = ComesTo origin new session records clock setting progress p
+
+  abbrev tested : Transition → Result (Bool × Progress) Refusal
+  tested t = test_condition setting t rule.condition (marked rule progress)
+
+  answer : Tests stands (tested tables) result ⊎ (result ≡ Err NoMemory)
+  answer = tests-map (λ q. ComesTo origin new session records clock setting (marked rule progress) q) stands (λ q k. comes-marked origin session setting rule progress q new records clock k) (tested tables) result h
+
+  goes-as : (last : Result Consideration Refusal) → Goes stands (considered setting tables rule (tested tables)) last ⊎ (last ≡ Err NoMemory) → Goes stands (consider setting rule progress) last ⊎ (last ≡ Err NoMemory)
+  goes-as last goes = subst (λ (t : Transition). Goes stands (considered setting t rule (tested t)) last ⊎ (last ≡ Err NoMemory)) taken goes
+
+  pub considered-false : result ≡ Ok false → Goes stands (consider setting rule progress) (Ok False) ⊎ ◌≡◌ {A = Result Consideration Refusal} (Ok False) (Err NoMemory)
+  considered-false e = goes-as (Ok False) (goes-false setting tables rule stands (tested tables) result answer e)
+
+  pub considered-refused : (refusal : Refusal) → result ≡ Err refusal → Goes stands (consider setting rule progress) (Err refusal) ⊎ ◌≡◌ {A = Result Consideration Refusal} (Err refusal) (Err NoMemory)
+  considered-refused refusal e = goes-as (Err refusal) (goes-refused setting tables rule stands (tested tables) result answer refusal e)
+
+-- a mark and locks leave the number of the tenant
 pub same-id : (old mid new : Database) → mid ≡ record old { transactions = mid.transactions } → new ≡ record mid { locks = new.locks } → old.id ≡ new.id
 same-id old mid new a b = sym (ap (λ (d : Database). d.id) b ∙ ap (λ (d : Database). d.id) a)
-
-pub same-held : (old mid new : Database) → mid ≡ record old { transactions = mid.transactions } → new ≡ record mid { locks = new.locks } → old.tables ≡ new.tables
-same-held old mid new a b = sym (ap (λ (d : Database). d.tables) b ∙ ap (λ (d : Database). d.tables) a)

@@ -1,7 +1,7 @@
 -- Something else stored under one number.
 use Rattle.std.proofs.lemmas.Bool.{or_parts}
 use Rattle.std.proofs.Common.{◌≡◌, ◌∙◌, ℕ, Bool, true, false, ◌||◌, ◌&&◌, not, cond, nat_eq, List, [], ◌∷◌, map, Option, Some, None, Bor, option_map, is_some, refl, sym, ap, subst, eq-eqb}
-use Rattle.std.specs.List.{list_any}
+use Rattle.std.specs.List.{list_any, find}
 use Rattle.std.specs.Option.{option_copied}
 use Rattle.sb_value.specs.declared.change.Change.{Change}
 use Rattle.sb_tables.specs.Laws.{ChangesKeepPlaces}
@@ -56,19 +56,18 @@ settled-stored s is = (is.0, have_all (numbers_of s.table.rows))
 
 -- ---- look-ups
 
-pub some_numbered : (tables : List Held) (id : ℕ) → is_some (numbered tables id) ≡ has_number tables id
-some_numbered [] id = refl
-some_numbered (h ∷ tables) id = by (nat_eq h.id id) (some_numbered tables id)
-  where
-    by : (b : Bool) → is_some (numbered tables id) ≡ has_number tables id → is_some (cond b (Some h) (numbered tables id)) ≡ (b || has_number tables id)
-    by true e = refl
-    by false e = e
+some_found : {A : Type 0} (p : A → Bool) (xs : List A) → is_some (find p xs) ≡ list_any p xs
+some_found p [] = refl
+some_found {A} p (x ∷ xs) = elim (p x) as (λ b. is_some (cond b (Some x) (find p xs)) ≡ (b || list_any p xs)) [ true ↦ refl | false ↦ some_found p xs ]
 
-some_copied : {A : Type 0} (r : Option (Bor A)) → is_some (option_copied r) ≡ is_some r
+pub some_numbered : (tables : List Held) (id : ℕ) → is_some (numbered tables id) ≡ has_number tables id
+some_numbered tables id = some_found (λ h. nat_eq h.id id) tables
+
+pub some_copied : {A : Type 0} (r : Option (Bor A)) → is_some (option_copied r) ≡ is_some r
 some_copied None = refl
 some_copied (Some x) = refl
 
-some_mapped : {A B : Type 0} (f : A → B) (o : Option A) → is_some (option_map f o) ≡ is_some o
+pub some_mapped : {A B : Type 0} (f : A → B) (o : Option A) → is_some (option_map f o) ≡ is_some o
 some_mapped f None = refl
 some_mapped f (Some x) = refl
 

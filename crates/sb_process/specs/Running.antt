@@ -17,7 +17,7 @@ use Rattle.sb_process.specs.declared.Outcome.TheVariants.{Done, ByRule, ByError,
 use Rattle.sb_process.specs.declared.consider.Consideration.{Consideration}
 use Rattle.sb_process.specs.declared.consider.Consideration.TheVariants as consideration
 use Rattle.sb_catalog.specs.Definitions.{AreIndexed}
-use Rattle.sb_process.specs.Represents.{Represents}
+use Rattle.sb_process.specs.Represents.{EachTransaction, Represents}
 use Rattle.sb_process.specs.Setting.{Setting, Progress}
 use Rattle.sb_process.specs.Process.{Processing}
 use Rattle.sb_process.specs.Consider.{Ending, ran, rolled_back, refused, Considered, was_false, was_true, was_refused}
@@ -42,6 +42,16 @@ EachRunning database session records clock index Says =
 pub record ComesTo (origin : List Held) (new : Database) (session : ℕ) (records : List Record) (clock : ℕ) (setting : Setting) (progress after : Progress) : Type 0 where
   pub stands : Represents origin new session records clock setting after
   pub locks : (s t : ℕ) (m : Mode) → released after.locks session s t m ≡ released progress.locks session s t m
+
+-- each transaction goes on, with the log as it is
+abbrev pub GoesOnHere : Database → Database → ℕ → Type 0
+GoesOnHere old new session =
+    (records : List Record) (clock : ℕ) → EachTransaction old session records clock (λ origin setting progress. (after : Progress) × ComesTo origin new session records clock setting progress after)
+
+-- each transaction that is running goes on
+abbrev pub GoesOn : Database → Database → ℕ → List (List TableSets) → List Record → List Record → ℕ → ℕ → Type 0
+GoesOn old new session index before later clock time =
+    EachRunning old session before clock index (λ origin setting progress. (after : Progress) × ComesTo origin new session later time setting progress after)
 
 -- ---- answers, where `stands` says what the transaction has come to
 

@@ -30,10 +30,12 @@ AreActionsThere tables [] = Unit {0}
 AreActionsThere tables (action.Rollback ∷ actions) = AreActionsThere tables actions
 AreActionsThere tables (action.Change statement ∷ actions) = AreThere tables (statement_locks statement) × AreActionsThere tables actions
 
+abbrev pub CanRunRule : List Held → Rule → Type 0
+CanRunRule tables rule = IsConditionThere tables rule.condition × AreActionsThere tables rule.actions × (length rule.actions ≤ 8)
+
 abbrev pub CanRun : List Held → List Rule → Type 0
 CanRun tables [] = Unit {0}
-CanRun tables (rule ∷ rules) =
-    (IsConditionThere tables rule.condition × AreActionsThere tables rule.actions × (length rule.actions ≤ 8)) × CanRun tables rules
+CanRun tables (rule ∷ rules) = CanRunRule tables rule × CanRun tables rules
 
 -- the eligible rules are active
 abbrev pub AreActive : (ℕ → Bool) → List Rule → Type 0

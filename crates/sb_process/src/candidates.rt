@@ -5,12 +5,10 @@ ghost use Rattle.sb_value.specs.Flags.{flag_at};
 ghost use Rattle.sb_value.specs.Order.{chosen};
 ghost use Rattle.sb_catalog.specs.Rules.{numbered};
 ghost use Rattle.sb_priority.specs.Ranks.{HasOrder, ranked};
-ghost use Rattle.sb_tables.specs.Held.{Held};
-ghost use Rattle.sb_process.specs.Represents.{EachTransaction, Represents, who_in};
+ghost use Rattle.sb_process.specs.Represents.{who_in};
 ghost use Rattle.sb_process.specs.Setting as spec;
-ghost use Rattle.sb_process.specs.Setting.{Setting, Progress};
 ghost use Rattle.sb_process.specs.Transactions.{ArePast, OtherSessionsStay};
-ghost use Rattle.sb_process.specs.Triggered.{AreSifted, CanTest, CanTestAll, HasCandidates, is_hit};
+ghost use Rattle.sb_process.specs.Triggered.{AreSifted, CanTest, CanTestAll, is_hit};
 ghost use Rattle.sb_process.specs.Work.{EachWork, IsAtWork, AreActive, IsWork};
 
 use crate::database::Database;
@@ -41,40 +39,16 @@ impl Database {
         ensures sessions { OtherSessionsStay self.old.transactions self.new.transactions session }
         ensures only_candidates { self.new ≡ record self.old { transactions = self.new.transactions } }
     {
-        let set = self.candidates(log, rules.catalog, session, eligible);
+        // for the proof: a time marks the changes that are older, a rule's number is its own, and a tuple's changes
+        // are its life
+        let _now = log.now();
+        let _rules = rules.catalog.rules();
+        proper_lists_have_lives();
+        let set = self.sift(log, rules.catalog, session, eligible);
         match chosen_of(rules.order, set) {
             Some(id) => rules.catalog.rule(id),
             None => None,
         }
-    }
-
-    /// The eligible rules that are triggered.
-    fn candidates<L: ChangeLog>(
-        &mut self,
-        log: &L,
-        catalog: &Catalog,
-        session: SessionId,
-        eligible: RuleSet,
-    ) -> RuleSet
-        requires transaction { (origin : List Held) × (setting : Setting) × (progress : Progress)
-            × Represents origin self.old session (L.records log.now) (L.clock log.now) setting progress
-            × (setting.rules ≡ catalog.now) }
-        requires active { AreActive (flag_at eligible) catalog.now }
-        ensures set { EachTransaction self.old session (L.records log.now) (L.clock log.now)
-            (λ origin setting progress.
-            setting.rules ≡ catalog.now → HasCandidates result (flag_at eligible) progress catalog.now) }
-        ensures stands { EachTransaction self.old session (L.records log.now) (L.clock log.now)
-            (λ origin setting progress. setting.rules ≡ catalog.now
-            → Represents origin self.new session (L.records log.now) (L.clock log.now) setting progress) }
-        ensures sessions { OtherSessionsStay self.old.transactions self.new.transactions session }
-        ensures only_candidates { self.new ≡ record self.old { transactions = self.new.transactions } }
-    {
-        // for the proof: a time marks the changes that are older, a rule's number is its own, and a tuple's changes
-        // are its life
-        let _now = log.now();
-        let _rules = catalog.rules();
-        proper_lists_have_lives();
-        self.sift(log, catalog, session, eligible)
     }
 
     /// The eligible candidates that are triggered. One that isn't leaves the candidates, and a later change puts it

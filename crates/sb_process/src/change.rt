@@ -1,5 +1,5 @@
 //! Statements that change tables.
-ghost use Rattle.std.specs.Prelude.{◌≡◌, ◌⊎◌, ℕ, ◌+◌, ◌-◌, ◌<◌, ◌^◌, IsTrue, IfOk, IfErr, Ok, Err};
+ghost use Rattle.std.specs.Prelude.{◌≡◌, ◌⊎◌, ℕ, ◌+◌, ◌<◌, ◌^◌, IsTrue, IfOk, IfErr, Ok, Err};
 ghost use Rattle.sb_value.specs.declared.lock.Mode.TheVariants as mode;
 ghost use Rattle.sb_value.specs.declared.refusal.Refusal.TheVariants as variant;
 ghost use Rattle.sb_eval.specs.Laws.{AreMakeable};
@@ -10,6 +10,7 @@ ghost use Rattle.sb_rawlog.specs.Sessions.{OthersStay};
 ghost use Rattle.sb_locks.specs.Held.{held};
 ghost use Rattle.sb_tables.specs.Held.{entries, has_number};
 ghost use Rattle.sb_process.specs.Made.{AreNumbered, AreStored, NumbersBelow};
+ghost use Rattle.sb_process.specs.Leaves.{HasRoom, Leaves};
 ghost use Rattle.sb_process.specs.Ready.{Changes};
 ghost use Rattle.sb_process.specs.Represents.{IsTransaction, who_in};
 ghost use Rattle.sb_process.specs.Request.{AreThere};
@@ -84,17 +85,13 @@ impl Database {
     ) -> Result<usize, Refusal>
         requires transaction { IsTransaction self.old viewer.now.session (L.records log.old) (L.clock log.old) }
         requires there { AreThere self.old.tables (spec.statement_locks statement.now) }
-        requires times { L.clock log.old + 4096 < 2 ^ 64 }
-        requires numbers { NumbersBelow (2 ^ 64 - 4097) self.old.tables }
+        requires room { HasRoom 4096 (L.clock log.old) self.old.tables }
         ensures ran { EachRunning self.old viewer.now.session (L.records log.old) (L.clock log.old) index.now
             (λ origin setting progress.
             Runs origin self.new viewer.now.session viewer.now.tables.now statement.now result
             (L.records log.new) (L.clock log.new) setting progress) }
-        ensures id { self.new.id ≡ self.old.id }
-        ensures sessions { OtherSessionsStay self.old.transactions self.new.transactions viewer.now.session }
-        ensures others { OthersStay (who_in self.old viewer.now.session) (L.records log.old) (L.records log.new) }
-        ensures times { RisesBy 4096 (L.clock log.old) (L.clock log.new) }
-        ensures numbers { (n : ℕ) → NumbersBelow n self.old.tables → NumbersBelow (n + 4096) self.new.tables }
+        ensures leaves { Leaves 4096 self.old self.new viewer.now.session
+            (L.records log.old) (L.records log.new) (L.clock log.old) (L.clock log.new) }
     {
         match lock(
             alloc,
@@ -120,18 +117,14 @@ impl Database {
         requires transaction { IsTransaction self.old viewer.now.session (L.records log.old) (L.clock log.old) }
         requires there { IsTrue (has_number self.old.tables (target statement.now)) }
         requires locked { IsTrue (held self.old.locks viewer.now.session (target statement.now) mode.Write) }
-        requires times { L.clock log.old + 4096 < 2 ^ 64 }
-        requires numbers { NumbersBelow (2 ^ 64 - 4097) self.old.tables }
+        requires room { HasRoom 4096 (L.clock log.old) self.old.tables }
         ensures ran { EachRunning self.old viewer.now.session (L.records log.old) (L.clock log.old) index.now
             (λ origin setting progress.
             Changes origin self.new viewer.now.session
             (spec.statement_changes (seen_with setting viewer.now.tables.now progress) statement.now) result
             (L.records log.new) (L.clock log.new) setting progress) }
-        ensures id { self.new.id ≡ self.old.id }
-        ensures sessions { OtherSessionsStay self.old.transactions self.new.transactions viewer.now.session }
-        ensures others { OthersStay (who_in self.old viewer.now.session) (L.records log.old) (L.records log.new) }
-        ensures times { RisesBy 4096 (L.clock log.old) (L.clock log.new) }
-        ensures numbers { (n : ℕ) → NumbersBelow n self.old.tables → NumbersBelow (n + 4096) self.new.tables }
+        ensures leaves { Leaves 4096 self.old self.new viewer.now.session
+            (L.records log.old) (L.records log.new) (L.clock log.old) (L.clock log.new) }
     {
         // for the proof: the tables are sound, and the changes of a statement can be made of them
         changes_keep_places();
@@ -184,17 +177,13 @@ impl Database {
         requires numbered { AreNumbered self.old.tables }
         requires stored { AreStored self.old.tables }
         requires locked { IsTrue (held self.old.locks session effect.target mode.Write) }
-        requires times { L.clock log.old + 4096 < 2 ^ 64 }
-        requires numbers { NumbersBelow (2 ^ 64 - 4097) self.old.tables }
+        requires room { HasRoom 4096 (L.clock log.old) self.old.tables }
         ensures made { EachRunning self.old session (L.records log.old) (L.clock log.old) index.now
             (λ origin setting progress.
             Changes origin self.new session (Ok effect.changes.items) result
             (L.records log.new) (L.clock log.new) setting progress) }
-        ensures id { self.new.id ≡ self.old.id }
-        ensures sessions { OtherSessionsStay self.old.transactions self.new.transactions session }
-        ensures others { OthersStay (who_in self.old session) (L.records log.old) (L.records log.new) }
-        ensures times { RisesBy 4096 (L.clock log.old) (L.clock log.new) }
-        ensures numbers { (n : ℕ) → NumbersBelow n self.old.tables → NumbersBelow (n + 4096) self.new.tables }
+        ensures leaves { Leaves 4096 self.old self.new session
+            (L.records log.old) (L.records log.new) (L.clock log.old) (L.clock log.new) }
     {
         let Effect { target, changes } = effect;
         let count = changes.len();

@@ -5,8 +5,7 @@ ghost use Rattle.sb_rawlog.specs.Records.{Record};
 ghost use Rattle.sb_process.specs.Consider.{test_condition};
 ghost use Rattle.sb_process.specs.Represents.{EachTransaction, who_in};
 ghost use Rattle.sb_process.specs.Request.{AreThere, IsAnswer};
-ghost use Rattle.sb_process.specs.Running.{ComesTo, Tests, truth};
-ghost use Rattle.sb_process.specs.Setting.{Progress};
+ghost use Rattle.sb_process.specs.Running.{ComesTo, GoesOnHere, Tests, truth};
 ghost use Rattle.sb_process.specs.View.{seen_by};
 ghost use Rattle.sb_process.specs.Work.{IsConditionThere};
 
@@ -35,10 +34,7 @@ impl Database {
             Tests (ComesTo origin self.new viewer.now.session records clock setting progress)
             (test_condition setting viewer.now.tables.now condition.now progress) result
             ⊎ (result ≡ Err Refusal.NoMemory)) }
-        ensures under_way { (records : List Record) (clock : ℕ) →
-            EachTransaction self.old viewer.now.session records clock
-            (λ origin setting progress. (after : Progress)
-            × ComesTo origin self.new viewer.now.session records clock setting progress after) }
+        ensures under_way { GoesOnHere self.old self.new viewer.now.session }
         ensures only_locks { self.new ≡ record self.old { locks = self.new.locks } }
     {
         match condition {
@@ -60,10 +56,7 @@ impl Database {
             Tests (ComesTo origin self.new viewer.now.session records clock setting progress)
             (test_condition setting viewer.now.tables.now (Some query.now) progress) result
             ⊎ (result ≡ Err Refusal.NoMemory)) }
-        ensures under_way { (records : List Record) (clock : ℕ) →
-            EachTransaction self.old viewer.now.session records clock
-            (λ origin setting progress. (after : Progress)
-            × ComesTo origin self.new viewer.now.session records clock setting progress after) }
+        ensures under_way { GoesOnHere self.old self.new viewer.now.session }
         ensures only_locks { self.new ≡ record self.old { locks = self.new.locks } }
     {
         let Ok(list) = query_locks(alloc, query) else {

@@ -1,14 +1,12 @@
 //! One consideration of a rule.
-ghost use Rattle.std.specs.Prelude.{◌≡◌, ◌⊎◌, [], ◌∷◌, ◌-◌, ◌≤◌, ◌<◌, ◌+◌, ◌*◌, ◌^◌, ℕ, length, IfOk, OnOk, OnErr};
-ghost use Rattle.sb_rawlog.specs.Sessions.{OthersStay};
+ghost use Rattle.std.specs.Prelude.{◌≡◌, ◌⊎◌, [], ◌∷◌, ◌*◌, length, IfOk, OnOk, OnErr};
 ghost use Rattle.sb_process.specs.Consider as spec;
-ghost use Rattle.sb_process.specs.Made.{NumbersBelow};
-ghost use Rattle.sb_process.specs.Represents.{EachTransaction, Represents, who_in};
-ghost use Rattle.sb_process.specs.Running.{EachRunning, IsUnderWay, ComesTo, Acts, Ends, Goes};
-ghost use Rattle.sb_process.specs.Setting.{Progress, marked, rule_tables};
-ghost use Rattle.sb_process.specs.Statement.{RisesBy};
+ghost use Rattle.sb_process.specs.Leaves.{HasRoom, Leaves};
+ghost use Rattle.sb_process.specs.Represents.{EachTransaction, Represents};
+ghost use Rattle.sb_process.specs.Running.{EachRunning, IsUnderWay, ComesTo, Acts, Ends, Goes, GoesOn};
+ghost use Rattle.sb_process.specs.Setting.{marked, rule_tables};
 ghost use Rattle.sb_process.specs.Transactions.{OtherSessionsStay};
-ghost use Rattle.sb_process.specs.Work.{AreActionsThere, IsConditionThere};
+ghost use Rattle.sb_process.specs.Work.{AreActionsThere, CanRunRule};
 
 use crate::database::Database;
 use crate::view::Viewer;
@@ -46,23 +44,16 @@ impl Database {
         chosen: &Chosen<'_>,
     ) -> Result<Consideration, Refusal>
         requires running { IsUnderWay self.old chosen.now.session (L.records log.old) (L.clock log.old) index.now }
-        requires condition { IsConditionThere self.old.tables chosen.now.rule.now.condition }
-        requires actions { AreActionsThere self.old.tables chosen.now.rule.now.actions }
-        requires few { length chosen.now.rule.now.actions ≤ 8 }
-        requires times { L.clock log.old + 32768 < 2 ^ 64 }
-        requires numbers { (n : ℕ) × (n + 32768 < 2 ^ 64) × NumbersBelow n self.old.tables }
+        requires rule { CanRunRule self.old.tables chosen.now.rule.now }
+        requires room { HasRoom 32768 (L.clock log.old) self.old.tables }
         ensures considered { EachRunning self.old chosen.now.session (L.records log.old) (L.clock log.old) index.now
             (λ origin setting progress.
             Goes (ComesTo origin self.new chosen.now.session (L.records log.new) (L.clock log.new) setting progress)
             (spec.consider setting chosen.now.rule.now progress) result ⊎ (result ≡ Err Refusal.NoMemory)) }
-        ensures under_way { EachRunning self.old chosen.now.session (L.records log.old) (L.clock log.old) index.now
-            (λ origin setting progress. (after : Progress)
-            × ComesTo origin self.new chosen.now.session (L.records log.new) (L.clock log.new) setting progress after) }
-        ensures id { self.new.id ≡ self.old.id }
-        ensures sessions { OtherSessionsStay self.old.transactions self.new.transactions chosen.now.session }
-        ensures others { OthersStay (who_in self.old chosen.now.session) (L.records log.old) (L.records log.new) }
-        ensures times { RisesBy 32768 (L.clock log.old) (L.clock log.new) }
-        ensures numbers { (n : ℕ) → NumbersBelow n self.old.tables → NumbersBelow (n + 32768) self.new.tables }
+        ensures under_way { GoesOn self.old self.new chosen.now.session index.now
+            (L.records log.old) (L.records log.new) (L.clock log.old) (L.clock log.new) }
+        ensures leaves { Leaves 32768 self.old self.new chosen.now.session
+            (L.records log.old) (L.records log.new) (L.clock log.old) (L.clock log.new) }
     {
         let Ok(tables) = self.rule_tables(alloc, log, chosen) else {
             return Err(Refusal::NoMemory);
@@ -137,22 +128,16 @@ impl Database {
     ) -> Result<Consideration, Refusal>
         requires running { IsUnderWay self.old viewer.now.session (L.records log.old) (L.clock log.old) index.now }
         requires actions { AreActionsThere self.old.tables actions.now }
-        requires times { L.clock log.old + 4096 * length actions.now < 2 ^ 64 }
-        requires numbers { (n : ℕ) × (n + 4096 * length actions.now < 2 ^ 64) × NumbersBelow n self.old.tables }
+        requires room { HasRoom (4096 * length actions.now) (L.clock log.old) self.old.tables }
         ensures ran { EachRunning self.old viewer.now.session (L.records log.old) (L.clock log.old) index.now
             (λ origin setting progress.
             Ends (ComesTo origin self.new viewer.now.session (L.records log.new) (L.clock log.new) setting progress)
             (spec.run_actions setting viewer.now.tables.now actions.now progress) result
             ⊎ (result ≡ Err Refusal.NoMemory)) }
-        ensures under_way { EachRunning self.old viewer.now.session (L.records log.old) (L.clock log.old) index.now
-            (λ origin setting progress. (after : Progress)
-            × ComesTo origin self.new viewer.now.session (L.records log.new) (L.clock log.new) setting progress after) }
-        ensures id { self.new.id ≡ self.old.id }
-        ensures sessions { OtherSessionsStay self.old.transactions self.new.transactions viewer.now.session }
-        ensures others { OthersStay (who_in self.old viewer.now.session) (L.records log.old) (L.records log.new) }
-        ensures times { RisesBy (4096 * length actions.now) (L.clock log.old) (L.clock log.new) }
-        ensures numbers { (n : ℕ) → NumbersBelow n self.old.tables
-            → NumbersBelow (n + 4096 * length actions.now) self.new.tables }
+        ensures under_way { GoesOn self.old self.new viewer.now.session index.now
+            (L.records log.old) (L.records log.new) (L.clock log.old) (L.clock log.new) }
+        ensures leaves { Leaves (4096 * length actions.now) self.old self.new viewer.now.session
+            (L.records log.old) (L.records log.new) (L.clock log.old) (L.clock log.new) }
     {
         match actions {
             [] => Ok(Consideration::True),
@@ -177,21 +162,16 @@ impl Database {
     ) -> Result<bool, Refusal>
         requires running { IsUnderWay self.old viewer.now.session (L.records log.old) (L.clock log.old) index.now }
         requires action { AreActionsThere self.old.tables (action.now ∷ []) }
-        requires times { L.clock log.old + 4096 < 2 ^ 64 }
-        requires numbers { NumbersBelow (2 ^ 64 - 4097) self.old.tables }
+        requires room { HasRoom 4096 (L.clock log.old) self.old.tables }
         ensures ran { EachRunning self.old viewer.now.session (L.records log.old) (L.clock log.old) index.now
             (λ origin setting progress.
             Acts (ComesTo origin self.new viewer.now.session (L.records log.new) (L.clock log.new) setting progress)
             (spec.run_actions setting viewer.now.tables.now (action.now ∷ []) progress) result
             ⊎ (result ≡ Err Refusal.NoMemory)) }
-        ensures under_way { EachRunning self.old viewer.now.session (L.records log.old) (L.clock log.old) index.now
-            (λ origin setting progress. (after : Progress)
-            × ComesTo origin self.new viewer.now.session (L.records log.new) (L.clock log.new) setting progress after) }
-        ensures id { self.new.id ≡ self.old.id }
-        ensures sessions { OtherSessionsStay self.old.transactions self.new.transactions viewer.now.session }
-        ensures others { OthersStay (who_in self.old viewer.now.session) (L.records log.old) (L.records log.new) }
-        ensures times { RisesBy 4096 (L.clock log.old) (L.clock log.new) }
-        ensures numbers { (n : ℕ) → NumbersBelow n self.old.tables → NumbersBelow (n + 4096) self.new.tables }
+        ensures under_way { GoesOn self.old self.new viewer.now.session index.now
+            (L.records log.old) (L.records log.new) (L.clock log.old) (L.clock log.new) }
+        ensures leaves { Leaves 4096 self.old self.new viewer.now.session
+            (L.records log.old) (L.records log.new) (L.clock log.old) (L.clock log.new) }
     {
         match action {
             Action::Rollback => Ok(false),

@@ -1,14 +1,9 @@
 //! A consideration with its verdict in the trace.
-ghost use Rattle.std.specs.Prelude.{◌≡◌, ◌≢◌, ◌≤◌, ◌<◌, ◌+◌, ◌^◌, ◌++◌, ◌∷◌, [], ℕ, length, IfOk, OnOk, OnErr, vec_len, vec_capacity};
-ghost use Rattle.sb_rawlog.specs.Sessions.{OthersStay};
+ghost use Rattle.std.specs.Prelude.{◌≡◌, ◌≢◌, ◌<◌, ◌++◌, ◌∷◌, [], IfOk, OnOk, OnErr, vec_len, vec_capacity};
 ghost use Rattle.sb_process.specs.Consider as spec;
-ghost use Rattle.sb_process.specs.Made.{NumbersBelow};
-ghost use Rattle.sb_process.specs.Represents.{who_in};
-ghost use Rattle.sb_process.specs.Running.{EachRunning, IsUnderWay, ComesTo, Notes, outcome_noted, verdict_noted};
-ghost use Rattle.sb_process.specs.Setting.{Progress};
-ghost use Rattle.sb_process.specs.Statement.{RisesBy};
-ghost use Rattle.sb_process.specs.Transactions.{OtherSessionsStay};
-ghost use Rattle.sb_process.specs.Work.{AreActionsThere, IsConditionThere};
+ghost use Rattle.sb_process.specs.Leaves.{HasRoom, Leaves};
+ghost use Rattle.sb_process.specs.Running.{EachRunning, IsUnderWay, ComesTo, GoesOn, Notes, outcome_noted, verdict_noted};
+ghost use Rattle.sb_process.specs.Work.{CanRunRule};
 
 use crate::Outcome;
 use crate::consider::{Chosen, Consideration};
@@ -29,24 +24,17 @@ impl Database {
         trace: &mut Vec<(RuleId, Verdict)>,
     ) -> Result<Option<Outcome>, AllocError>
         requires running { IsUnderWay self.old chosen.now.session (L.records log.old) (L.clock log.old) index.now }
-        requires condition { IsConditionThere self.old.tables chosen.now.rule.now.condition }
-        requires actions { AreActionsThere self.old.tables chosen.now.rule.now.actions }
-        requires few { length chosen.now.rule.now.actions ≤ 8 }
-        requires times { L.clock log.old + 32768 < 2 ^ 64 }
-        requires numbers { (n : ℕ) × (n + 32768 < 2 ^ 64) × NumbersBelow n self.old.tables }
+        requires rule { CanRunRule self.old.tables chosen.now.rule.now }
+        requires room { HasRoom 32768 (L.clock log.old) self.old.tables }
         ensures noted { EachRunning self.old chosen.now.session (L.records log.old) (L.clock log.old) index.now
             (λ origin setting progress. IfOk result (λ o.
             Notes (ComesTo origin self.new chosen.now.session (L.records log.new) (L.clock log.new) setting progress)
             chosen.now.rule.now.id progress (spec.consider setting chosen.now.rule.now progress)
             trace.old.items trace.new.items o)) }
-        ensures under_way { EachRunning self.old chosen.now.session (L.records log.old) (L.clock log.old) index.now
-            (λ origin setting progress. (after : Progress)
-            × ComesTo origin self.new chosen.now.session (L.records log.new) (L.clock log.new) setting progress after) }
-        ensures id { self.new.id ≡ self.old.id }
-        ensures sessions { OtherSessionsStay self.old.transactions self.new.transactions chosen.now.session }
-        ensures others { OthersStay (who_in self.old chosen.now.session) (L.records log.old) (L.records log.new) }
-        ensures times { RisesBy 32768 (L.clock log.old) (L.clock log.new) }
-        ensures numbers { (n : ℕ) → NumbersBelow n self.old.tables → NumbersBelow (n + 32768) self.new.tables }
+        ensures under_way { GoesOn self.old self.new chosen.now.session index.now
+            (L.records log.old) (L.records log.new) (L.clock log.old) (L.clock log.new) }
+        ensures leaves { Leaves 32768 self.old self.new chosen.now.session
+            (L.records log.old) (L.records log.new) (L.clock log.old) (L.clock log.new) }
     {
         if trace.reserve(1).is_err() {
             return Err(AllocError);

@@ -2,6 +2,7 @@
 ghost use Rattle.std.specs.Prelude.{◌≡◌, ℕ, ◌+◌, ◌*◌, ◌<◌, ◌^◌, IfOk, OnErr};
 ghost use Rattle.sb_value.specs.Flags.{flag_at};
 ghost use Rattle.sb_rawlog.specs.Sessions.{OthersStay};
+ghost use Rattle.sb_process.specs.Leaves.{HasRoom, Leaves};
 ghost use Rattle.sb_process.specs.Made.{NumbersBelow};
 ghost use Rattle.sb_process.specs.Process as spec;
 ghost use Rattle.sb_process.specs.Represents.{IsTakenBack, who_in};
@@ -117,8 +118,7 @@ impl Database {
         requires work { IsAtWork self.old point.now.session (L.records log.old) (L.clock log.old) rules.now }
         requires rules { CanRun self.old.tables rules.now.catalog.now }
         requires active { AreActive (flag_at point.now.eligible) rules.now.catalog.now }
-        requires times { L.clock log.old < 2 ^ 63 }
-        requires numbers { NumbersBelow (2 ^ 63) self.old.tables }
+        requires room { HasRoom (2 ^ 47) (L.clock log.old) self.old.tables }
         ensures processed { EachWork self.old point.now.session (L.records log.old) (L.clock log.old) rules.now
             (λ origin setting progress. IfOk result (λ o.
             Finds (ComesTo origin self.new point.now.session (L.records log.new) (L.clock log.new) setting progress)
@@ -127,12 +127,8 @@ impl Database {
         ensures under_way { EachWork self.old point.now.session (L.records log.old) (L.clock log.old) rules.now
             (λ origin setting progress. (after : Progress)
             × ComesTo origin self.new point.now.session (L.records log.new) (L.clock log.new) setting progress after) }
-        ensures id { self.new.id ≡ self.old.id }
-        ensures sessions { OtherSessionsStay self.old.transactions self.new.transactions point.now.session }
-        ensures others { OthersStay (who_in self.old point.now.session) (L.records log.old) (L.records log.new) }
-        ensures times { RisesBy (32768 * point.now.bound) (L.clock log.old) (L.clock log.new) }
-        ensures numbers { (n : ℕ) → NumbersBelow n self.old.tables
-            → NumbersBelow (n + 32768 * point.now.bound) self.new.tables }
+        ensures leaves { Leaves (32768 * point.now.bound) self.old self.new point.now.session
+            (L.records log.old) (L.records log.new) (L.clock log.old) (L.clock log.new) }
     {
         for _turn in 0..point.bound {
             let Some(rule) = self.next_rule(log, rules, point.session, point.eligible) else {

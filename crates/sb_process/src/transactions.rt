@@ -1,5 +1,5 @@
 //! The marks and the candidates of a tenant's sessions.
-ghost use Rattle.std.specs.Prelude.{◌≡◌, ◌⊎◌, ℕ, ◌<◌, ◌≤◌, false, not, ◌&&◌, ◌||◌, ◌==◌, if◌then◌else◌, length, OnOk, OnErr};
+ghost use Rattle.std.specs.Prelude.{◌≡◌, ◌⊎◌, ℕ, ◌<◌, ◌≤◌, false, not, ◌&&◌, ◌||◌, ◌==◌, if◌then◌else◌, length, slice_index, MatchOption, OnOk, OnErr};
 ghost use Rattle.sb_value.specs.Flags.{flag_at};
 ghost use Rattle.sb_process.specs.Transactions.{mark_of, tested_of, is_candidate_of, SetsTime};
 
@@ -55,10 +55,7 @@ impl Transactions {
     pub fn mark(&self, session: SessionId, rule: RuleId) -> u64
         ensures { result ≡ mark_of self.now session rule }
     {
-        if !self.marked[session.index()].contains(rule) {
-            return 0;
-        }
-        match self.rows.get(rule.index()) {
+        match self.times(session, rule) {
             Some(times) => times.marks[session.index()],
             None => 0,
         }
@@ -68,13 +65,23 @@ impl Transactions {
     pub fn tested(&self, session: SessionId, rule: RuleId) -> u64
         ensures { result ≡ tested_of self.now session rule }
     {
-        if !self.marked[session.index()].contains(rule) {
-            return 0;
-        }
-        match self.rows.get(rule.index()) {
+        match self.times(session, rule) {
             Some(times) => times.tested[session.index()],
             None => 0,
         }
+    }
+
+    /// Both times of a rule, where they count in the session's transaction.
+    fn times(&self, session: SessionId, rule: RuleId) -> Option<&Times>
+        ensures marks { MatchOption result (mark_of self.now session rule ≡ 0)
+            (λ times. mark_of self.now session rule ≡ slice_index times.now.marks session) }
+        ensures tested { MatchOption result (tested_of self.now session rule ≡ 0)
+            (λ times. tested_of self.now session rule ≡ slice_index times.now.tested session) }
+    {
+        if !self.marked[session.index()].contains(rule) {
+            return None;
+        }
+        self.rows.get(rule.index())
     }
 
     /// Sets a rule's mark. Nothing since then triggers the rule.

@@ -1,7 +1,6 @@
-use Rattle.std.proofs.Common.{◌≡◌, ◌∙◌, inl, suc, ◌+◌, ◌*◌, ◌-◌, List, [], ◌∷◌, length, take, drop, true, false, Result, Ok, sym, ap, subst, refl, arith, rules}
+use Rattle.std.proofs.Common.{◌≡◌, ◌∙◌, inl, suc, ◌*◌, ◌-◌, List, [], ◌∷◌, length, take, drop, true, false, Result, Ok, sym, ap, subst, refl, arith, rules}
 use Rattle.sb_value.specs.declared.refusal.Refusal.{Refusal}
 use Rattle.sb_check.specs.declared.tree.Action.{Action}
-use Rattle.sb_tables.specs.Held.{entries}
 use Rattle.sb_process.specs.declared.consider.Consideration.{Consideration}
 use Rattle.sb_process.specs.declared.consider.Consideration.TheVariants.{RolledBack}
 use Rattle.sb_process.specs.Consider.{Ending, run_actions}
@@ -10,24 +9,21 @@ use Rattle.sb_process.specs.Running.{ComesTo, Ends}
 use Rattle.sb_process.specs.Setting.{Progress}
 use Rattle.sb_process.specs.Work.{AreActionsThere}
 use Rattle.sb_process.proofs.LockLists.{whole}
-use Rattle.sb_process.proofs.Numbers.{each-weaken}
+use Rattle.sb_process.proofs.Leaving.{leaves-on, leaves-more, room-less, room-behind}
 use Rattle.sb_process.proofs.Running.{actions-there, same-numbers, rest-there, comes-on, first-ran, first-rolled_back, first-refused, acted, ends-after, ends-refused}
 use Rattle.sb_process.proofs.database.Database.+run_actions.Goals as goal
 
--- one action runs, and there are the numbers for it
-pub run_action-requires-clause-numbers : goal.run_action-requires-clause-numbers
-run_action-requires-clause-numbers g t c =
-    let n = c.requires.numbers in
-    each-weaken n.0 18446744073709547519 (entries c.args.self.now.tables) (omega (arith, n.1, c.in-len1-up.len_at_least)) n.2
+-- one action runs, and there is room for it
+pub run_action-requires-clause-room : goal.run_action-requires-clause-room
+run_action-requires-clause-room g t c = room-less c.requires.room (omega (arith, c.in-len1-up.len_at_least))
 
 pub run_actions-requires : goal.run_actions-requires
 run_actions-requires g t c = λ κs le.
     let w = c.requires.running in
     let come = c.run_action.ensures.under_way w.0 w.1 w.2 w.3 in
-    let n = c.requires.numbers in
     let e = whole c.args.actions.now c.first-item.result c.in-len1-up.len_at_least c.first-item.is in
     let l : length c.args.actions.now ≡ suc (length (take (length c.args.actions.now - 1) (drop 1 c.args.actions.now))) = ap length e in
-    let times = c.run_action.ensures.times in (
+    let room = room-behind {n = 4096} {m = 4096 * length (take (length c.args.actions.now - 1) (drop 1 c.args.actions.now))} (room-less c.requires.room (omega (arith, l))) c.run_action.ensures.leaves in (
       search rules,
       (
         le,
@@ -38,7 +34,7 @@ run_actions-requires g t c = λ κs le.
             come.0,
             record {
               transaction = come.1.stands;
-              indexed = subst (λ id. AreIndexed c.args.index.now id (w.1).rules) (sym c.run_action.ensures.id) w.3.indexed;
+              indexed = subst (λ id. AreIndexed c.args.index.now id (w.1).rules) (sym c.run_action.ensures.leaves.id) w.3.indexed;
             },
           ),
           (
@@ -47,7 +43,7 @@ run_actions-requires g t c = λ κs le.
                 (g.L.ChangeLog.records c.run_action.new.log) (g.L.ChangeLog.clock c.run_action.new.log) come.0 come.1)
                 (take (length c.args.actions.now - 1) (drop 1 c.args.actions.now))
                 (rest-there c.args.self.now.tables c.first-item.result (take (length c.args.actions.now - 1) (drop 1 c.args.actions.now)) (subst (AreActionsThere c.args.self.now.tables) e c.requires.actions)),
-            (omega (arith, l, times.1, c.requires.times), (n.0 + 4096, omega (arith, l, n.1), c.run_action.ensures.numbers n.0 n.2)),
+            room,
           ),
         ),
       ),
@@ -70,7 +66,7 @@ returns-in-Ok-true-clause-ran g t c = λ origin setting progress w.
     (ap (λ (l : List Action). run_actions setting c.args.viewer.now.tables.now l progress) e ∙ one.2)
     (λ q h. comes-on origin session setting progress one.0 q mid.self new.self (g.L.ChangeLog.records mid.log) (g.L.ChangeLog.records new.log) (g.L.ChangeLog.clock mid.log) (g.L.ChangeLog.clock new.log) one.1 h)
     (c.run_actions.ensures.ran origin setting one.0
-    (record { transaction = (one.1).stands; indexed = subst (λ id. AreIndexed c.args.index.now id setting.rules) (sym c.run_action.ensures.id) w.indexed }))
+    (record { transaction = (one.1).stands; indexed = subst (λ id. AreIndexed c.args.index.now id setting.rules) (sym c.run_action.ensures.leaves.id) w.indexed }))
 
 pub returns-in-Ok-true-clause-under_way : goal.returns-in-Ok-true-clause-under_way
 returns-in-Ok-true-clause-under_way g t c = λ origin setting progress w.
@@ -78,18 +74,17 @@ returns-in-Ok-true-clause-under_way g t c = λ origin setting progress w.
     let mid = c.run_action.new in let new = c.run_actions.new in
     let one = c.run_action.ensures.under_way origin setting progress w in
     let all = c.run_actions.ensures.under_way origin setting one.0
-    (record { transaction = (one.1).stands; indexed = subst (λ id. AreIndexed c.args.index.now id setting.rules) (sym c.run_action.ensures.id) w.indexed }) in (
+    (record { transaction = (one.1).stands; indexed = subst (λ id. AreIndexed c.args.index.now id setting.rules) (sym c.run_action.ensures.leaves.id) w.indexed }) in (
       all.0,
       comes-on origin session setting progress one.0 all.0 mid.self new.self (g.L.ChangeLog.records mid.log) (g.L.ChangeLog.records new.log) (g.L.ChangeLog.clock mid.log) (g.L.ChangeLog.clock new.log)
           one.1 all.1,
     )
 
-pub returns-in-Ok-true-clause-numbers : goal.returns-in-Ok-true-clause-numbers
-returns-in-Ok-true-clause-numbers g t c = λ n h.
+pub returns-in-Ok-true-clause-leaves : goal.returns-in-Ok-true-clause-leaves
+returns-in-Ok-true-clause-leaves g t c =
     let rest = take (length c.args.actions.now - 1) (drop 1 c.args.actions.now) in
     let l : length c.args.actions.now ≡ suc (length rest) = ap length (whole c.args.actions.now c.first-item.result c.in-len1-up.len_at_least c.first-item.is) in
-    each-weaken (n + 4096 + 4096 * length rest) (n + 4096 * length c.args.actions.now) (entries c.run_actions.new.self.tables) (omega (arith, l))
-    (c.run_actions.ensures.numbers (n + 4096) (c.run_action.ensures.numbers n h))
+    leaves-more (4096 * length c.args.actions.now) (leaves-on c.run_action.ensures.leaves c.run_actions.ensures.leaves) (omega (arith, l))
 
 pub returns-in-Ok-false-clause-ran : goal.returns-in-Ok-false-clause-ran
 returns-in-Ok-false-clause-ran g t c = λ origin setting progress w.
@@ -104,9 +99,8 @@ returns-in-Ok-false-clause-ran g t c = λ origin setting progress w.
     (acted M (run_actions setting c.args.viewer.now.tables.now (first ∷ []) progress) c.run_action.result false (c.in-Ok-false.is ∙ ap Ok c.in-Ok-false.field-0-test) (c.run_action.ensures.ran origin setting progress w))))
     refl)
 
-pub returns-in-Ok-false-clause-numbers : goal.returns-in-Ok-false-clause-numbers
-returns-in-Ok-false-clause-numbers g t c = λ n h.
-    each-weaken (n + 4096) (n + 4096 * length c.args.actions.now) (entries c.run_action.new.self.tables) (omega (arith, c.in-len1-up.len_at_least)) (c.run_action.ensures.numbers n h)
+pub returns-in-Ok-false-clause-leaves : goal.returns-in-Ok-false-clause-leaves
+returns-in-Ok-false-clause-leaves g t c = leaves-more (4096 * length c.args.actions.now) c.run_action.ensures.leaves (omega (arith, c.in-len1-up.len_at_least))
 
 pub returns-in-Err-clause-ran : goal.returns-in-Err-clause-ran
 returns-in-Err-clause-ran g t c = λ origin setting progress w.
@@ -119,6 +113,5 @@ returns-in-Err-clause-ran g t c = λ origin setting progress w.
     ∙ first-refused M setting c.args.viewer.now.tables.now first rest progress c.in-Err.refusal h)
     (c.run_action.ensures.ran origin setting progress w)
 
-pub returns-in-Err-clause-numbers : goal.returns-in-Err-clause-numbers
-returns-in-Err-clause-numbers g t c = λ n h.
-    each-weaken (n + 4096) (n + 4096 * length c.args.actions.now) (entries c.run_action.new.self.tables) (omega (arith, c.in-len1-up.len_at_least)) (c.run_action.ensures.numbers n h)
+pub returns-in-Err-clause-leaves : goal.returns-in-Err-clause-leaves
+returns-in-Err-clause-leaves g t c = leaves-more (4096 * length c.args.actions.now) c.run_action.ensures.leaves (omega (arith, c.in-len1-up.len_at_least))

@@ -1,12 +1,10 @@
-use Rattle.std.proofs.Common.{◌-◌, ◌^◌, arith, subst}
+use Rattle.std.proofs.Common.{◌^◌, arith, subst}
 use Rattle.sb_value.specs.declared.net.Transition.{Transition}
-use Rattle.sb_tables.specs.Held.{entries}
 use Rattle.sb_process.specs.Statement.{Runs}
-use Rattle.sb_process.proofs.Numbers.{each-weaken}
 use Rattle.sb_process.proofs.database.Database.change.Goals as goal
 
-pub run-requires-clause-numbers : goal.run-requires-clause-numbers
-run-requires-clause-numbers g c = each-weaken (2 ^ 63) (2 ^ 64 - 4097) (entries c.args.self.now.tables) (omega arith) c.requires.numbers
+pub run-requires-clause-room : goal.run-requires-clause-room
+run-requires-clause-room g c = record { times = omega (arith, c.requires.times); numbers = (2 ^ 63, omega arith, c.requires.numbers) }
 
 pub returns-clause-changed : goal.returns-clause-changed
 returns-clause-changed g c = λ origin setting progress w.

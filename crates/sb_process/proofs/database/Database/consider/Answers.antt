@@ -1,23 +1,14 @@
-use Rattle.std.proofs.Common.{◌≡◌, ◌∙◌, ◌⊎◌, ◌+◌, ◌*◌, true, List, length, Result, Ok, Err, sym, ap, subst, arith}
+use Rattle.std.proofs.Common.{◌≡◌, ◌∙◌, ◌⊎◌, ◌*◌, ◌≤◌, true, List, length, Ok, Err, refl, sym, ap, subst, arith}
 use Rattle.sb_value.specs.declared.net.Transition.{Transition}
-use Rattle.sb_value.specs.declared.refusal.Refusal.{Refusal}
 use Rattle.sb_value.specs.declared.refusal.Refusal.TheVariants.{NoMemory}
 use Rattle.sb_check.specs.declared.tree.Action.{Action}
-use Rattle.sb_tables.specs.Held.{Held, entries}
-use Rattle.sb_process.specs.declared.consider.Consideration.{Consideration}
-use Rattle.sb_process.specs.declared.database.Database.{Database}
-use Rattle.sb_process.specs.declared.consider.Consideration.TheVariants.{False}
 use Rattle.sb_process.specs.Consider.{Considered, test_condition, run_actions}
-use Rattle.sb_process.specs.Made.{EachBelow}
 use Rattle.sb_catalog.specs.Definitions.{AreIndexed}
 use Rattle.sb_process.specs.Running.{ComesTo, Goes}
 use Rattle.sb_process.specs.Setting.{Progress, marked}
-use Rattle.sb_process.proofs.Numbers.{each-weaken}
-use Rattle.sb_process.proofs.Running.{same-id, same-held, ends-after, comes-on, comes-marked, tests-map, considered, went, goes-false, goes-refused, goes-true}
+use Rattle.sb_process.proofs.Leaving.{leaves-all, leaves-marked, leaves-on, leaves-more, room-less, room-behind}
+use Rattle.sb_process.proofs.Running.{same-id, ends-after, comes-on, comes-marked, considered, went, considered-false, considered-refused, goes-true}
 use Rattle.sb_process.proofs.database.Database.consider.Goals as goal
-
-pub returns-in_default-clause-numbers : goal.returns-in_default-clause-numbers
-returns-in_default-clause-numbers g c = λ n h. each-weaken n (n + 32768) (entries c.args.self.now.tables) (omega arith) h
 
 pub run_actions-requires-clause-running : goal.run_actions-requires-clause-running
 run_actions-requires-clause-running g c =
@@ -74,27 +65,11 @@ returns-in-Ok-true-clause-under_way g c = λ origin setting progress w.
           (comes-marked origin session setting rule progress one.0 mid records clock one.1) all.1,
     )
 
-pub returns-in-Ok-true-clause-numbers : goal.returns-in-Ok-true-clause-numbers
-returns-in-Ok-true-clause-numbers g c = λ n h.
-    let same = ap length c.as_slice.ensures in
-    each-weaken (n + 4096 * length c.as_slice.result.now) (n + 32768) (entries c.run_actions.new.self.tables) (omega (arith, same, c.requires.few))
-    (c.run_actions.ensures.numbers n
-    (subst (λ (ts : List Held). EachBelow n (entries ts)) (same-held c.args.self.now c.mark_now.new.self c.test.new.self c.in-Ok-mark_now.ensures.only_marks c.test.ensures.only_locks) h))
-
 pub returns-in-Ok-false-clause-considered : goal.returns-in-Ok-false-clause-considered
 returns-in-Ok-false-clause-considered g c = λ origin setting progress w.
-    let session = c.args.chosen.now.session in let rule = c.args.chosen.now.rule.now in let tables = c.in-Ok.tables in
     let records = g.L.ChangeLog.records c.args.log.now in let clock = g.L.ChangeLog.clock c.args.log.now in
-    let start = marked rule progress in
-    let tested = test_condition setting tables rule.condition start in
-    let S = λ (q : Progress). ComesTo origin c.test.new.self session records clock setting start q in
-    let R = λ (q : Progress). ComesTo origin c.test.new.self session records clock setting progress q in
-    let answer = tests-map S R (λ q h. comes-marked origin session setting rule progress q c.test.new.self records clock h) tested c.test.result
-    (c.test.ensures.tested records clock origin setting start (c.in-Ok-mark_now.ensures.marked origin setting progress w.transaction)) in
-    let result : Result Consideration Refusal = Ok False in
-    subst (λ (x : Considered). Goes R x result ⊎ (result ≡ Err NoMemory))
-    (ap (λ (t : Transition). considered setting t rule (test_condition setting t rule.condition start)) (c.in-Ok.ensures origin setting progress w.transaction))
-    (goes-false setting tables rule R tested c.test.result answer (c.in-Ok-false.is ∙ ap Ok c.in-Ok-false.field-0-test))
+    considered-false origin c.args.chosen.now.session setting c.args.chosen.now.rule.now progress c.in-Ok.tables c.test.new.self records clock (c.in-Ok.ensures origin setting progress w.transaction) c.test.result
+    (c.test.ensures.tested records clock origin setting (marked c.args.chosen.now.rule.now progress) (c.in-Ok-mark_now.ensures.marked origin setting progress w.transaction)) (c.in-Ok-false.is ∙ ap Ok c.in-Ok-false.field-0-test)
 
 pub returns-in-Ok-false-clause-under_way : goal.returns-in-Ok-false-clause-under_way
 returns-in-Ok-false-clause-under_way g c = λ origin setting progress w.
@@ -102,25 +77,11 @@ returns-in-Ok-false-clause-under_way g c = λ origin setting progress w.
     let one = c.test.ensures.under_way records clock origin setting (marked c.args.chosen.now.rule.now progress) (c.in-Ok-mark_now.ensures.marked origin setting progress w.transaction) in
     (one.0, comes-marked origin c.args.chosen.now.session setting c.args.chosen.now.rule.now progress one.0 c.test.new.self records clock one.1)
 
-pub returns-in-Ok-false-clause-numbers : goal.returns-in-Ok-false-clause-numbers
-returns-in-Ok-false-clause-numbers g c = λ n h.
-    each-weaken n (n + 32768) (entries c.test.new.self.tables) (omega arith)
-    (subst (λ (ts : List Held). EachBelow n (entries ts)) (same-held c.args.self.now c.mark_now.new.self c.test.new.self c.in-Ok-mark_now.ensures.only_marks c.test.ensures.only_locks) h)
-
 pub returns-clause-considered : goal.returns-clause-considered
 returns-clause-considered g c = λ origin setting progress w.
-    let session = c.args.chosen.now.session in let rule = c.args.chosen.now.rule.now in let tables = c.in-Ok.tables in
     let records = g.L.ChangeLog.records c.args.log.now in let clock = g.L.ChangeLog.clock c.args.log.now in
-    let start = marked rule progress in
-    let tested = test_condition setting tables rule.condition start in
-    let S = λ (q : Progress). ComesTo origin c.test.new.self session records clock setting start q in
-    let R = λ (q : Progress). ComesTo origin c.test.new.self session records clock setting progress q in
-    let answer = tests-map S R (λ q h. comes-marked origin session setting rule progress q c.test.new.self records clock h) tested c.test.result
-    (c.test.ensures.tested records clock origin setting start (c.in-Ok-mark_now.ensures.marked origin setting progress w.transaction)) in
-    let result : Result Consideration Refusal = Err c.in-Err.refusal in
-    subst (λ (x : Considered). Goes R x result ⊎ (result ≡ Err NoMemory))
-    (ap (λ (t : Transition). considered setting t rule (test_condition setting t rule.condition start)) (c.in-Ok.ensures origin setting progress w.transaction))
-    (goes-refused setting tables rule R tested c.test.result answer c.in-Err.refusal c.in-Err.is)
+    considered-refused origin c.args.chosen.now.session setting c.args.chosen.now.rule.now progress c.in-Ok.tables c.test.new.self records clock (c.in-Ok.ensures origin setting progress w.transaction) c.test.result
+    (c.test.ensures.tested records clock origin setting (marked c.args.chosen.now.rule.now progress) (c.in-Ok-mark_now.ensures.marked origin setting progress w.transaction)) c.in-Err.refusal c.in-Err.is
 
 pub returns-clause-under_way : goal.returns-clause-under_way
 returns-clause-under_way g c = λ origin setting progress w.
@@ -128,12 +89,26 @@ returns-clause-under_way g c = λ origin setting progress w.
     let one = c.test.ensures.under_way records clock origin setting (marked c.args.chosen.now.rule.now progress) (c.in-Ok-mark_now.ensures.marked origin setting progress w.transaction) in
     (one.0, comes-marked origin c.args.chosen.now.session setting c.args.chosen.now.rule.now progress one.0 c.test.new.self records clock one.1)
 
-pub returns-clause-numbers : goal.returns-clause-numbers
-returns-clause-numbers g c = λ n h.
-    each-weaken n (n + 32768) (entries c.test.new.self.tables) (omega arith)
-    (subst (λ (ts : List Held). EachBelow n (entries ts)) (same-held c.args.self.now c.mark_now.new.self c.test.new.self c.in-Ok-mark_now.ensures.only_marks c.test.ensures.only_locks) h)
+-- ---- what the consideration leaves
 
-pub returns-in_default-mark_now-clause-numbers : goal.returns-in_default-mark_now-clause-numbers
-returns-in_default-mark_now-clause-numbers g c = λ n h.
-    each-weaken n (n + 32768) (entries c.mark_now.new.self.tables) (omega arith)
-    (subst (λ (d : Database). EachBelow n (entries d.tables)) (sym c.in_default-mark_now.ensures.unchanged) h)
+pub run_actions-requires-clause-room : goal.run_actions-requires-clause-room
+run_actions-requires-clause-room g c =
+    let few : length c.as_slice.result.now ≤ 8 = omega (arith, ap length c.as_slice.ensures, c.requires.rule.2) in
+    room-behind {n = 0} {m = 4096 * length c.as_slice.result.now} {a = g.L.ChangeLog.records c.args.log.now} (room-less c.requires.room (omega (arith, few))) (leaves-marked 0 c.in-Ok-mark_now.ensures.only_marks c.test.ensures.only_locks c.in-Ok-mark_now.ensures.sessions)
+
+pub returns-in_default-clause-leaves : goal.returns-in_default-clause-leaves
+returns-in_default-clause-leaves g c = leaves-all 32768 refl
+
+pub returns-in_default-mark_now-clause-leaves : goal.returns-in_default-mark_now-clause-leaves
+returns-in_default-mark_now-clause-leaves g c = leaves-all 32768 c.in_default-mark_now.ensures.unchanged
+
+pub returns-in-Ok-true-clause-leaves : goal.returns-in-Ok-true-clause-leaves
+returns-in-Ok-true-clause-leaves g c =
+    let few : length c.as_slice.result.now ≤ 8 = omega (arith, ap length c.as_slice.ensures, c.requires.rule.2) in
+    leaves-more 32768 (leaves-on (leaves-marked 0 c.in-Ok-mark_now.ensures.only_marks c.test.ensures.only_locks c.in-Ok-mark_now.ensures.sessions) c.run_actions.ensures.leaves) (omega (arith, few))
+
+pub returns-in-Ok-false-clause-leaves : goal.returns-in-Ok-false-clause-leaves
+returns-in-Ok-false-clause-leaves g c = leaves-marked 32768 c.in-Ok-mark_now.ensures.only_marks c.test.ensures.only_locks c.in-Ok-mark_now.ensures.sessions
+
+pub returns-clause-leaves : goal.returns-clause-leaves
+returns-clause-leaves g c = leaves-marked 32768 c.in-Ok-mark_now.ensures.only_marks c.test.ensures.only_locks c.in-Ok-mark_now.ensures.sessions

@@ -1,15 +1,14 @@
-use Rattle.std.proofs.Common.{◌≡◌, ℕ, ◌+◌, List, [], ◌∷◌, ◌++◌, OnOk, subst, arith}
+use Rattle.std.proofs.Common.{◌≡◌, ℕ, List, [], ◌∷◌, ◌++◌, OnOk, refl, subst}
 use Rattle.sb_value.specs.declared.refusal.Verdict.{Verdict}
-use Rattle.sb_tables.specs.Held.{entries}
 use Rattle.sb_process.specs.Consider.{consider}
 use Rattle.sb_process.specs.Running.{ComesTo, verdict_noted}
 use Rattle.sb_process.specs.Setting.{Progress}
-use Rattle.sb_process.proofs.Numbers.{each-weaken}
+use Rattle.sb_process.proofs.Leaving.{leaves-all}
 use Rattle.sb_process.proofs.Processing.{noted-as}
 use Rattle.sb_process.proofs.database.Database.consider_noted.Goals as goal
 
-pub returns-then-is_err-clause-numbers : goal.returns-then-is_err-clause-numbers
-returns-then-is_err-clause-numbers g c = λ n h. each-weaken n (n + 32768) (entries c.args.self.now.tables) (omega arith) h
+pub returns-then-is_err-clause-leaves : goal.returns-then-is_err-clause-leaves
+returns-then-is_err-clause-leaves g c = leaves-all 32768 refl
 
 pub returns-clause-noted : goal.returns-clause-noted
 returns-clause-noted g c = λ origin setting progress w.

@@ -1,17 +1,18 @@
-use Rattle.std.proofs.Common.{◌≡◌, ◌∙◌, ◌+◌, List, ◌++◌, Ok, length, inl, inr, refl, sym, ap, subst, arith}
+use Rattle.std.proofs.Common.{◌≡◌, ◌∙◌, List, ◌++◌, Ok, length, inl, inr, refl, sym, ap, subst, arith}
 use Rattle.sb_value.specs.declared.change.Change.{Change}
-use Rattle.sb_tables.specs.Held.{entries}
 use Rattle.sb_process.specs.declared.database.Database.{Database}
+use Rattle.sb_process.specs.Leaves.{Leaves}
 use Rattle.sb_process.specs.Ready.{CanApply}
 use Rattle.sb_process.specs.Represents.{Represents, who_in}
-use Rattle.sb_process.proofs.Numbers.{each-weaken}
-use Rattle.sb_process.proofs.Preparing.{can_apply, with_room, numbers_same}
+use Rattle.sb_process.proofs.Leaving.{leaves-on, leaves-more, room-below}
+use Rattle.sb_process.proofs.Preparing.{can_apply, with_room, leaves-prepared}
 use Rattle.sb_process.proofs.database.Database.make_all.Goals as goal
 
 pub apply-requires-clause-can : goal.apply-requires-clause-can
 apply-requires-clause-can g c =
     subst (λ (cs : List Change). CanApply c.prepare.new.tables (who_in c.args.self.now c.args.session) c.args.effect.target cs) (sym c.in-Ok.ensures.changes)
-    (can_apply c.args.self.now.tables c.prepare.new.tables (who_in c.args.self.now c.args.session) c.args.effect.target c.args.effect.changes.items c.requires.makeable c.requires.numbered c.requires.stored c.requires.there c.requires.numbers
+    (can_apply c.args.self.now.tables c.prepare.new.tables (who_in c.args.self.now c.args.session) c.args.effect.target c.args.effect.changes.items c.requires.makeable c.requires.numbered c.requires.stored c.requires.there
+    (room-below 18446744073709547519 c.requires.room (omega arith))
     c.prepare.ensures.same c.in-Ok.ensures.few c.in-Ok.ensures.table)
 
 -- the changes are made of the tables with room for them
@@ -28,11 +29,18 @@ returns-in-Ok-clause-made g c = λ origin setting progress w.
           c.in-Ok.ensures.changes all,
     )
 
-pub returns-in-Ok-clause-numbers : goal.returns-in-Ok-clause-numbers
-returns-in-Ok-clause-numbers g c = λ n b.
-    let long : length c.args.effect.changes.items ≡ length c.in-Ok.ready.changes.items = sym (ap (λ (l : List Change). length l) c.in-Ok.ensures.changes) in
-    each-weaken (n + length c.in-Ok.ready.changes.items) (n + 4096) (entries c.apply.new.self.tables) (omega (arith, long, c.in-Ok.ensures.few))
-    (c.apply.ensures.numbers n (numbers_same n c.args.self.now.tables c.prepare.new.tables (sym c.prepare.ensures.same) b))
+pub returns-in-Ok-clause-leaves : goal.returns-in-Ok-clause-leaves
+returns-in-Ok-clause-leaves g c =
+    let all : length c.args.effect.changes.items ≡ length c.in-Ok.ready.changes.items = sym (ap (λ (l : List Change). length l) c.in-Ok.ensures.changes) in
+    let ran : Leaves (length c.in-Ok.ready.changes.items) (record c.args.self.now { tables = c.prepare.new.tables }) c.apply.new.self c.args.session (g.L.ChangeLog.records c.prepare.new.log)
+    (g.L.ChangeLog.records c.apply.new.log) (g.L.ChangeLog.clock c.prepare.new.log) (g.L.ChangeLog.clock c.apply.new.log) = record {
+      id = c.apply.ensures.id;
+      sessions = c.apply.ensures.sessions;
+      others = c.apply.ensures.others;
+      times = (omega (arith, c.apply.ensures.clock), omega (arith, c.apply.ensures.clock));
+      numbers = c.apply.ensures.numbers;
+    } in
+    leaves-more 4096 (leaves-on (leaves-prepared c.args.self.now c.prepare.ensures.same c.prepare.ensures.records c.prepare.ensures.clock) ran) (omega (arith, all, c.in-Ok.ensures.few))
 
 pub returns-in-Err-clause-made : goal.returns-in-Err-clause-made
 returns-in-Err-clause-made g c = λ origin setting progress w.
@@ -42,6 +50,5 @@ returns-in-Err-clause-made g c = λ origin setting progress w.
           (g.L.ChangeLog.clock c.prepare.new.log) setting progress origin w.transaction c.prepare.ensures.same c.prepare.ensures.records c.prepare.ensures.clock,
     )
 
-pub returns-in-Err-clause-numbers : goal.returns-in-Err-clause-numbers
-returns-in-Err-clause-numbers g c = λ n b.
-    each-weaken n (n + 4096) (entries c.prepare.new.tables) (omega arith) (numbers_same n c.args.self.now.tables c.prepare.new.tables (sym c.prepare.ensures.same) b)
+pub returns-in-Err-clause-leaves : goal.returns-in-Err-clause-leaves
+returns-in-Err-clause-leaves g c = leaves-more 4096 (leaves-prepared c.args.self.now c.prepare.ensures.same c.prepare.ensures.records c.prepare.ensures.clock) (omega arith)

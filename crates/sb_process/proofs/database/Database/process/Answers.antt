@@ -1,11 +1,15 @@
-use Rattle.std.proofs.Common.{◌∙◌, ◌+◌, ◌*◌, sym}
+use Rattle.std.proofs.Common.{◌∙◌, ◌+◌, ◌*◌, ◌^◌, sym, arith}
 use Rattle.sb_value.specs.Flags.{flag_at}
 use Rattle.sb_process.specs.declared.Outcome.{Outcome}
 use Rattle.sb_process.specs.Process.{process}
 use Rattle.sb_process.specs.Running.{ComesTo, Finds}
 use Rattle.sb_process.specs.Setting.{Progress}
-use Rattle.sb_process.proofs.Processing.{sessions-on, taken-back, processes-done, processes-back, if-ok}
+use Rattle.sb_process.proofs.Leaving.{sessions-on}
+use Rattle.sb_process.proofs.Processing.{taken-back, processes-done, processes-back, if-ok}
 use Rattle.sb_process.proofs.database.Database.process.Goals as goal
+
+pub consider_all-requires-clause-room : goal.consider_all-requires-clause-room
+consider_all-requires-clause-room g c = record { times = omega (arith, c.requires.times); numbers = (2 ^ 63, omega arith, c.requires.numbers) }
 
 pub returns-then-is_done-clause-processed : goal.returns-then-is_done-clause-processed
 returns-then-is_done-clause-processed g c = λ origin setting progress w.
@@ -26,7 +30,7 @@ returns-else-is_done-clause-processed g c = λ origin setting progress w.
     let come = c.consider_all.ensures.under_way origin setting progress w in
     processes-back origin c.args.self.now new.self c.args.point.now.session last end setting progress S meant mid.trace.items c.new-list.result.items c.in-Ok.outcome c.new-list.ensures.items
     (sym c.is_done.ensures ∙ c.if-is_done.false)
-    (taken-back origin c.args.self.now new.self c.args.point.now.session last end setting progress mid.self later time come.0 come.1 c.consider_all.ensures.id c.consider_all.ensures.sessions
+    (taken-back origin c.args.self.now new.self c.args.point.now.session last end setting progress mid.self later time come.0 come.1 c.consider_all.ensures.leaves.id c.consider_all.ensures.leaves.sessions
     (c.rollback.ensures.back origin setting come.0 (come.1).stands)) found
 
 pub returns-in-Err-clause-no_memory : goal.returns-in-Err-clause-no_memory
@@ -34,7 +38,7 @@ returns-in-Err-clause-no_memory g c = λ origin setting progress w.
     let mid = c.consider_all.new in let later = g.L.ChangeLog.records mid.log in let time = g.L.ChangeLog.clock mid.log in
     let new = c.rollback-in-Err.new in let last = g.L.ChangeLog.records new.log in let end = g.L.ChangeLog.clock new.log in
     let come = c.consider_all.ensures.under_way origin setting progress w in
-    taken-back origin c.args.self.now new.self c.args.point.now.session last end setting progress mid.self later time come.0 come.1 c.consider_all.ensures.id c.consider_all.ensures.sessions
+    taken-back origin c.args.self.now new.self c.args.point.now.session last end setting progress mid.self later time come.0 come.1 c.consider_all.ensures.leaves.id c.consider_all.ensures.leaves.sessions
     (c.rollback-in-Err.ensures.back origin setting come.0 (come.1).stands)
 
 pub rollback-requires : goal.rollback-requires
@@ -49,33 +53,33 @@ pub returns-else-is_done-clause-id : goal.returns-else-is_done-clause-id
 returns-else-is_done-clause-id g c =
     let w = c.requires.work in
     let come = c.consider_all.ensures.under_way w.0 w.1 w.2 w.3 in
-    (c.rollback.ensures.back w.0 w.1 come.0 (come.1).stands).id ∙ c.consider_all.ensures.id
+    (c.rollback.ensures.back w.0 w.1 come.0 (come.1).stands).id ∙ c.consider_all.ensures.leaves.id
 
 pub returns-else-is_done-clause-sessions : goal.returns-else-is_done-clause-sessions
 returns-else-is_done-clause-sessions g c =
     let w = c.requires.work in
     let come = c.consider_all.ensures.under_way w.0 w.1 w.2 w.3 in
-    sessions-on c.args.self.now.transactions c.consider_all.new.self.transactions c.rollback.new.self.transactions c.args.point.now.session c.consider_all.ensures.sessions
+    sessions-on c.args.self.now.transactions c.consider_all.new.self.transactions c.rollback.new.self.transactions c.args.point.now.session c.consider_all.ensures.leaves.sessions
     (c.rollback.ensures.back w.0 w.1 come.0 (come.1).stands).sessions
 
 pub returns-else-is_done-clause-numbers : goal.returns-else-is_done-clause-numbers
-returns-else-is_done-clause-numbers g c = λ n h. c.rollback.ensures.numbers (n + 32768 * c.args.point.now.bound) (c.consider_all.ensures.numbers n h)
+returns-else-is_done-clause-numbers g c = λ n h. c.rollback.ensures.numbers (n + 32768 * c.args.point.now.bound) (c.consider_all.ensures.leaves.numbers n h)
 
 pub returns-in-Err-clause-id : goal.returns-in-Err-clause-id
 returns-in-Err-clause-id g c =
     let w = c.requires.work in
     let come = c.consider_all.ensures.under_way w.0 w.1 w.2 w.3 in
-    (c.rollback-in-Err.ensures.back w.0 w.1 come.0 (come.1).stands).id ∙ c.consider_all.ensures.id
+    (c.rollback-in-Err.ensures.back w.0 w.1 come.0 (come.1).stands).id ∙ c.consider_all.ensures.leaves.id
 
 pub returns-in-Err-clause-sessions : goal.returns-in-Err-clause-sessions
 returns-in-Err-clause-sessions g c =
     let w = c.requires.work in
     let come = c.consider_all.ensures.under_way w.0 w.1 w.2 w.3 in
-    sessions-on c.args.self.now.transactions c.consider_all.new.self.transactions c.rollback-in-Err.new.self.transactions c.args.point.now.session c.consider_all.ensures.sessions
+    sessions-on c.args.self.now.transactions c.consider_all.new.self.transactions c.rollback-in-Err.new.self.transactions c.args.point.now.session c.consider_all.ensures.leaves.sessions
     (c.rollback-in-Err.ensures.back w.0 w.1 come.0 (come.1).stands).sessions
 
 pub returns-in-Err-clause-numbers : goal.returns-in-Err-clause-numbers
-returns-in-Err-clause-numbers g c = λ n h. c.rollback-in-Err.ensures.numbers (n + 32768 * c.args.point.now.bound) (c.consider_all.ensures.numbers n h)
+returns-in-Err-clause-numbers g c = λ n h. c.rollback-in-Err.ensures.numbers (n + 32768 * c.args.point.now.bound) (c.consider_all.ensures.leaves.numbers n h)
 
 pub returns-then-is_done-clause-past : goal.returns-then-is_done-clause-past
 returns-then-is_done-clause-past g c = λ rule.

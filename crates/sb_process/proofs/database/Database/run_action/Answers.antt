@@ -1,17 +1,16 @@
-use Rattle.std.proofs.Common.{◌≡◌, ◌⊎◌, ◌+◌, [], ◌∷◌, Bool, true, Result, Ok, Err, sym, subst, arith}
+use Rattle.std.proofs.Common.{◌≡◌, ◌⊎◌, [], ◌∷◌, Bool, true, Result, Ok, Err, refl, sym, subst}
 use Rattle.sb_value.specs.declared.refusal.Refusal.{Refusal}
 use Rattle.sb_value.specs.declared.refusal.Refusal.TheVariants.{NoMemory}
 use Rattle.sb_check.specs.declared.tree.Action.{Action}
-use Rattle.sb_tables.specs.Held.{entries}
 use Rattle.sb_process.specs.Consider.{run_actions}
 use Rattle.sb_process.specs.Running.{ComesTo, Acts}
 use Rattle.sb_process.specs.Setting.{Progress}
-use Rattle.sb_process.proofs.Numbers.{each-weaken}
+use Rattle.sb_process.proofs.Leaving.{leaves-all}
 use Rattle.sb_process.proofs.Running.{change-ran, change-refused, runs-under_way}
 use Rattle.sb_process.proofs.database.Database.run_action.Goals as goal
 
-pub returns-in-Rollback-clause-numbers : goal.returns-in-Rollback-clause-numbers
-returns-in-Rollback-clause-numbers g c = λ n h. each-weaken n (n + 4096) (entries c.args.self.now.tables) (omega arith) h
+pub returns-in-Rollback-clause-leaves : goal.returns-in-Rollback-clause-leaves
+returns-in-Rollback-clause-leaves g c = leaves-all 4096 refl
 
 pub returns-in-Ok-clause-ran : goal.returns-in-Ok-clause-ran
 returns-in-Ok-clause-ran g c = λ origin setting progress w.

@@ -1,4 +1,4 @@
-use Rattle.std.proofs.Common.{◌∙◌, ℕ, ◌+◌, List, Result, Err, inl, inr, refl, sym, ap, subst, arith}
+use Rattle.std.proofs.Common.{◌∙◌, ℕ, List, Result, Err, inl, inr, refl, sym, ap, subst}
 use Rattle.sb_value.specs.declared.change.Change.{Change}
 use Rattle.sb_value.specs.declared.refusal.Refusal.{Refusal}
 use Rattle.sb_eval.specs.Laws.{AreMakeable}
@@ -10,7 +10,7 @@ use Rattle.sb_process.specs.Represents.{who_in}
 use Rattle.sb_process.specs.View.{seen_by}
 use Rattle.sb_process.proofs.Growing.{tables_are}
 use Rattle.sb_process.proofs.Making.{number-entries}
-use Rattle.sb_process.proofs.Numbers.{each-weaken}
+use Rattle.sb_process.proofs.Leaving.{leaves-all}
 use Rattle.sb_process.proofs.Requests.{same_seen}
 use Rattle.sb_process.proofs.Settling.{sound-made}
 use Rattle.sb_process.proofs.database.Database.run_granted.Goals as goal
@@ -36,14 +36,14 @@ make_all-requires-clause-makeable g c =
 
 pub returns-in-Ok-clause-ran : goal.returns-in-Ok-clause-ran
 returns-in-Ok-clause-ran g c = λ origin setting progress w.
-    let seen = same_seen c.args.self.now c.args.viewer.now.session (g.L.ChangeLog.records c.args.log.now) (g.L.ChangeLog.clock c.args.log.now) setting progress origin w.transaction c.args.viewer.now.tables.now progress refl in
+    let seen = same_seen w.transaction c.args.viewer.now.tables.now progress refl in
     subst
     (λ (meant : Result (List Change) Refusal). Changes origin c.make_all.new.self c.args.viewer.now.session meant c.make_all.result (g.L.ChangeLog.records c.make_all.new.log) (g.L.ChangeLog.clock c.make_all.new.log) setting progress)
     (sym (ap (λ s. statement_changes s c.args.statement.now) seen ∙ c.in-Ok.ensures.ok)) (c.make_all.ensures.made origin setting progress w)
 
 pub returns-in-Err-clause-ran : goal.returns-in-Err-clause-ran
 returns-in-Err-clause-ran g c = λ origin setting progress w.
-    let seen = same_seen c.args.self.now c.args.viewer.now.session (g.L.ChangeLog.records c.args.log.now) (g.L.ChangeLog.clock c.args.log.now) setting progress origin w.transaction c.args.viewer.now.tables.now progress refl in
+    let seen = same_seen w.transaction c.args.viewer.now.tables.now progress refl in
     elim c.in-Err.ensures.err [
       | inl e ↦ subst
           (λ (meant : Result (List Change) Refusal).
@@ -52,5 +52,5 @@ returns-in-Err-clause-ran g c = λ origin setting progress w.
       | inr e ↦ inr (ap Err e, w.transaction)
     ]
 
-pub returns-in-Err-clause-numbers : goal.returns-in-Err-clause-numbers
-returns-in-Err-clause-numbers g c = λ n b. each-weaken n (n + 4096) (entries c.args.self.now.tables) (omega arith) b
+pub returns-in-Err-clause-leaves : goal.returns-in-Err-clause-leaves
+returns-in-Err-clause-leaves g c = leaves-all 4096 refl

@@ -1,13 +1,13 @@
 use Rattle.std.proofs.Common.{◌∙◌, ℕ, List, Err, sym, ap, subst, refl, inl}
 use Rattle.sb_value.specs.declared.lock.Mode.{Mode}
-use Rattle.sb_value.specs.Locks.{first_conflict, with_locks}
+use Rattle.sb_value.specs.Locks.{with_locks}
 use Rattle.sb_eval.specs.Seen.{no_transition}
 use Rattle.sb_eval.specs.Statement.{query_locks, select_rows}
 use Rattle.sb_locks.specs.Held.{held}
 use Rattle.sb_process.specs.Setting.{Progress, seen_with}
 use Rattle.sb_process.specs.Request.{IsAnswer}
 use Rattle.sb_process.specs.Represents.{Represents}
-use Rattle.sb_process.proofs.Requests.{same_conflict, same_refusal, same_seen, with_more, refused_answer, granted_answer, after_refused, after_granted}
+use Rattle.sb_process.proofs.Requests.{found_conflict, same_refusal, same_seen, with_more, refused_answer, granted_answer, after_refused, after_granted}
 use Rattle.sb_process.proofs.database.Database.select.Goals as goal
 
 pub returns-clause-selected : goal.returns-clause-selected
@@ -15,10 +15,9 @@ returns-clause-selected c = λ records clock origin setting progress r.
     let d = c.args.self.now in
     let list : List (ℕ × Mode) = query_locks c.args.query.now in
     let no = c.in-Err.ensures.refused in
-    let listed = c.as_slice.ensures.value ∙ c.in-Ok.ensures in
-    let conflict = same_conflict d c.args.session records clock setting progress origin r list ∙ ap (first_conflict (held d.locks) c.args.session) (sym listed) ∙ no.1 in
+    let conflict = found_conflict r (c.as_slice.ensures.value ∙ c.in-Ok.ensures) no.1 in
     record {
-      answer = inl (ap Err (same_refusal d c.args.session records clock setting progress origin r no.0 c.in-Err.refusal no.2)
+      answer = inl (ap Err (same_refusal r no.0 c.in-Err.refusal no.2)
           ∙ sym (refused_answer setting progress list (λ p. select_rows (seen_with setting no_transition p) c.args.query.now) no.0 conflict));
       stands = inl (subst (λ q. Represents origin (record d { locks = c.request.new.locks }) c.args.session records clock setting q) (sym (after_refused setting progress list no.0 conflict))
           (subst (λ l. Represents origin (record d { locks = l }) c.args.session records clock setting progress) (sym c.in-Err.ensures.unchanged) r));
@@ -29,14 +28,14 @@ returns-in-Ok-request-clause-selected c = λ records clock origin setting progre
     let d = c.args.self.now in
     let list : List (ℕ × Mode) = query_locks c.args.query.now in
     let listed = c.as_slice.ensures.value ∙ c.in-Ok.ensures in
-    let none = same_conflict d c.args.session records clock setting progress origin r list ∙ ap (first_conflict (held d.locks) c.args.session) (sym listed) ∙ c.in-Ok-request.ensures.granted in
+    let none = found_conflict r listed c.in-Ok-request.ensures.granted in
     let taken = λ (s t : ℕ) (m : Mode). c.in-Ok-request.ensures.taken s t m ∙ ap (λ l. with_locks (held d.locks) c.args.session l s t m) listed in
     let p : Progress = record progress { locks = with_locks progress.locks setting.who.session list } in
     let meant =
     granted_answer setting progress list (λ p. select_rows (seen_with setting no_transition p) c.args.query.now) none
-    ∙ ap (λ seen. select_rows seen c.args.query.now) (same_seen d c.args.session records clock setting progress origin r no_transition p refl) in
+    ∙ ap (λ seen. select_rows seen c.args.query.now) (same_seen r no_transition p refl) in
     record {
       answer = subst (λ m. IsAnswer m c.rows.result) (sym meant) c.rows.ensures;
       stands = inl (subst (λ q. Represents origin (record d { locks = c.request.new.locks }) c.args.session records clock setting q) (sym (after_granted setting progress list none))
-          (with_more d c.args.session records clock setting progress origin r c.request.new.locks list taken));
+          (with_more r c.request.new.locks list taken));
     }
