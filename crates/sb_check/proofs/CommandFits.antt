@@ -9,31 +9,19 @@ use Rattle.sb_syntax.specs.Tree as text
 use Rattle.sb_check.specs.declared.command.Resolved as stored
 use Rattle.sb_check.specs.Answer.{Answers}
 use Rattle.sb_check.specs.Fits.{PartsFit, Fits}
-use Rattle.sb_check.specs.Names.{and_then, in_order, required}
+use Rattle.sb_check.specs.Names.{required}
 use Rattle.sb_check.specs.Resolved.{Resolved, plain, new_table, table, rule, query, change, walk_names, named_twice, resolved}
-use Rattle.sb_check.specs.RuleParts.{Parts, in_rule, condition_parts, walk_parts}
-use Rattle.sb_check.specs.Triggers.{walk_triggers}
-use Rattle.sb_check.specs.Walk.{Schema, table_named, walk_query, walk_statement, walk_action}
+use Rattle.sb_check.specs.RuleParts.{Parts, in_rule, walk_parts}
+use Rattle.sb_check.specs.Walk.{Schema, table_named, walk_query, walk_statement}
 use Rattle.sb_check.proofs.Fitting.{then_ok, required_ok, table_fits, query_fits, statement_fits, rule_condition_fits, actions_fit}
+use Rattle.sb_check.proofs.Presence.{parts_walked}
 
 parts_fit : (schema : Schema) (r : text.RuleText) (parts : Parts) → walk_parts schema r ≡ Ok parts → PartsFit schema parts
 parts_fit schema r parts h =
-    let e = then_ok (table_named schema r.table) (λ e.
-    and_then (walk_triggers e.table.columns r.triggers) (λ triggers.
-    and_then (condition_parts (in_rule schema e.table.columns triggers) r.condition) (λ condition.
-    and_then (in_order (walk_action (in_rule schema e.table.columns triggers)) r.actions) (λ actions.
-    Ok (e.id, triggers, condition, actions))))) parts h in
-    let columns = e.0.table.columns in
-    let t = then_ok (walk_triggers columns r.triggers) (λ triggers.
-    and_then (condition_parts (in_rule schema columns triggers) r.condition) (λ condition.
-    and_then (in_order (walk_action (in_rule schema columns triggers)) r.actions) (λ actions.
-    Ok (e.0.id, triggers, condition, actions)))) parts e.2 in
-    let inside = in_rule schema columns t.0 in
-    let c = then_ok (condition_parts inside r.condition) (λ condition. and_then (in_order (walk_action inside) r.actions) (λ actions. Ok (e.0.id, t.0, condition, actions))) parts t.2 in
-    let a = then_ok (in_order (walk_action inside) r.actions) (λ actions. Ok (e.0.id, t.0, c.0, actions)) parts c.2 in
-    let is : (e.0.id, t.0, c.0, a.0) ≡ parts = cc a.2 in
-    subst (PartsFit schema) is
-    (columns, λ types_of are. (table_fits inside types_of are r.table e.0 e.1, rule_condition_fits inside types_of are r.condition c.0 c.1, actions_fit inside types_of are r.actions a.0 a.1))
+    let w = parts_walked schema r parts h in
+    let inside = in_rule schema w.0.table.columns w.2 in
+    subst (PartsFit schema) w.8
+    (w.0.table.columns, λ types_of are. (table_fits inside types_of are r.table w.0 w.1, rule_condition_fits inside types_of are r.condition w.4 w.5, actions_fit inside types_of are r.actions w.6 w.7))
 
 plain_fits : (schema : Schema) (x : Resolved) → plain ≡ x → Fits schema x
 unfolding Fits

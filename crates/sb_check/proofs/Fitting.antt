@@ -42,6 +42,12 @@ pub then_ok : {A B : Type 0} (a : Result A Refusal) (next : A → Result B Refus
 then_ok (Ok x) next y h = (x, refl, h)
 then_ok (Err e) next y h = absurd (cc h)
 
+-- both parts answered, and then nothing is refused
+pub both_ok : {A B C : Type 0} (a : Result A Refusal) (b : Result B Refusal) (made : A → B → C) (y : C) → and_then a (λ x. and_then {B = C} b (λ z. Ok (made x z))) ≡ Ok y → (p : A) × (a ≡ Ok p) × (q : B) × (b ≡ Ok q) × (made p q ≡ y)
+both_ok (Ok p) (Ok q) made y h = (p, refl, q, refl, cc h)
+both_ok (Ok p) (Err e) made y h = absurd (cc h)
+both_ok (Err e) b made y h = absurd (cc h)
+
 -- the test held
 pub required_ok : {A : Type 0} (b : Bool) (e : Refusal) (a : Result A Refusal) (y : A) → required b e a ≡ Ok y → (b ≡ true) × (a ≡ Ok y)
 required_ok true e a y h = (refl, h)
@@ -321,6 +327,59 @@ module _ (schema : Schema) where
       let e : (select q.0.0 (map (λ s. s.0) p.0) r.0, q.0.1) ≡ w = cc r.2 in
       (p.0, p.1, q.0, q.1, r.0, r.1, e)
 
+  -- a source and those behind it
+  abbrev pub Sourced : List TableReference → SourceReference → List SourceReference → List (Source × Visible) → Type 0
+  Sourced taken r refs ss = (t : Source × List ColumnDefinition) × (walk_table schema r.table ≡ Ok t)
+      × (rest : List (Source × Visible)) × (walk_sources schema (visible_name r ∷ taken) refs ≡ Ok rest)
+      × ((t.0, record { name = visible_name r; columns = t.1 }) ∷ rest ≡ ss)
+
+  pub sourced : (taken : List TableReference) (r : SourceReference) (refs : List SourceReference) (ss : List (Source × Visible)) → walk_sources schema taken (r ∷ refs) ≡ Ok ss → Sourced taken r refs ss
+  sourced taken r refs ss h =
+      let p = then_ok (walk_table schema r.table) (λ t.
+      required (not (list_any (same_table (visible_name r)) taken)) refusal.Ambiguous
+      (and_then (walk_sources schema (visible_name r ∷ taken) refs) (λ rest. Ok ((t.0, record { name = visible_name r; columns = t.1 }) ∷ rest)))) ss h in
+      let q = required_ok (not (list_any (same_table (visible_name r)) taken)) refusal.Ambiguous
+      (and_then (walk_sources schema (visible_name r ∷ taken) refs) (λ rest. Ok ((p.0.0, record { name = visible_name r; columns = p.0.1 }) ∷ rest))) ss p.2 in
+      let w = then_ok (walk_sources schema (visible_name r ∷ taken) refs) (λ rest. Ok ((p.0.0, record { name = visible_name r; columns = p.0.1 }) ∷ rest)) ss q.1 in
+      let e : (p.0.0, record { name = visible_name r; columns = p.0.1 }) ∷ w.0 ≡ ss = cc w.2 in
+      (p.0, p.1, w.0, w.1, e)
+
+  -- an assignment and those behind it
+  abbrev pub Assigned : Entry → List ℕ → text.Assignment → List text.Assignment → List Assignment → Type 0
+  Assigned e taken x xs done = (c : ℕ × ColumnType) × (column_in e.table.columns x.column ≡ Some c)
+      × (o : Operand × ColumnType) × (walk_operand schema x.operand (visible_table schema e) ≡ Ok o) × (same_type o.1 c.1 ≡ true)
+      × (others : List Assignment) × (walk_assignments schema e (c.0 ∷ taken) xs ≡ Ok others)
+      × (record { place = c.0; operand = o.0 } ∷ others ≡ done)
+
+  pub assigned : (e : Entry) (taken : List ℕ) (x : text.Assignment) (xs : List text.Assignment) (done : List Assignment) → walk_assignments schema e taken (x ∷ xs) ≡ Ok done → Assigned e taken x xs done
+  assigned e taken x xs done h =
+      let c = then_ok (some_or refusal.NoColumn (column_in e.table.columns x.column)) (λ c.
+      required (not (list_any (λ k. k == c.0) taken)) refusal.Ambiguous
+      (and_then (walk_operand schema x.operand (visible_table schema e)) (λ o.
+      required (same_type o.1 c.1) refusal.BadType
+      (and_then (walk_assignments schema e (c.0 ∷ taken) xs) (λ others. Ok (record { place = c.0; operand = o.0 } ∷ others)))))) done h in
+      let free = required_ok (not (list_any (λ k. k == c.0.0) taken)) refusal.Ambiguous
+      (and_then (walk_operand schema x.operand (visible_table schema e)) (λ o.
+      required (same_type o.1 c.0.1) refusal.BadType
+      (and_then (walk_assignments schema e (c.0.0 ∷ taken) xs) (λ others. Ok (record { place = c.0.0; operand = o.0 } ∷ others))))) done c.2 in
+      let o = then_ok (walk_operand schema x.operand (visible_table schema e)) (λ o.
+      required (same_type o.1 c.0.1) refusal.BadType
+      (and_then (walk_assignments schema e (c.0.0 ∷ taken) xs) (λ others. Ok (record { place = c.0.0; operand = o.0 } ∷ others)))) done free.1 in
+      let same = required_ok (same_type o.0.1 c.0.1) refusal.BadType
+      (and_then (walk_assignments schema e (c.0.0 ∷ taken) xs) (λ others. Ok (record { place = c.0.0; operand = o.0.0 } ∷ others))) done o.2 in
+      let others = then_ok (walk_assignments schema e (c.0.0 ∷ taken) xs) (λ others. Ok (record { place = c.0.0; operand = o.0.0 } ∷ others)) done same.1 in
+      let is : record { place = c.0.0; operand = o.0.0 } ∷ others.0 ≡ done = cc others.2 in
+      (c.0, some_ok refusal.NoColumn (column_in e.table.columns x.column) c.0 c.1, o.0, o.1, same.0, others.0, others.1, is)
+
+  -- a statement of a rule and the actions behind it
+  pub acted : (c : text.Statement) (xs : List text.Action) (done : List Action) → in_order (walk_action schema) (text.changes c ∷ xs) ≡ Ok done
+      → (s : Statement) × (walk_statement schema c ≡ Ok s) × (others : List Action) × (in_order (walk_action schema) xs ≡ Ok others) × (action.Change s ∷ others ≡ done)
+  acted c xs done h =
+      let p = both_ok (and_then (walk_statement schema c) (λ s. Ok (action.Change s))) (in_order (walk_action schema) xs) (λ y ys. y ∷ ys) done h in
+      let s = then_ok (walk_statement schema c) (λ s. Ok (action.Change s)) p.0 p.1 in
+      let one : action.Change s.0 ≡ p.0 = cc s.2 in
+      (s.0, s.1, p.2, p.3, ap (λ (y : Action). y ∷ p.2) one ∙ p.4)
+
 -- ---- sources
 
 module _ (schema : Schema) (types_of : Source → List ColumnType) (are : AreTypesOf schema types_of) where
@@ -330,14 +389,8 @@ module _ (schema : Schema) (types_of : Source → List ColumnType) (are : AreTyp
   sources_fit : (taken : List TableReference) (refs : List SourceReference) (ss : List (Source × Visible)) → walk_sources schema taken refs ≡ Ok ss → SourcesFit ss
   sources_fit taken [] ss h = let e : [] ≡ ss = cc h in subst SourcesFit e refl
   sources_fit taken (r ∷ refs) ss h =
-      let p = then_ok (walk_table schema r.table) (λ t.
-      required (not (list_any (same_table (visible_name r)) taken)) refusal.Ambiguous
-      (and_then (walk_sources schema (visible_name r ∷ taken) refs) (λ rest. Ok ((t.0, record { name = visible_name r; columns = t.1 }) ∷ rest)))) ss h in
-      let q = required_ok (not (list_any (same_table (visible_name r)) taken)) refusal.Ambiguous
-      (and_then (walk_sources schema (visible_name r ∷ taken) refs) (λ rest. Ok ((p.0.0, record { name = visible_name r; columns = p.0.1 }) ∷ rest))) ss p.2 in
-      let w = then_ok (walk_sources schema (visible_name r ∷ taken) refs) (λ rest. Ok ((p.0.0, record { name = visible_name r; columns = p.0.1 }) ∷ rest)) ss q.1 in
-      let e : (p.0.0, record { name = visible_name r; columns = p.0.1 }) ∷ w.0 ≡ ss = cc w.2 in
-      subst SourcesFit e (λ i. are r.table p.0 p.1 i ∷ sources_fit (visible_name r ∷ taken) refs w.0 w.1 i)
+      let p = sourced schema taken r refs ss h in
+      subst SourcesFit p.4 (λ i. are r.table p.0 p.1 i ∷ sources_fit (visible_name r ∷ taken) refs p.2 p.3 i)
 
   -- ---- conditions, operands and queries
 
@@ -360,15 +413,11 @@ module _ (schema : Schema) (types_of : Source → List ColumnType) (are : AreTyp
   mutual
     pub condition_fits : (c : text.Condition) (scope : Scope) (x : Condition) → walk_condition schema c scope ≡ Ok x → ConditionIs scope x
     condition_fits (text.disjunction a b) scope x h =
-        let p = then_ok (walk_condition schema a scope) (λ x. and_then (walk_condition schema b scope) (λ y. Ok (disjunction x y))) x h in
-        let q = then_ok (walk_condition schema b scope) (λ y. Ok (disjunction p.0 y)) x p.2 in
-        let e : disjunction p.0 q.0 ≡ x = cc q.2 in
-        subst (ConditionIs scope) e (condition_fits a scope p.0 p.1, condition_fits b scope q.0 q.1)
+        let p = both_ok (walk_condition schema a scope) (walk_condition schema b scope) disjunction x h in
+        subst (ConditionIs scope) p.4 (condition_fits a scope p.0 p.1, condition_fits b scope p.2 p.3)
     condition_fits (text.conjunction a b) scope x h =
-        let p = then_ok (walk_condition schema a scope) (λ x. and_then (walk_condition schema b scope) (λ y. Ok (conjunction x y))) x h in
-        let q = then_ok (walk_condition schema b scope) (λ y. Ok (conjunction p.0 y)) x p.2 in
-        let e : conjunction p.0 q.0 ≡ x = cc q.2 in
-        subst (ConditionIs scope) e (condition_fits a scope p.0 p.1, condition_fits b scope q.0 q.1)
+        let p = both_ok (walk_condition schema a scope) (walk_condition schema b scope) conjunction x h in
+        subst (ConditionIs scope) p.4 (condition_fits a scope p.0 p.1, condition_fits b scope p.2 p.3)
     condition_fits (text.negation a) scope x h =
         let p = then_ok (walk_condition schema a scope) (λ x. Ok (negation x)) x h in
         let e : negation p.0 ≡ x = cc p.2 in
@@ -447,28 +496,13 @@ module _ (schema : Schema) (types_of : Source → List ColumnType) (are : AreTyp
   assignments_fit : (e : Entry) → types_of (Table e.id) ≡ table_types e → (taken : List ℕ) (xs : List text.Assignment) (done : List Assignment) → walk_assignments schema e taken xs ≡ Ok done → AssignmentsFit types_of e.id done
   assignments_fit e t taken [] done h = let is : [] ≡ done = cc h in subst (AssignmentsFit types_of e.id) is tt
   assignments_fit e t taken (x ∷ xs) done h =
-      let c = then_ok (some_or refusal.NoColumn (column_in e.table.columns x.column)) (λ c.
-      required (not (list_any (λ k. k == c.0) taken)) refusal.Ambiguous
-      (and_then (walk_operand schema x.operand (visible_table schema e)) (λ o.
-      required (same_type o.1 c.1) refusal.BadType
-      (and_then (walk_assignments schema e (c.0 ∷ taken) xs) (λ others. Ok (record { place = c.0; operand = o.0 } ∷ others)))))) done h in
-      let free = required_ok (not (list_any (λ k. k == c.0.0) taken)) refusal.Ambiguous
-      (and_then (walk_operand schema x.operand (visible_table schema e)) (λ o.
-      required (same_type o.1 c.0.1) refusal.BadType
-      (and_then (walk_assignments schema e (c.0.0 ∷ taken) xs) (λ others. Ok (record { place = c.0.0; operand = o.0 } ∷ others))))) done c.2 in
-      let o = then_ok (walk_operand schema x.operand (visible_table schema e)) (λ o.
-      required (same_type o.1 c.0.1) refusal.BadType
-      (and_then (walk_assignments schema e (c.0.0 ∷ taken) xs) (λ others. Ok (record { place = c.0.0; operand = o.0 } ∷ others)))) done free.1 in
-      let same = required_ok (same_type o.0.1 c.0.1) refusal.BadType
-      (and_then (walk_assignments schema e (c.0.0 ∷ taken) xs) (λ others. Ok (record { place = c.0.0; operand = o.0.0 } ∷ others))) done o.2 in
-      let others = then_ok (walk_assignments schema e (c.0.0 ∷ taken) xs) (λ others. Ok (record { place = c.0.0; operand = o.0.0 } ∷ others)) done same.1 in
-      let is : record { place = c.0.0; operand = o.0.0 } ∷ others.0 ≡ done = cc others.2 in
-      let place = place_has_type e.table.columns x.column c.0 (some_ok refusal.NoColumn (column_in e.table.columns x.column) c.0 c.1) in
-      let P : List ColumnType → Type 0 = λ ts. slice_get ts c.0.0 ≡ Some c.0.1 in
-      let Q : Types → Type 0 = λ types. OperandFits types_of types o.0.0 c.0.1 in
-      let typed = subst (OperandFits types_of (types_of_scope (visible_table schema e)) o.0.0) (same_types o.0.1 c.0.1 same.0) (operand_fits x.operand (visible_table schema e) o.0 o.1) in
-      subst (AssignmentsFit types_of e.id) is
-      ((c.0.1, subst P (sym t) place, subst Q (row_scope e t) typed), assignments_fit e t (c.0.0 ∷ taken) xs others.0 others.1)
+      let a = assigned schema e taken x xs done h in
+      let place = place_has_type e.table.columns x.column a.0 a.1 in
+      let P : List ColumnType → Type 0 = λ ts. slice_get ts a.0.0 ≡ Some a.0.1 in
+      let Q : Types → Type 0 = λ types. OperandFits types_of types a.2.0 a.0.1 in
+      let typed = subst (OperandFits types_of (types_of_scope (visible_table schema e)) a.2.0) (same_types a.2.1 a.0.1 a.4) (operand_fits x.operand (visible_table schema e) a.2 a.3) in
+      subst (AssignmentsFit types_of e.id) a.7
+      ((a.0.1, subst P (sym t) place, subst Q (row_scope e t) typed), assignments_fit e t (a.0.0 ∷ taken) xs a.5 a.6)
 
   pub statement_fits : (c : text.Statement) (s : Statement) → walk_statement schema c ≡ Ok s → StatementFits types_of s
   statement_fits (text.insert_rows name rows) s h =
@@ -505,13 +539,8 @@ module _ (schema : Schema) (types_of : Source → List ColumnType) (are : AreTyp
       let is : action.Rollback ∷ q.0 ≡ done = cc q.2 in
       subst (ActionsFit types_of) is (actions_fit xs q.0 q.1)
   actions_fit (text.changes c ∷ xs) done h =
-      let p = then_ok (and_then (walk_statement schema c) (λ s. Ok (action.Change s))) (λ y. and_then (in_order (walk_action schema) xs) (λ ys. Ok (y ∷ ys))) done h in
-      let s = then_ok (walk_statement schema c) (λ s. Ok (action.Change s)) p.0 p.1 in
-      let q = then_ok (in_order (walk_action schema) xs) (λ ys. Ok (p.0 ∷ ys)) done p.2 in
-      let one : action.Change s.0 ≡ p.0 = cc s.2 in
-      let is : p.0 ∷ q.0 ≡ done = cc q.2 in
-      let P : Action → Type 0 = λ a. ActionsFit types_of (a ∷ q.0) in
-      subst (ActionsFit types_of) is (subst P one (statement_fits c s.0 s.1, actions_fit xs q.0 q.1))
+      let a = acted schema c xs done h in
+      subst (ActionsFit types_of) a.4 (statement_fits c a.0 a.1, actions_fit xs a.2 a.3)
 
   pub rule_condition_fits : (q : Option text.Query) (x : Option Query) → condition_parts schema q ≡ Ok x → RuleConditionFits types_of x
   rule_condition_fits None x h = let is : None ≡ x = cc h in subst (RuleConditionFits types_of) is tt

@@ -1,7 +1,7 @@
 -- What the walk resolves is there.
 use Rattle.std.proofs.lemmas.Bool.{or_right}
 use Rattle.std.proofs.Common.{ℕ, suc, ◌≡◌, refl, ap, subst, Bool, true, false, List, [], ◌∷◌, ◌++◌, map, length, eq-eqb}
-use Rattle.std.specs.Prelude.{find, if◌then◌else◌, not, ◌==◌, ◌||◌, None, Some, Option, Result, Ok, Err}
+use Rattle.std.specs.Prelude.{find, if◌then◌else◌, ◌==◌, ◌||◌, None, Some, Option, Result, Ok, Err}
 use Rattle.std.specs.List.{list_any}
 use Rattle.sb_value.specs.declared.refusal.Refusal.{Refusal}
 use Rattle.sb_value.specs.declared.refusal.Refusal.TheVariants as refusal
@@ -25,12 +25,12 @@ use Rattle.sb_check.specs.declared.tree.Statement.{Statement}
 use Rattle.sb_check.specs.declared.tree.Statement.TheVariants.{InsertRows, InsertQuery, Delete, Update}
 use Rattle.sb_check.specs.Condition.{Condition, always, disjunction, conjunction, negation, compare, is_in, exists, Operand, expression, scalar_subquery, Query}
 use Rattle.sb_check.specs.Mentions.{sources_of, operand_sources, query_sources, assignment_sources}
-use Rattle.sb_check.specs.Names.{and_then, in_order, required, some_or, same_table, same_type, Visible, Scope, column_in}
+use Rattle.sb_check.specs.Names.{and_then, in_order, required, same_type, Visible, Scope}
 use Rattle.sb_check.specs.RuleParts.{Parts, NewParts, in_rule, condition_parts, actions_parts, walk_parts, walk_alteration}
 use Rattle.sb_check.specs.There.{IsTable, IsThere, AreThere, IsStatementThere, IsConditionThere, AreActionsThere, ArePartsThere, AreNewActionsThere, AreNewPartsThere}
 use Rattle.sb_check.specs.Triggers.{walk_triggers}
 use Rattle.sb_check.specs.Walk.{Schema, Walked, type_of, table_named, has_updates, walk_table, visible_name, walk_sources, walk_expression, has_aggregate, in_type, with_not, fitting, walk_condition, walk_operand, walk_filter, walk_query, visible_table, walk_assignments, walk_statement, walk_action}
-use Rattle.sb_check.proofs.Fitting.{then_ok, required_ok, some_ok, selected}
+use Rattle.sb_check.proofs.Fitting.{then_ok, both_ok, required_ok, some_ok, selected, sourced, assigned, acted}
 
 -- ---- a table that is found
 
@@ -83,14 +83,8 @@ module _ (schema : Schema) where
   sources_there : (taken : List TableReference) (refs : List SourceReference) (ss : List (Source × Visible)) → walk_sources schema taken refs ≡ Ok ss → SourcesThere ss
   sources_there taken [] ss h = let e : [] ≡ ss = cc h in subst SourcesThere e tt
   sources_there taken (r ∷ refs) ss h =
-      let p = then_ok (walk_table schema r.table) (λ t.
-      required (not (list_any (same_table (visible_name r)) taken)) refusal.Ambiguous
-      (and_then (walk_sources schema (visible_name r ∷ taken) refs) (λ rest. Ok ((t.0, record { name = visible_name r; columns = t.1 }) ∷ rest)))) ss h in
-      let q = required_ok (not (list_any (same_table (visible_name r)) taken)) refusal.Ambiguous
-      (and_then (walk_sources schema (visible_name r ∷ taken) refs) (λ rest. Ok ((p.0.0, record { name = visible_name r; columns = p.0.1 }) ∷ rest))) ss p.2 in
-      let w = then_ok (walk_sources schema (visible_name r ∷ taken) refs) (λ rest. Ok ((p.0.0, record { name = visible_name r; columns = p.0.1 }) ∷ rest)) ss q.1 in
-      let e : (p.0.0, record { name = visible_name r; columns = p.0.1 }) ∷ w.0 ≡ ss = cc w.2 in
-      subst SourcesThere e (source_there r.table p.0 p.1, sources_there (visible_name r ∷ taken) refs w.0 w.1)
+      let p = sourced schema taken r refs ss h in
+      subst SourcesThere p.4 (source_there r.table p.0 p.1, sources_there (visible_name r ∷ taken) refs p.2 p.3)
 
   -- ---- conditions, operands and queries
 
@@ -110,15 +104,11 @@ module _ (schema : Schema) where
   mutual
     condition_there : (c : text.Condition) (scope : Scope) (x : Condition) → walk_condition schema c scope ≡ Ok x → ConditionThere x
     condition_there (text.disjunction a b) scope x h =
-        let p = then_ok (walk_condition schema a scope) (λ x. and_then (walk_condition schema b scope) (λ y. Ok (disjunction x y))) x h in
-        let q = then_ok (walk_condition schema b scope) (λ y. Ok (disjunction p.0 y)) x p.2 in
-        let e : disjunction p.0 q.0 ≡ x = cc q.2 in
-        subst ConditionThere e (both_there schema.tables (sources_of p.0) (sources_of q.0) (condition_there a scope p.0 p.1) (condition_there b scope q.0 q.1))
+        let p = both_ok (walk_condition schema a scope) (walk_condition schema b scope) disjunction x h in
+        subst ConditionThere p.4 (both_there schema.tables (sources_of p.0) (sources_of p.2) (condition_there a scope p.0 p.1) (condition_there b scope p.2 p.3))
     condition_there (text.conjunction a b) scope x h =
-        let p = then_ok (walk_condition schema a scope) (λ x. and_then (walk_condition schema b scope) (λ y. Ok (conjunction x y))) x h in
-        let q = then_ok (walk_condition schema b scope) (λ y. Ok (conjunction p.0 y)) x p.2 in
-        let e : conjunction p.0 q.0 ≡ x = cc q.2 in
-        subst ConditionThere e (both_there schema.tables (sources_of p.0) (sources_of q.0) (condition_there a scope p.0 p.1) (condition_there b scope q.0 q.1))
+        let p = both_ok (walk_condition schema a scope) (walk_condition schema b scope) conjunction x h in
+        subst ConditionThere p.4 (both_there schema.tables (sources_of p.0) (sources_of p.2) (condition_there a scope p.0 p.1) (condition_there b scope p.2 p.3))
     condition_there (text.negation a) scope x h =
         let p = then_ok (walk_condition schema a scope) (λ x. Ok (negation x)) x h in
         let e : negation p.0 ≡ x = cc p.2 in
@@ -169,24 +159,9 @@ module _ (schema : Schema) where
   assignments_there : (e : Entry) (taken : List ℕ) (xs : List text.Assignment) (done : List Assignment) → walk_assignments schema e taken xs ≡ Ok done → AssignmentsThere done
   assignments_there e taken [] done h = let is : [] ≡ done = cc h in subst AssignmentsThere is tt
   assignments_there e taken (x ∷ xs) done h =
-      let c = then_ok (some_or refusal.NoColumn (column_in e.table.columns x.column)) (λ c.
-      required (not (list_any (λ k. k == c.0) taken)) refusal.Ambiguous
-      (and_then (walk_operand schema x.operand (visible_table schema e)) (λ o.
-      required (same_type o.1 c.1) refusal.BadType
-      (and_then (walk_assignments schema e (c.0 ∷ taken) xs) (λ others. Ok (record { place = c.0; operand = o.0 } ∷ others)))))) done h in
-      let free = required_ok (not (list_any (λ k. k == c.0.0) taken)) refusal.Ambiguous
-      (and_then (walk_operand schema x.operand (visible_table schema e)) (λ o.
-      required (same_type o.1 c.0.1) refusal.BadType
-      (and_then (walk_assignments schema e (c.0.0 ∷ taken) xs) (λ others. Ok (record { place = c.0.0; operand = o.0 } ∷ others))))) done c.2 in
-      let o = then_ok (walk_operand schema x.operand (visible_table schema e)) (λ o.
-      required (same_type o.1 c.0.1) refusal.BadType
-      (and_then (walk_assignments schema e (c.0.0 ∷ taken) xs) (λ others. Ok (record { place = c.0.0; operand = o.0 } ∷ others)))) done free.1 in
-      let same = required_ok (same_type o.0.1 c.0.1) refusal.BadType
-      (and_then (walk_assignments schema e (c.0.0 ∷ taken) xs) (λ others. Ok (record { place = c.0.0; operand = o.0.0 } ∷ others))) done o.2 in
-      let others = then_ok (walk_assignments schema e (c.0.0 ∷ taken) xs) (λ others. Ok (record { place = c.0.0; operand = o.0.0 } ∷ others)) done same.1 in
-      let is : record { place = c.0.0; operand = o.0.0 } ∷ others.0 ≡ done = cc others.2 in
-      subst AssignmentsThere is
-      (both_there schema.tables (operand_sources o.0.0) (assignment_sources others.0) (operand_there x.operand (visible_table schema e) o.0 o.1) (assignments_there e (c.0.0 ∷ taken) xs others.0 others.1))
+      let a = assigned schema e taken x xs done h in
+      subst AssignmentsThere a.7
+      (both_there schema.tables (operand_sources a.2.0) (assignment_sources a.5) (operand_there x.operand (visible_table schema e) a.2 a.3) (assignments_there e (a.0.0 ∷ taken) xs a.5 a.6))
 
   pub statement_there : (c : text.Statement) (s : Statement) → walk_statement schema c ≡ Ok s → IsStatementThere schema.tables s
   statement_there (text.insert_rows name rows) s h =
@@ -226,14 +201,9 @@ module _ (schema : Schema) where
       let rest = actions_there xs q.0 q.1 in
       subst (Counted (text.rolls_back ∷ xs)) is (rest.0, ap (λ n. suc n) rest.1)
   actions_there (text.changes c ∷ xs) done h =
-      let p = then_ok (and_then (walk_statement schema c) (λ s. Ok (action.Change s))) (λ y. and_then (in_order (walk_action schema) xs) (λ ys. Ok (y ∷ ys))) done h in
-      let s = then_ok (walk_statement schema c) (λ s. Ok (action.Change s)) p.0 p.1 in
-      let q = then_ok (in_order (walk_action schema) xs) (λ ys. Ok (p.0 ∷ ys)) done p.2 in
-      let one : action.Change s.0 ≡ p.0 = cc s.2 in
-      let is : p.0 ∷ q.0 ≡ done = cc q.2 in
-      let rest = actions_there xs q.0 q.1 in
-      let P : Action → Type 0 = λ a. Counted (text.changes c ∷ xs) (a ∷ q.0) in
-      subst (Counted (text.changes c ∷ xs)) is (subst P one ((statement_there c s.0 s.1, rest.0), ap (λ n. suc n) rest.1))
+      let a = acted schema c xs done h in
+      let rest = actions_there xs a.2 a.3 in
+      subst (Counted (text.changes c ∷ xs)) a.4 ((statement_there c a.0 a.1, rest.0), ap (λ n. suc n) rest.1)
 
   pub rule_condition_there : (q : Option text.Query) (x : Option Query) → condition_parts schema q ≡ Ok x → IsConditionThere schema.tables x
   rule_condition_there None x h = let is : None ≡ x = cc h in subst (IsConditionThere schema.tables) is tt
@@ -242,8 +212,16 @@ module _ (schema : Schema) where
       let is : Some w.0.0 ≡ x = cc w.2 in
       subst (IsConditionThere schema.tables) is (query_there q [] w.0 w.1)
 
-pub parts_there : (schema : Schema) (r : RuleText) (parts : Parts) → walk_parts schema r ≡ Ok parts → ArePartsThere schema.tables r parts
-parts_there schema r parts h =
+-- the table, the triggers, the condition and the actions of a rule
+abbrev pub PartsWalked : Schema → RuleText → Parts → Type 0
+PartsWalked schema r parts = (e : Entry) × (table_named schema r.table ≡ Ok e)
+    × (triggers : Triggers) × (walk_triggers e.table.columns r.triggers ≡ Ok triggers)
+    × (condition : Option Query) × (condition_parts (in_rule schema e.table.columns triggers) r.condition ≡ Ok condition)
+    × (actions : List Action) × (in_order (walk_action (in_rule schema e.table.columns triggers)) r.actions ≡ Ok actions)
+    × ((e.id, triggers, condition, actions) ≡ parts)
+
+pub parts_walked : (schema : Schema) (r : RuleText) (parts : Parts) → walk_parts schema r ≡ Ok parts → PartsWalked schema r parts
+parts_walked schema r parts h =
     let e = then_ok (table_named schema r.table) (λ e.
     and_then (walk_triggers e.table.columns r.triggers) (λ triggers.
     and_then (condition_parts (in_rule schema e.table.columns triggers) r.condition) (λ condition.
@@ -255,12 +233,16 @@ parts_there schema r parts h =
     and_then (in_order (walk_action (in_rule schema columns triggers)) r.actions) (λ actions.
     Ok (e.0.id, triggers, condition, actions)))) parts e.2 in
     let inside = in_rule schema columns t.0 in
-    let c = then_ok (condition_parts inside r.condition) (λ condition. and_then (in_order (walk_action inside) r.actions) (λ actions. Ok (e.0.id, t.0, condition, actions))) parts t.2 in
-    let a = then_ok (in_order (walk_action inside) r.actions) (λ actions. Ok (e.0.id, t.0, c.0, actions)) parts c.2 in
-    let is : (e.0.id, t.0, c.0, a.0) ≡ parts = cc a.2 in
-    let actions = actions_there inside r.actions a.0 a.1 in
-    subst (ArePartsThere schema.tables r) is
-    (record { table = table_there schema r.table e.0 e.1; condition = rule_condition_there inside r.condition c.0 c.1; actions = actions.0; count = actions.1 })
+    let p = both_ok (condition_parts inside r.condition) (in_order (walk_action inside) r.actions) (λ condition actions. (e.0.id, t.0, condition, actions)) parts t.2 in
+    (e.0, e.1, t.0, t.1, p.0, p.1, p.2, p.3, p.4)
+
+pub parts_there : (schema : Schema) (r : RuleText) (parts : Parts) → walk_parts schema r ≡ Ok parts → ArePartsThere schema.tables r parts
+parts_there schema r parts h =
+    let w = parts_walked schema r parts h in
+    let inside = in_rule schema w.0.table.columns w.2 in
+    let actions = actions_there inside r.actions w.6 w.7 in
+    subst (ArePartsThere schema.tables r) w.8
+    (record { table = table_there schema r.table w.0 w.1; condition = rule_condition_there inside r.condition w.4 w.5; actions = actions.0; count = actions.1 })
 
 new_actions_there : (schema : Schema) (written : Option (List text.Action)) (x : Option (List Action)) → actions_parts schema written ≡ Ok x → AreNewActionsThere schema.tables written x
 new_actions_there schema None x h = let is : None ≡ x = cc h in subst (AreNewActionsThere schema.tables None) is tt

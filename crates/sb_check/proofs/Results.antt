@@ -48,3 +48,7 @@ same_refusal (Err r) d e h k = let one : r ≡ d = cc h in let other : r ≡ e =
 pub not_both : {A : Type 0} (walk : Result A Refusal) (a : A) (e : Refusal) → walk ≡ Ok a → walk ≡ Err e → ⊥
 not_both (Ok b) a e h k = cc k
 not_both (Err r) a e h k = cc h
+
+-- what was walked isn't refused
+pub not_refused : {A : Type 0} (walk other : Result A Refusal) (a : A) (e : Refusal) → other ≡ walk → other ≡ Ok a → walk ≡ Err e → ⊥
+not_refused walk other a e same is h = not_both walk a e (sym same ∙ is) h

@@ -38,7 +38,22 @@ walk_names schema (text.drop_table name) = and_then (table_named schema name) (�
 walk_names schema (text.create_rule r) = and_then (walk_parts schema r) (λ parts. Ok (rule parts))
 walk_names schema (text.query q) = and_then (walk_query schema q []) (λ w. Ok (query w.0))
 walk_names schema (text.change c) = and_then (walk_statement schema c) (λ s. Ok (change s))
-walk_names schema other = Ok plain
+walk_names schema text.open_session = Ok plain
+walk_names schema text.end_session = Ok plain
+walk_names schema text.begin = Ok plain
+walk_names schema text.commit = Ok plain
+walk_names schema text.rollback = Ok plain
+walk_names schema text.process_rules = Ok plain
+walk_names schema (text.process_ruleset name) = Ok plain
+walk_names schema (text.process_rule name) = Ok plain
+walk_names schema (text.alter_rule r) = Ok plain
+walk_names schema (text.drop_rule name) = Ok plain
+walk_names schema (text.activate_rule name) = Ok plain
+walk_names schema (text.deactivate_rule name) = Ok plain
+walk_names schema (text.create_ruleset name) = Ok plain
+walk_names schema (text.drop_ruleset name) = Ok plain
+walk_names schema (text.add_rules name rules) = Ok plain
+walk_names schema (text.del_rules name rules) = Ok plain
 
 -- a command of the program as the walk's
 abbrev pub resolved : stored.Resolved → Resolved

@@ -51,12 +51,7 @@ fn command<'s, S: Schema>(alloc: Global, text: &Command, schema: &'s S) -> Resul
     ensures { Answers resolved (walk_names (S.names schema.now) (view.command text.now)) result }
 {
     match text {
-        Command::CreateTable(name, columns) => {
-            match resolve_new_table(name, columns.as_slice(), schema) {
-                Ok(()) => Ok(Resolved::NewTable),
-                Err(refusal) => Err(refusal),
-            }
-        }
+        Command::CreateTable(name, columns) => new_table(name, columns.as_slice(), schema),
         Command::DropTable(name) => old_table(name, schema),
         Command::CreateRule(rule) => match resolve_rule(alloc, rule, schema) {
             Ok(parts) => Ok(Resolved::Rule(parts)),
@@ -70,7 +65,22 @@ fn command<'s, S: Schema>(alloc: Global, text: &Command, schema: &'s S) -> Resul
             Ok(statement) => Ok(Resolved::Change(statement)),
             Err(refusal) => Err(refusal),
         },
-        _ => Ok(Resolved::Plain),
+        Command::OpenSession
+        | Command::EndSession
+        | Command::Begin
+        | Command::Commit
+        | Command::Rollback
+        | Command::ProcessRules
+        | Command::ProcessRuleset(_)
+        | Command::ProcessRule(_)
+        | Command::AlterRule(_)
+        | Command::DropRule(_)
+        | Command::ActivateRule(_)
+        | Command::DeactivateRule(_)
+        | Command::CreateRuleset(_)
+        | Command::DropRuleset(_)
+        | Command::AddRules(_, _)
+        | Command::DelRules(_, _) => Ok(Resolved::Plain),
     }
 }
 
@@ -89,6 +99,19 @@ pub fn resolve_new_table<S: Schema>(
         return Err(Refusal::Ambiguous);
     }
     Ok(())
+}
+
+fn new_table<S: Schema>(
+    name: &Name,
+    columns: &[ColumnDefinition],
+    schema: &S,
+) -> Result<Resolved, Refusal>
+    ensures { Answers resolved (walk_names (S.names schema.now) (create_table name.now columns.now)) result }
+{
+    match resolve_new_table(name, columns, schema) {
+        Ok(()) => Ok(Resolved::NewTable),
+        Err(refusal) => Err(refusal),
+    }
 }
 
 /// Whether there is a table of that name.

@@ -1,7 +1,7 @@
 //! Why a part of a command isn't resolved.
 
 use sb_value::Refusal;
-use std::alloc::{AllocError, AllocFailed};
+use std::alloc::AllocError;
 
 /// A refusal of names and types.
 #[derive(Clone, Copy)]
@@ -29,17 +29,6 @@ impl From<AllocError> for Fault {
     ghost from_gives = { λ _ e. e ≡ NoMemory };
 
     fn from(_: AllocError) -> Fault {
-        Fault::NoMemory
-    }
-}
-
-impl<T: Drop> From<AllocFailed<T>> for Fault {
-    ghost use Rattle.std.specs.Prelude.{◌≡◌};
-    ghost use Rattle.sb_check.specs.declared.fault.Fault.TheVariants.{NoMemory};
-
-    ghost from_gives = { λ _ e. e ≡ NoMemory };
-
-    fn from(_: AllocFailed<T>) -> Fault {
         Fault::NoMemory
     }
 }

@@ -66,6 +66,14 @@ fn negation(alloc: Global, a: Box<Condition>) -> Result<Box<Condition>, AllocErr
 }
 
 #[inline(always)]
+fn existence(alloc: Global, query: Box<Query>) -> Result<Box<Condition>, AllocError>
+    ensures { IfOk result (λ c. c.value ≡ tree.exists query.value) }
+{
+    let node = ConditionNode::Exists(query);
+    Ok(Box::new(alloc, Condition { node })?)
+}
+
+#[inline(always)]
 fn compare(
     alloc: Global,
     a: Expression,
@@ -126,7 +134,10 @@ fn scalar_subquery(query: Box<Query>) -> Operand
 fn is_aggregate(items: &sb_syntax::Items) -> bool
     ensures { result ≡ spec.is_aggregate (view.items items.now) }
 {
-    matches!(items, sb_syntax::Items::Count | sb_syntax::Items::Sum(_))
+    match items {
+        sb_syntax::Items::Count | sb_syntax::Items::Sum(_) => true,
+        sb_syntax::Items::All | sb_syntax::Items::Each(_) => false,
+    }
 }
 
 /// Two expressions that are compared.
@@ -151,6 +162,7 @@ fn compared<'s, S: Schema>(
 /// An expression that is compared with an operand.
 #[cycle(query)]
 #[inline(never)]
+#[tactic(auto, using(crate::proofs::Equations::walk_compare))]
 fn compared_with<'s, S: Schema>(
     alloc: Global,
     a: &sb_syntax::Expression,
@@ -172,6 +184,7 @@ fn compared_with<'s, S: Schema>(
 /// An expression whose value is looked for in a query.
 #[cycle(query)]
 #[inline(never)]
+#[tactic(auto, using(crate::proofs::Equations::walk_is_in))]
 fn is_in<'s, S: Schema>(
     alloc: Global,
     a: &sb_syntax::Expression,
@@ -190,6 +203,7 @@ fn is_in<'s, S: Schema>(
 
 #[cycle(query)]
 #[inline(never)]
+#[tactic(auto, using(crate::proofs::Equations::walk_exists))]
 fn exists<'s, S: Schema>(
     alloc: Global,
     q: &sb_syntax::Query,
@@ -199,11 +213,11 @@ fn exists<'s, S: Schema>(
     ensures { GivesCondition (S.names schema.now) (exists (query q.now)) scope.now result }
 {
     let inner = query(alloc, q, schema, scope)?;
-    let node = ConditionNode::Exists(inner.tree);
-    Ok(Box::new(alloc, Condition { node })?)
+    Ok(existence(alloc, inner.tree)?)
 }
 
 #[cycle(query)]
+#[tactic(auto, using(crate::proofs::Equations::condition_walks))]
 pub(crate) fn condition<'s, S: Schema>(
     alloc: Global,
     c: &sb_syntax::Condition,
@@ -241,6 +255,7 @@ pub(crate) fn condition<'s, S: Schema>(
 }
 
 #[cycle(query)]
+#[tactic(auto, using(crate::proofs::Equations::operand_walks))]
 pub(crate) fn operand<'s, S: Schema>(
     alloc: Global,
     o: &sb_syntax::Operand,
@@ -272,6 +287,7 @@ pub(crate) fn operand<'s, S: Schema>(
 
 /// The condition of a `where`, or that of none.
 #[cycle(query)]
+#[tactic(auto, using(crate::proofs::Equations::filter_walks))]
 pub(crate) fn filter<'s, S: Schema>(
     alloc: Global,
     f: &Option<sb_syntax::Condition>,
@@ -326,6 +342,7 @@ fn over_sources<'s, S: Schema>(
 }
 
 #[cycle(query)]
+#[tactic(auto, using(crate::proofs::Equations::walk_select))]
 pub(crate) fn query<'s, S: Schema>(
     alloc: Global,
     q: &sb_syntax::Query,
