@@ -179,39 +179,38 @@ done_performs new records clock index state s meant result got none is (inr h) =
 
 -- ---- a command, by what its session refuses
 
--- the session's refusal by the phases in memory
-pub refusal_in : (store : Store) (records : List Record) (clock : ℕ) (index : List (List TableSets)) (state : State) (s n : ℕ) → n ≡ s → n < 8 → StandFor store records clock index state
-    → (class : Class) (command : Command) → class ≡ class_of command → (o : Option Refusal) → o ≡ phase_refusal class store.phases s → session_refusal (class_of command) state s ≡ o
-refusal_in store records clock index state s n same below h class command is o e =
-    let i : IsTrue (is_session s) = lt-ltb s 8 (subst (λ (k : ℕ). k < 8) same below) in
-    ap (λ (k : Class). session_refusal k state s) (sym is) ∙ sym (refusal_is store.phases state h.0.1.phases class s i) ∙ sym e
-
-pub refused_command : (store : Store) (records : List Record) (clock : ℕ) (index : List (List TableSets)) (state : State) (tenant bound s : ℕ) (command : Command) (r : Refusal) (got : Reply)
-    → session_refusal (class_of command) state s ≡ Some r → got ≡ reply.No r → StandFor store records clock index state → Performs store records clock index state s (reply_to_command tenant bound state s command) got
-refused_command store records clock index state tenant bound s command r got e is h =
-    subst (λ (o : Option Refusal). Performs store records clock index state s (outcome_of tenant bound state s o (walk state.catalog command)) got) (sym e) (inl (is, h))
-
-pub allowed_command : (new : Store) (records : List Record) (clock : ℕ) (index : List (List TableSets)) (state : State) (tenant bound s : ℕ) (command : Command) (got : Reply)
-    → session_refusal (class_of command) state s ≡ None → Performs new records clock index state s (outcome_of tenant bound state s None (walk state.catalog command)) got
-    → Performs new records clock index state s (reply_to_command tenant bound state s command) got
-allowed_command new records clock index state tenant bound s command got e h =
-    subst (λ (o : Option Refusal). Performs new records clock index state s (outcome_of tenant bound state s o (walk state.catalog command)) got) (sym e) h
-
--- the command is this one
-pub performs_command : (new : Store) (records : List Record) (clock : ℕ) (index : List (List TableSets)) (state : State) (tenant bound s : ℕ) (c d : Command) (got : Reply) → c ≡ d
-    → Performs new records clock index state s (outcome_of tenant bound state s None (walk state.catalog d)) got → Performs new records clock index state s (outcome_of tenant bound state s None (walk state.catalog c)) got
-performs_command new records clock index state tenant bound s c d got e h =
-    subst (λ (x : Command). Performs new records clock index state s (outcome_of tenant bound state s None (walk state.catalog x)) got) (sym e) h
-
--- a session that is idle has no transaction
-pub idle_has_none : (store : Store) (records : List Record) (clock : ℕ) (index : List (List TableSets)) (state : State) (s n : ℕ) → n ≡ s → n < 8 → StandFor store records clock index state → phase_at store.phases s ≡ Idle
-    → has_transaction (session_at state s) ≡ false
-idle_has_none store records clock index state s n same below h e =
-    let i : IsTrue (is_session s) = lt-ltb s 8 (subst (λ (k : ℕ). k < 8) same below) in
-    sym (own_is store.phases state h.0.1.phases s i) ∙ ap is_under_way e
-
 pub eighth : (s n : ℕ) → n ≡ s → n < 8 → IsTrue (is_session s)
 eighth s n same below = lt-ltb s 8 (subst (λ (k : ℕ). k < 8) same below)
+
+-- an idle session, and no other that has a transaction
+pub rests_to_define : (phases : List Phase) {s n : ℕ} {class : Class} → n ≡ s → n < 8 → class ≡ defines → None ≡ phase_refusal class phases s → IsAtRest phases × (phase_at phases s ≡ Idle)
+rests_to_define phases {s} {n} same below is none = may_define phases s (eighth s n same below) (subst (λ (k : Class). phase_refusal k phases s ≡ None) is (sym none))
+
+-- where memory, the log and the index stand for a state, and the command is of this class
+module _ {store : Store} {records : List Record} {clock : ℕ} {index : List (List TableSets)} {state : State} {s n : ℕ} (same : n ≡ s) (below : n < 8) (h : StandFor store records clock index state) where
+  -- a session that is idle has no transaction
+  pub idle_has_none : phase_at store.phases s ≡ Idle → has_transaction (session_at state s) ≡ false
+  idle_has_none e = sym (own_is store.phases state h.0.1.phases s (eighth s n same below)) ∙ ap is_under_way e
+
+  module _ {class : Class} (command : Command) (is : class ≡ class_of command) where
+    -- the session's refusal by the phases in memory
+    refusal_in : (o : Option Refusal) → o ≡ phase_refusal class store.phases s → session_refusal (class_of command) state s ≡ o
+    refusal_in o e = ap (λ (k : Class). session_refusal k state s) (sym is) ∙ sym (refusal_is store.phases state h.0.1.phases class s (eighth s n same below)) ∙ sym e
+
+    pub refused_command : (tenant bound : ℕ) {r : Refusal} {got : Reply} → Some r ≡ phase_refusal class store.phases s → got ≡ reply.No r → Performs store records clock index state s (reply_to_command tenant bound state s command) got
+    refused_command tenant bound {r} {got} e refused =
+        subst (λ (o : Option Refusal). Performs store records clock index state s (outcome_of tenant bound state s o (walk state.catalog command)) got) (sym (refusal_in (Some r) e)) (inl (refused, h))
+
+    pub allowed_command : (tenant bound : ℕ) {new : Store} {after : List Record} {later : ℕ} {sets : List (List TableSets)} {got : Reply} → None ≡ phase_refusal class store.phases s →
+        Performs new after later sets state s (outcome_of tenant bound state s None (walk state.catalog command)) got → Performs new after later sets state s (reply_to_command tenant bound state s command) got
+    allowed_command tenant bound {new} {after} {later} {sets} {got} e done =
+        subst (λ (o : Option Refusal). Performs new after later sets state s (outcome_of tenant bound state s o (walk state.catalog command)) got) (sym (refusal_in None e)) done
+
+-- the command is this one
+pub performs_command : {new : Store} {records : List Record} {clock : ℕ} {index : List (List TableSets)} (state : State) (tenant bound s : ℕ) {c d : Command} {got : Reply} → c ≡ d
+    → Performs new records clock index state s (outcome_of tenant bound state s None (walk state.catalog d)) got → Performs new records clock index state s (outcome_of tenant bound state s None (walk state.catalog c)) got
+performs_command {new} {records} {clock} {index} state tenant bound s {c} {d} {got} e h =
+    subst (λ (x : Command). Performs new records clock index state s (outcome_of tenant bound state s None (walk state.catalog x)) got) (sym e) h
 
 -- ---- what is left of the log
 

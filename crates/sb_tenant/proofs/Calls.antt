@@ -1,49 +1,59 @@
 -- The calls on a session's transaction, each from what the database says of it.
-use Rattle.std.proofs.Common.{◌≡◌, ◌∙◌, ◌⊎◌, inl, inr, ℕ, ◌<◌, Bool, true, false, not, ◌&&◌, cond, nat_eq, List, [], ◌∷◌, ◌++◌, length, Option, Some, None, Result, Ok, Err, refl, sym, ap, subst, true≢false, lt-ltb, IsTrue}
+use Rattle.std.proofs.Common.{◌≡◌, ◌∙◌, ◌⊎◌, inl, inr, ℕ, ◌<◌, ◌≤◌, Bool, true, false, not, ◌&&◌, cond, nat_eq, List, [], ◌∷◌, ◌++◌, length, Option, Some, None, Result, Ok, Err, refl, sym, ap, subst, true≢false, lt-ltb, IsTrue, arith}
 use Rattle.std.proofs.lemmas.Bool.{eq-eqb}
 use Rattle.sb_value.specs.declared.value.Value.{Value}
 use Rattle.sb_value.specs.declared.change.Change.{Change}
 use Rattle.sb_value.specs.declared.lock.Mode.{Mode}
 use Rattle.sb_value.specs.declared.refusal.Refusal.{Refusal}
 use Rattle.sb_value.specs.declared.refusal.Refusal.TheVariants.{Locked, NoMemory}
+use Rattle.sb_value.specs.declared.refusal.Verdict.{Verdict}
 use Rattle.sb_value.specs.Locks.{Locks, first_conflict, with_locks, released}
 use Rattle.sb_value.specs.Table.{Entry, after, after_all, after_change, name_at}
 use Rattle.sb_check.specs.Condition.{Query}
 use Rattle.sb_check.specs.declared.tree.Statement.{Statement}
 use Rattle.sb_rawlog.specs.Records.{Record}
+use Rattle.sb_rawlog.specs.Sessions.{OthersStay as OtherRecordsStay}
 use Rattle.sb_tables.specs.Held.{Held}
 use Rattle.sb_locks.specs.Held.{held}
 use Rattle.sb_index.specs.TableSets.{TableSets}
 use Rattle.sb_eval.specs.Seen.{no_transition}
 use Rattle.sb_eval.specs.Statement.{query_locks, statement_locks, select_rows, statement_changes}
 use Rattle.sb_process.specs.Made.{AreMade}
-use Rattle.sb_process.specs.Process.{stands_after}
-use Rattle.sb_process.specs.Represents.{Represents, IsTakenBack, IsKept, IsIdle, begun}
+use Rattle.sb_process.specs.Process.{Processing, process, stands_after}
+use Rattle.sb_process.specs.Represents.{Represents, EachTransaction, IsTransaction, IsTakenBack, IsKept, IsIdle, begun}
 use Rattle.sb_process.specs.Request.{IsAnswer, after_request, Selects}
 use Rattle.sb_process.specs.Setting.{Setting, Progress, seen_with}
 use Rattle.sb_process.specs.Sharing.{TablesAreShared}
 use Rattle.sb_process.specs.Statement.{changes_meant, with_changes_of, after_statement, counted, Runs}
-use Rattle.sb_process.specs.Transactions.{ArePast}
-use Rattle.sb_process.specs.Work.{Stands}
+use Rattle.sb_process.specs.Transactions.{mark_of, tested_of, is_candidate_of, ArePast, OtherSessionsStay}
+use Rattle.sb_process.specs.Work.{IsWork, Processes, Stands}
+use Rattle.sb_process.specs.declared.Processed.{Processed}
+use Rattle.sb_process.specs.declared.database.Database.{Database}
 use Rattle.sb_process.specs.declared.Outcome.{Outcome}
 use Rattle.sb_process.specs.declared.Outcome.TheVariants.{Done, ByRule, ByError, ByLimit}
-use Rattle.sb_process.specs.Running.{is_done}
+use Rattle.sb_process.specs.Running.{EachRunning, IsRunning, is_done}
 use Rattle.sb_tenant.specs.declared.phase.Phase.{Phase}
 use Rattle.sb_tenant.specs.declared.phase.Phase.TheVariants.{Idle, Active}
 use Rattle.sb_tenant.specs.declared.reply.Reply.{Reply}
 use Rattle.sb_tenant.specs.declared.reply.Reply.TheVariants as reply
+use Rattle.sb_tenant.specs.declared.processing.Finish.{Finish}
+use Rattle.sb_tenant.specs.declared.processing.Finish.TheVariants.{Commit, GoOn}
+use Rattle.sb_tenant.specs.declared.store.Ending.{Ending}
+use Rattle.sb_tenant.specs.declared.store.Ending.TheVariants.{Keep, TakeBack}
 use Rattle.sb_tenant.specs.declared.store.Store.{Store}
 use Rattle.sb_tenant.specs.Limits.{is_session}
-use Rattle.sb_tenant.specs.Logged.{Agrees}
-use Rattle.sb_tenant.specs.Perform.{reply_rows, change_seen, perform, stands_as, stays}
-use Rattle.sb_tenant.specs.Represents.{phase_of, phase_at, AreExclusive, Holds, StandFor, StandAside, Comes}
+use Rattle.sb_tenant.specs.Ending.{concluded, finished, IsConcluded}
+use Rattle.sb_tenant.specs.Logged.{Agrees, who_of}
+use Rattle.sb_tenant.specs.Perform.{reply_rows, change_seen, perform, process_at, stands_as, stays}
+use Rattle.sb_tenant.specs.Represents.{phase_of, phase_at, AreExclusive, Finds, Holds, StandFor, StandAside, Comes}
 use Rattle.sb_tenant.specs.Resolved.{query, change}
 use Rattle.sb_tenant.specs.State.{State, Session, closed, idle, active, session_at, has_transaction, changes_of, marks_of, setting_of, progress_of, with_progress, rolled_back, committed, with_session}
 use Rattle.sb_tenant.specs.Trail.{aborted}
+use Rattle.sb_tenant.proofs.Leaving.{work-of}
 use Rattle.sb_tenant.proofs.Moves.{IsCallOf, IsStateAfter, stands-with, stands-back, stands-kept}
 use Rattle.sb_tenant.proofs.SessionLaws.{own_session, other_session}
 use Rattle.sb_tenant.proofs.Standing.{others_of, base_of, one-session}
-use Rattle.sb_tenant.proofs.Taking.{Taken, taken-none, taken-request}
+use Rattle.sb_tenant.proofs.Taking.{Taken, taken-none, taken-request, process-takes}
 
 -- a session's number
 pub number-below : (s n : ℕ) → n ≡ s → n < 8 → IsTrue (is_session s)
@@ -139,7 +149,26 @@ comes-memory form stands meant result e = subst (Comes form stands meant) (sym e
 
 -- ---- the calls
 
-module _ (laws : TablesAreShared) (s : ℕ) (is : IsTrue (is_session s)) (old new : Store) (earlier after : List Record) (clock later : ℕ) (index : List (List TableSets)) (state : State) (origin : List Held) (h : Holds origin old state)
+-- what the database says of a call on a session, with the phases as they then are
+pub called : {s : ℕ} (old : Store) (database : Database) (phases : List Phase) {earlier after : List Record} {clock later : ℕ} → database.id ≡ old.database.id → OtherRecordsStay (who_of old.database.id s) earlier after → clock ≤ later →
+    OtherSessionsStay old.database.transactions database.transactions s → ((o : ℕ) → nat_eq o s ≡ false → phase_at phases o ≡ phase_at old.phases o) → IsCallOf s old (record old { database = database; phases = phases }) earlier after clock later
+called old database phases id records times transactions others = record { id = id; records = records; times = times; transactions = transactions; phases = others; definitions = refl }
+
+-- the session's transaction
+module _ {s : ℕ} {store : Store} {records : List Record} {clock : ℕ} {index : List (List TableSets)} {state : State} (laws : TablesAreShared) (is : IsTrue (is_session s)) (st : StandFor store records clock index state) where
+  pub session-of : Represents (base_of st.0.0 state s) store.database s records clock (setting_of store.database.id state s) (progress_of state s)
+  session-of = one-session laws st.0.0 store state st.0.1 s is records clock index st.1
+
+  pub transaction-of : IsTransaction store.database s records clock
+  transaction-of = (base_of st.0.0 state s, setting_of store.database.id state s, progress_of state s, session-of)
+
+  pub runs-in : IsRunning (base_of st.0.0 state s) store.database s records clock index (setting_of store.database.id state s) (progress_of state s)
+  runs-in = record { transaction = session-of; indexed = st.1.indexed }
+
+  pub works-in : IsWork (base_of st.0.0 state s) store.database s records clock index store.definitions.rules store.definitions.order (setting_of store.database.id state s) (progress_of state s)
+  works-in = work-of laws st.0.0 store state st.0.1 s is records clock index st.1
+
+module _ {s : ℕ} {old new : Store} {earlier after : List Record} {clock later : ℕ} {index : List (List TableSets)} {state : State} {origin : List Held} (laws : TablesAreShared) (is : IsTrue (is_session s)) (h : Holds origin old state)
     (a : Agrees old.database.id state old.database.transactions earlier clock index) (c : IsCallOf s old new earlier after clock later) where
   abbrev base : List Held
   base = base_of origin state s
@@ -343,17 +372,96 @@ module _ (laws : TablesAreShared) (s : ℕ) (is : IsTrue (is_session s)) (old ne
           by (ByError rule f) e r = (goes-back phase past r, back-aside (goes-back phase past r))
           by ByLimit e r = (goes-back phase past r, back-aside (goes-back phase past r))
 
--- ---- a commit
+-- what it says of a call that takes locks alone
+locks-alone : {s : ℕ} (old : Store) (database : Database) {records : List Record} {clock : ℕ} → database ≡ record old.database { locks = database.locks } → IsCallOf s old (record old { database = database }) records records clock clock
+locks-alone old database only =
+    called old database old.phases (ap (λ (d : Database). d.id) only) (λ other differs. refl) (omega arith)
+    (λ o r other. (ap (λ (d : Database). mark_of d.transactions o r) only, ap (λ (d : Database). tested_of d.transactions o r) only, ap (λ (d : Database). is_candidate_of d.transactions o r) only)) (λ o other. refl)
+
+module _ {s : ℕ} {old : Store} {database : Database} {records : List Record} {clock : ℕ} {index : List (List TableSets)} {state : State} (laws : TablesAreShared) (is : IsTrue (is_session s)) (st : StandFor old records clock index state)
+    (only : database ≡ record old.database { locks = database.locks }) (was : phase_at old.phases s ≡ Active) {q : Query} {result : Result (List (List Value)) Refusal}
+    (k : EachTransaction old.database s records clock (λ origin setting progress. Selects origin database s q result records clock setting progress)) where
+  selected : Selects (base_of st.0.0 state s) database s q result records clock (setting_of old.database.id state s) (progress_of state s)
+  selected = k (base_of st.0.0 state s) (setting_of old.database.id state s) (progress_of state s) (session-of laws is st)
+
+  pub rows-come : (bound : ℕ) → Comes reply.Rows (StandFor (record old { database = database }) records clock index) (perform old.database.id bound state s (query q)) result
+  rows-come bound = selects laws is st.0.1 st.1 (locks-alone old database only) was was bound q result selected
+
+  pub rows-aside : StandAside (record old { database = database }) records clock index state s
+  rows-aside = selects-aside laws is st.0.1 st.1 (locks-alone old database only) was was q result selected
+
+-- what it says of a statement
+module _ {s : ℕ} {old new : Store} {earlier after : List Record} {clock later : ℕ} {index : List (List TableSets)} {state : State} (laws : TablesAreShared) (is : IsTrue (is_session s)) (st : StandFor old earlier clock index state)
+    (c : IsCallOf s old new earlier after clock later) (was : phase_at old.phases s ≡ Active) (phase : phase_at new.phases s ≡ Active) (statement : Statement) {result : Result ℕ Refusal}
+    (k : EachRunning old.database s earlier clock index (λ origin setting progress. Runs origin new.database s no_transition statement result after later setting progress)) where
+  ran : Runs (base_of st.0.0 state s) new.database s no_transition statement result after later (setting_of old.database.id state s) (progress_of state s)
+  ran = k (base_of st.0.0 state s) (setting_of old.database.id state s) (progress_of state s) (runs-in laws is st)
+
+  pub count-comes : (bound : ℕ) → Comes reply.Count (StandFor new after later index) (perform old.database.id bound state s (change statement)) result
+  count-comes bound = counts laws is st.0.1 st.1 c was phase bound statement result ran
+
+  pub count-aside : StandAside new after later index state s
+  count-aside = counts-aside laws is st.0.1 st.1 c was phase statement result ran
+
+processing-takes : (tenant : ℕ) {s : ℕ} (state : State) (bound : ℕ) (eligible : ℕ → Bool) → AreExclusive state.locks → Taken s state.locks (process bound (setting_of tenant state s) eligible (progress_of state s)).progress.locks
+processing-takes tenant {s} state bound eligible exclusive = process-takes (setting_of tenant state s) state.locks bound eligible (progress_of state s) (taken-none s state.locks exclusive)
+
+-- what the database says of an assertion point
+module _ {s : ℕ} {old new : Store} {earlier after : List Record} {clock later : ℕ} {index : List (List TableSets)} {state : State} (laws : TablesAreShared) (is : IsTrue (is_session s)) (st : StandFor old earlier clock index state)
+    (c : IsCallOf s old new earlier after clock later) (was : phase_at old.phases s ≡ Active) (bound : ℕ) (eligible : ℕ → Bool) {o : Outcome} {verdicts : List (ℕ × Verdict)}
+    (k : Processes (base_of st.0.0 state s) old.database new.database s o verdicts after later (setting_of old.database.id state s) (progress_of state s) (process bound (setting_of old.database.id state s) eligible (progress_of state s))) where
+  pub processed-done : is_done o ≡ true → phase_at new.phases s ≡ Active → StandFor new after later index (process_at old.database.id bound state s eligible stays).0 × StandAside new after later index state s
+  processed-done done phase =
+      let meant : Processing = process bound (setting_of old.database.id state s) eligible (progress_of state s) in
+      done-stands laws is st.0.1 st.1 c was meant.outcome meant.progress (processing-takes old.database.id state bound eligible st.0.1.exclusive) (sym (ap is_done k.outcome) ∙ done) phase k.stands
+
+  pub processed-back : is_done o ≡ false → phase_at new.phases s ≡ Idle → ArePast new.database.transactions s later → StandFor new after later index (process_at old.database.id bound state s eligible stays).0 × StandAside new after later index state s
+  processed-back back phase past =
+      let meant : Processing = process bound (setting_of old.database.id state s) eligible (progress_of state s) in
+      back-stands laws is st.0.1 st.1 c was meant.outcome meant.progress (processing-takes old.database.id state bound eligible st.0.1.exclusive) (sym (ap is_done k.outcome) ∙ back) phase past k.stands
+
+  -- the same is found with equal flags
+  pub finds-with : {chosen : ℕ → Bool} (found : Processed) → found.outcome ≡ o → found.trace ≡ verdicts → ((id : ℕ) → eligible id ≡ chosen id) → StandFor new after later index (process_at old.database.id bound state s eligible stays).0 →
+      Finds old.database.id new after later index state s bound chosen found
+  finds-with found outcome trace flags stands =
+      subst (λ (f : ℕ → Bool). Finds old.database.id new after later index state s bound f found) (λ i id. flags id i) (record { outcome = outcome ∙ k.outcome; trace = trace ∙ k.trace; stands = stands })
+
+-- ---- the end of a transaction
+
+-- kept or taken back
+module _ {s : ℕ} {old : Store} (database : Database) (phases : List Phase) {earlier : List Record} (after : List Record) {clock later : ℕ} {index : List (List TableSets)} {state : State} (laws : TablesAreShared) (is : IsTrue (is_session s)) (st : StandFor old earlier clock index state)
+    (others : OtherRecordsStay (who_of old.database.id s) earlier after) (still : later ≡ clock) (set : (o : ℕ) → phase_at phases o ≡ cond (nat_eq o s) Idle (phase_at old.phases o)) (same : database.transactions ≡ old.database.transactions) where
+  past : ArePast database.transactions s later
+  past = λ rule. rw (same, still) (st.1.past s is rule)
+
+  call : database.id ≡ old.database.id → OtherSessionsStay old.database.transactions database.transactions s → IsCallOf s old (record old { database = database; phases = phases }) earlier after clock later
+  call id sessions = called old database phases id others (omega (arith, still)) sessions (set-other old.phases phases s Idle set)
+
+  pub concludes : (ending : Ending) → IsConcluded ending (base_of st.0.0 state s) old.database database s after (setting_of old.database.id state s) (progress_of state s) → StandFor (record old { database = database; phases = phases }) after later index (concluded ending state s)
+  concludes Keep b = goes-in laws is st.0.1 st.1 (call b.id b.sessions) (set-own old.phases phases s Idle set) past b
+  concludes TakeBack b = goes-back laws is st.0.1 st.1 (call b.id b.sessions) (set-own old.phases phases s Idle set) past b
+
+pub concluded-id : (ending : Ending) (origin : List Held) (old new : Database) (s : ℕ) (records : List Record) (setting : Setting) (progress : Progress) → IsConcluded ending origin old new s records setting progress → new.id ≡ old.id
+concluded-id Keep origin old new s records setting progress b = b.id
+concluded-id TakeBack origin old new s records setting progress b = b.id
+
+-- ---- where no rule is left
 
 module _ (state : State) (s : ℕ) where
-  pub commits : (o : Outcome) (p : Progress) → is_done o ≡ true → committed (stands_as state s stays (stands_after o p)) s ≡ stands_as state s (λ now. committed now s) (stands_after o p)
-  commits Done p e = refl
-  commits (ByRule rule) p e = absurd (true≢false (sym e))
-  commits (ByError rule f) p e = absurd (true≢false (sym e))
-  commits ByLimit p e = absurd (true≢false (sym e))
+  pub commits : (f : Finish) → f ≡ Commit → (o : Outcome) (p : Progress) → is_done o ≡ true → committed (stands_as state s stays (stands_after o p)) s ≡ stands_as state s (finished f s) (stands_after o p)
+  commits f is o p e = by o e ∙ ap (λ (x : Finish). stands_as state s (finished x s) (stands_after o p)) (sym is)
+    where
+      by : (o : Outcome) → is_done o ≡ true → committed (stands_as state s stays (stands_after o p)) s ≡ stands_as state s (finished Commit s) (stands_after o p)
+      by Done e = refl
+      by (ByRule rule) e = absurd (true≢false (sym e))
+      by (ByError rule g) e = absurd (true≢false (sym e))
+      by ByLimit e = absurd (true≢false (sym e))
 
-  pub commits-not : (o : Outcome) (p : Progress) → is_done o ≡ false → stands_as state s stays (stands_after o p) ≡ stands_as state s (λ now. committed now s) (stands_after o p)
-  commits-not Done p e = absurd (true≢false e)
-  commits-not (ByRule rule) p e = refl
-  commits-not (ByError rule f) p e = refl
-  commits-not ByLimit p e = refl
+  pub commits-not : (f : Finish) (o : Outcome) (p : Progress) → is_done o ≡ false → stands_as state s stays (stands_after o p) ≡ stands_as state s (finished f s) (stands_after o p)
+  commits-not f Done p e = absurd (true≢false e)
+  commits-not f (ByRule rule) p e = refl
+  commits-not f (ByError rule g) p e = refl
+  commits-not f ByLimit p e = refl
+
+  pub goes-on : (f : Finish) → f ≡ GoOn → (o : Outcome) (p : Progress) → stands_as state s stays (stands_after o p) ≡ stands_as state s (finished f s) (stands_after o p)
+  goes-on f is o p = ap (λ (x : Finish). stands_as state s (finished x s) (stands_after o p)) (sym is)

@@ -12,7 +12,9 @@ use Rattle.sb_catalog.specs.Rules.{AreNumbered, numbered, is_active}
 use Rattle.sb_catalog.specs.declared.rule.Rule.{Rule}
 use Rattle.sb_process.specs.Made.{NumbersBelow}
 use Rattle.sb_process.specs.Sharing.{TablesAreShared}
+use Rattle.sb_process.specs.Statement.{RisesBy}
 use Rattle.sb_process.specs.Work.{AreActive, IsWork}
+use Rattle.sb_process.specs.declared.database.Database.{Database}
 use Rattle.sb_tenant.specs.declared.store.Store.{Store}
 use Rattle.sb_tenant.specs.Limits.{is_session}
 use Rattle.sb_tenant.specs.Logged.{Agrees, who_of}
@@ -53,6 +55,11 @@ leaves_still {s} {old} {new} id others same numbers = record {
   times = (omega (arith, same), omega (arith, same));
   numbers = λ m h. below_more m (m + 0) new.database.tables (omega arith) (numbers m h);
 }
+
+-- what the database says of it
+pub leaves_changed : {n s : ℕ} {old : Store} {database : Database} {before after : List Record} {clock later : ℕ} → database.id ≡ old.database.id → OtherRecordsStay (who_of old.database.id s) before after → RisesBy n clock later →
+    ((m : ℕ) → NumbersBelow m old.database.tables → NumbersBelow (m + n) database.tables) → Leaves n old (record old { database = database }) s before after clock later
+leaves_changed id others times numbers = record { id = id; others = others; times = times; numbers = numbers }
 
 pub leaves_on : {n m s : ℕ} {one two three : Store} {a b c : List Record} {x y z : ℕ} → Leaves n one two s a b x y → Leaves m two three s b c y z → Leaves (n + m) one three s a c x z
 leaves_on {n} {m} {s} {one} {two} {three} f g = record {

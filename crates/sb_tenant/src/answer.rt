@@ -7,7 +7,7 @@ ghost use Rattle.sb_syntax.specs.Text.{text_limit};
 ghost use Rattle.sb_syntax.specs.Views.{command as tree_of};
 ghost use Rattle.sb_tenant.specs.declared.phase.Phase.TheVariants as phase;
 ghost use Rattle.sb_tenant.specs.declared.reply.Reply.TheVariants as told;
-ghost use Rattle.sb_tenant.specs.Defining.{HasFewActions};
+ghost use Rattle.sb_tenant.specs.Defining.{HasFewActions, told as reply_of};
 ghost use Rattle.sb_tenant.specs.Represents.{EachState, StandForSome, Leaves, Performs, Refuses, StandAside, StandFor};
 ghost use Rattle.sb_tenant.specs.State.{State};
 ghost use Rattle.sb_tenant.specs.Step.{reply_to, reply_to_command};
@@ -36,6 +36,16 @@ pub(crate) fn refused(refusal: Refusal) -> Replies
     ensures { result ≡ (told.No refusal, told.No refusal) }
 {
     (no(&refusal), no(&refusal))
+}
+
+/// The reply of a definition, done or refused, for the trail and for the answer.
+fn replied(outcome: Result<(), Refusal>) -> Replies
+    ensures { result ≡ (reply_of outcome, reply_of outcome) }
+{
+    match outcome {
+        Ok(()) => done(),
+        Err(refusal) => refused(refusal),
+    }
 }
 
 /// The reply of a refusal.
@@ -160,10 +170,7 @@ impl Store {
                 self.begin(asker.session);
                 done()
             }
-            Class::Defines => match self.define(alloc, index, command) {
-                Ok(()) => done(),
-                Err(refusal) => refused(refusal),
-            },
+            Class::Defines => replied(self.define(alloc, index, command)),
             Class::Works => self.work(alloc, log, index, asker, command),
         }
     }

@@ -37,7 +37,16 @@ impl Store {
             Command::DropRuleset(name) => self.drop_ruleset(&name),
             Command::AddRules(name, rules) => self.add_rules(alloc, &name, rules.as_slice()),
             Command::DelRules(name, rules) => self.del_rules(alloc, &name, rules.as_slice()),
-            _ => unreachable!(),
+            Command::OpenSession
+            | Command::EndSession
+            | Command::Begin
+            | Command::Commit
+            | Command::Rollback
+            | Command::ProcessRules
+            | Command::ProcessRuleset(_)
+            | Command::ProcessRule(_)
+            | Command::Query(_)
+            | Command::Change(_) => unreachable!(),
         }
     }
 }

@@ -8,24 +8,33 @@ ghost use Rattle.sb_process.specs.Running.{is_done};
 ghost use Rattle.sb_process.specs.Setting.{Progress};
 ghost use Rattle.sb_process.specs.declared.Outcome.{Outcome};
 ghost use Rattle.sb_process.specs.Process.{stands_after};
-ghost use Rattle.sb_tenant.specs.Perform.{perform, process_at, stands_as, stays};
+ghost use Rattle.sb_tenant.specs.Ending.{finished};
+ghost use Rattle.sb_tenant.specs.Perform.{process_at, stands_as, stays};
 ghost use Rattle.sb_tenant.specs.Represents.{EachState, StandForSome, Finds, Leaves, Performs, StandAside, StandFor, phase_at};
-ghost use Rattle.sb_tenant.specs.Resolved.{commit as commit_command};
-ghost use Rattle.sb_tenant.specs.State.{State, committed};
+ghost use Rattle.sb_tenant.specs.State.{State};
 ghost use Rattle.sb_tenant.specs.declared.phase.Phase.TheVariants as phase;
 
 use crate::asker::Asker;
 use crate::phase::Phase;
-use crate::store::{Replies, Store};
+use crate::store::{Ending, Replies, Store, tables_are_shared};
 use crate::told::told;
 use sb_index::RuleIndex;
-use sb_process::{AssertionPoint, Processed, Rules, transactions_share_tables};
+use sb_process::{AssertionPoint, Processed, Rules};
 use sb_rawlog::ChangeLog;
 use sb_value::{RuleSet, SessionId};
 use std::alloc::{AllocError, Global};
 
+/// What becomes of a transaction in which no rule is left.
+#[derive(Clone, Copy)]
+pub(crate) enum Finish {
+    /// It goes on.
+    GoOn,
+    /// What it has changed is kept.
+    Commit,
+}
+
 impl Store {
-    /// Processes eligible rules; the transaction goes on, or is taken back.
+    /// Processes eligible rules; the transaction is finished so where no rule is left, and else taken back.
     #[inline(never)]
     pub(crate) fn process<L: ChangeLog>(
         &mut self,
@@ -34,6 +43,7 @@ impl Store {
         index: &RuleIndex,
         asker: &Asker,
         eligible: RuleSet,
+        finish: Finish,
     ) -> Replies
         requires stand { (state : State) × StandFor self.old (L.records log.old) (L.clock log.old) index.now state }
         requires active { phase_at self.old.phases asker.now.session ≡ phase.Active }
@@ -44,47 +54,12 @@ impl Store {
         ensures performed { EachState self.old (L.records log.old) (L.clock log.old) index.now
             (λ state. (chosen : ℕ → Bool) → ((id : ℕ) → flag_at eligible id ≡ chosen id) →
             Performs self.new (L.records log.new) (L.clock log.new) index.now state asker.now.session
-            (process_at self.old.database.id asker.now.bound state asker.now.session chosen stays) result.0) }
+            (process_at self.old.database.id asker.now.bound state asker.now.session chosen
+            (finished finish asker.now.session)) result.0) }
         ensures twice { result.1 ≡ result.0 }
         ensures leaves { Leaves 32768000 self.old self.new asker.now.session
             (L.records log.old) (L.records log.new) (L.clock log.old) (L.clock log.new) }
     {
-        let point = AssertionPoint {
-            session: asker.session,
-            eligible,
-            bound: asker.bound,
-        };
-        match self.run(alloc, log, index, &point) {
-            Ok(processed) => match told(alloc, &self.definitions.rules, &processed) {
-                Ok(replies) => replies,
-                Err(_) => self.run_out(log, asker.session),
-            },
-            Err(_) => self.run_out(log, asker.session),
-        }
-    }
-
-    /// Processes all active rules, and keeps what the transaction has changed or takes it back.
-    #[inline(never)]
-    pub(crate) fn commit<L: ChangeLog>(
-        &mut self,
-        alloc: Global,
-        log: &mut L,
-        index: &RuleIndex,
-        asker: &Asker,
-    ) -> Replies
-        requires stand { (state : State) × StandFor self.old (L.records log.old) (L.clock log.old) index.now state }
-        requires active { phase_at self.old.phases asker.now.session ≡ phase.Active }
-        requires bound { asker.now.bound ≤ 1000 }
-        requires times { L.clock log.old < 2 ^ 63 }
-        requires numbers { NumbersBelow (2 ^ 63) self.old.database.tables }
-        ensures performed { EachState self.old (L.records log.old) (L.clock log.old) index.now
-            (λ state. Performs self.new (L.records log.new) (L.clock log.new) index.now state asker.now.session
-            (perform self.old.database.id asker.now.bound state asker.now.session commit_command) result.0) }
-        ensures twice { result.1 ≡ result.0 }
-        ensures leaves { Leaves 32768000 self.old self.new asker.now.session
-            (L.records log.old) (L.records log.new) (L.clock log.old) (L.clock log.new) }
-    {
-        let eligible = self.definitions.active();
         let point = AssertionPoint {
             session: asker.session,
             eligible,
@@ -93,7 +68,7 @@ impl Store {
         match self.run(alloc, log, index, &point) {
             Ok(processed) => match told(alloc, &self.definitions.rules, &processed) {
                 Ok(replies) => {
-                    self.finish(log, asker.session, processed.outcome.is_done());
+                    self.finish(log, asker.session, finish, processed.outcome.is_done());
                     replies
                 }
                 Err(_) => self.run_out(log, asker.session),
@@ -129,10 +104,8 @@ impl Store {
         ensures leaves { Leaves (32768 * point.now.bound) self.old self.new point.now.session
             (L.records log.old) (L.records log.new) (L.clock log.old) (L.clock log.new) }
     {
-        // for the proof: the transactions may be taken in any order; a session's number is below 8, and a rule's its
-        // own
-        transactions_share_tables();
-        let _number = point.session.number();
+        tables_are_shared(point.session);
+        // for the proof: a rule's number is its own
         let _rules = self.definitions.rules.rules();
         let rules = Rules {
             catalog: &self.definitions.rules,
@@ -154,8 +127,8 @@ impl Store {
         }
     }
 
-    /// Keeps what the transaction has changed, where no rule is left.
-    fn finish<L: ChangeLog>(&mut self, log: &mut L, session: SessionId, done: bool)
+    /// Keeps what the transaction has changed, where no rule is left and it isn't to go on.
+    fn finish<L: ChangeLog>(&mut self, log: &mut L, session: SessionId, finish: Finish, done: bool)
         requires stand { StandForSome self.old (L.records log.old) (L.clock log.old) }
         requires active { done ≡ true → phase_at self.old.phases session ≡ phase.Active }
         ensures finished { (index : List (List TableSets)) (state : State) (outcome : Outcome) (progress : Progress) →
@@ -163,28 +136,17 @@ impl Store {
             StandFor self.old (L.records log.old) (L.clock log.old) index
             (stands_as state session stays (stands_after outcome progress)) →
             StandFor self.new (L.records log.new) (L.clock log.new) index
-            (stands_as state session (λ now. committed now session) (stands_after outcome progress)) }
+            (stands_as state session (finished finish session) (stands_after outcome progress)) }
         ensures leaves { Leaves 0 self.old self.new session
             (L.records log.old) (L.records log.new) (L.clock log.old) (L.clock log.new) }
     {
-        if done {
-            self.keep(log, session);
+        match finish {
+            Finish::GoOn => {}
+            Finish::Commit => {
+                if done {
+                    self.conclude(log, session, Ending::Keep);
+                }
+            }
         }
-    }
-
-    /// Keeps what the transaction has changed.
-    fn keep<L: ChangeLog>(&mut self, log: &mut L, session: SessionId)
-        requires stand { StandForSome self.old (L.records log.old) (L.clock log.old) }
-        requires active { phase_at self.old.phases session ≡ phase.Active }
-        ensures kept { (index : List (List TableSets)) → EachState self.old (L.records log.old) (L.clock log.old) index
-            (λ state. StandFor self.new (L.records log.new) (L.clock log.new) index (committed state session)) }
-        ensures leaves { Leaves 0 self.old self.new session
-            (L.records log.old) (L.records log.new) (L.clock log.old) (L.clock log.new) }
-    {
-        // for the proof: the transactions may be taken in any order; a session's number is below 8
-        transactions_share_tables();
-        let _number = session.number();
-        self.database.commit(log, session);
-        self.phases.set(session, Phase::Idle);
     }
 }

@@ -4,21 +4,19 @@ ghost use Rattle.sb_eval.specs.Statement as locks;
 ghost use Rattle.sb_index.specs.TableSets.{TableSets};
 ghost use Rattle.sb_process.specs.Made.{NumbersBelow};
 ghost use Rattle.sb_process.specs.Request.{AreThere};
-ghost use Rattle.sb_rawlog.specs.Records.{Record};
 ghost use Rattle.sb_tenant.specs.Perform.{perform};
-ghost use Rattle.sb_tenant.specs.Represents.{EachState, StandForSome, Comes, Leaves, Performs, StandAside, StandFor, phase_at};
+ghost use Rattle.sb_tenant.specs.Represents.{EachState, StandForSome, Leaves, Performs, StandFor, phase_at};
 ghost use Rattle.sb_tenant.specs.Resolved.{query as query_of, change as change_of};
 ghost use Rattle.sb_tenant.specs.State.{State};
 ghost use Rattle.sb_tenant.specs.declared.phase.Phase.TheVariants as phase;
 
 use crate::reply::Reply;
-use crate::store::{Replies, Store};
+use crate::store::{Replies, Store, tables_are_shared};
 use sb_check::{Query, Statement};
 use sb_index::RuleIndex;
-use sb_process::transactions_share_tables;
 use sb_rawlog::ChangeLog;
 use sb_rows::SharedRows;
-use sb_value::{Refusal, SessionId};
+use sb_value::SessionId;
 use std::alloc::{AllocError, Global};
 
 impl Store {
@@ -42,39 +40,14 @@ impl Store {
         ensures leaves { Leaves 0 self.old self.new session
             (L.records log.old) (L.records log.new) (L.clock log.old) (L.clock log.new) }
     {
-        match self.rows(alloc, session, query) {
+        tables_are_shared(session);
+        match self.database.select(alloc, session, query) {
             Ok(rows) => match shared(rows) {
                 Ok(replies) => replies,
                 Err(_) => self.run_out(log, session),
             },
             Err(refusal) => self.refuse(log, session, refusal),
         }
-    }
-
-    /// The rows themselves.
-    fn rows(
-        &mut self,
-        alloc: Global,
-        session: SessionId,
-        query: &Query,
-    ) -> Result<SharedRows, Refusal>
-        requires active { phase_at self.old.phases session ≡ phase.Active }
-        requires there { AreThere self.old.database.tables (locks.query_locks query.now) }
-        ensures comes { (records : List Record) (clock : ℕ) (index : List (List TableSets)) →
-            EachState self.old records clock index
-            (λ state. (bound : ℕ) →
-            Comes Reply.Rows (StandFor self.new records clock index)
-            (perform self.old.database.id bound state session (query_of query.now)) result) }
-        ensures aside { (records : List Record) (clock : ℕ) (index : List (List TableSets)) →
-            EachState self.old records clock index
-            (λ state. StandAside self.new records clock index state session) }
-        ensures id { self.new.database.id ≡ self.old.database.id }
-        ensures tables { self.new.database.tables ≡ self.old.database.tables }
-    {
-        // for the proof: the transactions may be taken in any order; a session's number is below 8
-        transactions_share_tables();
-        let _number = session.number();
-        self.database.select(alloc, session, query)
     }
 
     /// Makes the changes of a statement, once all its locks are taken, and counts them.
@@ -99,39 +72,11 @@ impl Store {
         ensures leaves { Leaves 4096 self.old self.new session
             (L.records log.old) (L.records log.new) (L.clock log.old) (L.clock log.new) }
     {
-        match self.count(alloc, log, index, session, statement) {
+        tables_are_shared(session);
+        match self.database.change(alloc, log, index, session, statement) {
             Ok(count) => (Reply::Count(count as u64), Reply::Count(count as u64)),
             Err(refusal) => self.refuse(log, session, refusal),
         }
-    }
-
-    /// The number of changes, which are made.
-    fn count<L: ChangeLog>(
-        &mut self,
-        alloc: Global,
-        log: &mut L,
-        index: &RuleIndex,
-        session: SessionId,
-        statement: &Statement,
-    ) -> Result<usize, Refusal>
-        requires stand { (state : State) × StandFor self.old (L.records log.old) (L.clock log.old) index.now state }
-        requires active { phase_at self.old.phases session ≡ phase.Active }
-        requires there { AreThere self.old.database.tables (locks.statement_locks statement.now) }
-        requires times { L.clock log.old < 2 ^ 63 }
-        requires numbers { NumbersBelow (2 ^ 63) self.old.database.tables }
-        ensures comes { EachState self.old (L.records log.old) (L.clock log.old) index.now
-            (λ state. (bound : ℕ) →
-            Comes Reply.Count (StandFor self.new (L.records log.new) (L.clock log.new) index.now)
-            (perform self.old.database.id bound state session (change_of statement.now)) result) }
-        ensures aside { EachState self.old (L.records log.old) (L.clock log.old) index.now
-            (λ state. StandAside self.new (L.records log.new) (L.clock log.new) index.now state session) }
-        ensures leaves { Leaves 4096 self.old self.new session
-            (L.records log.old) (L.records log.new) (L.clock log.old) (L.clock log.new) }
-    {
-        // for the proof: the transactions may be taken in any order; a session's number is below 8
-        transactions_share_tables();
-        let _number = session.number();
-        self.database.change(alloc, log, index, session, statement)
     }
 }
 

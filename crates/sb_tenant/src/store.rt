@@ -1,10 +1,16 @@
 //! What a tenant keeps in memory beside its trail, and how its sessions begin and end.
-ghost use Rattle.std.specs.Prelude.{◌≡◌, ◌≢◌, ℕ, List, []};
+ghost use Rattle.std.specs.Prelude.{◌≡◌, ◌≢◌, ℕ, List, [], true};
 ghost use Rattle.sb_index.specs.TableSets.{TableSets};
 ghost use Rattle.sb_rawlog.specs.Records.{Record};
 ghost use Rattle.sb_value.specs.Locks.{released};
 ghost use Rattle.sb_tables.specs.Held.{Held};
+ghost use Rattle.sb_process.specs.Sharing.{TablesAreShared};
 ghost use Rattle.sb_process.specs.Transactions.{mark_of, tested_of};
+ghost use Rattle.sb_rawlog.specs.Sessions.{OthersStay};
+ghost use Rattle.sb_process.specs.Made.{NumbersBelow};
+ghost use Rattle.sb_process.specs.Represents.{EachTransaction, IsTransaction, who_in};
+ghost use Rattle.sb_tenant.specs.Ending.{concluded, IsConcluded};
+ghost use Rattle.sb_tenant.specs.Limits.{is_session};
 ghost use Rattle.sb_tenant.specs.Represents.{EachState, StandForSome, Holds, Leaves, StandFor, phase_at};
 ghost use Rattle.sb_tenant.specs.State.{State, opening, closed, idle, active, with_session, rolled_back};
 ghost use Rattle.sb_tenant.specs.Trail.{aborted};
@@ -23,6 +29,15 @@ pub(crate) struct Store {
     pub(crate) database: Database,
     pub(crate) definitions: Definitions,
     pub(crate) phases: Phases,
+}
+
+/// How a session's transaction ends.
+#[derive(Clone, Copy)]
+pub(crate) enum Ending {
+    /// What it has changed is kept.
+    Keep,
+    /// All of it is taken back.
+    TakeBack,
 }
 
 /// The same reply twice, for the trail and for the answer.
@@ -55,9 +70,7 @@ impl Store {
             Holds origin self.old state → Holds origin self.new (with_session state session idle) }
         ensures database { self.new.database ≡ self.old.database }
     {
-        // for the proof: the transactions may be taken in any order; a session's number is below 8
-        transactions_share_tables();
-        let _number = session.number();
+        tables_are_shared(session);
         self.phases.set(session, Phase::Idle);
     }
 
@@ -85,9 +98,7 @@ impl Store {
         ensures id { self.new.database.id ≡ self.old.database.id }
         ensures tables { self.new.database.tables ≡ self.old.database.tables }
     {
-        // for the proof: the transactions may be taken in any order; a session's number is below 8
-        transactions_share_tables();
-        let _number = session.number();
+        tables_are_shared(session);
         self.database.locks.release(session);
         self.phases.set(session, Phase::Closed);
     }
@@ -101,28 +112,24 @@ impl Store {
         ensures tables { self.new.database.tables ≡ self.old.database.tables }
         ensures id { self.new.database.id ≡ self.old.database.id }
     {
-        // for the proof: the transactions may be taken in any order; a session's number is below 8
-        transactions_share_tables();
-        let _number = session.number();
+        tables_are_shared(session);
         self.database.begin(session);
         self.phases.set(session, Phase::Active);
     }
 
-    /// Takes a session's transaction back.
-    pub(crate) fn roll_back<L: ChangeLog>(&mut self, log: &mut L, session: SessionId)
+    /// Ends a session's transaction: it is kept, or taken back.
+    pub(crate) fn conclude<L: ChangeLog>(&mut self, log: &mut L, session: SessionId, ending: Ending)
         requires stand { StandForSome self.old (L.records log.old) (L.clock log.old) }
         requires active { phase_at self.old.phases session ≡ Phase.Active }
-        ensures rolled_back { (index : List (List TableSets)) →
+        ensures concluded { (index : List (List TableSets)) →
             EachState self.old (L.records log.old) (L.clock log.old) index
-            (λ state. StandFor self.new (L.records log.new) (L.clock log.new) index (rolled_back state session)) }
+            (λ state. StandFor self.new (L.records log.new) (L.clock log.new) index (concluded ending state session)) }
         ensures leaves { Leaves 0 self.old self.new session
             (L.records log.old) (L.records log.new) (L.clock log.old) (L.clock log.new) }
         ensures idle { phase_at self.new.phases session ≡ Phase.Idle }
     {
-        // for the proof: the transactions may be taken in any order; a session's number is below 8
-        transactions_share_tables();
-        let _number = session.number();
-        self.database.rollback(log, session);
+        tables_are_shared(session);
+        end_in(&mut self.database, log, session, ending);
         self.phases.set(session, Phase::Idle);
     }
 
@@ -139,9 +146,35 @@ impl Store {
         // for the proof: a session's number is below 8
         let _number = session.number();
         match self.phases.get(session) {
-            Phase::Active => self.roll_back(log, session),
+            Phase::Active => self.conclude(log, session, Ending::TakeBack),
             Phase::Idle => {}
             Phase::Closed => {}
         }
     }
+}
+
+/// Ends the transaction in the database.
+fn end_in<L: ChangeLog>(database: &mut Database, log: &mut L, session: SessionId, ending: Ending)
+    requires { IsTransaction database.old session (L.records log.old) (L.clock log.old) }
+    ensures concluded { EachTransaction database.old session (L.records log.old) (L.clock log.old)
+        (λ origin setting progress.
+        IsConcluded ending origin database.old database.new session (L.records log.new) setting progress) }
+    ensures others { OthersStay (who_in database.old session) (L.records log.old) (L.records log.new) }
+    ensures clock { L.clock log.new ≡ L.clock log.old }
+    ensures transactions { database.new.transactions ≡ database.old.transactions }
+    ensures numbers { (n : ℕ) → NumbersBelow n database.old.tables → NumbersBelow n database.new.tables }
+{
+    match ending {
+        Ending::Keep => database.commit(log, session),
+        Ending::TakeBack => database.rollback(log, session),
+    }
+}
+
+/// For the proofs: the transactions may be taken in any order, and a session's number is below 8.
+pub(crate) fn tables_are_shared(session: SessionId)
+    ensures laws { TablesAreShared }
+    ensures in_range { is_session session ≡ true }
+{
+    transactions_share_tables();
+    let _number = session.number();
 }

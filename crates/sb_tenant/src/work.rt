@@ -14,7 +14,8 @@ ghost use Rattle.sb_tenant.specs.Walk.{class_of, walk};
 use crate::answer::{done, refused};
 use crate::asker::Asker;
 use crate::names::Names;
-use crate::store::{Replies, Store};
+use crate::processing::Finish;
+use crate::store::{Ending, Replies, Store};
 use sb_check::{resolve_query, resolve_statement, resolved_tables_are_there, walks_see_columns};
 use sb_index::RuleIndex;
 use sb_rawlog::ChangeLog;
@@ -48,26 +49,42 @@ impl Store {
             (L.records log.old) (L.records log.new) (L.clock log.old) (L.clock log.new) }
     {
         match command {
-            Command::Commit => self.commit(alloc, log, index, asker),
+            Command::Commit => {
+                let eligible = self.definitions.active();
+                self.process(alloc, log, index, asker, eligible, Finish::Commit)
+            }
             Command::Rollback => {
-                self.roll_back(log, asker.session);
+                self.conclude(log, asker.session, Ending::TakeBack);
                 done()
             }
             Command::ProcessRules => {
                 let eligible = self.definitions.active();
-                self.process(alloc, log, index, asker, eligible)
+                self.process(alloc, log, index, asker, eligible, Finish::GoOn)
             }
             Command::ProcessRuleset(name) => match self.definitions.active_members(&name) {
-                Some(eligible) => self.process(alloc, log, index, asker, eligible),
+                Some(eligible) => self.process(alloc, log, index, asker, eligible, Finish::GoOn),
                 None => refused(Refusal::NoRuleset),
             },
             Command::ProcessRule(name) => match self.definitions.active_rule(&name) {
-                Some(eligible) => self.process(alloc, log, index, asker, eligible),
+                Some(eligible) => self.process(alloc, log, index, asker, eligible, Finish::GoOn),
                 None => refused(Refusal::NoRule),
             },
             Command::Query(query) => self.query(alloc, log, asker.session, &query),
             Command::Change(change) => self.write(alloc, log, index, asker.session, &change),
-            _ => unreachable!(),
+            Command::OpenSession
+            | Command::EndSession
+            | Command::Begin
+            | Command::CreateTable(_, _)
+            | Command::DropTable(_)
+            | Command::CreateRule(_)
+            | Command::AlterRule(_)
+            | Command::DropRule(_)
+            | Command::ActivateRule(_)
+            | Command::DeactivateRule(_)
+            | Command::CreateRuleset(_)
+            | Command::DropRuleset(_)
+            | Command::AddRules(_, _)
+            | Command::DelRules(_, _) => unreachable!(),
         }
     }
 

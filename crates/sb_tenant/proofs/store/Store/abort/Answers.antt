@@ -7,8 +7,8 @@ use Rattle.sb_tenant.proofs.store.Store.abort.Goals as goal
 pub returns-in-Active-clause-aborted : goal.returns-in-Active-clause-aborted
 returns-in-Active-clause-aborted g c = λ index state st.
     let s = c.args.session in let is = number-below s c.number-number.result c.number-number.ensures.value c.number-number.ensures.in_range in
-    subst (StandFor c.roll_back.new.self (g.L.ChangeLog.records c.roll_back.new.log) (g.L.ChangeLog.clock c.roll_back.new.log) index)
-    (sym (aborted-active state s (has-active (session_at state s) (sym (st.0.1.phases s is) ∙ sym c.in-Active.ensures)))) (c.roll_back.ensures.rolled_back index state st)
+    subst (StandFor c.conclude.new.self (g.L.ChangeLog.records c.conclude.new.log) (g.L.ChangeLog.clock c.conclude.new.log) index)
+    (sym (aborted-active state s (has-active (session_at state s) (sym (st.0.1.phases s is) ∙ sym c.in-Active.ensures)))) (c.conclude.ensures.concluded index state st)
 
 pub returns-in-Idle-clause-aborted : goal.returns-in-Idle-clause-aborted
 returns-in-Idle-clause-aborted g c = λ index state st.

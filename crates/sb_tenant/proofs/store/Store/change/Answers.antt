@@ -1,18 +1,32 @@
-use Rattle.std.proofs.Common.{inl, sym}
+use Rattle.std.proofs.Common.{inl, sym, refl}
 use Rattle.sb_tenant.specs.Perform.{perform}
 use Rattle.sb_tenant.specs.Resolved.{change}
-use Rattle.sb_tenant.proofs.Leaving.{leaves_on}
+use Rattle.sb_tenant.proofs.Calls.{called, transaction-of, count-comes, count-aside}
+use Rattle.sb_tenant.proofs.Leaving.{leaves_on, leaves_changed}
 use Rattle.sb_tenant.proofs.store.Store.change.Goals as goal
 
+pub change-requires-clause-transaction : goal.change-requires-clause-transaction
+change-requires-clause-transaction g c = transaction-of c.tables_are_shared.ensures.laws c.tables_are_shared.ensures.in_range c.requires.stand.1
+
 pub refuse-requires : goal.refuse-requires
-refuse-requires g c = let w = c.count.ensures.aside c.requires.stand.0 c.requires.stand.1 in (c.args.index.now, w.0, w.1)
+refuse-requires g c =
+    let call = called c.args.self.now c.change.new.self c.args.self.now.phases c.change.ensures.id c.change.ensures.others c.change.ensures.times.0 c.change.ensures.sessions (λ o other. refl) in
+    let w = count-aside c.tables_are_shared.ensures.laws c.tables_are_shared.ensures.in_range c.requires.stand.1 call c.requires.active c.requires.active c.args.statement.now c.in-Err.ensures.changed in (c.args.index.now, w.0, w.1)
 
 pub returns-in-Ok-clause-performed : goal.returns-in-Ok-clause-performed
-returns-in-Ok-clause-performed g c = λ state st bound. let comes = c.in-Ok.ensures.comes state st bound in inl (sym comes.0, comes.1)
+returns-in-Ok-clause-performed g c = λ state st bound.
+    let call = called c.args.self.now c.change.new.self c.args.self.now.phases c.change.ensures.id c.change.ensures.others c.change.ensures.times.0 c.change.ensures.sessions (λ o other. refl) in
+    let comes = count-comes c.tables_are_shared.ensures.laws c.tables_are_shared.ensures.in_range st call c.requires.active c.requires.active c.args.statement.now c.in-Ok.ensures.changed bound in inl (sym comes.0, comes.1)
 
 pub returns-in-Err-clause-performed : goal.returns-in-Err-clause-performed
 returns-in-Err-clause-performed g c = λ state st bound.
-    c.refuse.ensures.refused c.args.index.now state (perform c.args.self.now.database.id bound state c.args.session (change c.args.statement.now)) (c.count.ensures.aside state st) (c.in-Err.ensures.comes state st bound)
+    let laws = c.tables_are_shared.ensures.laws in let is = c.tables_are_shared.ensures.in_range in
+    let call = called c.args.self.now c.change.new.self c.args.self.now.phases c.change.ensures.id c.change.ensures.others c.change.ensures.times.0 c.change.ensures.sessions (λ o other. refl) in
+    c.refuse.ensures.refused c.args.index.now state (perform c.args.self.now.database.id bound state c.args.session (change c.args.statement.now))
+    (count-aside laws is st call c.requires.active c.requires.active c.args.statement.now c.in-Err.ensures.changed) (count-comes laws is st call c.requires.active c.requires.active c.args.statement.now c.in-Err.ensures.changed bound)
+
+pub returns-in-Ok-clause-leaves : goal.returns-in-Ok-clause-leaves
+returns-in-Ok-clause-leaves g c = leaves_changed c.change.ensures.id c.change.ensures.others c.change.ensures.times c.change.ensures.numbers
 
 pub returns-in-Err-clause-leaves : goal.returns-in-Err-clause-leaves
-returns-in-Err-clause-leaves g c = leaves_on c.count.ensures.leaves c.refuse.ensures.leaves
+returns-in-Err-clause-leaves g c = leaves_on (leaves_changed c.change.ensures.id c.change.ensures.others c.change.ensures.times c.change.ensures.numbers) c.refuse.ensures.leaves

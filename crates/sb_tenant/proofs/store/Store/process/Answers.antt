@@ -1,17 +1,31 @@
 use Rattle.std.proofs.Common.{◌∙◌, inl, sym, ap, arith}
 use Rattle.sb_catalog.specs.declared.definitions.Definitions.{Definitions}
+use Rattle.sb_process.specs.Process.{process}
+use Rattle.sb_process.specs.Running.{is_done}
 use Rattle.sb_tenant.specs.Perform.{named, reply_of}
+use Rattle.sb_tenant.specs.State.{setting_of, progress_of}
 use Rattle.sb_tenant.proofs.Leaving.{leaves_on, leaves_more}
 use Rattle.sb_tenant.proofs.store.Store.process.Goals as goal
 
+pub finish-requires-clause-stand : goal.finish-requires-clause-stand
+finish-requires-clause-stand g c = let w = c.run.ensures.aside c.requires.stand.0 c.requires.stand.1 in (c.args.index.now, w.0, w.1)
+
+pub finish-requires-clause-active : goal.finish-requires-clause-active
+finish-requires-clause-active g c = λ e. c.in-Ok.ensures.under_way (sym c.is_done.ensures ∙ e)
+
 pub returns-in-Ok-told-clause-performed : goal.returns-in-Ok-told-clause-performed
 returns-in-Ok-told-clause-performed g c = λ state st chosen flags.
+    let s = c.args.asker.now.session in
     let found = c.in-Ok.ensures.found state st chosen flags in
     let tells = c.in-Ok-told.ensures.told state.catalog (sym st.0.1.rules ∙ sym (ap (λ (d : Definitions). d.rules) c.run.ensures.definitions)) in
-    inl (tells ∙ (λ i. reply_of state.catalog (found.outcome i) (named state.catalog (found.trace i))), found.stands)
+    let meant = process c.args.asker.now.bound (setting_of c.args.self.now.database.id state s) chosen (progress_of state s) in
+    inl (
+      tells ∙ (λ i. reply_of state.catalog (found.outcome i) (named state.catalog (found.trace i))),
+      c.finish.ensures.finished c.args.index.now state meant.outcome meant.progress (sym (ap is_done found.outcome) ∙ sym c.is_done.ensures) found.stands,
+    )
 
 pub returns-in-Ok-told-clause-leaves : goal.returns-in-Ok-told-clause-leaves
-returns-in-Ok-told-clause-leaves g c = leaves_more c.run.ensures.leaves (omega (arith, c.requires.bound))
+returns-in-Ok-told-clause-leaves g c = leaves_more (leaves_on c.run.ensures.leaves c.finish.ensures.leaves) (omega (arith, c.requires.bound))
 
 pub returns-in-Ok-clause-performed : goal.returns-in-Ok-clause-performed
 returns-in-Ok-clause-performed g c = λ state st chosen flags. c.run_out.ensures.performed c.args.index.now state _ (c.run.ensures.aside state st)
