@@ -1,5 +1,5 @@
 -- An index and an order of rules that follow the rules.
-use Rattle.std.proofs.Math.Bool.{or_assoc}
+use Rattle.std.proofs.Math.Bool.{or_assoc, and-false, and-true}
 use Rattle.std.proofs.Common.{◌≡◌, ◌∙◌, ℕ, Bool, true, false, true≢false, not, ◌&&◌, ◌||◌, cond, nat_eq, List, [], ◌∷◌, ◌++◌, map, filter, Some, None, refl, sym, ap, eqb-true, eq-eqb, ne_eqb}
 use Rattle.std.specs.List.{list_any}
 use Rattle.std.specs.Cmp.{eq_by_cmp_equiv}
@@ -47,38 +47,22 @@ module _ (table : ℕ) (operation : Operation) (id : ℕ) where
       by false true = refl
       by false false = refl
 
-  -- a rule under another number has nothing to do with it
-  none_other : (gone : ℕ) (r : Rule) → nat_eq r.id gone ≡ true → (has r && not (nat_eq id gone)) ≡ false
-  none_other gone r e = by r.active (nat_eq r.table table) (nat_eq r.id id) refl
+  -- what is taken from the rule is taken where the rule has the number that goes
+  taken : (gone : ℕ) (r : Rule) (same : Bool) → nat_eq r.id gone ≡ same → (has r && not (nat_eq id gone)) ≡ (has r && not same)
+  taken gone r same e = by r.active (nat_eq r.table table) (nat_eq r.id id) refl
     where
-      same : nat_eq r.id id ≡ true → nat_eq id gone ≡ true
-      same f = eq-eqb id gone (sym (eqb-true r.id id f) ∙ eqb-true r.id gone e)
-
-      by : (a b c : Bool) → nat_eq r.id id ≡ c → ((a && (b && (c && names r.triggers operation))) && not (nat_eq id gone)) ≡ false
-      by true true true f = (λ i. names r.triggers operation && not (same f i)) ∙ last (names r.triggers operation)
-        where
-          last : (b : Bool) → (b && false) ≡ false
-          last true = refl
-          last false = refl
+      by : (a b c : Bool) → nat_eq r.id id ≡ c → ((a && (b && (c && names r.triggers operation))) && not (nat_eq id gone)) ≡ ((a && (b && (c && names r.triggers operation))) && not same)
+      by true true true f = ap (λ (d : Bool). names r.triggers operation && not d) (ap (λ (n : ℕ). nat_eq n gone) (sym (eqb-true r.id id f)) ∙ e)
       by true true false f = refl
       by true false c f = refl
       by false b c f = refl
+
+  -- a rule under that number keeps nothing, and another one has nothing to do with it
+  none_other : (gone : ℕ) (r : Rule) → nat_eq r.id gone ≡ true → (has r && not (nat_eq id gone)) ≡ false
+  none_other gone r e = taken gone r true e ∙ and-false (has r)
 
   still : (gone : ℕ) (r : Rule) → nat_eq r.id gone ≡ false → (has r && not (nat_eq id gone)) ≡ has r
-  still gone r e = by r.active (nat_eq r.table table) (nat_eq r.id id) refl
-    where
-      other : nat_eq r.id id ≡ true → nat_eq id gone ≡ false
-      other f = (λ i. nat_eq (sym (eqb-true r.id id f) i) gone) ∙ e
-
-      by : (a b c : Bool) → nat_eq r.id id ≡ c → ((a && (b && (c && names r.triggers operation))) && not (nat_eq id gone)) ≡ (a && (b && (c && names r.triggers operation)))
-      by true true true f = (λ i. names r.triggers operation && not (other f i)) ∙ last (names r.triggers operation)
-        where
-          last : (b : Bool) → (b && true) ≡ b
-          last true = refl
-          last false = refl
-      by true true false f = refl
-      by true false c f = refl
-      by false b c f = refl
+  still gone r e = taken gone r false e ∙ and-true (has r)
 
   spread : (a b c : Bool) → ((a || b) && c) ≡ ((a && c) || (b && c))
   spread true b true = refl

@@ -58,20 +58,8 @@ impl Definitions {
         ensures indexed { AreIndexed index.old tenant self.old.rules → AreIndexed index.new tenant self.new.rules }
         ensures others { OtherTenantsStay tenant index.old index.new }
     {
-        let before = match self.numbers(alloc, text.precedes.as_slice()) {
-            Ok(before) => before,
-            Err(refusal) => {
-                drop(parts);
-                return Err(refusal);
-            }
-        };
-        let after = match self.numbers(alloc, text.follows.as_slice()) {
-            Ok(after) => after,
-            Err(refusal) => {
-                drop(parts);
-                return Err(refusal);
-            }
-        };
+        let before = self.numbers(alloc, text.precedes.as_slice())?;
+        let after = self.numbers(alloc, text.follows.as_slice())?;
         if !self.rules.has_room() {
             drop(parts);
             return Err(Refusal::TooManyRules);
@@ -141,27 +129,9 @@ impl Definitions {
         ensures altered { AltersInOrder self.old self.new rule (alteration text.now) (new_parts parts) result }
         ensures indexed { StayIndexed self.old.rules self.new.rules }
     {
-        let before = match self.numbers(alloc, text.precedes.as_slice()) {
-            Ok(before) => before,
-            Err(refusal) => {
-                drop(parts);
-                return Err(refusal);
-            }
-        };
-        let after = match self.numbers(alloc, text.follows.as_slice()) {
-            Ok(after) => after,
-            Err(refusal) => {
-                drop(parts);
-                return Err(refusal);
-            }
-        };
-        let apart = match self.numbers(alloc, text.nopriority.as_slice()) {
-            Ok(apart) => apart,
-            Err(refusal) => {
-                drop(parts);
-                return Err(refusal);
-            }
-        };
+        let before = self.numbers(alloc, text.precedes.as_slice())?;
+        let after = self.numbers(alloc, text.follows.as_slice())?;
+        let apart = self.numbers(alloc, text.nopriority.as_slice())?;
         match self.order.alter(rule, before.as_slice(), after.as_slice(), apart.as_slice()) {
             Ok(()) => {
                 let _ = self.rules.alter(&text.name, parts);

@@ -17,7 +17,7 @@ returns-in-Ok-push_rule-clause-created c = λ pairs o.
     let rules = c.args.self.now.rules in (
       pairs_of c.free_rule-rule.result c.as_slice-3.result.now c.as_slice-4.result.now,
       pairs_known rules pairs c.args.text.now.precedes.items c.args.text.now.follows.items c.as_slice-3.result.now c.as_slice-4.result.now c.free_rule-rule.result
-          (ap (rules_named rules) (sym c.as_slice.ensures.value) ∙ c.in-Ok.ensures ∙ ap Ok (sym c.as_slice-3.ensures.value)) (ap (rules_named rules) (sym c.as_slice-2.ensures.value) ∙ c.in-Ok-numbers.ensures ∙ ap Ok (sym c.as_slice-4.ensures.value)) (sym c.has_room.ensures ∙ c.if-not-has_room.false) c.free_rule-rule.ensures.least
+          (ap (rules_named rules) (sym c.as_slice.ensures.value) ∙ c.in_ok-before.ensures ∙ ap Ok (sym c.as_slice-3.ensures.value)) (ap (rules_named rules) (sym c.as_slice-2.ensures.value) ∙ c.in_ok-after.ensures ∙ ap Ok (sym c.as_slice-4.ensures.value)) (sym c.has_room.ensures ∙ c.if-not-has_room.false) c.free_rule-rule.ensures.least
           ∙ p.0,
       p.1,
       p.2,
@@ -29,7 +29,7 @@ returns-in-Ok-push_rule-clause-indexed c = λ h table operation id.
     let rules = c.args.self.now.rules in
     let rule : Rule = rule_of c.free_rule-rule.result c.args.text.now.name (rule_parts c.args.parts) in
     let p = c.in-Ok-push_rule.ensures c.requires.ordered.0 c.requires.ordered.1 in
-    c.in-Ok-add_rule.ensures.added c.args.tenant table operation id
+    c.in-Ok.ensures.added c.args.tenant table operation id
     ∙ (λ i. h table operation id i || (same_number c.args.tenant i && added table operation id rule i))
     ∙ sym (one_more table operation id rules rule)
     ∙ ap (λ (n : ℕ). list_any (has table operation id) (rules ++ rule_of n c.args.text.now.name (rule_parts c.args.parts) ∷ [])) c.free_rule-rule.ensures.least
@@ -37,10 +37,10 @@ returns-in-Ok-push_rule-clause-indexed c = λ h table operation id.
 
 pub returns-clause-created : goal.returns-clause-created
 returns-clause-created c = λ pairs o.
-    let p = c.in-Err-push_rule.ensures pairs o in
+    let p = c.in-Err.ensures pairs o in
     let rules = c.args.self.now.rules in
     let known = pairs_known rules pairs c.args.text.now.precedes.items c.args.text.now.follows.items c.as_slice-3.result.now c.as_slice-4.result.now c.free_rule-rule.result
-    (ap (rules_named rules) (sym c.as_slice.ensures.value) ∙ c.in-Ok.ensures ∙ ap Ok (sym c.as_slice-3.ensures.value)) (ap (rules_named rules) (sym c.as_slice-2.ensures.value) ∙ c.in-Ok-numbers.ensures ∙ ap Ok (sym c.as_slice-4.ensures.value)) (sym c.has_room.ensures ∙ c.if-not-has_room.false) c.free_rule-rule.ensures.least in
+    (ap (rules_named rules) (sym c.as_slice.ensures.value) ∙ c.in_ok-before.ensures ∙ ap Ok (sym c.as_slice-3.ensures.value)) (ap (rules_named rules) (sym c.as_slice-2.ensures.value) ∙ c.in_ok-after.ensures ∙ ap Ok (sym c.as_slice-4.ensures.value)) (sym c.has_room.ensures ∙ c.if-not-has_room.false) c.free_rule-rule.ensures.least in
     (elim p.0 [ inl e ↦ inl (known ∙ e) | inr e ↦ inr e ], p.1)
 
 pub returns-clause-indexed : goal.returns-clause-indexed
@@ -48,13 +48,13 @@ returns-clause-indexed c = λ h table operation id.
     let rules = c.args.self.now.rules in
     let triggers = c.args.parts.triggers in
     let n = c.free_rule-rule.result in
-    let p = c.in-Err-push_rule.ensures c.requires.ordered.0 c.requires.ordered.1 in
+    let p = c.in-Err.ensures c.requires.ordered.0 c.requires.ordered.1 in
     c.drop_rule.ensures c.args.tenant table operation id
-    ∙ (λ i. (c.in-Ok-add_rule.ensures.added c.args.tenant table operation id ∙ (λ j. h table operation id j || (same_number c.args.tenant j && ((nat_eq table c.args.parts.table && nat_eq id n) && names triggers operation)))) i && not (same_number c.args.tenant i && nat_eq id n))
+    ∙ (λ i. (c.in-Ok.ensures.added c.args.tenant table operation id ∙ (λ j. h table operation id j || (same_number c.args.tenant j && ((nat_eq table c.args.parts.table && nat_eq id n) && names triggers operation)))) i && not (same_number c.args.tenant i && nat_eq id n))
     ∙ undone table operation id n rules (nat_eq table c.args.parts.table) (names triggers operation) c.free_rule-rule.ensures.free
     ∙ ap (λ (d : Definitions). list_any (has table operation id) d.rules) (sym p.1)
 
 pub push_rule-requires-clause-others : goal.push_rule-requires-clause-others
 push_rule-requires-clause-others c =
     let rules = c.args.self.now.rules in
-    all_there rules c.args.text.now.precedes.items c.as_slice-3.result.now (ap (rules_named rules) (sym c.as_slice.ensures.value) ∙ c.in-Ok.ensures ∙ ap Ok (sym c.as_slice-3.ensures.value))
+    all_there rules c.args.text.now.precedes.items c.as_slice-3.result.now (ap (rules_named rules) (sym c.as_slice.ensures.value) ∙ c.in_ok-before.ensures ∙ ap Ok (sym c.as_slice-3.ensures.value))
