@@ -8,12 +8,13 @@ use Rattle.sb_value.specs.declared.value.Value.{Value}
 use Rattle.sb_value.specs.declared.change.Change.{Change}
 use Rattle.sb_check.specs.Condition.{Condition}
 use Rattle.sb_check.specs.declared.tree.Assignment.{Assignment}
-use Rattle.sb_plan.specs.Seen.{Seen}
+use Rattle.sb_plan.specs.Seen.{Seen, rows_in}
 use Rattle.sb_eval.specs.Statement.{update_change, assigned, scope_of, found, places_of}
-use Rattle.sb_eval.specs.Effect.{with_change}
+use Rattle.sb_eval.specs.Effect.{change_of, with_change}
+use Rattle.sb_eval.specs.declared.change.TableWalk.{TableWalk}
 use Rattle.sb_plan.specs.Scopes.{value_seen}
 use Rattle.sb_plan.specs.declared.value_ref.ValueRef.{ValueRef}
-use Rattle.sb_plan.specs.Meaning.{both, each, passing}
+use Rattle.sb_plan.specs.Meaning.{both, each, holds, passing}
 use Rattle.sb_plan.specs.RowFlags.{Tell}
 
 abbrev pub Numbered : Type 0
@@ -26,6 +27,12 @@ changes_from test change rows = option_and_then (each change) (passing test rows
 -- those done before the others
 abbrev pub all_after : List Change → Option (List Change) → Option (List Change)
 all_after done more = option_map (λ rest. done ++ rest) more
+
+-- what is made of the rows that are left, behind the changes so far
+abbrev pub made_behind : {S : Type 0} → (S → Seen) → TableWalk S → List Change → List Numbered → Option (List Change)
+made_behind seen walk done left =
+    let here = seen walk.sources.now in
+    all_after done (changes_from (λ r. holds (rows_in here) walk.filter.now (scope_of r)) (change_of here walk.table walk.effect.now) left)
 
 one-first : (done : List Change) (c : Option Change) (rest : Option (List Change))
     → all_after done (both (λ y ys. Some (y ∷ ys)) c rest) ≡ option_and_then (λ next. all_after next rest) (option_map (λ x. done ++ x ∷ []) c)

@@ -110,6 +110,13 @@ fits_of Inserted c table keeps e s = absurd keeps
 fits_of Deleted c table keeps e s = (e, s, keeps)
 fits_of Updated c table keeps e s = (e, s, keeps)
 
+-- a row in front of rows that have the same row of a number
+behind : (r : Numbered) (n : ℕ) (left rows : List Numbered) (b : Bool) → row_in left n ≡ row_in rows n →
+    option_map (λ (q : Numbered). q.1) (cond b (Some r) (find (λ (q : Numbered). nat_eq q.0 n) left))
+    ≡ option_map (λ (q : Numbered). q.1) (cond b (Some r) (find (λ (q : Numbered). nat_eq q.0 n) rows))
+behind r n left rows true e = refl
+behind r n left rows false e = e
+
 without_other : (x n : ℕ) (rows : List Numbered) → nat_eq x n ≡ false → row_in (filter (λ (r : Numbered). not (nat_eq r.0 x)) rows) n ≡ row_in rows n
 without_other x n [] h = refl
 without_other x n (r ∷ rows) h = by (nat_eq r.0 x) refl (without_other x n rows h)
@@ -120,13 +127,7 @@ without_other x n (r ∷ rows) h = by (nat_eq r.0 x) refl (without_other x n row
     by : (b : Bool) → nat_eq r.0 x ≡ b → row_in left n ≡ row_in rows n → row_in (cond (not b) (r ∷ left) left) n ≡ row_in (r ∷ rows) n
     by true p rest =
         rest ∙ ap (λ (b : Bool). option_map (λ (q : Numbered). q.1) (cond b (Some r) (find (λ (q : Numbered). nat_eq q.0 n) rows))) (sym (ap (λ m. nat_eq m n) (eqb-true r.0 x p) ∙ h))
-    by false p rest = by_next (nat_eq r.0 n) rest
-      where
-        by_next : (b : Bool) → row_in left n ≡ row_in rows n →
-            option_map (λ (q : Numbered). q.1) (cond b (Some r) (find (λ (q : Numbered). nat_eq q.0 n) left))
-            ≡ option_map (λ (q : Numbered). q.1) (cond b (Some r) (find (λ (q : Numbered). nat_eq q.0 n) rows))
-        by_next true e = refl
-        by_next false e = e
+    by false p rest = behind r n left rows (nat_eq r.0 n) rest
 
 replaced_other : (x n : ℕ) (row : List Value) (rows : List Numbered) → nat_eq x n ≡ false → row_in (map (λ (r : Numbered). cond (nat_eq r.0 x) (x, row) r) rows) n ≡ row_in rows n
 replaced_other x n row [] h = refl
@@ -140,13 +141,7 @@ replaced_other x n row (r ∷ rows) h = by (nat_eq r.0 x) refl (replaced_other x
         ap (λ (b : Bool). option_map (λ (q : Numbered). q.1) (cond b (Some (x, row)) (find (λ (q : Numbered). nat_eq q.0 n) left))) h
         ∙ rest
         ∙ ap (λ (b : Bool). option_map (λ (q : Numbered). q.1) (cond b (Some r) (find (λ (q : Numbered). nat_eq q.0 n) rows))) (sym (ap (λ m. nat_eq m n) (eqb-true r.0 x p) ∙ h))
-    by false p rest = by_next (nat_eq r.0 n) rest
-      where
-        by_next : (b : Bool) → row_in left n ≡ row_in rows n →
-            option_map (λ (q : Numbered). q.1) (cond b (Some r) (find (λ (q : Numbered). nat_eq q.0 n) left))
-            ≡ option_map (λ (q : Numbered). q.1) (cond b (Some r) (find (λ (q : Numbered). nat_eq q.0 n) rows))
-        by_next true e = refl
-        by_next false e = e
+    by false p rest = behind r n left rows (nat_eq r.0 n) rest
 
 row_stays : (k : Kind) (c : Change) (table : Table) (n : ℕ) → KeepsNumber k c → nat_eq c.tuple n ≡ false → row_in (after_kind k c table).rows n ≡ row_in table.rows n
 row_stays Inserted c table n keeps h = absurd keeps

@@ -25,6 +25,31 @@ pub(crate) enum Effect<'a> {
     Update(&'a [Assignment], Columns),
 }
 
+/// The change of a row of the table by the session that the statement is of.
+fn change_by<S: Sources>(
+    sources: &S,
+    table: TableId,
+    tuple: u64,
+    kind: Kind,
+    old: Option<Row>,
+    new: Option<Row>,
+    columns: Columns,
+) -> Change
+    ensures { result ≡ record { tenant = (S.seen sources.now).who.tenant; session = (S.seen sources.now).who.session; table = table; tuple = tuple; kind = kind; old = old; new = new; columns = columns } }
+{
+    let who = sources.who();
+    Change {
+        tenant: who.tenant,
+        session: who.session,
+        table,
+        tuple,
+        kind,
+        old,
+        new,
+        columns,
+    }
+}
+
 /// The insert of a row under a number.
 pub(crate) fn insert_change<S: Sources>(
     sources: &S,
@@ -34,34 +59,32 @@ pub(crate) fn insert_change<S: Sources>(
 ) -> Change
     ensures { result ≡ spec.insert_change (S.seen sources.now) table number row }
 {
-    let who = sources.who();
-    Change {
-        tenant: who.tenant,
-        session: who.session,
+    let columns = Columns::empty();
+    change_by(
+        sources,
         table,
-        tuple: number,
-        kind: Kind::Inserted,
-        old: None,
-        new: Some(row),
-        columns: Columns::empty(),
-    }
+        number,
+        Kind::Inserted,
+        None,
+        Some(row),
+        columns,
+    )
 }
 
 /// The delete of a numbered row.
 fn delete_change<S: Sources>(sources: &S, table: TableId, number: u64, row: Row) -> Change
     ensures { result ≡ spec.delete_change (S.seen sources.now) table (number, row) }
 {
-    let who = sources.who();
-    Change {
-        tenant: who.tenant,
-        session: who.session,
+    let columns = Columns::empty();
+    change_by(
+        sources,
         table,
-        tuple: number,
-        kind: Kind::Deleted,
-        old: Some(row),
-        new: None,
-        columns: Columns::empty(),
-    }
+        number,
+        Kind::Deleted,
+        Some(row),
+        None,
+        columns,
+    )
 }
 
 /// The update of a numbered row to another row.
@@ -75,17 +98,15 @@ fn update_change<S: Sources>(
 ) -> Change
     ensures { result ≡ spec.update_change (S.seen sources.now) table columns (number, old) new }
 {
-    let who = sources.who();
-    Change {
-        tenant: who.tenant,
-        session: who.session,
+    change_by(
+        sources,
         table,
-        tuple: number,
-        kind: Kind::Updated,
-        old: Some(old),
-        new: Some(new),
+        number,
+        Kind::Updated,
+        Some(old),
+        Some(new),
         columns,
-    }
+    )
 }
 
 /// The columns that assignments name.
