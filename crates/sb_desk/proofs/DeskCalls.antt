@@ -17,7 +17,7 @@ use Rattle.sb_cell.specs.Hosting.{entry_count}
 use Rattle.sb_cell.specs.Tenants.{AnswersBy, AnswersEvent, Cell, hosts, trails, states}
 use Rattle.sb_desk.specs.Kept.{IsDesk, Place, SeatAt}
 use Rattle.sb_desk.specs.Desks.{open_in}
-use Rattle.sb_desk.specs.Receipts.{closes, is_end}
+use Rattle.sb_desk.specs.Receipts.{Receipts, closes, is_end}
 use Rattle.sb_desk.specs.Seats.{IsSeat, SessionSeat, number_of}
 use Rattle.sb_desk.proofs.CellSteps.{beside, entries_by}
 use Rattle.sb_desk.proofs.DeskSteps.{hosted_by, kept}
@@ -36,6 +36,19 @@ end_line = refl
 
 pub end_closes : closes (codes "end") told.Ok ≡ true
 end_closes = ap (λ (c : Option Command). is_end c && true) end_line
+
+-- ---- the session of the receipts
+
+pub own : (cells : ℕ) {first t : ℕ} {r old : Receipts} → t ≡ r.tenant → r ≡ old → old.tenant % cells ≡ first → t % cells ≡ first
+own cells is same mine = ap (λ (n : ℕ). n % cells) (is ∙ ap (λ (r : Receipts). r.tenant) same) ∙ mine
+
+-- it is open
+pub opened : {inside middle cell : Cell} {t s : ℕ} {r old : Receipts} → inside ≡ middle → t ≡ r.tenant → s ≡ r.session → (middle ≡ cell) × (r ≡ old) → open_in cell old.tenant old.session ≡ true → open_in inside t s ≡ true
+opened view tenant session same up =
+    let at = view ∙ same.0 in
+    let t_is = tenant ∙ ap (λ (r : Receipts). r.tenant) same.1 in
+    let s_is = session ∙ ap (λ (r : Receipts). r.session) same.1 in
+    (λ i. open_in (at i) (t_is i) (s_is i)) ∙ up
 
 -- ---- what a call does to the trail
 

@@ -57,13 +57,7 @@ shown r = record { tenant = r.tenant; session = r.session; list = r.list; ended 
 
 -- the receipts before, followed by one with this line where the answer has a number
 abbrev pub after_call : Session → List ℕ → Answer → Session
-after_call s line answer = record {
-  tenant = s.tenant;
-  session = s.session;
-  list = list_after s.list line answer;
-  ended = closes line answer.reply;
-  last = Some answer;
-}
+after_call s line answer = record s { list = list_after s.list line answer; ended = closes line answer.reply; last = Some answer }
 
 -- of a session that hasn't ended, one answer
 abbrev pub AnswersOnce : Session → List ℕ → Session → Type 0

@@ -30,36 +30,15 @@ module _ {N : Type 0} where
 
 -- with one receipt more, of the line that was ready
 abbrev pub noted : Receipts → List ℕ → Answer → Receipts
-noted r line answer = record {
-  tenant = r.tenant;
-  session = r.session;
-  list = r.list ++ receipt line answer ∷ [];
-  ended = r.ended;
-  ready = None;
-  last = Some answer;
-}
+noted r line answer = record r { list = r.list ++ receipt line answer ∷ []; ready = None; last = Some answer }
 
 -- with an answer to the line that was ready, which is no receipt
 abbrev pub answered : Receipts → Answer → Receipts
-answered r answer = record {
-  tenant = r.tenant;
-  session = r.session;
-  list = r.list;
-  ended = r.ended;
-  ready = None;
-  last = Some answer;
-}
+answered r answer = record r { ready = None; last = Some answer }
 
 -- without its seat
 abbrev pub unseated : Receipts → Receipts
-unseated r = record {
-  tenant = r.tenant;
-  session = r.session;
-  list = r.list;
-  ended = true;
-  ready = r.ready;
-  last = r.last;
-}
+unseated r = record r { ended = true }
 
 -- places for the receipts of an `open` and an `end`, and their lines
 abbrev pub IsRoom : Room → Type 0

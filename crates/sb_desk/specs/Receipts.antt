@@ -53,9 +53,7 @@ closes line reply = is_end (command_of line) && is_ok reply
 
 -- of an open session
 abbrev pub after : Receipts → List ℕ → Answer → Receipts
-after r line answer = record {
-  tenant = r.tenant;
-  session = r.session;
+after r line answer = record r {
   list = list_after r.list line answer;
   ended = closes line answer.reply;
   ready = None;
@@ -64,9 +62,7 @@ after r line answer = record {
 
 -- with the `end` that closes the session
 abbrev pub after_end : Receipts → ℕ → Receipts
-after_end r n = record {
-  tenant = r.tenant;
-  session = r.session;
+after_end r n = record r {
   list = r.list ++ receipt (codes "end") (numbered n Ok) ∷ [];
   ended = true;
   ready = None;
@@ -86,14 +82,7 @@ newcomer tenant session n = record {
 
 -- a line is ready
 abbrev pub prepared : Receipts → List ℕ → Receipts
-prepared r line = record {
-  tenant = r.tenant;
-  session = r.session;
-  list = r.list;
-  ended = r.ended;
-  ready = Some line;
-  last = r.last;
-}
+prepared r line = record r { ready = Some line }
 
 -- ---- how they are kept
 

@@ -1,5 +1,6 @@
 -- A time that is set.
 use Rattle.std.proofs.Common.{◌≡◌, ◌∙◌, ℕ, ◌<◌, Bool, true, false, ◌&&◌, ◌||◌, ◌==◌, if◌then◌else◌, List, [], length, slice_set, slice_index, slice_index_or, refl, ap, sym, eq-eqb}
+use Rattle.std.proofs.Math.Bool.{or-false, or-true}
 use Rattle.std.proofs.lemmas.Bool.{eqb-true, eqb-false}
 use Rattle.std.proofs.lemmas.List.{get_or-set_same, get_or-set_other}
 use Rattle.sb_value.specs.Flags.{flag_at}
@@ -10,14 +11,6 @@ use Rattle.sb_process.specs.declared.times.Times.{Times}
 abbrev pub time_in : (Times → List ℕ) → List Times → List (List Bool) → ℕ → ℕ → ℕ
 time_in f rows marked s r = if flag_at (slice_index_or marked s []) r then slice_index (f (times_of rows r)) s else 0
 
-or_none : (b : Bool) → (b || false) ≡ b
-or_none true = refl
-or_none false = refl
-
-or_some : (b : Bool) → (b || true) ≡ true
-or_some true = refl
-or_some false = refl
-
 module _ (f : Times → List ℕ) (rows : List Times) (marked : List (List Bool)) (session rule time : ℕ) (row : Times) (flags : List Bool)
     (there : rule < length rows) (is_session : session < length marked)
     (is_set : (s : ℕ) → slice_index (f row) s ≡ (if s == session then time else slice_index (f (times_of rows rule)) s))
@@ -26,13 +19,13 @@ module _ (f : Times → List ℕ) (rows : List Times) (marked : List (List Bool)
       (if flag_at flags r then slice_index (f (times_of (slice_set rows rule row) r)) session else 0) ≡ (if same then time else time_in f rows marked session r)
   own r true e =
       let at = eqb-true r rule e in
-      ap (λ b. if b then slice_index (f (times_of (slice_set rows rule row) r)) session else 0) (members r ∙ ap (λ b. flag_at (slice_index_or marked session []) r || b) e ∙ or_some (flag_at (slice_index_or marked session []) r))
+      ap (λ b. if b then slice_index (f (times_of (slice_set rows rule row) r)) session else 0) (members r ∙ ap (λ b. flag_at (slice_index_or marked session []) r || b) e ∙ or-true (flag_at (slice_index_or marked session []) r))
       ∙ ap (λ x. slice_index (f (times_of (slice_set rows rule row) x)) session) at
       ∙ ap (λ t. slice_index (f t) session) (get_or-set_same rows rule row (record { marks = []; tested = [] }) there)
       ∙ is_set session
       ∙ ap (λ b. if b then time else slice_index (f (times_of rows rule)) session) (eq-eqb session session refl)
   own r false e =
-      ap (λ b. if b then slice_index (f (times_of (slice_set rows rule row) r)) session else 0) (members r ∙ ap (λ b. flag_at (slice_index_or marked session []) r || b) e ∙ or_none (flag_at (slice_index_or marked session []) r))
+      ap (λ b. if b then slice_index (f (times_of (slice_set rows rule row) r)) session else 0) (members r ∙ ap (λ b. flag_at (slice_index_or marked session []) r || b) e ∙ or-false (flag_at (slice_index_or marked session []) r))
       ∙ ap (λ t. if flag_at (slice_index_or marked session []) r then slice_index (f t) session else 0) (get_or-set_other rows rule r row (record { marks = []; tested = [] }) (eqb-false r rule e))
 
   other : (s r : ℕ) → (s == session) ≡ false → (same : Bool) → (r == rule) ≡ same → slice_index (f (times_of (slice_set rows rule row) r)) s ≡ slice_index (f (times_of rows r)) s

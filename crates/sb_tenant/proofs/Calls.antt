@@ -50,9 +50,9 @@ use Rattle.sb_tenant.specs.Resolved.{query, change}
 use Rattle.sb_tenant.specs.State.{State, Session, closed, idle, active, session_at, has_transaction, changes_of, marks_of, setting_of, progress_of, with_progress, rolled_back, committed, with_session}
 use Rattle.sb_tenant.specs.Trail.{aborted}
 use Rattle.sb_tenant.proofs.Leaving.{work-of}
-use Rattle.sb_tenant.proofs.Moves.{IsCallOf, IsStateAfter, stands-with, stands-back, stands-kept}
+use Rattle.sb_tenant.proofs.Moves.{stands-with, stands-back, stands-kept}
 use Rattle.sb_tenant.proofs.SessionLaws.{own_session, other_session}
-use Rattle.sb_tenant.proofs.Standing.{others_of, base_of, one-session}
+use Rattle.sb_tenant.proofs.Standing.{others_of, base_of, one-session, IsCallOf, IsStateAfter}
 use Rattle.sb_tenant.proofs.Taking.{Taken, taken-none, taken-request, process-takes}
 
 -- a session's number

@@ -147,6 +147,19 @@ module _ (setting : Setting) (Good : Statement → Type 0) (Keeps : Progress →
   good-next good None rule e = absurd (none-some rule e)
   good-next good (Some id) rule e = good-found Good (λ r. nat_eq r.id id) setting.rules good rule e
 
+  -- what processing comes to behind a consideration, with n left
+  abbrev behind : ℕ → (ℕ → Bool) → Progress → Rule → Considered → Processing
+  behind n eligible p rule meant =
+      elim meant as (λ _. Processing) [
+        | was_false q ↦ after_verdict (rule.id, verdict.False) (process n setting eligible q)
+        | was_true ending ↦ elim ending as (λ _. Processing) [
+          | ran q ↦ after_verdict (rule.id, verdict.True) (process n setting eligible q)
+          | rolled_back ↦ ended (ByRule rule.id) ((rule.id, verdict.True) ∷ []) p
+          | refused f ↦ ended (ByError rule.id f) ((rule.id, verdict.Error) ∷ []) p
+        ]
+        | was_refused f ↦ ended (ByError rule.id f) ((rule.id, verdict.Error) ∷ []) p
+      ]
+
   pub process-keeps : AreGoodRules Good setting.rules → (n : ℕ) (eligible : ℕ → Bool) (p : Progress) → Keeps p → Keeps (process n setting eligible p).progress
   process-keeps good zero eligible p h = by (next_rule setting eligible p)
     where
@@ -155,33 +168,13 @@ module _ (setting : Setting) (Good : Statement → Type 0) (Keeps : Progress →
       by (Some rule) = h
   process-keeps good (suc n) eligible p h = by (next_rule setting eligible p) refl (process-keeps good n eligible)
     where
-      goes : (rule : Rule) (meant : Considered) → MeantIn meant → ((q : Progress) → Keeps q → Keeps (process n setting eligible q).progress) →
-          Keeps (elim meant as (λ _. Processing) [
-            | was_false q ↦ after_verdict (rule.id, verdict.False) (process n setting eligible q)
-            | was_true ending ↦ elim ending as (λ _. Processing) [
-              | ran q ↦ after_verdict (rule.id, verdict.True) (process n setting eligible q)
-              | rolled_back ↦ ended (ByRule rule.id) ((rule.id, verdict.True) ∷ []) p
-              | refused f ↦ ended (ByError rule.id f) ((rule.id, verdict.Error) ∷ []) p
-            ]
-            | was_refused f ↦ ended (ByError rule.id f) ((rule.id, verdict.Error) ∷ []) p
-          ]).progress
+      goes : (rule : Rule) (meant : Considered) → MeantIn meant → ((q : Progress) → Keeps q → Keeps (process n setting eligible q).progress) → Keeps (behind n eligible p rule meant).progress
       goes rule (was_false q) k rest = rest q k
       goes rule (was_true (ran q)) k rest = rest q k
       goes rule (was_true rolled_back) k rest = h
       goes rule (was_true (refused f)) k rest = h
       goes rule (was_refused f) k rest = h
 
-      by : (o : Option Rule) → next_rule setting eligible p ≡ o → ((q : Progress) → Keeps q → Keeps (process n setting eligible q).progress) → Keeps (elim o as (λ _. Processing) [
-        | None ↦ ended Done [] p
-        | Some rule ↦ elim (consider setting rule p) as (λ _. Processing) [
-          | was_false q ↦ after_verdict (rule.id, verdict.False) (process n setting eligible q)
-          | was_true ending ↦ elim ending as (λ _. Processing) [
-            | ran q ↦ after_verdict (rule.id, verdict.True) (process n setting eligible q)
-            | rolled_back ↦ ended (ByRule rule.id) ((rule.id, verdict.True) ∷ []) p
-            | refused f ↦ ended (ByError rule.id f) ((rule.id, verdict.Error) ∷ []) p
-          ]
-          | was_refused f ↦ ended (ByError rule.id f) ((rule.id, verdict.Error) ∷ []) p
-        ]
-      ]).progress
+      by : (o : Option Rule) → next_rule setting eligible p ≡ o → ((q : Progress) → Keeps q → Keeps (process n setting eligible q).progress) → Keeps (elim o as (λ _. Processing) [ None ↦ ended Done [] p | Some rule ↦ behind n eligible p rule (consider setting rule p) ]).progress
       by None e rest = h
       by (Some rule) e rest = goes rule (consider setting rule p) (consider-keeps rule p (good-next good _ rule e) h) rest

@@ -33,7 +33,8 @@ use Rattle.sb_tenant.specs.Trail.{after_abort, is_no_memory, after_entry}
 use Rattle.sb_tenant.specs.Walk.{class_of, walk}
 use Rattle.sb_tenant.specs.WellFormed.{HasSoundLocks}
 use Rattle.sb_tenant.proofs.Keeping.{IsKept, process-keeps, Any, any-rules}
-use Rattle.sb_tenant.proofs.SessionLaws.{own_session, IsInner, refused, resolved, is_edge, inner-walk}
+use Rattle.sb_tenant.proofs.Resolving.{is_edge}
+use Rattle.sb_tenant.proofs.SessionLaws.{own_session, IsInner, refused, resolved, inner-walk}
 use Rattle.sb_tenant.proofs.Standing.{still-locked}
 use Rattle.sb_tenant.proofs.Taking.{Taken, taken-none, taken-request, taken-released}
 use Rattle.sb_tenant.proofs.Targets.{of-target, target-asked, locked-more, locked-and}
@@ -118,6 +119,9 @@ sound-closed state h s =
 -- ---- what each command does
 
 module _ (tenant bound : ℕ) (state : State) (h : HasSoundLocks state) (s : ℕ) where
+  abbrev setting : Setting
+  setting = setting_of tenant state s
+
   sound-stands : (finish : State → State) → ((p : Progress) → HasSoundLocks (with_progress state s p) → HasSoundLocks (finish (with_progress state s p))) →
       (outcome : Outcome) (p : Progress) → IsFit s state.locks p → HasSoundLocks (stands_as state s finish (stands_after outcome p))
   sound-stands finish finishes Done p fit = finishes p (sound-goes state h s p fit)
@@ -128,7 +132,6 @@ module _ (tenant bound : ℕ) (state : State) (h : HasSoundLocks state) (s : ℕ
   sound-process : (eligible : ℕ → Bool) (finish : State → State) → ((p : Progress) → HasSoundLocks (with_progress state s p) → HasSoundLocks (finish (with_progress state s p))) →
       HasSoundLocks (process_at tenant bound state s eligible finish).0
   sound-process eligible finish finishes =
-      let setting = setting_of tenant state s in
       let p = process bound setting eligible (progress_of state s) in
       sound-stands finish finishes p.outcome p.progress
       (process-keeps setting Any (IsFit s state.locks) (fit-kept setting state.locks) (any-rules setting.rules) bound eligible (progress_of state s) (begins-fit state h s))
@@ -142,14 +145,11 @@ module _ (tenant bound : ℕ) (state : State) (h : HasSoundLocks state) (s : ℕ
       by : (o : Option ℕ) → first_conflict state.locks s request ≡ o →
           HasSoundLocks (elim o as (λ _. State × Reply) [ Some table ↦ (state, reply.No (refusal.Locked (name_at state.catalog.tables table))) | None ↦ next (asked request) ]).0
       by (Some table) e = h
-      by None e = f ((fit-kept (setting_of tenant state s) state.locks).request request (progress_of state s) e (begins-fit state h s))
+      by None e = f ((fit-kept setting state.locks).request request (progress_of state s) e (begins-fit state h s))
 
   sound-change : (statement : Statement) → IsFit s state.locks (asked (statement_locks statement)) → HasSoundLocks (perform_change tenant state s statement (asked (statement_locks statement))).0
   sound-change statement fit = by (statement_changes (seen_with setting no_transition p) statement) refl
     where
-      setting : Setting
-      setting = setting_of tenant state s
-
       p : Progress
       p = asked (statement_locks statement)
 

@@ -25,7 +25,7 @@ use Rattle.sb_tenant.specs.Logged.{Agrees, who_of}
 use Rattle.sb_tenant.specs.Represents.{phase_of, phase_at, all_changes, AreExclusive, Holds, StandFor}
 use Rattle.sb_tenant.specs.State.{State, Session, active, session_at, changes_of, marks_of, setting_of, progress_of}
 use Rattle.sb_tenant.proofs.Sharing.{without, same-but, comes-first, elsewhere}
-use Rattle.sb_tenant.proofs.Standing.{changes_at, others_of, base_of, one-session, still-candidates, IsStepOf, holds-on, agrees-on, stands-on}
+use Rattle.sb_tenant.proofs.Standing.{changes_at, others_of, base_of, one-session, still-candidates, IsCallOf, IsStateAfter, IsStepOf, holds-on, agrees-on, stands-on}
 use Rattle.sb_tenant.proofs.Taking.{Taken, taken-released}
 
 -- ---- a session without changes
@@ -60,22 +60,6 @@ has-entries : (tables : List Held) (id : ℕ) → has_table (entries tables) id 
 has-entries [] id = refl
 has-entries (h ∷ tables) id = ap (λ (b : Bool). nat_eq h.id id || b) (has-entries tables id)
 
--- what a call leaves as it was, beside the session's transaction
-pub record IsCallOf (s : ℕ) (old new : Store) (earlier after : List Record) (clock later : ℕ) : Type 0 where
-  pub id : new.database.id ≡ old.database.id
-  pub records : OtherRecordsStay (who_of old.database.id s) earlier after
-  pub times : clock ≤ later
-  pub transactions : OtherSessionsStay old.database.transactions new.database.transactions s
-  pub phases : (o : ℕ) → nat_eq o s ≡ false → phase_at new.phases o ≡ phase_at old.phases o
-  pub definitions : new.definitions ≡ old.definitions
-
--- the state after it differs in the session, in its locks and in committed rows
-pub record IsStateAfter (s : ℕ) (state next : State) : Type 0 where
-  pub sessions : (o : ℕ) → nat_eq o s ≡ false → session_at next o ≡ session_at state o
-  pub rules : next.catalog.rules ≡ state.catalog.rules
-  pub pairs : next.catalog.pairs ≡ state.catalog.pairs
-  pub rulesets : next.catalog.rulesets ≡ state.catalog.rulesets
-
 module _ (laws : TablesAreShared) (s : ℕ) (is : IsTrue (is_session s)) (old new : Store) (earlier after : List Record) (clock later : ℕ) (index : List (List TableSets)) (state next : State) (origin : List Held) (h : Holds origin old state)
     (a : Agrees old.database.id state old.database.transactions earlier clock index) (c : IsCallOf s old new earlier after clock later) (n : IsStateAfter s state next) where
   abbrev was : Represents (base_of origin state s) old.database s earlier clock (setting_of old.database.id state s) (progress_of state s)
@@ -86,17 +70,9 @@ module _ (laws : TablesAreShared) (s : ℕ) (is : IsTrue (is_session s)) (old ne
       (r : Represents (base_of origin state s) new.database s after later (setting_of old.database.id state s) p) where
     goes : IsStepOf s old new earlier after clock later state next
     goes = record {
-      id = c.id;
-      records = c.records;
-      times = c.times;
-      transactions = c.transactions;
-      phases = c.phases;
-      definitions = c.definitions;
+      call = c;
+      leads = n;
       numbers = λ t. laws.there (base_of origin state s) new.database.tables p.changes r.made t ∙ sym (laws.there (base_of origin state s) old.database.tables (changes_at state s) was.made t);
-      sessions = n.sessions;
-      rules = n.rules;
-      pairs = n.pairs;
-      rulesets = n.rulesets;
       locks = λ o t m other. ap (λ l. l o t m) locks ∙ taken.others o t m other;
       exclusive = subst AreExclusive (sym locks) taken.exclusive;
       held = λ o t m. r.locks o t m ∙ sym (ap (λ l. l o t m) locks);
@@ -120,17 +96,9 @@ module _ (laws : TablesAreShared) (s : ℕ) (is : IsTrue (is_session s)) (old ne
         (held_after : (o t : ℕ) (m : Mode) → held new.database.locks o t m ≡ released state.locks s o t m) where
       rests : IsStepOf s old new earlier after clock later state next
       rests = record {
-        id = c.id;
-        records = c.records;
-        times = c.times;
-        transactions = c.transactions;
-        phases = c.phases;
-        definitions = c.definitions;
+        call = c;
+        leads = n;
         numbers = numbers;
-        sessions = n.sessions;
-        rules = n.rules;
-        pairs = n.pairs;
-        rulesets = n.rulesets;
         locks = λ o t m other. ap (λ l. l o t m) locks ∙ (taken-released s state.locks h.exclusive).others o t m other;
         exclusive = subst AreExclusive (sym locks) (taken-released s state.locks h.exclusive).exclusive;
         held = λ o t m. held_after o t m ∙ sym (ap (λ l. l o t m) locks);

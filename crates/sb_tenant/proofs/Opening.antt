@@ -22,7 +22,8 @@ use Rattle.sb_tenant.specs.Represents.{phase_of, phase_at, all_changes, Holds, S
 use Rattle.sb_tenant.specs.State.{State, Session, closed, idle, active, session_at, has_transaction, changes_of, marks_of, progress_of, rolled_back, with_session}
 use Rattle.sb_tenant.specs.Trail.{aborted}
 use Rattle.sb_tenant.proofs.Calls.{not-active, aborted-active, aborted-none}
-use Rattle.sb_tenant.proofs.Moves.{IsCallOf, stands-without}
+use Rattle.sb_tenant.proofs.Moves.{stands-without}
+use Rattle.sb_tenant.proofs.Standing.{IsCallOf}
 use Rattle.sb_tenant.proofs.SessionLaws.{own_session, other_session}
 use Rattle.sb_tenant.proofs.Standing.{changes_at, own-or-other, still-candidates}
 

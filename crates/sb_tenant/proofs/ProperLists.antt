@@ -31,13 +31,17 @@ rising-map f e [] k = tt
 rising-map f e (r ∷ []) k = tt
 rising-map f e (r ∷ q ∷ rows) k = (subst (λ (x : ℕ). x < (f q).0) (sym (e r)) (subst (λ (x : ℕ). r.0 < x) (sym (e q)) k.0), rising-map f e (q ∷ rows) k.1)
 
+-- what holds of each row holds of those that are left
+each-filter : (Each : List Row → Type 0) (One : Row → Type 0) → ((r : Row) (rows : List Row) → Each (r ∷ rows) → One r × Each rows) → ((r : Row) (rows : List Row) → One r → Each rows → Each (r ∷ rows)) →
+    (p : Row → Bool) (rows : List Row) → Each rows → Each (filter p rows)
+each-filter Each One parts both p [] h = h
+each-filter Each One parts both p (r ∷ rows) h =
+    let k = parts r rows h in
+    let rest = each-filter Each One parts both p rows k.1 in
+    elim (p r) as (λ b. Each (cond b (r ∷ filter p rows) (filter p rows))) [ true ↦ both r (filter p rows) k.0 rest | false ↦ rest ]
+
 below-filter : (p : Row → Bool) (n : ℕ) (rows : List Row) → AreBelow n rows → AreBelow n (filter p rows)
-below-filter p n [] h = tt
-below-filter p n (r ∷ rows) h = by (p r) (below-filter p n rows h.1)
-  where
-    by : (b : Bool) → AreBelow n (filter p rows) → AreBelow n (cond b (r ∷ filter p rows) (filter p rows))
-    by true rest = (h.0, rest)
-    by false rest = rest
+below-filter p n = each-filter (AreBelow n) (λ r. r.0 < n) (λ r rows h. h) (λ r rows one each. (one, each)) p
 
 -- a row stands before all that are left of the later ones
 abbrev AreAbove : ℕ → List Row → Type 0
@@ -61,12 +65,7 @@ rising-rest r [] k = tt
 rising-rest r (q ∷ rows) k = k.1
 
 above-filter : (p : Row → Bool) (n : ℕ) (rows : List Row) → AreAbove n rows → AreAbove n (filter p rows)
-above-filter p n [] h = tt
-above-filter p n (r ∷ rows) h = by (p r) (above-filter p n rows h.1)
-  where
-    by : (b : Bool) → AreAbove n (filter p rows) → AreAbove n (cond b (r ∷ filter p rows) (filter p rows))
-    by true rest = (h.0, rest)
-    by false rest = rest
+above-filter p n = each-filter (AreAbove n) (λ r. n < r.0) (λ r rows h. h) (λ r rows one each. (one, each)) p
 
 rising-filter : (p : Row → Bool) (rows : List Row) → AreRising rows → AreRising (filter p rows)
 rising-filter p [] k = tt

@@ -12,7 +12,6 @@ use Rattle.sb_value.specs.Table.{name_at}
 use Rattle.sb_syntax.specs.Text.{command_of}
 use Rattle.sb_syntax.specs.Tree as text
 use Rattle.sb_syntax.specs.Tree.{Command}
-use Rattle.sb_check.specs.Names.{and_then, required}
 use Rattle.sb_plan.specs.Cost.{query_cost}
 use Rattle.sb_plan.specs.Meaning.{rows_of}
 use Rattle.sb_plan.specs.Seen.{row_count, rows_in}
@@ -33,61 +32,22 @@ use Rattle.sb_tenant.specs.Resolved.{Resolved, Class, defines, works, open_sessi
 use Rattle.sb_tenant.specs.Walk.{class_of, unless, walk}
 use Rattle.sb_tenant.specs.Perform.{change_seen, named, perform, perform_change, process_at, reply_of, reply_rows, select_seen, stays, with_request}
 use Rattle.sb_tenant.specs.Step.{first_of, is_full_for, numbered, outcome_of, reply_to, reply_to_command, session_refusal, step}
+use Rattle.sb_tenant.proofs.Resolving.{is_locking, is_statement, IsOf, refused, resolved, kind-walk}
 use Rattle.sb_tenant.specs.RefusalLaws.{ChangesNothing, RefusalsTakeLocksAtMost, RefusedDefinitionsChangeNothing, ComesBehindLocks, TakesLocks, request_in, request_of}
 
 -- ---- other commands ask for no locks
 
--- a walk that is refused, or resolves to a command that asks for none
-data AsksNothing : Result Resolved Refusal → Type 0 where
-  refused : (e : Refusal) → AsksNothing (Err e)
-  resolved : (r : Resolved) → request_of (Ok r) ≡ None → AsksNothing (Ok r)
-
-none-of : (w : Result Resolved Refusal) → AsksNothing w → request_of w ≡ None
-none-of w (refused e) = refl
-none-of w (resolved r h) = h
-
-none-required : (b : Bool) (e : Refusal) (next : Result Resolved Refusal) → AsksNothing next → AsksNothing (required b e next)
-none-required true e next h = h
-none-required false e next h = refused e
-
-none-unless : (o : Option Refusal) (next : Result Resolved Refusal) → AsksNothing next → AsksNothing (unless o next)
-none-unless None next h = h
-none-unless (Some e) next h = refused e
-
-none-then : {A : Type 0} (r : Result A Refusal) (next : A → Result Resolved Refusal) → ((a : A) → AsksNothing (next a)) → AsksNothing (and_then r next)
-none-then (Ok a) next h = h a
-none-then (Err e) next h = refused e
-
-abbrev is_statement : Command → Bool
-is_statement (text.query q) = true
-is_statement (text.change c) = true
-is_statement other = false
-
-asks-nothing : (catalog : Catalog) (c : Command) → is_statement c ≡ false → AsksNothing (walk catalog c)
-asks-nothing catalog text.open_session h = resolved open_session refl
-asks-nothing catalog text.end_session h = resolved end_session refl
-asks-nothing catalog text.begin h = resolved begin refl
-asks-nothing catalog text.commit h = resolved commit refl
-asks-nothing catalog text.rollback h = resolved rollback refl
-asks-nothing catalog text.process_rules h = resolved process_rules refl
-asks-nothing catalog (text.process_ruleset name) h = search (none-required, resolved)
-asks-nothing catalog (text.process_rule name) h = search (none-then, resolved)
-asks-nothing catalog (text.create_table name columns) h = search (none-then, none-required, resolved)
-asks-nothing catalog (text.drop_table name) h = search (none-required, none-then, resolved)
-asks-nothing catalog (text.create_rule r) h = search (none-required, none-then, resolved) depth 16
-asks-nothing catalog (text.alter_rule r) h = search (none-then, resolved) depth 16
-asks-nothing catalog (text.drop_rule name) h = search (none-then, resolved)
-asks-nothing catalog (text.activate_rule name) h = search (none-then, resolved)
-asks-nothing catalog (text.deactivate_rule name) h = search (none-then, resolved)
-asks-nothing catalog (text.create_ruleset name) h = search (none-unless, resolved)
-asks-nothing catalog (text.drop_ruleset name) h = search (none-required, resolved)
-asks-nothing catalog (text.add_rules name rules) h = search (none-required, none-then, resolved)
-asks-nothing catalog (text.del_rules name rules) h = search (none-required, none-then, resolved)
-asks-nothing catalog (text.query q) h = absurd (true≢false h)
-asks-nothing catalog (text.change c) h = absurd (true≢false h)
+asks-none : (r : Resolved) → is_locking r ≡ false → request_of (Ok r) ≡ None
+asks-none (query q) h = absurd (true≢false h)
+asks-none (change c) h = absurd (true≢false h)
+asks-none other h = refl
 
 none-walk : (catalog : Catalog) (c : Command) → is_statement c ≡ false → request_of (walk catalog c) ≡ None
-none-walk catalog c h = none-of (walk catalog c) (asks-nothing catalog c h)
+none-walk catalog c h = by (walk catalog c) (kind-walk catalog c)
+  where
+    by : (w : Result Resolved Refusal) → IsOf c w → request_of w ≡ None
+    by w (refused e) = refl
+    by w (resolved r edge locking) = asks-none r (locking ∙ h)
 
 no-definition : (c : Command) → class_of c ≡ defines → is_statement c ≡ false
 no-definition (text.query q) h = absurd (let e = h in cc)

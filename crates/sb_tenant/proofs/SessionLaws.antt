@@ -9,7 +9,6 @@ use Rattle.sb_value.specs.Locks.{first_conflict, with_locks}
 use Rattle.sb_syntax.specs.Text.{command_of}
 use Rattle.sb_syntax.specs.Tree as text
 use Rattle.sb_syntax.specs.Tree.{Command}
-use Rattle.sb_check.specs.Names.{and_then, required}
 use Rattle.sb_eval.specs.Seen.{no_transition}
 use Rattle.sb_eval.specs.Statement.{query_locks, statement_locks, statement_changes}
 use Rattle.sb_process.specs.Setting.{Progress, seen_with}
@@ -21,12 +20,14 @@ use Rattle.sb_value.specs.declared.refusal.Refusal.TheVariants.{Locked}
 use Rattle.sb_value.specs.declared.refusal.Refusal.TheVariants as refusal
 use Rattle.sb_tenant.specs.State.{State, Catalog, Session, idle, closed, active, session_at, is_open, with_session, with_progress, progress_of, setting_of, rolled_back, committed}
 use Rattle.sb_tenant.specs.Resolved.{Resolved, open_session, end_session, begin, commit, rollback, process_rules, process_ruleset, process_rule, create_table, drop_table, create_rule, alter_rule, drop_rule, activate_rule, deactivate_rule, create_ruleset, drop_ruleset, add_rules, del_rules, query, change, begins, defines, works}
-use Rattle.sb_tenant.specs.Walk.{unless, walk, class_of}
+use Rattle.sb_tenant.specs.Walk.{walk, class_of}
 use Rattle.sb_tenant.specs.Perform.{with_request, change_seen, select_seen, perform_change, stands_as, stays, process_at, perform}
 use Rattle.sb_catalog.specs.Definitions.{is_member}
 use Rattle.sb_catalog.specs.Rules.{is_active}
 use Rattle.sb_tenant.specs.Step.{first_of, session_refusal, outcome_of, reply_to_command, reply_to, step, numbered, is_full_for}
 use Rattle.sb_tenant.specs.TrailLaws.{open_by}
+use Rattle.sb_tenant.proofs.Resolving as kinds
+use Rattle.sb_tenant.proofs.Resolving.{is_edge, is_edge_command, IsOf, kind-walk}
 
 -- ---- the sessions of a state with one session put anew
 
@@ -99,11 +100,6 @@ module _ (s o : ℕ) (other : (o == s) ≡ false) where
 
 -- ---- the own session
 
-abbrev pub is_edge : Resolved → Bool
-is_edge open_session = true
-is_edge end_session = true
-is_edge other = false
-
 -- a walk that resolves to neither `open` nor `end`
 pub data IsInner : Result Resolved Refusal → Type 0 where
   refused : (e : Refusal) → IsInner (Err e)
@@ -169,45 +165,12 @@ module _ (tenant bound : ℕ) (state : State) (s : ℕ) (was_open : is_open (ses
 
 -- ---- the walk of other commands gives neither
 
-required-inner : (b : Bool) (e : Refusal) (next : Result Resolved Refusal) → IsInner next → IsInner (required b e next)
-required-inner true e next h = h
-required-inner false e next h = refused e
-
-unless-inner : (o : Option Refusal) (w : Result Resolved Refusal) → IsInner w → IsInner (unless o w)
-unless-inner None w h = h
-unless-inner (Some e) w h = refused e
-
-and_then-inner : {A : Type 0} (r : Result A Refusal) (next : A → Result Resolved Refusal) → ((a : A) → IsInner (next a)) → IsInner (and_then r next)
-and_then-inner (Err e) next h = refused e
-and_then-inner (Ok a) next h = h a
-
-abbrev pub is_edge_command : Command → Bool
-is_edge_command text.open_session = true
-is_edge_command text.end_session = true
-is_edge_command other = false
-
 pub inner-walk : (catalog : Catalog) (c : Command) → is_edge_command c ≡ false → IsInner (walk catalog c)
-inner-walk catalog text.open_session h = absurd (true≢false h)
-inner-walk catalog text.end_session h = absurd (true≢false h)
-inner-walk catalog text.begin h = resolved begin refl
-inner-walk catalog text.commit h = resolved commit refl
-inner-walk catalog text.rollback h = resolved rollback refl
-inner-walk catalog text.process_rules h = resolved process_rules refl
-inner-walk catalog (text.process_ruleset name) h = search (required-inner, resolved)
-inner-walk catalog (text.process_rule name) h = search (and_then-inner, resolved)
-inner-walk catalog (text.create_table name columns) h = search (and_then-inner, required-inner, resolved)
-inner-walk catalog (text.drop_table name) h = search (required-inner, and_then-inner, resolved)
-inner-walk catalog (text.create_rule r) h = search (required-inner, and_then-inner, resolved) depth 16
-inner-walk catalog (text.alter_rule r) h = search (and_then-inner, resolved) depth 16
-inner-walk catalog (text.drop_rule name) h = search (and_then-inner, resolved)
-inner-walk catalog (text.activate_rule name) h = search (and_then-inner, resolved)
-inner-walk catalog (text.deactivate_rule name) h = search (and_then-inner, resolved)
-inner-walk catalog (text.create_ruleset name) h = search (unless-inner, resolved)
-inner-walk catalog (text.drop_ruleset name) h = search (required-inner, resolved)
-inner-walk catalog (text.add_rules name rules) h = search (required-inner, and_then-inner, resolved)
-inner-walk catalog (text.del_rules name rules) h = search (required-inner, and_then-inner, resolved)
-inner-walk catalog (text.query q) h = search (and_then-inner, resolved)
-inner-walk catalog (text.change c) h = search (and_then-inner, resolved)
+inner-walk catalog c h = by (walk catalog c) (kind-walk catalog c)
+  where
+    by : (w : Result Resolved Refusal) → IsOf c w → IsInner w
+    by w (kinds.refused e) = refused e
+    by w (kinds.resolved r edge locking) = resolved r (edge ∙ h)
 
 -- ---- what a command does to its own session
 

@@ -119,20 +119,28 @@ module _ (old new : List Held) (e : (id : ℕ) → has_number new id ≡ has_num
 
 -- ---- a step of one session
 
--- what it is to leave for the state after it, but for the tables
-pub record IsStepOf (s : ℕ) (old new : Store) (earlier after : List Record) (clock later : ℕ) (state next : State) : Type 0 where
+-- what a call leaves as it was, beside the session's transaction
+pub record IsCallOf (s : ℕ) (old new : Store) (earlier after : List Record) (clock later : ℕ) : Type 0 where
   pub id : new.database.id ≡ old.database.id
   pub records : OtherRecordsStay (who_of old.database.id s) earlier after
   pub times : clock ≤ later
   pub transactions : OtherSessionsStay old.database.transactions new.database.transactions s
   pub phases : (o : ℕ) → nat_eq o s ≡ false → phase_at new.phases o ≡ phase_at old.phases o
   pub definitions : new.definitions ≡ old.definitions
-  pub numbers : (t : ℕ) → has_number new.database.tables t ≡ has_number old.database.tables t
-  -- the state
+
+-- the state after it differs in the session, in its locks and in committed rows
+pub record IsStateAfter (s : ℕ) (state next : State) : Type 0 where
   pub sessions : (o : ℕ) → nat_eq o s ≡ false → session_at next o ≡ session_at state o
   pub rules : next.catalog.rules ≡ state.catalog.rules
   pub pairs : next.catalog.pairs ≡ state.catalog.pairs
   pub rulesets : next.catalog.rulesets ≡ state.catalog.rulesets
+
+-- what it is to leave for the state after it, but for the tables
+pub record IsStepOf (s : ℕ) (old new : Store) (earlier after : List Record) (clock later : ℕ) (state next : State) : Type 0 where
+  pub call : IsCallOf s old new earlier after clock later
+  pub numbers : (t : ℕ) → has_number new.database.tables t ≡ has_number old.database.tables t
+  -- the state
+  pub leads : IsStateAfter s state next
   pub locks : (o t : ℕ) (m : Mode) → nat_eq o s ≡ false → next.locks o t m ≡ state.locks o t m
   pub exclusive : AreExclusive next.locks
   -- the session's own
@@ -150,13 +158,13 @@ module _ (s : ℕ) (is : IsTrue (is_session s)) (old new : Store) (earlier after
   all-locked : (o : ℕ) → IsTrue (is_session o) → AreLocked next.locks o (changes_at next o)
   all-locked o io =
       own-or-other s o (λ x. AreLocked next.locks x (changes_at next x)) k.locked
-      (λ other. subst (AreLocked next.locks o) (ap changes_of (sym (k.sessions o other))) (still-locked state.locks next.locks o (λ t m. k.locks o t m other) (changes_at state o) (h.locked o io)))
+      (λ other. subst (AreLocked next.locks o) (ap changes_of (sym (k.leads.sessions o other))) (still-locked state.locks next.locks o (λ t m. k.locks o t m other) (changes_at state o) (h.locked o io)))
 
   -- the tables, where the committed ones stay
   pub made-on : TablesAreShared → AreMade (base_of origin state s) (changes_at next s) new.database.tables → AreMade origin (all_changes next) new.database.tables
   made-on laws m =
       laws.independent origin new.database.tables (others_of next s ++ changes_at next s) (all_changes next) (λ t. sym (comes-last next.locks (changes_at next) k.exclusive all-locked s is t))
-      (subst (λ cs. AreMade origin (cs ++ changes_at next s) new.database.tables) (sym (same-but (changes_at next) (changes_at state) s (λ o other. ap changes_of (k.sessions o other)) sessions))
+      (subst (λ cs. AreMade origin (cs ++ changes_at next s) new.database.tables) (sym (same-but (changes_at next) (changes_at state) s (λ o other. ap changes_of (k.leads.sessions o other)) sessions))
       (laws.joined origin (base_of origin state s) new.database.tables (others_of state s) (changes_at next s) (made-base laws origin old state h s is) m))
 
   pub holds-on : (from : List Held) → entries from ≡ next.catalog.tables → AreMade from (all_changes next) new.database.tables → Holds from new next
@@ -167,16 +175,16 @@ module _ (s : ℕ) (is : IsTrue (is_session s)) (old new : Store) (earlier after
     exclusive = k.exclusive;
     locks = k.held;
     phases = λ o io. own-or-other s o (λ x. phase_at new.phases x ≡ phase_of (session_at next x)) k.phase
-        (λ other. k.phases o other ∙ h.phases o io ∙ ap phase_of (sym (k.sessions o other)));
-    candidates = λ o io. subst (AreCandidates new.database.transactions o (progress_of next o)) (sym k.rules)
+        (λ other. k.call.phases o other ∙ h.phases o io ∙ ap phase_of (sym (k.leads.sessions o other)));
+    candidates = λ o io. subst (AreCandidates new.database.transactions o (progress_of next o)) (sym k.leads.rules)
         (own-or-other s o (λ x. AreCandidates new.database.transactions x (progress_of next x) state.catalog.rules) k.candidates
-        (λ other. still-candidates old.database.transactions new.database.transactions o (progress_of state o) (progress_of next o) (λ r. (k.transactions o r other).2)
-        (ap changes_of (k.sessions o other)) (λ r. ap (λ x. marks_of x r) (k.sessions o other)) state.catalog.rules (h.candidates o io)));
-    rules = ap (λ (d : Definitions). d.rules) k.definitions ∙ h.rules ∙ sym k.rules;
-    ordered = subst (λ (d : Definitions). AreOrdered d.order next.catalog.rules next.catalog.pairs) (sym k.definitions)
-        (subst (λ rules. AreOrdered old.definitions.order rules next.catalog.pairs) (sym k.rules) (subst (AreOrdered old.definitions.order state.catalog.rules) (sym k.pairs) h.ordered));
-    rulesets = ap (λ (d : Definitions). d.rulesets) k.definitions ∙ h.rulesets ∙ sym k.rulesets;
-    runnable = subst (CanRun new.database.tables) (sym k.rules) (still-run old.database.tables new.database.tables k.numbers state.catalog.rules h.runnable);
+        (λ other. still-candidates old.database.transactions new.database.transactions o (progress_of state o) (progress_of next o) (λ r. (k.call.transactions o r other).2)
+        (ap changes_of (k.leads.sessions o other)) (λ r. ap (λ x. marks_of x r) (k.leads.sessions o other)) state.catalog.rules (h.candidates o io)));
+    rules = ap (λ (d : Definitions). d.rules) k.call.definitions ∙ h.rules ∙ sym k.leads.rules;
+    ordered = subst (λ (d : Definitions). AreOrdered d.order next.catalog.rules next.catalog.pairs) (sym k.call.definitions)
+        (subst (λ rules. AreOrdered old.definitions.order rules next.catalog.pairs) (sym k.leads.rules) (subst (AreOrdered old.definitions.order state.catalog.rules) (sym k.leads.pairs) h.ordered));
+    rulesets = ap (λ (d : Definitions). d.rulesets) k.call.definitions ∙ h.rulesets ∙ sym k.leads.rulesets;
+    runnable = subst (CanRun new.database.tables) (sym k.leads.rules) (still-run old.database.tables new.database.tables k.numbers state.catalog.rules h.runnable);
   }
 
   other-who : (o : ℕ) → nat_eq o s ≡ false → who_of new.database.id o ≢ who_of old.database.id s
@@ -185,31 +193,31 @@ module _ (s : ℕ) (is : IsTrue (is_session s)) (old new : Store) (earlier after
   module _ (a : Agrees old.database.id state old.database.transactions earlier clock index) where
     transactions-on : (o : ℕ) → nat_eq o s ≡ false → IsTrue (is_session o) → changes_by (who_of new.database.id o) after ≡ changes_of (session_at next o)
     transactions-on o other io =
-        ap changes (k.records (who_of new.database.id o) (other-who o other)) ∙ ap (λ (id : ℕ). changes_by (who_of id o) earlier) k.id ∙ a.transactions o io ∙ ap changes_of (sym (k.sessions o other))
+        ap changes (k.call.records (who_of new.database.id o) (other-who o other)) ∙ ap (λ (id : ℕ). changes_by (who_of id o) earlier) k.call.id ∙ a.transactions o io ∙ ap changes_of (sym (k.leads.sessions o other))
 
     marks-on : (o : ℕ) → nat_eq o s ≡ false → IsTrue (is_session o) → StandsFor new.database.id o next after later (mark_of new.database.transactions o)
     marks-on o other io = λ rule.
-        let same : mark_of new.database.transactions o rule ≡ mark_of old.database.transactions o rule = (k.transactions o rule other).0 in
+        let same : mark_of new.database.transactions o rule ≡ mark_of old.database.transactions o rule = (k.call.transactions o rule other).0 in
         let was = a.marks o io rule in
         let past : mark_of old.database.transactions o rule ≤ clock = was.0 in
-        let on : clock ≤ later = k.times in (
+        let on : clock ≤ later = k.call.times in (
           omega arith,
-          (λ i. length (before (same i) (k.records (who_of new.database.id o) (other-who o other) i)))
-              ∙ ap (λ (id : ℕ). mark_at (who_of id o) (mark_of old.database.transactions o rule) earlier) k.id ∙ was.1 ∙ ap (λ x. marks_of x rule) (sym (k.sessions o other)),
+          (λ i. length (before (same i) (k.call.records (who_of new.database.id o) (other-who o other) i)))
+              ∙ ap (λ (id : ℕ). mark_at (who_of id o) (mark_of old.database.transactions o rule) earlier) k.call.id ∙ was.1 ∙ ap (λ x. marks_of x rule) (sym (k.leads.sessions o other)),
         )
 
     past-on : (o : ℕ) → nat_eq o s ≡ false → IsTrue (is_session o) → ArePast new.database.transactions o later
     past-on o other io = λ rule.
-        let same = k.transactions o rule other in
+        let same = k.call.transactions o rule other in
         let was = a.past o io rule in
-        (let m = same.0 in let t = same.1 in let l = was.0 in omega arith, let t = same.1 in let l = was.1 in let on = k.times in omega arith)
+        (let m = same.0 in let t = same.1 in let l = was.0 in omega arith, let t = same.1 in let l = was.1 in let on = k.call.times in omega arith)
 
     untriggered-on : (o : ℕ) → nat_eq o s ≡ false → IsTrue (is_session o) → AreUntriggered (who_of new.database.id o) new.database.transactions after state.catalog.rules
     untriggered-on o other io =
         still-untriggered (who_of old.database.id o) (who_of new.database.id o) old.database.transactions new.database.transactions earlier after
         (λ rule.
-        (λ i. changes_among ((k.transactions o rule other).0 i) ((k.transactions o rule other).1 i) (k.records (who_of new.database.id o) (other-who o other) i))
-        ∙ ap (λ (id : ℕ). changes_between (who_of id o) (mark_of old.database.transactions o rule) (tested_of old.database.transactions o rule) earlier) k.id)
+        (λ i. changes_among ((k.call.transactions o rule other).0 i) ((k.call.transactions o rule other).1 i) (k.call.records (who_of new.database.id o) (other-who o other) i))
+        ∙ ap (λ (id : ℕ). changes_between (who_of id o) (mark_of old.database.transactions o rule) (tested_of old.database.transactions o rule) earlier) k.call.id)
         state.catalog.rules (a.untriggered o io)
       where
         changes_among : ℕ → ℕ → List Record → List Change
@@ -220,9 +228,9 @@ module _ (s : ℕ) (is : IsTrue (is_session s)) (old new : Store) (earlier after
       transactions = λ o io. own-or-other s o (λ x. changes_by (who_of new.database.id x) after ≡ changes_of (session_at next x)) k.changes (λ other. transactions-on o other io);
       marks = λ o io. own-or-other s o (λ x. StandsFor new.database.id x next after later (mark_of new.database.transactions x)) k.marks (λ other. marks-on o other io);
       past = λ o io. own-or-other s o (λ x. ArePast new.database.transactions x later) k.past (λ other. past-on o other io);
-      untriggered = λ o io. subst (AreUntriggered (who_of new.database.id o) new.database.transactions after) (sym k.rules)
+      untriggered = λ o io. subst (AreUntriggered (who_of new.database.id o) new.database.transactions after) (sym k.leads.rules)
           (own-or-other s o (λ x. AreUntriggered (who_of new.database.id x) new.database.transactions after state.catalog.rules) k.untriggered (λ other. untriggered-on o other io));
-      indexed = subst (λ id. AreIndexed index id next.catalog.rules) (sym k.id) (subst (AreIndexed index old.database.id) (sym k.rules) a.indexed);
+      indexed = subst (λ id. AreIndexed index id next.catalog.rules) (sym k.call.id) (subst (AreIndexed index old.database.id) (sym k.leads.rules) a.indexed);
     }
 
     -- where the committed tables stay

@@ -54,7 +54,8 @@ use Rattle.sb_tenant.proofs.ListLaws.{IsIn, IsInOrder, order-kept, from-base, to
 use Rattle.sb_tenant.proofs.LockLaws.{begins-fit, sound-goes, sound-entry, opening-sound}
 use Rattle.sb_tenant.proofs.ReplayLaws.{next_after}
 use Rattle.sb_tenant.proofs.Sharing.{each-session}
-use Rattle.sb_tenant.proofs.SessionLaws.{is_edge, IsInner, refused, resolved, inner-walk}
+use Rattle.sb_tenant.proofs.Resolving.{is_edge}
+use Rattle.sb_tenant.proofs.SessionLaws.{IsInner, refused, resolved, inner-walk}
 use Rattle.sb_tenant.proofs.Targets.{target-asked}
 
 -- no session has changed anything

@@ -166,21 +166,16 @@ others_numbered id t (x ∷ tables) h = by (nat_eq x.id id) (nat_eq x.id t.id) r
     by true false e rest = rest (sym (ap (λ (d : Bool). d || has_number tables t.id) e) ∙ h)
     by false false e rest = ap (λ (d : Bool). d || has_number (without_table id tables) t.id) e ∙ rest (sym (ap (λ (d : Bool). d || has_number tables t.id) e) ∙ h)
 
+each_less : (Each : List Held → Type 0) (id : ℕ) (t : Held) (tables : List Held) → Each (without_table id tables) → (Each (without_table id tables) → Each (t ∷ without_table id tables)) → Each (without_table id (t ∷ tables))
+each_less Each id t tables rest more = elim (nat_eq t.id id) as (λ b. Each (cond (not b) (t ∷ without_table id tables) (without_table id tables))) [ true ↦ rest | false ↦ more rest ]
+
 numbered_less : (id : ℕ) (tables : List Held) → AreNumbered tables → AreNumbered (without_table id tables)
 numbered_less id [] n = tt
-numbered_less id (t ∷ tables) n = by (nat_eq t.id id) (numbered_less id tables n.1)
-  where
-    by : (b : Bool) → AreNumbered (without_table id tables) → AreNumbered (cond (not b) (t ∷ without_table id tables) (without_table id tables))
-    by true rest = rest
-    by false rest = (others_numbered id t tables n.0, rest)
+numbered_less id (t ∷ tables) n = each_less AreNumbered id t tables (numbered_less id tables n.1) (λ rest. (others_numbered id t tables n.0, rest))
 
 stored_less : (id : ℕ) (tables : List Held) → AreStored tables → AreStored (without_table id tables)
 stored_less id [] s = tt
-stored_less id (t ∷ tables) s = by (nat_eq t.id id) (stored_less id tables s.1)
-  where
-    by : (b : Bool) → AreStored (without_table id tables) → AreStored (cond (not b) (t ∷ without_table id tables) (without_table id tables))
-    by true rest = rest
-    by false rest = (s.0, rest)
+stored_less id (t ∷ tables) s = each_less AreStored id t tables (stored_less id tables s.1) (λ rest. (s.0, rest))
 
 unroomed_less : (id : ℕ) (tables : List Held) → map without_room (without_table id tables) ≡ without_table id (map without_room tables)
 unroomed_less id [] = refl

@@ -5,13 +5,10 @@ use Rattle.sb_cell.specs.Tenants.{AnswersEvent, Cell}
 use Rattle.sb_desk.specs.Desks.{open_in}
 use Rattle.sb_desk.specs.Receipts.{Receipts, closes, receipt}
 use Rattle.sb_desk.specs.Seats.{IsSeat, number_of}
-use Rattle.sb_desk.proofs.DeskCalls.{closed_by, enough, full, given_back, still_open, unbegun}
+use Rattle.sb_desk.proofs.DeskCalls.{closed_by, enough, full, given_back, opened, own, still_open, unbegun}
 use Rattle.sb_desk.proofs.ReceiptSteps.{after_closing}
 use Rattle.sb_desk.proofs.desk.Desk.enter.Goals as goal
 use Rattle.sb_desk.proofs.desk.Desk.enter.Goals.{in-Some-1, in-None-1}
-
-own : (cells first t : ℕ) (r old : Receipts) → t ≡ r.tenant → r ≡ old → old.tenant % cells ≡ first → t % cells ≡ first
-own cells first t r old is same mine = ap (λ (n : ℕ). n % cells) (is ∙ ap (λ (r : Receipts). r.tenant) same) ∙ mine
 
 -- by whether the answer has a number
 unnumbered : (o : Option ℕ) (b : Bool) → is_some o ≡ not b → b ≡ true → o ≡ None
@@ -25,26 +22,26 @@ numbered (Some n) b h e = (n, refl)
 -- the step wasn't begun
 pub invariant_of-self : goal.invariant_of-self
 invariant_of-self g c =
-    let desk = unbegun _ _ _ _ _ c.tenant-tenant.result c.number.result _ c.self.invariant.2 c.self.invariant.0 (own _ _ _ _ _ c.tenant-tenant.ensures.is c.find_open.ensures.same.1 c.requires.own) c.tenant-tenant.ensures.below c.number.ensures.in_range c.in_default-step_line.field-0 c.in_default-step_line.ensures.step in
+    let desk = unbegun _ _ _ _ _ c.tenant-tenant.result c.number.result _ c.self.invariant.2 c.self.invariant.0 (own _ c.tenant-tenant.ensures.is c.find_open.ensures.same.1 c.requires.own) c.tenant-tenant.ensures.below c.number.ensures.in_range c.in_default-step_line.field-0 c.in_default-step_line.ensures.step in
     (c.self.invariant.0, c.self.invariant.1, desk)
 
 -- the trail is full
 pub invariant_of-self-then-is_none : goal.invariant_of-self-then-is_none
 invariant_of-self-then-is_none g c =
-    let desk = full _ _ _ _ _ c.tenant-tenant.result c.number.result _ c.self.invariant.2 c.self.invariant.0 (own _ _ _ _ _ c.tenant-tenant.ensures.is c.find_open.ensures.same.1 c.requires.own) c.tenant-tenant.ensures.below c.number.ensures.in_range c.in-Ok.answer c.in-Ok.ensures.step (unnumbered _ _ c.is_none.ensures c.if-is_none.true) in
+    let desk = full _ _ _ _ _ c.tenant-tenant.result c.number.result _ c.self.invariant.2 c.self.invariant.0 (own _ c.tenant-tenant.ensures.is c.find_open.ensures.same.1 c.requires.own) c.tenant-tenant.ensures.below c.number.ensures.in_range c.in-Ok.answer c.in-Ok.ensures.step (unnumbered _ _ c.is_none.ensures c.if-is_none.true) in
     (c.self.invariant.0, c.self.invariant.1, desk)
 
 pub note-requires-clause-parts : goal.note-requires-clause-parts
 note-requires-clause-parts g c =
     let has = numbered _ _ c.is_none.ensures c.if-is_none.false in
-    enough _ _ _ _ _ c.tenant-tenant.result c.number.result _ c.self.invariant.2 c.self.invariant.0 (own _ _ _ _ _ c.tenant-tenant.ensures.is c.find_open.ensures.same.1 c.requires.own) c.tenant-tenant.ensures.below c.number.ensures.in_range c.in-Ok.answer has.0 c.in-Ok.ensures.step has.1 c.keeps_trails.ensures.few
+    enough _ _ _ _ _ c.tenant-tenant.result c.number.result _ c.self.invariant.2 c.self.invariant.0 (own _ c.tenant-tenant.ensures.is c.find_open.ensures.same.1 c.requires.own) c.tenant-tenant.ensures.below c.number.ensures.in_range c.in-Ok.answer has.0 c.in-Ok.ensures.step has.1 c.keeps_trails.ensures.few
 
 -- the session is closed, and its seat is back
 pub invariant_of-self-then-not-is_open-2 : goal.invariant_of-self-then-not-is_open-2
 invariant_of-self-then-not-is_open-2 g c =
     let t = c.tenant-tenant.result in
     let s = c.session-session.result in
-    let mine = own _ _ _ _ _ c.tenant-tenant.ensures.is c.find_open.ensures.same.1 c.requires.own in
+    let mine = own _ c.tenant-tenant.ensures.is c.find_open.ensures.same.1 c.requires.own in
     let did = subst (λ (x : ℕ). AnswersEvent c.self.inside.cell t x c.in-Some.line.now (Ok c.in-Ok.answer) c.step_line.new.self) c.number.ensures.value c.in-Ok.ensures.step in
     let has = numbered _ _ c.is_none.ensures c.if-is_none.false in
     let shut = sym c.is_open.ensures ∙ c.if-not-is_open.true in
@@ -60,12 +57,8 @@ pub invariant_of-self-else-not-is_open : goal.invariant_of-self-else-not-is_open
 invariant_of-self-else-not-is_open g c =
     let t = c.tenant-tenant.result in
     let s = c.session-session.result in
-    let r = c.find_open.ensures.same.1 in
-    let tenant = c.tenant-tenant.ensures.is ∙ ap (λ (r : Receipts). r.tenant) r in
-    let session = c.session-session.ensures.is ∙ ap (λ (r : Receipts). r.session) r in
-    let cell = c.self.view_is ∙ c.find_open.ensures.same.0 in
-    let up : open_in c.self.inside.cell t s ≡ true = (λ i. open_in (cell i) (tenant i) (session i)) ∙ c.find_open.ensures.open in
-    let mine = own _ _ _ _ _ c.tenant-tenant.ensures.is r c.requires.own in
+    let up = opened c.self.view_is c.tenant-tenant.ensures.is c.session-session.ensures.is c.find_open.ensures.same c.find_open.ensures.open in
+    let mine = own _ c.tenant-tenant.ensures.is c.find_open.ensures.same.1 c.requires.own in
     let did = subst (λ (x : ℕ). AnswersEvent c.self.inside.cell t x c.in-Some.line.now (Ok c.in-Ok.answer) c.step_line.new.self) c.number.ensures.value c.in-Ok.ensures.step in
     let has = numbered _ _ c.is_none.ensures c.if-is_none.false in
     let desk = still_open _ _ _ _ _ t s _ c.self.invariant.2 c.self.invariant.0 mine c.tenant-tenant.ensures.below c.session-session.ensures.below c.in-Ok.answer has.0 did has.1 c.entries_open_and_close.ensures.others _ c.note.ensures.part up (sym c.is_open.ensures ∙ c.if-not-is_open.false) in
@@ -81,7 +74,7 @@ returns-then-not-is_open-clause-ok g c =
     let session = c.session-session.ensures.is ∙ ap (λ (r : Receipts). r.session) r in
     let cell = c.self.view_is ∙ c.find_open.ensures.same.0 in
     let up : open_in c.self.inside.cell t s ≡ true = (λ i. open_in (cell i) (tenant i) (session i)) ∙ c.find_open.ensures.open in
-    let mine = own _ _ _ _ _ c.tenant-tenant.ensures.is r c.requires.own in
+    let mine = own _ c.tenant-tenant.ensures.is r c.requires.own in
     let line = c.note.ensures.note.0 in
     let line_is : c.in-Some.line.now ≡ line = same_Some c.in-Some.line.now line (sym c.in-Some.ensures ∙ c.note.ensures.note.1) in
     let did : AnswersEvent c.self.inside.cell t s line (Ok c.in-Ok.answer) c.step_line.new.self = subst (λ (x : ℕ × List ℕ). AnswersEvent c.self.inside.cell t x.0 x.1 (Ok c.in-Ok.answer) c.step_line.new.self) (λ i. (c.number.ensures.value i, line_is i)) c.in-Ok.ensures.step in

@@ -3,26 +3,19 @@ use Rattle.std.specs.Prelude.{codes}
 use Rattle.sb_desk.specs.Desks.{open_in}
 use Rattle.sb_desk.specs.Receipts.{Receipts, closes}
 use Rattle.sb_desk.specs.Seats.{IsSeat, number_of}
-use Rattle.sb_desk.proofs.DeskCalls.{closed_by, end_closes, enough, given_back}
+use Rattle.sb_desk.proofs.DeskCalls.{closed_by, end_closes, enough, given_back, opened, own}
 use Rattle.sb_desk.proofs.desk.Desk.leave.Goals as goal
 
-own : (cells first t : ℕ) (r old : Receipts) → t ≡ r.tenant → r ≡ old → old.tenant % cells ≡ first → t % cells ≡ first
-own cells first t r old is same mine = ap (λ (n : ℕ). n % cells) (is ∙ ap (λ (r : Receipts). r.tenant) same) ∙ mine
-
 pub note_end-requires-clause-parts : goal.note_end-requires-clause-parts
-note_end-requires-clause-parts g c = enough _ _ _ _ _ c.tenant-tenant.result c.session-session.result _ c.self.invariant.2 c.self.invariant.0 (own _ _ _ _ _ c.tenant-tenant.ensures.is c.find_open.ensures.same.1 c.requires.own) c.tenant-tenant.ensures.below c.session-session.ensures.below c.end-answer.result c.in-Some.number c.end-answer.ensures.step c.in-Some.is c.keeps_trails.ensures.few
+note_end-requires-clause-parts g c = enough _ _ _ _ _ c.tenant-tenant.result c.session-session.result _ c.self.invariant.2 c.self.invariant.0 (own _ c.tenant-tenant.ensures.is c.find_open.ensures.same.1 c.requires.own) c.tenant-tenant.ensures.below c.session-session.ensures.below c.end-answer.result c.in-Some.number c.end-answer.ensures.step c.in-Some.is c.keeps_trails.ensures.few
 
 -- the session is closed, and its seat is back
 pub invariant_of-self : goal.invariant_of-self
 invariant_of-self g c =
     let t = c.tenant-tenant.result in
     let s = c.session-session.result in
-    let r = c.find_open.ensures.same.1 in
-    let tenant = c.tenant-tenant.ensures.is ∙ ap (λ (r : Receipts). r.tenant) r in
-    let session = c.session-session.ensures.is ∙ ap (λ (r : Receipts). r.session) r in
-    let cell = c.self.view_is ∙ c.find_open.ensures.same.0 in
-    let up : open_in c.self.inside.cell t s ≡ true = (λ i. open_in (cell i) (tenant i) (session i)) ∙ c.find_open.ensures.open in
-    let mine = own _ _ _ _ _ c.tenant-tenant.ensures.is r c.requires.own in
+    let up = opened c.self.view_is c.tenant-tenant.ensures.is c.session-session.ensures.is c.find_open.ensures.same c.find_open.ensures.open in
+    let mine = own _ c.tenant-tenant.ensures.is c.find_open.ensures.same.1 c.requires.own in
     let did = c.end-answer.ensures.step in
     let shut : open_in c.end-answer.new.self t s ≡ false = closed_by _ _ _ _ _ t s _ c.self.invariant.2 c.self.invariant.0 mine c.tenant-tenant.ensures.below c.session-session.ensures.below c.end-answer.result c.in-Some.number did c.in-Some.is c.entries_open_and_close.ensures.own up ∙ ap not (ap (closes (codes "end")) c.end-answer.ensures.ok ∙ end_closes) in
     let place = c.seat_place-at.ensures ∙ ap (λ (n : ℕ). 8 * (t / n) + s) c.requires.cells in

@@ -28,23 +28,17 @@ returns-in-Ok-request-clause-under_way c = λ records clock origin setting progr
     )
 
 pub returns-in-Ok-request-clause-tested : goal.returns-in-Ok-request-clause-tested
+unfolding returns-in-Ok-request-clause-under_way
 returns-in-Ok-request-clause-tested c = λ records clock origin setting progress r.
-    let d = c.args.self.now in
+    let come = returns-in-Ok-request-clause-under_way c records clock origin setting progress r in
     let list : List (ℕ × Mode) = query_locks c.args.query.now in
-    let listed = c.as_slice.ensures.value ∙ c.in-Ok.ensures in
-    let none = found_conflict r listed c.in-Ok-request.ensures.granted in
-    let taken = λ (s t : ℕ) (m : Mode). c.in-Ok-request.ensures.taken s t m ∙ ap (λ l. with_locks (held d.locks) c.args.viewer.now.session l s t m) listed in
-    let p : Progress = record progress { locks = with_locks progress.locks setting.who.session list } in
-    let S = λ (q : Progress). ComesTo origin (record d { locks = c.request.new.locks }) c.args.viewer.now.session records clock setting progress q in
-    let here : S p = record {
-      stands = with_more r c.request.new.locks list taken;
-      locks = released-with progress.locks setting.who.session c.args.viewer.now.session list (same_session r);
-    } in
+    let none = found_conflict r (c.as_slice.ensures.value ∙ c.in-Ok.ensures) c.in-Ok-request.ensures.granted in
+    let S = λ (q : Progress). ComesTo origin (record c.args.self.now { locks = c.request.new.locks }) c.args.viewer.now.session records clock setting progress q in
     let meant =
     granted_answer setting progress list (λ p. test_rows p (condition_rows (seen_with setting c.args.viewer.now.tables.now p) c.args.query.now)) none
-    ∙ ap (λ seen. test_rows p (condition_rows seen c.args.query.now)) (same_seen r c.args.viewer.now.tables.now p refl) in
+    ∙ ap (λ seen. test_rows come.0 (condition_rows seen c.args.query.now)) (same_seen r c.args.viewer.now.tables.now come.0 refl) in
     subst (λ (m : Result (Bool × Progress) Refusal). Tests S m c.has_row.result ⊎ (c.has_row.result ≡ Err NoMemory)) (sym meant)
-    (tests-rows S p _ c.has_row.result here c.has_row.ensures)
+    (tests-rows S come.0 _ c.has_row.result come.1 c.has_row.ensures)
 
 pub returns-clause-tested : goal.returns-clause-tested
 returns-clause-tested c = λ records clock origin setting progress r.
