@@ -23,6 +23,11 @@ use Rattle.sb_process.specs.declared.Outcome.TheVariants.{Done, ByRule, ByError,
 use Rattle.sb_process.specs.Consider.{with_request, with_changes, run_statement, Ending, ran, rolled_back, refused, run_actions, test_rows, test_condition, Considered, was_false, was_true, was_refused, consider}
 use Rattle.sb_process.specs.Process.{Processing, ended, after_verdict, process}
 use Rattle.sb_process.specs.Setting.{Setting, Progress, next_rule, rule_tables, marked, seen_with}
+use Rattle.sb_value.specs.declared.refusal.Refusal.TheVariants as refusal
+use Rattle.sb_tenant.specs.declared.reply.Answer.{Answer}
+use Rattle.sb_tenant.specs.declared.reply.Reply.TheVariants as reply
+use Rattle.sb_tenant.specs.State.{State}
+use Rattle.sb_tenant.specs.Step.{is_full_for, numbered, reply_to, step}
 use Rattle.sb_tenant.proofs.Targets.{target-asked}
 
 -- each statement of the rules passes
@@ -178,3 +183,14 @@ module _ (setting : Setting) (Good : Statement → Type 0) (Keeps : Progress →
       by : (o : Option Rule) → next_rule setting eligible p ≡ o → ((q : Progress) → Keeps q → Keeps (process n setting eligible q).progress) → Keeps (elim o as (λ _. Processing) [ None ↦ ended Done [] p | Some rule ↦ behind n eligible p rule (consider setting rule p) ]).progress
       by None e rest = h
       by (Some rule) e rest = goes rule (consider setting rule p) (consider-keeps rule p (good-next good _ rule e) h) rest
+
+-- ---- a step
+
+-- what a full trail leaves as it was holds after a step, where it holds after its reply
+pub step-keeps : (Holds : State → Type 0) (tenant bound : ℕ) (state : State) (s : ℕ) (line : List ℕ) → Holds state → Holds (numbered state (reply_to tenant bound state s line)).0 → Holds (step tenant bound state s line).0
+step-keeps Holds tenant bound state s line same next =
+    elim (is_full_for state s line) as (λ b.
+    Holds (elim b as (λ _. State × Answer) [
+      | true ↦ (state, record { number = None; reply = reply.No refusal.TrailFull })
+      | false ↦ numbered state (reply_to tenant bound state s line)
+    ]).0) [ true ↦ same | false ↦ next ]

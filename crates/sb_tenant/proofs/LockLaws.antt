@@ -32,7 +32,7 @@ use Rattle.sb_tenant.specs.Step.{first_of, is_full_for, session_refusal, outcome
 use Rattle.sb_tenant.specs.Trail.{after_abort, is_no_memory, after_entry}
 use Rattle.sb_tenant.specs.Walk.{class_of, walk}
 use Rattle.sb_tenant.specs.WellFormed.{HasSoundLocks}
-use Rattle.sb_tenant.proofs.Keeping.{IsKept, process-keeps, Any, any-rules}
+use Rattle.sb_tenant.proofs.Keeping.{IsKept, process-keeps, Any, any-rules, step-keeps}
 use Rattle.sb_tenant.proofs.Resolving.{is_edge}
 use Rattle.sb_tenant.proofs.SessionLaws.{own_session, IsInner, refused, resolved, inner-walk}
 use Rattle.sb_tenant.proofs.Standing.{still-locked}
@@ -205,14 +205,7 @@ module _ (tenant bound : ℕ) (state : State) (h : HasSoundLocks state) (s : ℕ
       by (Some command) = sound-command command
 
   pub sound-step : (line : List ℕ) → HasSoundLocks (step tenant bound state s line).0
-  sound-step line = by (is_full_for state s line)
-    where
-      by : (b : Bool) → HasSoundLocks (elim b as (λ _. State × Answer) [
-        | true ↦ (state, record { number = None; reply = reply.No refusal.TrailFull })
-        | false ↦ numbered state (reply_to tenant bound state s line)
-      ]).0
-      by true = h
-      by false = let next = (reply_to tenant bound state s line).0 in sound-same next (sound-line line) s next.catalog (state.steps + 1)
+  sound-step line = step-keeps HasSoundLocks tenant bound state s line h (let next = (reply_to tenant bound state s line).0 in sound-same next (sound-line line) s next.catalog (state.steps + 1))
 
   pub sound-abort : HasSoundLocks (after_abort state s)
   sound-abort = by (has_transaction (session_at state s))

@@ -49,7 +49,7 @@ use Rattle.sb_tenant.specs.Trail.{after_abort, is_no_memory, IsLegal, after_entr
 use Rattle.sb_tenant.specs.Walk.{outside_rules, unless, walk_lists, walk_new_parts, class_of, walk}
 use Rattle.sb_tenant.specs.WellFormed.{HasSoundLocks, StatesAreWellFormed}
 use Rattle.sb_tenant.proofs.CatalogLists.{statement-in, actions-in, has-more, sound-more, proper-more, sound-less, rules-less, rules-last, rules-without, rules-active, rules-altered, new-actions-in}
-use Rattle.sb_tenant.proofs.Keeping.{AreGoodActions, IsKept, process-keeps}
+use Rattle.sb_tenant.proofs.Keeping.{AreGoodActions, IsKept, process-keeps, step-keeps}
 use Rattle.sb_tenant.proofs.ListLaws.{IsIn, IsInOrder, order-kept, from-base, to-base, HasProperTables, proper-put, good-rules, proper-committed}
 use Rattle.sb_tenant.proofs.LockLaws.{begins-fit, sound-goes, sound-entry, opening-sound}
 use Rattle.sb_tenant.proofs.ReplayLaws.{next_after}
@@ -292,14 +292,7 @@ module _ (laws : ChangesAreProper) (there : TablesAreThere) (tenant bound : ℕ)
       by (Some command) = proper-command command
 
   proper-step : (line : List ℕ) → HasProperTables (step tenant bound state s line).0
-  proper-step line = by (is_full_for state s line)
-    where
-      by : (b : Bool) → HasProperTables (elim b as (λ _. State × Answer) [
-        | true ↦ (state, record { number = None; reply = reply.No refusal.TrailFull })
-        | false ↦ numbered state (reply_to tenant bound state s line)
-      ]).0
-      by true = g
-      by false = proper-steps (reply_to tenant bound state s line).0 (proper-line line) (state.steps + 1)
+  proper-step line = step-keeps HasProperTables tenant bound state s line g (proper-steps (reply_to tenant bound state s line).0 (proper-line line) (state.steps + 1))
 
   proper-abort : HasProperTables (after_abort state s)
   proper-abort = by (has_transaction (session_at state s))
