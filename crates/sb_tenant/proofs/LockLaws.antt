@@ -21,14 +21,13 @@ use Rattle.sb_process.specs.Setting.{Setting, Progress, seen_with}
 use Rattle.sb_syntax.specs.Text.{command_of}
 use Rattle.sb_syntax.specs.Tree as text
 use Rattle.sb_syntax.specs.Tree.{Command}
-use Rattle.sb_tenant.specs.declared.reply.Answer.{Answer}
 use Rattle.sb_tenant.specs.declared.reply.Entry.{Entry}
 use Rattle.sb_tenant.specs.declared.reply.Reply.{Reply}
 use Rattle.sb_tenant.specs.declared.reply.Reply.TheVariants as reply
 use Rattle.sb_tenant.specs.Perform.{with_request, change_seen, select_seen, perform_change, stands_as, stays, process_at, perform}
 use Rattle.sb_tenant.specs.Resolved.{Resolved, open_session, end_session, begin, commit, rollback, process_rules, process_ruleset, process_rule, query, change}
 use Rattle.sb_tenant.specs.State.{State, Session, closed, idle, active, Catalog, opening, session_at, is_open, has_transaction, changes_of, marks_of, with_session, setting_of, progress_of, with_progress, rolled_back, committed}
-use Rattle.sb_tenant.specs.Step.{first_of, is_full_for, session_refusal, outcome_of, reply_to_command, reply_to, numbered, step}
+use Rattle.sb_tenant.specs.Step.{first_of, session_refusal, outcome_of, reply_to_command, reply_to, step}
 use Rattle.sb_tenant.specs.Trail.{after_abort, is_no_memory, after_entry}
 use Rattle.sb_tenant.specs.Walk.{class_of, walk}
 use Rattle.sb_tenant.specs.WellFormed.{HasSoundLocks}

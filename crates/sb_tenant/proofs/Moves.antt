@@ -1,5 +1,5 @@
 -- What stands after the calls on a session's transaction.
-use Rattle.std.proofs.Common.{◌≡◌, ◌∙◌, ℕ, ◌≤◌, Bool, false, ◌||◌, nat_eq, List, [], ◌∷◌, ◌++◌, drop, length, refl, sym, ap, subst, true≢false, IsTrue, filter, nat_le, nat_lt, ◌&&◌, arith}
+use Rattle.std.proofs.Common.{◌≡◌, ◌∙◌, ℕ, Bool, ◌||◌, nat_eq, List, [], ◌∷◌, ◌++◌, drop, length, refl, sym, ap, subst, true≢false, IsTrue, filter, nat_le, nat_lt, ◌&&◌, arith}
 use Rattle.sb_value.specs.declared.lock.Mode.{Mode}
 use Rattle.std.proofs.Math.Seq.{drop-nil}
 use Rattle.sb_value.specs.Locks.{sessions, released}
@@ -7,7 +7,7 @@ use Rattle.sb_value.specs.NetEffect.{is_triggered}
 use Rattle.sb_value.specs.Table.{after_all, has_table}
 use Rattle.sb_value.specs.declared.id.Who.{Who}
 use Rattle.sb_rawlog.specs.Records.{Record, before}
-use Rattle.sb_rawlog.specs.Sessions.{changes, records_by, OthersStay as OtherRecordsStay}
+use Rattle.sb_rawlog.specs.Sessions.{changes, records_by}
 use Rattle.sb_tables.specs.Held.{Held, entries, has_number}
 use Rattle.sb_locks.specs.Held.{held}
 use Rattle.sb_index.specs.TableSets.{TableSets}
@@ -16,7 +16,7 @@ use Rattle.sb_process.specs.Made.{AreMade, tables_after_all}
 use Rattle.sb_process.specs.Represents.{Represents, AreCandidates, AreUntriggered, AreLocked, IsTakenBack, IsKept, is_written}
 use Rattle.sb_process.specs.Setting.{Progress}
 use Rattle.sb_process.specs.Sharing.{settled_where, TablesAreShared}
-use Rattle.sb_process.specs.Transactions.{Kept, mark_of, tested_of, ArePast, OtherSessionsStay}
+use Rattle.sb_process.specs.Transactions.{Kept, mark_of, tested_of, ArePast}
 use Rattle.sb_process.specs.declared.database.Database.{Database}
 use Rattle.sb_tenant.specs.declared.phase.Phase.TheVariants.{Active}
 use Rattle.sb_tenant.specs.declared.store.Store.{Store}

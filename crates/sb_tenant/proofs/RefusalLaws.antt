@@ -28,8 +28,8 @@ use Rattle.sb_tenant.specs.declared.reply.Answer.{Answer}
 use Rattle.sb_tenant.specs.declared.reply.Reply.{Reply}
 use Rattle.sb_tenant.specs.declared.reply.Reply.TheVariants as reply
 use Rattle.sb_tenant.specs.State.{State, Catalog, Session, closed, idle, active, changes_of, committed, has_transaction, is_open, marks_of, progress_of, session_at, setting_of, with_progress}
-use Rattle.sb_tenant.specs.Resolved.{Resolved, Class, defines, works, open_session, end_session, begin, commit, rollback, process_rules, process_ruleset, process_rule, query, change}
-use Rattle.sb_tenant.specs.Walk.{class_of, unless, walk}
+use Rattle.sb_tenant.specs.Resolved.{Resolved, Class, defines, works, commit, process_rules, process_ruleset, process_rule, query, change}
+use Rattle.sb_tenant.specs.Walk.{class_of, walk}
 use Rattle.sb_tenant.specs.Perform.{change_seen, named, perform, perform_change, process_at, reply_of, reply_rows, select_seen, stays, with_request}
 use Rattle.sb_tenant.specs.Step.{first_of, is_full_for, numbered, outcome_of, reply_to, reply_to_command, session_refusal, step}
 use Rattle.sb_tenant.proofs.Resolving.{is_locking, is_statement, IsOf, refused, resolved, kind-walk}

@@ -33,7 +33,6 @@ use Rattle.sb_rulesets.specs.Sets as rulesets
 use Rattle.sb_syntax.specs.Text.{command_of}
 use Rattle.sb_syntax.specs.Tree as text
 use Rattle.sb_syntax.specs.Tree.{Command, RuleText}
-use Rattle.sb_tenant.specs.declared.reply.Answer.{Answer}
 use Rattle.sb_tenant.specs.declared.reply.Entry.{Entry as Line}
 use Rattle.sb_tenant.specs.declared.reply.Reply.{Reply}
 use Rattle.sb_tenant.specs.declared.reply.Reply.TheVariants as reply
@@ -44,7 +43,7 @@ use Rattle.sb_tenant.specs.State.{State, Session, closed, idle, active, session_
 use Rattle.sb_tenant.specs.Limits.{table_limit}
 use Rattle.sb_tenant.specs.Resolved.{defines}
 use Rattle.sb_tenant.specs.State.{opening, is_open, has_transaction, another_has_transaction}
-use Rattle.sb_tenant.specs.Step.{first_of, refusal_by, is_full_for, session_refusal, outcome_of, reply_to_command, reply_to, numbered, step}
+use Rattle.sb_tenant.specs.Step.{first_of, refusal_by, session_refusal, outcome_of, reply_to_command, reply_to, step}
 use Rattle.sb_tenant.specs.Trail.{after_abort, is_no_memory, IsLegal, after_entry}
 use Rattle.sb_tenant.specs.Walk.{outside_rules, unless, walk_lists, walk_new_parts, class_of, walk}
 use Rattle.sb_tenant.specs.WellFormed.{HasSoundLocks, StatesAreWellFormed}

@@ -1,7 +1,7 @@
-use Rattle.std.proofs.Common.{◌≡◌, ◌+◌, ◌*◌, ◌/◌, ◌%◌, ℕ, true, false, not, sym, ap, ◌∙◌, subst}
+use Rattle.std.proofs.Common.{◌≡◌, ◌+◌, ◌*◌, ◌/◌, ℕ, false, not, sym, ap, ◌∙◌, subst}
 use Rattle.std.specs.Prelude.{codes}
 use Rattle.sb_desk.specs.Desks.{open_in}
-use Rattle.sb_desk.specs.Receipts.{Receipts, closes}
+use Rattle.sb_desk.specs.Receipts.{closes}
 use Rattle.sb_desk.specs.Seats.{IsSeat, number_of}
 use Rattle.sb_desk.proofs.DeskCalls.{closed_by, end_closes, enough, given_back, opened, own}
 use Rattle.sb_desk.proofs.desk.Desk.leave.Goals as goal

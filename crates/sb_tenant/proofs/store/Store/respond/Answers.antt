@@ -1,4 +1,4 @@
-use Rattle.std.proofs.Common.{◌≡◌, ◌∙◌, ap, sym, inl, arith, refl}
+use Rattle.std.proofs.Common.{ap, sym, inl, arith, refl}
 use Rattle.sb_syntax.specs.Views.{command as tree_of}
 use Rattle.sb_process.specs.declared.database.Database.{Database}
 use Rattle.sb_tenant.specs.declared.reply.Reply.{Reply}

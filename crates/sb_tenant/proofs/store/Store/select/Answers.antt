@@ -1,4 +1,4 @@
-use Rattle.std.proofs.Common.{◌∙◌, inl, sym, ap, refl}
+use Rattle.std.proofs.Common.{◌∙◌, inl, sym, ap}
 use Rattle.sb_process.specs.declared.database.Database.{Database}
 use Rattle.sb_tenant.specs.Perform.{perform}
 use Rattle.sb_tenant.specs.Resolved.{query}
