@@ -5,11 +5,12 @@
 
 PROGRAM is crates/starhost/out/starhost where no word is given. N tenants (120, or so many as are asked for) are made by
 generated lines: tables made and dropped, rows of all kinds, rules made, altered, dropped, ordered and switched off,
-rulesets; some of them at a limit. Of each, the script is dumped; it makes a fresh tenant whose own dump has to be the
-same bytes, and a tail of generated lines has to be answered the same by both. Then what a dump can't do: a tenant with a
-transaction, one that isn't hosted, a writer that takes nothing, or so many bytes and no more. Then each request for
-memory behind those of the input is refused in turn (refuse.c, compiled by cc): a dump is whole, or there is none, and
-that is told. The first thing that isn't as it is to be ends this with status 1.
+rulesets; some of them at a limit. 120 of them have each command of docs/COMMANDS.md that defines something. Of each, the
+script is dumped; it makes a fresh tenant whose own dump has to be the same bytes, and a tail of generated lines has to
+be answered the same by both. Then what a dump can't do: a tenant with a transaction, one that isn't hosted, a writer
+that takes nothing, or so many bytes and no more. Then each request for memory behind those of the input is refused in
+turn (refuse.c, compiled by cc): a dump is whole, or there is none, and that is told. The first thing that isn't as it
+is to be ends this with status 1.
 """
 
 import argparse
@@ -22,6 +23,8 @@ import subprocess
 import sys
 import tempfile
 import time
+
+import commands
 
 HERE = os.path.dirname(os.path.abspath(__file__))
 COLUMNS = 4
@@ -353,10 +356,14 @@ def main():
     for which in LIMITS:
         tail = ["open", "begin", "insert into t values (1)", "select count(*) from t", "commit", "end"]
         count += is_alike(asked.program, which, at_limits(which), tail)
+    lacking = commands.definitions()
     for k in range(asked.tenants):
         maker = Maker(asked.seed * 1000 + k)
         lines = maker.lines(maker.dice.randrange(5, 60))
+        lacking -= {" ".join(line.split()[:2]) for line in lines}
         count += is_alike(asked.program, f"tenant {k} of seed {asked.seed}", lines, maker.tail())
+    if lacking and asked.tenants >= 120:
+        fail(f"no generated tenant has {sorted(lacking)}")
     seconds, size = largest(asked.program)
     print(f"{asked.tenants + len(LIMITS)} tenants are dumped and made again, {count} lines; the largest, {size / 1e6:.1f} MB, in {seconds:.2f} s")
 

@@ -1,5 +1,5 @@
 #!/usr/bin/env python3
-"""The Python client on the built program: its tests, and the order system of examples/.
+"""The Python client on the built program: the commands that it knows, its tests, and the order system of examples/.
 
     python_client.py [PROGRAM]
 
@@ -12,11 +12,24 @@ import pathlib
 import subprocess
 import sys
 
+import commands
+
 TOP = pathlib.Path(__file__).resolve().parent.parent
 TESTS = TOP / "clients" / "python" / "tests"
 
 
+def check_words():
+    """Of each command the client knows whether it belongs in a transaction or outside of one."""
+    sys.path.insert(0, str(TOP / "clients" / "python"))
+    from filgwesha import connection
+
+    known = connection._WORK | connection._CATALOG
+    if commands.first_words() != known:
+        sys.exit(f"docs/COMMANDS.md and the Python client: one of them lacks {sorted(commands.first_words() ^ known)}")
+
+
 def main():
+    check_words()
     program = os.path.abspath(sys.argv[1]) if len(sys.argv) > 1 else str(TOP / "crates/starhost/out/starhost")
     os.environ["FILGWESHA_PROGRAM"] = program
     tests = subprocess.run([sys.executable, "-m", "unittest", "discover", "-s", TESTS], capture_output=True, text=True, timeout=600)
