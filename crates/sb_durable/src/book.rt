@@ -7,9 +7,10 @@ ghost use Rattle.sb_durable.specs.declared.head.Head.{Head};
 ghost use Rattle.sb_durable.specs.Noting.{record_of_note};
 ghost use Rattle.sb_durable.specs.Recording.{Part, records_of, AreAmong, AreOf, Reaches};
 
-use crate::noting::{MAX_LINE, Note, Notes, Reach};
+use crate::noting::{Note, Notes, Reach};
 use crate::{Disk, Journal, JournalError, Record};
 use sb_host::Lending;
+use sb_wire::LINE_LIMIT;
 use std::alloc::Global;
 use std::sync::Wait;
 
@@ -158,7 +159,7 @@ fn stage_one<D: Disk>(
         → Has D.Disk.seen D.Disk.may_leave journal.new head records waiting) }
 {
     let text = note.text();
-    if text.len() > MAX_LINE {
+    if text.len() > LINE_LIMIT {
         return Err(JournalError::Full);
     }
     journal.stage(Record {

@@ -5,13 +5,11 @@ ghost use Rattle.sb_durable.specs.Noting.{NotesAll, note_of, text_of};
 use sb_host::Reading;
 use sb_tenant::{Entry, Line, Reply, Tenant};
 use sb_value::{Refusal, SessionId};
+use sb_wire::LINE_LIMIT;
 use std::alloc::AllocError;
 
 /// What an abort is recorded as.
 pub(crate) const ROLLBACK: &[u8] = b"rollback";
-
-/// The longest line that is recorded.
-pub(crate) const MAX_LINE: usize = 4096;
 
 /// How many bytes a record has beside its line.
 const BESIDE: usize = 9;
@@ -98,7 +96,7 @@ fn note_all(list: &mut Vec<Note>, entries: &[Entry], room: usize) -> Reach
             return Reach::NoMemory;
         };
         // one that is too long is seen when it is staged
-        let needs = BESIDE + note.text().len().min(MAX_LINE);
+        let needs = BESIDE + note.text().len().min(LINE_LIMIT);
         if needs > left {
             return Reach::Part;
         }

@@ -5,8 +5,6 @@ ghost use Rattle.sb_durable.specs.Records.{Entry, IsEntry, entry_bytes, entry_of
 
 use std::alloc::{AllocError, Global};
 
-pub const MAX_LINE: usize = 4096;
-
 /// A line that a session of a tenant gave.
 #[derive(Clone, Copy, Debug)]
 pub struct Record<'a> {

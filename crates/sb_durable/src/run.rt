@@ -11,14 +11,14 @@ ghost use Rattle.sb_durable.specs.Recorded.{Adds, IsRecordedAs, MayAdd, Responds
 ghost use Rattle.sb_durable.specs.Restart.{Tells};
 ghost use Rattle.sb_durable.specs.Runs.{AnswersRecorded, RunsRecorded, event_of, records_of};
 
-use crate::noting::{MAX_LINE, ROLLBACK};
+use crate::noting::ROLLBACK;
 use crate::{Disk, Journal, JournalError, Record};
 use sb_cell::{Cell, StepError};
 use sb_tenant::{Answer, Reply};
 use sb_value::Refusal;
 use sb_wire::{
-    Addressed, Piece, Prefix, Responder, Sink, Source, StreamError, WireRefusal, answer_stream,
-    write_answer, write_refusal,
+    Addressed, LINE_LIMIT, Piece, Prefix, Responder, Sink, Source, StreamError, WireRefusal,
+    answer_stream, write_answer, write_refusal,
 };
 use std::alloc::{AllocError, Global};
 
@@ -62,7 +62,7 @@ impl<D: Disk> Recording<D> {
         let Ok(session) = u8::try_from(line.session) else {
             return Err(JournalError::Full);
         };
-        if text.len() > MAX_LINE {
+        if text.len() > LINE_LIMIT {
             return Err(JournalError::Full);
         }
         let record = Record {

@@ -13,7 +13,7 @@ use sb_durable::{
     File as JournalFile, Head, Journal, JournalError, Record, Syncing, Wary, open_path, sync_folder,
 };
 use sb_host::{Host, Lending, Naming, Opened};
-use sb_wire::StreamError;
+use sb_wire::{LINE_LIMIT, StreamError};
 use sb_words::{Run, Severity};
 use std::alloc::Global;
 use std::fs::{self, File};
@@ -207,7 +207,7 @@ fn write_line(
     tenant: u32,
     text: &[u8],
 ) -> Result<(), JournalError> {
-    if text.len() > MAX_LINE {
+    if text.len() > LINE_LIMIT {
         return Err(JournalError::Full);
     }
     let record = Record {
@@ -223,6 +223,3 @@ fn write_line(
         staged => staged,
     }
 }
-
-/// The longest line of a record.
-const MAX_LINE: usize = 4096;

@@ -11,8 +11,8 @@ use Rattle.sb_durable.proofs.run.Recording.record.Goals as goal
 pub returns-in_default-try_from-clause-err : goal.returns-in_default-try_from-clause-err
 returns-in_default-try_from-clause-err g c head records has file left = inl (c.is_kept.ensures head records [] has file left)
 
-pub returns-then-text-gt-MAX_LINE-clause-err : goal.returns-then-text-gt-MAX_LINE-clause-err
-returns-then-text-gt-MAX_LINE-clause-err g c head records has file left = inl (c.is_kept.ensures head records [] has file left)
+pub returns-then-text-gt-LINE_LIMIT-clause-err : goal.returns-then-text-gt-LINE_LIMIT-clause-err
+returns-then-text-gt-LINE_LIMIT-clause-err g c head records has file left = inl (c.is_kept.ensures head records [] has file left)
 
 pub returns-in_err-stage-clause-err : goal.returns-in_err-stage-clause-err
 returns-in_err-stage-clause-err g c =
@@ -24,5 +24,5 @@ returns-clause-err g c = on_err c.commit.result (λ head records has file left. 
   | inr after ↦
       let entry : Entry = record { tenant = c.args.line.tenant; session = c.in-Ok.session; line = c.in-Some.text.now } in
       let is : records_of (event_of (addressed_seen c.args.line), c.args.given.now) ≡ entry ∷ [] = c.in-Some.ensures c.args.line.tenant c.args.line.session ∙ ap (λ s. record { tenant = c.args.line.tenant; session = s; line = c.in-Some.text.now } ∷ []) (sym c.in-Ok.ensures.1) in
-      inr (subst AreRecords (sym is) (are_one entry (search) (omega (arith, c.in-Ok.ensures)) (omega (arith, c.if-text-gt-MAX_LINE.false))), subst (λ (rs : List Entry). Keeps head (records ++ rs) file) (sym is) after)
+      inr (subst AreRecords (sym is) (are_one entry (search) (omega (arith, c.in-Ok.ensures)) (omega (arith, c.if-text-gt-LINE_LIMIT.false))), subst (λ (rs : List Entry). Keeps head (records ++ rs) file) (sym is) after)
 ])
