@@ -19,14 +19,12 @@ use crate::transactions::transacts_after;
 use crate::watch::{Event, Watch};
 use http_server::Log;
 use sb_desk::Hosting;
+use sb_tenant::OPEN;
 use sb_wire::{Lines, Piece, Responder, WireRefusal};
 use std::alloc::{AllocError, Global};
 use std::io;
 use std::marker::Model;
 use std::sync::Wait;
-
-/// What is told of a first line.
-const OPEN: &[u8] = b"open";
 
 /// While so many bytes or more wait to be sent, no line is answered.
 const MOST_PENDING: usize = 65_536;

@@ -7,7 +7,7 @@ ghost use Rattle.sb_desk.specs.Seats.{IsSeat, number_of};
 
 use crate::naming::Naming;
 use crate::seats::SessionSeat;
-use sb_tenant::{Answer, KnownLines, Line, Reply, reserve_here};
+use sb_tenant::{Answer, END, KnownLines, Line, OPEN, Reply, reserve_here};
 use sb_value::SessionId;
 use std::alloc::{AllocError, Global};
 use std::marker::Model;
@@ -226,8 +226,8 @@ impl Room {
         list.reserve(2)?;
         Ok(Room {
             list,
-            first: Line::new(alloc, b"open")?,
-            end: Line::new(alloc, b"end")?,
+            first: Line::new(alloc, OPEN)?,
+            end: Line::new(alloc, END)?,
             known: KnownLines::new(alloc),
         })
     }

@@ -1,13 +1,13 @@
 //! A script that is being written.
 
 use crate::script::Script;
-use sb_syntax::TEXT_LIMIT;
+use sb_syntax::COMMAND_LIMIT;
 use sb_tenant::Line;
 use sb_value::{Value, print_value};
 use std::alloc::{AllocError, Global};
 
 /// How long a line gets where what it lists can go on in the next one. It leaves place for two numbers in front.
-const PACKED: usize = TEXT_LIMIT - 16;
+const PACKED: usize = COMMAND_LIMIT - 16;
 
 /// The lines so far, and the text of the one that is being written.
 #[derive(Drop)]

@@ -6,8 +6,8 @@ ghost use Rattle.sb_dump.specs.Playing.{AreSent, HostsOnly, IsDone};
 ghost use Rattle.sb_tenant.specs.Tenant.{state};
 
 use sb_cell::{Cell, StepError};
-use sb_syntax::TEXT_LIMIT;
-use sb_tenant::{Answer, Line, Reply, Tenant};
+use sb_syntax::COMMAND_LIMIT;
+use sb_tenant::{Answer, END, Line, OPEN, Reply, Tenant};
 use sb_value::{Refusal, TenantId};
 use std::alloc::Global;
 
@@ -35,9 +35,9 @@ pub(crate) fn play(
     let Ok(mut cell) = Cell::new(alloc, number, 256, number + 1, bound) else {
         return Err(Unplayed::NoMemory);
     };
-    send(alloc, &mut cell, id, b"open")?;
+    send(alloc, &mut cell, id, OPEN)?;
     send_all(alloc, &mut cell, id, lines)?;
-    send(alloc, &mut cell, id, b"end")?;
+    send(alloc, &mut cell, id, END)?;
     Ok(cell)
 }
 
@@ -86,7 +86,7 @@ fn send(alloc: Global, cell: &mut Cell, id: TenantId, line: &[u8]) -> Result<(),
 fn is_sendable(line: &[u8]) -> bool
     ensures { IsTrue result → IsSendable line.now }
 {
-    line.len() <= TEXT_LIMIT && line.iter().all(|byte| *byte >= b' ' && *byte <= b'~')
+    line.len() <= COMMAND_LIMIT && line.iter().all(|byte| *byte >= b' ' && *byte <= b'~')
 }
 
 /// Whether a line was done.

@@ -1,7 +1,7 @@
 //! The rows of a table as lines.
 
 use crate::draft::Draft;
-use sb_syntax::TEXT_LIMIT;
+use sb_syntax::COMMAND_LIMIT;
 use sb_tables::Table;
 use sb_value::{Name, Value, print_value};
 use std::alloc::{AllocError, Global};
@@ -66,7 +66,7 @@ impl RowWriter<'_> {
         draft.put(INSERT)?;
         draft.put(self.name.as_slice())?;
         draft.put(VALUES)?;
-        if draft.len().saturating_add(more) > TEXT_LIMIT {
+        if draft.len().saturating_add(more) > COMMAND_LIMIT {
             self.write_long(alloc, draft, values)
         } else {
             draft.put(self.row.as_slice())

@@ -6,13 +6,10 @@ use crate::Record;
 use crate::noting::ROLLBACK;
 use crate::playing::{PlayFault, Plays};
 use sb_desk::{CallError, Calling, Hosting, NoGate, Stub};
-use sb_tenant::{Answer, Reply};
+use sb_tenant::{Answer, OPEN, Reply};
 use sb_value::{Refusal, SESSION_LIMIT};
 use std::alloc::{AllocError, Global};
 use std::sync::Wait;
-
-/// The line that opens a session.
-const OPEN: &[u8] = b"open";
 
 /// The sessions that records have opened.
 #[derive(Drop)]

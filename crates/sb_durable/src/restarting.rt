@@ -14,6 +14,7 @@ use crate::playing::{PlayError, PlayFault, Plays, Progress, play_all};
 use crate::run::{Recording, step};
 use crate::{Disk, Record};
 use sb_cell::{Cell, StepError};
+use sb_tenant::END;
 use sb_value::{SESSION_LIMIT, SessionId};
 use sb_wire::Addressed;
 use std::alloc::{AllocError, Global};
@@ -120,7 +121,7 @@ fn end_session<D: Disk>(
     let line = Addressed {
         tenant,
         session,
-        command: b"end",
+        command: END,
     };
     match step(alloc, cell, recording, line) {
         Ok(Ok(answer)) => match number_of(&answer) {

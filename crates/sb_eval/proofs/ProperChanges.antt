@@ -66,23 +66,23 @@ all_in (r ∷ rows) d = (
 
 -- ---- those that pass
 
-abbrev Kept : List Numbered → List Numbered → List Numbered → Type 0
-Kept whole rows found = AreDistinct found × AreIn whole found × ((n : ℕ) → AreOther n rows → AreOther n found)
+abbrev Accumulator : List Numbered → List Numbered → List Numbered → Type 0
+Accumulator whole rows found = AreDistinct found × AreIn whole found × ((n : ℕ) → AreOther n rows → AreOther n found)
 
 kept_first : (whole : List Numbered) (r : Numbered) (rows found : List Numbered) (b : Option Bool) (rest : Option (List Numbered)) →
     AreDistinct (r ∷ rows) → row_in whole r.0 ≡ Some r.1 →
-    both (λ b ys. Some (cond b (r ∷ ys) ys)) b rest ≡ Some found → ((ys : List Numbered) → rest ≡ Some ys → Kept whole rows ys) → Kept whole (r ∷ rows) found
+    both (λ b ys. Some (cond b (r ∷ ys) ys)) b rest ≡ Some found → ((ys : List Numbered) → rest ≡ Some ys → Accumulator whole rows ys) → Accumulator whole (r ∷ rows) found
 kept_first whole r rows found None rest d here e more = absurd (none-some found e)
 kept_first whole r rows found (Some b) None d here e more = absurd (none-some found e)
 kept_first whole r rows found (Some true) (Some ys) d here e more =
     let k = more ys refl in
-    subst (Kept whole (r ∷ rows)) (same_Some (r ∷ ys) found e) ((k.2 r.0 d.0, k.0), (here, k.1), λ n o. (o.0, k.2 n o.1))
+    subst (Accumulator whole (r ∷ rows)) (same_Some (r ∷ ys) found e) ((k.2 r.0 d.0, k.0), (here, k.1), λ n o. (o.0, k.2 n o.1))
 kept_first whole r rows found (Some false) (Some ys) d here e more =
     let k = more ys refl in
-    subst (Kept whole (r ∷ rows)) (same_Some ys found e) (k.0, k.1, λ n o. k.2 n o.1)
+    subst (Accumulator whole (r ∷ rows)) (same_Some ys found e) (k.0, k.1, λ n o. k.2 n o.1)
 
-kept : (test : Numbered → Option Bool) (whole rows found : List Numbered) → AreDistinct rows → AreIn whole rows → passing test rows ≡ Some found → Kept whole rows found
-kept test whole [] found d i e = subst (Kept whole []) (same_Some [] found e) (tt, tt, λ n o. tt)
+kept : (test : Numbered → Option Bool) (whole rows found : List Numbered) → AreDistinct rows → AreIn whole rows → passing test rows ≡ Some found → Accumulator whole rows found
+kept test whole [] found d i e = subst (Accumulator whole []) (same_Some [] found e) (tt, tt, λ n o. tt)
 kept test whole (r ∷ rows) found d i e =
     kept_first whole r rows found (test r) (passing test rows) d i.0 e (λ ys. kept test whole rows ys d.1 i.1)
 
@@ -241,7 +241,7 @@ of_found : (seen : Seen) (t : ℕ) (filter : Condition) (fs : List Numbered) (cs
 of_found seen t filter fs cs there is e a =
     let rows : List Numbered = (table_at seen.tables t).rows in
     let d : AreDistinct rows = distinct rows is.1 in
-    let k : Kept rows rows fs = kept (λ r. holds (rows_in seen) filter (scope_of r)) rows rows fs d (all_in rows d) e in
+    let k : Accumulator rows rows fs = kept (λ r. holds (rows_in seen) filter (scope_of r)) rows rows fs d (all_in rows d) e in
     let none : inserts cs ≡ 0 = no_inserts seen t fs cs a in
     record { proper = proper_for seen t fs cs seen.tables a there k.0 k.1; own = own_for seen t fs cs a; few = λ some. absurd (omega (arith, none, some)) }
 

@@ -10,7 +10,7 @@ use Rattle.sb_value.specs.declared.value.Value.{Value}
 use Rattle.sb_value.specs.Table.{table_at}
 use Rattle.sb_rows.specs.Lines.{Lines}
 use Rattle.sb_eval.specs.Finished.{closed}
-use Rattle.sb_eval.specs.Kept.{first_rows}
+use Rattle.sb_eval.specs.Accumulator.{first_rows}
 use Rattle.sb_plan.specs.Seen.{Seen}
 use Rattle.sb_eval.specs.Statement.{insert_changes, rows_with, cost_limit, within_cost, within_rows, or_overflow}
 use Rattle.sb_eval.proofs.FirstRows.{take-all}

@@ -15,8 +15,8 @@ use Rattle.sb_eval.specs.Effect.{change_of}
 use Rattle.sb_eval.specs.Refused.{Answers}
 use Rattle.sb_eval.specs.Statement.{changes_by, found, insert_changes, or_overflow, rows_after, within_rows}
 use Rattle.sb_eval.specs.declared.change.Effect.{Effect}
-use Rattle.sb_eval.specs.declared.fault.Fault.{Fault}
-use Rattle.sb_eval.specs.declared.fault.EvalError.{EvalError}
+use Rattle.sb_eval.specs.declared.stop.Stop.{Stop}
+use Rattle.sb_eval.specs.declared.error.EvalError.{EvalError}
 
 -- the costs of the operands of assignments, added up
 abbrev pub operands_cost : Seen → List Assignment → ℕ
@@ -35,5 +35,5 @@ abbrev pub changes_within : Seen → Statement → Result (List Change) Refusal
 changes_within seen statement = within_rows (rows_after seen statement) (or_overflow (changes_by seen statement))
 
 -- what was given is answered, or overflow
-abbrev pub AnswersAs : {X A : Type 0} → (X → A) → Result X Fault → Result X EvalError → Type 0
+abbrev pub AnswersAs : {X A : Type 0} → (X → A) → Result X Stop → Result X EvalError → Type 0
 AnswersAs {A = A} view given result = (meant : Option A) → Gives view meant given → Answers view (or_overflow meant) result

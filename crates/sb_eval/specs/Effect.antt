@@ -6,8 +6,8 @@ use Rattle.sb_plan.specs.Seen.{Seen}
 use Rattle.sb_eval.specs.Statement.{delete_change, update_change, assigned, scope_of}
 use Rattle.sb_check.specs.declared.tree.Assignment.{Assignment}
 use Rattle.sb_check.specs.declared.tree.Source.{Source}
-use Rattle.sb_plan.specs.Known.{OperandRight, left, right}
-use Rattle.sb_plan.specs.declared.known.Known.{Known}
+use Rattle.sb_plan.specs.Memo.{OperandRight, left, right}
+use Rattle.sb_plan.specs.declared.memo.Memo.{Memo}
 use Rattle.sb_eval.specs.declared.change.Effect.{Effect}
 use Rattle.sb_eval.specs.declared.change.Effect.TheVariants.{Delete, Update}
 
@@ -23,10 +23,10 @@ with_change done change passes = if passes then option_map (λ c. done ++ c ∷ 
 -- what is known of it is so in every scope
 module _ (rows_in : Source → List (List Value)) where
   -- of the operands of assignments: each lies to the left of those after it
-  abbrev pub AssignmentsRight : List Assignment → Known → Type 0
-  AssignmentsRight [] known = Unit {0}
-  AssignmentsRight (a ∷ rest) known = OperandRight rows_in a.operand (left known) × AssignmentsRight rest (right known)
+  abbrev pub AssignmentsRight : List Assignment → Memo → Type 0
+  AssignmentsRight [] memo = Unit {0}
+  AssignmentsRight (a ∷ rest) memo = OperandRight rows_in a.operand (left memo) × AssignmentsRight rest (right memo)
 
-  abbrev pub EffectRight : Effect → Known → Type 0
-  EffectRight Delete known = Unit {0}
-  EffectRight (Update assignments columns) known = AssignmentsRight assignments.now known
+  abbrev pub EffectRight : Effect → Memo → Type 0
+  EffectRight Delete memo = Unit {0}
+  EffectRight (Update assignments columns) memo = AssignmentsRight assignments.now memo

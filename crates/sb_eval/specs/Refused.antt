@@ -2,10 +2,10 @@
 use Rattle.std.specs.Prelude.{◌≡◌, Result, Ok, Err}
 use Rattle.sb_value.specs.declared.refusal.Refusal.{Refusal}
 use Rattle.sb_value.specs.declared.refusal.Refusal.TheVariants as refusal
-use Rattle.sb_eval.specs.declared.fault.Fault.{Fault}
-use Rattle.sb_eval.specs.declared.fault.Fault.TheVariants as fault
-use Rattle.sb_eval.specs.declared.fault.EvalError.{EvalError}
-use Rattle.sb_eval.specs.declared.fault.EvalError.TheVariants.{TooBig, Overflow, TooManyRows, NoMemory}
+use Rattle.sb_eval.specs.declared.stop.Stop.{Stop}
+use Rattle.sb_eval.specs.declared.stop.Stop.TheVariants as stop
+use Rattle.sb_eval.specs.declared.error.EvalError.{EvalError}
+use Rattle.sb_eval.specs.declared.error.EvalError.TheVariants.{TooBig, Overflow, TooManyRows, NoMemory}
 
 -- the answer, seen by a view, is what is meant, unless memory runs out
 abbrev pub Answers : {X A : Type 0} → (X → A) → Result A Refusal → Result X EvalError → Type 0
@@ -15,10 +15,10 @@ Answers view meant (Err Overflow) = meant ≡ Err refusal.Overflow
 Answers view meant (Err TooManyRows) = meant ≡ Err refusal.TooManyRows
 Answers view meant (Err NoMemory) = Unit {0}
 
--- a fault as an error
-abbrev pub error_of : Fault → EvalError
-error_of fault.Overflow = Overflow
-error_of fault.NoMemory = NoMemory
+-- why it stops, as an error
+abbrev pub error_of : Stop → EvalError
+error_of stop.NoValue = Overflow
+error_of stop.NoMemory = NoMemory
 
 -- f of what is given, or the refusal
 abbrev pub with_given : {A B : Type 0} → (A → B) → Result A Refusal → Result B Refusal

@@ -2,12 +2,12 @@
 use Rattle.std.specs.Prelude.{◌≡◌, ℕ, Bool, List, [], ◌∷◌, Option, Some, option_and_then}
 use Rattle.sb_value.specs.declared.value.Value.{Value}
 use Rattle.sb_value.specs.declared.change.Change.{Change}
-use Rattle.sb_plan.specs.Known.{IsRight}
+use Rattle.sb_plan.specs.Memo.{IsRight}
 use Rattle.sb_check.specs.declared.tree.Source.TheVariants.{Table}
 use Rattle.sb_plan.specs.Meaning.{holds}
 use Rattle.sb_plan.specs.RowFlags.{Tell}
 use Rattle.sb_plan.specs.Seen.{Seen, rows_in}
-use Rattle.sb_plan.specs.declared.known.Known.{Known}
+use Rattle.sb_plan.specs.declared.memo.Memo.{Memo}
 use Rattle.sb_eval.specs.Changes.{changes_of}
 use Rattle.sb_eval.specs.Effect.{EffectRight, change_of, with_change}
 use Rattle.sb_eval.specs.Statement.{scope_of}
@@ -16,10 +16,10 @@ use Rattle.sb_eval.specs.declared.change.TableWalk.{TableWalk}
 module _ {S : Type 0} (seen : S → Seen) (walk : TableWalk S) where
   -- what the walk knows of its condition is so
   abbrev pub IsTableWalkRight : Type 0
-  IsTableWalkRight = IsRight (rows_in (seen walk.sources.now)) walk.filter.now walk.known.now
+  IsTableWalkRight = IsRight (rows_in (seen walk.sources.now)) walk.filter.now walk.memo.now
 
   -- what is known of the operands is so
-  abbrev pub AreOperandsRight : Known → Type 0
+  abbrev pub AreOperandsRight : Memo → Type 0
   AreOperandsRight operands = EffectRight (rows_in (seen walk.sources.now)) walk.effect.now operands
 
   -- the change of a numbered row

@@ -9,10 +9,10 @@ ghost use Rattle.sb_plan.specs.Scopes.{scope_of, value_seen};
 
 use crate::around::Around;
 use crate::condition::{condition, operand};
-use crate::fault::Fault;
-use crate::learn::learn_effect;
+use crate::hoist::hoist_effect;
+use crate::stop::Stop;
 use sb_check::{Assignment, Condition};
-use sb_plan::{Known, LOOKED_UP, LentRow, Scope, Sources, ValueRef};
+use sb_plan::{LOOKED_UP, LentRow, Memo, Scope, Sources, ValueRef};
 use sb_value::{Change, Columns, Kind, Row, TableId, Value, sets_take_places};
 use smallvec::SmallVec;
 use std::alloc::{AllocError, Global};
@@ -182,18 +182,18 @@ fn put<'r>(values: &mut [ValueRef<'r>], place: u8, value: ValueRef<'r>)
 fn assign<'r, S: Sources>(
     alloc: Global,
     assignments: &'r [Assignment],
-    known: &Known<'r>,
+    memo: &Memo<'r>,
     around: &Around<'_, 'r, S>,
     row: &mut AssignedRow<'r>,
-) -> Result<(), Fault>
-    requires { AssignmentsRight (rows_around S.seen around.now) assignments.now known.now }
+) -> Result<(), Stop>
+    requires { AssignmentsRight (rows_around S.seen around.now) assignments.now memo.now }
     ensures { Leaves row.new (assigned_around S.seen around.now assignments.now row.old) result }
 {
     let Some((first, rest)) = assignments.split_first() else {
         return Ok(());
     };
-    assign(alloc, rest, known.right(), around, row)?;
-    let value = operand(alloc, &first.operand, known.left(), around)?;
+    assign(alloc, rest, memo.right(), around, row)?;
+    let value = operand(alloc, &first.operand, memo.left(), around)?;
     row.set(first.place, value);
     Ok(())
 }
@@ -203,14 +203,14 @@ fn assigned_row<'r, S: Sources>(
     alloc: Global,
     assignments: &'r [Assignment],
     values: &'r [Value],
-    known: &Known<'r>,
+    memo: &Memo<'r>,
     around: &Around<'_, 'r, S>,
-) -> Result<Row, Fault>
-    requires { AssignmentsRight (rows_around S.seen around.now) assignments.now known.now }
+) -> Result<Row, Stop>
+    requires { AssignmentsRight (rows_around S.seen around.now) assignments.now memo.now }
     ensures { Gives (λ row. row) (assigned_around S.seen around.now assignments.now values.now) result }
 {
     let mut row = AssignedRow::new(alloc, values)?;
-    assign(alloc, assignments, known, around, &mut row)?;
+    assign(alloc, assignments, memo, around, &mut row)?;
     Ok(row.to_row(alloc)?)
 }
 
@@ -219,7 +219,7 @@ fn assigned_row<'r, S: Sources>(
 pub(crate) struct TableWalk<'w, 'r, S: Sources> {
     pub(crate) effect: &'w Effect<'r>,
     pub(crate) filter: &'r Condition,
-    pub(crate) known: &'w Known<'r>,
+    pub(crate) memo: &'w Memo<'r>,
     pub(crate) table: TableId,
     pub(crate) sources: &'r S,
 }
@@ -230,9 +230,9 @@ fn change<'r, S: Sources>(
     walk: &TableWalk<'_, 'r, S>,
     number: u64,
     values: &'r [Value],
-    operands: &Known<'r>,
+    operands: &Memo<'r>,
     scope: &Scope<'_, 'r>,
-) -> Result<Change, Fault>
+) -> Result<Change, Stop>
     requires operands { AreOperandsRight S.seen walk.now operands.now }
     requires scope { scope_of scope.now ≡ spec.scope_of (number, values.now) }
     ensures { Gives (λ c. c) (change_of_row S.seen walk.now (number, values.now)) result }
@@ -259,9 +259,9 @@ pub(crate) fn add_change<'r, S: Sources>(
     passes: bool,
     number: u64,
     values: &'r [Value],
-    operands: &mut Known<'r>,
+    operands: &mut Memo<'r>,
     changes: &mut Vec<Change>,
-) -> Result<(), Fault>
+) -> Result<(), Stop>
     requires { AreOperandsRight S.seen walk.now operands.old }
     ensures operands { OnOk result (AreOperandsRight S.seen walk.now operands.new) }
     ensures changes { Leaves changes.new.items (with_change changes.old.items (change_of_row S.seen walk.now (number, values.now)) passes) result }
@@ -274,7 +274,7 @@ pub(crate) fn add_change<'r, S: Sources>(
     let scope = Scope::Within(&combination, &outermost);
     let found = changes.len();
     if found == 0 || found == LOOKED_UP {
-        *operands = learn_effect(alloc, walk.effect, found as u64, walk.table, walk.sources)?;
+        *operands = hoist_effect(alloc, walk.effect, found as u64, walk.table, walk.sources)?;
     }
     let change = change(alloc, walk, number, values, operands, &scope)?;
     changes.push(change)?;
@@ -287,10 +287,10 @@ pub(crate) fn change_row<'r, S: Sources>(
     walk: &TableWalk<'_, 'r, S>,
     number: u64,
     values: &'r [Value],
-    operands: &mut Known<'r>,
+    operands: &mut Memo<'r>,
     changes: &mut Vec<Change>,
-) -> Result<(), Fault>
-    requires known { IsTableWalkRight S.seen walk.now }
+) -> Result<(), Stop>
+    requires memo { IsTableWalkRight S.seen walk.now }
     requires operands { AreOperandsRight S.seen walk.now operands.old }
     ensures operands { OnOk result (AreOperandsRight S.seen walk.now operands.new) }
     ensures changes { Leaves changes.new.items (changed S.seen walk.now changes.old.items (number, values.now)) result }
@@ -302,6 +302,6 @@ pub(crate) fn change_row<'r, S: Sources>(
         sources: walk.sources,
         scope: &scope,
     };
-    let passes = condition(alloc, walk.filter, walk.known, &around)?;
+    let passes = condition(alloc, walk.filter, walk.memo, &around)?;
     add_change(alloc, walk, passes, number, values, operands, changes)
 }

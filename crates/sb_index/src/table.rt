@@ -6,11 +6,10 @@ ghost use Rattle.sb_value.specs.NetEffect.{is_operation, update_between};
 ghost use Rattle.sb_index.specs.Operation.{Operation, places};
 ghost use Rattle.sb_index.specs.Stands.{in_column, in_table, triggers_in, column_flags, with_columns, with_table_rule};
 
-use sb_value::{Change, Columns, Kind, RuleId, RuleSet, Triggers, Value, differing, same_row};
+use sb_value::{
+    COLUMN_LIMIT, Change, Columns, Kind, RuleId, RuleSet, Triggers, Value, differing, same_row,
+};
 use std::marker::Model;
-
-/// How many columns a table has at most.
-const COLUMN_LIMIT: usize = 8;
 
 /// The rules that each operation on one table triggers.
 #[derive(Drop)]

@@ -6,9 +6,9 @@ pub mod Scopes
 pub mod Size
 pub mod Correlation
 pub mod ValueSet
-pub mod Known
+pub mod Memo
 pub mod Joined
-pub mod Settled
+pub mod ErrorFree
 pub mod Index
 pub mod Join
 pub mod Gathered

@@ -2,7 +2,7 @@
 ghost use Rattle.std.specs.Prelude.{◌≡◌, ◌<◌, get_or, length, IfSome};
 ghost use Rattle.std.specs.Bool.{OnTrue};
 
-use crate::known::Known;
+use crate::memo::Memo;
 use sb_check::{
     Column, Condition, ConditionNode, Expression, ExpressionNode, Items, Operand, OperandNode,
     Query,
@@ -114,18 +114,18 @@ pub(crate) fn named_in<'c>(alloc: Global, q: &'c Query) -> Option<Named<'c>> {
 }
 
 /// Whether no part of a condition is left to the walk for its form: of subqueries those are compiled whose answer is known.
-pub(crate) fn is_compiled(c: &Condition, known: &Known<'_>) -> bool {
+pub(crate) fn is_compiled(c: &Condition, memo: &Memo<'_>) -> bool {
     match &c.node {
         ConditionNode::Always => true,
         ConditionNode::Disjunction(a, b) | ConditionNode::Conjunction(a, b) => {
-            is_compiled(a, known.left()) && is_compiled(b, known.right())
+            is_compiled(a, memo.left()) && is_compiled(b, memo.right())
         }
-        ConditionNode::Negation(a) => is_compiled(a, known),
+        ConditionNode::Negation(a) => is_compiled(a, memo),
         ConditionNode::Compare(_, _, b) => match &b.node {
             OperandNode::Expression(_) => true,
-            OperandNode::ScalarSubquery(_) => known.one_value().is_some(),
+            OperandNode::ScalarSubquery(_) => memo.one_value().is_some(),
         },
         ConditionNode::In(_, _) => false,
-        ConditionNode::Exists(_) => known.truth().is_some(),
+        ConditionNode::Exists(_) => memo.truth().is_some(),
     }
 }

@@ -3,9 +3,9 @@ ghost use Rattle.std.specs.Prelude.{◌≡◌, true, Some};
 ghost use Rattle.sb_check.specs.Condition.{compare, negation};
 ghost use Rattle.sb_plan.specs.Meaning.{value_of};
 ghost use Rattle.sb_plan.specs.Scopes.{scope_of, value_seen};
-ghost use Rattle.sb_plan.specs.Settled as spec;
+ghost use Rattle.sb_plan.specs.ErrorFree as spec;
 
-use crate::known::Known;
+use crate::memo::Memo;
 use crate::scope::{Scope, column};
 use crate::value_ref::ValueRef;
 use sb_check::{Condition, ConditionNode, Expression, ExpressionNode, Operand, OperandNode};
@@ -36,13 +36,13 @@ fn called_value<'r>(e: &'r Expression, scope: &Scope<'_, 'r>) -> ValueRef<'r>
 
 /// The value of an operand that overflows nowhere.
 #[inline(always)]
-fn settled_value<'r>(o: &'r Operand, known: &Known<'r>, scope: &Scope<'_, 'r>) -> ValueRef<'r>
-    requires { spec.operand_settled o.now known.now ≡ true }
-    ensures { spec.IsOperandValue o.now known.now (scope_of scope.now) (value_seen result) }
+fn error_free_value<'r>(o: &'r Operand, memo: &Memo<'r>, scope: &Scope<'_, 'r>) -> ValueRef<'r>
+    requires { spec.operand_error_free o.now memo.now ≡ true }
+    ensures { spec.IsOperandValue o.now memo.now (scope_of scope.now) (value_seen result) }
 {
     match &o.node {
         OperandNode::Expression(e) => plain_value(e, scope),
-        OperandNode::ScalarSubquery(_) => match known.one_value() {
+        OperandNode::ScalarSubquery(_) => match memo.one_value() {
             Some(value) => value,
             None => ValueRef::Int(0),
         },
@@ -56,59 +56,59 @@ pub(crate) fn compared<'r>(
     a: &'r Expression,
     comparison: Comparison,
     b: &'r Operand,
-    known: &Known<'r>,
+    memo: &Memo<'r>,
     scope: &Scope<'_, 'r>,
 ) -> bool
-    requires { spec.is_settled (compare a.now comparison b.now) known.now ≡ true }
-    ensures { spec.IsTruth (compare a.now comparison b.now) known.now (scope_of scope.now) result }
+    requires { spec.is_error_free (compare a.now comparison b.now) memo.now ≡ true }
+    ensures { spec.IsTruth (compare a.now comparison b.now) memo.now (scope_of scope.now) result }
 {
-    plain_value(a, scope).compares(comparison, settled_value(b, known, scope))
+    plain_value(a, scope).compares(comparison, error_free_value(b, memo, scope))
 }
 
 /// Whether a condition that overflows nowhere is true. Of one comparison, and of none, it is said at once.
 #[cycle(truth)]
 #[inline(always)]
-pub fn is_true_inlined<'r>(c: &'r Condition, known: &Known<'r>, scope: &Scope<'_, 'r>) -> bool
-    requires { spec.is_settled c.now known.now ≡ true }
-    ensures { spec.IsTruth c.now known.now (scope_of scope.now) result }
+pub fn is_true<'r>(c: &'r Condition, memo: &Memo<'r>, scope: &Scope<'_, 'r>) -> bool
+    requires { spec.is_error_free c.now memo.now ≡ true }
+    ensures { spec.IsTruth c.now memo.now (scope_of scope.now) result }
 {
     match &c.node {
         ConditionNode::Always => true,
-        ConditionNode::Compare(a, comparison, b) => compared(a, *comparison, b, known, scope),
-        _ => is_true(c, known, scope),
+        ConditionNode::Compare(a, comparison, b) => compared(a, *comparison, b, memo, scope),
+        _ => is_chain_true(c, memo, scope),
     }
 }
 
 /// Whether a condition that overflows nowhere is false. It stands apart, so that a chain is walked as a loop.
 #[cycle(truth)]
 #[inline(never)]
-fn is_false<'r>(c: &'r Condition, known: &Known<'r>, scope: &Scope<'_, 'r>) -> bool
-    requires { spec.is_settled c.now known.now ≡ true }
-    ensures { spec.IsTruth (negation c.now) known.now (scope_of scope.now) result }
+fn is_false<'r>(c: &'r Condition, memo: &Memo<'r>, scope: &Scope<'_, 'r>) -> bool
+    requires { spec.is_error_free c.now memo.now ≡ true }
+    ensures { spec.IsTruth (negation c.now) memo.now (scope_of scope.now) result }
 {
-    !is_true(c, known, scope)
+    !is_chain_true(c, memo, scope)
 }
 
 /// Whether a condition that overflows nowhere is true. The right side goes first: in a chain it is a single comparison,
 /// and the left side is what is left of the chain.
 #[cycle(truth)]
-pub(crate) fn is_true<'r>(c: &'r Condition, known: &Known<'r>, scope: &Scope<'_, 'r>) -> bool
-    requires { spec.is_settled c.now known.now ≡ true }
-    ensures { spec.IsTruth c.now known.now (scope_of scope.now) result }
+pub(crate) fn is_chain_true<'r>(c: &'r Condition, memo: &Memo<'r>, scope: &Scope<'_, 'r>) -> bool
+    requires { spec.is_error_free c.now memo.now ≡ true }
+    ensures { spec.IsTruth c.now memo.now (scope_of scope.now) result }
 {
     match &c.node {
         ConditionNode::Always => true,
-        ConditionNode::Disjunction(a, b) => is_true_inlined(b, known.right(), scope)
-            || is_true(a, known.left(), scope),
-        ConditionNode::Conjunction(a, b) => is_true_inlined(b, known.right(), scope)
-            && is_true(a, known.left(), scope),
-        ConditionNode::Negation(a) => is_false(a, known, scope),
-        ConditionNode::Compare(a, comparison, b) => compared(a, *comparison, b, known, scope),
-        ConditionNode::In(a, _) => match known.values() {
+        ConditionNode::Disjunction(a, b) => is_true(b, memo.right(), scope)
+            || is_chain_true(a, memo.left(), scope),
+        ConditionNode::Conjunction(a, b) => is_true(b, memo.right(), scope)
+            && is_chain_true(a, memo.left(), scope),
+        ConditionNode::Negation(a) => is_false(a, memo, scope),
+        ConditionNode::Compare(a, comparison, b) => compared(a, *comparison, b, memo, scope),
+        ConditionNode::In(a, _) => match memo.values() {
             Some(set) => set.contains(called_value(a, scope)),
             None => false,
         },
-        ConditionNode::Exists(_) => match known.truth() {
+        ConditionNode::Exists(_) => match memo.truth() {
             Some(some) => some,
             None => false,
         },

@@ -21,8 +21,8 @@ use Rattle.sb_process.specs.View.{seen_by}
 use Rattle.sb_process.specs.Request.{AreThere, IsLocked, IsAnswer, after_request, refusal_for}
 use Rattle.sb_process.specs.Consider.{with_request}
 use Rattle.sb_eval.specs.Refused.{Answers}
-use Rattle.sb_eval.specs.declared.fault.EvalError.{EvalError}
-use Rattle.sb_eval.specs.declared.fault.EvalError.TheVariants as error
+use Rattle.sb_eval.specs.declared.error.EvalError.{EvalError}
+use Rattle.sb_eval.specs.declared.error.EvalError.TheVariants as error
 use Rattle.sb_process.specs.declared.database.Database.{Database}
 use Rattle.sb_process.specs.Represents.{Represents, AreLocked, AreCandidates, who_in}
 use Rattle.sb_process.specs.Transactions.{Kept}

@@ -9,8 +9,8 @@ use Rattle.sb_check.specs.Condition.{Query}
 use Rattle.sb_tables.specs.Held.{Held, has_number, numbered}
 use Rattle.sb_eval.specs.Seen.{no_transition}
 use Rattle.sb_eval.specs.Statement.{query_locks, select_rows}
-use Rattle.sb_eval.specs.declared.fault.EvalError.{EvalError}
-use Rattle.sb_eval.specs.declared.fault.EvalError.TheVariants as error
+use Rattle.sb_eval.specs.declared.error.EvalError.{EvalError}
+use Rattle.sb_eval.specs.declared.error.EvalError.TheVariants as error
 use Rattle.sb_rawlog.specs.Records.{Record}
 use Rattle.sb_process.specs.declared.database.Database.{Database}
 use Rattle.sb_process.specs.Represents.{Represents}

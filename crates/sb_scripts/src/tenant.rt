@@ -4,7 +4,7 @@
 use crate::fault::ScriptFault;
 use crate::repeat::push_number;
 use sb_cell::{Cell, StepError};
-use sb_tenant::{Answer, Entry};
+use sb_tenant::{Answer, END, Entry, OPEN};
 use sb_value::SessionId;
 use sb_wire::{StreamError, write_bare_reply};
 use std::alloc::Global;
@@ -36,9 +36,9 @@ fn answer(alloc: Global, cell: &mut Cell, line: &[u8]) -> Result<Answer, StepErr
     }
     let session = SessionId::new(0);
     let is_open = cell.is_open(LONE, session);
-    if line == b"open".as_slice() && !is_open && !cell.is_full(LONE) {
+    if line == OPEN && !is_open && !cell.is_full(LONE) {
         cell.open(alloc, LONE, session)
-    } else if line == b"end".as_slice() && is_open {
+    } else if line == END && is_open {
         Ok(cell.end(LONE, session))
     } else {
         cell.step(alloc, LONE, 0, line)

@@ -13,11 +13,8 @@ use crate::literal::{name, name_after, names};
 use crate::rule::{alteration, rule};
 use crate::statement::{change, whole_query};
 use crate::tree::Command;
-use sb_value::{ColumnDefinition, ColumnType, Name};
+use sb_value::{COLUMN_LIMIT, ColumnDefinition, ColumnType, Name};
 use std::alloc::Global;
-
-/// How many columns a table has.
-const MAX_COLUMNS: usize = 8;
 
 #[tactic(auto, unfolding(crate::specs::Reading::column_type))]
 fn column_type(tokens: &mut Cursor<'_>) -> Result<ColumnType, Fault>
@@ -44,7 +41,7 @@ impl Item for ColumnDefinition {
 fn columns(alloc: Global, tokens: &mut Cursor<'_>) -> Result<Vec<ColumnDefinition>, Fault>
     ensures { Gives (λ v. v.items) (spec.columns tokens.old) result tokens.old tokens.new }
 {
-    list(alloc, tokens, Kind::Comma, Some(MAX_COLUMNS))
+    list(alloc, tokens, Kind::Comma, Some(COLUMN_LIMIT))
 }
 
 #[tactic(auto, unfolding(crate::specs::Reading::creates_table))]

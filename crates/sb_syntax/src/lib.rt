@@ -20,7 +20,7 @@ pub use cursor::Token;
 pub use error::ParseError;
 pub use kind::Kind;
 pub use token::{
-    TEXT_LIMIT, command_of_is_the_grammar, one_command, parse, tokens, values_spell_themselves,
+    COMMAND_LIMIT, command_of_is_the_grammar, one_command, parse, tokens, values_spell_themselves,
 };
 pub use tree::{
     Action, AlterationText, Arithmetic, Assignment, ColumnReference, Command, Comparison,

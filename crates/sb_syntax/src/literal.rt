@@ -115,7 +115,7 @@ fn minus(tokens: &mut Cursor<'_>) -> Result<Value, Fault>
 fn is_bare(b: u8) -> bool
     ensures { result ≡ is_bare b }
 {
-    32 <= b && b <= 126 && b != 39
+    b' ' <= b && b <= b'~' && b != b'\''
 }
 
 fn all_bare(bytes: &[u8]) -> bool
@@ -171,7 +171,7 @@ fn halved(alloc: Global, quoted: &[u8]) -> Result<Vec<u8>, AllocError>
             break;
         }
         value.push_reserved(*b);
-        rest = if *b == 39 { &after[1..] } else { after };
+        rest = if *b == b'\'' { &after[1..] } else { after };
     }
     Ok(value)
 }
@@ -179,7 +179,7 @@ fn halved(alloc: Global, quoted: &[u8]) -> Result<Vec<u8>, AllocError>
 fn is_printable(b: u8) -> bool
     ensures { result ≡ is_printable b }
 {
-    32 <= b && b <= 126
+    b' ' <= b && b <= b'~'
 }
 
 #[inline(never)]

@@ -61,7 +61,7 @@ pub fn tokens(alloc: Global, text: &[u8]) -> Result<Vec<Token>, ParseError>
 
 /// The most bytes of a command's text. A tree is as deep as a sum in its text is long, and so bounded, it is
 /// read, resolved, evaluated and released in less than 1 MB of the stack.
-pub const TEXT_LIMIT: usize = 4096;
+pub const COMMAND_LIMIT: usize = 4096;
 
 /// The shortest commands of a transaction, which need no list of tokens.
 fn one_word(text: &[u8]) -> Option<Command>

@@ -3,11 +3,9 @@ ghost use Rattle.std.specs.Prelude.{◌≡◌, ◌<◌, ◌≤◌, ◌+◌, OnOk
 ghost use Rattle.sb_tenant.specs.EndLines.{AreEnds};
 
 use crate::reply::Line;
+use crate::tenant::END;
 use std::alloc::{AllocError, Global};
 use std::marker::Model;
-
-/// The line that ends a session.
-const END: &[u8] = b"end";
 
 /// So many lines `end`, which share their bytes.
 #[derive(Drop)]

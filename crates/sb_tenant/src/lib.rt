@@ -26,4 +26,4 @@ mod work;
 pub use lines::KnownLines;
 pub use places::reserve_here;
 pub use reply::{Answer, Entry, Line, NamedTrace, Reply, RuleError, RuleName};
-pub use tenant::{NotBegun, Sent, TRAIL_LIMIT, Tenant};
+pub use tenant::{END, NotBegun, OPEN, Sent, TRAIL_LIMIT, Tenant};

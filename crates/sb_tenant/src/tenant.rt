@@ -24,7 +24,7 @@ use crate::store::Store;
 use sb_catalog::Definitions;
 use sb_index::RuleIndex;
 use sb_rawlog::ChangeLog;
-use sb_syntax::TEXT_LIMIT;
+use sb_syntax::COMMAND_LIMIT;
 use sb_tables::{Table, Tables};
 use sb_value::{Name, Refusal, SESSION_LIMIT, SessionId, TenantId};
 use std::alloc::Global;
@@ -34,10 +34,10 @@ use std::marker::Model;
 pub const TRAIL_LIMIT: usize = 1_048_576;
 
 /// The line that opens a session.
-const OPEN: &[u8] = b"open";
+pub const OPEN: &[u8] = b"open";
 
 /// The line that ends a session.
-const END: &[u8] = b"end";
+pub const END: &[u8] = b"end";
 
 /// A step wasn't begun: memory ran out, or what the tenant may take of it is taken, or the line is longer than a command
 /// may be.
@@ -390,7 +390,7 @@ fn make_ready(
     ensures filled { OnOk result (8 ≤ end_lines.new) }
     ensures short { OnOk result (length line.now ≤ text_limit) }
 {
-    if line.len() > TEXT_LIMIT
+    if line.len() > COMMAND_LIMIT
         || reserve_here(alloc, trail, 1 + SESSION_LIMIT).is_err()
         || end_lines.fill(alloc, SESSION_LIMIT).is_err()
     {

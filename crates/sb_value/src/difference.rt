@@ -5,10 +5,8 @@ ghost use Rattle.sb_value.specs.Columns.{differ_at, differing};
 ghost use Rattle.sb_value.specs.Values.{same_row};
 
 use crate::columns::Columns;
+use crate::id::COLUMN_LIMIT;
 use crate::value::Value;
-
-/// The most columns that a table has.
-const COLUMN_LIMIT: usize = 8;
 
 /// Whether two rows are equal.
 pub fn same_row(one: &[Value], other: &[Value]) -> bool

@@ -13,6 +13,9 @@ pub const SESSION_LIMIT: usize = 8;
 /// How many tables a tenant has at most.
 pub const TABLE_LIMIT: usize = 16;
 
+/// How many columns a table has at most.
+pub const COLUMN_LIMIT: usize = 8;
+
 /// How many rules a tenant has at most.
 pub const RULE_LIMIT: usize = 256;
 

@@ -20,7 +20,8 @@ pub use change::{Change, Kind};
 pub use columns::Columns;
 pub use difference::{differing, same_row};
 pub use id::{
-    RULE_LIMIT, RuleId, SESSION_LIMIT, SessionId, TABLE_LIMIT, TENANT_LIMIT, TableId, TenantId, Who,
+    COLUMN_LIMIT, RULE_LIMIT, RuleId, SESSION_LIMIT, SessionId, TABLE_LIMIT, TENANT_LIMIT, TableId,
+    TenantId, Who,
 };
 pub use laws::{
     last_change_triggers, literals_give_values_back, net_effects_compose, new_changes_trigger,

@@ -4,7 +4,7 @@ ghost use Rattle.sb_wire.specs.Stream.{MayFail, OnWriteFault};
 ghost use Rattle.starhost.specs.Parsing.{ParsesStream, TellsBytes, TellsLines};
 ghost use Rattle.starhost.specs.Writing.{WritesOf};
 
-use sb_syntax::{ParseError, TEXT_LIMIT, parse};
+use sb_syntax::{COMMAND_LIMIT, ParseError, parse};
 use sb_wire::{Piece, Responder, Sink, Source, StreamError, answer_stream, push_labelled};
 use std::alloc::{AllocError, Global};
 
@@ -42,7 +42,7 @@ impl Responder<(), ()> for CommandLines {
     ) -> Result<(), AllocError> {
         match piece {
             Piece::TooLong => tell_long(out),
-            Piece::Line(line) if line.len() > TEXT_LIMIT => tell_long(out),
+            Piece::Line(line) if line.len() > COMMAND_LIMIT => tell_long(out),
             Piece::Line(line) => tell_line(alloc, line, out),
         }
     }

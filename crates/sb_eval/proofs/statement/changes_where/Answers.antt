@@ -20,4 +20,4 @@ returns-in-Err g c =
     let seen = g.S.Sources.seen c.args.walk.now.sources.now in
     let step = row-step (λ r. holds (rows_in seen) c.args.walk.now.filter.now (spec.scope_of r)) (change_of seen c.args.walk.now.table c.args.walk.now.effect.now) _ c.loop-number.changes.items c.loop-number.number-iterator c.next.new.self c.in-Some.number c.in-Some.row.now
     c.values.result.now c.in-Some.ensures.steps c.values.ensures c.loop-number.invariant.changes in
-    gives-err {X = Vec Change Global} (λ changes. changes.items) _ _ _ c.change_row.new.changes.items c.in-Err.fault step c.in-Err.ensures.changes
+    gives-err {X = Vec Change Global} (λ changes. changes.items) _ _ _ c.change_row.new.changes.items c.in-Err.stop step c.in-Err.ensures.changes

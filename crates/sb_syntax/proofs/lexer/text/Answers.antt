@@ -13,8 +13,8 @@ closed_by (b ∷ bytes) found some is = ap text_by (sym (is ∙ ap closing (take
 pub returns-in_err-len-clause-value : goal.returns-in_err-len-clause-value
 returns-in_err-len-clause-value c = c.from_residual.ensures ∙ sym (closed_by c.args.bytes.now _ c.requires c.in_err-len.ensures.value)
 
-pub returns-then-len-gt255-clause-value : goal.returns-then-len-gt255-clause-value
-returns-then-len-gt255-clause-value c = rw (closed_by c.args.bytes.now _ c.requires c.in_ok-len.ensures.value, lt-leb _ _ c.if-len-gt255.true) refl
+pub returns-then-len-gt-TEXT_LIMIT-clause-value : goal.returns-then-len-gt-TEXT_LIMIT-clause-value
+returns-then-len-gt-TEXT_LIMIT-clause-value c = rw (closed_by c.args.bytes.now _ c.requires c.in_ok-len.ensures.value, lt-leb _ _ c.if-len-gt-TEXT_LIMIT.true) refl
 
 pub returns-clause-value : goal.returns-clause-value
-returns-clause-value c = rw (closed_by c.args.bytes.now _ c.requires c.in_ok-len.ensures.value, le-leb _ _ c.if-len-gt255.false) refl
+returns-clause-value c = rw (closed_by c.args.bytes.now _ c.requires c.in_ok-len.ensures.value, le-leb _ _ c.if-len-gt-TEXT_LIMIT.false) refl
