@@ -62,6 +62,10 @@ class Server:
         self.process.kill()
         self.process.communicate()
 
+    def told(self):
+        """Its log so far."""
+        return os.pread(self.errors.fileno(), 1 << 20, 0).decode()
+
     def end(self):
         """Its status, its last line, and its log."""
         out = self.process.communicate(timeout=300)[0].strip()
@@ -330,6 +334,19 @@ def syncs_in(noted):
     return [float(at) for name, at in calls if name == "fdatasync"], [float(at) for name, at in calls if name == "pwrite"]
 
 
+def trial(part, program, room, library):
+    """Does a part that has a bound on time. A busy machine may miss that, so it is done up to three times, and told."""
+    for at in range(3):
+        own = os.path.join(room, f"{part.__name__}{at}")
+        os.mkdir(own)
+        try:
+            return part(program, own, library)
+        except (SystemExit, ConnectionError, TimeoutError) as missed:
+            if at == 2:
+                raise
+            print(f"once more, since: {missed}")
+
+
 def syncs_by_seconds(program, room, library):
     """With --sync second: a sync each second while lines come, and one behind the last."""
     file, noted = os.path.join(room, "seconds"), os.path.join(room, "noted")
@@ -355,6 +372,11 @@ def syncs_by_seconds(program, room, library):
     return len(syncs)
 
 
+def tells_fault(log):
+    """Whether a log tells why a journal isn't on the disk."""
+    return any("journal: " in line and "are played" not in line for line in log.splitlines())
+
+
 def feels_late_sync(program, room, library):
     """With --sync second: a sync that fails is told at once, and ends the server before its next reply."""
     file = os.path.join(room, "late")
@@ -364,12 +386,17 @@ def feels_late_sync(program, room, library):
         time.sleep(1.5)
         stream.sendall(b"0 0\n")
         need(lines.readline() == b"ok\n", "a session")
-        time.sleep(2.5)
+        until = time.monotonic() + 60
+        while not tells_fault(server.told()):
+            need(time.monotonic() < until, f"a sync that failed isn't told: {server.told()}")
+            time.sleep(0.01)
+        # what it tells is also noted then
+        time.sleep(0.5)
         stream.sendall(b"begin\n")
         need(lines.readline() == b"", "a reply behind a sync that failed")
     status, _, log = server.end()
     told = [line for line in log.splitlines() if "calls on files" not in line]
-    need(status == 1 and told[-1] == "fault: journal failed" and "journal: " in log, f"a sync that failed: {status}, {log[-400:]}")
+    need(status == 1 and told[-1] == "fault: journal failed" and tells_fault(log), f"a sync that failed: {status}, {log[-400:]}")
 
 
 def settles_a_run(program, room, library):
@@ -476,8 +503,8 @@ def main():
         for sync in ("always", "second"):
             ended = fails_well(program, room, library, asked.calls, sync)
             print(f"--sync {sync}: each of {asked.calls} calls on files fails in turn: {ended} ended the server, and what it answered is there")
-        print(f"--sync second: {syncs_by_seconds(program, room, library)} syncs in 7 seconds, a second apart, the last behind the last line")
-        feels_late_sync(program, room, library)
+        print(f"--sync second: {trial(syncs_by_seconds, program, room, library)} syncs in 7 seconds, a second apart, the last behind the last line")
+        trial(feels_late_sync, program, room, library)
         settles_a_run(program, room, library)
         cannot_be(program, room)
         print(f"--tenant-memory 1: a greedy tenant's part of the file is {share_bounds_file(program, room)} bytes over three starts")
