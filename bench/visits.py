@@ -17,6 +17,9 @@ import sys
 import tempfile
 import time
 
+# how long something may take on a busy machine, in seconds
+PATIENCE = 60
+
 
 class Server:
     def __init__(self, program, *words):
@@ -26,7 +29,7 @@ class Server:
         self.port = int(re.fullmatch(r"listening (\d+)\n", self.process.stdout.readline()).group(1))
 
     def connect(self):
-        return socket.create_connection(("127.0.0.1", self.port), timeout=30)
+        return socket.create_connection(("127.0.0.1", self.port), timeout=PATIENCE)
 
     def ask(self, lines):
         """What a client reads that sends these lines and no more."""
@@ -35,9 +38,17 @@ class Server:
             stream.shutdown(socket.SHUT_WR)
             return read_all(stream)
 
+    def wait_for(self, told):
+        """Waits until its log tells this."""
+        until = time.monotonic() + PATIENCE
+        while told not in (log := os.pread(self.log.fileno(), 1 << 20, 0).decode()):
+            if time.monotonic() > until:
+                sys.exit(f"not in {PATIENCE} s: {told} in {log!r}")
+            time.sleep(0.01)
+
     def end(self):
         """Its last line, and the lines of its log."""
-        told, _ = self.process.communicate(timeout=60)
+        told, _ = self.process.communicate(timeout=PATIENCE)
         self.log.seek(0)
         log = self.log.read().splitlines()
         if self.process.returncode != 0:
@@ -94,8 +105,8 @@ def gone_in_a_line(program):
     server = Server(program, "--connections", "2", "--workers", "1")
     with server.connect() as stream:
         stream.sendall(b"0 0\ncreate table t (a int)\nbegin\ninsert into t values (1)\ncomm")
-    # the server has been told that the client is gone
-    time.sleep(0.1)
+    # the server has seen that the client is gone
+    server.wait_for("closed: tenant 0, session 0")
     # the rest of a line counts as a line, and the transaction isn't committed
     expect("after it", server.ask("0 0\nbegin\nselect * from t\nend\n"), "ok\nok\nrows 0\nok\n")
     told, log = server.end()
