@@ -151,6 +151,16 @@ def browse(browser, folder, address, *words):
     return subprocess.run([*base, *words, address], check=True, capture_output=True, timeout=PATIENCE).stdout
 
 
+def page_of(browser, folder, address):
+    """What a browser makes of a page. The status port lets a client go that is silent for half a second, as a browser may be
+    on a busy machine: it looks again."""
+    for _ in range(5):
+        text = browse(browser, folder, address, "--dump-dom").decode()
+        if "<title>Filgwesha" in text:
+            break
+    return Page(text)
+
+
 def drawn(path):
     """How many kinds of rows of pixels a drawing has: a blank one has one."""
     with open(path, "rb") as file:
@@ -210,14 +220,14 @@ def main():
     with tempfile.TemporaryDirectory(ignore_cleanup_errors=True) as folder:
         shots = asked.shots or folder
         os.makedirs(shots, exist_ok=True)
-        host = Page(browse(browser, folder, f"{base}/", "--dump-dom").decode())
+        host = page_of(browser, folder, f"{base}/")
         expect("tenants", [row[0] for row in host.body("Tenants")], [str(tenant) for tenant in range(len(played))])
         expect("workers", [row[0] for row in host.body("Workers")], ["0", "1", "2", "3", "door"])
         lines = sum(int(row[3]) for row in host.body("Workers"))
         expect("lines", lines, sum(command != "open" for block in played for _, _, command in block))
         expect("slowest lines", len(host.body("Slowest lines so far")), 10)
         for tenant, block in enumerate(played):
-            page = Page(browse(browser, folder, f"{base}/tenants/{tenant}", "--dump-dom").decode())
+            page = page_of(browser, folder, f"{base}/tenants/{tenant}")
             rules = [row[0] for row in page.body("Rules")]
             expect(f"rules of tenant {tenant}", rules, rules_behind(block))
             expect("scripts", page.scripts, 0)
