@@ -16,6 +16,8 @@ import sys
 
 TOP = pathlib.Path(__file__).resolve().parent.parent
 sys.path.insert(0, str(TOP / "clients" / "python"))
+# how long something may take on a busy machine, in seconds
+PATIENCE = 60
 
 
 def blocks(kind):
@@ -35,7 +37,7 @@ def printed(port):
 
 def read_back(port, transcript):
     """The transcript with what the server answers to its lines."""
-    with socket.create_connection(("127.0.0.1", port), timeout=10) as stream:
+    with socket.create_connection(("127.0.0.1", port), timeout=PATIENCE) as stream:
         file = stream.makefile("rwb")
         lines = []
         for line in transcript.splitlines():
@@ -59,7 +61,7 @@ def main():
         for what, got, wanted in (("the example", printed(port), blocks("")[0]), ("the transcript", read_back(port, transcript), transcript)):
             if got != wanted:
                 sys.exit(f"{what}:\n{got}wanted:\n{wanted}")
-        server.wait(timeout=10)
+        server.wait(timeout=PATIENCE)
     finally:
         server.kill()
     print("docs/CLIENTS.md: its example and its transcript are as printed there")

@@ -30,6 +30,8 @@ SCRIPT = [
     b"create table t (a int, b text)", b"create rule r on t when inserted then update t set a = a + 1 where a < 3", b"begin",
     b"insert into t values (1, 'x'), (2, 'y')", b"select * from t", b"commit", b"begin", b"insert into t select a, b from t", b"rollback",
 ]
+# how long something may take on a busy machine, in seconds
+PATIENCE = 120
 SHORT = (b"no 91 NoMemory\n", b"no 92 NotBegun\n")
 
 
@@ -40,7 +42,7 @@ class Closed(Exception):
 class Client:
     def __init__(self, port, tenant, session=0):
         try:
-            self.stream = socket.create_connection(("127.0.0.1", port), timeout=30)
+            self.stream = socket.create_connection(("127.0.0.1", port), timeout=PATIENCE)
             self.stream.setsockopt(socket.IPPROTO_TCP, socket.TCP_NODELAY, 1)
         except ConnectionResetError:  # it was taken, and closed before this side knew that it was
             raise Closed from None
@@ -91,7 +93,7 @@ class Server:
 
     def end(self):
         """Its status, the last line that it told, and its log."""
-        last = self.process.communicate(timeout=60)[0].strip()
+        last = self.process.communicate(timeout=PATIENCE)[0].strip()
         self.errors.seek(0)
         return self.process.returncode, last, self.errors.read()
 
@@ -174,7 +176,7 @@ def for_a_while(program, library, requests):
     for share in (0.3, 0.6, 0.9):
         first = int(requests * share)
         server = Server(program, library=library, REFUSED=first, UNTIL=first + 300)
-        until = time.time() + 60
+        until = time.time() + PATIENCE
         while time.time() < until:
             closed, short = work(server)
             if closed == short == 0:
@@ -199,7 +201,7 @@ def greedy(program):
         for _ in range(10):
             eater.say(b"insert into big select a, b, c, d from big")
         lacks = 0
-        until = time.time() + 90
+        until = time.time() + 3 * PATIENCE
         refused = 0
         while refused < 20 and time.time() < until:
             refused += eater.say(b"select * from big") in SHORT + (b"no 42 NoTransaction\n",)
