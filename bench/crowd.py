@@ -288,9 +288,11 @@ def idle_end(program, longer):
     print(f"--idle {longer}: closed after {seconds:.1f} s; {told}")
 
 
-# A condition that no two rows meet, and that looks at all its parts. A query that names a row around it has it walked row by row.
-MOST_ROWS = 4_096
-LONG = b" or ".join([b"x.a + y.a < 0"] * 200 + [b"exists (select * from none z where z.a = x.a)"])
+# A condition that no two rows meet, and that looks at all its parts: ten sums of ninety terms. A query that names a row
+# around it has it walked row by row.
+LONG = b" or ".join([b"+".join([b"x.a", b"y.a"] * 45) + b" < 0"] * 10 + [b"exists (select * from none z where z.a = x.a)"])
+# A statement may look at 2^20 pairs of rows.
+MOST_ROWS = 1_024
 
 
 def long_statement(stream, seconds):
@@ -446,11 +448,11 @@ def lines_in_time(busy, streams, heard, idle):
 
 
 def idle_beside_a_long_statement(program, longer):
-    idle = 2 * longer
+    idle = longer
     server = Server(program, "--idle", str(idle), "--cells", "4")
     busy = server.connect()
     say(busy, b"0 0\n")
-    statement = long_statement(busy, 10 * longer - 5)
+    statement = long_statement(busy, 2 * idle + 1)
     # of the same cell and of others
     streams = [server.connect() for _ in range(21)]
     heard = time.perf_counter()
