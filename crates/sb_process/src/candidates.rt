@@ -17,7 +17,7 @@ use sb_catalog::{Catalog, Rule};
 use sb_net::is_triggered_anew;
 use sb_priority::Priorities;
 use sb_rawlog::ChangeLog;
-use sb_value::{RuleId, RuleSet, SessionId, Who, proper_lists_have_lives};
+use sb_value::{RuleId, RuleSet, SessionId, proper_lists_have_lives};
 
 impl Database {
     /// The rule that is considered next: of the eligible rules that are triggered, the earliest created that no other
@@ -97,10 +97,7 @@ impl Database {
         let Some(rule) = catalog.rule(rule) else {
             return false;
         };
-        let who = Who {
-            tenant: self.id,
-            session,
-        };
+        let who = self.who(session);
         let since = self.transactions.mark(session, rule.id);
         let tested = self.transactions.tested(session, rule.id);
         is_triggered_anew(log, who, rule.table, rule.triggers, since, tested)

@@ -15,7 +15,7 @@ use sb_check::Action;
 use sb_index::RuleIndex;
 use sb_net::transition_tables;
 use sb_rawlog::ChangeLog;
-use sb_value::{Refusal, SessionId, Transition, Who};
+use sb_value::{Refusal, SessionId, Transition};
 use std::alloc::{AllocError, Global};
 
 /// What a consideration came to, where nothing is refused.
@@ -86,10 +86,7 @@ impl Database {
     {
         // for the proof: a time marks the changes that are older
         let _now = log.now();
-        let who = Who {
-            tenant: self.id,
-            session: chosen.session,
-        };
+        let who = self.who(chosen.session);
         let since = self.transactions.mark(chosen.session, chosen.rule.id);
         transition_tables(
             alloc,

@@ -3,11 +3,11 @@ ghost use Rattle.std.specs.Prelude.{◌≡◌, ℕ, []};
 ghost use Rattle.sb_value.specs.Locks.{no_locks};
 ghost use Rattle.sb_value.specs.declared.lock.Mode.{Mode};
 ghost use Rattle.sb_locks.specs.Held.{held};
+ghost use Rattle.sb_process.specs.Represents.{who_in};
 ghost use Rattle.sb_process.specs.Transactions.{mark_of, tested_of};
 
 use crate::Transactions;
 use sb_locks::Locks;
-use sb_rawlog::ChangeLog;
 use sb_tables::Tables;
 use sb_value::{SessionId, TenantId, Who};
 use std::alloc::Global;
@@ -35,6 +35,16 @@ impl Database {
             tables: Tables::new(alloc),
             locks: Locks::new(),
             transactions: Transactions::new(alloc),
+        }
+    }
+
+    /// A session of this database.
+    pub(crate) fn who(&self, session: SessionId) -> Who
+        ensures { result ≡ who_in self.now session }
+    {
+        Who {
+            tenant: self.id,
+            session,
         }
     }
 }

@@ -14,7 +14,7 @@ use crate::database::Database;
 use sb_locks::Locks;
 use sb_rawlog::ChangeLog;
 use sb_tables::{Tables, changes_keep_places};
-use sb_value::{Mode, SessionId, TABLE_LIMIT, TableId, Who};
+use sb_value::{Mode, SessionId, TABLE_LIMIT, TableId};
 
 impl Database {
     /// Begins a transaction of the session.
@@ -41,10 +41,7 @@ impl Database {
     {
         // for the proof: tables with changes made are sound
         changes_keep_places();
-        let who = Who {
-            tenant: self.id,
-            session,
-        };
+        let who = self.who(session);
         settle_all(&mut self.tables, &self.locks, session);
         log.forget(who);
         self.locks.release(session);

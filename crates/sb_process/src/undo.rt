@@ -22,10 +22,7 @@ impl Database {
         ensures clock { L.clock log.new ≡ L.clock log.old }
         ensures transactions { self.new.transactions ≡ self.old.transactions }
     {
-        let who = Who {
-            tenant: self.id,
-            session,
-        };
+        let who = self.who(session);
         undo_all(&mut self.tables, log, &who);
         self.locks.release(session);
     }

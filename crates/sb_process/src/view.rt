@@ -39,10 +39,7 @@ impl Database {
         View {
             tables: &self.tables,
             transition: viewer.tables,
-            who: Who {
-                tenant: self.id,
-                session: viewer.session,
-            },
+            who: self.who(viewer.session),
         }
     }
 }
