@@ -6,7 +6,7 @@ ghost use Rattle.sb_catalog.specs.Uses as spec;
 ghost use Rattle.sb_catalog.specs.Uses.{has_source};
 
 use crate::rule::Rule;
-use sb_check::{Action, Query, Source, Statement, Visitor, visit_query, visit_statement};
+use sb_check::{Action, Query, Source, SourceVisitor, Statement, visit_query, visit_statement};
 use sb_value::TableId;
 use std::convert::Infallible;
 
@@ -17,7 +17,7 @@ struct Search {
     is_found: bool,
 }
 
-impl Visitor for Search {
+impl SourceVisitor for Search {
     type Stop = Infallible;
 
     ghost after = { λ s source. record s { is_found = s.is_found || spec.is_table s.table source } };

@@ -3,27 +3,27 @@ use Rattle.std.proofs.Common.{◌≡◌, ◌∙◌, ap, refl, inl, inr, sym, sub
 use Rattle.std.specs.Prelude.{Result, Ok, Err, ◌⊎◌}
 use Rattle.sb_value.specs.declared.refusal.Refusal.{Refusal}
 use Rattle.sb_value.specs.declared.refusal.Refusal.TheVariants as refusal
-use Rattle.sb_check.specs.declared.fault.Fault.{Fault}
-use Rattle.sb_check.specs.declared.fault.Fault.TheVariants.{Refused, NoMemory}
+use Rattle.sb_check.specs.declared.fault.CheckFault.{CheckFault}
+use Rattle.sb_check.specs.declared.fault.CheckFault.TheVariants.{Refused, NoMemory}
 use Rattle.sb_check.specs.Names.{and_then}
 use Rattle.sb_check.specs.Answer.{Gives, Answers, refused}
 
-pub gives-err : {X Y A B : Type 0} (v : X → A) (w : Y → B) (walk : Result A Refusal) (next : A → Result B Refusal) (e : Fault)
+pub gives-err : {X Y A B : Type 0} (v : X → A) (w : Y → B) (walk : Result A Refusal) (next : A → Result B Refusal) (e : CheckFault)
     → Gives v walk (Err e) → Gives w (and_then walk next) (Err e)
 gives-err v w walk next (Refused r) h = ap (λ x. and_then x next) h
 gives-err v w walk next NoMemory h = tt
 
-pub answers-err : {X Y A : Type 0} (v : X → A) (w : Y → A) (walk : Result A Refusal) (e : Fault) → Gives v walk (Err e) → Answers w walk (Err (refused e))
+pub answers-err : {X Y A : Type 0} (v : X → A) (w : Y → A) (walk : Result A Refusal) (e : CheckFault) → Gives v walk (Err e) → Answers w walk (Err (refused e))
 answers-err v w walk (Refused r) h = inl h
 answers-err v w walk NoMemory h = inr refl
 
-pub answers-err_then : {X Y A B : Type 0} (v : X → A) (w : Y → B) (walk : Result A Refusal) (next : A → Result B Refusal) (e : Fault) → Gives v walk (Err e) → Answers w (and_then walk next) (Err (refused e))
+pub answers-err_then : {X Y A B : Type 0} (v : X → A) (w : Y → B) (walk : Result A Refusal) (next : A → Result B Refusal) (e : CheckFault) → Gives v walk (Err e) → Answers w (and_then walk next) (Err (refused e))
 answers-err_then v w walk next (Refused r) h = inl (ap (λ x. and_then x next) h)
 answers-err_then v w walk next NoMemory h = inr refl
 
 pub ruleset answers = (answers-err, answers-err_then)
 
-pub same_gives : {X A : Type 0} (v : X → A) (walk other : Result A Refusal) (r : Result X Fault) → walk ≡ other → Gives v other r → Gives v walk r
+pub same_gives : {X A : Type 0} (v : X → A) (walk other : Result A Refusal) (r : Result X CheckFault) → walk ≡ other → Gives v other r → Gives v walk r
 same_gives {X = X} {A = A} v walk other r e h = let P : Result A Refusal → Type 0 = λ w. Gives v w r in subst P (sym e) h
 
 -- what refuses a part refuses it whatever is made of the part

@@ -12,8 +12,8 @@ use Rattle.sb_value.specs.declared.value.ColumnDefinition.{ColumnDefinition}
 use Rattle.sb_value.specs.Table.{Entry}
 use Rattle.sb_syntax.specs.Tree.{Name}
 use Rattle.sb_syntax.specs.Tree as text
-use Rattle.sb_check.specs.declared.fault.Fault.{Fault}
-use Rattle.sb_check.specs.declared.fault.Fault.TheVariants.{Refused, NoMemory}
+use Rattle.sb_check.specs.declared.fault.CheckFault.{CheckFault}
+use Rattle.sb_check.specs.declared.fault.CheckFault.TheVariants.{Refused, NoMemory}
 use Rattle.sb_check.specs.declared.schema.TableEntry.{TableEntry}
 use Rattle.sb_check.specs.declared.tree.Assignment.{Assignment}
 use Rattle.sb_check.specs.declared.tree.Statement.TheVariants.{InsertRows, Update}
@@ -50,7 +50,7 @@ rows_step columns f rows i row lt item =
 pub rows_end : {A : Type 0} (columns : List ColumnDefinition) (f : A → List Value) (rows : List A) (i : ℕ) → length rows ≤ i → rows_fitting columns (map f (drop i rows)) ≡ Ok true
 rows_end columns f rows i h = ap (λ r. rows_fitting columns (map f r)) (drop_all i rows h) ∙ rows_none columns
 
-pub rows_fail : {X Y : Type 0} (v : X → Bool) (w : Y → Bool) (columns : List ColumnDefinition) (a : Result Bool Refusal) (e : Fault) (whole : Result Bool Refusal) (next : Bool → Result Bool Refusal)
+pub rows_fail : {X Y : Type 0} (v : X → Bool) (w : Y → Bool) (columns : List ColumnDefinition) (a : Result Bool Refusal) (e : CheckFault) (whole : Result Bool Refusal) (next : Bool → Result Bool Refusal)
     → whole ≡ and_then a next → Gives v a (Err e) → Gives w whole (Err e)
 rows_fail v w columns a (Refused r) whole next is h = is ∙ ap (λ x. and_then x next) h
 rows_fail v w columns a NoMemory whole next is h = tt
@@ -160,7 +160,7 @@ module _ (schema : Schema) (name : Name) (columns : List ColumnDefinition) (whol
     unfolding operand_walk
     operand_refused e h = here ∙ rw (is, free, h) refl
 
-    pub operand_fails : {X : Type 0} (v : X → Operand × ColumnType) (e : Fault) → Gives v (operand_walk schema x.operand (table_scope name columns)) (Err e) → Gives {X = List Assignment} (λ y. y) whole (Err e)
+    pub operand_fails : {X : Type 0} (v : X → Operand × ColumnType) (e : CheckFault) → Gives v (operand_walk schema x.operand (table_scope name columns)) (Err e) → Gives {X = List Assignment} (λ y. y) whole (Err e)
     operand_fails v (Refused r) h = operand_refused (refusal_of r) h
     operand_fails v NoMemory h = tt
 

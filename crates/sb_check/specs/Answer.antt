@@ -4,8 +4,8 @@ use Rattle.sb_value.specs.declared.refusal.Refusal.{Refusal}
 use Rattle.sb_value.specs.declared.refusal.Refusal.TheVariants as refusal
 use Rattle.sb_check.specs.declared.fault.Reason.{Reason}
 use Rattle.sb_check.specs.declared.fault.Reason.TheVariants as reason
-use Rattle.sb_check.specs.declared.fault.Fault.{Fault}
-use Rattle.sb_check.specs.declared.fault.Fault.TheVariants.{Refused, NoMemory}
+use Rattle.sb_check.specs.declared.fault.CheckFault.{CheckFault}
+use Rattle.sb_check.specs.declared.fault.CheckFault.TheVariants.{Refused, NoMemory}
 
 -- a reason as a refusal
 abbrev pub refusal_of : Reason → Refusal
@@ -18,12 +18,12 @@ refusal_of reason.WrongCount = refusal.WrongCount
 refusal_of reason.BadTransition = refusal.BadTransition
 
 -- a fault as a refusal
-abbrev pub refused : Fault → Refusal
+abbrev pub refused : CheckFault → Refusal
 refused (Refused r) = refusal_of r
 refused NoMemory = refusal.NoMemory
 
 -- a part's answer, seen by a view, is the walk's, unless memory runs out
-abbrev pub Gives : {X A : Type 0} → (X → A) → Result A Refusal → Result X Fault → Type 0
+abbrev pub Gives : {X A : Type 0} → (X → A) → Result A Refusal → Result X CheckFault → Type 0
 Gives view walk (Ok x) = walk ≡ Ok (view x)
 Gives view walk (Err (Refused e)) = walk ≡ Err (refusal_of e)
 Gives view walk (Err NoMemory) = Unit {0}
@@ -39,11 +39,11 @@ Answers view walk (Ok x) = walk ≡ Ok (view x)
 Answers view walk (Err e) = (walk ≡ Err e) ⊎ (e ≡ refusal.NoMemory)
 
 -- a part is refused by this, and not for want of memory
-abbrev pub IsRefused : {X : Type 0} → Refusal → Result X Fault → Type 0
+abbrev pub IsRefused : {X : Type 0} → Refusal → Result X CheckFault → Type 0
 IsRefused e (Ok x) = ⊥
 IsRefused e (Err (Refused r)) = refusal_of r ≡ e
 IsRefused e (Err NoMemory) = ⊥
 
 -- what the walk refuses is refused so, even where memory would run out
-abbrev pub IsRefusedFirst : {A X : Type 0} → Result A Refusal → Result X Fault → Type 0
+abbrev pub IsRefusedFirst : {A X : Type 0} → Result A Refusal → Result X CheckFault → Type 0
 IsRefusedFirst walk result = (e : Refusal) → walk ≡ Err e → IsRefused e result

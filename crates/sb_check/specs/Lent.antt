@@ -8,8 +8,8 @@ use Rattle.sb_value.specs.declared.refusal.Refusal.{Refusal}
 use Rattle.sb_check.specs.declared.tree.Source.{Source}
 use Rattle.sb_check.specs.declared.schema.TableEntry.{TableEntry}
 use Rattle.sb_check.specs.declared.schema.RuleEntry.{RuleEntry}
-use Rattle.sb_check.specs.declared.fault.Fault.{Fault}
-use Rattle.sb_check.specs.declared.fault.Fault.TheVariants.{Refused, NoMemory}
+use Rattle.sb_check.specs.declared.fault.CheckFault.{CheckFault}
+use Rattle.sb_check.specs.declared.fault.CheckFault.TheVariants.{Refused, NoMemory}
 use Rattle.sb_check.specs.Answer.{refusal_of}
 use denote.Ref.{Bor}
 
@@ -43,7 +43,7 @@ abbrev pub source_lent : Source × Bor (List ColumnDefinition) → Source × Lis
 source_lent s = (s.0, s.1.now)
 
 -- a table is lent where it is found; to look for it takes no memory
-abbrev pub LendsTable : Result Entry Refusal → Result TableEntry Fault → Type 0
+abbrev pub LendsTable : Result Entry Refusal → Result TableEntry CheckFault → Type 0
 LendsTable walk (Ok t) = (e : Entry) × (walk ≡ Ok e) × (table_lent t ≡ table_seen e)
 LendsTable walk (Err (Refused e)) = walk ≡ Err (refusal_of e)
 LendsTable walk (Err NoMemory) = ⊥

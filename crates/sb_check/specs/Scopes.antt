@@ -7,7 +7,7 @@ use Rattle.sb_value.specs.declared.refusal.Refusal.TheVariants as refusal
 use Rattle.sb_check.specs.declared.tree.Column.{Column}
 use Rattle.sb_check.specs.declared.scope.Scope.{Outermost, Within'}
 use Rattle.sb_check.specs.declared.scope.Scope as chain
-use Rattle.sb_check.specs.declared.scope.Found.{Found}
+use Rattle.sb_check.specs.declared.scope.FoundColumn.{FoundColumn}
 use Rattle.sb_check.specs.declared.expression.Typed.{Typed}
 use Rattle.sb_check.specs.declared.expression.TypedPart.{TypedPart}
 use Rattle.sb_check.specs.Expression.{Expression}
@@ -22,7 +22,7 @@ scope_of Outermost = []
 scope_of (Within' sources p outer) = sources.now ∷ scope_of outer
 
 -- a column with its type
-abbrev pub found : Found → Column × ColumnType
+abbrev pub found : FoundColumn → Column × ColumnType
 found f = (record { depth = f.depth; source = f.source; place = f.place }, f.of)
 
 -- one place has no column of a name, or one; two are ambiguous

@@ -5,7 +5,7 @@ use Rattle.sb_value.specs.declared.refusal.Refusal.{Refusal}
 use Rattle.sb_value.specs.declared.value.ColumnType.{ColumnType}
 use Rattle.sb_syntax.specs.Tree as text
 use Rattle.sb_syntax.specs.declared.tree.Comparison.{Comparison}
-use Rattle.sb_check.specs.declared.fault.Fault.{Fault}
+use Rattle.sb_check.specs.declared.fault.CheckFault.{CheckFault}
 use Rattle.sb_check.specs.declared.items.Listed.{Listed}
 use Rattle.sb_check.specs.declared.query.TypedOperand.{TypedOperand}
 use Rattle.sb_check.specs.declared.query.Walked as stored
@@ -32,10 +32,10 @@ compared a op b = text.compare a op (text.expression b)
 
 -- ---- what a part gives in a scope of the program is what the walk has
 
-abbrev pub GivesCondition : Schema → text.Condition → chain.Scope → Result (Box Condition Global) Fault → Type 0
+abbrev pub GivesCondition : Schema → text.Condition → chain.Scope → Result (Box Condition Global) CheckFault → Type 0
 GivesCondition schema c scope result = Gives (λ b. b.value) (condition_walk schema c (scope_of scope)) result
 
-abbrev pub GivesOperand : Schema → text.Operand → chain.Scope → Result TypedOperand Fault → Type 0
+abbrev pub GivesOperand : Schema → text.Operand → chain.Scope → Result TypedOperand CheckFault → Type 0
 GivesOperand schema o scope result = Gives operand_typed (operand_walk schema o (scope_of scope)) result
 
 -- the items of a query and its condition, over its own sources
@@ -47,7 +47,7 @@ over_sources schema (text.select items sources filter) seen scope =
     Ok (i, c)))
 
 abbrev pub GivesOverSources :
-    Schema → text.Query → List Visible → chain.Scope → Result (Listed × Condition) Fault → Type 0
+    Schema → text.Query → List Visible → chain.Scope → Result (Listed × Condition) CheckFault → Type 0
 GivesOverSources schema q seen scope result =
     Gives {A = (Items × List ColumnType) × Condition} (λ p. (listed p.0, p.1))
     (over_sources schema q seen (scope_of scope)) result

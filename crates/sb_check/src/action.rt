@@ -5,7 +5,7 @@ ghost use Rattle.sb_check.specs.Names.{in_order};
 ghost use Rattle.sb_check.specs.Walk as spec;
 ghost use Rattle.sb_syntax.specs.Views as view;
 
-use crate::fault::Fault;
+use crate::fault::CheckFault;
 use crate::schema::Schema;
 use crate::statement::statement;
 use crate::tree::{Action, Actions};
@@ -15,7 +15,7 @@ pub(crate) fn action<'s, S: Schema>(
     alloc: Global,
     action: &sb_syntax::Action,
     schema: &'s S,
-) -> Result<Action, Fault>
+) -> Result<Action, CheckFault>
     ensures { Gives (λ a. a) (spec.walk_action (S.names schema.now) (view.action action.now)) result }
 {
     match action {
@@ -32,7 +32,7 @@ pub(crate) fn actions<'s, S: Schema>(
     alloc: Global,
     list: &[sb_syntax::Action],
     schema: &'s S,
-) -> Result<Actions, Fault>
+) -> Result<Actions, CheckFault>
     ensures { Gives (λ a. a) (in_order (spec.walk_action (S.names schema.now)) (map view.action list.now)) result }
 {
     let mut done = Actions::new(alloc);

@@ -8,8 +8,8 @@ ghost use Rattle.sb_syntax.specs.Tree as text;
 ghost use Rattle.sb_syntax.specs.Views as view;
 ghost use Rattle.sb_value.specs.declared.value.ColumnType.TheVariants.{Int};
 
-use crate::fault::{Fault, Reason};
-use crate::scope::{Found, Scope, column_named};
+use crate::fault::{CheckFault, Reason};
+use crate::scope::{FoundColumn, Scope, column_named};
 use crate::tree::{Column, Expression, ExpressionNode};
 use crate::types::same_type;
 use sb_syntax::{Arithmetic, ColumnReference};
@@ -32,18 +32,18 @@ struct TypedPart {
 
 /// The number as a byte. Whatever can be read nests 4 deep, over 2 sources of 8 columns.
 #[inline(always)]
-pub(crate) fn byte(number: usize) -> Result<u8, Fault>
+pub(crate) fn byte(number: usize) -> Result<u8, CheckFault>
     ensures { Gives (λ b. b) (Ok number) result }
 {
     if number < 256 {
         Ok(number as u8)
     } else {
-        Err(Fault::NoMemory)
+        Err(CheckFault::NoMemory)
     }
 }
 
 #[inline(always)]
-fn column_at(column: Found) -> Result<Column, Fault>
+fn column_at(column: FoundColumn) -> Result<Column, CheckFault>
     ensures { Gives (λ c. c) (Ok (found column).0) result }
 {
     Ok(Column {
@@ -54,7 +54,7 @@ fn column_at(column: Found) -> Result<Column, Fault>
 }
 
 #[inline(always)]
-fn literal(value: &Value) -> Result<Typed, Fault>
+fn literal(value: &Value) -> Result<Typed, CheckFault>
     ensures { Gives typed (Ok (tree.literal value.now, spec.type_of value.now)) result }
 {
     Ok(Typed {
@@ -66,7 +66,7 @@ fn literal(value: &Value) -> Result<Typed, Fault>
 }
 
 #[inline(always)]
-fn column(name: &ColumnReference, scope: &Scope<'_, '_>) -> Result<Typed, Fault>
+fn column(name: &ColumnReference, scope: &Scope<'_, '_>) -> Result<Typed, CheckFault>
     ensures { Gives typed (spec.walk_expression (scope_of scope.now) (text.column name.now)) result }
 {
     let column = column_named(scope, name)?;
@@ -80,11 +80,11 @@ fn column(name: &ColumnReference, scope: &Scope<'_, '_>) -> Result<Typed, Fault>
 
 /// Both sides are integers.
 #[inline(always)]
-fn joined(left: TypedPart, op: Arithmetic, right: TypedPart) -> Result<Typed, Fault>
+fn joined(left: TypedPart, op: Arithmetic, right: TypedPart) -> Result<Typed, CheckFault>
     ensures { Gives typed (spec.joined op (typed_part left) (typed_part right)) result }
 {
     if !same_type(left.of, ColumnType::Int) || !same_type(right.of, ColumnType::Int) {
-        return Err(Fault::Refused(Reason::BadType));
+        return Err(CheckFault::Refused(Reason::BadType));
     }
     Ok(Typed {
         tree: Expression {
@@ -105,7 +105,11 @@ fn boxed(alloc: Global, e: Typed) -> Result<TypedPart, AllocError>
 }
 
 /// An expression that stands in another.
-fn part(alloc: Global, e: &sb_syntax::Expression, scope: &Scope<'_, '_>) -> Result<TypedPart, Fault>
+fn part(
+    alloc: Global,
+    e: &sb_syntax::Expression,
+    scope: &Scope<'_, '_>,
+) -> Result<TypedPart, CheckFault>
     ensures { Gives typed_part (spec.walk_expression (scope_of scope.now) (view.expression e.now)) result }
 {
     match e {
@@ -125,7 +129,7 @@ pub(crate) fn expression(
     alloc: Global,
     e: &sb_syntax::Expression,
     scope: &Scope<'_, '_>,
-) -> Result<Typed, Fault>
+) -> Result<Typed, CheckFault>
     ensures { Gives typed (spec.walk_expression (scope_of scope.now) (view.expression e.now)) result }
 {
     match e {

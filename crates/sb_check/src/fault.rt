@@ -17,19 +17,19 @@ pub(crate) enum Reason {
 
 /// The walk's refusal, or that memory ran out.
 #[derive(Clone, Copy)]
-pub(crate) enum Fault {
+pub(crate) enum CheckFault {
     Refused(Reason),
     NoMemory,
 }
 
-impl From<AllocError> for Fault {
+impl From<AllocError> for CheckFault {
     ghost use Rattle.std.specs.Prelude.{◌≡◌};
-    ghost use Rattle.sb_check.specs.declared.fault.Fault.TheVariants.{NoMemory};
+    ghost use Rattle.sb_check.specs.declared.fault.CheckFault.TheVariants.{NoMemory};
 
     ghost from_gives = { λ _ e. e ≡ NoMemory };
 
-    fn from(_: AllocError) -> Fault {
-        Fault::NoMemory
+    fn from(_: AllocError) -> CheckFault {
+        CheckFault::NoMemory
     }
 }
 
@@ -53,7 +53,7 @@ impl Reason {
     }
 }
 
-impl Fault {
+impl CheckFault {
     ghost use Rattle.std.specs.Prelude.{◌≡◌};
     ghost use Rattle.sb_check.specs.Answer.{refused};
 
@@ -62,8 +62,8 @@ impl Fault {
         ensures { result ≡ refused self }
     {
         match self {
-            Fault::Refused(reason) => reason.refusal(),
-            Fault::NoMemory => Refusal::NoMemory,
+            CheckFault::Refused(reason) => reason.refusal(),
+            CheckFault::NoMemory => Refusal::NoMemory,
         }
     }
 }

@@ -8,7 +8,7 @@ ghost use Rattle.sb_check.specs.Walk as spec;
 ghost use Rattle.sb_syntax.specs.Views as view;
 
 use crate::expression::expression;
-use crate::fault::{Fault, Reason};
+use crate::fault::{CheckFault, Reason};
 use crate::scope::{Scope, Visible};
 use crate::tree::{ExpressionList, Items};
 use crate::types::{Types, same_type};
@@ -62,7 +62,7 @@ fn each(
     alloc: Global,
     expressions: &[sb_syntax::Expression],
     scope: &Scope<'_, '_>,
-) -> Result<TypedList, Fault>
+) -> Result<TypedList, CheckFault>
     ensures { Gives typed_list (walk_each (scope_of scope.now) (map view.expression expressions.now)) result }
 {
     let mut trees = ExpressionList::with_capacity(alloc, expressions.len())?;
@@ -76,12 +76,12 @@ fn each(
 }
 
 /// The sum of one expression.
-fn sum(alloc: Global, e: &sb_syntax::Expression, scope: &Scope<'_, '_>) -> Result<Items, Fault>
+fn sum(alloc: Global, e: &sb_syntax::Expression, scope: &Scope<'_, '_>) -> Result<Items, CheckFault>
     ensures { Gives of_integer (spec.walk_items (scope_of scope.now) [] (sum_of (view.expression e.now))) result }
 {
     let one = expression(alloc, e, scope)?;
     if !same_type(one.of, ColumnType::Int) {
-        return Err(Fault::Refused(Reason::BadType));
+        return Err(CheckFault::Refused(Reason::BadType));
     }
     Ok(Items::Sum(one.tree))
 }
@@ -92,7 +92,7 @@ pub(crate) fn items(
     items: &sb_syntax::Items,
     sources: &[Visible<'_>],
     scope: &Scope<'_, '_>,
-) -> Result<Listed, Fault>
+) -> Result<Listed, CheckFault>
     ensures { Gives listed (spec.walk_items (scope_of scope.now) sources.now (view.items items.now)) result }
 {
     match items {

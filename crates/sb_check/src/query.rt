@@ -11,11 +11,11 @@ ghost use Rattle.sb_syntax.specs.Views as view;
 ghost use Rattle.sb_syntax.specs.Views.{condition, expression, filter, operand, query};
 
 use crate::expression::expression;
-use crate::fault::{Fault, Reason};
+use crate::fault::{CheckFault, Reason};
 use crate::items::{Listed, items};
 use crate::schema::Schema;
 use crate::scope::{Scope, Visible};
-use crate::source::{Seen, see};
+use crate::source::{SeenSources, see};
 use crate::tree::{Condition, ConditionNode, Expression, Operand, OperandNode, Query};
 use crate::types::{Types, same_type};
 use sb_syntax::Comparison;
@@ -148,13 +148,13 @@ fn compared<'s, S: Schema>(
     b: &sb_syntax::Expression,
     schema: &'s S,
     scope: &Scope<'_, 's>,
-) -> Result<Box<Condition>, Fault>
+) -> Result<Box<Condition>, CheckFault>
     ensures { GivesCondition (S.names schema.now) (compared (expression a.now) op (expression b.now)) scope.now result }
 {
     let left = expression(alloc, a, scope)?;
     let right = expression(alloc, b, scope)?;
     if !same_type(left.of, right.of) {
-        return Err(Fault::Refused(Reason::BadType));
+        return Err(CheckFault::Refused(Reason::BadType));
     }
     Ok(compare(alloc, left.tree, op, plain(right.tree))?)
 }
@@ -170,13 +170,13 @@ fn compared_with<'s, S: Schema>(
     b: &sb_syntax::Operand,
     schema: &'s S,
     scope: &Scope<'_, 's>,
-) -> Result<Box<Condition>, Fault>
+) -> Result<Box<Condition>, CheckFault>
     ensures { GivesCondition (S.names schema.now) (compare (expression a.now) op (operand b.now)) scope.now result }
 {
     let left = expression(alloc, a, scope)?;
     let right = operand(alloc, b, schema, scope)?;
     if !same_type(left.of, right.of) {
-        return Err(Fault::Refused(Reason::BadType));
+        return Err(CheckFault::Refused(Reason::BadType));
     }
     Ok(compare(alloc, left.tree, op, right.tree)?)
 }
@@ -192,7 +192,7 @@ fn is_in<'s, S: Schema>(
     q: &sb_syntax::Query,
     schema: &'s S,
     scope: &Scope<'_, 's>,
-) -> Result<Box<Condition>, Fault>
+) -> Result<Box<Condition>, CheckFault>
     ensures { GivesCondition (S.names schema.now) (is_in (expression a.now) has_not (query q.now)) scope.now result }
 {
     let left = expression(alloc, a, scope)?;
@@ -209,7 +209,7 @@ fn exists<'s, S: Schema>(
     q: &sb_syntax::Query,
     schema: &'s S,
     scope: &Scope<'_, 's>,
-) -> Result<Box<Condition>, Fault>
+) -> Result<Box<Condition>, CheckFault>
     ensures { GivesCondition (S.names schema.now) (exists (query q.now)) scope.now result }
 {
     let inner = query(alloc, q, schema, scope)?;
@@ -223,7 +223,7 @@ pub(crate) fn condition<'s, S: Schema>(
     c: &sb_syntax::Condition,
     schema: &'s S,
     scope: &Scope<'_, 's>,
-) -> Result<Box<Condition>, Fault>
+) -> Result<Box<Condition>, CheckFault>
     ensures { GivesCondition (S.names schema.now) (condition c.now) scope.now result }
 {
     match c {
@@ -261,7 +261,7 @@ pub(crate) fn operand<'s, S: Schema>(
     o: &sb_syntax::Operand,
     schema: &'s S,
     scope: &Scope<'_, 's>,
-) -> Result<TypedOperand, Fault>
+) -> Result<TypedOperand, CheckFault>
     ensures { GivesOperand (S.names schema.now) (operand o.now) scope.now result }
 {
     match o {
@@ -275,7 +275,7 @@ pub(crate) fn operand<'s, S: Schema>(
         sb_syntax::Operand::ScalarSubquery(q) => {
             let inner = query(alloc, q, schema, scope)?;
             if !is_aggregate(&q.items) {
-                return Err(Fault::Refused(Reason::WrongCount));
+                return Err(CheckFault::Refused(Reason::WrongCount));
             }
             Ok(TypedOperand {
                 tree: scalar_subquery(inner.tree),
@@ -293,7 +293,7 @@ pub(crate) fn filter<'s, S: Schema>(
     f: &Option<sb_syntax::Condition>,
     schema: &'s S,
     scope: &Scope<'_, 's>,
-) -> Result<Condition, Fault>
+) -> Result<Condition, CheckFault>
     ensures { Gives (λ c. c) (parts.filter_walk (S.names schema.now) (filter f.now) (scope_of scope.now)) result }
 {
     match f {
@@ -307,7 +307,7 @@ pub(crate) fn filter<'s, S: Schema>(
 fn selected(
     alloc: Global,
     listed: Listed,
-    seen: Seen<'_>,
+    seen: SeenSources<'_>,
     condition: Condition,
 ) -> Result<Walked, AllocError>
     ensures { IfOk result (λ w. walked w ≡ (tree.select listed.items seen.entry.0 condition, listed.types)) }
@@ -332,7 +332,7 @@ fn over_sources<'s, S: Schema>(
     sources: &[Visible<'s>],
     schema: &'s S,
     scope: &Scope<'_, 's>,
-) -> Result<(Listed, Condition), Fault>
+) -> Result<(Listed, Condition), CheckFault>
     ensures { GivesOverSources (S.names schema.now) (query q.now) sources.now scope.now result }
 {
     let inner = Scope::Within(sources, &*scope);
@@ -348,10 +348,10 @@ pub(crate) fn query<'s, S: Schema>(
     q: &sb_syntax::Query,
     schema: &'s S,
     scope: &Scope<'_, 's>,
-) -> Result<Walked, Fault>
+) -> Result<Walked, CheckFault>
     ensures { Gives walked (parts.query_walk (S.names schema.now) (query q.now) (scope_of scope.now)) result }
 {
-    let mut seen = Seen::new(alloc);
+    let mut seen = SeenSources::new(alloc);
     see(&mut seen, schema, q.sources.as_slice())?;
     let (listed, condition) = over_sources(alloc, q, seen.visible(), schema, scope)?;
     Ok(selected(alloc, listed, seen, condition)?)

@@ -7,7 +7,7 @@ ghost use Rattle.sb_check.specs.Triggers.{walk_triggers};
 ghost use Rattle.sb_syntax.specs.Views as view;
 
 use crate::action::actions;
-use crate::fault::Fault;
+use crate::fault::CheckFault;
 use crate::query::query;
 use crate::schema::{InRule, Schema, TableEntry};
 use crate::scope::Scope;
@@ -32,7 +32,7 @@ fn condition<'s, S: Schema>(
     alloc: Global,
     text: &Option<sb_syntax::Query>,
     schema: &'s S,
-) -> Result<Option<Query>, Fault>
+) -> Result<Option<Query>, CheckFault>
     ensures { Gives (λ c. c) (spec.rule_condition (S.names schema.now) (option_map view.query text.now)) result }
 {
     match text {
@@ -52,7 +52,7 @@ fn all_actions<'s, S: Schema>(
     alloc: Global,
     list: &[sb_syntax::Action],
     schema: &'s S,
-) -> Result<Actions, Fault>
+) -> Result<Actions, CheckFault>
     ensures { Gives (λ a. a) (spec.rule_actions (S.names schema.now) (map view.action list.now)) result }
 {
     actions(alloc, list, schema)
@@ -64,13 +64,13 @@ fn parts_on<'s, S: Schema>(
     table: &TableEntry<'s>,
     rule: &RuleText,
     schema: &'s S,
-) -> Result<RuleParts, Fault>
+) -> Result<RuleParts, CheckFault>
     ensures value { Gives rule_parts (parts_at (S.names schema.now) table.now (view.rule rule.now)) result }
     ensures triggers { IsRefusedFirst (walk_triggers table.now.columns.now (view.rule rule.now).triggers) result }
 {
     let walked = match triggers(table.columns, rule.triggers.as_slice()) {
         Ok(walked) => walked,
-        Err(reason) => return Err(Fault::Refused(reason)),
+        Err(reason) => return Err(CheckFault::Refused(reason)),
     };
     let inside = InRule {
         outside: schema,
@@ -97,7 +97,7 @@ pub(crate) fn rule<'s, S: Schema>(
     alloc: Global,
     text: &RuleText,
     schema: &'s S,
-) -> Result<RuleParts, Fault>
+) -> Result<RuleParts, CheckFault>
     ensures value { Gives rule_parts (spec.parts (S.names schema.now) (view.rule text.now)) result }
     ensures head { IsRefusedFirst (spec.walk_head (S.names schema.now) (view.rule text.now)) result }
 {
@@ -119,7 +119,7 @@ fn written_actions<'s, S: Schema>(
     alloc: Global,
     list: &Option<Vec<sb_syntax::Action>>,
     schema: &'s S,
-) -> Result<Option<Actions>, Fault>
+) -> Result<Option<Actions>, CheckFault>
     ensures { Gives (λ a. a) (written_actions (S.names schema.now) list.now) result }
 {
     match list {
@@ -136,7 +136,7 @@ pub(crate) fn alteration<'s, S: Schema>(
     alloc: Global,
     text: &AlterationText,
     inside: &'s S,
-) -> Result<NewParts, Fault>
+) -> Result<NewParts, CheckFault>
     ensures { Gives new_parts (spec.new_parts (S.names inside.now) (view.alteration text.now)) result }
 {
     let condition = match condition(alloc, &text.condition, inside) {

@@ -5,7 +5,7 @@ ghost use Rattle.sb_check.specs.Names as spec;
 ghost use Rattle.sb_check.specs.Scopes.{scope_of, found, at_place};
 ghost use Rattle.sb_value.specs.Name.{same_name};
 
-use crate::fault::{Fault, Reason};
+use crate::fault::{CheckFault, Reason};
 use sb_syntax::{ColumnReference, TableReference};
 use sb_value::{ColumnDefinition, ColumnType, Name};
 use std::marker::Model;
@@ -44,7 +44,7 @@ pub(crate) enum Scope<'a, 's> {
 
 /// A column: how many queries outward, which of its sources, which place, and its type.
 #[derive(Clone, Copy)]
-pub(crate) struct Found {
+pub(crate) struct FoundColumn {
     pub(crate) depth: usize,
     pub(crate) source: usize,
     pub(crate) place: usize,
@@ -75,16 +75,20 @@ pub(crate) fn column_in(columns: &[ColumnDefinition], name: &Name) -> Option<(us
 
 /// The one column of that name in a query's sources.
 #[inline(always)]
-fn holder(depth: usize, sources: &[Visible<'_>], name: &Name) -> Result<Option<Found>, Fault>
+fn holder(
+    depth: usize,
+    sources: &[Visible<'_>],
+    name: &Name,
+) -> Result<Option<FoundColumn>, CheckFault>
     ensures { Gives (option_map found) (at_place (spec.holders depth 0 sources.now name.now)) result }
 {
-    let mut one: Option<Found> = None;
+    let mut one: Option<FoundColumn> = None;
     for (source, visible) in sources.iter().enumerate() {
         if let Some((place, of)) = column_in(visible.columns, name) {
             if one.is_some() {
-                return Err(Fault::Refused(Reason::Ambiguous));
+                return Err(CheckFault::Refused(Reason::Ambiguous));
             }
-            one = Some(Found {
+            one = Some(FoundColumn {
                 depth,
                 source,
                 place,
@@ -96,11 +100,11 @@ fn holder(depth: usize, sources: &[Visible<'_>], name: &Name) -> Result<Option<F
 }
 
 /// The column of that name at the innermost place that has it.
-fn plain_column(depth: usize, scope: &Scope<'_, '_>, name: &Name) -> Result<Found, Fault>
+fn plain_column(depth: usize, scope: &Scope<'_, '_>, name: &Name) -> Result<FoundColumn, CheckFault>
     ensures { Gives found (spec.plain_column depth (scope_of scope.now) name.now) result }
 {
     match scope {
-        Scope::Outermost => Err(Fault::Refused(Reason::NoColumn)),
+        Scope::Outermost => Err(CheckFault::Refused(Reason::NoColumn)),
         Scope::Within(sources, outer) => {
             let one = holder(depth, sources, name)?;
             match one {
@@ -113,11 +117,11 @@ fn plain_column(depth: usize, scope: &Scope<'_, '_>, name: &Name) -> Result<Foun
 
 /// The same from the innermost place on.
 #[inline(always)]
-fn near_column(scope: &Scope<'_, '_>, name: &Name) -> Result<Found, Fault>
+fn near_column(scope: &Scope<'_, '_>, name: &Name) -> Result<FoundColumn, CheckFault>
     ensures { Gives found (spec.plain_column 0 (scope_of scope.now) name.now) result }
 {
     match scope {
-        Scope::Outermost => Err(Fault::Refused(Reason::NoColumn)),
+        Scope::Outermost => Err(CheckFault::Refused(Reason::NoColumn)),
         Scope::Within(sources, outer) => {
             let one = holder(0, sources, name)?;
             match one {
@@ -168,17 +172,17 @@ fn column_of_source(
     source: usize,
     columns: &[ColumnDefinition],
     name: &Name,
-) -> Result<Found, Fault>
+) -> Result<FoundColumn, CheckFault>
     ensures { Gives found (spec.column_of_source depth (source, columns.now) name.now) result }
 {
     match column_in(columns, name) {
-        Some((place, of)) => Ok(Found {
+        Some((place, of)) => Ok(FoundColumn {
             depth,
             source,
             place,
             of,
         }),
-        None => Err(Fault::Refused(Reason::NoColumn)),
+        None => Err(CheckFault::Refused(Reason::NoColumn)),
     }
 }
 
@@ -188,11 +192,11 @@ fn qualified_column(
     scope: &Scope<'_, '_>,
     table: &TableReference,
     name: &Name,
-) -> Result<Found, Fault>
+) -> Result<FoundColumn, CheckFault>
     ensures { Gives found (spec.qualified_column depth (scope_of scope.now) table.now name.now) result }
 {
     match scope {
-        Scope::Outermost => Err(Fault::Refused(Reason::NoColumn)),
+        Scope::Outermost => Err(CheckFault::Refused(Reason::NoColumn)),
         Scope::Within(sources, outer) => match source_named(sources, table) {
             Some((source, columns)) => column_of_source(depth, source, columns, name),
             None => Ok(qualified_column(further(depth)?, outer, table, name)?),
@@ -206,11 +210,11 @@ fn near_qualified(
     scope: &Scope<'_, '_>,
     table: &TableReference,
     name: &Name,
-) -> Result<Found, Fault>
+) -> Result<FoundColumn, CheckFault>
     ensures { Gives found (spec.qualified_column 0 (scope_of scope.now) table.now name.now) result }
 {
     match scope {
-        Scope::Outermost => Err(Fault::Refused(Reason::NoColumn)),
+        Scope::Outermost => Err(CheckFault::Refused(Reason::NoColumn)),
         Scope::Within(sources, outer) => match source_named(sources, table) {
             Some((source, columns)) => Ok(column_of_source(0, source, columns, name)?),
             None => Ok(qualified_column(1, outer, table, name)?),
@@ -220,7 +224,10 @@ fn near_qualified(
 
 /// The column that a name with or without a qualifier means.
 #[inline(always)]
-pub(crate) fn column_named(scope: &Scope<'_, '_>, column: &ColumnReference) -> Result<Found, Fault>
+pub(crate) fn column_named(
+    scope: &Scope<'_, '_>,
+    column: &ColumnReference,
+) -> Result<FoundColumn, CheckFault>
     ensures { Gives found (spec.column_named (scope_of scope.now) column.now) result }
 {
     match column {
@@ -230,11 +237,11 @@ pub(crate) fn column_named(scope: &Scope<'_, '_>, column: &ColumnReference) -> R
 }
 
 /// One query further outward. No stack holds as many queries as a number counts.
-fn further(depth: usize) -> Result<usize, Fault>
+fn further(depth: usize) -> Result<usize, CheckFault>
     ensures { Gives (λ n. n) (Ok (depth + 1)) result }
 {
     match depth.checked_add(1) {
         Some(more) => Ok(more),
-        None => Err(Fault::NoMemory),
+        None => Err(CheckFault::NoMemory),
     }
 }

@@ -7,10 +7,10 @@ ghost use Rattle.sb_check.specs.Names as names;
 ghost use Rattle.sb_check.specs.Sources.{has_trigger, seen_sources, with_source};
 ghost use Rattle.sb_check.specs.Walk as spec;
 
-use crate::fault::{Fault, Reason};
+use crate::fault::{CheckFault, Reason};
 use crate::schema::{Schema, TableEntry};
 use crate::scope::{Visible, same_table};
-use crate::tree::{Source, Sources};
+use crate::tree::{Source, SourceList};
 use sb_syntax::{SourceReference, TableReference};
 use sb_value::{ColumnDefinition, Name, Triggers};
 use smallvec::SmallVec;
@@ -19,12 +19,12 @@ use std::marker::Model;
 
 /// The sources of a query, and what it sees of them.
 #[derive(Drop)]
-pub(crate) struct Seen<'a> {
-    pub(crate) sources: Sources,
+pub(crate) struct SeenSources<'a> {
+    pub(crate) sources: SourceList,
     visible: SmallVec<Visible<'a>, 2>,
 }
 
-impl<'a> Model for Seen<'a> {
+impl<'a> Model for SeenSources<'a> {
     ghost use Rattle.std.specs.Prelude.{List};
     ghost use Rattle.sb_check.specs.Names.{Visible};
     ghost use Rattle.sb_check.specs.declared.tree.Source.{Source};
@@ -34,14 +34,14 @@ impl<'a> Model for Seen<'a> {
     ghost view = { λ s. (s.sources, s.visible.items) };
 }
 
-impl<'a> Seen<'a> {
+impl<'a> SeenSources<'a> {
     /// No source.
     #[inline(always)]
-    pub(crate) fn new(alloc: Global) -> Seen<'a>
+    pub(crate) fn new(alloc: Global) -> SeenSources<'a>
         ensures { result ≡ ([], []) }
     {
-        Seen {
-            sources: Sources::new(alloc),
+        SeenSources {
+            sources: SourceList::new(alloc),
             visible: SmallVec::new(alloc),
         }
     }
@@ -72,12 +72,12 @@ impl<'a> Seen<'a> {
 pub(crate) fn table_named<'a, S: Schema>(
     schema: &'a S,
     name: &Name,
-) -> Result<TableEntry<'a>, Fault>
+) -> Result<TableEntry<'a>, CheckFault>
     ensures { LendsTable (spec.table_named (S.names schema.now) name.now) result }
 {
     match schema.table(name) {
         Some(table) => Ok(table),
-        None => Err(Fault::Refused(Reason::NoTable)),
+        None => Err(CheckFault::Refused(Reason::NoTable)),
     }
 }
 
@@ -106,17 +106,17 @@ fn has_trigger(source: &Source, triggers: &Triggers) -> bool
 fn transition<'a, S: Schema>(
     schema: &'a S,
     source: Source,
-) -> Result<(Source, &'a [ColumnDefinition]), Fault>
+) -> Result<(Source, &'a [ColumnDefinition]), CheckFault>
     ensures { Gives source_lent (spec.transition_source (S.names schema.now) (has_trigger source) source) result }
 {
     match schema.rule() {
         Some(rule) => {
             if !has_trigger(&source, &rule.triggers) {
-                return Err(Fault::Refused(Reason::BadTransition));
+                return Err(CheckFault::Refused(Reason::BadTransition));
             }
             Ok((source, rule.columns))
         }
-        None => Err(Fault::Refused(Reason::BadTransition)),
+        None => Err(CheckFault::Refused(Reason::BadTransition)),
     }
 }
 
@@ -124,7 +124,7 @@ fn transition<'a, S: Schema>(
 fn table_of<'a, S: Schema>(
     schema: &'a S,
     table: &TableReference,
-) -> Result<(Source, &'a [ColumnDefinition]), Fault>
+) -> Result<(Source, &'a [ColumnDefinition]), CheckFault>
     ensures { Gives source_lent (spec.walk_table (S.names schema.now) table.now) result }
 {
     match table {
@@ -165,10 +165,10 @@ fn is_taken(visible: &[Visible<'_>], name: &TableReference) -> bool
 
 /// Sees each source in order.
 pub(crate) fn see<'a, S: Schema>(
-    seen: &mut Seen<'a>,
+    seen: &mut SeenSources<'a>,
     schema: &'a S,
     references: &[SourceReference],
-) -> Result<(), Fault>
+) -> Result<(), CheckFault>
     requires { seen.old ≡ ([], []) }
     ensures { Gives (λ _. seen.new) (seen_sources (S.names schema.now) [] references.now) result }
 {
@@ -179,7 +179,7 @@ pub(crate) fn see<'a, S: Schema>(
         };
         let name = visible_name(reference);
         if is_taken(seen.visible(), &name) {
-            return Err(Fault::Refused(Reason::Ambiguous));
+            return Err(CheckFault::Refused(Reason::Ambiguous));
         }
         seen.push(source, name, columns)?;
     }

@@ -9,7 +9,7 @@ ghost use Rattle.sb_check.specs.Walk as spec;
 ghost use Rattle.sb_syntax.specs.Views as view;
 
 use crate::expression::byte;
-use crate::fault::{Fault, Reason};
+use crate::fault::{CheckFault, Reason};
 use crate::query::{always, condition, operand, query};
 use crate::schema::{Schema, TableEntry};
 use crate::scope::{Scope, Visible, column_in};
@@ -21,29 +21,29 @@ use sb_value::{ColumnDefinition, Tuples, Value};
 use std::alloc::Global;
 
 /// Whether the values fit the columns, of which there are as many, in order.
-fn row_types(values: &[Value], columns: &[ColumnDefinition]) -> Result<(), Fault>
+fn row_types(values: &[Value], columns: &[ColumnDefinition]) -> Result<(), CheckFault>
     requires { length values.now ≡ length columns.now }
     ensures { Gives (λ _. true) (spec.of_types (map spec.type_of values.now) columns.now) result }
 {
     for (place, value) in values.iter().enumerate() {
         if !same_type(value.column_type(), columns[place].of) {
-            return Err(Fault::Refused(Reason::BadType));
+            return Err(CheckFault::Refused(Reason::BadType));
         }
     }
     Ok(())
 }
 
 /// First the number of values, then their types.
-fn row_fits(values: &[Value], columns: &[ColumnDefinition]) -> Result<(), Fault>
+fn row_fits(values: &[Value], columns: &[ColumnDefinition]) -> Result<(), CheckFault>
     ensures { Gives (λ _. true) (spec.fitting (map spec.type_of values.now) columns.now) result }
 {
     if values.len() != columns.len() {
-        return Err(Fault::Refused(Reason::WrongCount));
+        return Err(CheckFault::Refused(Reason::WrongCount));
     }
     row_types(values, columns)
 }
 
-fn rows_fit(columns: &[ColumnDefinition], rows: &Tuples) -> Result<(), Fault>
+fn rows_fit(columns: &[ColumnDefinition], rows: &Tuples) -> Result<(), CheckFault>
     ensures { Gives (λ _. true) (statements.rows_fitting columns.now rows.now) result }
 {
     let mut left = rows.iter();
@@ -57,7 +57,7 @@ fn rows_fit(columns: &[ColumnDefinition], rows: &Tuples) -> Result<(), Fault>
 }
 
 #[tactic(auto, unfolding(crate::specs::Statements::rows_into))]
-fn insert_rows(table: &TableEntry<'_>, rows: &Tuples) -> Result<Statement, Fault>
+fn insert_rows(table: &TableEntry<'_>, rows: &Tuples) -> Result<Statement, CheckFault>
     ensures { Gives (λ s. s) (statements.rows_into table.now.id table.now.columns.now rows.now) result }
 {
     rows_fit(table.columns, rows)?;
@@ -70,7 +70,7 @@ fn insert_query<'s, S: Schema>(
     table: &TableEntry<'s>,
     q: &sb_syntax::Query,
     schema: &'s S,
-) -> Result<Statement, Fault>
+) -> Result<Statement, CheckFault>
     ensures { Gives (λ s. s) (statements.insert_into (S.names schema.now) table.now (view.query q.now)) result }
 {
     let outermost: Scope<'s, 's> = Scope::Outermost;
@@ -86,7 +86,7 @@ fn table_filter<'s, S: Schema>(
     table: &TableEntry<'s>,
     f: &Option<Box<sb_syntax::Condition>>,
     schema: &'s S,
-) -> Result<Condition, Fault>
+) -> Result<Condition, CheckFault>
     ensures { Gives (λ c. c) (statements.filter_over (S.names schema.now) table.now (written_filter f.now)) result }
 {
     let visible = [Visible {
@@ -107,7 +107,7 @@ fn delete<'s, S: Schema>(
     table: &TableEntry<'s>,
     f: &Option<Box<sb_syntax::Condition>>,
     schema: &'s S,
-) -> Result<Statement, Fault>
+) -> Result<Statement, CheckFault>
     ensures { Gives (λ s. s) (statements.delete_from (S.names schema.now) table.now (written_filter f.now)) result }
 {
     let condition = table_filter(alloc, table, f, schema)?;
@@ -134,17 +134,17 @@ fn each_assignment<'s, S: Schema>(
     list: &[sb_syntax::Assignment],
     schema: &'s S,
     scope: &Scope<'_, 's>,
-) -> Result<Assignments, Fault>
+) -> Result<Assignments, CheckFault>
     requires { scope_of scope.now ≡ statements.table_scope table.now.name table.now.columns.now }
     ensures { Gives (λ a. a) (statements.assignments_of (S.names schema.now) table.now list.now) result }
 {
     let mut done = Assignments::new(alloc);
     for assignment in list {
         let Some((place, of)) = column_in(table.columns, &assignment.column) else {
-            return Err(Fault::Refused(Reason::NoColumn));
+            return Err(CheckFault::Refused(Reason::NoColumn));
         };
         if is_assigned(done.as_slice(), place) {
-            return Err(Fault::Refused(Reason::Ambiguous));
+            return Err(CheckFault::Refused(Reason::Ambiguous));
         }
         let at = byte(place)?;
         let value = match operand(alloc, &assignment.operand, schema, scope) {
@@ -152,7 +152,7 @@ fn each_assignment<'s, S: Schema>(
             Err(fault) => return Err(fault),
         };
         if !same_type(value.of, of) {
-            return Err(Fault::Refused(Reason::BadType));
+            return Err(CheckFault::Refused(Reason::BadType));
         }
         done.push(Assignment {
             place: at,
@@ -168,7 +168,7 @@ fn assignments<'s, S: Schema>(
     table: &TableEntry<'s>,
     list: &[sb_syntax::Assignment],
     schema: &'s S,
-) -> Result<Assignments, Fault>
+) -> Result<Assignments, CheckFault>
     ensures { Gives (λ a. a) (statements.assignments_of (S.names schema.now) table.now list.now) result }
 {
     let visible = [Visible {
@@ -187,7 +187,7 @@ fn update<'s, S: Schema>(
     list: &[sb_syntax::Assignment],
     f: &Option<Box<sb_syntax::Condition>>,
     schema: &'s S,
-) -> Result<Statement, Fault>
+) -> Result<Statement, CheckFault>
     ensures { Gives (λ s. s) (update_in (S.names schema.now) table.now list.now (written_filter f.now)) result }
 {
     let places = assignments(alloc, table, list, schema)?;
@@ -200,7 +200,7 @@ pub(crate) fn statement<'s, S: Schema>(
     alloc: Global,
     text: &sb_syntax::Statement,
     schema: &'s S,
-) -> Result<Statement, Fault>
+) -> Result<Statement, CheckFault>
     ensures { Gives (λ s. s) (spec.walk_statement (S.names schema.now) (view.statement text.now)) result }
 {
     match text {

@@ -4,7 +4,7 @@ ghost use Rattle.sb_check.specs.Answer.{Gives};
 ghost use Rattle.sb_check.specs.Walk as walk;
 ghost use Rattle.sb_check.specs.Names as spec;
 
-use crate::fault::{Fault, Reason};
+use crate::fault::{CheckFault, Reason};
 use sb_value::{ColumnDefinition, ColumnType};
 use smallvec::SmallVec;
 use std::alloc::{AllocError, Global};
@@ -77,23 +77,23 @@ impl Types {
     }
 
     /// Checks that there are as many as the columns, and then that each is its column's.
-    pub(crate) fn fit(&self, columns: &[ColumnDefinition]) -> Result<(), Fault>
+    pub(crate) fn fit(&self, columns: &[ColumnDefinition]) -> Result<(), CheckFault>
         ensures { Gives (λ _. true) (walk.fitting self.now columns.now) result }
     {
         let list = self.list.as_slice();
         if list.len() != columns.len() {
-            return Err(Fault::Refused(Reason::WrongCount));
+            return Err(CheckFault::Refused(Reason::WrongCount));
         }
         for (place, column) in columns.iter().enumerate() {
             if !same_type(list[place].of, column.of) {
-                return Err(Fault::Refused(Reason::BadType));
+                return Err(CheckFault::Refused(Reason::BadType));
             }
         }
         Ok(())
     }
 
     /// Checks that there is one column, of the type of the left side of `in`.
-    pub(crate) fn hold_one(&self, left: ColumnType) -> Result<(), Fault>
+    pub(crate) fn hold_one(&self, left: ColumnType) -> Result<(), CheckFault>
         ensures { Gives (λ _. true) (walk.in_type left self.now) result }
     {
         match self.list.as_slice() {
@@ -101,10 +101,10 @@ impl Types {
                 if same_type(left, one.of) {
                     Ok(())
                 } else {
-                    Err(Fault::Refused(Reason::BadType))
+                    Err(CheckFault::Refused(Reason::BadType))
                 }
             }
-            _ => Err(Fault::Refused(Reason::WrongCount)),
+            _ => Err(CheckFault::Refused(Reason::WrongCount)),
         }
     }
 }

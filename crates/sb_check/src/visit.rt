@@ -8,7 +8,7 @@ use crate::tree::{
 };
 
 /// One to whom sources are shown.
-pub trait Visitor {
+pub trait SourceVisitor {
     /// Why it won't be shown more.
     type Stop;
 
@@ -22,7 +22,10 @@ pub trait Visitor {
 
 /// The sources of a statement, in order of mention.
 #[tactic(auto, using(crate::proofs::Shown::shown_both))]
-pub fn visit_statement<V: Visitor>(statement: &Statement, visitor: &mut V) -> Result<(), V::Stop>
+pub fn visit_statement<V: SourceVisitor>(
+    statement: &Statement,
+    visitor: &mut V,
+) -> Result<(), V::Stop>
     ensures { OnOk result (visitor.new ≡ fold V.after visitor.old (mentioned statement.now)) }
 {
     match statement {
@@ -37,7 +40,10 @@ pub fn visit_statement<V: Visitor>(statement: &Statement, visitor: &mut V) -> Re
 }
 
 #[tactic(auto, using(crate::proofs::Shown::shown_next))]
-fn visit_assignments<V: Visitor>(assignments: &[Assignment], visitor: &mut V) -> Result<(), V::Stop>
+fn visit_assignments<V: SourceVisitor>(
+    assignments: &[Assignment],
+    visitor: &mut V,
+) -> Result<(), V::Stop>
     ensures { OnOk result (visitor.new ≡ fold V.after visitor.old (assignment_sources assignments.now)) }
 {
     for assignment in assignments {
@@ -46,7 +52,7 @@ fn visit_assignments<V: Visitor>(assignments: &[Assignment], visitor: &mut V) ->
     Ok(())
 }
 
-fn visit_sources<V: Visitor>(sources: &[Source], visitor: &mut V) -> Result<(), V::Stop>
+fn visit_sources<V: SourceVisitor>(sources: &[Source], visitor: &mut V) -> Result<(), V::Stop>
     ensures { OnOk result (visitor.new ≡ fold V.after visitor.old sources.now) }
 {
     for source in sources {
@@ -58,7 +64,7 @@ fn visit_sources<V: Visitor>(sources: &[Source], visitor: &mut V) -> Result<(), 
 /// The sources of a query, in order of mention.
 #[cycle(visit)]
 #[tactic(auto, using(crate::proofs::Shown::shown_both))]
-pub fn visit_query<V: Visitor>(query: &Query, visitor: &mut V) -> Result<(), V::Stop>
+pub fn visit_query<V: SourceVisitor>(query: &Query, visitor: &mut V) -> Result<(), V::Stop>
     ensures { OnOk result (visitor.new ≡ fold V.after visitor.old (query_sources query.now)) }
 {
     visit_sources(query.sources.as_slice(), visitor)?;
@@ -66,7 +72,7 @@ pub fn visit_query<V: Visitor>(query: &Query, visitor: &mut V) -> Result<(), V::
 }
 
 #[cycle(visit)]
-fn visit_operand<V: Visitor>(operand: &Operand, visitor: &mut V) -> Result<(), V::Stop>
+fn visit_operand<V: SourceVisitor>(operand: &Operand, visitor: &mut V) -> Result<(), V::Stop>
     ensures { OnOk result (visitor.new ≡ fold V.after visitor.old (operand_sources operand.now)) }
 {
     match &operand.node {
@@ -77,7 +83,7 @@ fn visit_operand<V: Visitor>(operand: &Operand, visitor: &mut V) -> Result<(), V
 
 #[cycle(visit)]
 #[tactic(auto, using(crate::proofs::Shown::shown_both))]
-fn visit_condition<V: Visitor>(condition: &Condition, visitor: &mut V) -> Result<(), V::Stop>
+fn visit_condition<V: SourceVisitor>(condition: &Condition, visitor: &mut V) -> Result<(), V::Stop>
     ensures { OnOk result (visitor.new ≡ fold V.after visitor.old (sources_of condition.now)) }
 {
     match &condition.node {

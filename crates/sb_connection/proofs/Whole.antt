@@ -10,7 +10,7 @@ use Rattle.sb_wire.specs.declared.refusal.WireRefusal.TheVariants as wire
 use Rattle.sb_desk.specs.Calls.{Attached, Session}
 use Rattle.sb_desk.specs.declared.stub.Stub.{Stub}
 use Rattle.sb_connection.specs.Conversation.{Hosted, Talks, TurnsAway, TurnsAwayFrom, TurnsAwayLine, TurnsAwayVisitor, Visitor, attach_lines, named_by, named_in, named_of, tenant_at, visitor_in, visitor_of, welcome}
-use Rattle.sb_connection.specs.declared.greeting.Named.{Named}
+use Rattle.sb_connection.specs.declared.greeting.SessionName.{SessionName}
 use Rattle.sb_connection.specs.Exchanges.{IsClosed, has_ended, receipts_of}
 use Rattle.sb_connection.specs.Responding.{Admits, Greets, GreetsBy, GreetsLine, GreetsVisitor, LeavesSome, Responds, State, is_over, over}
 use Rattle.sb_connection.proofs.Closing.{left_receipts}
@@ -19,7 +19,7 @@ use Rattle.sb_connection.proofs.Talks.{MovesBy, calls}
 module _ (admits : Admits) (hosted : Hosted) where
   -- ---- the first line
 
-  turned_by : (named : Option Named) (text : List ℕ) (away : Bool) → GreetsBy hosted named text None away → (away ≡ true) × ((said : List (List ℕ)) × TurnsAwayFrom hosted named said × (text ≡ ended_lines said))
+  turned_by : (named : Option SessionName) (text : List ℕ) (away : Bool) → GreetsBy hosted named text None away → (away ≡ true) × ((said : List (List ℕ)) × TurnsAwayFrom hosted named said × (text ≡ ended_lines said))
   turned_by None text away (none, is_away, is) = (is_away, (refusal_line wire.BadLine ∷ [], refl, is))
   turned_by (Some n) text away (is_away, e, attached, is) = (is_away, (attach_lines e, (e, attached, refl), is))
 
@@ -40,10 +40,10 @@ module _ (admits : Admits) (hosted : Hosted) where
   turned (line bytes) text away greets = turned_line hosted.keyed bytes text away greets
 
   -- the session that was opened
-  abbrev Opens : Option Named → List ℕ → Session → Type 0
-  Opens named text s = (n : Named) × (named ≡ Some n) × Attached hosted.tenants (tenant_at hosted n.tenant) n.session (Ok s) × (text ≡ welcome)
+  abbrev Opens : Option SessionName → List ℕ → Session → Type 0
+  Opens named text s = (n : SessionName) × (named ≡ Some n) × Attached hosted.tenants (tenant_at hosted n.tenant) n.session (Ok s) × (text ≡ welcome)
 
-  opened_by : (named : Option Named) (text : List ℕ) (s : Session) (away : Bool) → GreetsBy hosted named text (Some s) away → Opens named text s
+  opened_by : (named : Option SessionName) (text : List ℕ) (s : Session) (away : Bool) → GreetsBy hosted named text (Some s) away → Opens named text s
   opened_by None text s away (none, is_away, is) = absurd cc
   opened_by (Some n) text s away (attached, is) = (n, refl, attached, is)
 

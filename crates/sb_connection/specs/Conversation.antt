@@ -14,7 +14,7 @@ use Rattle.sb_desk.specs.declared.desk.AttachError.{AttachError}
 use Rattle.sb_desk.specs.declared.desk.AttachError.TheVariants as attach
 use Rattle.sb_desk.specs.Calls.{Attached}
 use Rattle.sb_desk.specs.declared.stub.Stub.{Stub}
-use Rattle.sb_connection.specs.declared.greeting.Named.{Named}
+use Rattle.sb_connection.specs.declared.greeting.SessionName.{SessionName}
 use Rattle.sb_connection.specs.declared.serve.Served.{Served}
 use Rattle.sb_connection.specs.Exchanges.{AreCalls, AreReceipts, Exchange, has_ended, line_in, said_text}
 
@@ -40,12 +40,12 @@ tenant_at hosted t = if nat_lt t hosted.first then hosted.tenants else t - hoste
 -- ---- the first line
 
 -- a tenant and a session: two numbers and one space between them
-abbrev pub named_of : List ℕ → Option Named
+abbrev pub named_of : List ℕ → Option SessionName
 named_of bytes = option_and_then (λ t. option_map (λ s. record { tenant = t.0; session = s }) (number_of t.1)) (number_before bytes)
 
 -- whom a line with a key names
 pub record Visitor : Type 0 where
-  pub named : Named
+  pub named : SessionName
   pub key : List ℕ
 
 abbrev pub visitor_by : Option Addressed → Option Visitor
@@ -56,11 +56,11 @@ abbrev pub visitor_of : List ℕ → Option Visitor
 visitor_of bytes = visitor_by (addressed_of bytes)
 
 -- the session that a first line names, with a key where there are keys
-abbrev pub named_in : Bool → List ℕ → Option Named
+abbrev pub named_in : Bool → List ℕ → Option SessionName
 named_in false bytes = named_of bytes
 named_in true bytes = option_map (λ (v : Visitor). v.named) (visitor_of bytes)
 
-abbrev pub named_by : Bool → Piece → Option Named
+abbrev pub named_by : Bool → Piece → Option SessionName
 named_by keyed too_long = None
 named_by keyed (line bytes) = named_in keyed bytes
 
@@ -78,7 +78,7 @@ attach_lines attach.TrailFull = reply_lines (told.No refusal.TrailFull)
 attach_lines attach.NotBegun = refusal_line wire.NotBegun ∷ []
 
 -- by what the line names: nothing, or a session that isn't opened
-abbrev pub TurnsAwayFrom : Hosted → Option Named → List (List ℕ) → Type 0
+abbrev pub TurnsAwayFrom : Hosted → Option SessionName → List (List ℕ) → Type 0
 TurnsAwayFrom hosted None said = said ≡ refusal_line wire.BadLine ∷ []
 TurnsAwayFrom hosted (Some n) said = (e : AttachError) × Attached hosted.tenants (tenant_at hosted n.tenant) n.session (Err e) × (said ≡ attach_lines e)
 
@@ -104,7 +104,7 @@ welcome = ended_lines (codes "ok" ∷ [])
 
 -- The session that the first line names was opened, called with the lines behind, and closed; it is over where one of them ended it.
 pub record Serves (hosted : Hosted) (first : Piece) (behind : List Piece) (text : List ℕ) (stub : Stub) (over : Bool) : Type 0 where
-  pub named : Named
+  pub named : SessionName
   pub is_named : named_by hosted.keyed first ≡ Some named
   pub within : (tenant_at hosted named.tenant < hosted.tenants) × (named.session < session_count)
   pub exchanges : List Exchange

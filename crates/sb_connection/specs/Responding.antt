@@ -11,7 +11,7 @@ use Rattle.sb_desk.specs.Calls.{Attached, Calls, Session}
 use Rattle.sb_desk.specs.Stubs.{LeavesStub}
 use Rattle.sb_desk.specs.declared.stub.Stub.{Stub}
 use Rattle.sb_connection.specs.Conversation.{Hosted, Visitor, attach_lines, named_of, tenant_at, visitor_of, welcome}
-use Rattle.sb_connection.specs.declared.greeting.Named.{Named}
+use Rattle.sb_connection.specs.declared.greeting.SessionName.{SessionName}
 use Rattle.sb_connection.specs.Exchanges.{Exchange, line_in, said_text}
 use Rattle.sb_connection.specs.Exchanges as exchange
 
@@ -33,7 +33,7 @@ Exchanges old (exchange.unbegun bytes) new = Calls old bytes (Err call.NotBegun)
 Exchanges old (exchange.answered bytes answer) new = Calls old bytes (Ok answer) new
 
 -- a first line opens a session, or the connection is turned away
-abbrev pub GreetsNamed : Hosted → Named → List ℕ → Option Session → Bool → Type 0
+abbrev pub GreetsNamed : Hosted → SessionName → List ℕ → Option Session → Bool → Type 0
 GreetsNamed hosted named text None away = (away ≡ true) × (e : AttachError) × Attached hosted.tenants (tenant_at hosted named.tenant) named.session (Err e) × (text ≡ ended_lines (attach_lines e))
 GreetsNamed hosted named text (Some s) away = Attached hosted.tenants (tenant_at hosted named.tenant) named.session (Ok s) × (text ≡ welcome)
 
@@ -41,7 +41,7 @@ abbrev pub TurnsAwayBy : WireRefusal → List ℕ → Option Session → Bool �
 TurnsAwayBy r text s away = (s ≡ None) × (away ≡ true) × (text ≡ ended_lines (refusal_line r ∷ []))
 
 -- by what the line names
-abbrev pub GreetsBy : Hosted → Option Named → List ℕ → Option Session → Bool → Type 0
+abbrev pub GreetsBy : Hosted → Option SessionName → List ℕ → Option Session → Bool → Type 0
 GreetsBy hosted None text s away = TurnsAwayBy wire.BadLine text s away
 GreetsBy hosted (Some named) text s away = GreetsNamed hosted named text s away
 

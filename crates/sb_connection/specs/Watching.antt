@@ -1,10 +1,10 @@
 -- Machine: what is told of connections.
 use Rattle.std.specs.Prelude.{Bool, true, false}
-use Rattle.sb_connection.specs.declared.watch.Event.{Event}
-use Rattle.sb_connection.specs.declared.watch.Event.TheVariants.{Came, Attached, Closed, Left}
+use Rattle.sb_connection.specs.declared.watch.ConnectionEvent.{ConnectionEvent}
+use Rattle.sb_connection.specs.declared.watch.ConnectionEvent.TheVariants.{Came, Attached, Closed, Left}
 
 -- something went wrong, unless a client or a session comes or goes
-abbrev pub is_warning : Event → Bool
+abbrev pub is_warning : ConnectionEvent → Bool
 is_warning Came = false
 is_warning (Attached named) = false
 is_warning (Closed named steps left) = false

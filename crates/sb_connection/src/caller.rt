@@ -11,11 +11,11 @@ use std::sync::Wait;
 
 /// A session that is called with lines, one after another, until it is closed. To a contract it is what is seen of it.
 #[derive(Drop)]
-pub struct Caller<S: Calling> {
+pub struct SessionCaller<S: Calling> {
     session: S,
 }
 
-impl<S: Calling> Model for Caller<S> {
+impl<S: Calling> Model for SessionCaller<S> {
     ghost use Rattle.sb_desk.specs.Calls.{Session};
 
     ghost Value = { Session };
@@ -23,12 +23,12 @@ impl<S: Calling> Model for Caller<S> {
     ghost view = { λ c. S.seen c.session };
 }
 
-impl<S: Calling> Caller<S> {
+impl<S: Calling> SessionCaller<S> {
     /// A caller of a session that was opened.
-    pub fn new(session: S) -> Caller<S>
+    pub fn new(session: S) -> SessionCaller<S>
         ensures { result ≡ S.seen session }
     {
-        Caller { session }
+        SessionCaller { session }
     }
 
     /// The answer of the newest call that gave one.
@@ -57,7 +57,7 @@ impl<S: Calling> Caller<S> {
     pub fn close<R: Wait>(self, rt: &R) -> Stub
         ensures { LeavesStub self result }
     {
-        let Caller { session } = self;
+        let SessionCaller { session } = self;
         session.close(rt)
     }
 }

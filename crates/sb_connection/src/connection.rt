@@ -8,8 +8,8 @@ ghost use Rattle.sb_connection.specs.Standing.{is_open};
 ghost use Rattle.sb_connection.specs.Traffic.{after_write};
 
 use crate::admission::Admission;
-use crate::ending::Ending;
-use crate::greeting::Named;
+use crate::ending::ConnectionEnd;
+use crate::greeting::SessionName;
 use crate::machine::Machine;
 use crate::serve::{close, tell_end};
 use crate::state::State;
@@ -146,7 +146,7 @@ impl<H: Hosting> Connection<H> {
     }
 
     /// The session that it opened, if it did.
-    pub fn session(&self) -> Option<Named>
+    pub fn session(&self) -> Option<SessionName>
         ensures { IsSome result → self.now.attached ≡ true }
     {
         match self.machine.session {
@@ -156,7 +156,7 @@ impl<H: Hosting> Connection<H> {
     }
 
     /// Closes the session, if one was opened, and tells of it.
-    pub fn close<T: Wait, V: Watch>(self, rt: &T, watch: &V, ended: Ending) -> Option<Stub>
+    pub fn close<T: Wait, V: Watch>(self, rt: &T, watch: &V, ended: ConnectionEnd) -> Option<Stub>
         ensures conversation { Converses self result }
         ensures closed { IfSome result (λ stub. IsClosed stub.receipts.items) }
         ensures attached { self.attached ≡ is_some result }

@@ -5,7 +5,7 @@ use std::io::ErrorKind;
 
 /// How a connection ended.
 #[derive(Clone, Copy)]
-pub enum Ending {
+pub enum ConnectionEnd {
     /// It is over, or the server ends.
     Well,
     /// By a fault, for which the system may have a reason.
@@ -21,12 +21,12 @@ pub enum Ending {
     ByOperator,
 }
 
-impl Ending {
+impl ConnectionEnd {
     /// As a stream's end is told.
-    pub(crate) fn of(ended: &Result<(), StreamError>) -> Ending {
+    pub(crate) fn of(ended: &Result<(), StreamError>) -> ConnectionEnd {
         match ended {
-            Ok(()) => Ending::Well,
-            Err(why) => Ending::Fault {
+            Ok(()) => ConnectionEnd::Well,
+            Err(why) => ConnectionEnd::Fault {
                 why: *why,
                 reason: None,
             },

@@ -6,9 +6,9 @@ ghost use Rattle.sb_connection.specs.Conversation.{attach_lines, hosting, hostin
 ghost use Rattle.sb_connection.specs.Responding.{Greets, GreetsNamed, GreetsVisitor, WritesText};
 
 use crate::admission::Admission;
-use crate::caller::Caller;
+use crate::caller::SessionCaller;
 use crate::talking::Talk;
-use crate::watch::{Event, Watch};
+use crate::watch::{ConnectionEvent, Watch};
 use sb_desk::{AttachError, Hosting};
 use sb_tenant::Reply;
 use sb_value::Refusal;
@@ -21,26 +21,26 @@ use std::sync::Wait;
 
 /// A tenant and one of its sessions, as a first line names them.
 #[derive(Clone, Copy)]
-pub struct Named {
+pub struct SessionName {
     pub tenant: u32,
     pub session: u32,
 }
 
-impl Named {
+impl SessionName {
     /// The two numbers of a line, if it is that.
-    pub(crate) fn split(line: &[u8]) -> Option<Named>
+    pub(crate) fn split(line: &[u8]) -> Option<SessionName>
         ensures { result ≡ named_of line.now }
     {
         let (tenant, rest) = number_before_space(line)?;
         let session = number(rest)?;
-        Some(Named { tenant, session })
+        Some(SessionName { tenant, session })
     }
 }
 
 /// Whom a first line names that brings a key.
 #[derive(Clone, Copy)]
 pub(crate) struct Visitor<'a> {
-    pub(crate) named: Named,
+    pub(crate) named: SessionName,
     pub(crate) key: &'a [u8],
 }
 
@@ -58,14 +58,14 @@ impl<'a> Visitor<'a> {
             command,
         } = Addressed::split(line)?;
         Some(Visitor {
-            named: Named { tenant, session },
+            named: SessionName { tenant, session },
             key: command,
         })
     }
 }
 
 /// What a first line names, with a key where there are keys.
-pub(crate) fn named_in(piece: Piece<'_>, keyed: bool) -> Option<Named>
+pub(crate) fn named_in(piece: Piece<'_>, keyed: bool) -> Option<SessionName>
     ensures { result ≡ named_by keyed (piece_seen piece.entry) }
 {
     match piece {
@@ -73,7 +73,7 @@ pub(crate) fn named_in(piece: Piece<'_>, keyed: bool) -> Option<Named>
             Some(visitor) => Some(visitor.named),
             None => None,
         },
-        Piece::Line(line) => Named::split(line),
+        Piece::Line(line) => SessionName::split(line),
         Piece::TooLong => None,
     }
 }
@@ -99,7 +99,7 @@ pub(crate) fn greet<T: Wait, H: Hosting, V: Watch, A: Admission>(
     alloc: Global,
     piece: Piece<'_>,
     out: &mut Vec<u8>,
-    session: &mut Option<Caller<H::Session>>,
+    session: &mut Option<SessionCaller<H::Session>>,
     away: &mut bool,
 ) -> Result<(), AllocError>
     requires { session.old ≡ None }
@@ -109,7 +109,7 @@ pub(crate) fn greet<T: Wait, H: Hosting, V: Watch, A: Admission>(
     match piece {
         Piece::TooLong => turn_away(talk.watch, out, away, WireRefusal::TooLong),
         Piece::Line(line) if talk.keyed => greet_visitor(talk, alloc, line, out, session, away),
-        Piece::Line(line) => match Named::split(line) {
+        Piece::Line(line) => match SessionName::split(line) {
             Some(named) => open(talk, alloc, named, out, session, away),
             None => turn_away(talk.watch, out, away, WireRefusal::BadLine),
         },
@@ -122,7 +122,7 @@ fn greet_visitor<T: Wait, H: Hosting, V: Watch, A: Admission>(
     alloc: Global,
     line: &[u8],
     out: &mut Vec<u8>,
-    session: &mut Option<Caller<H::Session>>,
+    session: &mut Option<SessionCaller<H::Session>>,
     away: &mut bool,
 ) -> Result<(), AllocError>
     requires { session.old ≡ None }
@@ -135,7 +135,7 @@ fn greet_visitor<T: Wait, H: Hosting, V: Watch, A: Admission>(
     };
     let Visitor { named, key } = visitor;
     if !talk.admission.admits(talk.rt, named.tenant, key) {
-        talk.watch.see(Event::Barred(named));
+        talk.watch.see(ConnectionEvent::Barred(named));
         *away = true;
         return write_bare_refusal(out, WireRefusal::BadKey);
     }
@@ -154,7 +154,7 @@ fn turn_away<V: Watch>(
     ensures err { OnErr result (out.new.items ≡ out.old.items) }
 {
     *away = true;
-    watch.see(Event::Unnamed(why));
+    watch.see(ConnectionEvent::Unnamed(why));
     write_bare_refusal(out, why)
 }
 
@@ -162,9 +162,9 @@ fn turn_away<V: Watch>(
 fn open<T: Wait, H: Hosting, V: Watch, A: Admission>(
     talk: &Talk<'_, T, H, V, A>,
     alloc: Global,
-    named: Named,
+    named: SessionName,
     out: &mut Vec<u8>,
-    session: &mut Option<Caller<H::Session>>,
+    session: &mut Option<SessionCaller<H::Session>>,
     away: &mut bool,
 ) -> Result<(), AllocError>
     requires { session.old ≡ None }
@@ -174,12 +174,13 @@ fn open<T: Wait, H: Hosting, V: Watch, A: Admission>(
     let tenant = tenant_at(talk.first, talk.host.tenants(), named.tenant);
     match talk.host.attach(talk.rt, alloc, tenant, named.session) {
         Ok(opened) => {
-            talk.watch.see(Event::Attached(named));
-            *session = Some(Caller::new(opened));
+            talk.watch.see(ConnectionEvent::Attached(named));
+            *session = Some(SessionCaller::new(opened));
             write_bare_reply(out, &Reply::Ok)
         }
         Err(error) => {
-            talk.watch.see(Event::TurnedAway { named, why: error });
+            talk.watch
+                .see(ConnectionEvent::TurnedAway { named, why: error });
             *away = true;
             refuse(out, error)
         }

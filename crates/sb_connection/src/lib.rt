@@ -18,12 +18,12 @@ mod transactions;
 mod watch;
 
 pub use admission::{Admission, Open};
-pub use caller::Caller;
+pub use caller::SessionCaller;
 pub use connection::Connection;
-pub use ending::Ending;
-pub use greeting::Named;
-pub use routing::{Route, route_of};
+pub use ending::ConnectionEnd;
+pub use greeting::SessionName;
+pub use routing::{Destination, route_of};
 pub use serve::{Served, serve_one, serve_one_with};
 pub use state::State;
 pub use stream::Stream;
-pub use watch::{Answered, Event, NoWatch, Said, Slow, Watch};
+pub use watch::{Answered, ConnectionEvent, NoWatch, Said, Slow, Watch};

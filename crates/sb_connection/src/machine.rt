@@ -9,14 +9,14 @@ ghost use Rattle.sb_connection.specs.Standing.{is_open};
 ghost use Rattle.sb_connection.specs.Traffic.{after_write};
 
 use crate::admission::Admission;
-use crate::caller::Caller;
-use crate::greeting::{Named, named_in};
+use crate::caller::SessionCaller;
+use crate::greeting::{SessionName, named_in};
 use crate::room::{newest_step, tell_refusal, tell_reply, tell_room, was_unbegun};
 use crate::state::State;
 use crate::stream::Stream;
 use crate::talking::Talk;
 use crate::transactions::transacts_after;
-use crate::watch::{Event, Watch};
+use crate::watch::{ConnectionEvent, Watch};
 use http_server::Log;
 use sb_desk::Hosting;
 use sb_tenant::OPEN;
@@ -41,11 +41,11 @@ pub(crate) struct Machine<H: Hosting> {
     pub(crate) state: State,
     /// The client sends no more.
     pub(crate) at_end: bool,
-    pub(crate) session: Option<Caller<H::Session>>,
+    pub(crate) session: Option<SessionCaller<H::Session>>,
     /// None was opened, and none will be.
     pub(crate) away: bool,
     /// What the first line names.
-    pub(crate) named: Option<Named>,
+    pub(crate) named: Option<SessionName>,
     /// It is told that a line wasn't begun.
     pub(crate) tells_unbegun: bool,
     /// It has a transaction.
@@ -126,7 +126,7 @@ impl<H: Hosting> Machine<H> {
         self.at_end = true;
     }
 
-    pub(crate) fn into_session(self) -> Option<Caller<H::Session>>
+    pub(crate) fn into_session(self) -> Option<SessionCaller<H::Session>>
         ensures { result ≡ self.talk.0 }
     {
         let Machine { session, .. } = self;
@@ -222,7 +222,7 @@ impl<H: Hosting> Machine<H> {
         tell_refusal(rt, watch, named, WireRefusal::NotBegun, self.transacts);
         if !self.tells_unbegun {
             self.tells_unbegun = true;
-            watch.see(Event::NotBegun(named));
+            watch.see(ConnectionEvent::NotBegun(named));
         }
     }
 

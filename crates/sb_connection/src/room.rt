@@ -1,8 +1,8 @@
 //! What is told of the answers of a session, and of the room of its tenant's trail.
 
-use crate::caller::Caller;
-use crate::greeting::Named;
-use crate::watch::{Answered, Event, Said, Watch};
+use crate::caller::SessionCaller;
+use crate::greeting::SessionName;
+use crate::watch::{Answered, ConnectionEvent, Said, Watch};
 use sb_desk::Calling;
 use sb_tenant::TRAIL_LIMIT;
 use sb_wire::WireRefusal;
@@ -15,7 +15,7 @@ const MOST_STEPS: u32 = TRAIL_LIMIT as u32;
 const FEW_STEPS: u32 = MOST_STEPS / 10;
 
 /// Which step of its tenant the newest answer of a session is, if it is one.
-pub(crate) fn newest_step<S: Calling>(session: &Option<Caller<S>>) -> Option<u32> {
+pub(crate) fn newest_step<S: Calling>(session: &Option<SessionCaller<S>>) -> Option<u32> {
     let Some(session) = session else {
         return None;
     };
@@ -27,7 +27,10 @@ pub(crate) fn newest_step<S: Calling>(session: &Option<Caller<S>>) -> Option<u32
 
 /// Whether the newest line wasn't begun, where it was no step and this is the newest one: an answer that is no step says
 /// that the trail is full.
-pub(crate) fn was_unbegun<S: Calling>(session: &Option<Caller<S>>, newest: Option<u32>) -> bool {
+pub(crate) fn was_unbegun<S: Calling>(
+    session: &Option<SessionCaller<S>>,
+    newest: Option<u32>,
+) -> bool {
     let Some(session) = session else {
         return false;
     };
@@ -46,7 +49,7 @@ pub(crate) fn steps_left(step: Option<u32>) -> u32 {
 pub(crate) fn tell_room<V: Watch>(watch: &V, tenant: u32, step: u32) {
     let left = steps_left(Some(step));
     if left == 0 || left == FEW_STEPS {
-        watch.see(Event::Fills { tenant, left });
+        watch.see(ConnectionEvent::Fills { tenant, left });
     }
 }
 
@@ -54,8 +57,8 @@ pub(crate) fn tell_room<V: Watch>(watch: &V, tenant: u32, step: u32) {
 pub(crate) fn tell_reply<T: Wait, V: Watch, S: Calling>(
     rt: &T,
     watch: &V,
-    session: &Option<Caller<S>>,
-    named: Named,
+    session: &Option<SessionCaller<S>>,
+    named: SessionName,
     line: &[u8],
     transacted: bool,
 ) {
@@ -80,7 +83,7 @@ pub(crate) fn tell_reply<T: Wait, V: Watch, S: Calling>(
 pub(crate) fn tell_refusal<T: Wait, V: Watch>(
     rt: &T,
     watch: &V,
-    named: Named,
+    named: SessionName,
     why: WireRefusal,
     transacted: bool,
 ) {

@@ -3,13 +3,13 @@ ghost use Rattle.std.specs.Prelude.{◌≡◌};
 ghost use Rattle.sb_connection.specs.Conversation.{hosting, hosting_by};
 ghost use Rattle.sb_connection.specs.Routing.{Routes, RoutesBy};
 
-use crate::greeting::{Named, named_in, tenant_at};
+use crate::greeting::{SessionName, named_in, tenant_at};
 use sb_value::SESSION_LIMIT;
 use sb_wire::{Lines, Piece};
 
 /// Where a connection goes.
 #[derive(Clone, Copy, Debug, PartialEq, Eq)]
-pub enum Route {
+pub enum Destination {
     /// Its first line isn't complete.
     Unknown,
     /// To this tenant of the host.
@@ -19,7 +19,7 @@ pub enum Route {
 }
 
 /// Where a connection goes by the bytes that have come of it; and whether no more come.
-pub fn route_of(bytes: &[u8], has_ended: bool, first: u32, tenants: u32, keyed: bool) -> Route
+pub fn route_of(bytes: &[u8], has_ended: bool, first: u32, tenants: u32, keyed: bool) -> Destination
     ensures { Routes (hosting_by keyed first tenants) bytes.now has_ended result }
 {
     let mut lines = Lines::new();
@@ -27,23 +27,23 @@ pub fn route_of(bytes: &[u8], has_ended: bool, first: u32, tenants: u32, keyed: 
         Some(_) => route_by(named_in(lines.line(), keyed), first, tenants),
         None if has_ended => route_by(named_in(lines.line(), keyed), first, tenants),
         None => match lines.line() {
-            Piece::TooLong => Route::Away,
-            Piece::Line(_) => Route::Unknown,
+            Piece::TooLong => Destination::Away,
+            Piece::Line(_) => Destination::Unknown,
         },
     }
 }
 
 /// Where a connection goes whose first line names this.
-fn route_by(named: Option<Named>, first: u32, tenants: u32) -> Route
+fn route_by(named: Option<SessionName>, first: u32, tenants: u32) -> Destination
     ensures { RoutesBy (hosting first tenants) named result }
 {
     let Some(named) = named else {
-        return Route::Away;
+        return Destination::Away;
     };
     let tenant = tenant_at(first, tenants, named.tenant);
     if tenant < tenants && named.session < SESSION_LIMIT as u32 {
-        Route::To(tenant)
+        Destination::To(tenant)
     } else {
-        Route::Away
+        Destination::Away
     }
 }

@@ -6,12 +6,12 @@ ghost use Rattle.sb_connection.specs.Responding.{LeavesSome};
 ghost use Rattle.sb_wire.specs.Stream.{MayFail, OnWriteFault};
 
 use crate::admission::Open;
-use crate::caller::Caller;
-use crate::ending::Ending;
-use crate::greeting::{Named, number_of};
+use crate::caller::SessionCaller;
+use crate::ending::ConnectionEnd;
+use crate::greeting::{SessionName, number_of};
 use crate::room::steps_left;
 use crate::talking::Talk;
-use crate::watch::{Event, NoWatch, Watch};
+use crate::watch::{ConnectionEvent, NoWatch, Watch};
 use sb_desk::{Calling, Hosting, Stub};
 use sb_wire::{Sink, Source, StreamError, answer_stream};
 use std::alloc::Global;
@@ -65,12 +65,12 @@ pub fn serve_one_with<T: Wait, H: Hosting, R: Source, W: Sink, V: Watch>(
     let mut away = false;
     let ended = answer_stream(alloc, reader, writer, &talk, &mut session, &mut away);
     let stub = close(rt, session);
-    tell_end(watch, 0, &stub, Ending::of(&ended));
+    tell_end(watch, 0, &stub, ConnectionEnd::of(&ended));
     Served { stub, ended }
 }
 
 /// Closes the session, if one was opened.
-pub(crate) fn close<T: Wait, S: Calling>(rt: &T, session: Option<Caller<S>>) -> Option<Stub>
+pub(crate) fn close<T: Wait, S: Calling>(rt: &T, session: Option<SessionCaller<S>>) -> Option<Stub>
     ensures { LeavesSome session result }
 {
     match session {
@@ -80,32 +80,40 @@ pub(crate) fn close<T: Wait, S: Calling>(rt: &T, session: Option<Caller<S>>) -> 
 }
 
 /// Tells how a connection ended.
-pub(crate) fn tell_end<V: Watch>(watch: &V, first: u32, stub: &Option<Stub>, ended: Ending) {
+pub(crate) fn tell_end<V: Watch>(watch: &V, first: u32, stub: &Option<Stub>, ended: ConnectionEnd) {
     let named = match stub {
         Some(stub) => Some(session_of(first, stub)),
         None => None,
     };
     match (ended, named) {
-        (Ending::Well, _) | (Ending::ByOperator, None) => {}
-        (Ending::Fault { why, reason }, _) => watch.see(Event::Failed { named, why, reason }),
-        (Ending::IdleTransaction, Some(named)) => watch.see(Event::IdleTransaction(named)),
-        (Ending::ByOperator, Some(named)) => watch.see(Event::Ended(named)),
-        (Ending::Idle | Ending::IdleTransaction, _) => watch.see(Event::Idle(named)),
+        (ConnectionEnd::Well, _) | (ConnectionEnd::ByOperator, None) => {}
+        (ConnectionEnd::Fault { why, reason }, _) => watch.see(ConnectionEvent::Failed {
+            named,
+            why,
+            reason,
+        }),
+        (ConnectionEnd::IdleTransaction, Some(named)) => watch.see(ConnectionEvent::IdleTransaction(
+            named,
+        )),
+        (ConnectionEnd::ByOperator, Some(named)) => watch.see(ConnectionEvent::Ended(named)),
+        (ConnectionEnd::Idle | ConnectionEnd::IdleTransaction, _) => watch.see(
+            ConnectionEvent::Idle(named),
+        ),
     }
     match stub {
         Some(stub) => watch.see(closed(first, stub)),
-        None => watch.see(Event::Left),
+        None => watch.see(ConnectionEvent::Left),
     }
 }
 
 /// What is told of a session that is closed.
-fn closed(first: u32, stub: &Stub) -> Event {
+fn closed(first: u32, stub: &Stub) -> ConnectionEvent {
     let receipts = stub.list();
     let newest = match receipts.last() {
         Some(receipt) => receipt.answer.number,
         None => None,
     };
-    Event::Closed {
+    ConnectionEvent::Closed {
         named: session_of(first, stub),
         steps: receipts.len(),
         left: steps_left(newest),
@@ -113,8 +121,8 @@ fn closed(first: u32, stub: &Stub) -> Event {
 }
 
 /// Whose receipts these are.
-fn session_of(first: u32, stub: &Stub) -> Named {
-    Named {
+fn session_of(first: u32, stub: &Stub) -> SessionName {
+    SessionName {
         tenant: number_of(first, stub.tenant),
         session: u32::from(stub.session.number()),
     }

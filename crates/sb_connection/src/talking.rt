@@ -7,7 +7,7 @@ ghost use Rattle.sb_connection.specs.Exchanges.{Exchange, line_in, said_text};
 ghost use Rattle.sb_connection.specs.Responding.{Exchanges};
 
 use crate::admission::Admission;
-use crate::caller::Caller;
+use crate::caller::SessionCaller;
 use crate::greeting::greet;
 use crate::watch::Watch;
 use sb_desk::{CallError, Calling, Hosting};
@@ -28,8 +28,10 @@ pub(crate) struct Talk<'r, T, H: Hosting, V, A> {
     pub(crate) admission: &'r A,
 }
 
-impl<'r, T: Wait, H: Hosting, V: Watch, A: Admission> Responder<Option<Caller<H::Session>>, bool>
-    for Talk<'r, T, H, V, A> {
+impl<'r, T: Wait, H: Hosting, V: Watch, A: Admission> Responder<
+    Option<SessionCaller<H::Session>>,
+    bool,
+> for Talk<'r, T, H, V, A> {
     ghost use Rattle.sb_connection.specs.Conversation.{hosting_by};
     ghost use Rattle.sb_connection.specs.Responding.{Responds, over};
 
@@ -42,7 +44,7 @@ impl<'r, T: Wait, H: Hosting, V: Watch, A: Admission> Responder<Option<Caller<H:
         alloc: Global,
         piece: Piece<'_>,
         out: &mut Vec<u8>,
-        first: &mut Option<Caller<H::Session>>,
+        first: &mut Option<SessionCaller<H::Session>>,
         second: &mut bool,
     ) -> Result<(), AllocError> {
         match first {
@@ -51,7 +53,7 @@ impl<'r, T: Wait, H: Hosting, V: Watch, A: Admission> Responder<Option<Caller<H:
         }
     }
 
-    fn is_over(&self, first: &Option<Caller<H::Session>>, second: &bool) -> bool {
+    fn is_over(&self, first: &Option<SessionCaller<H::Session>>, second: &bool) -> bool {
         match first {
             Some(session) => session.ended(),
             None => *second,
@@ -65,7 +67,7 @@ fn exchange<T: Wait, S: Calling>(
     alloc: Global,
     piece: Piece<'_>,
     out: &mut Vec<u8>,
-    session: &mut Caller<S>,
+    session: &mut SessionCaller<S>,
 ) -> Result<(), AllocError>
     requires { session.old.ended ≡ false }
     ensures { (e : Exchange) × (piece_seen piece.entry ≡ line_in e) × Exchanges session.old e session.new
@@ -83,7 +85,7 @@ fn exchange<T: Wait, S: Calling>(
 }
 
 /// Writes the newest answer of a session.
-fn write_last<S: Calling>(out: &mut Vec<u8>, session: &Caller<S>) -> Result<(), AllocError>
+fn write_last<S: Calling>(out: &mut Vec<u8>, session: &SessionCaller<S>) -> Result<(), AllocError>
     requires { IsSome session.now.last }
     ensures ok { IfSome session.now.last (λ answer. OnOk result (out.new.items ≡
         out.old.items ++ ended_lines (reply_lines answer.reply))) }

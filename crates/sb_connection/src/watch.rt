@@ -2,7 +2,7 @@
 ghost use Rattle.std.specs.Prelude.{◌≡◌};
 ghost use Rattle.sb_connection.specs.Watching.{is_warning};
 
-use crate::greeting::Named;
+use crate::greeting::SessionName;
 use sb_desk::AttachError;
 use sb_tenant::Reply;
 use sb_wire::{StreamError, WireRefusal};
@@ -13,44 +13,44 @@ use std::sync::Wait;
 
 /// What happens to connections.
 #[derive(Clone, Copy)]
-pub enum Event {
+pub enum ConnectionEvent {
     /// A client has a connection.
     Came,
     /// The session that a first line names was opened.
-    Attached(Named),
+    Attached(SessionName),
     /// It wasn't.
     TurnedAway {
-        named: Named,
+        named: SessionName,
         why: AttachError,
     },
     /// A first line names no session.
     Unnamed(WireRefusal),
     /// Its key is none of the tenant's.
-    Barred(Named),
+    Barred(SessionName),
     /// The trail of a tenant has room for so few steps more, or for none. Each is told once.
     Fills {
         tenant: u32,
         left: u32,
     },
     /// A line of a session wasn't begun for want of memory. It is told once a connection.
-    NotBegun(Named),
+    NotBegun(SessionName),
     /// A connection ended by a fault. Its session, if it had one, is closed next.
     Failed {
-        named: Option<Named>,
+        named: Option<SessionName>,
         why: StreamError,
         reason: Option<ErrorKind>,
     },
     /// A connection is closed that has sent no line for too long.
-    Idle(Option<Named>),
+    Idle(Option<SessionName>),
     /// So is one whose session has a transaction.
-    IdleTransaction(Named),
+    IdleTransaction(SessionName),
     /// So is one whose session an operator ends.
-    Ended(Named),
+    Ended(SessionName),
     /// A connection is closed whose first line didn't come in time.
     Late,
     /// A session made so many steps, and its tenant's trail has room for so many more.
     Closed {
-        named: Named,
+        named: SessionName,
         steps: usize,
         left: u32,
     },
@@ -61,19 +61,22 @@ pub enum Event {
     NoPlace,
 }
 
-impl Event {
+impl ConnectionEvent {
     /// Whether something went wrong.
     pub fn is_warning(&self) -> bool
         ensures { result ≡ is_warning self.now }
     {
         !matches!(
             self,
-            Event::Came | Event::Attached(_) | Event::Closed { .. } | Event::Left
+            ConnectionEvent::Came
+                | ConnectionEvent::Attached(_)
+                | ConnectionEvent::Closed { .. }
+                | ConnectionEvent::Left
         )
     }
 }
 
-impl Display for Named {
+impl Display for SessionName {
     fn fmt<W: fmt::Write>(&self, f: &mut Formatter<W>) -> fmt::Result {
         write!(f, "tenant {}, session {}", self.tenant, self.session)
     }
@@ -82,7 +85,7 @@ impl Display for Named {
 /// Writes of a connection that ended by a fault.
 fn write_failed<W: fmt::Write>(
     f: &mut Formatter<W>,
-    named: &Option<Named>,
+    named: &Option<SessionName>,
     why: StreamError,
     reason: &Option<ErrorKind>,
 ) -> fmt::Result {
@@ -96,31 +99,39 @@ fn write_failed<W: fmt::Write>(
     }
 }
 
-impl Display for Event {
+impl Display for ConnectionEvent {
     fn fmt<W: fmt::Write>(&self, f: &mut Formatter<W>) -> fmt::Result {
         match self {
-            Event::Came => f.write_str("connected"),
-            Event::Attached(named) => write!(f, "attached: {named}"),
-            Event::TurnedAway { named, why } => write!(f, "turned away: {named}: {why:?}"),
-            Event::Unnamed(why) => write!(f, "turned away: {why:?}"),
-            Event::Barred(named) => write!(f, "turned away: {named}: BadKey"),
-            Event::Failed { named, why, reason } => write_failed(f, named, *why, reason),
-            Event::NotBegun(named) => { write!(f, "no memory for {named}: lines aren't begun") }
-            Event::Idle(Some(named)) => write!(f, "idle: {named}"),
-            Event::Idle(None) => f.write_str("idle"),
-            Event::IdleTransaction(named) => write!(f, "idle in a transaction: {named}"),
-            Event::Ended(named) => write!(f, "ended by an operator: {named}"),
-            Event::Late => f.write_str("no first line in time"),
-            Event::Fills { tenant, left: 0 } => write!(f, "the trail of tenant {tenant} is full"),
-            Event::Fills { tenant, left } => {
+            ConnectionEvent::Came => f.write_str("connected"),
+            ConnectionEvent::Attached(named) => write!(f, "attached: {named}"),
+            ConnectionEvent::TurnedAway { named, why } => write!(
+                f,
+                "turned away: {named}: {why:?}"
+            ),
+            ConnectionEvent::Unnamed(why) => write!(f, "turned away: {why:?}"),
+            ConnectionEvent::Barred(named) => write!(f, "turned away: {named}: BadKey"),
+            ConnectionEvent::Failed { named, why, reason } => write_failed(f, named, *why, reason),
+            ConnectionEvent::NotBegun(named) => {
+                write!(f, "no memory for {named}: lines aren't begun")
+            }
+            ConnectionEvent::Idle(Some(named)) => write!(f, "idle: {named}"),
+            ConnectionEvent::Idle(None) => f.write_str("idle"),
+            ConnectionEvent::IdleTransaction(named) => write!(f, "idle in a transaction: {named}"),
+            ConnectionEvent::Ended(named) => write!(f, "ended by an operator: {named}"),
+            ConnectionEvent::Late => f.write_str("no first line in time"),
+            ConnectionEvent::Fills { tenant, left: 0 } => write!(
+                f,
+                "the trail of tenant {tenant} is full"
+            ),
+            ConnectionEvent::Fills { tenant, left } => {
                 write!(f, "the trail of tenant {tenant} has room for {left} steps")
             }
-            Event::Closed { named, steps, left } => {
+            ConnectionEvent::Closed { named, steps, left } => {
                 write!(f, "closed: {named}: {steps} steps, {left} left")
             }
-            Event::Left => f.write_str("disconnected"),
-            Event::NotAccepted(why) => write!(f, "a connection can't be accepted: {why}"),
-            Event::NoPlace => f.write_str("no memory for a connection"),
+            ConnectionEvent::Left => f.write_str("disconnected"),
+            ConnectionEvent::NotAccepted(why) => write!(f, "a connection can't be accepted: {why}"),
+            ConnectionEvent::NoPlace => f.write_str("no memory for a connection"),
         }
     }
 }
@@ -128,7 +139,7 @@ impl Display for Event {
 /// A line of a session, and what it was answered.
 #[derive(Clone, Copy)]
 pub struct Answered<'a> {
-    pub named: Named,
+    pub named: SessionName,
     /// The first line of a connection, which may bring a key, isn't told: it is `open` here.
     pub line: &'a [u8],
     pub said: Said<'a>,
@@ -147,17 +158,17 @@ pub enum Said<'a> {
 /// A line that took long.
 #[derive(Clone, Copy)]
 pub struct Slow<'a> {
-    pub named: Named,
+    pub named: SessionName,
     pub line: &'a [u8],
     pub millis: u64,
 }
 
 /// Is told what happens to connections.
 pub trait Watch {
-    fn see(&self, event: Event);
+    fn see(&self, event: ConnectionEvent);
 
     /// What happens to the connection of the client at this port.
-    fn see_client(&self, port: u16, event: Event);
+    fn see_client(&self, port: u16, event: ConnectionEvent);
 
     /// What a line was answered.
     fn hear<T: Wait>(&self, rt: &T, answered: Answered<'_>);
@@ -170,9 +181,9 @@ pub trait Watch {
 pub struct NoWatch;
 
 impl Watch for NoWatch {
-    fn see(&self, _event: Event) {}
+    fn see(&self, _event: ConnectionEvent) {}
 
-    fn see_client(&self, _port: u16, _event: Event) {}
+    fn see_client(&self, _port: u16, _event: ConnectionEvent) {}
 
     fn hear<T: Wait>(&self, _rt: &T, _answered: Answered<'_>) {}
 

@@ -3,8 +3,8 @@ use Rattle.std.proofs.Common.{◌≡◌, ◌∙◌, ℕ, ◌<◌, Bool, true, fa
 use Rattle.std.specs.List.{list_any}
 use Rattle.sb_value.specs.NetEffect.{is_of, history, last_of, net_between, net_of, net_effect, with_number, tuples_of, is_operation, is_triggered, inserted_row, deleted_row, old_updated_row, new_updated_row, nets_of, transition_tables}
 use Rattle.sb_value.specs.declared.change.Change.{Change}
-use Rattle.sb_value.specs.declared.change.Kind.{Kind}
-use Rattle.sb_value.specs.declared.change.Kind.TheVariants.{Inserted, Deleted, Updated}
+use Rattle.sb_value.specs.declared.change.ChangeKind.{ChangeKind}
+use Rattle.sb_value.specs.declared.change.ChangeKind.TheVariants.{Inserted, Deleted, Updated}
 use Rattle.sb_value.specs.declared.net.Net.{Net}
 use Rattle.sb_value.specs.declared.net.Transition.{Transition}
 use Rattle.sb_value.specs.declared.net.Triggers.{Triggers}
@@ -61,7 +61,7 @@ module _ (tenant : ℕ) (n : Numbering) (rising : (table a b : ℕ) → a < b �
   lasts c [] = refl
   lasts c (d ∷ ds) = lasts d ds
 
-  between : (k m : Kind) (first last : Change) → net_between k m (r first) (r last) ≡ net_between k m first last
+  between : (k m : ChangeKind) (first last : Change) → net_between k m (r first) (r last) ≡ net_between k m first last
   between Inserted Inserted first last = refl
   between Inserted Updated first last = refl
   between Inserted Deleted first last = refl

@@ -5,8 +5,8 @@ use Rattle.std.proofs.lemmas.List.{map-append}
 use Rattle.std.proofs.lemmas.List.Elements.{All-head, All-tail, All-map, All-weaker}
 use Rattle.sb_value.specs.declared.value.Value.{Value}
 use Rattle.sb_value.specs.declared.change.Change.{Change}
-use Rattle.sb_value.specs.declared.change.Kind.{Kind}
-use Rattle.sb_value.specs.declared.change.Kind.TheVariants.{Inserted, Deleted, Updated}
+use Rattle.sb_value.specs.declared.change.ChangeKind.{ChangeKind}
+use Rattle.sb_value.specs.declared.change.ChangeKind.TheVariants.{Inserted, Deleted, Updated}
 use Rattle.sb_value.specs.Table.{Table, Entry, new_row, after_kind, entry_after, after, after_all, has_table, name_at}
 use Rattle.sb_dump.specs.Alike.{Numbering, IsNumbering, renumbered_table, renumbered_entry, renumbered_change}
 
@@ -64,7 +64,7 @@ module _ (n : Numbering) (rising : (table a b : ℕ) → a < b → n table a < n
   put true r = refl
   put false r = refl
 
-  table_after : (k : Kind) → after_kind k renumbered (renumbered_table (n t) table) ≡ renumbered_table (n t) (after_kind k c table)
+  table_after : (k : ChangeKind) → after_kind k renumbered (renumbered_table (n t) table) ≡ renumbered_table (n t) (after_kind k c table)
   table_after Inserted = λ i. record {
     columns = table.columns;
     rows = sym (map-append (renumbered_row (n t)) table.rows ((table.next, new_row c) ∷ [])) i;
@@ -106,7 +106,7 @@ module _ (tenant : ℕ) (n : Numbering) (rising : (table a b : ℕ) → a < b �
   steady_after : (e : Entry) → IsSteady n e → IsSteady n (entry_after c e)
   steady_after e steady = by (nat_eq e.id c.table)
     where
-      of : (kind : Kind) → (k : ℕ) → n e.id ((after_kind kind c e.table).next + k) ≡ n e.id (after_kind kind c e.table).next + k
+      of : (kind : ChangeKind) → (k : ℕ) → n e.id ((after_kind kind c e.table).next + k) ≡ n e.id (after_kind kind c e.table).next + k
       of Inserted = steady_on (n e.id) e.table.next steady
       of Deleted = steady
       of Updated = steady

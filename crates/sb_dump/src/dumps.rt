@@ -7,7 +7,7 @@ ghost use Rattle.sb_tenant.specs.Tenant.{state};
 use crate::alike::{are_alike, is_busy};
 use crate::draft::Draft;
 use crate::order::{write_order, write_rulesets};
-use crate::play::{Unplayed, only_tenant, play};
+use crate::play::{SendFault, only_tenant, play};
 use crate::rules::{write_inactive, write_rules};
 use crate::script::Script;
 use crate::tables::write_tables;
@@ -42,8 +42,8 @@ pub fn dump(alloc: Global, tenant: &Tenant, bound: u32) -> Result<Script, DumpEr
             Some(copy) if are_alike(copy, tenant) => Ok(script),
             _ => Err(DumpError::NotAlike),
         },
-        Err(Unplayed::Refused) => Err(DumpError::NotAlike),
-        Err(Unplayed::NoMemory) => Err(DumpError::NoMemory),
+        Err(SendFault::Refused) => Err(DumpError::NotAlike),
+        Err(SendFault::NoMemory) => Err(DumpError::NoMemory),
     }
 }
 

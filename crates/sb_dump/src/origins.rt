@@ -2,7 +2,7 @@
 
 use crate::parts::deed_of;
 use sb_catalog::Catalog;
-use sb_syntax::Kind;
+use sb_syntax::TokenKind;
 use sb_tenant::{Entry, Reply};
 use sb_value::RULE_LIMIT;
 use std::alloc::{AllocError, Global};
@@ -69,10 +69,10 @@ fn note(
         origin.head = place;
         origin.condition = None;
     }
-    if deed.has(Kind::If) {
+    if deed.has(TokenKind::If) {
         origin.condition = Some(place);
     }
-    if deed.has(Kind::Then) {
+    if deed.has(TokenKind::Then) {
         origin.actions = place;
     }
     Ok(())

@@ -1,14 +1,18 @@
 //! The parts of a line that makes or alters a rule.
 
-use sb_syntax::{Kind, ParseError, Token, tokens};
+use sb_syntax::{ParseError, Token, TokenKind, tokens};
 use sb_value::{NAME_LIMIT, Name};
 use std::alloc::{AllocError, Global};
 
 /// Whether a part begins behind that word: these words stand nowhere else in a rule.
-fn begins_part(kind: Kind) -> bool {
+fn begins_part(kind: TokenKind) -> bool {
     match kind {
-        Kind::On | Kind::If | Kind::Then | Kind::Precedes | Kind::Follows | Kind::NoPriority =>
-            true,
+        TokenKind::On
+        | TokenKind::If
+        | TokenKind::Then
+        | TokenKind::Precedes
+        | TokenKind::Follows
+        | TokenKind::NoPriority => true,
         _ => false,
     }
 }
@@ -34,7 +38,7 @@ fn slice(line: &[u8], start: u32, end: u32) -> &[u8] {
 }
 
 /// What stands behind that word up to the next part, with the spaces in front of it; nothing where the word isn't there.
-pub(crate) fn part(alloc: Global, line: &[u8], word: Kind) -> Result<&[u8], AllocError> {
+pub(crate) fn part(alloc: Global, line: &[u8], word: TokenKind) -> Result<&[u8], AllocError> {
     let tokens = tokens_of(alloc, line)?;
     let mut part: &[u8] = &[];
     let mut start = 0;
@@ -52,16 +56,16 @@ pub(crate) fn part(alloc: Global, line: &[u8], word: Kind) -> Result<&[u8], Allo
 
 /// What a line does to a rule.
 #[derive(Drop)]
-pub(crate) struct Deed {
+pub(crate) struct RuleDefinition {
     pub(crate) rule: Name,
     /// Whether it creates the rule; otherwise it alters it.
     pub(crate) creates: bool,
     tokens: Vec<Token>,
 }
 
-impl Deed {
+impl RuleDefinition {
     /// Whether it gives the rule the part that begins behind this word.
-    pub(crate) fn has(&self, word: Kind) -> bool {
+    pub(crate) fn has(&self, word: TokenKind) -> bool {
         self.tokens
             .as_slice()
             .iter()
@@ -70,20 +74,20 @@ impl Deed {
 }
 
 /// What a line does to a rule, if it creates or alters one.
-pub(crate) fn deed_of(alloc: Global, line: &[u8]) -> Result<Option<Deed>, AllocError> {
+pub(crate) fn deed_of(alloc: Global, line: &[u8]) -> Result<Option<RuleDefinition>, AllocError> {
     let tokens = tokens_of(alloc, line)?;
     let [first, second, third, ..] = tokens.as_slice() else {
         return Ok(None);
     };
-    let creates = first.kind == Kind::Create;
-    if !creates && first.kind != Kind::Alter || second.kind != Kind::Rule {
+    let creates = first.kind == TokenKind::Create;
+    if !creates && first.kind != TokenKind::Alter || second.kind != TokenKind::Rule {
         return Ok(None);
     }
     let name = slice(line, third.start, third.end);
     if name.is_empty() || name.len() > NAME_LIMIT {
         return Ok(None);
     }
-    Ok(Some(Deed {
+    Ok(Some(RuleDefinition {
         rule: Name::new(name),
         creates,
         tokens,

@@ -13,7 +13,7 @@ use std::alloc::Global;
 
 /// Why a script wasn't played to its end.
 #[derive(Clone, Copy)]
-pub(crate) enum Unplayed {
+pub(crate) enum SendFault {
     /// A line can't be sent, or was refused.
     Refused,
     NoMemory,
@@ -25,7 +25,7 @@ pub(crate) fn play(
     id: TenantId,
     bound: u32,
     lines: &[Line],
-) -> Result<Cell, Unplayed>
+) -> Result<Cell, SendFault>
     requires { bound ≤ 1000 }
     ensures sendable { OnOk result (All IsSendable lines.now) }
     ensures played { IfOk result (λ cell. states cell id ≡ played id bound lines.now) }
@@ -33,7 +33,7 @@ pub(crate) fn play(
 {
     let number = u32::from(id.number());
     let Ok(mut cell) = Cell::new(alloc, number, 256, number + 1, bound) else {
-        return Err(Unplayed::NoMemory);
+        return Err(SendFault::NoMemory);
     };
     send(alloc, &mut cell, id, OPEN)?;
     send_all(alloc, &mut cell, id, lines)?;
@@ -50,14 +50,14 @@ pub(crate) fn only_tenant(cell: &Cell, id: TenantId) -> Option<&Tenant>
 }
 
 /// Sends lines in session 0, each of which can be sent and is done.
-fn send_all(alloc: Global, cell: &mut Cell, id: TenantId, lines: &[Line]) -> Result<(), Unplayed>
+fn send_all(alloc: Global, cell: &mut Cell, id: TenantId, lines: &[Line]) -> Result<(), SendFault>
     requires { hosts cell.old id ≡ true }
     ensures sendable { OnOk result (All IsSendable lines.now) }
     ensures sent { OnOk result (AreSent id lines.now cell.old cell.new) }
 {
     for line in lines {
         if !is_sendable(line.as_slice()) {
-            return Err(Unplayed::Refused);
+            return Err(SendFault::Refused);
         }
         send_line(alloc, cell, id, line)?;
     }
@@ -65,7 +65,7 @@ fn send_all(alloc: Global, cell: &mut Cell, id: TenantId, lines: &[Line]) -> Res
 }
 
 /// Sends a line, which shares its bytes with the trail.
-fn send_line(alloc: Global, cell: &mut Cell, id: TenantId, line: &Line) -> Result<(), Unplayed>
+fn send_line(alloc: Global, cell: &mut Cell, id: TenantId, line: &Line) -> Result<(), SendFault>
     requires { hosts cell.old id ≡ true }
     ensures { OnOk result (AreSent id (line.now ∷ []) cell.old cell.new) }
 {
@@ -74,7 +74,7 @@ fn send_line(alloc: Global, cell: &mut Cell, id: TenantId, line: &Line) -> Resul
 }
 
 /// Sends a line.
-fn send(alloc: Global, cell: &mut Cell, id: TenantId, line: &[u8]) -> Result<(), Unplayed>
+fn send(alloc: Global, cell: &mut Cell, id: TenantId, line: &[u8]) -> Result<(), SendFault>
     requires { hosts cell.old id ≡ true }
     ensures { OnOk result (AreSent id (line.now ∷ []) cell.old cell.new) }
 {
@@ -90,7 +90,7 @@ fn is_sendable(line: &[u8]) -> bool
 }
 
 /// Whether a line was done.
-fn check(answer: Result<Answer, StepError>) -> Result<(), Unplayed>
+fn check(answer: Result<Answer, StepError>) -> Result<(), SendFault>
     ensures { OnOk result (IsDone answer) }
 {
     match answer {
@@ -98,9 +98,9 @@ fn check(answer: Result<Answer, StepError>) -> Result<(), Unplayed>
             Reply::Ok => Ok(()),
             Reply::Count(_) => Ok(()),
             Reply::Done(_) => Ok(()),
-            Reply::No(Refusal::NoMemory) => Err(Unplayed::NoMemory),
-            _ => Err(Unplayed::Refused),
+            Reply::No(Refusal::NoMemory) => Err(SendFault::NoMemory),
+            _ => Err(SendFault::Refused),
         },
-        Err(_) => Err(Unplayed::NoMemory),
+        Err(_) => Err(SendFault::NoMemory),
     }
 }

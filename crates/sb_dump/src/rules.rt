@@ -5,7 +5,7 @@ use crate::origins::{Origin, origins};
 use crate::parts::part;
 use crate::stand_ins::{Beginnings, StandIns};
 use sb_catalog::Rule;
-use sb_syntax::Kind;
+use sb_syntax::TokenKind;
 use sb_tenant::{Entry, Tenant};
 use std::alloc::{AllocError, Global};
 
@@ -62,7 +62,12 @@ fn free_beginning(rules: &[Rule]) -> [u8; 2] {
 }
 
 /// The part behind that word of the line at a place of the trail.
-fn part_at(alloc: Global, trail: &[Entry], place: usize, word: Kind) -> Result<&[u8], AllocError> {
+fn part_at(
+    alloc: Global,
+    trail: &[Entry],
+    place: usize,
+    word: TokenKind,
+) -> Result<&[u8], AllocError> {
     match trail.get(place) {
         Some(entry) => part(alloc, entry.line.as_slice(), word),
         None => Ok(&[]),
@@ -78,10 +83,10 @@ fn write_rule(
     origin: &Origin,
 ) -> Result<(), AllocError> {
     let name = rule.name.as_slice();
-    let head = part_at(alloc, trail, origin.head, Kind::On)?;
-    let actions = part_at(alloc, trail, origin.actions, Kind::Then)?;
+    let head = part_at(alloc, trail, origin.head, TokenKind::On)?;
+    let actions = part_at(alloc, trail, origin.actions, TokenKind::Then)?;
     let condition = match origin.condition {
-        Some(place) => part_at(alloc, trail, place, Kind::If)?,
+        Some(place) => part_at(alloc, trail, place, TokenKind::If)?,
         None => &[],
     };
     draft.put(b"create rule ")?;

@@ -11,14 +11,14 @@ use sb_value::{ColumnDefinition, Name, Row, TableId, same_row};
 
 /// A table with its number and its name.
 #[derive(Clone, Copy)]
-struct Held<'a> {
+struct NamedTable<'a> {
     id: TableId,
     name: &'a Name,
     table: &'a Table,
 }
 
 /// The table at a place.
-fn held_at(tables: &Tables, place: usize) -> Option<Held<'_>>
+fn held_at(tables: &Tables, place: usize) -> Option<NamedTable<'_>>
     ensures { MatchOption result (slice_get tables.now place ≡ None)
         (λ h. slice_get tables.now place ≡ Some (record { id = h.id; name = h.name.now; stored = h.table.now })) }
 {
@@ -26,7 +26,7 @@ fn held_at(tables: &Tables, place: usize) -> Option<Held<'_>>
         None => None,
         Some((name, id)) => match tables.table_at(place) {
             None => None,
-            Some(table) => Some(Held {
+            Some(table) => Some(NamedTable {
                 id: *id,
                 name,
                 table,
@@ -112,7 +112,7 @@ fn same_table_at(one: &Tables, other: &Tables, place: usize) -> bool
     }
 }
 
-fn same_held(one: &Held<'_>, other: &Held<'_>) -> bool
+fn same_held(one: &NamedTable<'_>, other: &NamedTable<'_>) -> bool
     ensures id { IsTrue result → one.now.id ≡ other.now.id }
     ensures name { IsTrue result → one.now.name.now ≡ other.now.name.now }
     ensures columns { IsTrue result → one.now.table.now.table.columns ≡ other.now.table.now.table.columns }

@@ -4,11 +4,11 @@ use Rattle.std.proofs.lemmas.List.{append-nil}
 use Rattle.sqlite_disk.specs.Disk.{Holds, Torn, Follows, Only}
 use Rattle.sb_durable.specs.Blocks.{body, block, blocks, IsContent, Stands, IsBeforeOrAfter}
 use Rattle.sb_durable.specs.Log.{HasAll}
-use Rattle.sb_durable.specs.declared.log.Log.{Log}
+use Rattle.sb_durable.specs.declared.record_log.RecordLog.{RecordLog}
 use Rattle.sb_durable.proofs.Bytes.{torn_front, torn_byte, written_behind}
 use Rattle.sb_durable.proofs.Contents.{each-push, blocks-push, stands_shut, stands_gate}
 
-module _ {D : Type 0} (seen : D → List ℕ) (may_leave : D → List ℕ → Type 0) (log : Log D) (contents : List (List ℕ)) (has : HasAll seen may_leave log contents) where
+module _ {D : Type 0} (seen : D → List ℕ) (may_leave : D → List ℕ → Type 0) (log : RecordLog D) (contents : List (List ℕ)) (has : HasAll seen may_leave log contents) where
   file : List ℕ
   file = blocks contents ++ has.file.gate ∷ []
 

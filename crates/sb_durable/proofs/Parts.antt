@@ -15,8 +15,8 @@ use Rattle.sb_durable.specs.declared.book.Book.{Book}
 use Rattle.sb_durable.specs.declared.error.JournalError.{JournalError}
 use Rattle.sb_durable.specs.declared.noting.Note.{Note}
 use Rattle.sb_durable.specs.declared.noting.Notes.{Notes}
-use Rattle.sb_durable.specs.declared.noting.Reach.{Reach}
-use Rattle.sb_durable.specs.declared.noting.Reach.TheVariants.{Nowhere, Part as OfPart, End, NoMemory}
+use Rattle.sb_durable.specs.declared.noting.NoteReach.{NoteReach}
+use Rattle.sb_durable.specs.declared.noting.NoteReach.TheVariants.{Nowhere, Part as OfPart, End, NoMemory}
 use Rattle.sb_durable.specs.Noting.{note_of, record_of_note, IsFront, IsStaged, NotesBehind, Reads}
 use Rattle.sb_durable.specs.Recording.{Part, entries_of, record_of, records_of, AreAmong, AreOf, Counts, Reaches}
 use Rattle.sb_durable.specs.Keeping.{HasFront, KeepsFront, Stages, StagesBy, StagesFront, StagesNoted, Takes}
@@ -99,7 +99,7 @@ on_err (Ok x) p = tt
 on_err (Err e) p = p
 
 -- all was staged only where the end was reached
-pub whole_reach : (reach : Reach) (whole : Bool) → IsStaged reach whole → IsTrue whole → reach ≡ End
+pub whole_reach : (reach : NoteReach) (whole : Bool) → IsStaged reach whole → IsTrue whole → reach ≡ End
 whole_reach Nowhere whole staged is = absurd staged
 whole_reach NoMemory whole staged is = absurd staged
 whole_reach OfPart whole staged is = absurd (cc (staged, is))
@@ -220,7 +220,7 @@ module _ {D : Type 0} {g : Ghosts D} (seen : D → List ℕ) (may_leave : D → 
       ([], takes_none G old new head records waiting (ap (λ (b : Book D g). b.recorded.items) same) now (kept head records waiting now), tt, λ w. absurd (none w))
 
   -- by how far the notes go, and whether all of them were taken
-  pub taken : (G : Type 0) (old new : Book D g) (t from : ℕ) (own : Tenant) (notes : List Note) (reach : Reach) (all : Bool) (whole : Type 0) → t < length old.recorded.items → from ≡ slice_index old.recorded.items t → IsLegal own
+  pub taken : (G : Type 0) (old new : Book D g) (t from : ℕ) (own : Tenant) (notes : List Note) (reach : NoteReach) (all : Bool) (whole : Type 0) → t < length old.recorded.items → from ≡ slice_index old.recorded.items t → IsLegal own
       → NotesBehind from own.trail notes reach → (whole → (reach ≡ End) × IsTrue all) → StagesBy seen may_leave old new t notes all reach → Kept new → Taken G old new t whole
   taken G old new t from own notes Nowhere all whole there start legal behind to_end staged kept = taken_none G old new t whole staged (λ w. absurd (cc ((to_end w).0))) kept
   taken G old new t from own notes NoMemory all whole there start legal behind to_end staged kept = taken_none G old new t whole staged (λ w. absurd (cc ((to_end w).0))) kept
@@ -239,7 +239,7 @@ module _ {D : Type 0} {g : Ghosts D} (seen : D → List ℕ) (may_leave : D → 
       taken ⊥ old new t blank.from own.0 notes.list.items notes.reach true (IsTrue w) has start own.1.0 own.1.1 (λ is. (whole_reach notes.reach w whole is, refl)) staged kept
   taken_ok old new t blank notes false (Ok w) has start nowhere read none whole staged kept =
       let is : notes.reach ≡ Nowhere = ap (λ (n : Notes). n.reach) (none refl) ∙ nowhere in
-      taken_none ⊥ old new t (IsTrue w) (subst (λ (r : Reach). StagesBy seen may_leave old new t notes.list.items true r) is staged) (λ _. subst (λ (r : Reach). IsStaged r w) is whole) kept
+      taken_none ⊥ old new t (IsTrue w) (subst (λ (r : NoteReach). StagesBy seen may_leave old new t notes.list.items true r) is staged) (λ _. subst (λ (r : NoteReach). IsStaged r w) is whole) kept
 
   pub taken_err : (G : Type 0) (old new : Book D g) (t : ℕ) (blank notes : Notes) (there : Bool) (r : Result Bool JournalError) → t < length old.recorded.items → blank.from ≡ slice_index old.recorded.items t → blank.reach ≡ Nowhere
       → (IsTrue there → (own : Tenant) × Reads blank own notes) → (IsFalse there → notes ≡ blank) → StagesNoted seen may_leave old new t notes (is_ok r) → Kept new → OnErr r (Taken G old new t ⊥)
@@ -249,7 +249,7 @@ module _ {D : Type 0} {g : Ghosts D} (seen : D → List ℕ) (may_leave : D → 
       taken G old new t blank.from own.0 notes.list.items notes.reach false ⊥ has start own.1.0 own.1.1 (λ is. absurd is) staged kept
   taken_err G old new t blank notes false (Err e) has start nowhere read none staged kept =
       let is : notes.reach ≡ Nowhere = ap (λ (n : Notes). n.reach) (none refl) ∙ nowhere in
-      taken_none G old new t ⊥ (subst (λ (r : Reach). StagesBy seen may_leave old new t notes.list.items false r) is staged) (λ is. is) kept
+      taken_none G old new t ⊥ (subst (λ (r : NoteReach). StagesBy seen may_leave old new t notes.list.items false r) is staged) (λ is. is) kept
 
   -- one step after the other, from whatever the journal has
   abbrev pub TakesWith : Type 0 → (List Part → Type 0) → Book D g → Book D g → Type 0

@@ -7,7 +7,7 @@ use Rattle.sqlite_disk.specs.Disk.{Holds}
 use Rattle.sb_durable.specs.Blocks.{block, blocks, IsContent, IsEnd, Stands}
 use Rattle.sb_durable.specs.Ends.{BeginsWith}
 use Rattle.sb_durable.specs.Log.{HasAll, Reads}
-use Rattle.sb_durable.specs.declared.log.Log.{Log}
+use Rattle.sb_durable.specs.declared.record_log.RecordLog.{RecordLog}
 use Rattle.sb_durable.proofs.Contents.{blocks-push}
 use Rattle.sb_durable.proofs.Reading.{same_parts, one_block, no_block_at_end}
 use Rattle.sb_durable.proofs.Walk.{held_front}
@@ -45,7 +45,7 @@ some_read front (c ∷ back) file bytes at size gate each shut is here begins lo
       ap Some (omega (arith, here, count, ap length (append-nil (blocks (front ++ c ∷ []))), ap length (blocks-push front c []), ap length (append-nil (block c)), length-append (blocks front) (block c ++ []))),
     )
 
-module _ {D : Type 0} (seen : D → List ℕ) (may_leave : D → List ℕ → Type 0) (log : Log D) (front back : List (List ℕ)) (has : HasAll seen may_leave log (front ++ back)) (at : ℕ) (here : at ≡ length (blocks front)) where
+module _ {D : Type 0} (seen : D → List ℕ) (may_leave : D → List ℕ → Type 0) (log : RecordLog D) (front back : List (List ℕ)) (has : HasAll seen may_leave log (front ++ back)) (at : ℕ) (here : at ≡ length (blocks front)) where
   whole : seen log.device ≡ blocks front ++ (blocks back ++ has.file.gate ∷ [])
   whole = has.file.whole ∙ ap (λ (l : List ℕ). l ++ has.file.gate ∷ []) (blocks-append front back) ∙ append_assoc (blocks front) (blocks back) (has.file.gate ∷ [])
 

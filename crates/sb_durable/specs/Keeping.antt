@@ -9,8 +9,8 @@ use Rattle.sb_durable.specs.Noting.{record_of_note}
 use Rattle.sb_durable.specs.Recording.{Part, records_of, Counts, Reaches, AreAmong}
 use Rattle.sb_durable.specs.declared.noting.Note.{Note}
 use Rattle.sb_durable.specs.declared.noting.Notes.{Notes}
-use Rattle.sb_durable.specs.declared.noting.Reach.{Reach}
-use Rattle.sb_durable.specs.declared.noting.Reach.TheVariants as reach
+use Rattle.sb_durable.specs.declared.noting.NoteReach.{NoteReach}
+use Rattle.sb_durable.specs.declared.noting.NoteReach.TheVariants as reach
 use Rattle.sb_durable.specs.declared.book.Book.{Book}
 
 -- The file has these records, and a first part of those behind them.
@@ -52,7 +52,7 @@ pub record StagesFront {D : Type 0} {g : Ghosts D} (seen : D → List ℕ) (may_
   pub stages : Stages seen may_leave old new tenant (take count notes)
 
 -- What was noted waits; nothing does where nothing was reached.
-abbrev pub StagesBy : {D : Type 0} {g : Ghosts D} → (D → List ℕ) → (D → List ℕ → Type 0) → Book D g → Book D g → ℕ → List Note → Bool → Reach → Type 0
+abbrev pub StagesBy : {D : Type 0} {g : Ghosts D} → (D → List ℕ) → (D → List ℕ → Type 0) → Book D g → Book D g → ℕ → List Note → Bool → NoteReach → Type 0
 StagesBy seen may_leave old new tenant notes all reach.Nowhere = new ≡ old
 StagesBy seen may_leave old new tenant notes all reach.NoMemory = new ≡ old
 StagesBy seen may_leave old new tenant notes all reach.Part = StagesFront seen may_leave old new tenant notes all

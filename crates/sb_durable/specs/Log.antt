@@ -3,7 +3,7 @@ use Rattle.std.specs.Prelude.{◌≡◌, ◌≢◌, ℕ, List, [], ◌∷◌, �
 use Rattle.std.specs.List.{AllByRecursion}
 use Rattle.sqlite_disk.specs.Disk.{Only}
 use Rattle.sb_durable.specs.Blocks.{blocks, IsContent}
-use Rattle.sb_durable.specs.declared.log.Log.{Log}
+use Rattle.sb_durable.specs.declared.record_log.RecordLog.{RecordLog}
 
 -- the blocks and a shut gate, and nothing behind it
 pub record IsAtRest (contents : List (List ℕ)) (file : List ℕ) : Type 0 where
@@ -12,17 +12,17 @@ pub record IsAtRest (contents : List (List ℕ)) (file : List ℕ) : Type 0 wher
   pub whole : file ≡ blocks contents ++ gate ∷ []
 
 -- The log has these contents, all of them on the disk, so that a crash leaves them.
-pub record HasAll {D : Type 0} (seen : D → List ℕ) (may_leave : D → List ℕ → Type 0) (log : Log D) (contents : List (List ℕ)) : Type 0 where
+pub record HasAll {D : Type 0} (seen : D → List ℕ) (may_leave : D → List ℕ → Type 0) (log : RecordLog D) (contents : List (List ℕ)) : Type 0 where
   pub each : AllByRecursion IsContent contents
   pub gate : log.gate ≡ length (blocks contents)
   pub file : IsAtRest contents (seen log.device)
   pub durable : Only (seen log.device) (may_leave log.device)
 
 -- a write or a sync has failed, and what the file has isn't known
-abbrev pub IsSpent : {D : Type 0} → Log D → Type 0
+abbrev pub IsSpent : {D : Type 0} → RecordLog D → Type 0
 IsSpent log = IsTrue log.is_spent
 
-abbrev pub device_of : {D : Type 0} → Log D → D
+abbrev pub device_of : {D : Type 0} → RecordLog D → D
 device_of log = log.device
 
 -- What is read behind the contents `front`, where `back` are the others: the first of those, and where the next begins.

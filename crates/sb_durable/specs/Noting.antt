@@ -6,8 +6,8 @@ use Rattle.sb_tenant.specs.Trail.{is_no_memory}
 use Rattle.sb_tenant.specs.Tenant.{Tenant, IsLegal}
 use Rattle.sb_durable.specs.declared.noting.Note.{Note}
 use Rattle.sb_durable.specs.declared.noting.Notes.{Notes}
-use Rattle.sb_durable.specs.declared.noting.Reach.{Reach}
-use Rattle.sb_durable.specs.declared.noting.Reach.TheVariants.{Nowhere, Part, End, NoMemory}
+use Rattle.sb_durable.specs.declared.noting.NoteReach.{NoteReach}
+use Rattle.sb_durable.specs.declared.noting.NoteReach.TheVariants.{Nowhere, Part, End, NoMemory}
 
 abbrev pub note_of : Entry → Note
 note_of e = record { session = e.session; line = cond (is_no_memory e.reply) None (Some e.line) }
@@ -23,14 +23,14 @@ abbrev pub IsFront : List Entry → List Note → Type 0
 IsFront entries notes = (length notes ≤ length entries) × (notes ≡ map note_of (take (length notes) entries))
 
 -- as far as was reached
-abbrev pub NotesAll : List Entry → List Note → Reach → Type 0
+abbrev pub NotesAll : List Entry → List Note → NoteReach → Type 0
 NotesAll entries notes Nowhere = Unit {0}
 NotesAll entries notes NoMemory = Unit {0}
 NotesAll entries notes Part = IsFront entries notes
 NotesAll entries notes End = IsFront entries notes × (length notes ≡ length entries)
 
 -- the entries behind so many
-abbrev pub NotesBehind : ℕ → List Entry → List Note → Reach → Type 0
+abbrev pub NotesBehind : ℕ → List Entry → List Note → NoteReach → Type 0
 NotesBehind from trail notes Nowhere = Unit {0}
 NotesBehind from trail notes NoMemory = Unit {0}
 NotesBehind from trail notes Part = (from ≤ length trail) × IsFront (drop from trail) notes
@@ -40,7 +40,7 @@ abbrev pub Reads : Notes → Tenant → Notes → Type 0
 Reads old own new = IsLegal own × NotesBehind old.from own.trail new.list.items new.reach
 
 -- whether all was staged that there is
-abbrev pub IsStaged : Reach → Bool → Type 0
+abbrev pub IsStaged : NoteReach → Bool → Type 0
 IsStaged Part is_whole = is_whole ≡ false
 IsStaged End is_whole = is_whole ≡ true
 IsStaged Nowhere is_whole = ⊥

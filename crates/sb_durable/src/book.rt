@@ -7,7 +7,7 @@ ghost use Rattle.sb_durable.specs.declared.head.Head.{Head};
 ghost use Rattle.sb_durable.specs.Noting.{record_of_note};
 ghost use Rattle.sb_durable.specs.Recording.{Part, records_of, AreAmong, AreOf, Reaches};
 
-use crate::noting::{Note, Notes, Reach};
+use crate::noting::{Note, NoteReach, Notes};
 use crate::{Disk, Journal, JournalError, Record};
 use sb_host::Lending;
 use sb_wire::LINE_LIMIT;
@@ -96,7 +96,7 @@ impl<D: Disk> Book<D> {
             from: self.recorded[place] as usize,
             room: self.journal.room(),
             list: Vec::new(self.alloc),
-            reach: Reach::Nowhere,
+            reach: NoteReach::Nowhere,
         };
         let _is_there = host.read(rt, tenant, &mut notes);
         let staged = self.stage_noted(tenant, &notes);
@@ -111,10 +111,10 @@ impl<D: Disk> Book<D> {
         ensures staged { StagesNoted D.Disk.seen D.Disk.may_leave self.old self.new tenant notes.now (is_ok result) }
     {
         match notes.reach {
-            Reach::Nowhere => Err(JournalError::Spent),
-            Reach::NoMemory => Err(JournalError::Memory),
-            Reach::Part => self.stage(tenant, notes.list.as_slice(), false),
-            Reach::End => self.stage(tenant, notes.list.as_slice(), true),
+            NoteReach::Nowhere => Err(JournalError::Spent),
+            NoteReach::NoMemory => Err(JournalError::Memory),
+            NoteReach::Part => self.stage(tenant, notes.list.as_slice(), false),
+            NoteReach::End => self.stage(tenant, notes.list.as_slice(), true),
         }
     }
 

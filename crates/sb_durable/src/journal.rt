@@ -5,14 +5,14 @@ ghost use Rattle.sb_durable.specs.Records.{Entry, entry_of};
 
 use crate::record::record_bytes;
 use crate::recover::MAX_CONTENT;
-use crate::{JournalError, Log, Record};
+use crate::{JournalError, Record, RecordLog};
 use sqlite_disk::Disk;
 use std::alloc::Global;
 
 #[derive(Drop)]
 pub struct Journal<D: Disk> {
     alloc: Global,
-    log: Log<D>,
+    log: RecordLog<D>,
     waiting: Vec<u8>,
     ghost small: { length waiting.items ≤ 2 ^ 20 },
 }
@@ -22,7 +22,7 @@ impl<D: Disk> Journal<D> {
     ghost use Rattle.sb_durable.specs.Journal.{head_bytes, contents_of, all_of, Keeps, Has, IsAt, Gives, disk_of};
 
     /// A journal over a log that has its head already. Nothing waits yet.
-    pub fn over(alloc: Global, log: Log<D>) -> Journal<D>
+    pub fn over(alloc: Global, log: RecordLog<D>) -> Journal<D>
         ensures has { (head : TheHead) (batches : List (List Entry)) → HasAll D.Disk.seen D.Disk.may_leave log (head_bytes head ∷ contents_of batches)
             → Has D.Disk.seen D.Disk.may_leave result head (all_of batches) [] }
         ensures disk { disk_of result ≡ device_of log }

@@ -49,7 +49,7 @@ impl Note {
 
 /// How far notes go.
 #[derive(Clone, Copy)]
-pub(crate) enum Reach {
+pub(crate) enum NoteReach {
     /// There is no tenant, or no such place in its trail.
     Nowhere,
     /// There is no room for more of them.
@@ -66,7 +66,7 @@ pub(crate) struct Notes {
     /// How many bytes their records may have.
     pub(crate) room: usize,
     pub(crate) list: Vec<Note>,
-    pub(crate) reach: Reach,
+    pub(crate) reach: NoteReach,
 }
 
 impl Reading for Notes {
@@ -77,7 +77,7 @@ impl Reading for Notes {
     fn read(&mut self, tenant: &Tenant) {
         let trail = tenant.trail();
         if self.from > trail.len() {
-            self.reach = Reach::Nowhere;
+            self.reach = NoteReach::Nowhere;
             return;
         }
         self.list.clear();
@@ -86,24 +86,24 @@ impl Reading for Notes {
 }
 
 /// Notes the first of these entries, as many as there is room for.
-fn note_all(list: &mut Vec<Note>, entries: &[Entry], room: usize) -> Reach
+fn note_all(list: &mut Vec<Note>, entries: &[Entry], room: usize) -> NoteReach
     requires { list.old.items ≡ [] }
     ensures { NotesAll entries.now list.new.items result }
 {
     let mut left = room;
     for entry in entries {
         let Ok(note) = Note::of(entry) else {
-            return Reach::NoMemory;
+            return NoteReach::NoMemory;
         };
         // one that is too long is seen when it is staged
         let needs = BESIDE + note.text().len().min(LINE_LIMIT);
         if needs > left {
-            return Reach::Part;
+            return NoteReach::Part;
         }
         left -= needs;
         if list.push(note).is_err() {
-            return Reach::NoMemory;
+            return NoteReach::NoMemory;
         }
     }
-    Reach::End
+    NoteReach::End
 }

@@ -7,7 +7,7 @@ ghost use Rattle.sb_durable.specs.Journal.{head_bytes, disk_of, Has, Keeps};
 ghost use Rattle.sb_durable.specs.Opening.{Names};
 ghost use Rattle.sb_durable.specs.declared.head.Head.{Head as TheHead};
 
-use crate::{Head, Journal, JournalError, Log};
+use crate::{Head, Journal, JournalError, RecordLog};
 use sqlite_disk::Disk;
 use std::alloc::{AllocError, Global};
 use thiserror::Error;
@@ -43,7 +43,7 @@ pub fn open_journal<D: Disk + Drop>(
         → Keeps other entries file → D.Disk.seen disk ≡ take n file
         → (first others : List Entry) × (entries ≡ first ++ others) × Has D.Disk.seen D.Disk.may_leave journal head first []) }
 {
-    let mut log = match Log::open(disk) {
+    let mut log = match RecordLog::open(disk) {
         Ok(log) => log,
         Err((error, _disk)) => return Err(BeginError::Journal(error)),
     };
@@ -54,7 +54,7 @@ pub fn open_journal<D: Disk + Drop>(
 }
 
 /// Finds the head in a log, or writes it into an empty one. It may crash too.
-pub fn begin<D: Disk>(alloc: Global, log: &mut Log<D>, head: Head) -> Result<(), BeginError>
+pub fn begin<D: Disk>(alloc: Global, log: &mut RecordLog<D>, head: Head) -> Result<(), BeginError>
     // A log that has something begins with this head, and keeps all.
     ensures found { OnOk result (IsTrue (D.Disk.is_clean (device_of log.new)) → (first : List ℕ) (others : List (List ℕ))
         → HasAll D.Disk.seen D.Disk.may_leave log.old (first ∷ others) → first ≡ head_bytes head) }

@@ -6,8 +6,8 @@ use Rattle.sb_value.specs.declared.value.Value.{Value}
 use Rattle.sb_value.specs.declared.refusal.Refusal.TheVariants.{TooBig, TooManyRows}
 use Rattle.sb_value.specs.Columns.{set_of}
 use Rattle.sb_value.specs.declared.change.Change.{Change}
-use Rattle.sb_value.specs.declared.change.Kind.{Kind}
-use Rattle.sb_value.specs.declared.change.Kind.TheVariants.{Inserted, Deleted, Updated}
+use Rattle.sb_value.specs.declared.change.ChangeKind.{ChangeKind}
+use Rattle.sb_value.specs.declared.change.ChangeKind.TheVariants.{Inserted, Deleted, Updated}
 use Rattle.sb_value.specs.Table.{Table, Entry, new_row, after_kind, after_change, fits_kind, table_at, has_table, after, row_at, IsProper, AreRising, IsTable}
 use Rattle.sb_check.specs.Condition.{Condition}
 use Rattle.sb_check.specs.declared.tree.Assignment.{Assignment}
@@ -88,7 +88,7 @@ kept test whole (r ∷ rows) found d i e =
 
 -- ---- deletes and updates of them
 
-abbrev KeepsNumber : Kind → Change → Type 0
+abbrev KeepsNumber : ChangeKind → Change → Type 0
 KeepsNumber Inserted c = ⊥
 KeepsNumber Deleted c = IsNone c.new
 KeepsNumber Updated c = IsSome c.new
@@ -105,7 +105,7 @@ AreFor seen t [] (c ∷ cs) = ⊥
 AreFor seen t (f ∷ fs) [] = ⊥
 AreFor seen t (f ∷ fs) (c ∷ cs) = IsFor seen t f c × AreFor seen t fs cs
 
-fits_of : (k : Kind) (c : Change) (table : Table) → KeepsNumber k c → row_at table c.tuple ≡ c.old → IsSome c.old → fits_kind k c table
+fits_of : (k : ChangeKind) (c : Change) (table : Table) → KeepsNumber k c → row_at table c.tuple ≡ c.old → IsSome c.old → fits_kind k c table
 fits_of Inserted c table keeps e s = absurd keeps
 fits_of Deleted c table keeps e s = (e, s, keeps)
 fits_of Updated c table keeps e s = (e, s, keeps)
@@ -143,7 +143,7 @@ replaced_other x n row (r ∷ rows) h = by (nat_eq r.0 x) refl (replaced_other x
         ∙ ap (λ (b : Bool). option_map (λ (q : Numbered). q.1) (cond b (Some r) (find (λ (q : Numbered). nat_eq q.0 n) rows))) (sym (ap (λ m. nat_eq m n) (eqb-true r.0 x p) ∙ h))
     by false p rest = behind r n left rows (nat_eq r.0 n) rest
 
-row_stays : (k : Kind) (c : Change) (table : Table) (n : ℕ) → KeepsNumber k c → nat_eq c.tuple n ≡ false → row_in (after_kind k c table).rows n ≡ row_in table.rows n
+row_stays : (k : ChangeKind) (c : Change) (table : Table) (n : ℕ) → KeepsNumber k c → nat_eq c.tuple n ≡ false → row_in (after_kind k c table).rows n ≡ row_in table.rows n
 row_stays Inserted c table n keeps h = absurd keeps
 row_stays Deleted c table n keeps h = without_other c.tuple n table.rows h
 row_stays Updated c table n keeps h = replaced_other c.tuple n (new_row c) table.rows h
@@ -199,7 +199,7 @@ own_for seen t [] (c ∷ cs) a = absurd a
 own_for seen t (f ∷ fs) [] a = absurd a
 own_for seen t (f ∷ fs) (c ∷ cs) a = (a.0.own, own_for seen t fs cs a.1)
 
-no_insert : (k : Kind) (c : Change) (n : ℕ) → KeepsNumber k c → n ≡ 0 → counted_with k n ≡ 0
+no_insert : (k : ChangeKind) (c : Change) (n : ℕ) → KeepsNumber k c → n ≡ 0 → counted_with k n ≡ 0
 no_insert Inserted c n keeps e = absurd keeps
 no_insert Deleted c n keeps e = e
 no_insert Updated c n keeps e = e

@@ -14,7 +14,7 @@ use Rattle.sb_eval.specs.Answer.{Gives}
 use Rattle.sb_eval.specs.Effect.{change_of}
 use Rattle.sb_eval.specs.Refused.{Answers}
 use Rattle.sb_eval.specs.Statement.{changes_by, found, insert_changes, or_overflow, rows_after, within_rows}
-use Rattle.sb_eval.specs.declared.change.Effect.{Effect}
+use Rattle.sb_eval.specs.declared.change.RowEffect.{RowEffect}
 use Rattle.sb_eval.specs.declared.stop.Stop.{Stop}
 use Rattle.sb_eval.specs.declared.error.EvalError.{EvalError}
 
@@ -27,7 +27,7 @@ abbrev pub next_inserts : Seen → ℕ → List (List Value) → List Change
 next_inserts seen t rows = insert_changes seen t (table_at seen.tables t).next rows
 
 -- the changes of the rows of a table for which the condition is true
-abbrev pub changes_of : Seen → ℕ → Effect → Condition → Option (List Change)
+abbrev pub changes_of : Seen → ℕ → RowEffect → Condition → Option (List Change)
 changes_of seen t effect c = option_and_then (each (change_of seen t effect)) (found seen t c)
 
 -- the changes of a statement, whatever it costs

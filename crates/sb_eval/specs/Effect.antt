@@ -8,11 +8,11 @@ use Rattle.sb_check.specs.declared.tree.Assignment.{Assignment}
 use Rattle.sb_check.specs.declared.tree.Source.{Source}
 use Rattle.sb_plan.specs.Memo.{OperandRight, left, right}
 use Rattle.sb_plan.specs.declared.memo.Memo.{Memo}
-use Rattle.sb_eval.specs.declared.change.Effect.{Effect}
-use Rattle.sb_eval.specs.declared.change.Effect.TheVariants.{Delete, Update}
+use Rattle.sb_eval.specs.declared.change.RowEffect.{RowEffect}
+use Rattle.sb_eval.specs.declared.change.RowEffect.TheVariants.{Delete, Update}
 
 -- the change of one row, with the columns that an update names
-abbrev pub change_of : Seen → ℕ → Effect → ℕ × List Value → Option Change
+abbrev pub change_of : Seen → ℕ → RowEffect → ℕ × List Value → Option Change
 change_of seen t Delete r = Some (delete_change seen t r)
 change_of seen t (Update assignments columns) r = option_map (update_change seen t columns r) (assigned seen (scope_of r) assignments.now r.1)
 
@@ -27,6 +27,6 @@ module _ (rows_in : Source → List (List Value)) where
   AssignmentsRight [] memo = Unit {0}
   AssignmentsRight (a ∷ rest) memo = OperandRight rows_in a.operand (left memo) × AssignmentsRight rest (right memo)
 
-  abbrev pub EffectRight : Effect → Memo → Type 0
+  abbrev pub EffectRight : RowEffect → Memo → Type 0
   EffectRight Delete memo = Unit {0}
   EffectRight (Update assignments columns) memo = AssignmentsRight assignments.now memo

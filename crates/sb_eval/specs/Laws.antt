@@ -1,8 +1,8 @@
 -- Promise: a law of statements: their changes can be made one after another.
 use Rattle.std.specs.Prelude.{◌≡◌, ◌≤◌, ◌<◌, ◌+◌, ℕ, List, [], ◌∷◌, length, IsTrue, Ok}
 use Rattle.sb_value.specs.declared.change.Change.{Change}
-use Rattle.sb_value.specs.declared.change.Kind.{Kind}
-use Rattle.sb_value.specs.declared.change.Kind.TheVariants.{Inserted, Deleted, Updated}
+use Rattle.sb_value.specs.declared.change.ChangeKind.{ChangeKind}
+use Rattle.sb_value.specs.declared.change.ChangeKind.TheVariants.{Inserted, Deleted, Updated}
 use Rattle.sb_value.specs.declared.id.Who.{Who}
 use Rattle.sb_value.specs.Table.{Entry, IsProper, IsTable, has_table, table_at}
 use Rattle.sb_check.specs.declared.tree.Statement.{Statement}
@@ -11,7 +11,7 @@ use Rattle.sb_eval.specs.Statement.{statement_changes}
 use Rattle.sb_eval.specs.Target.{target}
 
 -- how many of the changes are inserts
-abbrev pub counted_with : Kind → ℕ → ℕ
+abbrev pub counted_with : ChangeKind → ℕ → ℕ
 counted_with Inserted n = n + 1
 counted_with Deleted n = n
 counted_with Updated n = n

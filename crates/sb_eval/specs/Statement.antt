@@ -2,7 +2,7 @@
 use Rattle.std.specs.Prelude.{ℕ, ◌+◌, ◌*◌, ◌^◌, Bool, ◌==◌, nat_lt, if◌then◌else◌, List, [], ◌∷◌, ◌++◌, map, filter_map, length, sum, slice_set, Option, Some, None, option_map, option_and_then, Result, Ok, Err}
 use Rattle.sb_value.specs.declared.value.Value.{Value}
 use Rattle.sb_value.specs.declared.change.Change.{Change}
-use Rattle.sb_value.specs.declared.change.Kind.TheVariants as kind
+use Rattle.sb_value.specs.declared.change.ChangeKind.TheVariants as kind
 use Rattle.sb_value.specs.declared.lock.Mode.{Mode}
 use Rattle.sb_value.specs.declared.lock.Mode.TheVariants.{Read, Write}
 use Rattle.sb_value.specs.declared.refusal.Refusal.{Refusal}

@@ -13,14 +13,14 @@ use crate::hoist::hoist_effect;
 use crate::stop::Stop;
 use sb_check::{Assignment, Condition};
 use sb_plan::{LOOKED_UP, LentRow, Memo, Scope, Sources, ValueRef};
-use sb_value::{Change, Columns, Kind, Row, TableId, Value, sets_take_places};
+use sb_value::{Change, ChangeKind, Columns, Row, TableId, Value, sets_take_places};
 use smallvec::SmallVec;
 use std::alloc::{AllocError, Global};
 use std::marker::Model;
 
 /// What a statement does to each row for which its condition is true.
 #[derive(Drop)]
-pub(crate) enum Effect<'a> {
+pub(crate) enum RowEffect<'a> {
     Delete,
     Update(&'a [Assignment], Columns),
 }
@@ -30,7 +30,7 @@ fn change_by<S: Sources>(
     sources: &S,
     table: TableId,
     tuple: u64,
-    kind: Kind,
+    kind: ChangeKind,
     old: Option<Row>,
     new: Option<Row>,
     columns: Columns,
@@ -64,7 +64,7 @@ pub(crate) fn insert_change<S: Sources>(
         sources,
         table,
         number,
-        Kind::Inserted,
+        ChangeKind::Inserted,
         None,
         Some(row),
         columns,
@@ -80,7 +80,7 @@ fn delete_change<S: Sources>(sources: &S, table: TableId, number: u64, row: Row)
         sources,
         table,
         number,
-        Kind::Deleted,
+        ChangeKind::Deleted,
         Some(row),
         None,
         columns,
@@ -102,7 +102,7 @@ fn update_change<S: Sources>(
         sources,
         table,
         number,
-        Kind::Updated,
+        ChangeKind::Updated,
         Some(old),
         Some(new),
         columns,
@@ -217,7 +217,7 @@ fn assigned_row<'r, S: Sources>(
 /// What stays the same while the rows of a statement's table are walked through.
 #[derive(Drop)]
 pub(crate) struct TableWalk<'w, 'r, S: Sources> {
-    pub(crate) effect: &'w Effect<'r>,
+    pub(crate) effect: &'w RowEffect<'r>,
     pub(crate) filter: &'r Condition,
     pub(crate) memo: &'w Memo<'r>,
     pub(crate) table: TableId,
@@ -239,8 +239,8 @@ fn change<'r, S: Sources>(
 {
     let old = Row::from_values(alloc, values)?;
     match walk.effect {
-        Effect::Delete => Ok(delete_change(walk.sources, walk.table, number, old)),
-        Effect::Update(assignments, columns) => {
+        RowEffect::Delete => Ok(delete_change(walk.sources, walk.table, number, old)),
+        RowEffect::Update(assignments, columns) => {
             let around = Around {
                 sources: walk.sources,
                 scope: &*scope,

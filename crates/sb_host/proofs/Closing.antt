@@ -8,11 +8,11 @@ use Rattle.sb_tenant.specs.declared.reply.Entry.{Entry}
 use Rattle.sb_tenant.specs.Limits.{session_count}
 use Rattle.sb_desk.specs.declared.receipts.Receipt.{Receipt}
 use Rattle.sb_desk.specs.Receipts.{receipts_of}
-use Rattle.sb_host.specs.declared.comparing.Found.TheVariants.{Fewer, Different}
+use Rattle.sb_host.specs.declared.comparing.ReceiptComparison.TheVariants.{Fewer, Different}
 use Rattle.sb_host.specs.declared.finish.FinishError.{FinishError}
 use Rattle.sb_host.specs.declared.finish.FinishError.TheVariants.{Missing, Mismatch, NoMemory}
 use Rattle.sb_host.specs.declared.finish.Report.{Report}
-use Rattle.sb_host.specs.declared.gathering.Place.{Place}
+use Rattle.sb_host.specs.declared.gathering.SessionPlace.{SessionPlace}
 use Rattle.sb_desk.specs.declared.stub.Stub.{Stub}
 use Rattle.sb_host.specs.Comparing.{Audits, FailsAt, IsFirstStray, RowAgrees, RowFails, due_at}
 use Rattle.sb_host.specs.Finish.{AgreeBefore, Agrees, AreTrails, Finishes, IsMismatch, IsMissing, gathered, rank, row_at, wanted}
@@ -86,7 +86,7 @@ module _ (tenants : ℕ) (stubs : List Stub) (trails : List (Vec Entry Global)) 
           by (inl few) = inside t s few small
           by (inr far) = outside t s far (none t s far)
 
-      pub stray_mismatch : (p : Place) → IsFirstStray tenants stubs (Some p) → IsMismatch p.tenant p.session stubs trails
+      pub stray_mismatch : (p : SessionPlace) → IsFirstStray tenants stubs (Some p) → IsMismatch p.tenant p.session stubs trails
       stray_mismatch p h = (
         λ u r small earlier. by u r small earlier (cases_lt u tenants),
         omega (arith, ap length (no_entries p.tenant p.session h.0)),

@@ -8,9 +8,9 @@ use Rattle.std.proofs.lemmas.List.Sorted.{IsPermutation-sym, IsPermutation-trans
 use Rattle.sb_tenant.specs.declared.reply.Entry.{Entry}
 use Rattle.sb_desk.specs.declared.receipts.Receipt.{Receipt}
 use Rattle.sb_desk.specs.Receipts.{numbered, receipt, receipts_of}
-use Rattle.sb_host.specs.declared.comparing.Found.{Found}
-use Rattle.sb_host.specs.declared.comparing.Found.TheVariants.{Equal, Fewer, Different}
-use Rattle.sb_host.specs.declared.comparing.Seen.{Seen}
+use Rattle.sb_host.specs.declared.comparing.ReceiptComparison.{ReceiptComparison}
+use Rattle.sb_host.specs.declared.comparing.ReceiptComparison.TheVariants.{Equal, Fewer, Different}
+use Rattle.sb_host.specs.declared.comparing.SeenEntries.{SeenEntries}
 use Rattle.sb_host.specs.Comparing.{Compares, IsSeen, Lists, Tells, wanted_of}
 use Rattle.sb_host.specs.Finish.{step_of}
 use Rattle.sb_host.proofs.Rising.{RisesFrom, only_rising}
@@ -47,7 +47,7 @@ wants_rise s n (e ∷ es) = by (e.session == s) (subst (λ (k : ℕ). RisesFrom 
 -- ---- what is held
 
 -- sorted by their steps, receipts compare as they do in any order
-pub sorted_compares : (s : ℕ) (es : List Entry) (held sorted : List Receipt) (found : Found) → IsPermutation held sorted → IsNonDecreasingBy step_of sorted → Lists sorted (receipts_of s 1 es) found → Compares held (receipts_of s 1 es) found
+pub sorted_compares : (s : ℕ) (es : List Entry) (held sorted : List Receipt) (found : ReceiptComparison) → IsPermutation held sorted → IsNonDecreasingBy step_of sorted → Lists sorted (receipts_of s 1 es) found → Compares held (receipts_of s 1 es) found
 sorted_compares s es held sorted Equal perm up h = subst (λ (rs : List Receipt). IsPermutation held rs) h perm
 sorted_compares s es held sorted Fewer perm up h = let as_long = length_permutation held sorted perm in omega (arith, h, as_long)
 sorted_compares s es held sorted Different perm up h =
@@ -93,7 +93,7 @@ module _ (held due : List Receipt) (r : Receipt) where
 
 -- ---- at the end of the trail
 
-module _ (held due : List Receipt) (seen : Seen) (is : IsSeen held due seen) where
+module _ (held due : List Receipt) (seen : SeenEntries) (is : IsSeen held due seen) where
   pub fewer_at_end : length held < seen.count → Lists held due Fewer
   fewer_at_end h = omega (arith, is.0)
 

@@ -4,7 +4,7 @@ use Rattle.std.specs.Global.{Global}
 use Rattle.std.proofs.lemmas.Bool.{and_parts, cases_eq, leb-false, leb-true, true≢false}
 use Rattle.sb_tenant.specs.Limits.{session_count}
 use Rattle.sb_desk.specs.declared.receipts.Receipt.{Receipt}
-use Rattle.sb_host.specs.declared.gathering.Place.{Place}
+use Rattle.sb_host.specs.declared.gathering.SessionPlace.{SessionPlace}
 use Rattle.sb_desk.specs.declared.stub.Stub.{Stub}
 use Rattle.sb_host.specs.Comparing.{IsFirstStray}
 use Rattle.sb_host.specs.Finish.{gathered, rank, receipts_in, row_at}
@@ -111,7 +111,7 @@ module _ (tenants : ℕ) (xs : List Stub) (x : Stub) where
   more t s e = gathered-more t s xs x ∙ ap (λ l. gathered t s xs ++ l) e ∙ append-nil (gathered t s xs)
 
   -- a stub that adds nothing
-  pub stays_first : (o : Option Place) → ((t s : ℕ) → tenants ≤ t → receipts_in t s x ≡ []) → IsFirstStray tenants xs o → IsFirstStray tenants (xs ++ x ∷ []) o
+  pub stays_first : (o : Option SessionPlace) → ((t s : ℕ) → tenants ≤ t → receipts_in t s x ≡ []) → IsFirstStray tenants xs o → IsFirstStray tenants (xs ++ x ∷ []) o
   stays_first None quiet h = λ t s far. more t s (quiet t s far) ∙ h t s far
   stays_first (Some p) quiet h = (h.0, h.1, λ e. h.2 (sym (more p.tenant p.session (quiet p.tenant p.session h.0)) ∙ e), λ t s far small before. more t s (quiet t s far) ∙ h.3 t s far small before)
 
@@ -122,7 +122,7 @@ module _ (tenants : ℕ) (xs : List Stub) (x : Stub) where
   quiet_empty h t s far = none_in t s x h
 
   -- a stub of a session that isn't before the first
-  pub first_stays : (p : Place) → rank p.tenant p.session ≤ rank x.tenant x.session → IsFirstStray tenants xs (Some p) → IsFirstStray tenants (xs ++ x ∷ []) (Some p)
+  pub first_stays : (p : SessionPlace) → rank p.tenant p.session ≤ rank x.tenant x.session → IsFirstStray tenants xs (Some p) → IsFirstStray tenants (xs ++ x ∷ []) (Some p)
   first_stays p behind h = (
     h.0,
     h.1,
@@ -145,11 +145,11 @@ module _ (tenants : ℕ) (xs : List Stub) (x : Stub) where
       right (y ∷ xs) ys e = absurd (cc)
 
   -- so by whether there is a first one that isn't behind it
-  pub ahead : (o : Option Place) (b : Bool) → MatchOption o (b ≡ false) (λ p. b ≡ nat_le (rank p.tenant p.session) (rank x.tenant x.session)) → b ≡ true → IsFirstStray tenants xs o → IsFirstStray tenants (xs ++ x ∷ []) o
+  pub ahead : (o : Option SessionPlace) (b : Bool) → MatchOption o (b ≡ false) (λ p. b ≡ nat_le (rank p.tenant p.session) (rank x.tenant x.session)) → b ≡ true → IsFirstStray tenants xs o → IsFirstStray tenants (xs ++ x ∷ []) o
   ahead None b is so h = absurd (true≢false (sym so ∙ is))
   ahead (Some p) b is so h = first_stays p (leb-true (rank p.tenant p.session) (rank x.tenant x.session) (sym is ∙ so)) h
 
-  pub behind : (o : Option Place) (b : Bool) → MatchOption o (b ≡ false) (λ p. b ≡ nat_le (rank p.tenant p.session) (rank x.tenant x.session)) → b ≡ false → tenants ≤ x.tenant → x.session < session_count → (x.receipts.items ≡ [] → ⊥)
+  pub behind : (o : Option SessionPlace) (b : Bool) → MatchOption o (b ≡ false) (λ p. b ≡ nat_le (rank p.tenant p.session) (rank x.tenant x.session)) → b ≡ false → tenants ≤ x.tenant → x.session < session_count → (x.receipts.items ≡ [] → ⊥)
       → IsFirstStray tenants xs o → IsFirstStray tenants (xs ++ x ∷ []) (Some (record { tenant = x.tenant; session = x.session }))
   behind None b is so far small some h = comes_first far small some (λ t s far' small' before. h t s far')
   behind (Some p) b is so far small some h =

@@ -23,7 +23,7 @@ use Rattle.sb_value.proofs.rule_set.RuleSet.TheSendSync as rule_set
 use Rattle.sb_syntax.proofs.tree.Arithmetic.TheSendSync as arithmetic
 use Rattle.sb_syntax.proofs.tree.Comparison.TheSendSync as comparison
 use Rattle.sb_check.proofs.tree.Column.TheSendSync as column
-use Rattle.sb_check.proofs.tree.Sources.TheSendSync as sources
+use Rattle.sb_check.proofs.tree.SourceList.TheSendSync as sources
 use Rattle.sb_check.proofs.tree.Expression.TheLaws.TheKnot as expression
 use Rattle.sb_check.proofs.tree.Condition.TheLaws.TheKnot as condition
 use Rattle.sb_check.specs.contracts.tree.Expression as Expression

@@ -8,13 +8,13 @@ use Rattle.sb_tenant.specs.Tenant.{Tenant}
 use Rattle.sb_tenant.specs.Trail.{IsTrail}
 use Rattle.sb_desk.specs.declared.receipts.Receipt.{Receipt}
 use Rattle.sb_desk.specs.Receipts.{numbered, receipt}
-use Rattle.sb_host.specs.declared.comparing.Found.{Found}
-use Rattle.sb_host.specs.declared.comparing.Found.TheVariants.{Equal, Fewer, Different}
-use Rattle.sb_host.specs.declared.comparing.Seen.{Seen}
+use Rattle.sb_host.specs.declared.comparing.ReceiptComparison.{ReceiptComparison}
+use Rattle.sb_host.specs.declared.comparing.ReceiptComparison.TheVariants.{Equal, Fewer, Different}
+use Rattle.sb_host.specs.declared.comparing.SeenEntries.{SeenEntries}
 use Rattle.sb_host.specs.declared.finish.FinishError.{FinishError}
 use Rattle.sb_host.specs.declared.finish.FinishError.TheVariants.{Missing, Mismatch, NoMemory}
 use Rattle.sb_host.specs.declared.finish.Report.{Report}
-use Rattle.sb_host.specs.declared.gathering.Place.{Place}
+use Rattle.sb_host.specs.declared.gathering.SessionPlace.{SessionPlace}
 use Rattle.sb_desk.specs.declared.stub.Stub.{Stub}
 use Rattle.sb_host.specs.Finish.{Agrees, IsKept, IsMismatch, IsMissing, gathered, rank, receipts_in, row_at, wanted}
 
@@ -25,7 +25,7 @@ Tells b x y = MatchBool b (x ≡ y) (x ≡ y → ⊥)
 -- ---- one session
 
 -- as far as the entries want these, the receipts have been seen to be the same, or not
-abbrev pub IsSeen : List Receipt → List Receipt → Seen → Type 0
+abbrev pub IsSeen : List Receipt → List Receipt → SeenEntries → Type 0
 IsSeen held due seen = (seen.count ≡ length due) × Tells seen.same (take (length due) held) due
 
 -- the receipt that the entry of this number wants
@@ -42,17 +42,17 @@ TellsAt b held at due =
     MatchBool b ((at < length held) × (slice_index_or held at due ≡ due)) (at < length held → slice_index_or held at due ≡ due → ⊥)
 
 -- whatever was wanted before, so far as it was seen, it is with more
-abbrev pub SeesMore : List Receipt → List Receipt → Seen → Seen → Type 0
+abbrev pub SeesMore : List Receipt → List Receipt → SeenEntries → SeenEntries → Type 0
 SeesMore held more seen new = (due : List Receipt) → IsSeen held due seen → IsSeen held (due ++ more) new
 
 -- two lists are one
-abbrev pub Lists : List Receipt → List Receipt → Found → Type 0
+abbrev pub Lists : List Receipt → List Receipt → ReceiptComparison → Type 0
 Lists held due Equal = held ≡ due
 Lists held due Fewer = length held < length due
 Lists held due Different = (length due ≤ length held) × (held ≡ due → ⊥)
 
 -- or they are, in some order
-abbrev pub Compares : List Receipt → List Receipt → Found → Type 0
+abbrev pub Compares : List Receipt → List Receipt → ReceiptComparison → Type 0
 Compares held due Equal = IsPermutation held due
 Compares held due Fewer = length held < length due
 Compares held due Different = (length due ≤ length held) × (IsPermutation held due → ⊥)
@@ -76,7 +76,7 @@ TakeStub tenants stub old new =
     (t s : ℕ) → t < tenants → s < 8 → row_at new (rank t s) ≡ row_at old (rank t s) ++ receipts_in t s stub
 
 -- the row of rank k is the first that doesn't agree, and this was found of it
-abbrev pub FailsAt : List (Vec Receipt Global) → List (Vec Entry Global) → ℕ → Found → Type 0
+abbrev pub FailsAt : List (Vec Receipt Global) → List (Vec Entry Global) → ℕ → ReceiptComparison → Type 0
 FailsAt rows trails k found =
     ((j : ℕ) → j < k → RowAgrees rows trails j) × (k < length rows) × Compares (row_at rows k) (due_at trails k) found
 
@@ -102,18 +102,18 @@ AreTrailsOf cells bound tenants count trails =
 -- ---- the sessions of other tenants
 
 -- the first one that has receipts, if there is one
-abbrev pub IsFirstStray : ℕ → List Stub → Option Place → Type 0
+abbrev pub IsFirstStray : ℕ → List Stub → Option SessionPlace → Type 0
 IsFirstStray tenants stubs None = (t s : ℕ) → tenants ≤ t → gathered t s stubs ≡ []
 IsFirstStray tenants stubs (Some p) =
     (tenants ≤ p.tenant) × (p.session < session_count) × (gathered p.tenant p.session stubs ≡ [] → ⊥)
     × ((t s : ℕ) → tenants ≤ t → s < session_count → rank t s < rank p.tenant p.session → gathered t s stubs ≡ [])
 
 -- whatever stubs were looked at before, the first stray is told with this one, too
-abbrev pub LooksAt : ℕ → Stub → Option Place → Option Place → Type 0
+abbrev pub LooksAt : ℕ → Stub → Option SessionPlace → Option SessionPlace → Type 0
 LooksAt tenants stub old new = (xs : List Stub) → IsFirstStray tenants xs old → IsFirstStray tenants (xs ++ stub ∷ []) new
 
 -- it stands before the other, or is the same
-abbrev pub is_no_later : Place → Place → Bool
+abbrev pub is_no_later : SessionPlace → SessionPlace → Bool
 is_no_later p other = nat_le (rank p.tenant p.session) (rank other.tenant other.session)
 
 -- ---- all sessions

@@ -2,7 +2,7 @@
 use Rattle.std.specs.Prelude.{ℕ, ◌≡◌, ◌+◌, ◌-◌, ◌*◌, ◌<◌, ◌≤◌, List}
 use Rattle.atomic_table.specs.Seated.{TableId}
 use Rattle.sb_desk.specs.Seats.{SessionSeat, from}
-use Rattle.sb_host.specs.declared.opening.Numbers.{Numbers}
+use Rattle.sb_host.specs.declared.opening.HostSize.{HostSize}
 
 -- how many tenants, cells and considerations at one assertion point; the table of the seats, and the ledger
 pub record Opened : Type 0 where
@@ -20,7 +20,7 @@ AreNames table tenants cells bound name parts o =
     × (name ≡ o.name) × (parts ≡ o.parts)
 
 -- numbers that a host may have
-abbrev pub MayBe : Numbers → Type 0
+abbrev pub MayBe : HostSize → Type 0
 MayBe n = (0 < n.tenants) × (n.tenants ≤ 256) × (0 < n.cells) × (n.cells ≤ 16) × (n.bound ≤ 1000)
 
 -- a seat of this table, which has one word and is the one of that name

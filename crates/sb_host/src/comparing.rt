@@ -12,7 +12,7 @@ use sb_value::{SESSION_LIMIT, SessionId};
 
 /// How receipts compare with entries.
 #[derive(Clone, Copy)]
-pub(crate) enum Found {
+pub(crate) enum ReceiptComparison {
     Equal,
     Fewer,
     Different,
@@ -20,7 +20,7 @@ pub(crate) enum Found {
 
 /// How many entries of a session were seen, and whether the receipts are the same so far.
 #[derive(Clone, Copy)]
-pub(crate) struct Seen {
+pub(crate) struct SeenEntries {
     pub(crate) count: usize,
     pub(crate) same: bool,
 }
@@ -39,16 +39,16 @@ pub(crate) fn check_all(
         let tenant = (at / SESSION_LIMIT) as u32;
         let session = SessionId::new((at % SESSION_LIMIT) as u8);
         match check_row(trails, rows, at) {
-            Found::Equal => {}
-            Found::Fewer => return Err(FinishError::Missing { tenant, session }),
-            Found::Different => return Err(FinishError::Mismatch { tenant, session }),
+            ReceiptComparison::Equal => {}
+            ReceiptComparison::Fewer => return Err(FinishError::Missing { tenant, session }),
+            ReceiptComparison::Different => return Err(FinishError::Mismatch { tenant, session }),
         }
     }
     Ok(())
 }
 
 /// How the row of that rank compares with the entries of its session.
-fn check_row(trails: &[Vec<Entry>], rows: &mut Vec<Vec<Receipt>>, at: usize) -> Found
+fn check_row(trails: &[Vec<Entry>], rows: &mut Vec<Vec<Receipt>>, at: usize) -> ReceiptComparison
     requires there { at < length rows.old.items }
     requires rows { length rows.old.items ≡ 8 * length trails.now }
     ensures found { Compares (row_at rows.old.items at) (due_at trails.now at) result }
@@ -62,7 +62,7 @@ fn check_row(trails: &[Vec<Entry>], rows: &mut Vec<Vec<Receipt>>, at: usize) -> 
 }
 
 /// How the receipts, in whatever order, compare with the entries of their session.
-fn check(trail: &[Entry], session: SessionId, receipts: &mut Vec<Receipt>) -> Found
+fn check(trail: &[Entry], session: SessionId, receipts: &mut Vec<Receipt>) -> ReceiptComparison
     ensures { Compares receipts.old.items (receipts_of session 1 trail.now) result }
 {
     receipts.sort_unstable_by_key(|receipt| step_number(receipt));
@@ -80,10 +80,10 @@ pub fn step_number(receipt: &Receipt) -> u32
 }
 
 /// How the receipts, in this order, compare with the entries of their session.
-fn compare(trail: &[Entry], session: SessionId, receipts: &[Receipt]) -> Found
+fn compare(trail: &[Entry], session: SessionId, receipts: &[Receipt]) -> ReceiptComparison
     ensures { Lists receipts.now (receipts_of session 1 trail.now) result }
 {
-    let mut seen = Seen {
+    let mut seen = SeenEntries {
         count: 0,
         same: true,
     };
@@ -91,18 +91,24 @@ fn compare(trail: &[Entry], session: SessionId, receipts: &[Receipt]) -> Found
         seen = look(seen, receipts, &trail[place], place + 1, session);
     }
     if receipts.len() < seen.count {
-        return Found::Fewer;
+        return ReceiptComparison::Fewer;
     }
     if seen.same {
         if seen.count == receipts.len() {
-            return Found::Equal;
+            return ReceiptComparison::Equal;
         }
     }
-    Found::Different
+    ReceiptComparison::Different
 }
 
 /// One entry more is seen.
-fn look(seen: Seen, receipts: &[Receipt], entry: &Entry, number: usize, session: SessionId) -> Seen
+fn look(
+    seen: SeenEntries,
+    receipts: &[Receipt],
+    entry: &Entry,
+    number: usize,
+    session: SessionId,
+) -> SeenEntries
     requires { seen.count < number }
     ensures seen { SeesMore receipts.now (wanted_of session number entry.now) seen result }
     ensures count { result.count ≤ number }
@@ -110,7 +116,7 @@ fn look(seen: Seen, receipts: &[Receipt], entry: &Entry, number: usize, session:
     if entry.session != session {
         return seen;
     }
-    Seen {
+    SeenEntries {
         count: seen.count + 1,
         same: seen.same & is_next(receipts, seen.count, entry, number),
     }

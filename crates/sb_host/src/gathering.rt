@@ -9,12 +9,12 @@ use std::alloc::{AllocError, Global};
 
 /// A session of a tenant, which the host need not have.
 #[derive(Clone, Copy)]
-pub(crate) struct Place {
+pub(crate) struct SessionPlace {
     pub(crate) tenant: u32,
     pub(crate) session: SessionId,
 }
 
-impl Place {
+impl SessionPlace {
     /// Where it stands among all sessions.
     fn order(&self) -> u64
         ensures { result ≡ rank self.now.tenant self.now.session }
@@ -24,7 +24,7 @@ impl Place {
 }
 
 /// The first session of a tenant beyond these of which there are receipts.
-pub(crate) fn first_stray(stubs: &[Stub], tenants: u32) -> Option<Place>
+pub(crate) fn first_stray(stubs: &[Stub], tenants: u32) -> Option<SessionPlace>
     ensures { IsFirstStray tenants stubs.now result }
 {
     let mut first = None;
@@ -35,7 +35,7 @@ pub(crate) fn first_stray(stubs: &[Stub], tenants: u32) -> Option<Place>
 }
 
 /// One stub more is looked at.
-fn look_at(first: &mut Option<Place>, stub: &Stub, tenants: u32)
+fn look_at(first: &mut Option<SessionPlace>, stub: &Stub, tenants: u32)
     ensures { LooksAt tenants stub.now first.old first.new }
 {
     // for the proof: a session's number is below 8
@@ -46,7 +46,7 @@ fn look_at(first: &mut Option<Place>, stub: &Stub, tenants: u32)
     if stub.list().is_empty() {
         return;
     }
-    let here = Place {
+    let here = SessionPlace {
         tenant: stub.tenant,
         session: stub.session,
     };
@@ -56,7 +56,7 @@ fn look_at(first: &mut Option<Place>, stub: &Stub, tenants: u32)
 }
 
 /// Whether there is a first one, and it doesn't stand behind the other.
-fn is_before(first: &Option<Place>, other: &Place) -> bool
+fn is_before(first: &Option<SessionPlace>, other: &SessionPlace) -> bool
     ensures { MatchOption first.now (result ≡ false) (λ p. result ≡ is_no_later p other.now) }
 {
     match first {

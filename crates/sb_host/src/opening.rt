@@ -20,7 +20,7 @@ const CELL_PARTS: u64 = 1 << 32;
 
 /// The numbers of a host.
 #[derive(Clone, Copy)]
-pub(crate) struct Numbers {
+pub(crate) struct HostSize {
     pub(crate) tenants: u32,
     pub(crate) cells: u32,
     pub(crate) bound: u32,
@@ -31,7 +31,7 @@ pub(crate) struct Numbers {
 /// The parts of a host.
 #[derive(Drop)]
 pub struct Opened {
-    numbers: Numbers,
+    numbers: HostSize,
     seats: Seats,
     all: SessionSeat,
     blank: Blank,
@@ -58,7 +58,7 @@ impl Opened {
     {
         let (seats, all) = open_seats(alloc, 32_768)?;
         Ok(Opened {
-            numbers: Numbers {
+            numbers: HostSize {
                 tenants,
                 cells,
                 bound,
@@ -136,7 +136,7 @@ fn desk_of<N: Naming, const F: u32>(
     table: &SeatTable,
     mut block: SessionSeat,
     share: Share<N>,
-    numbers: Numbers,
+    numbers: HostSize,
 ) -> Result<Desk<N, F>, AllocError>
     requires table { IsSeatOf N.table table.now.table_id block }
     requires cell { F < numbers.cells }
@@ -145,7 +145,7 @@ fn desk_of<N: Naming, const F: u32>(
     requires block { block.me ≡ (left_in F 0, []) }
     requires share { share.parts ≡ 2 ^ 32 }
 {
-    let Numbers {
+    let HostSize {
         tenants,
         cells,
         bound,
@@ -165,7 +165,7 @@ fn open_desk<N: Naming, const F: u32>(
     table: &SeatTable,
     all: &mut SessionSeat,
     rest: &mut Share<N>,
-    numbers: Numbers,
+    numbers: HostSize,
     well: &mut bool,
 ) -> Lock<N, F>
     requires table { IsSeatOf N.table table.now.table_id all.old }

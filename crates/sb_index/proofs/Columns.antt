@@ -11,8 +11,8 @@ use Rattle.sb_value.specs.declared.net.Net.TheVariants as net
 use Rattle.sb_value.specs.declared.net.Triggers.{Triggers}
 use Rattle.sb_value.specs.declared.value.Value.{Value}
 use Rattle.sb_value.specs.declared.change.Change.{Change}
-use Rattle.sb_value.specs.declared.change.Kind.{Kind}
-use Rattle.sb_value.specs.declared.change.Kind.TheVariants.{Inserted, Deleted, Updated}
+use Rattle.sb_value.specs.declared.change.ChangeKind.{ChangeKind}
+use Rattle.sb_value.specs.declared.change.ChangeKind.TheVariants.{Inserted, Deleted, Updated}
 use Rattle.sb_index.specs.Stands.{column_flags, triggers_in, in_table, no_table}
 use Rattle.sb_index.specs.Operation.{Operation}
 use Rattle.sb_index.specs.Operation.Operation.{insert, delete, update, update_of}
@@ -55,7 +55,7 @@ pub operation-same : (triggers : Triggers) (old new : List Value) → same_row o
 operation-same triggers old new e = ap (λ (b : Bool). is_operation triggers (cond b None (Some (net.Updated old new (differing old new))))) e
 
 -- a table with no rules has no candidates
-pub none_triggered : (kind : Kind) (c : Change) (r : ℕ) → kind_triggers kind (triggers_in no_table r) c ≡ false
+pub none_triggered : (kind : ChangeKind) (c : Change) (r : ℕ) → kind_triggers kind (triggers_in no_table r) c ≡ false
 none_triggered Inserted c r = refl
 none_triggered Deleted c r = refl
 none_triggered Updated c r = by (same_row (old_row c) (new_row c)) refl

@@ -7,7 +7,8 @@ ghost use Rattle.sb_index.specs.Operation.{Operation, places};
 ghost use Rattle.sb_index.specs.Stands.{in_column, in_table, triggers_in, column_flags, with_columns, with_table_rule};
 
 use sb_value::{
-    COLUMN_LIMIT, Change, Columns, Kind, RuleId, RuleSet, Triggers, Value, differing, same_row,
+    COLUMN_LIMIT, Change, ChangeKind, Columns, RuleId, RuleSet, Triggers, Value, differing,
+    same_row,
 };
 use std::marker::Model;
 
@@ -68,9 +69,9 @@ impl TableRules {
         ensures { (r : ℕ) → flag_at result r ≡ kind_triggers change.now.kind (triggers_in self.now r) change.now }
     {
         match change.kind {
-            Kind::Inserted => self.inserted,
-            Kind::Deleted => self.deleted,
-            Kind::Updated => self.updating(change.old_row(), change.new_row()),
+            ChangeKind::Inserted => self.inserted,
+            ChangeKind::Deleted => self.deleted,
+            ChangeKind::Updated => self.updating(change.old_row(), change.new_row()),
         }
     }
 

@@ -12,8 +12,8 @@ use Rattle.sb_value.specs.NetEffect.{with_number, tuples_of, has_update, is_oper
 use Rattle.sb_value.specs.Table.{new_row, old_row}
 use Rattle.sb_value.specs.Values.{same_row}
 use Rattle.sb_value.specs.declared.id.Who.{Who}
-use Rattle.sb_value.specs.declared.change.Kind.{Kind}
-use Rattle.sb_value.specs.declared.change.Kind.TheVariants.{Inserted, Deleted, Updated}
+use Rattle.sb_value.specs.declared.change.ChangeKind.{ChangeKind}
+use Rattle.sb_value.specs.declared.change.ChangeKind.TheVariants.{Inserted, Deleted, Updated}
 use Rattle.sb_value.specs.declared.change.Change.{Change}
 use Rattle.sb_value.specs.declared.net.Net.TheVariants as net
 use Rattle.sb_value.specs.declared.net.Triggers.{Triggers}
@@ -90,7 +90,7 @@ may_update triggers columns h = elim (or_cases triggers.updated (share_place tri
 ]
 
 -- where a change is an operation, its kind may be one
-named : (triggers : Triggers) (k : Kind) (c : Change) → kind_triggers k triggers c ≡ true → names_kind triggers k ≡ true
+named : (triggers : Triggers) (k : ChangeKind) (c : Change) → kind_triggers k triggers c ≡ true → names_kind triggers k ≡ true
 named triggers Inserted c h = h
 named triggers Deleted c h = h
 named triggers Updated c h = by (same_row (old_row c) (new_row c)) h
@@ -107,8 +107,8 @@ three true false true c = (refl, refl, refl)
 three true false false c = (refl, refl, refl)
 three false a b c = (refl, refl, refl)
 
-module _ (p : Kind → Record → Bool) (who : Who) (table since : ℕ) where
-  abbrev of : Kind → List Record → Bool
+module _ (p : ChangeKind → Record → Bool) (who : Who) (table since : ℕ) where
+  abbrev of : ChangeKind → List Record → Bool
   of k rs = list_any (p k) (selected (is_op who table k) since rs)
 
   abbrev met : List Record → Bool
@@ -125,7 +125,7 @@ module _ (p : Kind → Record → Bool) (who : Who) (table since : ℕ) where
       let u : List Record = selected (is_op who table Updated) since rs in
       let all : List Record = selected (is_by who) since rs in
       let on : ((list_any (p Inserted) i || list_any (p Deleted) d) || list_any (p Updated) u) ≡ list_any w all = by_kinds rs in
-      let by : Kind → Bool = λ k. (r.1.table == table) && same_kind r.1.kind k in
+      let by : ChangeKind → Bool = λ k. (r.1.table == table) && same_kind r.1.kind k in
       elim (nat_le since r.0) as (λ x. ((list_any (p Inserted) (cond (x && (is_by who r.1 && by Inserted)) (r ∷ i) i) || list_any (p Deleted) (cond (x && (is_by who r.1 && by Deleted)) (r ∷ d) d))
       || list_any (p Updated) (cond (x && (is_by who r.1 && by Updated)) (r ∷ u) u)) ≡ list_any w (cond (x && is_by who r.1) (r ∷ all) all)) [
         | false ↦ on
@@ -151,13 +151,13 @@ module _ (triggers : Triggers) (who : Who) (table since tested : ℕ) (rs : List
   all = changes_since who since rs
 
   -- the record is an operation of the kind, and its tuple is hit
-  abbrev hit_by : Kind → Record → Bool
+  abbrev hit_by : ChangeKind → Record → Bool
   hit_by k r = kind_triggers k triggers r.1 && is_hit triggers table all r.1.tuple
 
-  abbrev pub found : Kind → Bool
+  abbrev pub found : ChangeKind → Bool
   found k = any_hit triggers table k all (walk (is_op who table k) tested rs)
 
-  found_is : (k : Kind) → (names_kind triggers k && found k) ≡ list_any (hit_by k) (selected (is_op who table k) tested rs)
+  found_is : (k : ChangeKind) → (names_kind triggers k && found k) ≡ list_any (hit_by k) (selected (is_op who table k) tested rs)
   unfolding walk
   found_is k = needless (names_kind triggers k) (found k) (λ e. let some = some_of (hit_by k) (walk (is_op who table k) tested rs) e in named triggers k some.0.1 (and_parts (kind_triggers k triggers some.0.1) (is_hit triggers table all some.0.1.tuple) some.1).0)
       ∙ any-reverse (hit_by k) (selected (is_op who table k) tested rs)
@@ -178,14 +178,14 @@ module _ (triggers : Triggers) (who : Who) (table since tested : ℕ) (rs : List
       ∙ ap (is_triggered triggers table) (sym parts)
 
 -- without more, a rule is triggered where a change of any kind is of a tuple that is hit
-pub triggered-at_all : (triggers : Triggers) (who : Who) (table since : ℕ) (rs : List Record) → let all = changes_since who since rs in let found = λ (k : Kind). any_tuple triggers table all (walk (is_op who table k) since rs) in
+pub triggered-at_all : (triggers : Triggers) (who : Who) (table since : ℕ) (rs : List Record) → let all = changes_since who since rs in let found = λ (k : ChangeKind). any_tuple triggers table all (walk (is_op who table k) since rs) in
     ((found Inserted || found Deleted) || found Updated) ≡ is_triggered triggers table all
 unfolding walk
 triggered-at_all triggers who table since rs =
     let all = changes_since who since rs in
     let hit : ℕ → Bool = is_hit triggers table all in
-    let p : Kind → Record → Bool = λ _ r. hit r.1.tuple in
-    let turned : (k : Kind) → any_tuple triggers table all (reverse (selected (is_op who table k) since rs)) ≡ list_any (p k) (selected (is_op who table k) since rs) = λ k. any-reverse (p k) (selected (is_op who table k) since rs) in
+    let p : ChangeKind → Record → Bool = λ _ r. hit r.1.tuple in
+    let turned : (k : ChangeKind) → any_tuple triggers table all (reverse (selected (is_op who table k) since rs)) ≡ list_any (p k) (selected (is_op who table k) since rs) = λ k. any-reverse (p k) (selected (is_op who table k) since rs) in
     (λ i. (turned Inserted i || turned Deleted i) || turned Updated i)
     ∙ by_kinds p who table since rs
     ∙ sym (any-tuples_of hit table all ∙ list_any-map (λ (c : Change). (c.table == table) && hit c.tuple) (λ (r : Record). r.1) (selected (is_by who) since rs))

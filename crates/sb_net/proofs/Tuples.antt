@@ -10,8 +10,8 @@ use Rattle.std.proofs.lemmas.List.Sorted.{list_any-IsPermutation}
 use Rattle.std.proofs.lemmas.Map.Keys.{IsStrictlyIncreasing-dedup}
 use Rattle.sb_value.specs.NetEffect.{with_number, tuples_of}
 use Rattle.sb_value.specs.declared.id.Who.{Who}
-use Rattle.sb_value.specs.declared.change.Kind.{Kind}
-use Rattle.sb_value.specs.declared.change.Kind.TheVariants.{Inserted, Deleted, Updated}
+use Rattle.sb_value.specs.declared.change.ChangeKind.{ChangeKind}
+use Rattle.sb_value.specs.declared.change.ChangeKind.TheVariants.{Inserted, Deleted, Updated}
 use Rattle.sb_value.specs.declared.change.Change.{Change}
 use Rattle.sb_rawlog.specs.Changes.{is_by, is_op}
 use Rattle.sb_rawlog.specs.Records.{Record, selected, walk}
@@ -114,13 +114,13 @@ module _ (p : ℕ → Bool) where
   any-dedup (x ∷ xs) = any-dedup_from x xs
 
 module _ (p : ℕ → Bool) (who : Who) (table since : ℕ) where
-  abbrev of : Kind → List Record → Bool
+  abbrev of : ChangeKind → List Record → Bool
   of k rs = list_any (λ r. p r.1.tuple) (selected (is_op who table k) since rs)
 
-  abbrev pub numbers : Kind → List Record → List ℕ
+  abbrev pub numbers : ChangeKind → List Record → List ℕ
   numbers k rs = map (λ r. r.1.tuple) (walk (is_op who table k) since rs)
 
-  any-numbers : (k : Kind) (rs : List Record) → list_any p (numbers k rs) ≡ of k rs
+  any-numbers : (k : ChangeKind) (rs : List Record) → list_any p (numbers k rs) ≡ of k rs
   unfolding walk
   any-numbers k rs = list_any-map p (λ (r : Record). r.1.tuple) (walk (is_op who table k) since rs) ∙ any-reverse (λ (r : Record). p r.1.tuple) (selected (is_op who table k) since rs)
 

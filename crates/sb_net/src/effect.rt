@@ -6,7 +6,7 @@ ghost use Rattle.sb_net.specs.Seen.{seen};
 
 use crate::span::span_of;
 use sb_rawlog::ChangeLog;
-use sb_value::{Change, Columns, Kind, TableId, Value, Who, differing, same_row};
+use sb_value::{Change, ChangeKind, Columns, TableId, Value, Who, differing, same_row};
 
 /// The net effect of several changes of one tuple, with rows borrowed from the log.
 #[derive(Clone, Copy)]
@@ -30,10 +30,10 @@ fn between<'a>(first: &'a Change, last: &'a Change) -> Option<NetOf<'a>>
     ensures { option_map seen result ≡ net_between first.now.kind last.now.kind first.now last.now }
 {
     match (first.kind, last.kind) {
-        (Kind::Inserted, Kind::Deleted) => None,
-        (Kind::Inserted, _) => Some(NetOf::Inserted(last.new_row())),
-        (_, Kind::Deleted) => Some(NetOf::Deleted(first.old_row())),
-        (Kind::Updated, Kind::Updated) => update(first.old_row(), last.new_row()),
+        (ChangeKind::Inserted, ChangeKind::Deleted) => None,
+        (ChangeKind::Inserted, _) => Some(NetOf::Inserted(last.new_row())),
+        (_, ChangeKind::Deleted) => Some(NetOf::Deleted(first.old_row())),
+        (ChangeKind::Updated, ChangeKind::Updated) => update(first.old_row(), last.new_row()),
         _ => None,
     }
 }

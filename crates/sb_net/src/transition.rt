@@ -7,17 +7,17 @@ ghost use Rattle.sb_net.specs.Seen.{seen};
 ghost use Rattle.sb_net.specs.Tables.{with_net};
 
 use crate::effect::{NetOf, net};
-use crate::scope::Scope;
+use crate::scope::ChangeScope;
 use sb_rawlog::ChangeLog;
-use sb_value::{Kind, Row, RowList, TableId, Transition, Triggers, Who};
+use sb_value::{ChangeKind, Row, RowList, TableId, Transition, Triggers, Who};
 use std::alloc::{AllocError, Global};
 
 /// Adds the numbers of the tuples that have a change of the kind, one for each such change.
 fn push_tuples<L: ChangeLog>(
     tuples: &mut Vec<u64>,
     log: &L,
-    scope: &Scope,
-    kind: Kind,
+    scope: &ChangeScope,
+    kind: ChangeKind,
 ) -> Result<(), AllocError>
     ensures { let found = walk_in scope.now kind (L.records log.now) in
         OnOk result (tuples.new.items ≡ tuples.old.items ++ map (λ r. r.1.tuple) found) }
@@ -29,13 +29,17 @@ fn push_tuples<L: ChangeLog>(
 }
 
 /// The numbers of the tuples of the table that the session has changed, rising.
-fn tuples_of<L: ChangeLog>(alloc: Global, log: &L, scope: &Scope) -> Result<Vec<u64>, AllocError>
+fn tuples_of<L: ChangeLog>(
+    alloc: Global,
+    log: &L,
+    scope: &ChangeScope,
+) -> Result<Vec<u64>, AllocError>
     ensures { IfOk result (λ v. v.items ≡ tuples_of (changes_in scope.now (L.records log.now)) scope.now.table) }
 {
     let mut tuples = Vec::new(alloc);
-    push_tuples(&mut tuples, log, scope, Kind::Inserted)?;
-    push_tuples(&mut tuples, log, scope, Kind::Deleted)?;
-    push_tuples(&mut tuples, log, scope, Kind::Updated)?;
+    push_tuples(&mut tuples, log, scope, ChangeKind::Inserted)?;
+    push_tuples(&mut tuples, log, scope, ChangeKind::Deleted)?;
+    push_tuples(&mut tuples, log, scope, ChangeKind::Updated)?;
     tuples.sort_unstable();
     tuples.dedup();
     Ok(tuples)
@@ -69,7 +73,7 @@ fn push_tuple<L: ChangeLog>(
     tables: &mut Transition,
     triggers: &Triggers,
     log: &L,
-    scope: &Scope,
+    scope: &ChangeScope,
     tuple: u64,
 ) -> Result<(), AllocError>
     ensures { let changes = changes_in scope.now (L.records log.now) in
@@ -93,7 +97,7 @@ pub fn transition_tables<L: ChangeLog>(
     ensures { let changes = changes_since who since (L.records log.now) in
         IfOk result (λ tables. tables ≡ transition_tables triggers table changes) }
 {
-    let scope = Scope { who, table, since };
+    let scope = ChangeScope { who, table, since };
     let tuples = tuples_of(alloc, log, &scope)?;
     let mut tables = Transition {
         inserted: RowList::new(alloc),

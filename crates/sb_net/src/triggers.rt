@@ -8,11 +8,11 @@ ghost use Rattle.sb_rawlog.specs.Sessions.{changes_since, changes_between};
 ghost use Rattle.sb_net.specs.Hits.{is_hit, names_kind, any_hit, any_tuple};
 ghost use Rattle.sb_net.specs.Scopes.{changes_in, walk_in};
 
-use crate::scope::Scope;
+use crate::scope::ChangeScope;
 use crate::span::{Span, span_of};
 use sb_rawlog::ChangeLog;
 use sb_value::{
-    Change, Kind, TableId, Triggers, Value, Who, differing, new_changes_trigger, same_row,
+    Change, ChangeKind, TableId, Triggers, Value, Who, differing, new_changes_trigger, same_row,
 };
 
 /// Whether an update from one row to another is one of the operations.
@@ -31,11 +31,11 @@ fn is_operation(changes: &Span<'_>, triggers: &Triggers) -> bool
         result ≡ is_operation triggers.now (net_between first.kind last.kind first last) }
 {
     match (changes.first.kind, changes.last.kind) {
-        (Kind::Inserted, Kind::Deleted) => false,
-        (Kind::Inserted, _) => triggers.inserted,
-        (Kind::Deleted, Kind::Deleted) => triggers.deleted,
-        (Kind::Updated, Kind::Deleted) => triggers.deleted,
-        (Kind::Updated, Kind::Updated) => {
+        (ChangeKind::Inserted, ChangeKind::Deleted) => false,
+        (ChangeKind::Inserted, _) => triggers.inserted,
+        (ChangeKind::Deleted, ChangeKind::Deleted) => triggers.deleted,
+        (ChangeKind::Updated, ChangeKind::Deleted) => triggers.deleted,
+        (ChangeKind::Updated, ChangeKind::Updated) => {
             is_update(triggers, changes.first.old_row(), changes.last.new_row())
         }
         _ => false,
@@ -43,7 +43,7 @@ fn is_operation(changes: &Span<'_>, triggers: &Triggers) -> bool
 }
 
 /// Whether the net effect on the tuple is one of the operations.
-fn is_hit<L: ChangeLog>(log: &L, scope: &Scope, tuple: u64, triggers: &Triggers) -> bool
+fn is_hit<L: ChangeLog>(log: &L, scope: &ChangeScope, tuple: u64, triggers: &Triggers) -> bool
     ensures { result ≡ is_hit triggers.now scope.now.table (changes_in scope.now (L.records log.now)) tuple }
 {
     match span_of(log, scope.who, scope.table, tuple, scope.since) {
@@ -53,24 +53,24 @@ fn is_hit<L: ChangeLog>(log: &L, scope: &Scope, tuple: u64, triggers: &Triggers)
 }
 
 /// Whether changes of the kind may be operations.
-fn names_kind(triggers: &Triggers, kind: Kind) -> bool
+fn names_kind(triggers: &Triggers, kind: ChangeKind) -> bool
     ensures { result ≡ names_kind triggers.now kind }
 {
     match kind {
-        Kind::Inserted => triggers.inserted,
-        Kind::Deleted => triggers.deleted,
-        Kind::Updated => triggers.updated || !triggers.columns.is_empty(),
+        ChangeKind::Inserted => triggers.inserted,
+        ChangeKind::Deleted => triggers.deleted,
+        ChangeKind::Updated => triggers.updated || !triggers.columns.is_empty(),
     }
 }
 
 /// Whether a change of the kind is one of the operations by itself.
-fn counts(triggers: &Triggers, kind: Kind, change: &Change) -> bool
+fn counts(triggers: &Triggers, kind: ChangeKind, change: &Change) -> bool
     ensures { result ≡ kind_triggers kind triggers.now change.now }
 {
     match kind {
-        Kind::Inserted => triggers.inserted,
-        Kind::Deleted => triggers.deleted,
-        Kind::Updated => is_update(triggers, change.old_row(), change.new_row()),
+        ChangeKind::Inserted => triggers.inserted,
+        ChangeKind::Deleted => triggers.deleted,
+        ChangeKind::Updated => is_update(triggers, change.old_row(), change.new_row()),
     }
 }
 
@@ -78,8 +78,8 @@ fn counts(triggers: &Triggers, kind: Kind, change: &Change) -> bool
 /// A change that doesn't count costs one step of the walk.
 fn any_hit<L: ChangeLog>(
     log: &L,
-    scope: &Scope,
-    kind: Kind,
+    scope: &ChangeScope,
+    kind: ChangeKind,
     triggers: &Triggers,
     tested: u64,
 ) -> bool
@@ -118,18 +118,23 @@ pub fn is_triggered_anew<L: ChangeLog>(
     // for the proof: later times cut the changes, and new ones alone can trigger the rule
     let _now = log.now();
     new_changes_trigger();
-    let scope = Scope { who, table, since };
-    if any_hit(log, &scope, Kind::Inserted, &triggers, tested) {
+    let scope = ChangeScope { who, table, since };
+    if any_hit(log, &scope, ChangeKind::Inserted, &triggers, tested) {
         return true;
     }
-    if any_hit(log, &scope, Kind::Deleted, &triggers, tested) {
+    if any_hit(log, &scope, ChangeKind::Deleted, &triggers, tested) {
         return true;
     }
-    any_hit(log, &scope, Kind::Updated, &triggers, tested)
+    any_hit(log, &scope, ChangeKind::Updated, &triggers, tested)
 }
 
 /// Whether a change of the kind is of a tuple whose net effect is an operation.
-fn any_tuple<L: ChangeLog>(log: &L, scope: &Scope, kind: Kind, triggers: &Triggers) -> bool
+fn any_tuple<L: ChangeLog>(
+    log: &L,
+    scope: &ChangeScope,
+    kind: ChangeKind,
+    triggers: &Triggers,
+) -> bool
     ensures { let rs = L.records log.now in
         result ≡ any_tuple triggers.now scope.now.table (changes_in scope.now rs) (walk_in scope.now kind rs) }
 {
@@ -152,12 +157,12 @@ pub fn is_triggered<L: ChangeLog>(
 ) -> bool
     ensures { result ≡ is_triggered triggers table (changes_since who since (L.records log.now)) }
 {
-    let scope = Scope { who, table, since };
-    if any_tuple(log, &scope, Kind::Inserted, &triggers) {
+    let scope = ChangeScope { who, table, since };
+    if any_tuple(log, &scope, ChangeKind::Inserted, &triggers) {
         return true;
     }
-    if any_tuple(log, &scope, Kind::Deleted, &triggers) {
+    if any_tuple(log, &scope, ChangeKind::Deleted, &triggers) {
         return true;
     }
-    any_tuple(log, &scope, Kind::Updated, &triggers)
+    any_tuple(log, &scope, ChangeKind::Updated, &triggers)
 }

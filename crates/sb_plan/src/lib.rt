@@ -29,7 +29,7 @@ mod value_ref;
 mod value_set;
 mod way;
 
-pub use batch::{Batch, Found};
+pub use batch::{Batch, Selected};
 pub use correlation::is_uncorrelated;
 pub use cost::{combination_count, operand_cost, query_cost, subquery_cost};
 pub use early::is_false_already;
@@ -37,8 +37,8 @@ pub use equality::Equality;
 pub use error_free::{is_error_free, is_query_error_free};
 pub use expression::value;
 pub use flags::row_flags;
-pub use gather::{BATCHED, Columns, Gathered};
-pub use index::{Entry, Index};
+pub use gather::{BATCHED, Gathered, GatheredColumns};
+pub use index::{Index, IndexEntry};
 pub use join::{Join, LOOKED_UP};
 pub use laws::{
     equal_columns_suffice, error_free_never_overflow, indexes_suffice, known_values_suffice,

@@ -17,7 +17,7 @@ const SPREAD: usize = 8;
 
 /// A flag for each number from the least on.
 #[derive(Drop)]
-struct Keys {
+struct IntegerFlags {
     least: i64,
     flags: Vec<bool>,
 }
@@ -28,7 +28,7 @@ struct Keys {
 #[derive(Drop)]
 pub struct ValueSet<'r> {
     values: Vec<ValueRef<'r>>,
-    keys: Option<Keys>,
+    keys: Option<IntegerFlags>,
 }
 
 impl<'r> Model for ValueSet<'r> {
@@ -75,7 +75,7 @@ impl<'r> ValueSet<'r> {
 
 /// The place of a number's flag, if it has one.
 #[tactic(auto, using(crate::proofs::Flagging::flag_below, crate::proofs::Flagging::flag_beyond))]
-fn place_of(keys: &Keys, number: i64) -> Option<usize>
+fn place_of(keys: &IntegerFlags, number: i64) -> Option<usize>
     ensures { MatchOption result (spec.HasNoFlag keys.now number) (spec.IsFlagOf keys.now number) }
 {
     let distance = number as i128 - keys.least as i128;
@@ -90,7 +90,7 @@ fn place_of(keys: &Keys, number: i64) -> Option<usize>
 
 /// Whether a value's flag is set.
 #[tactic(auto, using(crate::proofs::Flagging::flag_at_place))]
-fn is_flagged(keys: &Keys, wanted: ValueRef<'_>) -> bool
+fn is_flagged(keys: &IntegerFlags, wanted: ValueRef<'_>) -> bool
     ensures { result ≡ spec.is_flagged keys.now (value_seen wanted.entry) }
 {
     match wanted {
@@ -104,7 +104,7 @@ fn is_flagged(keys: &Keys, wanted: ValueRef<'_>) -> bool
 
 /// Sets a value's flag, if it has one.
 #[tactic(auto, using(crate::proofs::Flagging::set_for))]
-fn set_flag(keys: &mut Keys, value: ValueRef<'_>) -> bool
+fn set_flag(keys: &mut IntegerFlags, value: ValueRef<'_>) -> bool
     ensures { OnTrue result (spec.IsSetFor (value_seen value.entry) keys.old keys.new) }
 {
     let ValueRef::Int(number) = value else {
@@ -121,11 +121,11 @@ fn set_flag(keys: &mut Keys, value: ValueRef<'_>) -> bool
 
 /// So many flags, none of which is set.
 #[tactic(auto, using(crate::proofs::Flagging::none_set))]
-fn clear_flags(alloc: Global, least: i64, count: usize) -> Option<Keys>
+fn clear_flags(alloc: Global, least: i64, count: usize) -> Option<IntegerFlags>
     ensures { IfSome result spec.HasNone }
 {
     match vec![in alloc; false; count] {
-        Ok(flags) => Some(Keys { least, flags }),
+        Ok(flags) => Some(IntegerFlags { least, flags }),
         Err(_) => None,
     }
 }
@@ -159,7 +159,7 @@ fn flag_count(least: i64, greatest: i64, values: usize) -> Option<usize> {
 
 /// The flags of these values, if they are numbers that lie close together.
 #[tactic(auto, using(crate::proofs::Flagging::keys_more, crate::proofs::Flagging::keys_none))]
-fn keys_of(alloc: Global, values: &[ValueRef<'_>]) -> Option<Keys>
+fn keys_of(alloc: Global, values: &[ValueRef<'_>]) -> Option<IntegerFlags>
     ensures { IfSome result (spec.AreKeysOf values.now) }
 {
     let Some((least, greatest)) = ends_of(values) else {

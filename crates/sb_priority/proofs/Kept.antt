@@ -10,15 +10,15 @@ use Rattle.sb_value.specs.Laws.{PrecedesIsClosure}
 use Rattle.sb_priority.specs.Closed.{relates, has_pair, HasPairs, AreClosed}
 use Rattle.sb_priority.specs.Rows.{direct_of, before_of, row_at, no_row, IsRowOf}
 use Rattle.sb_priority.specs.Ranks.{pairs_of}
-use Rattle.sb_priority.specs.declared.rows.Row.{Row}
+use Rattle.sb_priority.specs.declared.rows.PrecedenceRow.{PrecedenceRow}
 use Rattle.sb_priority.proofs.Tests.{not_true}
 use Rattle.sb_priority.proofs.Paths.{has_pair-append, trails}
 
-pub direct_at : (rows : List Row) (a b : ℕ) → flag_at (row_at rows b).direct a ≡ relates (direct_of rows) a b
-direct_at rows a b = sym (ap (λ (row : List Bool). flag_at row a) (get_or-map (λ (row : Row). row.direct) rows b no_row))
+pub direct_at : (rows : List PrecedenceRow) (a b : ℕ) → flag_at (row_at rows b).direct a ≡ relates (direct_of rows) a b
+direct_at rows a b = sym (ap (λ (row : List Bool). flag_at row a) (get_or-map (λ (row : PrecedenceRow). row.direct) rows b no_row))
 
-pub before_at : (rows : List Row) (a b : ℕ) → flag_at (row_at rows b).before a ≡ relates (before_of rows) a b
-before_at rows a b = sym (ap (λ (row : List Bool). flag_at row a) (get_or-map (λ (row : Row). row.before) rows b no_row))
+pub before_at : (rows : List PrecedenceRow) (a b : ℕ) → flag_at (row_at rows b).before a ≡ relates (before_of rows) a b
+before_at rows a b = sym (ap (λ (row : List Bool). flag_at row a) (get_or-map (λ (row : PrecedenceRow). row.before) rows b no_row))
 
 -- rows that relate the same are closed as well
 pub closed_same : (rows closure direct before : List (List Bool)) → AreClosed rows closure → ((a b : ℕ) → relates direct a b ≡ relates rows a b) → ((a b : ℕ) → relates before a b ≡ relates closure a b) → AreClosed direct before
@@ -41,7 +41,7 @@ unpaired : (pairs : List (List Bool)) (n b : ℕ) → ((a b : ℕ) → relates p
 unpaired pairs n b within past a = not_true (relates pairs a b) (λ p. absurd (let low : b < n = within a b p in omega (arith, low, past)))
 
 -- with a row of the pairs for each rule that is second in one, the rows are the pairs
-pub stored : (pairs : List (List Bool)) (rows : List Row) (n : ℕ) → length rows ≡ n → ((a b : ℕ) → relates pairs a b ≡ true → b < n) → ((b : ℕ) → b < n → IsRowOf pairs b (row_at rows b)) →
+pub stored : (pairs : List (List Bool)) (rows : List PrecedenceRow) (n : ℕ) → length rows ≡ n → ((a b : ℕ) → relates pairs a b ≡ true → b < n) → ((b : ℕ) → b < n → IsRowOf pairs b (row_at rows b)) →
     (a b : ℕ) → relates (direct_of rows) a b ≡ relates pairs a b
 stored pairs rows n long within filled a b = by (nat_lt b n) refl
   where
@@ -49,9 +49,9 @@ stored pairs rows n long within filled a b = by (nat_lt b n) refl
     by true e = sym (direct_at rows a b) ∙ (filled b (ltb-true b n e)).direct a
     by false e =
         let past : n ≤ b = ltb-false b n e in
-        past_row (direct_of rows) a b (omega (arith, past, long, length-map rows (λ (row : Row). row.direct))) ∙ sym (unpaired pairs n b within past a)
+        past_row (direct_of rows) a b (omega (arith, past, long, length-map rows (λ (row : PrecedenceRow). row.direct))) ∙ sym (unpaired pairs n b within past a)
 
-pub stored_closed : PrecedesIsClosure → (pairs : List (List Bool)) (rows : List Row) (n : ℕ) (list : List (ℕ × ℕ)) → HasPairs pairs list → length rows ≡ n → ((a b : ℕ) → relates pairs a b ≡ true → b < n) →
+pub stored_closed : PrecedesIsClosure → (pairs : List (List Bool)) (rows : List PrecedenceRow) (n : ℕ) (list : List (ℕ × ℕ)) → HasPairs pairs list → length rows ≡ n → ((a b : ℕ) → relates pairs a b ≡ true → b < n) →
     ((b : ℕ) → b < n → IsRowOf pairs b (row_at rows b)) → AreClosed (direct_of rows) (before_of rows)
 stored_closed law pairs rows n list has long within filled = (list, λ a b. stored pairs rows n long within filled a b ∙ has a b, λ a b. by a b (nat_lt b n) refl)
   where
@@ -59,7 +59,7 @@ stored_closed law pairs rows n list has long within filled = (list, λ a b. stor
     by a b true e = sym (before_at rows a b) ∙ (filled b (ltb-true b n e)).before list has a
     by a b false e =
         let past : n ≤ b = ltb-false b n e in
-        past_row (before_of rows) a b (omega (arith, past, long, length-map rows (λ (row : Row). row.before)))
+        past_row (before_of rows) a b (omega (arith, past, long, length-map rows (λ (row : PrecedenceRow). row.before)))
         ∙ sym (unled law list b (λ x. sym (has x b) ∙ unpaired pairs n b within past x) a)
 
 -- a rule that another one precedes by the rows has its row

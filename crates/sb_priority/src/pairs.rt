@@ -9,7 +9,7 @@ ghost use Rattle.sb_priority.specs.Ranks.{is_between, pairs_of};
 ghost use Rattle.std.specs.List.{list_any};
 
 use crate::closure::Closure;
-use crate::rows::Row;
+use crate::rows::PrecedenceRow;
 use sb_value::{RULE_LIMIT, RuleId, RuleSet, precedes_is_closure};
 use std::marker::Model;
 
@@ -48,10 +48,10 @@ impl Pairs {
     }
 
     /// The row of the rule.
-    pub fn row(&self, rule: RuleId) -> Row
+    pub fn row(&self, rule: RuleId) -> PrecedenceRow
         ensures { IsRowOf self.now rule result }
     {
-        Row {
+        PrecedenceRow {
             direct: self.direct[rule.index()],
             before: self.predecessors(rule),
         }

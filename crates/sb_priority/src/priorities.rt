@@ -8,7 +8,7 @@ ghost use Rattle.sb_priority.specs.Ranks.{HasOrder, HasRow, AreRanked, is_ranked
 ghost use Rattle.sb_priority.specs.Ranks.{Alters, AltersToCycle, Gains, Loses, ClosesCycle, DecidesCycle, DecidesFree, IsEarlier, ranked};
 
 use crate::list::RuleList;
-use crate::rows::Rows;
+use crate::rows::PrecedenceRows;
 use sb_value::{RULE_LIMIT, RuleId, RuleSet, precedes_is_closure};
 use std::alloc::{AllocError, Global};
 use std::marker::Model;
@@ -21,7 +21,7 @@ pub struct Cycle;
 #[derive(Drop)]
 pub struct Priorities {
     rules: RuleList,
-    rows: Rows,
+    rows: PrecedenceRows,
 }
 
 impl Model for Priorities {
@@ -42,7 +42,7 @@ impl Priorities {
     {
         Priorities {
             rules: RuleList::new(),
-            rows: Rows::new(alloc),
+            rows: PrecedenceRows::new(alloc),
         }
     }
 

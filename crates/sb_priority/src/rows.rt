@@ -14,18 +14,18 @@ use std::marker::Model;
 
 /// The rules that precede one rule, by a pair and by any way of pairs.
 #[derive(Clone, Copy)]
-pub struct Row {
+pub struct PrecedenceRow {
     pub direct: RuleSet,
     pub before: RuleSet,
 }
 
 /// A row for each number up to the highest that a rule ever had.
 #[derive(Drop)]
-pub struct Rows {
-    rows: Vec<Row>,
+pub struct PrecedenceRows {
+    rows: Vec<PrecedenceRow>,
 }
 
-impl Model for Rows {
+impl Model for PrecedenceRows {
     ghost use Rattle.std.specs.Prelude.{List, Bool};
     ghost use Rattle.sb_priority.specs.Rows.{direct_of, AreKept};
 
@@ -36,12 +36,12 @@ impl Model for Rows {
     ghost invariant = { λ r. AreKept r.rows.items };
 }
 
-impl Rows {
+impl PrecedenceRows {
     /// No rows.
-    pub fn new(alloc: Global) -> Rows
+    pub fn new(alloc: Global) -> PrecedenceRows
         ensures { result ≡ [] }
     {
-        Rows {
+        PrecedenceRows {
             rows: Vec::new(alloc),
         }
     }
@@ -94,7 +94,7 @@ impl Rows {
 }
 
 /// The pairs of the rows.
-fn spread(rows: &[Row]) -> Pairs
+fn spread(rows: &[PrecedenceRow]) -> Pairs
     requires { AreKept rows.now }
     ensures { (a b : ℕ) → relates result a b ≡ relates (direct_of rows.now) a b }
 {
@@ -109,7 +109,7 @@ fn spread(rows: &[Row]) -> Pairs
 }
 
 /// What precedes the rule by any way of pairs.
-fn before_in(rows: &[Row], rule: RuleId) -> RuleSet
+fn before_in(rows: &[PrecedenceRow], rule: RuleId) -> RuleSet
     ensures { (a : ℕ) → flag_at result a ≡ relates (before_of rows.now) a rule }
 {
     match rows.get(rule.index()) {
@@ -119,7 +119,7 @@ fn before_in(rows: &[Row], rule: RuleId) -> RuleSet
 }
 
 /// What a pair puts before the rule.
-fn direct_in(rows: &[Row], rule: RuleId) -> RuleSet
+fn direct_in(rows: &[PrecedenceRow], rule: RuleId) -> RuleSet
     ensures { (a : ℕ) → flag_at result a ≡ relates (direct_of rows.now) a rule }
 {
     match rows.get(rule.index()) {
@@ -129,7 +129,7 @@ fn direct_in(rows: &[Row], rule: RuleId) -> RuleSet
 }
 
 /// Lengthens the rows by empty ones.
-fn grow(rows: &mut Vec<Row>, count: usize) -> Result<(), AllocError>
+fn grow(rows: &mut Vec<PrecedenceRow>, count: usize) -> Result<(), AllocError>
     requires count { count ≤ rule_limit }
     requires few { length rows.old.items ≤ rule_limit }
     ensures room { OnOk result (count ≤ length rows.new.items) }
@@ -144,7 +144,7 @@ fn grow(rows: &mut Vec<Row>, count: usize) -> Result<(), AllocError>
         return Err(AllocError);
     }
     while rows.len() < count {
-        rows.push_reserved(Row {
+        rows.push_reserved(PrecedenceRow {
             direct: RuleSet::empty(),
             before: RuleSet::empty(),
         });
@@ -153,7 +153,7 @@ fn grow(rows: &mut Vec<Row>, count: usize) -> Result<(), AllocError>
 }
 
 /// Puts the rows of the pairs in the place of these.
-fn fill(rows: &mut Vec<Row>, pairs: &Pairs)
+fn fill(rows: &mut Vec<PrecedenceRow>, pairs: &Pairs)
     requires { length rows.old.items ≤ rule_limit }
     ensures count { length rows.new.items ≡ length rows.old.items }
     ensures rows { (b : ℕ) → b < length rows.old.items → IsRowOf pairs.now b (row_at rows.new.items b) }

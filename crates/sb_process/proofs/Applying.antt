@@ -1,8 +1,8 @@
 -- Changes made one after another.
 use Rattle.std.proofs.Common.{◌≡◌, ◌∙◌, ℕ, ◌+◌, ◌<◌, Bool, true, false, ◌||◌, cond, nat_eq, List, [], ◌∷◌, map, length, Some, option_map, unwrap_or, refl, sym, ap, subst, arith}
 use Rattle.sb_value.specs.declared.change.Change.{Change}
-use Rattle.sb_value.specs.declared.change.Kind.{Kind}
-use Rattle.sb_value.specs.declared.change.Kind.TheVariants.{Inserted, Deleted, Updated}
+use Rattle.sb_value.specs.declared.change.ChangeKind.{ChangeKind}
+use Rattle.sb_value.specs.declared.change.ChangeKind.TheVariants.{Inserted, Deleted, Updated}
 use Rattle.sb_value.specs.declared.id.Who.{Who}
 use Rattle.sb_value.specs.Table.{Entry, IsProper, after, after_change, after_kind, fits_kind, has_table, table_at}
 use Rattle.sb_tables.specs.Stored.{Stored}
@@ -69,7 +69,7 @@ below_after : (n : ℕ) (c : Change) (tables : List Entry) → EachBelow n table
 below_after n c [] b = tt
 below_after n c (e ∷ tables) b = (by (nat_eq e.id c.table), below_after n c tables b.1)
   where
-    of : (k : Kind) → e.table.next < n → (after_kind k c e.table).next < n + 1
+    of : (k : ChangeKind) → e.table.next < n → (after_kind k c e.table).next < n + 1
     of Inserted less = omega (arith, less)
     of Deleted less = omega (arith, less)
     of Updated less = omega (arith, less)

@@ -4,8 +4,8 @@ use Rattle.std.proofs.lemmas.Bool.{le-ltb, lt-ltb, or_right}
 use Rattle.std.proofs.lemmas.List.{append-nil, append_assoc, length-map, take-append-drop, drop-append-le}
 use Rattle.std.specs.List.{list_any}
 use Rattle.sb_value.specs.declared.change.Change.{Change}
-use Rattle.sb_value.specs.declared.change.Kind.{Kind}
-use Rattle.sb_value.specs.declared.change.Kind.TheVariants.{Inserted, Deleted, Updated}
+use Rattle.sb_value.specs.declared.change.ChangeKind.{ChangeKind}
+use Rattle.sb_value.specs.declared.change.ChangeKind.TheVariants.{Inserted, Deleted, Updated}
 use Rattle.sb_value.specs.declared.id.Who.{Who}
 use Rattle.sb_value.specs.declared.lock.Mode.TheVariants.{Write}
 use Rattle.sb_value.specs.declared.net.Triggers.{Triggers}
@@ -116,7 +116,7 @@ by_columns : (named columns : List Bool) (f : ℕ → Bool) → length columns �
 by_columns named columns f le h e = shared (map f places) named columns (omega arith) (λ k less q. at_place f k (omega (arith, less)) ∙ h k (omega (arith, less)) q) e
 
 -- what triggers a rule triggers it in the index
-in_index : (index : List (List TableSets)) (tenant : ℕ) (c : Change) (id : ℕ) (triggers : Triggers) (k : Kind) →
+in_index : (index : List (List TableSets)) (tenant : ℕ) (c : Change) (id : ℕ) (triggers : Triggers) (k : ChangeKind) →
     ((o : Operation) → names triggers o ≡ true → stands index tenant c.table o id ≡ true) → kind_triggers k triggers c ≡ true → kind_triggers k (triggers_of index tenant c.table id) c ≡ true
 in_index index tenant c id triggers Inserted h e = h insert e
 in_index index tenant c id triggers Deleted h e = h delete e

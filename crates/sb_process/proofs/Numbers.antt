@@ -1,8 +1,8 @@
 -- The next numbers of tables.
 use Rattle.std.proofs.Common.{ℕ, ◌<◌, ◌≤◌, Bool, true, false, cond, nat_eq, List, [], ◌∷◌, arith}
 use Rattle.sb_value.specs.declared.change.Change.{Change}
-use Rattle.sb_value.specs.declared.change.Kind.{Kind}
-use Rattle.sb_value.specs.declared.change.Kind.TheVariants.{Inserted, Deleted, Updated}
+use Rattle.sb_value.specs.declared.change.ChangeKind.{ChangeKind}
+use Rattle.sb_value.specs.declared.change.ChangeKind.TheVariants.{Inserted, Deleted, Updated}
 use Rattle.sb_value.specs.Table.{Entry, after, after_all, after_change, after_kind}
 use Rattle.sb_process.specs.Made.{EachBelow}
 
@@ -15,7 +15,7 @@ each-after : (n : ℕ) (c : Change) (tables : List Entry) → EachBelow n (after
 each-after n c [] h = tt
 each-after n c (e ∷ tables) h = (by (nat_eq e.id c.table) h.0, each-after n c tables h.1)
   where
-    of : (k : Kind) → (after_kind k c e.table).next < n → e.table.next < n
+    of : (k : ChangeKind) → (after_kind k c e.table).next < n → e.table.next < n
     of Inserted l = omega (arith, l)
     of Deleted l = l
     of Updated l = l

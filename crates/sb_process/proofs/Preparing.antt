@@ -5,8 +5,8 @@ use Rattle.std.proofs.Math.Seq.{drop-cons}
 use Rattle.std.proofs.lemmas.List.{length-append, length-map}
 use Rattle.sb_value.specs.declared.value.Value.{Value}
 use Rattle.sb_value.specs.declared.change.Change.{Change}
-use Rattle.sb_value.specs.declared.change.Kind.{Kind}
-use Rattle.sb_value.specs.declared.change.Kind.TheVariants.{Inserted, Deleted, Updated}
+use Rattle.sb_value.specs.declared.change.ChangeKind.{ChangeKind}
+use Rattle.sb_value.specs.declared.change.ChangeKind.TheVariants.{Inserted, Deleted, Updated}
 use Rattle.sb_value.specs.declared.id.Who.{Who}
 use Rattle.sb_value.specs.Table.{Table, IsProper, new_row, after_kind, has_table, table_at}
 use Rattle.sb_rawlog.specs.Records.{Record}
@@ -78,7 +78,7 @@ inserts_few : (cs : List Change) → inserts cs ≤ length cs
 inserts_few [] = omega arith
 inserts_few (c ∷ cs) = by c.kind (inserts_few cs)
   where
-    by : (k : Kind) → inserts cs ≤ length cs → counted_with k (inserts cs) ≤ length (c ∷ cs)
+    by : (k : ChangeKind) → inserts cs ≤ length cs → counted_with k (inserts cs) ≤ length (c ∷ cs)
     by Inserted rest = omega (arith, rest)
     by Deleted rest = omega (arith, rest)
     by Updated rest = omega (arith, rest)
@@ -87,7 +87,7 @@ abbrev Row : Type 0
 Row = ℕ × List Value
 
 -- the changes after one of a kind
-places_by : (k : Kind) (c : Change) (cs : List Change) (s : Stored) → counted_with k (inserts cs) ≤ s.room → s.table.next + counted_with k (inserts cs) < 2 ^ 64 - 1 →
+places_by : (k : ChangeKind) (c : Change) (cs : List Change) (s : Stored) → counted_with k (inserts cs) ≤ s.room → s.table.next + counted_with k (inserts cs) < 2 ^ 64 - 1 →
     (0 < counted_with k (inserts cs) → length s.table.rows + counted_with k (inserts cs) ≤ 4096) →
     ((t : Stored) → inserts cs ≤ t.room → t.table.next + inserts cs < 2 ^ 64 - 1 → (0 < inserts cs → length t.table.rows + inserts cs ≤ 4096) → HavePlacesFor cs t) →
     HasPlaceFor k s × HavePlacesFor cs (record { table = after_kind k c s.table; places = places_after k c.tuple s.places; room = room_after k s.room })

@@ -2,8 +2,8 @@
 use Rattle.std.proofs.Common.{◌≡◌, ◌∙◌, ℕ, true, List, [], ◌∷◌, ◌++◌, map, Contains, sym, ap, subst}
 use Rattle.std.proofs.lemmas.List.{append_cancel_right}
 use Rattle.sb_value.specs.declared.change.Change.{Change}
-use Rattle.sb_value.specs.declared.change.Kind.{Kind}
-use Rattle.sb_value.specs.declared.change.Kind.TheVariants.{Inserted, Deleted, Updated}
+use Rattle.sb_value.specs.declared.change.ChangeKind.{ChangeKind}
+use Rattle.sb_value.specs.declared.change.ChangeKind.TheVariants.{Inserted, Deleted, Updated}
 use Rattle.sb_value.specs.Table.{fits_kind, table_at, has_table}
 use Rattle.sb_tables.specs.Stored.{Stored, IsStored}
 use Rattle.sb_tables.specs.Held.{Held, entries, has_number, stored_at, with_stored}
@@ -13,7 +13,7 @@ use Rattle.sb_process.specs.Made.{AreMade, AreNumbered, AreStored, tables_after,
 use Rattle.sb_process.proofs.Making.{number-entries, number-room, number-after, entries-after_all, stored-room, table-stored, stored-after, written-back, room-with_stored, stored-of, after_all-push, proper-push, sound-after_all}
 
 -- the places before a change are determined
-same_places : (k : Kind) (tuple : ℕ) (one other : List ℕ) → places_after k tuple one ≡ places_after k tuple other → one ≡ other
+same_places : (k : ChangeKind) (tuple : ℕ) (one other : List ℕ) → places_after k tuple one ≡ places_after k tuple other → one ≡ other
 same_places Inserted tuple one other e = append_cancel_right one other (tuple ∷ []) e
 same_places Deleted tuple one other e = e
 same_places Updated tuple one other e = e

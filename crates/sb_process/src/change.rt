@@ -36,7 +36,7 @@ use std::alloc::Global;
 
 /// The changes of a statement, and the table that they are of.
 #[derive(Drop)]
-struct Effect {
+struct TableChanges {
     target: TableId,
     changes: Vec<Change>,
 }
@@ -131,7 +131,7 @@ impl Database {
         changes_are_proper();
         match self.evaluate(alloc, viewer, statement) {
             Ok(changes) => {
-                let effect = Effect {
+                let effect = TableChanges {
                     target: target_of(statement),
                     changes,
                 };
@@ -169,7 +169,7 @@ impl Database {
         log: &mut L,
         index: &RuleIndex,
         session: SessionId,
-        effect: Effect,
+        effect: TableChanges,
     ) -> Result<usize, Refusal>
         requires makeable { AreMakeable (entries self.old.tables) (who_in self.old session) effect.target
             effect.changes.items }
@@ -185,7 +185,7 @@ impl Database {
         ensures leaves { Leaves 4096 self.old self.new session
             (L.records log.old) (L.records log.new) (L.clock log.old) (L.clock log.new) }
     {
-        let Effect { target, changes } = effect;
+        let TableChanges { target, changes } = effect;
         let count = changes.len();
         match prepare(alloc, &mut self.tables, log, target, changes) {
             Ok(ready) => {

@@ -5,7 +5,7 @@ ghost use Rattle.sb_eval.specs.Statement as spec;
 ghost use Rattle.sb_value.specs.declared.lock.Mode.TheVariants as mode;
 ghost use Rattle.sb_eval.specs.Statement.{read_of, write_of as locked};
 
-use sb_check::{Query, Source, Statement, Visitor, visit_query, visit_statement};
+use sb_check::{Query, Source, SourceVisitor, Statement, visit_query, visit_statement};
 use sb_value::{Mode, TableId};
 use std::alloc::{AllocError, Global};
 use std::marker::Model;
@@ -25,7 +25,7 @@ impl Model for Reads {
     ghost view = { λ r. r.list.items };
 }
 
-impl Visitor for Reads {
+impl SourceVisitor for Reads {
     type Stop = AllocError;
 
     ghost after = { λ reads source. reads ++ filter_map read_of (source ∷ []) };

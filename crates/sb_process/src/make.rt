@@ -7,7 +7,7 @@ ghost use Rattle.sb_process.specs.Made.{AreMade};
 ghost use Rattle.sb_process.specs.Make.{HasPlaceFor, Makes};
 
 use sb_tables::{Tables, changes_keep_places};
-use sb_value::{Change, Kind, Row};
+use sb_value::{Change, ChangeKind, Row};
 
 /// Makes a change of its table, with the new row's copy. It needs no memory.
 pub(crate) fn make(tables: &mut Tables, change: &Change, copy: Option<Row>)
@@ -33,14 +33,14 @@ fn write(tables: &mut Tables, change: &Change, copy: Option<Row>)
     ensures { Makes change.now tables.old tables.new }
 {
     match change.kind {
-        Kind::Inserted => {
+        ChangeKind::Inserted => {
             // The place is there and the table isn't full, so the row finds its place.
             let _ = tables.insert(change.table, copy.unwrap());
         }
-        Kind::Deleted => {
+        ChangeKind::Deleted => {
             tables.mark_deleted(change.table, change.tuple);
         }
-        Kind::Updated => {
+        ChangeKind::Updated => {
             let _old = tables.replace(change.table, change.tuple, copy.unwrap());
         }
     }

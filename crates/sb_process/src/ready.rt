@@ -7,7 +7,7 @@ ghost use Rattle.sb_process.specs.Ready.{copies_of};
 
 use sb_rawlog::ChangeLog;
 use sb_tables::{ROW_LIMIT, Tables};
-use sb_value::{Change, Kind, Row, TableId};
+use sb_value::{Change, ChangeKind, Row, TableId};
 use smallvec::SmallVec;
 use std::alloc::{AllocError, Global};
 
@@ -73,7 +73,7 @@ fn insert_count(changes: &[Change]) -> usize
 {
     let mut count = 0;
     for change in changes {
-        if let Kind::Inserted = change.kind {
+        if let ChangeKind::Inserted = change.kind {
             count += 1;
         }
     }

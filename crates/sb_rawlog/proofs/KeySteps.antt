@@ -3,7 +3,7 @@ use Rattle.std.proofs.lemmas.Bool.{and_parts}
 use Rattle.std.proofs.Common.{◌≡◌, ℕ, Bool, true, ◌&&◌, ◌==◌, List, length, take, Option, Some, None, refl, sym, ap, ◌∙◌, subst, eqb-true}
 use Rattle.std.proofs.Math.Seq.{take-length}
 use Rattle.sb_value.specs.declared.id.Who.{Who}
-use Rattle.sb_value.specs.declared.change.Kind.{Kind}
+use Rattle.sb_value.specs.declared.change.ChangeKind.{ChangeKind}
 use Rattle.sb_value.specs.declared.change.Change.{Change}
 use Rattle.sb_rawlog.specs.declared.key.Key.{Key}
 use Rattle.sb_rawlog.specs.declared.key.Key.TheVariants.{Op as OpKey, Tuple as TupleKey}
@@ -22,7 +22,7 @@ of_table who table c b e =
     let by = and_parts (is_by who c) ((c.table == table) && b) e in let of = and_parts (c.table == table) b by.1 in
     (author_is who c by.0, (eqb-true c.table table of.0, of.1))
 
-pub of_op : (who : Who) (table : ℕ) (kind : Kind) (c : Change) → is_op who table kind c ≡ true → (author c ≡ who) × ((c.table ≡ table) × (c.kind ≡ kind))
+pub of_op : (who : Who) (table : ℕ) (kind : ChangeKind) (c : Change) → is_op who table kind c ≡ true → (author c ≡ who) × ((c.table ≡ table) × (c.kind ≡ kind))
 of_op who table kind c e = let of = of_table who table c (same_kind c.kind kind) e in (of.0, (of.1.0, same_kind-eq c.kind kind of.1.1))
 
 pub of_tuple : (who : Who) (table tuple : ℕ) (c : Change) → is_tuple who table tuple c ≡ true → (author c ≡ who) × ((c.table ≡ table) × (c.tuple ≡ tuple))
@@ -32,7 +32,7 @@ module _ (ok : Spot → Type 0) (rs : List Record) (since : ℕ) (todo : List Re
   comes : (key : Key) (s : Spot) → (k : KeySpot ok rs key since todo s) → Comes (fits key) rs todo (spot_of s.place since k.found)
   comes key s k = record { change = k.found.1; here = k.here; first = k.first; kind = refl; tuple = refl }
 
-  pub op_step : (who : Who) (table : ℕ) (kind : Kind) (o : Option Spot) → KeyStep ok rs (OpKey who table kind) since todo o → OpStep ok rs who table kind since todo o
+  pub op_step : (who : Who) (table : ℕ) (kind : ChangeKind) (o : Option Spot) → KeyStep ok rs (OpKey who table kind) since todo o → OpStep ok rs who table kind since todo o
   op_step who table kind None h = h
   op_step who table kind (Some s) h =
       let of = of_op who table kind h.found.1 h.good in

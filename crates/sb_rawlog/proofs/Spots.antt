@@ -2,8 +2,8 @@
 use Rattle.std.proofs.Common.{◌≡◌, ℕ, ◌+◌, Bool, true, not, ◌==◌, List, [], ◌∷◌, ◌++◌, length, take, drop, Some, slice_get, refl, sym, ap, ◌∙◌, subst}
 use Rattle.std.proofs.Math.Seq.{take-length}
 use Rattle.sb_value.specs.declared.id.Who.{Who}
-use Rattle.sb_value.specs.declared.change.Kind.{Kind}
-use Rattle.sb_value.specs.declared.change.Kind.TheVariants.{Inserted, Deleted, Updated}
+use Rattle.sb_value.specs.declared.change.ChangeKind.{ChangeKind}
+use Rattle.sb_value.specs.declared.change.ChangeKind.TheVariants.{Inserted, Deleted, Updated}
 use Rattle.sb_value.specs.declared.change.Change.{Change}
 use Rattle.sb_rawlog.specs.Changes.{same_kind, is_by}
 use Rattle.sb_rawlog.specs.Records.{Record, Rising, walk, before, without, others, change_at}
@@ -11,7 +11,7 @@ use Rattle.sb_rawlog.specs.Found.{Found}
 use Rattle.sb_rawlog.specs.Steps.{Newest}
 use Rattle.sb_rawlog.proofs.Rises.{split_at, without-split, rising-filter}
 
-pub same_kind-eq : (a b : Kind) → same_kind a b ≡ true → a ≡ b
+pub same_kind-eq : (a b : ChangeKind) → same_kind a b ≡ true → a ≡ b
 same_kind-eq Inserted Inserted e = refl
 same_kind-eq Inserted Deleted e = absurd (cc)
 same_kind-eq Inserted Updated e = absurd (cc)

@@ -3,8 +3,8 @@ use Rattle.std.proofs.lemmas.Bool.{and_parts}
 use Rattle.std.proofs.Common.{◌≡◌, ℕ, ◌%◌, Bool, true, ◌&&◌, ◌==◌, nat_le, List, [], ◌∷◌, reverse, length, get_or, Option, Some, None, MatchOption, refl, sym, ap, ◌∙◌, subst, arith, eq-eqb}
 use Rattle.std.specs.List.{filter}
 use Rattle.sb_value.specs.declared.id.Who.{Who}
-use Rattle.sb_value.specs.declared.change.Kind.{Kind}
-use Rattle.sb_value.specs.declared.change.Kind.TheVariants.{Inserted, Deleted, Updated}
+use Rattle.sb_value.specs.declared.change.ChangeKind.{ChangeKind}
+use Rattle.sb_value.specs.declared.change.ChangeKind.TheVariants.{Inserted, Deleted, Updated}
 use Rattle.sb_value.specs.declared.change.Change.{Change}
 use Rattle.sb_rawlog.specs.declared.node.Which.{Which}
 use Rattle.sb_rawlog.specs.declared.node.Node.{Node}
@@ -43,7 +43,7 @@ fits_bucket n (SessionKey who) c e = let by : author c ≡ who = author_is who c
 is_by-author : (who : Who) (c : Change) → who ≡ author c → is_by who c ≡ true
 is_by-author who c e = ap (λ b. b && (c.session == who.session)) (eq-eqb c.tenant who.tenant (ap (λ (w : Who). w.tenant) (sym e))) ∙ eq-eqb c.session who.session (ap (λ (w : Who). w.session) (sym e))
 
-same_kind-refl : (a : Kind) → same_kind a a ≡ true
+same_kind-refl : (a : ChangeKind) → same_kind a a ≡ true
 same_kind-refl Inserted = refl
 same_kind-refl Deleted = refl
 same_kind-refl Updated = refl

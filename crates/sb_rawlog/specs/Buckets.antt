@@ -1,7 +1,7 @@
 -- Machine: which list a change is in: of each kind of list, that of its bucket, which what the list's walks look for decides.
 use Rattle.std.specs.Prelude.{ℕ, ◌+◌, ◌*◌, ◌/◌, ◌%◌, ◌^◌, List, Option}
-use Rattle.sb_value.specs.declared.change.Kind.{Kind}
-use Rattle.sb_value.specs.declared.change.Kind.TheVariants.{Inserted, Deleted, Updated}
+use Rattle.sb_value.specs.declared.change.ChangeKind.{ChangeKind}
+use Rattle.sb_value.specs.declared.change.ChangeKind.TheVariants.{Inserted, Deleted, Updated}
 use Rattle.sb_value.specs.declared.change.Change.{Change}
 use Rattle.sb_rawlog.specs.declared.node.Which.{Which}
 use Rattle.sb_rawlog.specs.declared.node.Which.TheVariants.{Op, Tuple, Session}
@@ -16,7 +16,7 @@ group tenant session table = (tenant * 8 + session) * 16 + table
 unfoldable pub mixed : ℕ → ℕ → ℕ
 mixed g x = ((g * 11400714819323198485) % 2 ^ 64 + (x * 14029467366897019727) % 2 ^ 64) % 2 ^ 64 / 4294967296
 
-abbrev pub kind_number : Kind → ℕ
+abbrev pub kind_number : ChangeKind → ℕ
 kind_number Inserted = 0
 kind_number Deleted = 1
 kind_number Updated = 2

@@ -2,7 +2,7 @@
 use Rattle.std.specs.Prelude.{◌≡◌, ℕ, Bool, List, [], ◌∷◌, ◌++◌, Option, Some, None}
 use Rattle.std.specs.Borrow.{Bor}
 use Rattle.sb_value.specs.declared.id.Who.{Who}
-use Rattle.sb_value.specs.declared.change.Kind.{Kind}
+use Rattle.sb_value.specs.declared.change.ChangeKind.{ChangeKind}
 use Rattle.sb_value.specs.declared.change.Change.{Change}
 use Rattle.sb_rawlog.specs.Changes.{is_op, is_tuple, is_by}
 use Rattle.sb_rawlog.specs.declared.spot.Spot.{Spot}
@@ -17,7 +17,7 @@ pub record Comes (p : Change → Bool) (rs todo : List Record) (s : Spot) : Type
   pub tuple : s.tuple ≡ change.tuple
 
 -- the spot of the first record of todo, on a walk over the changes of a session, table and kind
-pub record OpSpot (ok : Spot → Type 0) (rs : List Record) (who : Who) (table : ℕ) (kind : Kind) (since : ℕ) (todo : List Record) (s : Spot) : Type 0 where
+pub record OpSpot (ok : Spot → Type 0) (rs : List Record) (who : Who) (table : ℕ) (kind : ChangeKind) (since : ℕ) (todo : List Record) (s : Spot) : Type 0 where
   pub stands : ok s
   pub who_is : s.who ≡ who
   pub table_is : s.table ≡ table
@@ -35,7 +35,7 @@ pub record TupleSpot (ok : Spot → Type 0) (rs : List Record) (who : Who) (tabl
   pub comes : Comes (is_tuple who table tuple) rs todo s
 
 -- the spot of the first record of todo, or none where there is none
-abbrev pub OpStep : (Spot → Type 0) → List Record → Who → ℕ → Kind → ℕ → List Record → Option Spot → Type 0
+abbrev pub OpStep : (Spot → Type 0) → List Record → Who → ℕ → ChangeKind → ℕ → List Record → Option Spot → Type 0
 OpStep ok rs who table kind since todo None = todo ≡ []
 OpStep ok rs who table kind since todo (Some s) = OpSpot ok rs who table kind since todo s
 
@@ -44,7 +44,7 @@ TupleStep ok rs who table tuple since todo None = todo ≡ []
 TupleStep ok rs who table tuple since todo (Some s) = TupleSpot ok rs who table tuple since todo s
 
 -- the newest change of a session, table and kind that is no older than since
-abbrev pub OpFirst : (Spot → Type 0) → List Record → Who → ℕ → Kind → ℕ → Option Spot → Type 0
+abbrev pub OpFirst : (Spot → Type 0) → List Record → Who → ℕ → ChangeKind → ℕ → Option Spot → Type 0
 OpFirst ok rs who table kind since = OpStep ok rs who table kind since (walk (is_op who table kind) since rs)
 
 -- the newest change of a session's tuple that is no older than since

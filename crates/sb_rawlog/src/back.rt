@@ -7,7 +7,7 @@ use crate::key::Key;
 use crate::node::{Back, Node};
 use crate::search::search;
 use sb_arena::Arena;
-use sb_value::{Change, Kind, Who};
+use sb_value::{Change, ChangeKind, Who};
 
 impl Back {
     /// Of a tuple's first change.
@@ -56,7 +56,7 @@ fn back_behind<T>(arena: &Arena<Node<T>>, newest: usize) -> Back {
 pub(crate) fn back_for(arena: &Arena<Node<Change>>, heads: &Heads, change: &Change) -> Back
     requires { HoldSome arena.now heads.now }
 {
-    if matches!(change.kind, Kind::Inserted) {
+    if matches!(change.kind, ChangeKind::Inserted) {
         return Back::none();
     }
     let who = Who {

@@ -7,7 +7,7 @@ ghost use Rattle.sb_rawlog.specs.Heads.{first_of};
 use crate::heads::Heads;
 use crate::key::Key;
 use crate::node::Which;
-use sb_value::{Change, Kind, SessionId, TableId, TenantId};
+use sb_value::{Change, ChangeKind, SessionId, TableId, TenantId};
 
 /// How many sessions there are. Each has a list of its own.
 pub(crate) const SESSIONS: usize = 2_048;
@@ -31,13 +31,13 @@ fn mixed(group: u64, number: u64) -> u64
     sum.wrapping_add(number.wrapping_mul(0xc2b2_ae3d_27d4_eb4f)) / 4_294_967_296
 }
 
-fn kind_number(kind: Kind) -> u64
+fn kind_number(kind: ChangeKind) -> u64
     ensures { result ≡ kind_number kind }
 {
     match kind {
-        Kind::Inserted => 0,
-        Kind::Deleted => 1,
-        Kind::Updated => 2,
+        ChangeKind::Inserted => 0,
+        ChangeKind::Deleted => 1,
+        ChangeKind::Updated => 2,
     }
 }
 

@@ -3,12 +3,12 @@ ghost use Rattle.std.specs.Prelude.{◌≡◌};
 ghost use Rattle.sb_rawlog.specs.Changes.{is_by, same_kind};
 ghost use Rattle.sb_rawlog.specs.Keys.{fits};
 
-use sb_value::{Change, Kind, TableId, Who};
+use sb_value::{Change, ChangeKind, TableId, Who};
 
 /// What a walk looks for.
 #[derive(Drop)]
 pub(crate) enum Key {
-    Op(Who, TableId, Kind),
+    Op(Who, TableId, ChangeKind),
     Tuple(Who, TableId, u64),
     Session(Who),
 }
@@ -21,13 +21,13 @@ fn is_by(change: &Change, who: Who) -> bool
 }
 
 /// Whether the two kinds are one.
-fn same_kind(a: Kind, b: Kind) -> bool
+fn same_kind(a: ChangeKind, b: ChangeKind) -> bool
     ensures { result ≡ same_kind a b }
 {
     match (a, b) {
-        (Kind::Inserted, Kind::Inserted) => true,
-        (Kind::Deleted, Kind::Deleted) => true,
-        (Kind::Updated, Kind::Updated) => true,
+        (ChangeKind::Inserted, ChangeKind::Inserted) => true,
+        (ChangeKind::Deleted, ChangeKind::Deleted) => true,
+        (ChangeKind::Updated, ChangeKind::Updated) => true,
         _ => false,
     }
 }

@@ -8,7 +8,7 @@ ghost use Rattle.sb_rawlog.specs.Steps.{OpFirst, OpNext, TupleFirst, TupleNext, 
 
 use crate::spot::Spot;
 use crate::walks::{ByOp, ByTuple};
-use sb_value::{Change, Kind, TableId, Who};
+use sb_value::{Change, ChangeKind, TableId, Who};
 use std::alloc::AllocError;
 
 /// A list of changes in rising time, beside a clock that never goes back.
@@ -69,7 +69,7 @@ pub trait ChangeLog {
         ensures { result ≡ length (records self.now) };
 
     /// The newest change of this session, table and kind that is no older than `since`.
-    fn op_first(&self, who: Who, table: TableId, kind: Kind, since: u64) -> Option<Spot>
+    fn op_first(&self, who: Who, table: TableId, kind: ChangeKind, since: u64) -> Option<Spot>
         ensures { OpFirst (stands self.now) (records self.now) who table kind since result };
 
     /// The next older one.
@@ -124,7 +124,7 @@ pub trait ChangeLog {
         ensures others { OthersStay who (records self.old) (records self.new) };
 
     /// The session's changes of the table and kind that are no older than `since`, newest first.
-    fn by_op(&self, who: Who, table: TableId, kind: Kind, since: u64) -> ByOp<'_, Self>
+    fn by_op(&self, who: Who, table: TableId, kind: ChangeKind, since: u64) -> ByOp<'_, Self>
     where
         Self: Sized,
         ensures log { result.log.now ≡ self.now }

@@ -10,7 +10,7 @@ use crate::find::{index_of, newest_before};
 use crate::key::Key;
 use crate::log::ChangeLog;
 use crate::spot::{Spot, spot_for};
-use sb_value::{Change, Kind, TableId, Who};
+use sb_value::{Change, ChangeKind, TableId, Who};
 use std::alloc::{AllocError, Global};
 
 /// A log that keeps its changes in a list.
@@ -102,7 +102,7 @@ impl ChangeLog for PlainLog {
         self.items.len()
     }
 
-    fn op_first(&self, who: Who, table: TableId, kind: Kind, since: u64) -> Option<Spot> {
+    fn op_first(&self, who: Who, table: TableId, kind: ChangeKind, since: u64) -> Option<Spot> {
         self.newest_for(&Key::Op(who, table, kind), since, self.items.len())
     }
 

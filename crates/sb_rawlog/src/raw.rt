@@ -18,7 +18,7 @@ use crate::places::{add_places, claim, enter, give_back, spare_places, take_out}
 use crate::search::search;
 use crate::spot::{Spot, spot_for};
 use sb_arena::Arena;
-use sb_value::{Change, Kind, TableId, Who};
+use sb_value::{Change, ChangeKind, TableId, Who};
 use std::alloc::{AllocError, Global};
 use std::marker::Model;
 
@@ -160,7 +160,7 @@ impl ChangeLog for RawLog {
         self.used - self.free.len()
     }
 
-    fn op_first(&self, who: Who, table: TableId, kind: Kind, since: u64) -> Option<Spot> {
+    fn op_first(&self, who: Who, table: TableId, kind: ChangeKind, since: u64) -> Option<Spot> {
         self.first_for(&Key::Op(who, table, kind), since)
     }
 

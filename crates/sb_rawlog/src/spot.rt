@@ -2,7 +2,7 @@
 ghost use Rattle.std.specs.Prelude.{◌≡◌};
 ghost use Rattle.sb_rawlog.specs.KeySteps.{spot_of};
 
-use sb_value::{Change, Kind, TableId, Who};
+use sb_value::{Change, ChangeKind, TableId, Who};
 
 /// Names a record of a log: its place there and its time, whose and of what it is, and how far back its walk goes.
 #[derive(Clone, Copy)]
@@ -12,7 +12,7 @@ pub struct Spot {
     pub since: u64,
     pub who: Who,
     pub table: TableId,
-    pub kind: Kind,
+    pub kind: ChangeKind,
     pub tuple: u64,
 }
 

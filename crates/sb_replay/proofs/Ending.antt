@@ -14,7 +14,7 @@ use Rattle.sb_replay.specs.Lists.{AllCut, AllFrom}
 use Rattle.sb_replay.specs.Sessions.{Exchange, Plays, commands_in}
 use Rattle.sb_replay.specs.Sheets.{Sheet, lines_of}
 use Rattle.sb_replay.specs.Parts.{Attended, AttendedAt, Closes, ClosesBy, session_at, tenant_at}
-use Rattle.sb_replay.specs.declared.part.Part.{Part}
+use Rattle.sb_replay.specs.declared.part.SessionPart.{SessionPart}
 use Rattle.sb_replay.proofs.Playing.{Finished, Reaches}
 
 -- ---- the receipts of one stub
@@ -97,7 +97,7 @@ apart j k other same = other (omega (arith, same.0, same.1))
 
 module _ {N : Type 0} where
   -- each session was attended, and one before these has no receipts in their stubs; `all` are the receipts of each rank
-  attended_from : (all : ℕ → List Receipt) (k : ℕ) (rows : List (Vec (Vec ℕ Global) Global)) (parts : List (Part N)) (sheets : List Sheet) (stubs : List Stub)
+  attended_from : (all : ℕ → List Receipt) (k : ℕ) (rows : List (Vec (Vec ℕ Global) Global)) (parts : List (SessionPart N)) (sheets : List Sheet) (stubs : List Stub)
       → ((j : ℕ) → k ≤ j → all j ≡ gathered (tenant_at j) (session_at j) stubs)
       → AllFrom Finished k rows parts → AllCut Closes parts sheets stubs
       → AllFrom (AttendedAt all) k rows sheets × ((j : ℕ) → j < k → gathered (tenant_at j) (session_at j) stubs ≡ [])
@@ -126,7 +126,7 @@ module _ {N : Type 0} where
       )
 
   -- from the first one on
-  pub all_attended : (all : ℕ → List Receipt) (rows : List (Vec (Vec ℕ Global) Global)) (parts : List (Part N)) (sheets : List Sheet) (stubs : List Stub)
+  pub all_attended : (all : ℕ → List Receipt) (rows : List (Vec (Vec ℕ Global) Global)) (parts : List (SessionPart N)) (sheets : List Sheet) (stubs : List Stub)
       → ((j : ℕ) → all j ≡ gathered (tenant_at j) (session_at j) stubs)
       → AllFrom Finished 0 rows parts → AllCut Closes parts sheets stubs → AllFrom (AttendedAt all) 0 rows sheets
   all_attended all rows parts sheets stubs are finished closes = (attended_from all 0 rows parts sheets stubs (λ j above. are j) finished closes).0

@@ -10,10 +10,10 @@ use Rattle.sb_wire.specs.Lines.{Addressed, Piece, pieces_of}
 use Rattle.sb_wire.specs.declared.refusal.WireRefusal.{WireRefusal}
 use Rattle.sb_wire.specs.Responses.{AnswersStream, AreAnswered, StopsBy}
 use Rattle.sb_replay.specs.Input.{Asks, IsAsked, IsBadAs, IsFirstBad, asked, command_for, commands_for, rank}
-use Rattle.sb_replay.specs.Scripts.{FailsToRead, Gives, HoldsScript, IsFresh, Reads, ReadsBy, Script, State, TakesBy, commands_at, is_over}
+use Rattle.sb_replay.specs.Scripts.{FailsToRead, Gives, HoldsScript, IsFresh, Reads, ReadsBy, RankedCommands, State, TakesBy, commands_at, is_over}
 use Rattle.sb_replay.specs.declared.error.ScriptError.{ScriptError}
-use Rattle.sb_replay.specs.declared.script.Progress.{Progress}
-use Rattle.sb_replay.specs.declared.script.Progress.TheVariants.{Going, BadLine, NoMemory}
+use Rattle.sb_replay.specs.declared.script.ScriptState.{ScriptState}
+use Rattle.sb_replay.specs.declared.script.ScriptState.TheVariants.{Going, BadLine, NoMemory}
 
 -- nothing is read
 pub consumes_none : (known : Option (List ℕ)) → Consumes known known []
@@ -27,7 +27,7 @@ read_all (Some left) bytes seen reads at_end = sym (reads ∙ ap (λ (t : List �
 
 module _ (tenants : ℕ) where
   -- each line so far asks for a command that stands in its row; or one of them is the first that asks for nothing
-  abbrev Gathers : List Piece → Script → Progress → Type 0
+  abbrev Gathers : List Piece → RankedCommands → ScriptState → Type 0
   Gathers ps s (Going n) =
       (asks : List Addressed) × Asks tenants ps asks × (n ≡ length ps)
       × ((t k : ℕ) → k < session_count → commands_at s.rows (rank t k) ≡ commands_for t k asks)
@@ -49,7 +49,7 @@ module _ (tenants : ℕ) where
       let are : ps ++ p ∷ [] ≡ b.good ++ b.bad ∷ (b.behind ++ p ∷ []) = ap (λ (l : List Piece). l ++ p ∷ []) b.are ∙ append_assoc b.good (b.bad ∷ b.behind) (p ∷ []) in
       record { good = b.good; asks = b.asks; are_good = b.are_good; bad = b.bad; is_bad = b.is_bad; reason = b.reason; behind = b.behind ++ p ∷ []; are = are; number = b.number }
 
-  taken : (ps : List Piece) (p : Piece) (old new : Script) (n : ℕ) (q : Progress) → old.tenants ≡ tenants → Gathers ps old (Going n) → TakesBy old n p q new → Gathers (ps ++ p ∷ []) new q
+  taken : (ps : List Piece) (p : Piece) (old new : RankedCommands) (n : ℕ) (q : ScriptState) → old.tenants ≡ tenants → Gathers ps old (Going n) → TakesBy old n p q new → Gathers (ps ++ p ∷ []) new q
   taken ps p old new n (Going m) same (asks, are, count, rows) (a, is, next, adds) = (
     asks ++ a ∷ [],
     asks_more ps p asks a are (subst (λ (k : ℕ). asked k p ≡ Some a) same is),
@@ -69,14 +69,14 @@ module _ (tenants : ℕ) where
   }
   taken ps p old new n NoMemory same holds takes = tt
 
-  one_more : (ps : List Piece) (p : Piece) (s : Script) (q : Progress) (new : State) → s.tenants ≡ tenants → Gathers ps s q → ReadsBy q s p new → Has (ps ++ p ∷ []) new
+  one_more : (ps : List Piece) (p : Piece) (s : RankedCommands) (q : ScriptState) (new : State) → s.tenants ≡ tenants → Gathers ps s q → ReadsBy q s p new → Has (ps ++ p ∷ []) new
   one_more ps p s (Going n) new same holds (kept, takes) = (kept ∙ same, taken ps p s new.0 n new.1 same holds takes)
   one_more ps p s (BadLine n why) new same bad is = subst (λ (x : State). Has (ps ++ p ∷ []) x) (sym is) (same, bad_more ps p n why bad)
   one_more ps p s NoMemory new same holds is = subst (λ (x : State). Has (ps ++ p ∷ []) x) (sym is) (same, tt)
 
   -- ---- all lines
 
-  pub fresh : (s : Script) → IsFresh tenants s → Has [] (s, Going 0)
+  pub fresh : (s : RankedCommands) → IsFresh tenants s → Has [] (s, Going 0)
   fresh s (same, empty) = (same, ([], refl, refl, λ t k _. empty (rank t k)))
 
   gathered : (ps qs : List Piece) (text : List ℕ) (old new : State) → Has ps old → AreAnswered Reads is_over old qs text new → Has (ps ++ qs) new
@@ -92,7 +92,7 @@ module _ (tenants : ℕ) where
         × IfErr r (λ e. (seen : List ℕ) × Consumes input (remaining reader) seen × FailsToRead fails remaining tenants seen reader e)
 
     -- an input that was read to its end
-    given : (progress : Progress) (script : Script) (seen : List ℕ) (r : Result (Vec (Vec (Vec ℕ Global) Global) Global) ScriptError) → Consumes input (remaining reader) seen → IsAtEnd (remaining reader)
+    given : (progress : ScriptState) (script : RankedCommands) (seen : List ℕ) (r : Result (Vec (Vec (Vec ℕ Global) Global) Global) ScriptError) → Consumes input (remaining reader) seen → IsAtEnd (remaining reader)
         → script.tenants ≡ tenants → Gathers (pieces_of seen) script progress → Gives progress script r → Given r
     given (Going n) script seen r reads at_end same (asks, are, count, rows_are) (rows, is, long, rows_is) = subst Given (sym is) (count_is, of_input input reads, tt)
       where

@@ -18,7 +18,7 @@ use Rattle.sb_replay.specs.Sessions.{Exchange, Plays, any_lacks, commands_in, la
 use Rattle.sb_replay.specs.Sheets.{Sheet, Tells, fresh, lines_of, telling, with_next}
 use Rattle.sb_replay.specs.Parts.{Deals, Gathers, Moves, MovesBy, MovesIn, Opens, OpensBy, Rests, calls, calls_of, session_at, tenant_at}
 use Rattle.sb_replay.proofs.Lists.{zip_same, zip_then}
-use Rattle.sb_replay.specs.declared.part.Part.{Part}
+use Rattle.sb_replay.specs.declared.part.SessionPart.{SessionPart}
 use Rattle.sb_replay.specs.declared.round.Waiting.{Waiting}
 use Rattle.sb_replay.specs.declared.round.Waiting.TheVariants.{Called, Resting}
 
@@ -43,12 +43,12 @@ done_long (j ∷ js) [] all = absurd all
 done_long (j ∷ js) (d ∷ ds) all = ap suc (done_long js ds all.1)
 
 module _ {N : Type 0} where
-  stays : (session : Option Session) (left : List (List ℕ)) (old new : Part N) → Rests session left → new ≡ old → MovesBy session left old new
+  stays : (session : Option Session) (left : List (List ℕ)) (old new : SessionPart N) → Rests session left → new ≡ old → MovesBy session left old new
   stays None left old new rests same = same
   stays (Some s) [] old new rests same = same
   stays (Some s) (c ∷ cs) old new rests same = absurd rests
 
-  one_moves : (p q : Part N) (w : Waiting N) (own rest : List (Job Session)) (own' rest' : List (Done Session))
+  one_moves : (p q : SessionPart N) (w : Waiting N) (own rest : List (Job Session)) (own' rest' : List (Done Session))
       → Deals p w own → Gathers w q own' → AllZip WasDone (own ++ rest) (own' ++ rest') → Moves p q × AllZip WasDone rest rest'
   one_moves p q (Resting same) own rest own' rest' (is, rests, none) (is', none') all = (
     stays p.session p.sheet.left p q rests (is' ∙ is),
@@ -60,12 +60,12 @@ module _ {N : Type 0} where
       let told = told_by sheet job.session done.session job.line.items done.result q.sheet both.0.1 tells in
       let moved : MovesBy (Some job.session) (job.line.items ∷ sheet.left) (record { session = Some job.session; sheet = with_next job.line.items sheet }) q =
       (told.0, done.session, told.1, λ i. record { session = session i; sheet = told.2 i }) in (
-        subst (λ (old : Part N). Moves old q) (sym is) moved,
+        subst (λ (old : SessionPart N). Moves old q) (sym is) moved,
         both.1,
       )
 
   -- each part has moved
-  pub all_move : (ps : List (Part N)) (ws : List (Waiting N)) (qs : List (Part N)) (jobs : List (Job Session)) (done : List (Done Session))
+  pub all_move : (ps : List (SessionPart N)) (ws : List (Waiting N)) (qs : List (SessionPart N)) (jobs : List (Job Session)) (done : List (Done Session))
       → AllCut Deals ps ws jobs → AllCut Gathers ws qs done → AllZip WasDone jobs done → AllZip Moves ps qs
   all_move [] [] [] jobs done deals gathers all = tt
   all_move [] [] (q ∷ qs) jobs done deals gathers all = absurd gathers
@@ -78,7 +78,7 @@ module _ {N : Type 0} where
       (both.0, all_move ps ws qs rest rest' deals gathers both.1)
 
   -- a job for each part that waits for an answer
-  pub calls_are : (ps : List (Part N)) (ws : List (Waiting N)) (jobs : List (Job Session)) → AllCut Deals ps ws jobs → calls ws ≡ length jobs
+  pub calls_are : (ps : List (SessionPart N)) (ws : List (Waiting N)) (jobs : List (Job Session)) → AllCut Deals ps ws jobs → calls ws ≡ length jobs
   calls_are [] [] jobs none = ap length (sym none)
   calls_are [] (w ∷ ws) jobs deals = absurd deals
   calls_are (p ∷ ps) [] jobs deals = absurd deals
@@ -92,7 +92,7 @@ module _ {N : Type 0} where
       omega arith
 
   -- an answer for each part that waits for one
-  pub used_by : (w : Waiting N) (p : Part N) (own : List (Done Session)) → Gathers w p own → length own ≡ calls_of w
+  pub used_by : (w : Waiting N) (p : SessionPart N) (own : List (Done Session)) → Gathers w p own → length own ≡ calls_of w
   used_by (Called sheet) p own (done, one, told) = ap length one
   used_by (Resting same) p own (is, none) = ap length none
 
@@ -156,31 +156,31 @@ plays_on t s commands sheet last after line lines given p left calls =
 
 module _ {N : Type 0} where
   -- a round on, with one command fewer left
-  goes_on : (t s : ℕ) (commands : List (List ℕ)) (session : Option Session) (left : List (List ℕ)) (old new : Part N)
+  goes_on : (t s : ℕ) (commands : List (List ℕ)) (session : Option Session) (left : List (List ℕ)) (old new : SessionPart N)
       → old.session ≡ session → old.sheet.left ≡ left → Reaches t s commands session old.sheet → MovesBy session left old new
       → Reaches t s commands new.session new.sheet × (length new.sheet.left ≡ length left - 1)
   goes_on t s commands None left old new at leaves reach same = (
-    subst (λ (p : Part N). Reaches t s commands p.session p.sheet) (sym same) (subst (λ (x : Option Session). Reaches t s commands x old.sheet) (sym at) reach),
+    subst (λ (p : SessionPart N). Reaches t s commands p.session p.sheet) (sym same) (subst (λ (x : Option Session). Reaches t s commands x old.sheet) (sym at) reach),
     let none : old.sheet.left ≡ [] = ap (λ (x : Sheet). x.left) reach.1 in
-        let now : length new.sheet.left ≡ 0 = ap (λ (p : Part N). length p.sheet.left) same ∙ ap length none in
+        let now : length new.sheet.left ≡ 0 = ap (λ (p : SessionPart N). length p.sheet.left) same ∙ ap length none in
         let was : length left ≡ 0 = ap length (sym leaves ∙ none) in
         omega arith,
   )
   goes_on t s commands (Some last) [] old new at leaves reach same = (
-    subst (λ (p : Part N). Reaches t s commands p.session p.sheet) (sym same) (subst (λ (x : Option Session). Reaches t s commands x old.sheet) (sym at) reach),
-    ap (λ (p : Part N). length p.sheet.left) same ∙ ap length leaves,
+    subst (λ (p : SessionPart N). Reaches t s commands p.session p.sheet) (sym same) (subst (λ (x : Option Session). Reaches t s commands x old.sheet) (sym at) reach),
+    ap (λ (p : SessionPart N). length p.sheet.left) same ∙ ap length leaves,
   )
   goes_on t s commands (Some last) (line ∷ lines) old new at leaves reach (given, after, calls, is) = (
-    subst (λ (p : Part N). Reaches t s commands p.session p.sheet) (sym is) (reach.0, plays_on t s commands old.sheet last after line lines given reach.1 leaves calls),
-    let now : length new.sheet.left ≡ length lines = ap (λ (p : Part N). length p.sheet.left) is in
+    subst (λ (p : SessionPart N). Reaches t s commands p.session p.sheet) (sym is) (reach.0, plays_on t s commands old.sheet last after line lines given reach.1 leaves calls),
+    let now : length new.sheet.left ≡ length lines = ap (λ (p : SessionPart N). length p.sheet.left) is in
         omega arith,
   )
 
-  goes_on_in : (t s : ℕ) (commands : List (List ℕ)) (n : ℕ) (old new : Part N) → Reaches t s commands old.session old.sheet → MovesIn n old new
+  goes_on_in : (t s : ℕ) (commands : List (List ℕ)) (n : ℕ) (old new : SessionPart N) → Reaches t s commands old.session old.sheet → MovesIn n old new
       → Reaches t s commands new.session new.sheet × (length new.sheet.left ≡ length old.sheet.left - n)
   goes_on_in t s commands zero old new reach same = (
-    subst (λ (p : Part N). Reaches t s commands p.session p.sheet) (sym same) reach,
-    let is = ap (λ (p : Part N). length p.sheet.left) same in
+    subst (λ (p : SessionPart N). Reaches t s commands p.session p.sheet) (sym same) reach,
+    let is = ap (λ (p : SessionPart N). length p.sheet.left) same in
         omega arith,
   )
   goes_on_in t s commands (suc n) old new reach (mid, before, moves) =
@@ -188,20 +188,20 @@ module _ {N : Type 0} where
       let on = goes_on t s commands mid.session mid.sheet.left mid new refl refl so_far.0 moves in
       (on.0, omega arith)
 
-  pub no_round : (ps : List (Part N)) → AllZip (MovesIn 0) ps ps
+  pub no_round : (ps : List (SessionPart N)) → AllZip (MovesIn 0) ps ps
   no_round ps = zip_same (MovesIn 0) (λ p. refl) ps
 
-  pub round_more : (n : ℕ) (ps qs rs : List (Part N)) → AllZip (MovesIn n) ps qs → AllZip Moves qs rs → AllZip (MovesIn (n + 1)) ps rs
+  pub round_more : (n : ℕ) (ps qs rs : List (SessionPart N)) → AllZip (MovesIn n) ps qs → AllZip Moves qs rs → AllZip (MovesIn (n + 1)) ps rs
   round_more n ps qs rs before moves =
       let more : suc n ≡ n + 1 = omega arith in
       subst (λ (k : ℕ). AllZip (MovesIn k) ps rs) more (zip_then (MovesIn n) Moves (MovesIn (suc n)) (λ p q r first last. (q, first, last)) ps qs rs before moves)
 
   -- the part of the rank k, whose commands have all been called
-  abbrev pub Finished : ℕ → Vec (Vec ℕ Global) Global → Part N → Type 0
+  abbrev pub Finished : ℕ → Vec (Vec ℕ Global) Global → SessionPart N → Type 0
   Finished k row part = Reaches (tenant_at k) (session_at k) (lines_of row.items) part.session part.sheet × (part.sheet.left ≡ [])
 
   -- as many rounds as it has commands
-  pub plays_all : (rounds k : ℕ) (row : Vec (Vec ℕ Global) Global) (old new : Part N)
+  pub plays_all : (rounds k : ℕ) (row : Vec (Vec ℕ Global) Global) (old new : SessionPart N)
       → length row.items ≤ rounds → Opens k row old → MovesIn rounds old new → Finished k row new
   plays_all rounds k row old new few (sheet, session) moves =
       let commands = lines_of row.items in

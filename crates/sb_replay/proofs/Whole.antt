@@ -21,13 +21,13 @@ use Rattle.sb_replay.specs.Sessions.{AllFullBy, Attends, Exchange, any_lacks, la
 use Rattle.sb_replay.specs.Sheets.{Sheet, lines_of, texts_of}
 use Rattle.sb_replay.specs.Parts.{AreAttended, Attended, AttendedAt, MovesIn, Opens, PlaysOut, session_at, tenant_at}
 use Rattle.sb_replay.specs.Replay.{IsFullBy, Replays, Reports}
-use Rattle.sb_replay.specs.declared.part.Part.{Part}
+use Rattle.sb_replay.specs.declared.part.SessionPart.{SessionPart}
 use Rattle.sb_replay.proofs.Lists.{then_zip}
 use Rattle.sb_replay.proofs.Playing.{Finished, plays_all}
 use Rattle.sb_replay.proofs.Ending.{all_attended}
 
 -- from the opened sessions to what they leave
-pub plays_through : {N : Type 0} (rounds : ℕ) (rows : List (Vec (Vec ℕ Global) Global)) (parts : List (Part N)) (sheets : List Sheet) (stubs : List Stub)
+pub plays_through : {N : Type 0} (rounds : ℕ) (rows : List (Vec (Vec ℕ Global) Global)) (parts : List (SessionPart N)) (sheets : List Sheet) (stubs : List Stub)
     → All (λ row. length row.items ≤ rounds) rows → AllFrom Opens 0 rows parts → PlaysOut rounds parts sheets stubs → AreAttended rows sheets stubs
 plays_through rounds rows parts sheets stubs few opens (last, moves, closes) =
     let P : Vec (Vec ℕ Global) Global → Type 0 = λ row. length row.items ≤ rounds in

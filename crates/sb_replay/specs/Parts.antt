@@ -16,7 +16,7 @@ use Rattle.sb_pool.specs.declared.pool.Done.{Done}
 use Rattle.sb_replay.specs.Lists.{AllCut, AllFrom}
 use Rattle.sb_replay.specs.Sessions.{Exchange, Leaves, any_lacks, commands_in, session_text}
 use Rattle.sb_replay.specs.Sheets.{Sheet, Tells, fresh, lines_of, telling, with_next}
-use Rattle.sb_replay.specs.declared.part.Part.{Part}
+use Rattle.sb_replay.specs.declared.part.SessionPart.{SessionPart}
 use Rattle.sb_replay.specs.declared.round.Waiting.{Waiting}
 use Rattle.sb_replay.specs.declared.round.Waiting.TheVariants.{Called, Resting}
 
@@ -45,39 +45,39 @@ ClosesBy (Some session) stubs = (stub : Stub) × (stubs ≡ stub ∷ []) × Leav
 
 module _ {N : Type 0} where
   -- the part of the rank k, before its first call
-  abbrev pub Opens : ℕ → Vec (Vec ℕ Global) Global → Part N → Type 0
+  abbrev pub Opens : ℕ → Vec (Vec ℕ Global) Global → SessionPart N → Type 0
   Opens k row part =
       (part.sheet ≡ fresh (tenant_at k) (session_at k) (lines_of row.items))
       × OpensBy (lines_of row.items) (tenant_at k) (session_at k) part.session
 
   -- one part more, of which P holds
-  abbrev pub AddsPart : (Part N → Type 0) → List (Part N) → List (Part N) → Type 0
-  AddsPart P old new = (part : Part N) × (new ≡ old ++ part ∷ []) × P part
+  abbrev pub AddsPart : (SessionPart N → Type 0) → List (SessionPart N) → List (SessionPart N) → Type 0
+  AddsPart P old new = (part : SessionPart N) × (new ≡ old ++ part ∷ []) × P part
 
   -- ---- one round
 
   -- a part waits for its call's answer, or rests
-  abbrev pub Deals : Part N → Waiting N → List (Job Session) → Type 0
+  abbrev pub Deals : SessionPart N → Waiting N → List (Job Session) → Type 0
   Deals part (Called sheet) jobs =
       (job : Job Session) × (jobs ≡ job ∷ []) × (part ≡ record { session = Some job.session; sheet = with_next job.line.items sheet })
   Deals part (Resting same) jobs = (same ≡ part) × Rests part.session part.sheet.left × (jobs ≡ [])
 
-  abbrev pub DealsOne : Part N → List (Job Session) → List (Waiting N) → List (Job Session) → List (Waiting N) → Type 0
+  abbrev pub DealsOne : SessionPart N → List (Job Session) → List (Waiting N) → List (Job Session) → List (Waiting N) → Type 0
   DealsOne part jobs waiting jobs' waiting' =
       (w : Waiting N) × (own : List (Job Session)) × (waiting' ≡ waiting ++ w ∷ []) × (jobs' ≡ jobs ++ own) × Deals part w own
 
   -- a call was done, and its answer told
-  abbrev pub TellsDone : Sheet → Done Session → Part N → Type 0
+  abbrev pub TellsDone : Sheet → Done Session → SessionPart N → Type 0
   TellsDone sheet done part = (part.session ≡ Some done.session) × Tells sheet done.result done.session.last part.sheet
 
   -- it is as it was, or has what its call was answered
-  abbrev pub Gathers : Waiting N → Part N → List (Done Session) → Type 0
+  abbrev pub Gathers : Waiting N → SessionPart N → List (Done Session) → Type 0
   Gathers (Called sheet) part all = (done : Done Session) × (all ≡ done ∷ []) × TellsDone sheet done part
   Gathers (Resting same) part all = (part ≡ same) × (all ≡ [])
 
-  abbrev pub GathersOne : Waiting N → List (Done Session) → List (Part N) → List (Done Session) → List (Part N) → Type 0
+  abbrev pub GathersOne : Waiting N → List (Done Session) → List (SessionPart N) → List (Done Session) → List (SessionPart N) → Type 0
   GathersOne w done parts done' parts' =
-      (part : Part N) × (own : List (Done Session)) × (parts' ≡ parts ++ part ∷ []) × (done ≡ own ++ done') × Gathers w part own
+      (part : SessionPart N) × (own : List (Done Session)) × (parts' ≡ parts ++ part ∷ []) × (done ≡ own ++ done') × Gathers w part own
 
   -- how many wait for an answer
   abbrev pub calls_of : Waiting N → ℕ
@@ -89,33 +89,33 @@ module _ {N : Type 0} where
   calls (w ∷ ws) = calls_of w + calls ws
 
   -- one call with the next command; without one nothing changes
-  abbrev pub MovesBy : Option Session → List (List ℕ) → Part N → Part N → Type 0
+  abbrev pub MovesBy : Option Session → List (List ℕ) → SessionPart N → SessionPart N → Type 0
   MovesBy None left old new = new ≡ old
   MovesBy (Some session) [] old new = new ≡ old
   MovesBy (Some session) (line ∷ lines) old new =
       (given : Result Answer CallError) × (after : Session) × Calls session line given after
       × (new ≡ record { session = Some after; sheet = telling (record old.sheet { left = lines }) given })
 
-  abbrev pub Moves : Part N → Part N → Type 0
+  abbrev pub Moves : SessionPart N → SessionPart N → Type 0
   Moves old new = MovesBy old.session old.sheet.left old new
 
   -- ---- all rounds
 
-  abbrev pub MovesIn : ℕ → Part N → Part N → Type 0
+  abbrev pub MovesIn : ℕ → SessionPart N → SessionPart N → Type 0
   MovesIn zero old new = new ≡ old
-  MovesIn (suc n) old new = (mid : Part N) × MovesIn n old mid × Moves mid new
+  MovesIn (suc n) old new = (mid : SessionPart N) × MovesIn n old mid × Moves mid new
 
   -- a part leaves its sheet, and what its session leaves
-  abbrev pub Closes : Part N → Sheet → List Stub → Type 0
+  abbrev pub Closes : SessionPart N → Sheet → List Stub → Type 0
   Closes part sheet stubs = (sheet ≡ part.sheet) × ClosesBy part.session stubs
 
-  abbrev pub ClosesOne : Part N → List Stub → List Sheet → List Stub → List Sheet → Type 0
+  abbrev pub ClosesOne : SessionPart N → List Stub → List Sheet → List Stub → List Sheet → Type 0
   ClosesOne part stubs sheets stubs' sheets' =
       (sheet : Sheet) × (own : List Stub) × (sheets' ≡ sheets ++ sheet ∷ []) × (stubs' ≡ stubs ++ own) × Closes part sheet own
 
   -- so many rounds, and then the sessions are closed
-  abbrev pub PlaysOut : ℕ → List (Part N) → List Sheet → List Stub → Type 0
-  PlaysOut rounds parts sheets stubs = (last : List (Part N)) × AllZip (MovesIn rounds) parts last × AllCut Closes last sheets stubs
+  abbrev pub PlaysOut : ℕ → List (SessionPart N) → List Sheet → List Stub → Type 0
+  PlaysOut rounds parts sheets stubs = (last : List (SessionPart N)) × AllZip (MovesIn rounds) parts last × AllCut Closes last sheets stubs
 
 -- ---- what is left
 

@@ -8,11 +8,11 @@ use Rattle.sb_wire.specs.Stream.{MayFail, read_limit}
 use Rattle.sb_replay.specs.Input.{IsAsked, IsBadAs, IsBadLine, asked, command_for, commands_for, rank}
 use Rattle.sb_replay.specs.declared.error.ScriptError.{ScriptError}
 use Rattle.sb_replay.specs.declared.error.ScriptError.TheVariants as fault
-use Rattle.sb_replay.specs.declared.script.Progress.{Progress}
-use Rattle.sb_replay.specs.declared.script.Progress.TheVariants.{Going, BadLine, NoMemory}
+use Rattle.sb_replay.specs.declared.script.ScriptState.{ScriptState}
+use Rattle.sb_replay.specs.declared.script.ScriptState.TheVariants.{Going, BadLine, NoMemory}
 
 -- the number of tenants, and the commands of each rank so far
-pub record Script : Type 0 where
+pub record RankedCommands : Type 0 where
   pub tenants : ℕ
   pub rows : List (List (List ℕ))
 
@@ -30,7 +30,7 @@ commands_at rows k = get_or rows k []
 -- ---- line by line
 
 -- before the first line
-abbrev pub IsFresh : ℕ → Script → Type 0
+abbrev pub IsFresh : ℕ → RankedCommands → Type 0
 IsFresh tenants s = (s.tenants ≡ tenants) × ((k : ℕ) → commands_at s.rows k ≡ [])
 
 -- one command more, behind those of its session
@@ -39,20 +39,20 @@ AddsCommand old a new =
     (t s : ℕ) → s < session_count → commands_at new (rank t s) ≡ commands_at old (rank t s) ++ command_for t s a
 
 -- Behind so many lines one line more is a command for a session of the host, or isn't, or there was no memory.
-abbrev pub TakesBy : Script → ℕ → Piece → Progress → Script → Type 0
+abbrev pub TakesBy : RankedCommands → ℕ → Piece → ScriptState → RankedCommands → Type 0
 TakesBy old lines p (Going n) new = (a : Addressed) × (asked old.tenants p ≡ Some a) × (n ≡ lines + 1) × AddsCommand old.rows a new.rows
 TakesBy old lines p (BadLine n why) new = (asked old.tenants p ≡ None) × IsBadAs old.tenants p why × (n ≡ lines + 1)
 TakesBy old lines p NoMemory new = ⊤
 
-abbrev pub Takes : Script → ℕ → Piece → Progress → Script → Type 0
+abbrev pub Takes : RankedCommands → ℕ → Piece → ScriptState → RankedCommands → Type 0
 Takes old lines p progress new = (new.tenants ≡ old.tenants) × TakesBy old lines p progress new
 
 -- what is gathered, and how far the lines were understood
 abbrev pub State : Type 0
-State = Script × Progress
+State = RankedCommands × ScriptState
 
 -- a line is taken until one wasn't; no text answers it
-abbrev pub ReadsBy : Progress → Script → Piece → State → Type 0
+abbrev pub ReadsBy : ScriptState → RankedCommands → Piece → State → Type 0
 ReadsBy (Going n) s p new = Takes s n p new.1 new.0
 ReadsBy (BadLine n why) s p new = new ≡ (s, BadLine n why)
 ReadsBy NoMemory s p new = new ≡ (s, NoMemory)
@@ -67,7 +67,7 @@ is_over state = false
 -- ---- a whole input
 
 -- what is given of the lines
-abbrev pub Gives : Progress → Script → Result (Vec (Vec (Vec ℕ Global) Global) Global) ScriptError → Type 0
+abbrev pub Gives : ScriptState → RankedCommands → Result (Vec (Vec (Vec ℕ Global) Global) Global) ScriptError → Type 0
 Gives (Going n) s r = (rows : Vec (Vec (Vec ℕ Global) Global) Global) × (r ≡ Ok rows) × (length rows.items ≡ session_count * s.tenants) × (rows_of rows.items ≡ s.rows)
 Gives (BadLine n why) s r = r ≡ Err (fault.BadLine n why)
 Gives NoMemory s r = r ≡ Err fault.NoMemory

@@ -7,7 +7,7 @@ ghost use Rattle.sb_replay.specs.Parts.{AreAttended, Closes, ClosesOne, PlaysOut
 ghost use Rattle.sb_replay.specs.Replay.{IsUnclosed, IsUnplayed};
 
 use crate::error::ReplayError;
-use crate::part::{Part, attach_all};
+use crate::part::{SessionPart, attach_all};
 use crate::round::play;
 use crate::sheet::Sheet;
 use sb_host::{FinishError, Host, Naming, Receipt, Stub, step_number};
@@ -26,7 +26,7 @@ pub(crate) struct Closed {
 fn close_all<N: Naming, T: Wait>(
     rt: &T,
     alloc: Global,
-    parts: Vec<Part<'_, N>>,
+    parts: Vec<SessionPart<'_, N>>,
 ) -> Result<Closed, ReplayError>
     ensures ok { IfOk result (λ closed. AllCut Closes parts.entry.items closed.sheets.items closed.stubs.items) }
     ensures err { IfErr result IsUnclosed }
@@ -42,14 +42,14 @@ fn close_all<N: Naming, T: Wait>(
 /// Closes a session, if there is one.
 fn close_one<N: Naming, T: Wait>(
     rt: &T,
-    part: Part<'_, N>,
+    part: SessionPart<'_, N>,
     stubs: &mut Vec<Stub>,
     sheets: &mut Vec<Sheet>,
 ) -> Result<(), ReplayError>
     ensures ok { OnOk result (ClosesOne part.entry stubs.old.items sheets.old.items stubs.new.items sheets.new.items) }
     ensures err { IfErr result IsUnclosed }
 {
-    let Part { session, sheet } = part;
+    let SessionPart { session, sheet } = part;
     add(sheets, sheet)?;
     let Some(session) = session else {
         return Ok(());
@@ -105,7 +105,7 @@ fn longest(rows: &[Vec<Vec<u8>>]) -> usize
 fn play_out<N: Naming + Send + Sync, T: Threads + Wait + Sync>(
     rt: &T,
     alloc: Global,
-    parts: Vec<Part<'_, N>>,
+    parts: Vec<SessionPart<'_, N>>,
     rounds: usize,
     workers: usize,
 ) -> Result<Closed, ReplayError>

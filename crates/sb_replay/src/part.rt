@@ -13,7 +13,7 @@ use std::sync::Wait;
 
 /// A session, if there are commands for it, with its sheet.
 #[derive(Drop)]
-pub(crate) struct Part<'h, N: Naming> {
+pub(crate) struct SessionPart<'h, N: Naming> {
     pub(crate) session: Option<Session<'h, N>>,
     pub(crate) sheet: Sheet,
 }
@@ -24,7 +24,7 @@ pub(crate) fn attach_all<'h, T: Wait, N: Naming>(
     alloc: Global,
     host: &'h Host<N>,
     rows: Vec<Vec<Vec<u8>>>,
-) -> Result<Vec<Part<'h, N>>, ReplayError>
+) -> Result<Vec<SessionPart<'h, N>>, ReplayError>
     requires { length rows.items ≡ 8 * host.now }
     ensures ok { IfOk result (λ parts. AllFrom Opens 0 rows.items parts.items) }
     ensures err { IfErr result (λ e. IsUnopened host.now e) }
@@ -42,7 +42,7 @@ fn attach<'h, T: Wait, N: Naming>(
     alloc: Global,
     host: &'h Host<N>,
     commands: Vec<Vec<u8>>,
-    parts: &mut Vec<Part<'h, N>>,
+    parts: &mut Vec<SessionPart<'h, N>>,
 ) -> Result<(), ReplayError>
     requires { length parts.old.items < 8 * host.now }
     ensures ok { OnOk result (AddsPart (Opens (length parts.old.items) commands) parts.old.items parts.new.items) }
@@ -58,7 +58,7 @@ fn attach<'h, T: Wait, N: Naming>(
     if !is_named {
         return add(
             parts,
-            Part {
+            SessionPart {
                 session: None,
                 sheet,
             },
@@ -67,7 +67,7 @@ fn attach<'h, T: Wait, N: Naming>(
     match host.attach(rt, alloc, tenant, number.number() as u32) {
         Ok(session) => add(
             parts,
-            Part {
+            SessionPart {
                 session: Some(session),
                 sheet,
             },
@@ -77,7 +77,10 @@ fn attach<'h, T: Wait, N: Naming>(
 }
 
 /// Adds a part.
-fn add<'h, N: Naming>(parts: &mut Vec<Part<'h, N>>, part: Part<'h, N>) -> Result<(), ReplayError>
+fn add<'h, N: Naming>(
+    parts: &mut Vec<SessionPart<'h, N>>,
+    part: SessionPart<'h, N>,
+) -> Result<(), ReplayError>
     ensures ok { OnOk result (parts.new.items ≡ parts.old.items ++ part.entry ∷ []) }
     ensures err { IfErr result (λ e. e ≡ ReplayError.NoMemory) }
 {

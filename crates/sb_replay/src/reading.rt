@@ -4,7 +4,7 @@ ghost use Rattle.std.specs.Io.KnownBytes.{Consumes};
 ghost use Rattle.sb_replay.specs.Scripts.{FailsToRead, HoldsScript};
 
 use crate::error::ScriptError;
-use crate::script::{Progress, Script};
+use crate::script::{RankedCommands, ScriptState};
 use sb_wire::{Piece, Responder, Source, StreamError, answer_stream};
 use std::alloc::{AllocError, Global};
 
@@ -19,10 +19,10 @@ pub fn read_script<R: Source>(
     ensures err { IfErr result (λ e. (seen : List ℕ) × Consumes (R.remaining reader.old) (R.remaining reader.new) seen
         × FailsToRead R.fails R.remaining tenants seen reader.new e) }
 {
-    let Ok(mut script) = Script::new(alloc, tenants) else {
+    let Ok(mut script) = RankedCommands::new(alloc, tenants) else {
         return Err(ScriptError::NoMemory);
     };
-    let mut progress = Progress::Going { lines: 0 };
+    let mut progress = ScriptState::Going { lines: 0 };
     let mut answers: Vec<u8> = Vec::new(alloc);
     match answer_stream(
         alloc,
@@ -41,7 +41,7 @@ pub fn read_script<R: Source>(
 /// Lines are commands of a script, and no text answers them.
 struct ScriptLines;
 
-impl Responder<Script, Progress> for ScriptLines {
+impl Responder<RankedCommands, ScriptState> for ScriptLines {
     ghost use Rattle.sb_replay.specs.Scripts.{Reads, is_over};
 
     ghost responds = { λ _. Reads };
@@ -53,14 +53,14 @@ impl Responder<Script, Progress> for ScriptLines {
         alloc: Global,
         piece: Piece<'_>,
         _out: &mut Vec<u8>,
-        first: &mut Script,
-        second: &mut Progress,
+        first: &mut RankedCommands,
+        second: &mut ScriptState,
     ) -> Result<(), AllocError> {
         *second = first.read(alloc, piece, *second);
         Ok(())
     }
 
-    fn is_over(&self, _first: &Script, _second: &Progress) -> bool {
+    fn is_over(&self, _first: &RankedCommands, _second: &ScriptState) -> bool {
         false
     }
 }

@@ -5,7 +5,7 @@ ghost use Rattle.std.specs.Vec.Iter.{into_iter_items};
 ghost use Rattle.sb_replay.specs.Lists.{AllCut};
 ghost use Rattle.sb_replay.specs.Parts.{AddsPart, Deals, DealsOne, Gathers, GathersOne, Moves, MovesIn, TellsDone, calls, calls_of};
 
-use crate::part::Part;
+use crate::part::SessionPart;
 use crate::sheet::Sheet;
 use sb_host::{Naming, NoGate, Session};
 use sb_pool::{Done, Job, Pool};
@@ -20,7 +20,7 @@ enum Waiting<'h, N: Naming> {
     /// Its session is called, too.
     Called(Sheet),
     /// It has no command left.
-    Resting(Part<'h, N>),
+    Resting(SessionPart<'h, N>),
 }
 
 /// The jobs of a round, and the parts that wait.
@@ -31,7 +31,10 @@ struct Dealt<'h, N: Naming> {
 }
 
 /// Takes the next command of each session.
-fn deal<'h, N: Naming>(alloc: Global, parts: Vec<Part<'h, N>>) -> Result<Dealt<'h, N>, AllocError>
+fn deal<'h, N: Naming>(
+    alloc: Global,
+    parts: Vec<SessionPart<'h, N>>,
+) -> Result<Dealt<'h, N>, AllocError>
     ensures { IfOk result (λ dealt. AllCut Deals parts.entry.items dealt.waiting.items dealt.jobs.items) }
 {
     let mut jobs = Vec::new(alloc);
@@ -44,15 +47,15 @@ fn deal<'h, N: Naming>(alloc: Global, parts: Vec<Part<'h, N>>) -> Result<Dealt<'
 
 /// Takes the next command of a session, if there is one.
 fn deal_one<'h, N: Naming>(
-    part: Part<'h, N>,
+    part: SessionPart<'h, N>,
     jobs: &mut Vec<Job<Session<'h, N>>>,
     waiting: &mut Vec<Waiting<'h, N>>,
 ) -> Result<(), AllocError>
     ensures { OnOk result (DealsOne part.entry jobs.old.items waiting.old.items jobs.new.items waiting.new.items) }
 {
-    let Part { session, mut sheet } = part;
+    let SessionPart { session, mut sheet } = part;
     let Some(session) = session else {
-        waiting.push(Waiting::Resting(Part {
+        waiting.push(Waiting::Resting(SessionPart {
             session: None,
             sheet,
         }))?;
@@ -65,7 +68,7 @@ fn deal_one<'h, N: Naming>(
             Ok(())
         }
         None => {
-            waiting.push(Waiting::Resting(Part {
+            waiting.push(Waiting::Resting(SessionPart {
                 session: Some(session),
                 sheet,
             }))?;
@@ -79,7 +82,7 @@ fn gather<'h, N: Naming>(
     alloc: Global,
     done: Vec<Done<Session<'h, N>>>,
     waiting: Vec<Waiting<'h, N>>,
-) -> Result<Vec<Part<'h, N>>, AllocError>
+) -> Result<Vec<SessionPart<'h, N>>, AllocError>
     requires { calls waiting.items ≡ length done.items }
     ensures { IfOk result (λ parts. AllCut Gathers waiting.entry.items parts.items done.entry.items) }
 {
@@ -95,7 +98,7 @@ fn gather<'h, N: Naming>(
 fn gather_one<'h, N: Naming>(
     waiting: Waiting<'h, N>,
     done: &mut IntoIter<Done<Session<'h, N>>>,
-    parts: &mut Vec<Part<'h, N>>,
+    parts: &mut Vec<SessionPart<'h, N>>,
 ) -> Result<(), AllocError>
     requires { calls_of waiting ≤ length (into_iter_items done.old) }
     ensures { let had = into_iter_items done.old in let left = into_iter_items done.new in
@@ -117,7 +120,7 @@ fn gather_one<'h, N: Naming>(
 fn tell<'h, N: Naming>(
     mut sheet: Sheet,
     done: Done<Session<'h, N>>,
-    parts: &mut Vec<Part<'h, N>>,
+    parts: &mut Vec<SessionPart<'h, N>>,
 ) -> Result<(), AllocError>
     ensures { OnOk result (AddsPart (TellsDone sheet done.entry) parts.old.items parts.new.items) }
 {
@@ -127,7 +130,7 @@ fn tell<'h, N: Naming>(
         ..
     } = done;
     sheet.tell(&session, given)?;
-    parts.push(Part {
+    parts.push(SessionPart {
         session: Some(session),
         sheet,
     })?;
@@ -138,9 +141,9 @@ fn tell<'h, N: Naming>(
 fn round<'h, N: Naming + Send + Sync, T: Threads + Wait + Sync>(
     rt: &T,
     alloc: Global,
-    parts: Vec<Part<'h, N>>,
+    parts: Vec<SessionPart<'h, N>>,
     workers: usize,
-) -> Result<Vec<Part<'h, N>>, AllocError>
+) -> Result<Vec<SessionPart<'h, N>>, AllocError>
     requires workers { (0 < workers) × (workers ≤ 16) }
     ensures { IfOk result (λ after. AllZip Moves parts.entry.items after.items) }
 {
@@ -155,10 +158,10 @@ fn round<'h, N: Naming + Send + Sync, T: Threads + Wait + Sync>(
 pub(crate) fn play<'h, N: Naming + Send + Sync, T: Threads + Wait + Sync>(
     rt: &T,
     alloc: Global,
-    parts: Vec<Part<'h, N>>,
+    parts: Vec<SessionPart<'h, N>>,
     rounds: usize,
     workers: usize,
-) -> Result<Vec<Part<'h, N>>, AllocError>
+) -> Result<Vec<SessionPart<'h, N>>, AllocError>
     requires workers { (0 < workers) × (workers ≤ 16) }
     ensures { IfOk result (λ after. AllZip (MovesIn rounds) parts.entry.items after.items) }
 {

@@ -12,7 +12,7 @@ use std::marker::Model;
 
 /// How far the lines of an input were understood.
 #[derive(Clone, Copy, Debug)]
-pub(crate) enum Progress {
+pub(crate) enum ScriptState {
     /// All so far, which are so many.
     Going { lines: u64 },
     /// Those before this one, which is no command for a session of the host.
@@ -23,25 +23,25 @@ pub(crate) enum Progress {
 
 /// The commands so far, by the ranks of their sessions.
 #[derive(Drop)]
-pub(crate) struct Script {
+pub(crate) struct RankedCommands {
     tenants: u32,
     rows: Vec<Vec<Vec<u8>>>,
 }
 
-impl Model for Script {
+impl Model for RankedCommands {
     ghost use Rattle.std.specs.Prelude.{◌≡◌, ◌*◌, length};
-    ghost use Rattle.sb_replay.specs.Scripts.{Script, rows_of};
+    ghost use Rattle.sb_replay.specs.Scripts.{RankedCommands, rows_of};
 
-    ghost Value = { Script };
+    ghost Value = { RankedCommands };
 
     ghost view = { λ s. record { tenants = s.tenants; rows = rows_of s.rows.items } };
 
     ghost invariant = { λ s. length s.rows.items ≡ 8 * s.tenants };
 }
 
-impl Script {
+impl RankedCommands {
     /// Before the first line.
-    pub(crate) fn new(alloc: Global, tenants: u32) -> Result<Script, AllocError>
+    pub(crate) fn new(alloc: Global, tenants: u32) -> Result<RankedCommands, AllocError>
         ensures { IfOk result (IsFresh tenants) }
     {
         let count = SESSION_LIMIT * tenants as usize;
@@ -49,33 +49,38 @@ impl Script {
         for _row in 0..count {
             rows.push(Vec::new(alloc))?;
         }
-        Ok(Script { tenants, rows })
+        Ok(RankedCommands { tenants, rows })
     }
 
     /// Reads one line more, and says how far the lines are understood.
-    pub(crate) fn read(&mut self, alloc: Global, piece: Piece<'_>, progress: Progress) -> Progress
+    pub(crate) fn read(
+        &mut self,
+        alloc: Global,
+        piece: Piece<'_>,
+        progress: ScriptState,
+    ) -> ScriptState
         ensures { ReadsBy progress self.old (piece_seen piece.entry) (self.new, result) }
     {
         match progress {
-            Progress::Going { lines } => self.take(alloc, piece, lines),
-            Progress::BadLine { .. } | Progress::NoMemory => progress,
+            ScriptState::Going { lines } => self.take(alloc, piece, lines),
+            ScriptState::BadLine { .. } | ScriptState::NoMemory => progress,
         }
     }
 
     /// Takes a line behind so many others.
-    fn take(&mut self, alloc: Global, piece: Piece<'_>, lines: u64) -> Progress
+    fn take(&mut self, alloc: Global, piece: Piece<'_>, lines: u64) -> ScriptState
         ensures { Takes self.old lines (piece_seen piece.entry) result self.new }
     {
         let Some(line) = lines.checked_add(1) else {
-            return Progress::NoMemory;
+            return ScriptState::NoMemory;
         };
         let addressed = match self.command(piece) {
             Ok(addressed) => addressed,
-            Err(why) => return Progress::BadLine { line, why },
+            Err(why) => return ScriptState::BadLine { line, why },
         };
         match self.add(alloc, addressed) {
-            Ok(()) => Progress::Going { lines: line },
-            Err(_) => Progress::NoMemory,
+            Ok(()) => ScriptState::Going { lines: line },
+            Err(_) => ScriptState::NoMemory,
         }
     }
 
@@ -125,13 +130,13 @@ impl Script {
     }
 
     /// The rows, where all lines were understood.
-    pub(crate) fn understood(self, progress: Progress) -> Result<Vec<Vec<Vec<u8>>>, ScriptError>
+    pub(crate) fn understood(self, progress: ScriptState) -> Result<Vec<Vec<Vec<u8>>>, ScriptError>
         ensures { Gives progress self result }
     {
         match progress {
-            Progress::Going { .. } => Ok(self.rows),
-            Progress::BadLine { line, why } => Err(ScriptError::BadLine { line, why }),
-            Progress::NoMemory => Err(ScriptError::NoMemory),
+            ScriptState::Going { .. } => Ok(self.rows),
+            ScriptState::BadLine { line, why } => Err(ScriptError::BadLine { line, why }),
+            ScriptState::NoMemory => Err(ScriptError::NoMemory),
         }
     }
 }

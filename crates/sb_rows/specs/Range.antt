@@ -1,8 +1,8 @@
 -- Machine: the least and the greatest integer that a column may have.
 use Rattle.std.specs.Prelude.{ℕ, zero, suc, ◌+◌, ◌*◌, ◌^◌, ◌<◌, ◌≤◌, max, Option, IsSome, IfSome, List, [], ◌∷◌, ℤ, ◌≤ℤ◌, unsigned_abs, FitsSigned}
 use Rattle.std.specs.Int.{w64}
-use Rattle.sb_rows.specs.declared.condition.Condition as condition
-use Rattle.sb_rows.specs.declared.condition.Condition.{Condition, Always, Compare, Both', Either'}
+use Rattle.sb_rows.specs.declared.condition.Test as condition
+use Rattle.sb_rows.specs.declared.condition.Test.{Test, Always, Compare, Both', Either'}
 use Rattle.sb_rows.specs.declared.range.Range.{Range}
 use Rattle.sb_rows.specs.declared.term.Term.{Term, Constant, Column, Negation', Sum', Difference', Product'}
 
@@ -46,7 +46,7 @@ abbrev pub Bounds : (ℤ → ℤ → ℤ) → Range → Range → Range → Type
 Bounds f one two range = (x y : ℤ) → IsIn one x → IsIn two y → FitsSigned w64 (f x y) × IsIn range (f x y)
 
 -- how far the terms of a condition and their parts reach at most
-abbrev pub condition_reach : List Range → Condition → ℕ
+abbrev pub condition_reach : List Range → Test → ℕ
 condition_reach ranges Always = 0
 condition_reach ranges (Compare a op b) = max (term_reach ranges a) (term_reach ranges b)
 condition_reach ranges (Both' p a q b) = max (condition_reach ranges a) (condition_reach ranges b)

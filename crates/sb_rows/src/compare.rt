@@ -6,8 +6,8 @@ ghost use Rattle.sb_rows.specs.Batch.{number_in, HasRows};
 ghost use Rattle.sb_rows.specs.Condition.{compared};
 ghost use Rattle.sb_rows.specs.Selection.{rows};
 
-use crate::batch::Column;
-use crate::condition::Comparison;
+use crate::batch::BatchColumn;
+use crate::condition::IntegerComparison;
 use crate::selection::{Selection, WORD_COUNT, WORD_SIZE};
 
 /// What may hold of two integers.
@@ -131,7 +131,11 @@ fn select_to_each<R: Relation>(numbers: &[i64], others: &[i64]) -> Selection
 }
 
 /// The rows in which one column has the relation to another, which is the second relation turned round.
-fn related<R: Relation, T: Relation>(one: &Column<'_>, two: &Column<'_>, count: usize) -> Selection
+fn related<R: Relation, T: Relation>(
+    one: &BatchColumn<'_>,
+    two: &BatchColumn<'_>,
+    count: usize,
+) -> Selection
     requires turned { (x y : ℤ) → T.holds y x ≡ R.holds x y }
     requires few { count ≤ 1024 }
     requires first { HasRows count one.now }
@@ -139,22 +143,22 @@ fn related<R: Relation, T: Relation>(one: &Column<'_>, two: &Column<'_>, count: 
     ensures { result ≡ map (λ k. R.holds (number_in k one.now) (number_in k two.now)) (rows count) }
 {
     match one {
-        Column::Same(x) => match two {
-            Column::Same(y) => Selection::all_or_none(R::test(*x, *y), count),
-            Column::Each(others) => select_to_same::<T>(others, x),
+        BatchColumn::Same(x) => match two {
+            BatchColumn::Same(y) => Selection::all_or_none(R::test(*x, *y), count),
+            BatchColumn::Each(others) => select_to_same::<T>(others, x),
         },
-        Column::Each(numbers) => match two {
-            Column::Same(y) => select_to_same::<R>(numbers, y),
-            Column::Each(others) => select_to_each::<R>(numbers, others),
+        BatchColumn::Each(numbers) => match two {
+            BatchColumn::Same(y) => select_to_same::<R>(numbers, y),
+            BatchColumn::Each(others) => select_to_each::<R>(numbers, others),
         },
     }
 }
 
 /// The rows in which two columns compare so.
 pub(crate) fn select_compared(
-    one: &Column<'_>,
-    comparison: Comparison,
-    two: &Column<'_>,
+    one: &BatchColumn<'_>,
+    comparison: IntegerComparison,
+    two: &BatchColumn<'_>,
     count: usize,
 ) -> Selection
     requires few { count ≤ 1024 }
@@ -163,11 +167,11 @@ pub(crate) fn select_compared(
     ensures { result ≡ map (λ k. compared comparison (number_in k one.now) (number_in k two.now)) (rows count) }
 {
     match comparison {
-        Comparison::Equal => related::<Equal, Equal>(one, two, count),
-        Comparison::NotEqual => related::<Equal, Equal>(one, two, count).negated(),
-        Comparison::Less => related::<Less, Greater>(one, two, count),
-        Comparison::LessEqual => related::<Greater, Less>(one, two, count).negated(),
-        Comparison::Greater => related::<Greater, Less>(one, two, count),
-        Comparison::GreaterEqual => related::<Less, Greater>(one, two, count).negated(),
+        IntegerComparison::Equal => related::<Equal, Equal>(one, two, count),
+        IntegerComparison::NotEqual => related::<Equal, Equal>(one, two, count).negated(),
+        IntegerComparison::Less => related::<Less, Greater>(one, two, count),
+        IntegerComparison::LessEqual => related::<Greater, Less>(one, two, count).negated(),
+        IntegerComparison::Greater => related::<Greater, Less>(one, two, count),
+        IntegerComparison::GreaterEqual => related::<Less, Greater>(one, two, count).negated(),
     }
 }

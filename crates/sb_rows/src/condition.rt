@@ -3,7 +3,7 @@ use crate::term::Term;
 
 /// How two integers are compared.
 #[derive(Clone, Copy)]
-pub enum Comparison {
+pub enum IntegerComparison {
     Equal,
     NotEqual,
     Less,
@@ -14,10 +14,10 @@ pub enum Comparison {
 
 /// What a row has to meet.
 #[derive(Drop)]
-pub enum Condition {
+pub enum Test {
     Always,
-    Compare(Term, Comparison, Term),
-    Both(Box<Condition>, Box<Condition>),
-    Either(Box<Condition>, Box<Condition>),
-    Negation(Box<Condition>),
+    Compare(Term, IntegerComparison, Term),
+    Both(Box<Test>, Box<Test>),
+    Either(Box<Test>, Box<Test>),
+    Negation(Box<Test>),
 }

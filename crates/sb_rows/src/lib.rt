@@ -17,9 +17,9 @@ mod shared;
 mod term;
 mod values;
 
-pub use batch::{BATCH_LIMIT, Column};
+pub use batch::{BATCH_LIMIT, BatchColumn};
 pub use codes::Codes;
-pub use condition::{Comparison, Condition};
+pub use condition::{IntegerComparison, Test};
 pub use evaluate::{filter, total};
 pub use laws::{codes_keep_order, keys_keep_order, selected_rows_pass};
 pub use range::{Range, never_overflows, range_of};

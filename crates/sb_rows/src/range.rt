@@ -7,7 +7,7 @@ ghost use Rattle.sb_rows.specs.Condition.{NeverOverflows};
 ghost use Rattle.sb_rows.specs.Range.{AreIn, Bounds, IsGivenUpTo, IsIn, condition_reach, reach_of, term_reach};
 ghost use Rattle.sb_rows.specs.Term.{Fits, number_of};
 
-use crate::condition::Condition;
+use crate::condition::Test;
 use crate::term::Term;
 
 /// The integers from the least to the greatest.
@@ -150,18 +150,18 @@ pub fn range_of(term: &Term, ranges: &[Range]) -> Option<Range>
 }
 
 /// Whether no term of a condition overflows, whatever row of these ranges it meets.
-pub fn never_overflows(condition: &Condition, ranges: &[Range]) -> bool
+pub fn never_overflows(condition: &Test, ranges: &[Range]) -> bool
     ensures held { OnTrue result ((row : List ℤ) → AreIn ranges.now row → NeverOverflows row condition.now) }
     ensures near { condition_reach ranges.now condition.now < 2 ^ 63 → IsTrue result }
 {
     match condition {
-        Condition::Always => true,
-        Condition::Compare(one, _, two) => {
+        Test::Always => true,
+        Test::Compare(one, _, two) => {
             range_of(one, ranges).is_some() && range_of(two, ranges).is_some()
         }
-        Condition::Both(one, two) | Condition::Either(one, two) => {
+        Test::Both(one, two) | Test::Either(one, two) => {
             never_overflows(one, ranges) && never_overflows(two, ranges)
         }
-        Condition::Negation(one) => never_overflows(one, ranges),
+        Test::Negation(one) => never_overflows(one, ranges),
     }
 }

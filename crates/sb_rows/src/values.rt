@@ -6,7 +6,7 @@ ghost use Rattle.sb_rows.specs.Batch.{number_in, row_at, HasRows};
 ghost use Rattle.sb_rows.specs.Term.{number_of, Fits};
 ghost use Rattle.sb_rows.specs.Values.{AreValues, Gives, HaveRows, value_in};
 
-use crate::batch::Column;
+use crate::batch::BatchColumn;
 use crate::term::Term;
 use std::alloc::{AllocError, Global};
 
@@ -88,14 +88,14 @@ fn apply_each<O: Operation>(numbers: &mut [i64], others: &[i64])
 
 impl<'r> Values<'r> {
     /// The values as a column of the batch.
-    pub(crate) fn column(&self) -> Column<'_>
+    pub(crate) fn column(&self) -> BatchColumn<'_>
         ensures long { (count : ℕ) → HaveRows count self.now → HasRows count result }
         ensures each { (k : ℕ) → number_in k result ≡ value_in k self.now }
     {
         match self {
-            Values::Same(number) => Column::Same(*number),
-            Values::Lent(numbers) => Column::Each(numbers),
-            Values::Own(numbers) => Column::Each(numbers.as_slice()),
+            Values::Same(number) => BatchColumn::Same(*number),
+            Values::Lent(numbers) => BatchColumn::Each(numbers),
+            Values::Own(numbers) => BatchColumn::Each(numbers.as_slice()),
         }
     }
 
@@ -132,20 +132,20 @@ fn combined<'r, O: Operation>(
     }
     let mut numbers = one.into_list(alloc, count)?;
     match two.column() {
-        Column::Same(y) => apply_same::<O>(numbers.as_mut_slice(), &y),
-        Column::Each(others) => apply_each::<O>(numbers.as_mut_slice(), others),
+        BatchColumn::Same(y) => apply_same::<O>(numbers.as_mut_slice(), &y),
+        BatchColumn::Each(others) => apply_each::<O>(numbers.as_mut_slice(), others),
     }
     Ok(Values::Own(numbers))
 }
 
 /// The values of a column of the batch.
-fn lent<'r>(columns: &[Column<'r>], place: usize) -> Values<'r>
+fn lent<'r>(columns: &[BatchColumn<'r>], place: usize) -> Values<'r>
     ensures { (count : ℕ) → All (HasRows count) columns.now →
         AreValues (λ k. slice_index_or (row_at columns.now k) place (pos 0)) count result }
 {
     match columns.get(place) {
-        Some(Column::Same(number)) => Values::Same(*number),
-        Some(Column::Each(numbers)) => Values::Lent(numbers),
+        Some(BatchColumn::Same(number)) => Values::Same(*number),
+        Some(BatchColumn::Each(numbers)) => Values::Lent(numbers),
         None => Values::Same(0),
     }
 }
@@ -154,7 +154,7 @@ fn lent<'r>(columns: &[Column<'r>], place: usize) -> Values<'r>
 pub(crate) fn term_values<'r>(
     alloc: Global,
     term: &Term,
-    columns: &[Column<'r>],
+    columns: &[BatchColumn<'r>],
     count: usize,
 ) -> Result<Values<'r>, AllocError>
     requires some { 0 < count }

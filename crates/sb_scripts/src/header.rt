@@ -5,7 +5,7 @@ use crate::repeat::{cut, number};
 
 /// What the lines of a block are.
 #[derive(Clone, Copy, PartialEq, Eq)]
-pub enum Lines {
+pub enum BlockKind {
     /// Lines of a stream on a cell.
     Stream,
     /// Texts that are read as commands.
@@ -34,7 +34,7 @@ pub enum Each {
 
 #[derive(Clone, Copy)]
 pub struct Header {
-    pub lines: Lines,
+    pub lines: BlockKind,
     pub each: Each,
     pub tenants: u32,
     pub bound: u32,
@@ -54,7 +54,7 @@ impl Header {
     /// The settings of a header's line.
     pub fn read(line: &[u8]) -> Result<Header, ScriptFault> {
         let mut header = Header {
-            lines: Lines::Stream,
+            lines: BlockKind::Stream,
             each: Each::Once,
             tenants: 1,
             bound: 1000,
@@ -98,12 +98,12 @@ impl Header {
     }
 }
 
-fn read_lines(value: &[u8]) -> Result<Lines, ScriptFault> {
+fn read_lines(value: &[u8]) -> Result<BlockKind, ScriptFault> {
     match value {
-        b"syntax" => Ok(Lines::Syntax),
-        b"memory" => Ok(Lines::Memory),
-        b"tenant" => Ok(Lines::Tenant),
-        b"shared" => Ok(Lines::Shared),
+        b"syntax" => Ok(BlockKind::Syntax),
+        b"memory" => Ok(BlockKind::Memory),
+        b"tenant" => Ok(BlockKind::Tenant),
+        b"shared" => Ok(BlockKind::Shared),
         _ => Err(ScriptFault::BadHeader),
     }
 }

@@ -34,7 +34,7 @@ mod syntax;
 mod tenant;
 
 use fault::ScriptFault;
-use player::Player;
+use player::ScriptPlayer;
 use sb_wire::StreamError;
 use std::io::{self, Read as _, Write as _};
 use std::process::ExitCode;
@@ -59,7 +59,7 @@ fn run(rt: &HostRuntime) -> Result<(), ScriptFault> {
     if rt.reader().read_to_end(&mut input).is_err() {
         return Err(ScriptFault::Stream(StreamError::ReadFault));
     }
-    let mut player = Player::new(rt.alloc());
+    let mut player = ScriptPlayer::new(rt.alloc());
     player.play_all(input.as_slice())?;
     if io::writer(rt).write_all(player.answers()).is_err() {
         return Err(ScriptFault::Stream(StreamError::WriteFault));

@@ -1,8 +1,8 @@
 //! Plays blocks one after another.
 
-use crate::block::Block;
+use crate::block::ScriptBlock;
 use crate::fault::ScriptFault;
-use crate::header::{Header, Lines};
+use crate::header::{BlockKind, Header};
 use crate::memory::play_memory;
 use crate::repeat::{push_folded, push_lines};
 use crate::shared::play_shared;
@@ -13,16 +13,16 @@ use std::alloc::Global;
 
 /// The block that is being read, and the answers so far.
 #[derive(Drop)]
-pub struct Player {
+pub struct ScriptPlayer {
     alloc: Global,
     header: Option<Header>,
     commands: Vec<u8>,
     answers: Vec<u8>,
 }
 
-impl Player {
-    pub fn new(alloc: Global) -> Player {
-        Player {
+impl ScriptPlayer {
+    pub fn new(alloc: Global) -> ScriptPlayer {
+        ScriptPlayer {
             alloc,
             header: None,
             commands: Vec::new(alloc),
@@ -73,16 +73,16 @@ impl Player {
         };
         let mut text = Vec::new(self.alloc);
         let commands = self.commands.as_slice();
-        let block = Block {
+        let block = ScriptBlock {
             header,
             lines: commands,
         };
         match header.lines {
-            Lines::Stream => play_stream(self.alloc, block, &mut text)?,
-            Lines::Syntax => play_syntax(self.alloc, commands, &mut text)?,
-            Lines::Memory => play_memory(commands, &mut text)?,
-            Lines::Tenant => play_tenant(self.alloc, commands, &mut text)?,
-            Lines::Shared => play_shared(self.alloc, block, &mut text)?,
+            BlockKind::Stream => play_stream(self.alloc, block, &mut text)?,
+            BlockKind::Syntax => play_syntax(self.alloc, commands, &mut text)?,
+            BlockKind::Memory => play_memory(commands, &mut text)?,
+            BlockKind::Tenant => play_tenant(self.alloc, commands, &mut text)?,
+            BlockKind::Shared => play_shared(self.alloc, block, &mut text)?,
         }
         self.commands.clear();
         push_folded(text.as_slice(), &mut self.answers)

@@ -1,14 +1,14 @@
 //! A block as lines of several tenants on one cell, with what the log and the index that they share
 //! hold.
 
-use crate::block::Block;
+use crate::block::ScriptBlock;
 use crate::fault::ScriptFault;
 use crate::repeat::push_number;
 use crate::stream::{fresh_cell, push_end};
 use sb_cell::Cell;
 use sb_rawlog::ChangeLog as _;
 use sb_value::{
-    Kind, RULE_LIMIT, RuleId, RuleSet, SessionId, TENANT_LIMIT, TableId, TenantId, Who,
+    ChangeKind, RULE_LIMIT, RuleId, RuleSet, SessionId, TENANT_LIMIT, TableId, TenantId, Who,
 };
 use sb_wire::{Summary, run_stream};
 use std::alloc::{AllocError, Global};
@@ -16,8 +16,12 @@ use std::alloc::{AllocError, Global};
 /// Adds the replies to these lines, and behind each how many changes open transactions have. At the
 /// end come the rows that session 0 of each tenant has inserted into its first table since it began
 /// its transaction, each as its time and the rules that it may trigger.
-pub fn play_shared(alloc: Global, block: Block<'_>, out: &mut Vec<u8>) -> Result<(), ScriptFault> {
-    let Block { header, lines } = block;
+pub fn play_shared(
+    alloc: Global,
+    block: ScriptBlock<'_>,
+    out: &mut Vec<u8>,
+) -> Result<(), ScriptFault> {
+    let ScriptBlock { header, lines } = block;
     let mut cell = fresh_cell(alloc, header)?;
     let mut summary = Summary::new();
     for line in lines.split(|byte| *byte == b'\n') {
@@ -40,7 +44,10 @@ fn push_inserts(cell: &Cell, tenant: TenantId, out: &mut Vec<u8>) -> Result<(), 
         tenant,
         session: SessionId::new(0),
     };
-    for (time, change) in cell.log().by_op(who, TableId::new(0), Kind::Inserted, 0) {
+    for (time, change) in cell
+        .log()
+        .by_op(who, TableId::new(0), ChangeKind::Inserted, 0)
+    {
         push_number(u64::from(tenant.number()), out)?;
         push_line(" insert at ", time, out)?;
         push_rules(cell.index().candidates(change), out)?;

@@ -1,6 +1,6 @@
 //! A block as a stream on a fresh cell.
 
-use crate::block::Block;
+use crate::block::ScriptBlock;
 use crate::ends::{Failing, Narrow};
 use crate::fault::ScriptFault;
 use crate::header::{Each, Header};
@@ -19,7 +19,11 @@ const MOST_BOUND: u32 = 1000;
 const MOST_BUCKETS: u32 = 65_536;
 
 /// Plays these lines once, or for each failure that the header says.
-pub fn play_stream(alloc: Global, block: Block<'_>, out: &mut Vec<u8>) -> Result<(), ScriptFault> {
+pub fn play_stream(
+    alloc: Global,
+    block: ScriptBlock<'_>,
+    out: &mut Vec<u8>,
+) -> Result<(), ScriptFault> {
     let header = block.header;
     match header.each {
         Each::Once => play_once(alloc, block, out),
@@ -42,8 +46,8 @@ pub fn play_stream(alloc: Global, block: Block<'_>, out: &mut Vec<u8>) -> Result
 
 /// Plays these lines with the first read failing, with the second, and so on to the last. Plays in a
 /// row that are answered the same are one with their number.
-fn play_reads(alloc: Global, block: Block<'_>, out: &mut Vec<u8>) -> Result<(), ScriptFault> {
-    let Block { header, lines } = block;
+fn play_reads(alloc: Global, block: ScriptBlock<'_>, out: &mut Vec<u8>) -> Result<(), ScriptFault> {
+    let ScriptBlock { header, lines } = block;
     let mut last = Vec::new(alloc);
     let mut times: u32 = 0;
     let mut fails: u32 = 0;
@@ -63,7 +67,11 @@ fn play_reads(alloc: Global, block: Block<'_>, out: &mut Vec<u8>) -> Result<(), 
 
 /// Plays these lines, and again with each smaller room for the answer. A play that wrote just so much
 /// of the answer is counted, any other shown.
-fn play_writes(alloc: Global, block: Block<'_>, out: &mut Vec<u8>) -> Result<(), ScriptFault> {
+fn play_writes(
+    alloc: Global,
+    block: ScriptBlock<'_>,
+    out: &mut Vec<u8>,
+) -> Result<(), ScriptFault> {
     let mut whole = Vec::new(alloc);
     play_once(alloc, block, &mut whole)?;
     let mut times: u32 = 0;
@@ -79,7 +87,7 @@ fn play_writes(alloc: Global, block: Block<'_>, out: &mut Vec<u8>) -> Result<(),
 /// added.
 fn ends_behind(
     alloc: Global,
-    block: Block<'_>,
+    block: ScriptBlock<'_>,
     begun: &[u8],
     out: &mut Vec<u8>,
 ) -> Result<bool, ScriptFault> {
@@ -99,8 +107,8 @@ fn ends_behind(
 }
 
 /// Adds the replies to these lines, and the fault that ends them, if one does.
-fn play_once(alloc: Global, block: Block<'_>, out: &mut Vec<u8>) -> Result<(), ScriptFault> {
-    let Block { header, lines } = block;
+fn play_once(alloc: Global, block: ScriptBlock<'_>, out: &mut Vec<u8>) -> Result<(), ScriptFault> {
+    let ScriptBlock { header, lines } = block;
     let mut cell = fresh_cell(alloc, header)?;
     let sent = lines.len().saturating_sub(header.cut as usize);
     let mut reader = Fallible {

@@ -1,7 +1,7 @@
 -- Promise: the places of a board, and what it shows of lines and sessions.
 use Rattle.std.specs.Prelude.{◌≤◌, ◌<◌, ◌-◌, ◌^◌, ℕ, List, length}
 use Rattle.std.specs.List.Sorted.{IsNonDecreasingBy}
-use Rattle.sb_connection.specs.declared.greeting.Named.{Named}
+use Rattle.sb_connection.specs.declared.greeting.SessionName.{SessionName}
 use Rattle.sb_server.specs.declared.board.Board.{Board}
 use Rattle.sb_server.specs.declared.slow_line.SlowLine.{SlowLine}
 
@@ -22,5 +22,5 @@ abbrev pub AreSlowestFirst : List SlowLine → Type 0
 AreSlowestFirst lines = IsNonDecreasingBy quickness lines
 
 -- one of the sessions of a server whose first tenant has this number
-abbrev pub IsSessionFrom : ℕ → Named → Type 0
+abbrev pub IsSessionFrom : ℕ → SessionName → Type 0
 IsSessionFrom first named = (named.session < 8) × (first ≤ named.tenant)

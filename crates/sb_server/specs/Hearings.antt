@@ -2,18 +2,18 @@
 use Rattle.std.specs.Prelude.{◌≡◌, ⊤, ℕ, Bool, true, List, []}
 use Rattle.sb_connection.specs.Conversation.{Hosted}
 use Rattle.sb_connection.specs.Routing.{Routes}
-use Rattle.sb_connection.specs.declared.routing.Route.{Route}
-use Rattle.sb_connection.specs.declared.routing.Route.TheVariants.{Unknown, To, Away}
+use Rattle.sb_connection.specs.declared.routing.Destination.{Destination}
+use Rattle.sb_connection.specs.declared.routing.Destination.TheVariants.{Unknown, To, Away}
 use Rattle.sb_server.specs.declared.newcomer.Heard.{Heard}
 use Rattle.sb_server.specs.declared.newcomer.Heard.TheVariants as heard
 
 -- it goes where its bytes say, whether or not more come
-abbrev pub Goes : Hosted → List ℕ → Route → Type 0
+abbrev pub Goes : Hosted → List ℕ → Destination → Type 0
 Goes hosted bytes Unknown = ⊤
 Goes hosted bytes route = (ended : Bool) × Routes hosted bytes ended route
 
 abbrev pub HeardBy : Hosted → List ℕ → Bool → Heard → Type 0
-HeardBy hosted bytes is_cut (heard.Route route) = Goes hosted bytes route
+HeardBy hosted bytes is_cut (heard.Destination route) = Goes hosted bytes route
 HeardBy hosted bytes is_cut heard.Left = bytes ≡ []
 HeardBy hosted bytes is_cut (heard.Fault reason) = ⊤
 HeardBy hosted bytes is_cut heard.NoMemory = is_cut ≡ true

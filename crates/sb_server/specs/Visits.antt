@@ -3,8 +3,8 @@ use Rattle.std.specs.Prelude.{◌≡◌, ◌⊎◌, ◌++◌, ◌∷◌, ℕ, Bo
 use Rattle.std.specs.IoError.{error_kind}
 use Rattle.std.specs.declared.io.Error.{Error}
 use Rattle.sb_wire.specs.declared.fault.StreamError.TheVariants.{ReadFault, WriteFault, NoMemory}
-use Rattle.sb_connection.specs.declared.ending.Ending.{Ending}
-use Rattle.sb_connection.specs.declared.ending.Ending.TheVariants.{Well, Fault, Idle, IdleTransaction, ByOperator}
+use Rattle.sb_connection.specs.declared.ending.ConnectionEnd.{ConnectionEnd}
+use Rattle.sb_connection.specs.declared.ending.ConnectionEnd.TheVariants.{Well, Fault, Idle, IdleTransaction, ByOperator}
 use Rattle.sb_connection.specs.declared.state.State.TheVariants.{Failed}
 use Rattle.sb_connection.specs.History.{History, MayReceive}
 use Rattle.sb_connection.specs.Standing.{is_open}
@@ -14,7 +14,7 @@ use Rattle.sb_server.specs.declared.visit.Next.TheVariants.{Waits, GoesOn, Ends}
 
 -- How a turn ends a connection. Well: no line is answered any more, and all is sent. By a fault: a read failed, a write failed, or memory ran
 -- out for what came or for a reply. And by an operator, at any time.
-abbrev pub EndsBy : Traffic → History → Bool → Ending → Type 0
+abbrev pub EndsBy : Traffic → History → Bool → ConnectionEnd → Type 0
 EndsBy t h is_cut Well = (is_open h.state ≡ false) × (h.pending ≡ []) × (h.state ≡ Failed → ⊥)
 EndsBy t h is_cut (Fault ReadFault reason) = reading_failed t ≡ true
 EndsBy t h is_cut (Fault WriteFault reason) = writing_failed t ≡ true
@@ -35,7 +35,7 @@ TellsEnd t h is_cut GoesOn = IsUnderWay h × (h.pending ≡ [])
 TellsEnd t h is_cut (Ends ending) = EndsBy t h is_cut ending
 
 -- so ends one that has been silent for too long
-abbrev pub IsSilence : Ending → Type 0
+abbrev pub IsSilence : ConnectionEnd → Type 0
 IsSilence Idle = ⊤
 IsSilence IdleTransaction = ⊤
 IsSilence ending = ⊥

@@ -5,10 +5,10 @@ ghost use Rattle.sb_server.specs.Boards.{AreSlowestFirst, IsSessionFrom, desk_co
 
 use crate::counts::{Count, Tally};
 use crate::last_lines::LastLines;
-use crate::seat::WAKER;
 use crate::slow_line::SlowLine;
+use crate::station::WAKER;
 use mio::{Poll, Waker};
-use sb_connection::Named;
+use sb_connection::SessionName;
 use std::alloc::{AllocError, Global};
 use std::sync::atomic::{AtomicU64, Ordering};
 use std::sync::{Mutex, Wait};
@@ -23,18 +23,18 @@ const MOST_ORDERS: usize = 64;
 
 /// What a worker is told.
 #[derive(Drop)]
-struct Desk {
+struct Orders {
     /// What wakes it, once it works.
     waker: Option<Waker>,
     /// Sessions that are to end.
-    ends: Vec<Named>,
+    ends: Vec<SessionName>,
 }
 
 /// What is known of a server, and what its workers are told. Each worker has a place, and the door the last one.
 #[derive(Drop)]
 pub struct Board {
     tallies: Vec<Tally>,
-    desks: Vec<Mutex<Desk>>,
+    desks: Vec<Mutex<Orders>>,
     /// The slowest lines so far.
     slowest: Mutex<Vec<SlowLine>>,
     /// A line that took no more than so many nanoseconds isn't one of them.
@@ -70,7 +70,7 @@ impl Board {
         let mut desks = Vec::new(alloc);
         for _worker in 0..workers {
             tallies.push(Tally::new(alloc)?)?;
-            desks.push(Mutex::new(Desk {
+            desks.push(Mutex::new(Orders {
                 waker: None,
                 ends: Vec::new(alloc),
             }))?;
@@ -127,7 +127,7 @@ impl Board {
     }
 
     /// Keeps a line if it is one of the slowest.
-    pub(crate) fn note_line<T: Wait>(&self, rt: &T, named: Named, line: &[u8], nanos: u64) {
+    pub(crate) fn note_line<T: Wait>(&self, rt: &T, named: SessionName, line: &[u8], nanos: u64) {
         if nanos <= self.floor.load(Ordering::SeqCst) {
             return;
         }
@@ -141,12 +141,12 @@ impl Board {
     }
 
     /// Notes that a session is answered at this time.
-    pub(crate) fn note_last(&self, named: Named, now: Instant) {
+    pub(crate) fn note_last(&self, named: SessionName, now: Instant) {
         self.last_lines.note(named, now);
     }
 
     /// How many seconds ago the last line of a session was answered, if it was and that is known.
-    pub fn age(&self, named: Named, now: Instant) -> Option<u64>
+    pub fn age(&self, named: SessionName, now: Instant) -> Option<u64>
         ensures { IfSome result (λ _. IsSessionFrom self.now.last_lines.first_tenant named) }
     {
         self.last_lines.age(named, now)
@@ -168,7 +168,7 @@ impl Board {
     }
 
     /// Has the worker that has this cell, of so many, end a session. Whether it is told.
-    pub fn end_session<T: Wait>(&self, rt: &T, cell: usize, named: Named) -> bool
+    pub fn end_session<T: Wait>(&self, rt: &T, cell: usize, named: SessionName) -> bool
         ensures { desk_count self.now ≡ 0 → IsFalse result }
     {
         let workers = self.desks.len();
@@ -196,7 +196,12 @@ impl Board {
     }
 
     /// The sessions that the worker at this place is told to end.
-    pub(crate) fn take_ends<T: Wait>(&self, rt: &T, alloc: Global, place: usize) -> Vec<Named> {
+    pub(crate) fn take_ends<T: Wait>(
+        &self,
+        rt: &T,
+        alloc: Global,
+        place: usize,
+    ) -> Vec<SessionName> {
         match self.desks.get(place) {
             Some(desk) => mem::replace(&mut desk.lock(rt).ends, Vec::new(alloc)),
             None => Vec::new(alloc),

@@ -3,7 +3,7 @@ ghost use Rattle.std.specs.Prelude.{◌≡◌, ◌⊎◌, ◌↔◌, ◌==◌, i
 ghost use Rattle.sb_server.specs.Doors.{StandsOpen, one_less};
 
 use libc::net as system;
-use sb_connection::{Event, Watch};
+use sb_connection::{ConnectionEvent, Watch};
 use std::io::ErrorKind;
 use std::net::{TcpListener, TcpStream};
 use std::os::fd::AsRawFd;
@@ -172,7 +172,7 @@ impl<'s> Door<'s> {
         let millis = match self.fault {
             Some(pause) => LONGEST_PAUSE.min(pause.millis.saturating_mul(2)),
             None => {
-                watch.see(Event::NotAccepted(why));
+                watch.see(ConnectionEvent::NotAccepted(why));
                 FIRST_PAUSE
             }
         };

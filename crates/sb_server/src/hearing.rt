@@ -2,7 +2,7 @@
 
 use crate::board::Board;
 use crate::counts::{Cause, Count};
-use sb_connection::{Answered, Event, Named, Said, Slow, Watch};
+use sb_connection::{Answered, ConnectionEvent, Said, SessionName, Slow, Watch};
 use sb_desk::AttachError;
 use sb_tenant::Reply;
 use sb_value::Refusal;
@@ -96,7 +96,7 @@ impl<'e, 'w, V: Watch, C: Clock> Hearing<'e, 'w, V, C> {
     }
 
     /// Notes that a session has just been answered.
-    fn note_last(&self, named: Named) {
+    fn note_last(&self, named: SessionName) {
         if let Some(now) = self.since.get() {
             self.ears.board.note_last(named, now);
         }
@@ -135,11 +135,11 @@ fn is_rollback(line: &[u8]) -> bool {
 }
 
 /// The number of the refusal that a first line is answered, if it is.
-fn refusal_of(event: &Event) -> Option<u8> {
+fn refusal_of(event: &ConnectionEvent) -> Option<u8> {
     match event {
-        Event::Unnamed(why) => Some(why.number()),
-        Event::Barred(_) => Some(WireRefusal::BadKey.number()),
-        Event::TurnedAway { why, .. } => Some(match why {
+        ConnectionEvent::Unnamed(why) => Some(why.number()),
+        ConnectionEvent::Barred(_) => Some(WireRefusal::BadKey.number()),
+        ConnectionEvent::TurnedAway { why, .. } => Some(match why {
             AttachError::NoTenant => WireRefusal::NoTenant.number(),
             AttachError::NoSession => WireRefusal::NoSession.number(),
             AttachError::AlreadyOpen => Refusal::AlreadyOpen.number(),
@@ -151,17 +151,17 @@ fn refusal_of(event: &Event) -> Option<u8> {
 }
 
 impl<'e, 'w, V: Watch, C: Clock> Watch for Hearing<'e, 'w, V, C> {
-    fn see(&self, event: Event) {
+    fn see(&self, event: ConnectionEvent) {
         if let Some(number) = refusal_of(&event) {
             self.add(Count::Refusal(number), 1);
         }
-        if let Event::Attached(named) = event {
+        if let ConnectionEvent::Attached(named) = event {
             self.note_last(named);
         }
         self.ears.watch.see_client(self.port, event);
     }
 
-    fn see_client(&self, port: u16, event: Event) {
+    fn see_client(&self, port: u16, event: ConnectionEvent) {
         self.ears.watch.see_client(port, event);
     }
 

@@ -2,7 +2,7 @@
 ghost use Rattle.std.specs.Prelude.{IfSome, IsSome};
 ghost use Rattle.sb_server.specs.Boards.{IsSessionFrom};
 
-use sb_connection::Named;
+use sb_connection::SessionName;
 use sb_value::SESSION_LIMIT;
 use std::alloc::{AllocError, Global};
 use std::sync::atomic::{AtomicU64, Ordering};
@@ -51,14 +51,14 @@ impl LastLines {
     }
 
     /// Notes that a session is answered at this time.
-    pub(crate) fn note(&self, named: Named, now: Instant) {
+    pub(crate) fn note(&self, named: SessionName, now: Instant) {
         if let (Some(second), Some(last)) = (self.second(now), self.last(named)) {
             last.store(second, Ordering::SeqCst);
         }
     }
 
     /// How many seconds ago the last line of a session was answered.
-    pub(crate) fn age(&self, named: Named, now: Instant) -> Option<u64>
+    pub(crate) fn age(&self, named: SessionName, now: Instant) -> Option<u64>
         ensures { IfSome result (λ _. IsSessionFrom self.now.first_tenant named) }
     {
         let second = self.second(now)?;
@@ -72,7 +72,7 @@ impl LastLines {
         Some(now.duration_since(self.began?).as_secs())
     }
 
-    fn last(&self, named: Named) -> Option<&AtomicU64>
+    fn last(&self, named: SessionName) -> Option<&AtomicU64>
         ensures { IsSome result → IsSessionFrom self.now.first_tenant named }
     {
         let session = named.session as usize;

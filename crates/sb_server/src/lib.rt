@@ -13,10 +13,10 @@ mod last_lines;
 mod mailbox;
 mod newcomer;
 mod porter;
-mod seat;
 mod server;
 mod slow_line;
 mod socket;
+mod station;
 mod sweeps;
 mod told;
 mod visit;
@@ -26,6 +26,8 @@ pub use beside::{Beside, NoBeside, Over};
 pub use board::Board;
 pub use counts::{Cause, Count, LIMITS};
 pub use keeper::{Keeper, Kept, Unkept};
-pub use sb_connection::{Admission, Answered, Caller, Event, Named, Open, Slow, Watch};
+pub use sb_connection::{
+    Admission, Answered, ConnectionEvent, Open, SessionCaller, SessionName, Slow, Watch,
+};
 pub use server::{Acceptor, ServeError, Terms, serve_all};
 pub use slow_line::SlowLine;

@@ -9,7 +9,7 @@ ghost use Rattle.sb_server.specs.Sockets.{traffic};
 
 use crate::socket::Socket;
 use mio::{Interest, Registry, Token};
-use sb_connection::{Route, Stream, route_of};
+use sb_connection::{Destination, Stream, route_of};
 use std::alloc::Global;
 use std::io::{self, ErrorKind};
 
@@ -34,7 +34,7 @@ pub(crate) struct Newcomer {
 /// What is known of a newcomer.
 #[derive(Clone, Copy)]
 pub(crate) enum Heard {
-    Route(Route),
+    Destination(Destination),
     /// It went without a byte.
     Left,
     Fault(ErrorKind),
@@ -77,7 +77,7 @@ impl Newcomer {
                 return heard;
             }
         }
-        Heard::Route(Route::Unknown)
+        Heard::Destination(Destination::Unknown)
     }
 
     /// Reads once. None where it is to be read again.
@@ -91,11 +91,11 @@ impl Newcomer {
             Ok(_) if self.is_cut => Some(Heard::NoMemory),
             Ok(0) if self.bytes.is_empty() => Some(Heard::Left),
             Ok(count) => match self.route(count == 0, by) {
-                Route::Unknown => None,
-                known => Some(Heard::Route(known)),
+                Destination::Unknown => None,
+                known => Some(Heard::Destination(known)),
             },
             Err(error) => match error.kind() {
-                ErrorKind::WouldBlock => Some(Heard::Route(Route::Unknown)),
+                ErrorKind::WouldBlock => Some(Heard::Destination(Destination::Unknown)),
                 ErrorKind::Interrupted => None,
                 why => Some(Heard::Fault(why)),
             },
@@ -103,7 +103,7 @@ impl Newcomer {
     }
 
     /// Where it goes by what has come of it, and whether no more comes.
-    fn route(&self, has_ended: bool, by: Reception) -> Route
+    fn route(&self, has_ended: bool, by: Reception) -> Destination
         ensures { Routes (hosting_by by.keyed by.first by.tenants) self.now.bytes.items has_ended result }
     {
         route_of(

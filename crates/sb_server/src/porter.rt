@@ -13,7 +13,7 @@ use crate::sweeps::{SWEEP, Sweeps};
 use crate::worker::Worker;
 use mio::event::Event as Ready;
 use mio::{Events, Token};
-use sb_connection::{Admission, Event, Route, Watch};
+use sb_connection::{Admission, ConnectionEvent, Destination, Watch};
 use sb_desk::{Hosting, Stub};
 use sb_wire::StreamError;
 use slab::Slab;
@@ -188,14 +188,14 @@ impl<'s, H: Hosting, V: Watch, A: Admission, K: Keeper, C: Clock> Porter<'s, H, 
         let newcomer = Newcomer::new(alloc, Socket::new(stream), port);
         match Box::new(alloc, newcomer) {
             Ok(newcomer) => {
-                self.tell(port, Event::Came);
+                self.tell(port, ConnectionEvent::Came);
                 self.hear(rt, newcomer);
             }
-            Err(_) => self.tell(port, Event::NoPlace),
+            Err(_) => self.tell(port, ConnectionEvent::NoPlace),
         }
     }
 
-    fn tell(&self, port: u16, event: Event) {
+    fn tell(&self, port: u16, event: ConnectionEvent) {
         self.lobby.serving.watch.see_client(port, event);
     }
 
@@ -205,18 +205,18 @@ impl<'s, H: Hosting, V: Watch, A: Admission, K: Keeper, C: Clock> Porter<'s, H, 
     {
         let port = newcomer.port;
         match self.lobby.hear(&mut newcomer) {
-            Heard::Route(Route::Unknown) => self.keep(newcomer),
-            Heard::Route(Route::To(tenant)) => self.hand_over(rt, tenant, newcomer),
-            Heard::Route(Route::Away) => {
+            Heard::Destination(Destination::Unknown) => self.keep(newcomer),
+            Heard::Destination(Destination::To(tenant)) => self.hand_over(rt, tenant, newcomer),
+            Heard::Destination(Destination::Away) => {
                 newcomer.unwatch(self.lobby.poll.registry());
                 self.lobby.admit(Box::into_inner(newcomer), None);
             }
-            Heard::Left => self.tell(port, Event::Left),
+            Heard::Left => self.tell(port, ConnectionEvent::Left),
             Heard::Fault(reason) => {
                 self.tell(port, read_failed(reason));
-                self.tell(port, Event::Left);
+                self.tell(port, ConnectionEvent::Left);
             }
-            Heard::NoMemory => self.tell(port, Event::NoPlace),
+            Heard::NoMemory => self.tell(port, ConnectionEvent::NoPlace),
         }
     }
 
@@ -225,13 +225,13 @@ impl<'s, H: Hosting, V: Watch, A: Admission, K: Keeper, C: Clock> Porter<'s, H, 
         ensures { self.new.lobby ≡ self.old.lobby }
     {
         if self.newcomers.reserve(1).is_err() {
-            self.tell(newcomer.port, Event::NoPlace);
+            self.tell(newcomer.port, ConnectionEvent::NoPlace);
             return;
         }
         let token = Token(NEWCOMERS.saturating_add(self.newcomers.vacant_key()));
         if !newcomer.is_watched {
             if let Err(error) = newcomer.watch(self.lobby.poll.registry(), token) {
-                self.tell(newcomer.port, Event::NotAccepted(error.kind()));
+                self.tell(newcomer.port, ConnectionEvent::NotAccepted(error.kind()));
                 return;
             }
         }
@@ -249,7 +249,7 @@ impl<'s, H: Hosting, V: Watch, A: Admission, K: Keeper, C: Clock> Porter<'s, H, 
             .serving
             .hand_over(rt, Letter { tenant, newcomer })
         {
-            self.tell(port, Event::NoPlace);
+            self.tell(port, ConnectionEvent::NoPlace);
         }
     }
 
@@ -280,7 +280,7 @@ impl<'s, H: Hosting, V: Watch, A: Admission, K: Keeper, C: Clock> Porter<'s, H, 
         self.hear(rt, newcomer);
         if self.is_late(key) {
             if let Some(newcomer) = self.newcomers.try_remove(key) {
-                self.tell(newcomer.port, Event::Late);
+                self.tell(newcomer.port, ConnectionEvent::Late);
             }
         }
     }
@@ -305,8 +305,8 @@ fn shorter(one: Option<Duration>, other: Option<Duration>) -> Option<Duration>
     }
 }
 
-fn read_failed(reason: ErrorKind) -> Event {
-    Event::Failed {
+fn read_failed(reason: ErrorKind) -> ConnectionEvent {
+    ConnectionEvent::Failed {
         named: None,
         why: StreamError::ReadFault,
         reason: Some(reason),

@@ -12,7 +12,7 @@ use crate::keeper::{Keeper, Kept};
 use crate::mailbox::{Letter, Mailbox};
 use crate::newcomer::Reception;
 use crate::porter::{FIRST_LINE, Porter};
-use crate::seat::Seat;
+use crate::station::Station;
 use crate::visit::Limits;
 use crate::worker::Worker;
 use mio::{Events, Waker};
@@ -232,7 +232,7 @@ enum Role {
 #[derive(Drop)]
 pub(crate) struct Post {
     role: Role,
-    seat: Seat,
+    seat: Station,
     events: Events,
 }
 
@@ -296,7 +296,7 @@ impl<'s, H: Hosting, V: Watch, A: Admission, K: Keeper, C: Clock> Serving<'s, H,
     }
 
     /// Takes connections at the door, and closes those that open no session.
-    fn keep_door<R: Wait>(&self, rt: &R, seat: Seat, events: &mut Events) -> Vec<Stub>
+    fn keep_door<R: Wait>(&self, rt: &R, seat: Station, events: &mut Events) -> Vec<Stub>
         ensures { LeaveClosed result }
     {
         let place = self.mailboxes.len();
@@ -312,7 +312,7 @@ impl<'s, H: Hosting, V: Watch, A: Admission, K: Keeper, C: Clock> Serving<'s, H,
         &self,
         rt: &R,
         place: usize,
-        seat: Seat,
+        seat: Station,
         events: &mut Events,
     ) -> Vec<Stub>
         ensures { LeaveClosed result }
@@ -365,7 +365,7 @@ where
     if acceptor.listener.set_nonblocking(true).is_err() {
         return Err(ServeError::NoPlace);
     }
-    let (seat, events, waker) = Seat::take(rt, alloc)?;
+    let (seat, events, waker) = Station::take(rt, alloc)?;
     let mut mailboxes = Vec::new(alloc);
     let mut posts = posts(rt, alloc, acceptor.board, terms.workers, &mut mailboxes)?;
     let door = Post {
@@ -424,7 +424,7 @@ fn posts<R: Net + Wait>(
 {
     let mut posts = Vec::new(alloc);
     for number in 0..workers {
-        let (seat, events, waker) = Seat::take(rt, alloc)?;
+        let (seat, events, waker) = Station::take(rt, alloc)?;
         if board.hang_bell(rt, number, &seat.poll).is_err() {
             return Err(ServeError::NoPlace);
         }
@@ -438,7 +438,7 @@ fn posts<R: Net + Wait>(
 }
 
 /// That of the worker at this place.
-fn worker_post(place: usize, seat: Seat, events: Events) -> Post {
+fn worker_post(place: usize, seat: Station, events: Events) -> Post {
     Post {
         role: Role::Worker(place),
         seat,

@@ -1,7 +1,7 @@
 //! A line that took long.
 ghost use Rattle.std.specs.Prelude.{◌≡◌, ◌≤◌, take};
 
-use sb_connection::Named;
+use sb_connection::SessionName;
 
 /// How many bytes are kept of one.
 const MOST_BYTES: usize = 200;
@@ -9,7 +9,7 @@ const MOST_BYTES: usize = 200;
 /// A line that took long.
 #[derive(Clone, Copy)]
 pub struct SlowLine {
-    pub named: Named,
+    pub named: SessionName,
     pub nanos: u64,
     text: [u8; MOST_BYTES],
     len: usize,
@@ -17,7 +17,7 @@ pub struct SlowLine {
 }
 
 impl SlowLine {
-    pub(crate) fn new(named: Named, line: &[u8], nanos: u64) -> SlowLine
+    pub(crate) fn new(named: SessionName, line: &[u8], nanos: u64) -> SlowLine
         ensures of { (result.named ≡ named) × (result.nanos ≡ nanos) }
         ensures text { take result.len result.text ≡ take 200 line.now }
     {

@@ -1,6 +1,6 @@
 //! What is told of one client.
 
-use sb_connection::{Answered, Event, Slow, Watch};
+use sb_connection::{Answered, ConnectionEvent, Slow, Watch};
 use std::sync::Wait;
 
 /// Who is told what happens to the connection of the client at this port.
@@ -11,11 +11,11 @@ pub(crate) struct Told<'w, V> {
 }
 
 impl<'w, V: Watch> Watch for Told<'w, V> {
-    fn see(&self, event: Event) {
+    fn see(&self, event: ConnectionEvent) {
         self.watch.see_client(self.port, event);
     }
 
-    fn see_client(&self, port: u16, event: Event) {
+    fn see_client(&self, port: u16, event: ConnectionEvent) {
         self.watch.see_client(port, event);
     }
 

@@ -12,7 +12,7 @@ use crate::newcomer::{Newcomer, Reception};
 use crate::socket::Socket;
 use crate::told::Told;
 use mio::{Interest, Registry, Token};
-use sb_connection::{Admission, Connection, Ending, Named, Stream, Watch};
+use sb_connection::{Admission, Connection, ConnectionEnd, SessionName, Stream, Watch};
 use sb_desk::{Hosting, Stub};
 use sb_wire::StreamError;
 use std::alloc::Global;
@@ -54,7 +54,7 @@ pub(crate) enum Next {
     Waits,
     /// There is more to do at once.
     GoesOn,
-    Ends(Ending),
+    Ends(ConnectionEnd),
 }
 
 /// What a read found.
@@ -79,7 +79,7 @@ impl<H: Hosting, S: Stream + Drop> Visit<H, S> {
         ears: &Ears<'_, V, C>,
         admission: &A,
         buffer: &mut Vec<u8>,
-    ) -> Option<Ending>
+    ) -> Option<ConnectionEnd>
         ensures fault { IfSome result (EndsBy (S.traffic self.new.stream) self.new.connection self.new.is_cut) }
         ensures stays { self.old.connection.attached ≡ true → self.new.connection.attached ≡ true }
     {
@@ -160,10 +160,10 @@ impl<H: Hosting, S: Stream + Drop> Visit<H, S> {
             return Next::Ends(out_of_memory());
         }
         if self.connection.is_done() {
-            return Next::Ends(Ending::Well);
+            return Next::Ends(ConnectionEnd::Well);
         }
         if self.is_ended {
-            return Next::Ends(Ending::ByOperator);
+            return Next::Ends(ConnectionEnd::ByOperator);
         }
         if self.connection.wants_write() {
             return Next::Waits;
@@ -177,7 +177,7 @@ impl<H: Hosting, S: Stream + Drop> Visit<H, S> {
     }
 
     /// Reads once, if the connection wants it. It gives the fault, if there is one.
-    fn hear(&mut self, buffer: &mut Vec<u8>) -> Option<Ending>
+    fn hear(&mut self, buffer: &mut Vec<u8>) -> Option<ConnectionEnd>
         ensures fault { IfSome result (EndsBy (S.traffic self.new.stream) self.new.connection self.new.is_cut) }
         ensures reads { MayReceive self.old.connection → self.old.connection.pending ≡ [] → self.old.is_cut ≡ false
             → ReadsOnce (S.traffic self.old.stream) (S.traffic self.new.stream) }
@@ -225,7 +225,7 @@ impl<H: Hosting, S: Stream + Drop> Visit<H, S> {
     }
 
     /// Sends what waits, as far as the client takes it. It gives the fault, if there is one.
-    fn send(&mut self) -> Option<Ending>
+    fn send(&mut self) -> Option<ConnectionEnd>
         ensures sends { SendsSome self.old.connection self.new.connection }
         ensures all { IfNone result ((self.new.connection.pending ≡ []) ⊎ IsBlocked (S.traffic self.new.stream)) }
         ensures fault { IfSome result (EndsBy (S.traffic self.new.stream) self.new.connection self.new.is_cut) }
@@ -269,7 +269,7 @@ impl<H: Hosting, S: Stream + Drop> Visit<H, S> {
     }
 
     /// How a connection ends that has been silent for too long, if it has.
-    pub(crate) fn silence(&self, now: Instant, limits: &Limits) -> Option<Ending>
+    pub(crate) fn silence(&self, now: Instant, limits: &Limits) -> Option<ConnectionEnd>
         ensures ending { IfSome result IsSilence }
         ensures due { self.now.is_due ≡ true → result ≡ None }
         ensures limits { limits.now.idle ≡ None → limits.now.idle_transaction ≡ None → result ≡ None }
@@ -279,16 +279,16 @@ impl<H: Hosting, S: Stream + Drop> Visit<H, S> {
         }
         let silent = now.duration_since(self.heard?);
         if is_over(silent, limits.idle_transaction) && self.connection.transacts() {
-            return Some(Ending::IdleTransaction);
+            return Some(ConnectionEnd::IdleTransaction);
         }
         if is_over(silent, limits.idle) {
-            return Some(Ending::Idle);
+            return Some(ConnectionEnd::Idle);
         }
         None
     }
 
     /// Whether it has this session.
-    pub(crate) fn has_session(&self, named: Named) -> bool
+    pub(crate) fn has_session(&self, named: SessionName) -> bool
         ensures { IsTrue result → self.now.connection.attached ≡ true }
     {
         match self.connection.session() {
@@ -305,7 +305,12 @@ impl<H: Hosting, S: Stream + Drop> Visit<H, S> {
     }
 
     /// Closes the connection with its session, whose receipts are left.
-    pub(crate) fn leave<T: Wait, V: Watch>(self, rt: &T, watch: &V, ending: Ending) -> Option<Stub>
+    pub(crate) fn leave<T: Wait, V: Watch>(
+        self,
+        rt: &T,
+        watch: &V,
+        ending: ConnectionEnd,
+    ) -> Option<Stub>
         ensures leaves { Leaves (S.traffic self.stream) self.connection self.is_cut result }
         ensures session { self.connection.attached ≡ is_some result }
     {
@@ -389,19 +394,19 @@ fn is_over(silent: Duration, limit: Option<Duration>) -> bool
     }
 }
 
-fn out_of_memory() -> Ending
-    ensures { result ≡ Ending.Fault StreamError.NoMemory None }
+fn out_of_memory() -> ConnectionEnd
+    ensures { result ≡ ConnectionEnd.Fault StreamError.NoMemory None }
 {
-    Ending::Fault {
+    ConnectionEnd::Fault {
         why: StreamError::NoMemory,
         reason: None,
     }
 }
 
-fn fault(why: StreamError, reason: ErrorKind) -> Ending
-    ensures { result ≡ Ending.Fault why (Some reason) }
+fn fault(why: StreamError, reason: ErrorKind) -> ConnectionEnd
+    ensures { result ≡ ConnectionEnd.Fault why (Some reason) }
 {
-    Ending::Fault {
+    ConnectionEnd::Fault {
         why,
         reason: Some(reason),
     }

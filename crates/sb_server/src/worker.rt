@@ -13,15 +13,15 @@ use crate::input::{has_ended, watch_input};
 use crate::keeper::Keeper;
 use crate::mailbox::Letter;
 use crate::newcomer::{Heard, Newcomer};
-use crate::seat::{Seat, WAKER};
 use crate::server::Serving;
 use crate::socket::Socket;
+use crate::station::{Station, WAKER};
 use crate::sweeps::{SWEEP, Sweeps};
 use crate::visit::{Limits, Next, Visit};
 use mio::event::Event as Ready;
 use mio::unix::SourceFd;
 use mio::{Events, Interest, Poll, Token};
-use sb_connection::{Admission, Ending, Event, Named, Watch};
+use sb_connection::{Admission, ConnectionEnd, ConnectionEvent, SessionName, Watch};
 use sb_desk::{Hosting, Stub};
 use slab::Slab;
 use std::alloc::AllocError;
@@ -40,7 +40,7 @@ const PAUSE: u64 = 100;
 
 /// A part of a turn.
 #[derive(Clone, Copy)]
-enum Part {
+enum TurnPart {
     /// What came is answered. Where nothing is kept, it is the whole turn.
     First,
     /// Replies are sent.
@@ -80,11 +80,11 @@ impl<'s, H: Hosting, V: Watch, A: Admission, K: Keeper, C: Clock> Worker<'s, H, 
         serving: &'s Serving<'s, H, V, A, K, C>,
         place: usize,
         limits: Limits,
-        seat: Seat,
+        seat: Station,
     ) -> Self
         ensures { result.stubs.items ≡ [] }
     {
-        let Seat { poll, buffer } = seat;
+        let Station { poll, buffer } = seat;
         Worker {
             serving,
             place,
@@ -332,7 +332,7 @@ impl<'s, H: Hosting, V: Watch, A: Admission, K: Keeper, C: Clock> Worker<'s, H, 
             if self.serving.place_of(letter.tenant) == place {
                 self.settle_in(place, letter);
             } else {
-                self.refuse(letter.newcomer.port, Event::NoPlace);
+                self.refuse(letter.newcomer.port, ConnectionEvent::NoPlace);
             }
         }
         self.obey(rt, place);
@@ -349,7 +349,7 @@ impl<'s, H: Hosting, V: Watch, A: Admission, K: Keeper, C: Clock> Worker<'s, H, 
     }
 
     /// Has a session end in its next turn, if one of its connections has it.
-    fn end_session(&mut self, named: Named)
+    fn end_session(&mut self, named: SessionName)
         ensures stubs { self.new.stubs.items ≡ self.old.stubs.items }
         ensures sessions { session_count self.old.visits (λ v. v.value.connection.attached) ≤ session_count self.new.visits (λ v. v.value.connection.attached) }
     {
@@ -359,7 +359,7 @@ impl<'s, H: Hosting, V: Watch, A: Admission, K: Keeper, C: Clock> Worker<'s, H, 
     }
 
     /// Has a connection end in its next turn, if it has this session.
-    fn end_if(&mut self, key: usize, named: Named)
+    fn end_if(&mut self, key: usize, named: SessionName)
         ensures stubs { self.new.stubs ≡ self.old.stubs }
         ensures sessions { session_count self.old.visits (λ v. v.value.connection.attached) ≤ session_count self.new.visits (λ v. v.value.connection.attached) }
     {
@@ -385,7 +385,7 @@ impl<'s, H: Hosting, V: Watch, A: Admission, K: Keeper, C: Clock> Worker<'s, H, 
     }
 
     /// Tells a client that isn't served.
-    fn refuse(&self, port: u16, why: Event) {
+    fn refuse(&self, port: u16, why: ConnectionEvent) {
         self.serving.watch.see_client(port, why);
     }
 
@@ -396,12 +396,12 @@ impl<'s, H: Hosting, V: Watch, A: Admission, K: Keeper, C: Clock> Worker<'s, H, 
     {
         let port = newcomer.port;
         if self.stubs.reserve(self.visits.len() + 1).is_err() || self.make_place().is_err() {
-            self.refuse(port, Event::NoPlace);
+            self.refuse(port, ConnectionEvent::NoPlace);
             return;
         }
         // one is noted at most once among those that are due, and once among all
         if self.answered.reserve(2 * (self.visits.len() + 1)).is_err() {
-            self.refuse(port, Event::NoPlace);
+            self.refuse(port, ConnectionEvent::NoPlace);
             return;
         }
         let serving = self.serving;
@@ -416,7 +416,7 @@ impl<'s, H: Hosting, V: Watch, A: Admission, K: Keeper, C: Clock> Worker<'s, H, 
         );
         match Box::new(serving.alloc, visit) {
             Ok(visit) => self.begin(visit),
-            Err(_) => self.refuse(port, Event::NoPlace),
+            Err(_) => self.refuse(port, ConnectionEvent::NoPlace),
         }
     }
 
@@ -443,7 +443,7 @@ impl<'s, H: Hosting, V: Watch, A: Admission, K: Keeper, C: Clock> Worker<'s, H, 
                 self.serving.board.add(self.place, Count::Connections, 1);
                 self.put_due(visit);
             }
-            Err(error) => self.refuse(visit.port, Event::NotAccepted(error.kind())),
+            Err(error) => self.refuse(visit.port, ConnectionEvent::NotAccepted(error.kind())),
         }
     }
 
@@ -476,7 +476,7 @@ impl<'s, H: Hosting, V: Watch, A: Admission, K: Keeper, C: Clock> Worker<'s, H, 
         ensures gains { GainsClosed self.old.stubs.items self.new.stubs.items }
         ensures sessions { KeepsSessions self.old.visits self.new.visits (λ v. v.value.connection.attached) self.old.stubs.items self.new.stubs.items }
     {
-        self.do_part(rt, Part::First, keys, all);
+        self.do_part(rt, TurnPart::First, keys, all);
         self.finish(rt, keys, all);
     }
 
@@ -489,14 +489,14 @@ impl<'s, H: Hosting, V: Watch, A: Admission, K: Keeper, C: Clock> Worker<'s, H, 
             return;
         }
         if self.keep(rt) {
-            self.do_part(rt, Part::Last, keys, all);
+            self.do_part(rt, TurnPart::Last, keys, all);
         } else {
             self.all_due = true;
         }
     }
 
     /// A part of the turn of these connections, or of all.
-    fn do_part<T: Wait>(&mut self, rt: &T, part: Part, keys: &[usize], all: bool)
+    fn do_part<T: Wait>(&mut self, rt: &T, part: TurnPart, keys: &[usize], all: bool)
         ensures gains { GainsClosed self.old.stubs.items self.new.stubs.items }
         ensures sessions { KeepsSessions self.old.visits self.new.visits (λ v. v.value.connection.attached) self.old.stubs.items self.new.stubs.items }
     {
@@ -508,7 +508,7 @@ impl<'s, H: Hosting, V: Watch, A: Admission, K: Keeper, C: Clock> Worker<'s, H, 
         }
     }
 
-    fn do_part_of_all<T: Wait>(&mut self, rt: &T, part: Part)
+    fn do_part_of_all<T: Wait>(&mut self, rt: &T, part: TurnPart)
         ensures gains { GainsClosed self.old.stubs.items self.new.stubs.items }
         ensures sessions { KeepsSessions self.old.visits self.new.visits (λ v. v.value.connection.attached) self.old.stubs.items self.new.stubs.items }
     {
@@ -517,13 +517,13 @@ impl<'s, H: Hosting, V: Watch, A: Admission, K: Keeper, C: Clock> Worker<'s, H, 
         }
     }
 
-    fn do_part_of<T: Wait>(&mut self, rt: &T, part: Part, key: usize)
+    fn do_part_of<T: Wait>(&mut self, rt: &T, part: TurnPart, key: usize)
         ensures gains { GainsClosed self.old.stubs.items self.new.stubs.items }
         ensures sessions { KeepsSessions self.old.visits self.new.visits (λ v. v.value.connection.attached) self.old.stubs.items self.new.stubs.items }
     {
         match part {
-            Part::First => self.begin_turn(rt, key),
-            Part::Last => self.give_out(rt, key),
+            TurnPart::First => self.begin_turn(rt, key),
+            TurnPart::Last => self.give_out(rt, key),
         }
     }
 
@@ -649,7 +649,7 @@ impl<'s, H: Hosting, V: Watch, A: Admission, K: Keeper, C: Clock> Worker<'s, H, 
     }
 
     /// How a connection ends that has been silent for too long, if it has.
-    fn silence(&self, key: usize, now: Instant) -> Option<Ending> {
+    fn silence(&self, key: usize, now: Instant) -> Option<ConnectionEnd> {
         match self.visits.get(key) {
             Some(visit) => visit.silence(now, &self.limits),
             None => None,
@@ -663,12 +663,12 @@ impl<'s, H: Hosting, V: Watch, A: Admission, K: Keeper, C: Clock> Worker<'s, H, 
         ensures sessions { KeepsSessions self.old.visits self.new.visits (λ v. v.value.connection.attached) self.old.stubs.items self.new.stubs.items }
     {
         for key in 0..self.visits.capacity() {
-            self.end(rt, key, Ending::Well);
+            self.end(rt, key, ConnectionEnd::Well);
         }
     }
 
     /// Closes a connection, if there is one.
-    fn end<T: Wait>(&mut self, rt: &T, key: usize, ending: Ending)
+    fn end<T: Wait>(&mut self, rt: &T, key: usize, ending: ConnectionEnd)
         ensures ends { Updates self.old.visits self.new.visits key None }
         ensures gains { GainsClosed self.old.stubs.items self.new.stubs.items }
         ensures sessions { KeepsSessions self.old.visits self.new.visits (λ v. v.value.connection.attached) self.old.stubs.items self.new.stubs.items }
@@ -688,7 +688,7 @@ impl<'s, H: Hosting, V: Watch, A: Admission, K: Keeper, C: Clock> Worker<'s, H, 
     }
 
     /// Closes a connection, and keeps the receipts of its session.
-    fn settle<T: Wait>(&mut self, rt: &T, visit: Visit<H, Socket>, ending: Ending)
+    fn settle<T: Wait>(&mut self, rt: &T, visit: Visit<H, Socket>, ending: ConnectionEnd)
         requires { vec_len self.old.stubs + (slab_len self.old.visits + 1) ≤ vec_capacity self.old.stubs }
         ensures left { (stub : Option ItsStub) × Leaves (traffic visit.stream) visit.connection visit.is_cut stub
             × (self.new.stubs.items ≡ self.old.stubs.items ++ option_to_list stub) }

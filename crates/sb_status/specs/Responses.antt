@@ -1,7 +1,7 @@
 -- Promise: the head of an answer.
 use Rattle.std.specs.Prelude.{ℕ, List, ◌++◌, codes, decimal}
-use Rattle.sb_status.specs.declared.response.Kind.{Kind}
-use Rattle.sb_status.specs.declared.response.Kind.TheVariants.{Page, Samples, Text}
+use Rattle.sb_status.specs.declared.response.ContentType.{ContentType}
+use Rattle.sb_status.specs.declared.response.ContentType.TheVariants.{Page, Samples, Text}
 use Rattle.sb_status.specs.declared.response.Status.{Status}
 use Rattle.sb_status.specs.declared.response.Status.TheVariants.{Found, Accepted, Malformed, Closed, Foreign, NotFound, NotAllowed, NotPosted, Busy, TooLong, Failed}
 use Rattle.sb_status.specs.declared.response.TheConstants.{ALWAYS}
@@ -19,15 +19,15 @@ status_text Busy = codes "409 Conflict"
 status_text TooLong = codes "431 Request Header Fields Too Large"
 status_text Failed = codes "500 Internal Server Error"
 
-abbrev pub kind_text : Kind → List ℕ
+abbrev pub kind_text : ContentType → List ℕ
 kind_text Page = codes "text/html; charset=utf-8"
 kind_text Samples = codes "text/plain; version=0.0.4; charset=utf-8"
 kind_text Text = codes "text/plain; charset=utf-8"
 
 -- the first line, and the header that says what the body is
-abbrev pub begin_text : Status → Kind → List ℕ
+abbrev pub begin_text : Status → ContentType → List ℕ
 begin_text s k = codes "HTTP/1.1 " ++ status_text s ++ codes "\r\nContent-Type: " ++ kind_text k
 
 -- all lines before a body of that length
-abbrev pub head_text : Status → Kind → ℕ → List ℕ
+abbrev pub head_text : Status → ContentType → ℕ → List ℕ
 head_text s k length = begin_text s k ++ codes "\r\nContent-Length: " ++ decimal length ++ ALWAYS.now

@@ -1,8 +1,8 @@
 //! What a server has counted, on its page.
 
+use crate::fragment::Fragment;
 use crate::mark::Mark;
 use crate::page::Page;
-use crate::piece::Piece;
 use crate::view::{Activity, Refused, Rollbacks, SlowView, WorkerNumbers};
 use std::alloc::AllocError;
 
@@ -96,7 +96,7 @@ fn write_worker(
 pub(crate) fn write_rollbacks(page: &mut Page<'_>, rollbacks: Rollbacks) -> Result<(), AllocError> {
     page.mark(Mark::CausesHead)?;
     for (cause, count) in causes(rollbacks).as_slice() {
-        page.pair(ROW, Piece::Text(cause.as_bytes()), *count)?;
+        page.pair(ROW, Fragment::Text(cause.as_bytes()), *count)?;
     }
     page.mark(Mark::TableEnd)
 }
@@ -129,7 +129,7 @@ pub(crate) fn write_refused(
     refusals: &[Refused],
 ) -> Result<(), AllocError> {
     for refused in refusals {
-        page.pair(marks, Piece::Number(refused.number), refused.count)?;
+        page.pair(marks, Fragment::Number(refused.number), refused.count)?;
     }
     Ok(())
 }

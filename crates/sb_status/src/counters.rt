@@ -1,10 +1,10 @@
 //! What a server has counted, as samples of Prometheus.
 
 use crate::activity::{causes, write_refused, write_seconds};
+use crate::fragment::Fragment;
 use crate::mark::Mark;
 use crate::page::Page;
-use crate::piece::Piece;
-use crate::view::{Activity, Refused, Rollbacks, Times, WorkerNumbers};
+use crate::view::{Activity, Histogram, Refused, Rollbacks, WorkerNumbers};
 use std::alloc::AllocError;
 
 /// The numbers that each worker has: the head of their family, and their samples.
@@ -40,7 +40,7 @@ pub(crate) fn write_activity(
 fn write_rollbacks(page: &mut Page<'_>, rollbacks: Rollbacks) -> Result<(), AllocError> {
     page.mark(Mark::RollbacksFamily)?;
     for (cause, count) in causes(rollbacks).as_slice() {
-        page.pair(CAUSE, Piece::Text(cause.as_bytes()), *count)?;
+        page.pair(CAUSE, Fragment::Text(cause.as_bytes()), *count)?;
     }
     Ok(())
 }
@@ -54,7 +54,7 @@ fn write_refusals(page: &mut Page<'_>, refusals: &[Refused]) -> Result<(), Alloc
 }
 
 /// Writes how many lines took no longer than each limit.
-fn write_times(page: &mut Page<'_>, times: Times<'_>) -> Result<(), AllocError> {
+fn write_times(page: &mut Page<'_>, times: Histogram<'_>) -> Result<(), AllocError> {
     page.mark(Mark::TimesFamily)?;
     let mut count: u64 = 0;
     for bucket in times.buckets {

@@ -42,24 +42,24 @@ impl Reading for Counting {
 
 /// Looks whether a session of a tenant is open.
 #[derive(Drop)]
-pub struct Opening {
+pub struct SessionReading {
     session: SessionId,
     pub is_open: bool,
 }
 
-impl Opening {
+impl SessionReading {
     /// For this session.
-    pub fn new(session: SessionId) -> Opening
+    pub fn new(session: SessionId) -> SessionReading
         ensures { (result.session ≡ session) × (result.is_open ≡ false) }
     {
-        Opening {
+        SessionReading {
             session,
             is_open: false,
         }
     }
 }
 
-impl Reading for Opening {
+impl Reading for SessionReading {
     ghost use Rattle.sb_tenant.specs.State.{is_open, session_at};
 
     ghost reads = { λ old own new. new.is_open ≡ is_open (session_at (state own) old.session) };

@@ -7,7 +7,7 @@ use std::alloc::{AllocError, Global};
 
 /// The layer of a node, its row there, and whether a path leads from it to itself.
 #[derive(Clone, Copy)]
-pub(crate) struct Place {
+pub(crate) struct NodePlace {
     pub(crate) layer: u64,
     pub(crate) row: u64,
     pub(crate) is_on_cycle: bool,
@@ -16,7 +16,7 @@ pub(crate) struct Place {
 /// The places of all nodes, and the nodes that each can reach.
 #[derive(Drop)]
 pub(crate) struct Layout {
-    pub(crate) places: Vec<Place>,
+    pub(crate) places: Vec<NodePlace>,
     pub(crate) reach: Vec<Nodes>,
 }
 
@@ -83,11 +83,11 @@ fn put_behind(layers: &mut Vec<u64>, node: usize, ahead: &Nodes) {
 }
 
 /// The place of each node, in the next row of its layer.
-fn places_of(alloc: Global, layers: &[u64], reach: &[Nodes]) -> Result<Vec<Place>, AllocError> {
+fn places_of(alloc: Global, layers: &[u64], reach: &[Nodes]) -> Result<Vec<NodePlace>, AllocError> {
     let mut heights = vec![in alloc; 0u64; layers.len()]?;
     let mut places = Vec::new(alloc);
     for (node, layer) in layers.iter().enumerate() {
-        places.push(Place {
+        places.push(NodePlace {
             layer: *layer,
             row: next_row(&mut heights, *layer),
             is_on_cycle: Graph::has(reach, node, node),

@@ -6,6 +6,7 @@ mod activity;
 mod counters;
 mod counting;
 mod credentials;
+mod fragment;
 mod graph;
 mod graphing;
 mod host;
@@ -13,43 +14,42 @@ mod laws;
 mod layers;
 mod mark;
 mod marks;
+mod node_box;
 mod nodes;
 mod page;
 mod patience;
 mod picture;
-mod piece;
 mod request;
 mod response;
 mod route;
 mod rule_rows;
 mod samples;
 mod shelf;
-mod spot;
 mod tenant;
 mod text;
 mod tracing;
 mod view;
 mod viewing;
 
-pub use counting::{Counting, Opening};
+pub use counting::{Counting, SessionReading};
 pub use credentials::Credentials;
+pub use fragment::Fragment;
 pub use graph::Graph;
 pub use host::host_page;
 pub use laws::texts_are_no_markup;
 pub use mark::Mark;
 pub use nodes::Nodes;
 pub use patience::Patience;
-pub use piece::Piece;
 pub use request::{HEAD_LIMIT, Incoming, Request, read_request};
-pub use response::{Kind, NO_MEMORY, Status, respond};
+pub use response::{ContentType, NO_MEMORY, Status, respond};
 pub use route::{Ended, Route, number, route_of};
 pub use samples::metrics;
 pub use shelf::Shelf;
 pub use tenant::tenant_page;
 pub use text::Escaping;
 pub use view::{
-    Activity, Bucket, ColumnView, HostNumbers, HostView, Refused, Rollbacks, RuleView, RulesetView,
-    SessionState, SessionView, SlowView, TableView, TenantNumbers, TenantView, Times, TriggersView,
-    WorkerNumbers,
+    Activity, Bucket, ColumnView, Histogram, HostNumbers, HostView, Refused, Rollbacks, RuleView,
+    RulesetView, SessionState, SessionView, SlowView, TableView, TenantNumbers, TenantView,
+    TriggersView, WorkerNumbers,
 };
 pub use viewing::view_at;

@@ -2,15 +2,15 @@
 ghost use Rattle.std.specs.Prelude.{IfOk};
 ghost use Rattle.sb_status.specs.Pages.{IsPage};
 
+use crate::fragment::{Fragment, render};
 use crate::mark::Mark;
-use crate::piece::{Piece, render};
 use crate::text::Escaping;
 use std::alloc::{AllocError, Global};
 
 /// The pieces so far.
 #[derive(Drop)]
 pub(crate) struct Page<'a> {
-    pieces: Vec<Piece<'a>>,
+    pieces: Vec<Fragment<'a>>,
 }
 
 impl<'a> Page<'a> {
@@ -21,17 +21,17 @@ impl<'a> Page<'a> {
     }
 
     pub(crate) fn mark(&mut self, mark: Mark) -> Result<(), AllocError> {
-        self.pieces.push(Piece::Mark(mark))?;
+        self.pieces.push(Fragment::Mark(mark))?;
         Ok(())
     }
 
     pub(crate) fn text(&mut self, text: &'a [u8]) -> Result<(), AllocError> {
-        self.pieces.push(Piece::Text(text))?;
+        self.pieces.push(Fragment::Text(text))?;
         Ok(())
     }
 
     pub(crate) fn number(&mut self, number: u64) -> Result<(), AllocError> {
-        self.pieces.push(Piece::Number(number))?;
+        self.pieces.push(Fragment::Number(number))?;
         Ok(())
     }
 
@@ -53,7 +53,7 @@ impl<'a> Page<'a> {
     pub(crate) fn pair(
         &mut self,
         marks: [Mark; 3],
-        counted: Piece<'a>,
+        counted: Fragment<'a>,
         count: u64,
     ) -> Result<(), AllocError> {
         let [before, between, behind] = marks;

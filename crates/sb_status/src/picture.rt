@@ -2,9 +2,9 @@
 
 use crate::layers::Layout;
 use crate::mark::Mark;
+use crate::node_box::{Curve, HEIGHT, LETTER, NodeBox};
 use crate::nodes::Nodes;
 use crate::page::Page;
-use crate::spot::{Curve, HEIGHT, LETTER, Spot};
 use crate::view::{RuleView, TenantView};
 use std::alloc::{AllocError, Global};
 
@@ -56,7 +56,7 @@ fn begin(page: &mut Page<'_>, layout: &Layout, width: u64) -> Result<(), AllocEr
     let mut right: u64 = 0;
     let mut bottom: u64 = 0;
     for place in layout.places.as_slice() {
-        let end = Spot::of(*place, width).end();
+        let end = NodeBox::of(*place, width).end();
         right = right.max(end.0);
         bottom = bottom.max(end.1);
     }
@@ -101,7 +101,10 @@ impl<'d, 'v> Drawing<'d, 'v> {
         let (Some(start), Some(end)) = (places.get(from), places.get(to)) else {
             return Ok(());
         };
-        let curve = Curve::between(Spot::of(*start, self.width), Spot::of(*end, self.width));
+        let curve = Curve::between(
+            NodeBox::of(*start, self.width),
+            NodeBox::of(*end, self.width),
+        );
         let mark = if is_order {
             Mark::OrderArrow
         } else if self.layout.reaches(to, from) {
@@ -128,14 +131,14 @@ impl<'d, 'v> Drawing<'d, 'v> {
     fn all_rules(&mut self, rules: &'v [RuleView]) -> Result<(), AllocError> {
         for (node, rule) in rules.iter().enumerate() {
             if let Some(place) = self.layout.places.as_slice().get(node) {
-                self.rule(Spot::of(*place, self.width), rule)?;
+                self.rule(NodeBox::of(*place, self.width), rule)?;
             }
         }
         Ok(())
     }
 
     /// The box of a rule with its name, and a word where it is on a cycle.
-    fn rule(&mut self, spot: Spot, rule: &'v RuleView) -> Result<(), AllocError> {
+    fn rule(&mut self, spot: NodeBox, rule: &'v RuleView) -> Result<(), AllocError> {
         let mark = match (spot.is_on_cycle(), rule.is_active) {
             (true, true) => Mark::CycleBox,
             (true, false) => Mark::InactiveCycleBox,

@@ -2,7 +2,7 @@
 ghost use Rattle.std.specs.Prelude.{◌≡◌, ◌++◌, IfOk, OnOk, length, if◌then◌else◌, []};
 ghost use Rattle.sb_status.specs.Responses.{begin_text, head_text, kind_text, status_text};
 
-use crate::piece::push_number;
+use crate::fragment::push_number;
 use std::alloc::{AllocError, Global};
 
 /// How a request went.
@@ -30,7 +30,7 @@ pub enum Status {
 
 /// What a body is.
 #[derive(Clone, Copy)]
-pub enum Kind {
+pub enum ContentType {
     Page,
     Samples,
     Text,
@@ -45,7 +45,7 @@ Connection: close\r\n\r\nout of memory\n";
 pub fn respond(
     alloc: Global,
     status: Status,
-    kind: Kind,
+    kind: ContentType,
     body: &[u8],
     has_body: bool,
 ) -> Result<Vec<u8>, AllocError>
@@ -61,7 +61,12 @@ pub fn respond(
 }
 
 /// The lines before the body.
-fn push_head(out: &mut Vec<u8>, status: Status, kind: Kind, length: u64) -> Result<(), AllocError>
+fn push_head(
+    out: &mut Vec<u8>,
+    status: Status,
+    kind: ContentType,
+    length: u64,
+) -> Result<(), AllocError>
     ensures { OnOk result (out.new.items ≡ out.old.items ++ head_text status kind length) }
 {
     push_kind(out, status, kind)?;
@@ -71,7 +76,7 @@ fn push_head(out: &mut Vec<u8>, status: Status, kind: Kind, length: u64) -> Resu
 }
 
 /// The first line, and the header that says what the body is.
-fn push_kind(out: &mut Vec<u8>, status: Status, kind: Kind) -> Result<(), AllocError>
+fn push_kind(out: &mut Vec<u8>, status: Status, kind: ContentType) -> Result<(), AllocError>
     ensures { OnOk result (out.new.items ≡ out.old.items ++ begin_text status kind) }
 {
     out.extend_from_slice(b"HTTP/1.1 ")?;
@@ -104,12 +109,12 @@ fn status_line<'a>(status: Status) -> &'a str
     }
 }
 
-fn kind_name<'a>(kind: Kind) -> &'a str
+fn kind_name<'a>(kind: ContentType) -> &'a str
     ensures { result.now ≡ kind_text kind }
 {
     match kind {
-        Kind::Page => "text/html; charset=utf-8",
-        Kind::Samples => "text/plain; version=0.0.4; charset=utf-8",
-        Kind::Text => "text/plain; charset=utf-8",
+        ContentType::Page => "text/html; charset=utf-8",
+        ContentType::Samples => "text/plain; version=0.0.4; charset=utf-8",
+        ContentType::Text => "text/plain; charset=utf-8",
     }
 }

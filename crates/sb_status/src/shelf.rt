@@ -7,14 +7,14 @@ use std::alloc::{AllocError, Global};
 
 /// The numbers of a tenant, and when they were taken, in seconds since the server began.
 #[derive(Clone, Copy)]
-struct Kept {
+struct TakenNumbers {
     numbers: TenantNumbers,
     taken: u64,
 }
 
 /// What a tenant was, and when.
 #[derive(Drop)]
-struct Seen {
+struct TakenView {
     place: u32,
     view: TenantView,
     taken: u64,
@@ -23,8 +23,8 @@ struct Seen {
 /// The numbers of all tenants, and what the tenant was that was looked at last.
 #[derive(Drop)]
 pub struct Shelf {
-    numbers: Vec<Option<Kept>>,
-    seen: Option<Seen>,
+    numbers: Vec<Option<TakenNumbers>>,
+    seen: Option<TakenView>,
 }
 
 impl Shelf {
@@ -48,7 +48,7 @@ impl Shelf {
         ensures seen { self.new.seen ≡ self.old.seen }
     {
         if let Some(kept) = self.numbers.get_mut(place as usize) {
-            *kept = Some(Kept { numbers, taken });
+            *kept = Some(TakenNumbers { numbers, taken });
         }
     }
 
@@ -67,7 +67,7 @@ impl Shelf {
     }
 
     /// What is kept of the tenant at this place.
-    fn kept(&self, place: u32) -> Option<Kept>
+    fn kept(&self, place: u32) -> Option<TakenNumbers>
         ensures { result ≡ kept_at self.now place }
     {
         self.numbers.get(place as usize).copied().flatten()
@@ -78,7 +78,7 @@ impl Shelf {
         ensures seen { self.new.seen ≡ Some (record { place = place; view = view; taken = taken }) }
         ensures kept { self.new.numbers ≡ self.old.numbers }
     {
-        self.seen = Some(Seen { place, view, taken });
+        self.seen = Some(TakenView { place, view, taken });
     }
 
     /// What the tenant at this place was, with its age at this time, if it was looked at last.

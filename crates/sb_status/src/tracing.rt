@@ -18,7 +18,7 @@ const MOST: usize = 8;
 
 /// The lines of a rule that are found so far.
 #[derive(Drop)]
-struct Found {
+struct FoundLines {
     /// The newest first.
     lines: Vec<Vec<u8>>,
     /// The line that created it is found.
@@ -33,7 +33,7 @@ pub(crate) struct RuleLines {
     /// How many entries aren't looked at yet.
     left: usize,
     /// By the numbers of rules.
-    found: Vec<Found>,
+    found: Vec<FoundLines>,
     lacks_memory: bool,
 }
 
@@ -61,7 +61,7 @@ impl RuleLines {
     pub(crate) fn new(alloc: Global, steps: usize) -> Result<RuleLines, AllocError> {
         let mut found = Vec::new(alloc);
         for _ in 0..RULE_LIMIT {
-            found.push(Found {
+            found.push(FoundLines {
                 lines: Vec::new(alloc),
                 is_whole: false,
             })?;
@@ -110,7 +110,7 @@ impl RuleLines {
             return;
         };
         let line = entry.line.as_slice();
-        let Some(deed) = deed_of(line) else {
+        let Some(deed) = mention_of(line) else {
             return;
         };
         let Some(rule) = rules.find(&deed.rule) else {
@@ -124,7 +124,7 @@ impl RuleLines {
     }
 }
 
-impl Found {
+impl FoundLines {
     /// Adds an older line, unless it is of an earlier rule of the name, or there are too many.
     fn add(&mut self, alloc: Global, line: &[u8], creates: bool) -> Result<(), AllocError> {
         if self.is_whole {
@@ -140,28 +140,28 @@ impl Found {
 
 /// What a line does to a rule.
 #[derive(Clone, Copy)]
-struct Deed {
+struct RuleMention {
     rule: Name,
     /// It creates the rule, and otherwise alters it.
     creates: bool,
 }
 
 /// What a line does to a rule, if it may create or alter one.
-fn deed_of(line: &[u8]) -> Option<Deed> {
-    let first = Cut::of(line);
+fn mention_of(line: &[u8]) -> Option<RuleMention> {
+    let first = FirstWord::of(line);
     let creates = first.word == b"create".as_slice();
     if !creates && first.word != b"alter".as_slice() {
         return None;
     }
-    let second = Cut::of(first.rest);
+    let second = FirstWord::of(first.rest);
     if second.word != b"rule".as_slice() {
         return None;
     }
-    let name = Cut::of(second.rest).word;
+    let name = FirstWord::of(second.rest).word;
     if name.is_empty() || name.len() > NAME_LIMIT {
         return None;
     }
-    Some(Deed {
+    Some(RuleMention {
         rule: Name::new(name),
         creates,
     })
@@ -169,20 +169,20 @@ fn deed_of(line: &[u8]) -> Option<Deed> {
 
 /// The first word of a text, and what stands behind it.
 #[derive(Clone, Copy)]
-struct Cut<'a> {
+struct FirstWord<'a> {
     word: &'a [u8],
     rest: &'a [u8],
 }
 
-impl<'a> Cut<'a> {
-    fn of(text: &'a [u8]) -> Cut<'a> {
+impl<'a> FirstWord<'a> {
+    fn of(text: &'a [u8]) -> FirstWord<'a> {
         let text = text.trim_ascii_start();
         match memchr(b' ', text) {
-            Some(place) => Cut {
+            Some(place) => FirstWord {
                 word: &text[..place],
                 rest: &text[place..],
             },
-            None => Cut {
+            None => FirstWord {
                 word: text,
                 rest: &[],
             },

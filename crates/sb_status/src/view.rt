@@ -81,7 +81,7 @@ pub struct Bucket {
 
 /// How long lines took.
 #[derive(Clone, Copy)]
-pub struct Times<'a> {
+pub struct Histogram<'a> {
     pub buckets: &'a [Bucket],
     /// How many took longer than all limits.
     pub others: u64,
@@ -106,7 +106,7 @@ pub struct Activity<'a> {
     pub considerations: u64,
     pub rollbacks: Rollbacks,
     pub refusals: &'a [Refused],
-    pub times: Times<'a>,
+    pub times: Histogram<'a>,
     /// The lines that took longest, the slowest first.
     pub slowest: &'a [SlowView<'a>],
 }

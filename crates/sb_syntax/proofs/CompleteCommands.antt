@@ -4,8 +4,8 @@ use Rattle.std.proofs.lemmas.Option.{same_Some}
 use Rattle.sb_value.specs.declared.value.Value.{Value}
 use Rattle.sb_value.specs.declared.value.ColumnType.{ColumnType}
 use Rattle.sb_value.specs.declared.value.ColumnDefinition.{ColumnDefinition}
-use Rattle.sb_syntax.specs.declared.kind.Kind.{Kind}
-use Rattle.sb_syntax.specs.declared.kind.Kind.TheVariants as k
+use Rattle.sb_syntax.specs.declared.kind.TokenKind.{TokenKind}
+use Rattle.sb_syntax.specs.declared.kind.TokenKind.TheVariants as k
 use Rattle.sb_syntax.specs.Input.{Input, Is, same_kind}
 use Rattle.sb_syntax.specs.Tree as tree
 use Rattle.sb_syntax.specs.Tree.{Name, Operand, Filter, Query, Assignment, Statement, Action, Trigger, RuleText, AlterationText, Command}
@@ -152,7 +152,7 @@ actions-reads : (all : List Action) (ts rest : Input) → Separated k.Semicolon 
 unfolding r.actions
 actions-reads all ts rest d le stop none = separated_to-reads k.Semicolon IsAction r.action StopsQuery semicolon-stops action-reads 7 all ts rest d le stop (no_separator k.Semicolon rest none)
 
-listed-reads : (kind : Kind) (ns : List Name) (ts rest : Input) → IsListed kind ns ts rest → sees kind rest ≡ false → sees k.Comma rest ≡ false → Reads (r.listed kind) ns ts rest
+listed-reads : (kind : TokenKind) (ns : List Name) (ts rest : Input) → IsListed kind ns ts rest → sees kind rest ≡ false → sees k.Comma rest ≡ false → Reads (r.listed kind) ns ts rest
 unfolding r.listed
 listed-reads kind w ts rest g.not_listed none stop = (rw none refl, omega arith)
 listed-reads kind w ts rest (g.listed {names = ns} {x = x} is d) none stop =
@@ -169,7 +169,7 @@ unfolding r.kind_at r.sees
 nothing-follows [] e = record { cond = record { conj = record { expr = record { term = record { no_dot = refl; no_product = refl }; no_sum = refl }; no_and = refl }; no_or = refl }; no_where = refl; no_name = refl; no_comma = refl }
 nothing-follows (t ∷ ts) e = cc
 
-nothing-seen : (kind : Kind) (ts : Input) → kind_at ts ≡ None → sees kind ts ≡ false
+nothing-seen : (kind : TokenKind) (ts : Input) → kind_at ts ≡ None → sees kind ts ≡ false
 unfolding r.kind_at r.sees
 nothing-seen kind [] e = refl
 nothing-seen kind (t ∷ ts) e = cc
@@ -184,7 +184,7 @@ unfolding same_kind
 precedes-first ns ts rest g.not_listed stop = stop
 precedes-first ns ts rest (g.listed {x = x} is d) stop = record { query = stops-query k.Precedes ts x is refl refl refl refl refl refl refl refl; no_semicolon = is-other k.Precedes k.Semicolon ts x is refl }
 
-after-reads : (kind : Kind) (n : Name) (ts x rest : Input) → Is kind ts x → IsName n x rest → Reads (r.name_after kind) n ts rest
+after-reads : (kind : TokenKind) (n : Name) (ts x rest : Input) → Is kind ts x → IsName n x rest → Reads (r.name_after kind) n ts rest
 unfolding r.name_after
 after-reads kind n ts x rest is d = let m = name-reads n x rest d in (rw (is-expect kind ts x is, m.0) refl, omega (arith, is-shorter kind ts x is, m.1))
 
@@ -316,7 +316,7 @@ changes-reads : (c : Statement) (ts rest : Input) → IsChange c ts rest → kin
 unfolding r.leading_command
 changes-reads c ts rest d none = ap (λ p. p ts) (change-kind c ts rest d).0 ∙ (mapped tree.change r.change c ts rest (change-reads c ts rest d (nothing-follows rest none))).0
 
-word-reads : (kind : Kind) (command : Command) (ts rest : Input) → Is kind ts rest → r.leading_command_by (Some kind) ≡ r.word kind command → r.leading_command ts ≡ Some (command, rest)
+word-reads : (kind : TokenKind) (command : Command) (ts rest : Input) → Is kind ts rest → r.leading_command_by (Some kind) ≡ r.word kind command → r.leading_command ts ≡ Some (command, rest)
 unfolding r.leading_command r.word
 word-reads kind command ts rest is by = rw (is-kind kind ts rest is, by, is-expect kind ts rest is) refl
 
@@ -327,7 +327,7 @@ creates_rule-reads y ts rest d none =
     rw (is-kind k.Create ts m.0 m.1, is-expect k.Create ts m.0 m.1, m.3, m.2) refl
 
 -- the commands of two words and a name
-phrase-reads : (first second : Kind) (f : Name → Command) (p : Reader Command) (n : Name) (ts rest : Input) → IsPhrase first second n ts rest → r.leading_command_by (Some first) ≡ p → ((x : Input) → Is first ts x → kind_at x ≡ Some second → p ts ≡ (r.name_after second >>= λ n. pure (f n)) x)
+phrase-reads : (first second : TokenKind) (f : Name → Command) (p : Reader Command) (n : Name) (ts rest : Input) → IsPhrase first second n ts rest → r.leading_command_by (Some first) ≡ p → ((x : Input) → Is first ts x → kind_at x ≡ Some second → p ts ≡ (r.name_after second >>= λ n. pure (f n)) x)
     → r.leading_command ts ≡ Some (f n, rest)
 unfolding r.leading_command
 phrase-reads first second f p n ts rest (g.phrase {x = x} {y = y} a b c) by step =
@@ -335,14 +335,14 @@ phrase-reads first second f p n ts rest (g.phrase {x = x} {y = y} a b c) by step
     rw (is-kind first ts x a, by) (step x a (is-kind second x y b) ∙ ap (λ o. and_then o (λ n. pure (f n))) m.0)
 
 -- what the second word chooses
-chooses : (first : Kind) (by : Option Kind → Reader Command) (second : Kind) (ts x : Input) → Is first ts x → kind_at x ≡ Some second → (expect first >> (λ ts. by (kind_at ts) ts)) ts ≡ by (Some second) x
+chooses : (first : TokenKind) (by : Option TokenKind → Reader Command) (second : TokenKind) (ts x : Input) → Is first ts x → kind_at x ≡ Some second → (expect first >> (λ ts. by (kind_at ts) ts)) ts ≡ by (Some second) x
 chooses first by second ts x is kind = ap (λ o. and_then o (λ _ mid. by (kind_at mid) mid)) (is-expect first ts x is) ∙ ap (λ o. by o x) kind
 
-drop-reads : (second : Kind) (f : Name → Command) (n : Name) (ts rest : Input) → IsPhrase k.Drop second n ts rest → r.drops_by (Some second) ≡ (r.name_after second >>= λ n. pure (f n)) → r.leading_command ts ≡ Some (f n, rest)
+drop-reads : (second : TokenKind) (f : Name → Command) (n : Name) (ts rest : Input) → IsPhrase k.Drop second n ts rest → r.drops_by (Some second) ≡ (r.name_after second >>= λ n. pure (f n)) → r.leading_command ts ≡ Some (f n, rest)
 unfolding r.drops
 drop-reads second f n ts rest d by = phrase-reads k.Drop second f r.drops n ts rest d refl (λ x a kind. chooses k.Drop r.drops_by second ts x a kind ∙ ap (λ p. p x) by)
 
-process-reads : (second : Kind) (f : Name → Command) (n : Name) (ts rest : Input) → IsPhrase k.Process second n ts rest → r.processes_by (Some second) ≡ (r.name_after second >>= λ n. pure (f n)) → r.leading_command ts ≡ Some (f n, rest)
+process-reads : (second : TokenKind) (f : Name → Command) (n : Name) (ts rest : Input) → IsPhrase k.Process second n ts rest → r.processes_by (Some second) ≡ (r.name_after second >>= λ n. pure (f n)) → r.leading_command ts ≡ Some (f n, rest)
 unfolding r.processes
 process-reads second f n ts rest d by = phrase-reads k.Process second f r.processes n ts rest d refl (λ x a kind. chooses k.Process r.processes_by second ts x a kind ∙ ap (λ p. p x) by)
 

@@ -5,8 +5,8 @@ use Rattle.std.proofs.lemmas.List.Sums.{list_all-from_AllPass}
 use Rattle.sb_value.specs.Printable.{is_printable}
 use Rattle.sb_value.specs.declared.value.Value.{Value}
 use Rattle.sb_value.specs.declared.value.Value.TheVariants.{Int}
-use Rattle.sb_syntax.specs.declared.kind.Kind.{Kind}
-use Rattle.sb_syntax.specs.declared.kind.Kind.TheVariants as k
+use Rattle.sb_syntax.specs.declared.kind.TokenKind.{TokenKind}
+use Rattle.sb_syntax.specs.declared.kind.TokenKind.TheVariants as k
 use Rattle.sb_syntax.specs.declared.tree.Arithmetic.TheVariants.{Add, Subtract, Multiply}
 use Rattle.sb_syntax.specs.declared.tree.TableReference.{TableReference}
 use Rattle.sb_syntax.specs.declared.tree.TableReference.TheVariants.{Named}
@@ -78,7 +78,7 @@ table-reads q ts rest (g.named {n = n} d) = let m = mapped Named r.name n ts res
 table-reads q ts rest (g.transition d) = let t = transition-kind q ts rest d in (ap (λ o. r.table_by o ts) t.0 ∙ ap (λ (x : Input). Some (q, x)) t.1, t.2)
 
 -- a dot goes on with a column
-abbrev pub dot : Option Kind → Bool
+abbrev pub dot : Option TokenKind → Bool
 dot (Some k.Dot) = true
 dot _ = false
 
@@ -109,7 +109,7 @@ column-reads c ts rest (g.qualified {table = q} {n = n} {x = x} {y = y} (g.trans
 
 -- ---- what an expression begins with
 
-abbrev pub begins : Option Kind → Bool
+abbrev pub begins : Option TokenKind → Bool
 begins (Some k.Name) = true
 begins kind = r.is_literal kind || is_some (r.transition_of kind)
 
@@ -178,12 +178,12 @@ expr-begins e ts rest (g.plus d is f) = expr-begins _ ts _ d
 expr-begins e ts rest (g.less d is f) = expr-begins _ ts _ d
 
 -- a token of this kind begins no expression
-pub begins-no : (kind : Kind) (ts : Input) → begins (Some kind) ≡ false → begins (kind_at ts) ≡ true → sees kind ts ≡ false
+pub begins-no : (kind : TokenKind) (ts : Input) → begins (Some kind) ≡ false → begins (kind_at ts) ≡ true → sees kind ts ≡ false
 begins-no kind ts never so = differs begins kind ts true false so never (λ e. dot_is_no true false refl refl e)
 
 -- ---- what a query lists, and from where
 
-begins-items : (kind : Option Kind) → begins kind ≡ true → r.items_by kind ≡ (r.expressions >>= λ es. pure (tree.each_of es))
+begins-items : (kind : Option TokenKind) → begins kind ≡ true → r.items_by kind ≡ (r.expressions >>= λ es. pure (tree.each_of es))
 begins-items (Some k.Star) e = absurd (cc)
 begins-items (Some k.Count) e = absurd (cc)
 begins-items (Some k.Sum) e = absurd (cc)

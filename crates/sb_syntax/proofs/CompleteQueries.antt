@@ -1,7 +1,7 @@
 -- The same of conditions and queries.
 use Rattle.std.proofs.Common.{◌≡◌, ◌<◌, ℕ, suc, Bool, true, false, List, length, Option, Some, None, ap, sym, ◌∙◌, refl, arith}
-use Rattle.sb_syntax.specs.declared.kind.Kind.{Kind}
-use Rattle.sb_syntax.specs.declared.kind.Kind.TheVariants as k
+use Rattle.sb_syntax.specs.declared.kind.TokenKind.{TokenKind}
+use Rattle.sb_syntax.specs.declared.kind.TokenKind.TheVariants as k
 use Rattle.sb_syntax.specs.declared.tree.Comparison.{Comparison}
 use Rattle.sb_syntax.specs.declared.tree.SourceReference.{SourceReference}
 use Rattle.sb_syntax.specs.Input.{Input, Is, same_kind}
@@ -33,10 +33,10 @@ pub record StopsQuery (ts : Input) : Type 0 where
   pub no_comma : sees k.Comma ts ≡ false
 
 -- a token that goes on with none of them
-pub stops : (kind : Kind) (ts rest : Input) → Is kind ts rest → dot (Some kind) ≡ false → r.multiplies (Some kind) ≡ None → r.adds (Some kind) ≡ None → Stops ts
+pub stops : (kind : TokenKind) (ts rest : Input) → Is kind ts rest → dot (Some kind) ≡ false → r.multiplies (Some kind) ≡ None → r.adds (Some kind) ≡ None → Stops ts
 stops kind ts rest is d a b = record { term = record { no_dot = ap dot (is-kind kind ts rest is) ∙ d; no_product = ap r.multiplies (is-kind kind ts rest is) ∙ a }; no_sum = ap r.adds (is-kind kind ts rest is) ∙ b }
 
-pub stops-query : (kind : Kind) (ts rest : Input) → Is kind ts rest → dot (Some kind) ≡ false → r.multiplies (Some kind) ≡ None → r.adds (Some kind) ≡ None → r.ands (Some kind) ≡ None → r.ors (Some kind) ≡ None
+pub stops-query : (kind : TokenKind) (ts rest : Input) → Is kind ts rest → dot (Some kind) ≡ false → r.multiplies (Some kind) ≡ None → r.adds (Some kind) ≡ None → r.ands (Some kind) ≡ None → r.ors (Some kind) ≡ None
     → same_kind kind k.Where ≡ false → same_kind kind k.Name ≡ false → same_kind kind k.Comma ≡ false → StopsQuery ts
 stops-query kind ts rest is d a b c e w n m = record {
   cond = record {
@@ -53,7 +53,7 @@ unfolding same_kind
 paren-stops ts rest is = stops-query k.RightParen ts rest is refl refl refl refl refl refl refl refl
 
 -- a list ends where no separator stands
-pub no_separator : {A : Type 0} (sep : Kind) (ts : Input) → sees sep ts ≡ false → pushes {A = A} sep (kind_at ts) ≡ None
+pub no_separator : {A : Type 0} (sep : TokenKind) (ts : Input) → sees sep ts ≡ false → pushes {A = A} sep (kind_at ts) ≡ None
 no_separator {A = A} sep ts absent = pushes_no sep ts false (sym absent) refl
 
 -- one step after another

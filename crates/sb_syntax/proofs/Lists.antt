@@ -3,7 +3,7 @@ use Rattle.std.proofs.Common.{Bool, true, false, ◌&&◌, nat_lt, ◌++◌, ◌
 use Rattle.std.proofs.lemmas.Bool.{ltb-true, ltb-false}
 use Rattle.std.proofs.lemmas.List.{map-append}
 use Rattle.std.specs.Prelude.{IfOk, IfErr}
-use Rattle.sb_syntax.specs.declared.kind.Kind.{Kind}
+use Rattle.sb_syntax.specs.declared.kind.TokenKind.{TokenKind}
 use Rattle.sb_syntax.specs.declared.error.Fault.{Fault}
 use Rattle.sb_syntax.specs.declared.error.Fault.TheVariants.{Refused, NoMemory}
 use Rattle.sb_syntax.specs.Input.{Input}
@@ -17,11 +17,11 @@ both_hold true b h = (refl, h)
 both_hold false b h = let e : false ≡ true = h in cc
 
 -- what follows is shorter
-pub follows_falls : (sep : Kind) (most : Option ℕ) (n : ℕ) (ts after new : Input) → follows sep most n ts ≡ true → after ≡ next ts → length new ≤ length after → length new < length ts
+pub follows_falls : (sep : TokenKind) (most : Option ℕ) (n : ℕ) (ts after new : Input) → follows sep most n ts ≡ true → after ≡ next ts → length new ≤ length after → length new < length ts
 follows_falls sep most n ts after new more past le = seen_falls sep ts after new (sees sep ts) refl (both_hold (sees sep ts) (has_room most n) more).0 past le
 
 -- one more turn of a loop that has read the items xs, of which it counts n
-module _ {T : Type 0} (sep : Kind) (most : Option ℕ) (gives : Input → Result T Fault → Input → Type 0) (old : Input) (xs : List T) (n : ℕ) (ts after rest : Input) where
+module _ {T : Type 0} (sep : TokenKind) (most : Option ℕ) (gives : Input → Result T Fault → Input → Type 0) (old : Input) (xs : List T) (n : ℕ) (ts after rest : Input) where
   goes_on : follows sep most n ts ≡ true → n ≡ length xs → follows sep most (length xs) ts ≡ true
   goes_on more is = ap (λ m. follows sep most m ts) (sym is) ∙ more
 
@@ -31,7 +31,7 @@ module _ {T : Type 0} (sep : Kind) (most : Option ℕ) (gives : Input → Result
   pub is_refused-behind : (e : Fault) → HasRead sep most gives old xs ts → follows sep most n ts ≡ true → n ≡ length xs → after ≡ next ts → gives after (Err e) rest → IsRefused sep most gives old e
   is_refused-behind e has more is past given = behind has (goes_on more is) (subst (λ from. gives from (Err e) rest) past given)
 
-module _ {T A : Type 0} (view : T → A) (item : Reader A) (sep : Kind) (old : Input) where
+module _ {T A : Type 0} (view : T → A) (item : Reader A) (sep : TokenKind) (old : Input) where
   -- the reading of an item, seen by view
   abbrev Read : Input → Result T Fault → Input → Type 0
   Read ts r rest = Gives view (item ts) r ts rest

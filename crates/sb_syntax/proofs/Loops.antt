@@ -1,7 +1,7 @@
 -- Repetition: the function against the grammar's.
 use Rattle.std.proofs.Common.{◌≡◌, ◌≤◌, ◌+◌, ℕ, zero, suc, Bool, true, false, cond, List, [], ◌∷◌, ◌++◌, length, Option, Some, None, ap, sym, ◌∙◌, refl, subst, arith, append_assoc, append-nil, length-append}
 use Rattle.std.proofs.lemmas.Option.{same_Some}
-use Rattle.sb_syntax.specs.declared.kind.Kind.{Kind}
+use Rattle.sb_syntax.specs.declared.kind.TokenKind.{TokenKind}
 use Rattle.sb_syntax.specs.Input.{Input, Is, same_kind}
 use Rattle.sb_syntax.specs.Grammar.{More, no_more, one_more, Separated, items}
 use Rattle.sb_syntax.specs.Reading.{Reader, Joins, chain, chained, turn, kind_at, next, and_then, pushes, separated, separated_to}
@@ -55,30 +55,30 @@ chained-start joins item x ts a r = record {
 }
 
 -- one operator and its right side
-pub goes_on-token : {A B : Type 0} (joins : Joins B A) (item : Reader A) (whole : Option (B × Input)) (limit : ℕ) (acc : B) (ts a rest : Input) (kind : Kind) (join : B → A → B) (x : A) → joins None ≡ None → joins (Some kind) ≡ Some join
+pub goes_on-token : {A B : Type 0} (joins : Joins B A) (item : Reader A) (whole : Option (B × Input)) (limit : ℕ) (acc : B) (ts a rest : Input) (kind : TokenKind) (join : B → A → B) (x : A) → joins None ≡ None → joins (Some kind) ≡ Some join
     → GoesOn joins item whole limit acc ts → Is kind ts a → Reads item x a rest → GoesOn joins item whole limit (join acc x) rest
 goes_on-token joins item whole limit acc ts a rest kind join x none some g is r =
     goes_on-next joins item whole limit acc (join acc x) ts a rest (Some kind) join x none g (sym (is-kind kind ts a is)) some (sym (is-next kind ts a is)) r refl
 
 -- ---- lists with separators
 
-join-of : {A : Type 0} (sep kind : Kind) (join : List A → A → List A) → pushes sep (Some kind) ≡ Some join → (kind ≡ sep) × (join ≡ (λ xs x. xs ++ x ∷ []))
+join-of : {A : Type 0} (sep kind : TokenKind) (join : List A → A → List A) → pushes sep (Some kind) ≡ Some join → (kind ≡ sep) × (join ≡ (λ xs x. xs ++ x ∷ []))
 join-of {A = A} sep kind join e = go (same_kind kind sep) refl e
   where
     go : (b : Bool) → same_kind kind sep ≡ b → cond b (Some (λ (xs : List A) (x : A). xs ++ x ∷ [])) None ≡ Some join → (kind ≡ sep) × (join ≡ (λ xs x. xs ++ x ∷ []))
     go true is e = (same_kind-true kind sep is, sym (same_Some _ _ e))
     go false is e = absurd (cc)
 
-pub pushes-is : {A : Type 0} (sep : Kind) (ts : Input) (join : List A → A → List A) (k : Option Kind) → kind_at ts ≡ k → pushes sep k ≡ Some join → Is sep ts (next ts) × (join ≡ (λ xs x. xs ++ x ∷ []))
+pub pushes-is : {A : Type 0} (sep : TokenKind) (ts : Input) (join : List A → A → List A) (k : Option TokenKind) → kind_at ts ≡ k → pushes sep k ≡ Some join → Is sep ts (next ts) × (join ≡ (λ xs x. xs ++ x ∷ []))
 pushes-is sep ts join None is e = absurd (cc)
 pushes-is sep ts join (Some kind) is e =
     let j = join-of sep kind join e in
     (kind-is sep ts (is ∙ ap Some j.0), j.1)
 
-pub pushes-one : {A : Type 0} (sep : Kind) → pushes {A = A} sep (Some sep) ≡ Some (λ xs x. xs ++ x ∷ [])
+pub pushes-one : {A : Type 0} (sep : TokenKind) → pushes {A = A} sep (Some sep) ≡ Some (λ xs x. xs ++ x ∷ [])
 pushes-one {A = A} sep = ap (λ b. cond b (Some (λ (xs : List A) (x : A). xs ++ x ∷ [])) None) (same_kind-refl sep)
 
-module _ {A : Type 0} (sep : Kind) (Item : A → Input → Input → Type 0) where
+module _ {A : Type 0} (sep : TokenKind) (Item : A → Input → Input → Type 0) where
   more-snoc : (xs : List A) (y : A) (ts a b c : Input) → More sep Item xs ts a → Is sep a b → Item y b c → More sep Item (xs ++ y ∷ []) ts c
   more-snoc xs y ts a b c no_more is i = one_more is i no_more
   more-snoc xs y ts a b c (one_more d e m) is i = one_more d e (more-snoc _ y _ a b c m is i)

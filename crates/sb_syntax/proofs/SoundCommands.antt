@@ -4,8 +4,8 @@ use Rattle.std.proofs.lemmas.Option.{same_Some}
 use Rattle.sb_value.specs.declared.value.ColumnType.{ColumnType}
 use Rattle.sb_value.specs.declared.value.ColumnType.TheVariants as t
 use Rattle.sb_value.specs.declared.value.ColumnDefinition.{ColumnDefinition}
-use Rattle.sb_syntax.specs.declared.kind.Kind.{Kind}
-use Rattle.sb_syntax.specs.declared.kind.Kind.TheVariants as k
+use Rattle.sb_syntax.specs.declared.kind.TokenKind.{TokenKind}
+use Rattle.sb_syntax.specs.declared.kind.TokenKind.TheVariants as k
 use Rattle.sb_syntax.specs.Input.{Input, Is}
 use Rattle.sb_syntax.specs.Tree as tree
 use Rattle.sb_syntax.specs.Tree.{Name, Operand, Filter, Query, Assignment, Statement, Action, Trigger, RuleText, AlterationText, Command}
@@ -88,7 +88,7 @@ deletes-sound y ts rest e =
     same_read (λ z m. IsChange z ts m) _ y s4.1 rest s4.3
     (g.deletes (expect-is k.Delete ts s1.1 s1.0 s1.2) (expect-is k.From s1.1 s2.1 s2.0 s2.2) (name-sound s3.0 s2.1 s3.1 s3.2) (filter-sound max_depth (r.inner_query max_depth) (inner-sound max_depth) s4.0 s3.1 s4.1 s4.2))
 
-change_by-sound : (kind : Option Kind) → Sound (r.change_by kind) IsChange
+change_by-sound : (kind : Option TokenKind) → Sound (r.change_by kind) IsChange
 change_by-sound (Some k.Insert) = inserts-sound
 change_by-sound (Some k.Delete) = deletes-sound
 change_by-sound (Some k.Update) = updates-sound
@@ -120,13 +120,13 @@ updated-sound y ts rest e =
     let s = two_steps (expect k.Updated ts) (λ _. r.updated_of) (y, rest) e in
     updated_of-sound ts s.1 (expect-is k.Updated ts s.1 s.0 s.2) y rest s.3
 
-word-sound : {A : Type 0} (P : A → Input → Input → Type 0) (kind : Kind) (x : A) → ((ts rest : Input) → Is kind ts rest → P x ts rest) → Sound (r.word kind x) P
+word-sound : {A : Type 0} (P : A → Input → Input → Type 0) (kind : TokenKind) (x : A) → ((ts rest : Input) → Is kind ts rest → P x ts rest) → Sound (r.word kind x) P
 unfolding r.word
 word-sound P kind x is y ts rest e =
     let s = two_steps (expect kind ts) (λ _. pure x) (y, rest) e in
     same_read (λ z m. P z ts m) _ y s.1 rest s.3 (is ts s.1 (expect-is kind ts s.1 s.0 s.2))
 
-trigger_by-sound : (kind : Option Kind) → Sound (r.trigger_by kind) IsTrigger
+trigger_by-sound : (kind : Option TokenKind) → Sound (r.trigger_by kind) IsTrigger
 trigger_by-sound (Some k.Inserted) = word-sound IsTrigger k.Inserted tree.on_insert (λ _ _ d. g.at_insert d)
 trigger_by-sound (Some k.Deleted) = word-sound IsTrigger k.Deleted tree.on_delete (λ _ _ d. g.at_delete d)
 trigger_by-sound _ = updated-sound
@@ -158,7 +158,7 @@ actions-sound : Sound r.actions IsActions
 unfolding r.actions
 actions-sound = separated_to-sound k.Semicolon IsAction 7 r.action action-sound
 
-listed-sound : (kind : Kind) → Sound (r.listed kind) (IsListed kind)
+listed-sound : (kind : TokenKind) → Sound (r.listed kind) (IsListed kind)
 unfolding r.listed
 listed-sound kind y ts rest e = elim (chosen (sees kind ts) _ _ (y, rest) e) [
   | inl p ↦ (let s = two_steps (expect kind ts) (λ _. r.names) (y, rest) p.1 in g.listed (expect-is kind ts s.1 s.0 s.2) (names-sound y s.1 rest s.3))
@@ -166,7 +166,7 @@ listed-sound kind y ts rest e = elim (chosen (sees kind ts) _ _ (y, rest) e) [
 ]
 
 -- the word and the name that were read
-after-sound : (kind : Kind) (n : Name) (ts rest : Input) → r.name_after kind ts ≡ Some (n, rest) → (x : Input) × Is kind ts x × IsName n x rest
+after-sound : (kind : TokenKind) (n : Name) (ts rest : Input) → r.name_after kind ts ≡ Some (n, rest) → (x : Input) × Is kind ts x × IsName n x rest
 unfolding r.name_after
 after-sound kind n ts rest e =
     let s = two_steps (expect kind ts) (λ _. r.name) (n, rest) e in
@@ -274,7 +274,7 @@ creates_table-sound y ts mid rest is e =
     (g.creates_table (g.phrase is (expect-is k.Table mid s1.1 s1.0 s1.2) (name-sound s2.0 s1.1 s2.1 s2.2)) (expect-is k.LeftParen s2.1 s3.1 s3.0 s3.2) cs.0 cs.1 (expect-is k.RightParen s4.1 s5.1 s5.0 s5.2))
 
 -- two words and a name, of which the first was read
-phrase-sound : (first second : Kind) (f : Name → Command) → ((n : Name) (ts rest : Input) → IsPhrase first second n ts rest → IsLeadingCommand (f n) ts rest)
+phrase-sound : (first second : TokenKind) (f : Name → Command) → ((n : Name) (ts rest : Input) → IsPhrase first second n ts rest → IsLeadingCommand (f n) ts rest)
     → (y : Command) (ts mid rest : Input) → Is first ts mid → (r.name_after second >>= λ n. pure (f n)) mid ≡ Some (y, rest) → IsLeadingCommand y ts rest
 phrase-sound first second f made y ts mid rest is e =
     let s = two_steps (r.name_after second mid) (λ n. pure (f n)) (y, rest) e in
@@ -282,7 +282,7 @@ phrase-sound first second f made y ts mid rest is e =
     same_read (λ z m. IsLeadingCommand z ts m) _ y s.1 rest s.3 (made s.0 ts s.1 (g.phrase is d.1 d.2))
 
 -- what is read behind this first word
-abbrev Behind : Kind → Reader Command → Type 0
+abbrev Behind : TokenKind → Reader Command → Type 0
 Behind first p = (y : Command) (ts mid rest : Input) → Is first ts mid → p mid ≡ Some (y, rest) → IsLeadingCommand y ts rest
 
 creates_rule-sound : Behind k.Create (r.rule >>= λ r. pure (tree.create_rule r))
@@ -290,12 +290,12 @@ creates_rule-sound y ts mid rest is e =
     let s = two_steps (r.rule mid) (λ r. pure (tree.create_rule r)) (y, rest) e in
     same_read (λ z m. IsLeadingCommand z ts m) _ y s.1 rest s.3 (g.creates_rule (rule-sound s.0 ts mid s.1 is s.2))
 
-creates_by-sound : (kind : Option Kind) → Behind k.Create (r.creates_by kind)
+creates_by-sound : (kind : Option TokenKind) → Behind k.Create (r.creates_by kind)
 creates_by-sound (Some k.Table) = creates_table-sound
 creates_by-sound (Some k.Ruleset) = phrase-sound k.Create k.Ruleset tree.create_ruleset (λ _ _ _ d. g.creates_ruleset d)
 creates_by-sound _ = creates_rule-sound
 
-drops_by-sound : (kind : Option Kind) → Behind k.Drop (r.drops_by kind)
+drops_by-sound : (kind : Option TokenKind) → Behind k.Drop (r.drops_by kind)
 drops_by-sound (Some k.Table) = phrase-sound k.Drop k.Table tree.drop_table (λ _ _ _ d. g.drops_table d)
 drops_by-sound (Some k.Rule) = phrase-sound k.Drop k.Rule tree.drop_rule (λ _ _ _ d. g.drops_rule d)
 drops_by-sound _ = phrase-sound k.Drop k.Ruleset tree.drop_ruleset (λ _ _ _ d. g.drops_ruleset d)
@@ -306,23 +306,23 @@ process_rules-sound y ts mid rest is e =
     let s = two_steps (expect k.Rules mid) (λ _. pure tree.process_rules) (y, rest) e in
     same_read (λ z m. IsLeadingCommand z ts m) _ y s.1 rest s.3 (g.processes is (expect-is k.Rules mid s.1 s.0 s.2))
 
-processes_by-sound : (kind : Option Kind) → Behind k.Process (r.processes_by kind)
+processes_by-sound : (kind : Option TokenKind) → Behind k.Process (r.processes_by kind)
 processes_by-sound (Some k.Rules) = process_rules-sound
 processes_by-sound (Some k.Rule) = phrase-sound k.Process k.Rule tree.process_rule (λ _ _ _ d. g.processes_rule d)
 processes_by-sound _ = phrase-sound k.Process k.Ruleset tree.process_ruleset (λ _ _ _ d. g.processes_ruleset d)
 
 -- a first word, and what the next one chooses
-behind-sound : (first : Kind) (by : Option Kind → Reader Command) → ((kind : Option Kind) → Behind first (by kind)) → Sound (expect first >> (λ ts. by (kind_at ts) ts)) IsLeadingCommand
+behind-sound : (first : TokenKind) (by : Option TokenKind → Reader Command) → ((kind : Option TokenKind) → Behind first (by kind)) → Sound (expect first >> (λ ts. by (kind_at ts) ts)) IsLeadingCommand
 behind-sound first by made y ts rest e =
     let s = two_steps (expect first ts) (λ _ mid. by (kind_at mid) mid) (y, rest) e in
     made (kind_at s.1) y ts s.1 rest (expect-is first ts s.1 s.0 s.2) s.3
 
 -- a word, and a name behind another one
-named-sound : (first second : Kind) (f : Name → Command) → ((n : Name) (ts rest : Input) → IsPhrase first second n ts rest → IsLeadingCommand (f n) ts rest) → Sound (expect first >> (r.name_after second >>= λ n. pure (f n))) IsLeadingCommand
+named-sound : (first second : TokenKind) (f : Name → Command) → ((n : Name) (ts rest : Input) → IsPhrase first second n ts rest → IsLeadingCommand (f n) ts rest) → Sound (expect first >> (r.name_after second >>= λ n. pure (f n))) IsLeadingCommand
 named-sound first second f made = behind-sound first (λ _. r.name_after second >>= λ n. pure (f n)) (λ _. phrase-sound first second f made)
 
 -- a word, and names behind it
-names_behind-sound : (word : Kind) (f : List Name → Command) (ts mid : Input) → ((ns : List Name) (x rest : Input) → Is word mid x → IsNames ns x rest → IsLeadingCommand (f ns) ts rest)
+names_behind-sound : (word : TokenKind) (f : List Name → Command) (ts mid : Input) → ((ns : List Name) (x rest : Input) → Is word mid x → IsNames ns x rest → IsLeadingCommand (f ns) ts rest)
     → (y : Command) (rest : Input) → (expect word >> (r.names >>= λ ns. pure (f ns))) mid ≡ Some (y, rest) → IsLeadingCommand y ts rest
 names_behind-sound word f ts mid made y rest e =
     let s = two_steps (expect word mid) (λ _. r.names >>= λ ns. pure (f ns)) (y, rest) e in
@@ -345,12 +345,12 @@ alters_ruleset-sound y ts mid rest is e =
       | inr p ↦ names_behind-sound k.DelRules (tree.del_rules n.0) ts n.1 (λ _ _ _ is d. g.removes_rules whole is d) y rest p.1
     ]
 
-alters_by-sound : (kind : Option Kind) → Behind k.Alter (r.alters_by kind)
+alters_by-sound : (kind : Option TokenKind) → Behind k.Alter (r.alters_by kind)
 alters_by-sound (Some k.Rule) = alters_rule-sound
 alters_by-sound _ = alters_ruleset-sound
 
 -- by the first token
-leading_command_by-sound : (kind : Option Kind) → Sound (r.leading_command_by kind) IsLeadingCommand
+leading_command_by-sound : (kind : Option TokenKind) → Sound (r.leading_command_by kind) IsLeadingCommand
 unfolding r.creates r.drops r.alters r.activates r.deactivates r.processes
 leading_command_by-sound (Some k.Open) = word-sound IsLeadingCommand k.Open tree.open_session (λ _ _ d. g.opens d)
 leading_command_by-sound (Some k.End) = word-sound IsLeadingCommand k.End tree.end_session (λ _ _ d. g.ends d)

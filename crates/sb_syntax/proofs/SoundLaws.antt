@@ -6,8 +6,8 @@ use Rattle.std.proofs.lemmas.Bool.{ltb-true, leb-true, and_parts}
 use Rattle.sb_value.specs.Printable.{is_printable}
 use Rattle.sb_value.specs.declared.value.Value.{Value}
 use Rattle.sb_value.specs.declared.value.Value.TheVariants.{Int, Text}
-use Rattle.sb_syntax.specs.declared.kind.Kind.{Kind}
-use Rattle.sb_syntax.specs.declared.kind.Kind.TheVariants as k
+use Rattle.sb_syntax.specs.declared.kind.TokenKind.{TokenKind}
+use Rattle.sb_syntax.specs.declared.kind.TokenKind.TheVariants as k
 use Rattle.sb_syntax.specs.declared.tree.Arithmetic.TheVariants.{Add, Subtract, Multiply}
 use Rattle.sb_syntax.specs.declared.tree.TableReference.{TableReference}
 use Rattle.sb_syntax.specs.declared.tree.TableReference.TheVariants.{Named}
@@ -87,7 +87,7 @@ literal-sound v ts rest e =
       | inr p ↦ elim (chosen (sees k.Minus ts) _ _ (v, rest) p.1) [ inl q ↦ minus-sound v ts rest q.1 | inr q ↦ text-sound v ts rest q.1 ]
     ]
 
-transition-is : (q : TableReference) (ts : Input) (kind : Option Kind) → kind_at ts ≡ kind → r.transition_of kind ≡ Some q → IsTransition q ts (next ts)
+transition-is : (q : TableReference) (ts : Input) (kind : Option TokenKind) → kind_at ts ≡ kind → r.transition_of kind ≡ Some q → IsTransition q ts (next ts)
 transition-is q ts (Some k.Inserted) is e = subst (λ (o : TableReference). IsTransition o ts (next ts)) (same_Some _ _ e) (g.inserted (kind-is k.Inserted ts is))
 transition-is q ts (Some k.Deleted) is e = subst (λ (o : TableReference). IsTransition o ts (next ts)) (same_Some _ _ e) (g.deleted (kind-is k.Deleted ts is))
 transition-is q ts (Some k.OldUpdated) is e = subst (λ (o : TableReference). IsTransition o ts (next ts)) (same_Some _ _ e) (g.old_updated (kind-is k.OldUpdated ts is))
@@ -136,7 +136,7 @@ factor-sound e ts rest read = elim (chosen (r.is_literal (kind_at ts)) _ _ (e, r
 ]
 
 -- the only operators
-multiplies-is : (kind : Option Kind) (join : Expression → Expression → Expression) → r.multiplies kind ≡ Some join → (kind ≡ Some k.Star) × (join ≡ (λ a b. tree.binary a Multiply b))
+multiplies-is : (kind : Option TokenKind) (join : Expression → Expression → Expression) → r.multiplies kind ≡ Some join → (kind ≡ Some k.Star) × (join ≡ (λ a b. tree.binary a Multiply b))
 multiplies-is (Some k.Star) join e = (refl, sym (same_Some _ _ e))
 multiplies-is _ join e = absurd (cc)
 
@@ -148,7 +148,7 @@ term-sound e ts rest read = chained-sound r.multiplies r.factor (λ a mid. IsTer
     subst (λ (f : Expression → Expression → Expression). IsTerm (f acc x) ts after) (sym m.1) (g.times d (kind-is k.Star mid m.0) (factor-sound x (next mid) after read)))
     e rest read
 
-adds-is : (kind : Option Kind) (join : Expression → Expression → Expression) → r.adds kind ≡ Some join → ((kind ≡ Some k.Plus) × (join ≡ (λ a b. tree.binary a Add b))) ⊎ ((kind ≡ Some k.Minus) × (join ≡ (λ a b. tree.binary a Subtract b)))
+adds-is : (kind : Option TokenKind) (join : Expression → Expression → Expression) → r.adds kind ≡ Some join → ((kind ≡ Some k.Plus) × (join ≡ (λ a b. tree.binary a Add b))) ⊎ ((kind ≡ Some k.Minus) × (join ≡ (λ a b. tree.binary a Subtract b)))
 adds-is (Some k.Plus) join e = inl (refl, sym (same_Some _ _ e))
 adds-is (Some k.Minus) join e = inr (refl, sym (same_Some _ _ e))
 adds-is _ join e = absurd (cc)
@@ -197,7 +197,7 @@ expressions-sound : Sound r.expressions IsExpressions
 unfolding r.expressions
 expressions-sound = separated_to-sound k.Comma IsExpr 15 r.expr expr-sound
 
-items_by-sound : (kind : Option Kind) → Sound (r.items_by kind) IsItems
+items_by-sound : (kind : Option TokenKind) → Sound (r.items_by kind) IsItems
 items_by-sound (Some k.Star) = all_columns-sound
 items_by-sound (Some k.Count) = count_rows-sound
 items_by-sound (Some k.Sum) = sum_rows-sound

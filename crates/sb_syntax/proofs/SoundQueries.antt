@@ -1,8 +1,8 @@
 -- The same of conditions and queries.
 use Rattle.std.proofs.Common.{◌≡◌, inl, inr, ℕ, zero, suc, Bool, true, false, cond, Option, Some, None, sym, refl, subst}
 use Rattle.std.proofs.lemmas.Option.{same_Some}
-use Rattle.sb_syntax.specs.declared.kind.Kind.{Kind}
-use Rattle.sb_syntax.specs.declared.kind.Kind.TheVariants as k
+use Rattle.sb_syntax.specs.declared.kind.TokenKind.{TokenKind}
+use Rattle.sb_syntax.specs.declared.kind.TokenKind.TheVariants as k
 use Rattle.sb_syntax.specs.declared.tree.Comparison.{Comparison}
 use Rattle.sb_syntax.specs.Input.{Input, Is}
 use Rattle.sb_syntax.specs.Tree as tree
@@ -15,7 +15,7 @@ use Rattle.sb_syntax.proofs.TokenLaws.{two_steps, chosen, seen-is, kind-is, expe
 use Rattle.sb_syntax.proofs.Loops.{same_read, chained-sound}
 use Rattle.sb_syntax.proofs.SoundLaws.{Sound, mapped-sound, expr-sound, items-sound, sources-sound}
 
-comparison-is : (op : Comparison) (ts : Input) (kind : Option Kind) → kind_at ts ≡ kind → r.comparison_of kind ≡ Some op → IsComparison op ts (next ts)
+comparison-is : (op : Comparison) (ts : Input) (kind : Option TokenKind) → kind_at ts ≡ kind → r.comparison_of kind ≡ Some op → IsComparison op ts (next ts)
 comparison-is op ts (Some k.Equal) is e = subst (λ (o : Comparison). IsComparison o ts (next ts)) (same_Some _ _ e) (g.equal (kind-is k.Equal ts is))
 comparison-is op ts (Some k.NotEqual) is e = subst (λ (o : Comparison). IsComparison o ts (next ts)) (same_Some _ _ e) (g.not_equal (kind-is k.NotEqual ts is))
 comparison-is op ts (Some k.Less) is e = subst (λ (o : Comparison). IsComparison o ts (next ts)) (same_Some _ _ e) (g.less_than (kind-is k.Less ts is))
@@ -28,11 +28,11 @@ not-is : (ts : Input) (b : Bool) → sees k.Not ts ≡ b → IsNot b ts (cond b 
 not-is ts true e = g.not (seen-is k.Not ts e)
 not-is ts false e = g.plain
 
-ors-is : (kind : Option Kind) (join : Condition → Condition → Condition) → r.ors kind ≡ Some join → (kind ≡ Some k.Or) × (join ≡ tree.disjunction)
+ors-is : (kind : Option TokenKind) (join : Condition → Condition → Condition) → r.ors kind ≡ Some join → (kind ≡ Some k.Or) × (join ≡ tree.disjunction)
 ors-is (Some k.Or) join e = (refl, sym (same_Some _ _ e))
 ors-is _ join e = absurd (cc)
 
-ands-is : (kind : Option Kind) (join : Condition → Condition → Condition) → r.ands kind ≡ Some join → (kind ≡ Some k.And) × (join ≡ tree.conjunction)
+ands-is : (kind : Option TokenKind) (join : Condition → Condition → Condition) → r.ands kind ≡ Some join → (kind ≡ Some k.And) × (join ≡ tree.conjunction)
 ands-is (Some k.And) join e = (refl, sym (same_Some _ _ e))
 ands-is _ join e = absurd (cc)
 

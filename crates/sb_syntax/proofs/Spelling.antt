@@ -15,8 +15,8 @@ use Rattle.sb_value.specs.Literal as printed
 use Rattle.sb_value.specs.Printable.{is_printable}
 use Rattle.sb_value.specs.declared.value.Value.{Value}
 use Rattle.sb_value.specs.declared.value.Value.TheVariants.{Int, Text}
-use Rattle.sb_syntax.specs.declared.kind.Kind.{Kind}
-use Rattle.sb_syntax.specs.declared.kind.Kind.TheVariants as k
+use Rattle.sb_syntax.specs.declared.kind.TokenKind.{TokenKind}
+use Rattle.sb_syntax.specs.declared.kind.TokenKind.TheVariants as k
 use Rattle.sb_syntax.specs.Cursor.{lexemes}
 use Rattle.sb_syntax.specs.Grammar as g
 use Rattle.sb_syntax.specs.Grammar.{IsLiteral}
@@ -76,7 +76,7 @@ whole : (xs : List ℕ) → slice_range xs 0 (0 + length xs) ≡ xs
 whole xs = take_all (0 + length xs - 0) xs (omega arith)
 
 -- a text of one token
-of_one : (v : Value) (kind : Kind) (text : List ℕ) → IsToken kind text [] → IsLiteral v (record { kind = kind; text = text } ∷ []) [] → printed.value_text v ≡ text → SpellsItself v
+of_one : (v : Value) (kind : TokenKind) (text : List ℕ) → IsToken kind text [] → IsLiteral v (record { kind = kind; text = text } ∷ []) [] → printed.value_text v ≡ text → SpellsItself v
 of_one v kind text is literal e = record {
   tokens = record { kind = kind; start = 0; end = 0 + length (printed.value_text v) } ∷ [];
   are = lex.token (subst (λ x. IsToken kind x []) (sym e) is) (sym (append-nil (printed.value_text v))) lex.no_tokens;

@@ -1,7 +1,7 @@
 -- Which token a first byte begins.
 use Rattle.std.proofs.Common.{◌≡◌, ◌≤◌, ◌<◌, ℕ, true, false, List, [], ◌∷◌, length, get_or, Some, None, refl, sym, ◌∙◌, is_some, arith}
 use Rattle.std.proofs.lemmas.Bool.{ne_eqb}
-use Rattle.sb_syntax.specs.declared.kind.Kind.{Kind}
+use Rattle.sb_syntax.specs.declared.kind.TokenKind.{TokenKind}
 use Rattle.sb_syntax.specs.Lex.{begins, is_letter, is_digit, one_byte, two_bytes}
 use Rattle.sb_syntax.specs.Scan.{token_at, word_at, integer_at, text_at, symbol_at}
 use Rattle.sb_syntax.proofs.TokenReads.{letter-at, digit-at, one-symbol, at_symbol, one-reads}
@@ -16,7 +16,7 @@ no_two b [] n m = refl
 no_two b (c ∷ bs) n m = rw (ne_eqb b 60 n, ne_eqb b 62 m) refl
 
 -- a byte that no other joins
-pub at_alone : (xs : List ℕ) (kind : Kind) → 1 ≤ length xs → one_byte (get_or xs 0 0) ≡ Some kind → (get_or xs 0 0 ≡ 60 → ⊥) → (get_or xs 0 0 ≡ 62 → ⊥) → Some (kind, 1) ≡ token_at xs
+pub at_alone : (xs : List ℕ) (kind : TokenKind) → 1 ≤ length xs → one_byte (get_or xs 0 0) ≡ Some kind → (get_or xs 0 0 ≡ 60 → ⊥) → (get_or xs 0 0 ≡ 62 → ⊥) → Some (kind, 1) ≡ token_at xs
 at_alone [] kind le e n m = absurd (omega arith)
 at_alone (b ∷ bs) kind le e n m = sym (at_symbol b bs (one-symbol b kind e) ∙ one-reads kind b bs e (no_two b bs n m))
 

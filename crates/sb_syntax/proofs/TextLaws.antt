@@ -4,7 +4,7 @@ use Rattle.std.proofs.lemmas.Bool.{eqb-true}
 use Rattle.std.proofs.lemmas.List.{take-append-drop, length-take-le}
 use Rattle.std.proofs.lemmas.Option.{same_Some}
 use Rattle.sb_syntax.specs.declared.cursor.Token.{Token}
-use Rattle.sb_syntax.specs.declared.kind.Kind.{Kind}
+use Rattle.sb_syntax.specs.declared.kind.TokenKind.{TokenKind}
 use Rattle.sb_syntax.specs.Lex as lex
 use Rattle.sb_syntax.specs.Lex.{IsToken, AreTokens, is_letter, is_digit, is_word, all, begins, doubled, two_bytes, one_byte, word_kind, transition}
 use Rattle.sb_syntax.specs.Scan.{scan, token_at, symbol_at, more_by}
@@ -28,7 +28,7 @@ unfolding token_at symbol_at
 space-none [] = refl
 space-none (c ∷ bs) = refl
 
-a_token : (at : ℕ) (kind : Kind) (n : ℕ) (text : List ℕ) (ts : List Token) → IsToken kind (take n text) (drop n text) → n ≤ length text → AreTokens (at + n) (drop n text) ts → AreTokens at text (put kind at n ts)
+a_token : (at : ℕ) (kind : TokenKind) (n : ℕ) (text : List ℕ) (ts : List Token) → IsToken kind (take n text) (drop n text) → n ≤ length text → AreTokens (at + n) (drop n text) ts → AreTokens at text (put kind at n ts)
 a_token at kind n text ts is le rest =
     let e = length-take-le n text le in
     subst (λ (m : ℕ). AreTokens at text (put kind at m ts)) e (lex.token is (sym (take-append-drop n text)) (subst (λ (m : ℕ). AreTokens (at + m) (drop n text) ts) (sym e) rest))
@@ -50,7 +50,7 @@ scan-sound-from (b ∷ bs) zero at ts le e = go (b == 32) refl (token_at (b ∷ 
     zero_on : (rest : AreTokens at (b ∷ bs) ts) → AreTokens (at + 0) (b ∷ bs) ts
     zero_on rest = let m : at ≡ at + 0 = omega arith in subst (λ (x : ℕ). AreTokens x (b ∷ bs) ts) m rest
 
-    go : (is_space : Bool) → (b == 32) ≡ is_space → (found : Option (Kind × ℕ)) → token_at (b ∷ bs) ≡ found → ((left at : ℕ) (ts : List Token) → left ≤ length bs → scan left at bs ≡ Some ts → AreTokens (at + left) (drop left bs) ts)
+    go : (is_space : Bool) → (b == 32) ≡ is_space → (found : Option (TokenKind × ℕ)) → token_at (b ∷ bs) ≡ found → ((left at : ℕ) (ts : List Token) → left ≤ length bs → scan left at bs ≡ Some ts → AreTokens (at + left) (drop left bs) ts)
         → cond is_space (scan zero (at + 1) bs) (more_by at found (λ n. scan (n - 1) (at + 1) bs)) ≡ Some ts → AreTokens (at + 0) (b ∷ bs) ts
     go true is found f rec e =
         let m : at + 1 + 0 ≡ at + 1 = omega arith in
@@ -76,7 +76,7 @@ scan-sound text ts e = scan-sound-from text 0 0 ts (omega arith) e
 never : {A : Type 0} (x : A) → None ≡ Some x → ⊥
 never x e = cc
 
-step-reads : (at : ℕ) (kind : Kind) (n : ℕ) (text rest : List ℕ) (ts : List Token) → token_at text ≡ Some (kind, n) → 1 ≤ n → rest ≡ drop n text → scan 0 (at + n) rest ≡ Some ts → scan 0 at text ≡ Some (put kind at n ts)
+step-reads : (at : ℕ) (kind : TokenKind) (n : ℕ) (text rest : List ℕ) (ts : List Token) → token_at text ≡ Some (kind, n) → 1 ≤ n → rest ≡ drop n text → scan 0 (at + n) rest ≡ Some ts → scan 0 at text ≡ Some (put kind at n ts)
 unfolding token_at
 step-reads at kind n [] rest ts found le is e = absurd (cc)
 step-reads at kind n (b ∷ bs) rest ts found le is e =

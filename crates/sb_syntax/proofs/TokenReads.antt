@@ -2,8 +2,8 @@
 use Rattle.std.proofs.Common.{◌≡◌, ◌≤◌, ◌+◌, ◌==◌, ◌&&◌, ◌||◌, ℕ, suc, Bool, true, false, cond, List, [], ◌∷◌, ◌++◌, length, drop, take, Option, Some, None, option_map, nat_le, is_some, refl, ap, sym, ◌∙◌, subst, inl, inr, append_assoc, arith}
 use Rattle.std.proofs.lemmas.Bool.{ne_eqb, eqb-true, leb-true, le-leb, and_from, and_parts}
 use Rattle.sb_value.specs.Printable.{is_printable}
-use Rattle.sb_syntax.specs.declared.kind.Kind.{Kind}
-use Rattle.sb_syntax.specs.declared.kind.Kind.TheVariants as k
+use Rattle.sb_syntax.specs.declared.kind.TokenKind.{TokenKind}
+use Rattle.sb_syntax.specs.declared.kind.TokenKind.TheVariants as k
 use Rattle.sb_syntax.specs.Lex as lex
 use Rattle.sb_syntax.specs.Lex.{IsToken, AreTokens, is_letter, is_digit, is_word, all, begins, doubled, two_bytes, one_byte, word_kind, transition}
 use Rattle.sb_syntax.specs.Scan.{token_at, word_at, word_by, integer_at, text_at, text_by, closing, longer, symbol_at, symbol_by}
@@ -28,7 +28,7 @@ starts : (text : List ℕ) (c : ℕ) (cs : List ℕ) → take 11 text ≡ c ∷ 
 starts [] c cs e letter = absurd (cc)
 starts (b ∷ bs) c cs e letter = let f : b ≡ c = cc in letter-at b bs (ap is_letter f ∙ letter)
 
-first_letter : (text : List ℕ) (kind : Kind) → transition text ≡ Some kind → token_at text ≡ word_at text
+first_letter : (text : List ℕ) (kind : TokenKind) → transition text ≡ Some kind → token_at text ≡ word_at text
 first_letter text kind e = elim (begins-transition text kind e) [ inl p ↦ starts text 111 _ p refl | inr p ↦ starts text 110 _ p refl ]
 
 -- ---- integers
@@ -91,39 +91,39 @@ text-reads value rest print le ends =
 -- ---- symbols
 
 -- one of a list of bytes
-peel : (b c : ℕ) (P : ℕ → Type 0) (one kind : Kind) (more : Option Kind) → cond (b == c) (Some one) more ≡ Some kind → P c → (more ≡ Some kind → P b) → P b
+peel : (b c : ℕ) (P : ℕ → Type 0) (one kind : TokenKind) (more : Option TokenKind) → cond (b == c) (Some one) more ≡ Some kind → P c → (more ≡ Some kind → P b) → P b
 peel b c P one kind more e here there = elim (chosen (b == c) (Some one) more kind e) [ inl p ↦ subst P (sym (eqb-true b c p.0)) here | inr p ↦ there p.1 ]
 
 -- no letter, digit or quote
 abbrev pub IsSymbol : ℕ → Type 0
 IsSymbol b = (is_letter b ≡ false) × (is_digit b ≡ false) × ((b == 39) ≡ false)
 
-pub one-symbol : (b : ℕ) (kind : Kind) → one_byte b ≡ Some kind → IsSymbol b
+pub one-symbol : (b : ℕ) (kind : TokenKind) → one_byte b ≡ Some kind → IsSymbol b
 one-symbol b kind e =
     peel b 40 IsSymbol _ kind _ e (refl, refl, refl) (λ e. peel b 41 IsSymbol _ kind _ e (refl, refl, refl) (λ e. peel b 44 IsSymbol _ kind _ e (refl, refl, refl) (λ e. peel b 59 IsSymbol _ kind _ e (refl, refl, refl)
     (λ e. peel b 46 IsSymbol _ kind _ e (refl, refl, refl) (λ e. peel b 42 IsSymbol _ kind _ e (refl, refl, refl) (λ e. peel b 43 IsSymbol _ kind _ e (refl, refl, refl) (λ e. peel b 45 IsSymbol _ kind _ e (refl, refl, refl)
     (λ e. peel b 61 IsSymbol _ kind _ e (refl, refl, refl) (λ e. peel b 60 IsSymbol _ kind _ e (refl, refl, refl) (λ e. peel b 62 IsSymbol _ kind _ e (refl, refl, refl) (λ e. absurd (cc))))))))))))
 
-peel_two : (b c x y : ℕ) (P : ℕ → Type 0) (one kind : Kind) (more : Option Kind) → cond (b == x && c == y) (Some one) more ≡ Some kind → P x → (more ≡ Some kind → P b) → P b
+peel_two : (b c x y : ℕ) (P : ℕ → Type 0) (one kind : TokenKind) (more : Option TokenKind) → cond (b == x && c == y) (Some one) more ≡ Some kind → P x → (more ≡ Some kind → P b) → P b
 peel_two b c x y P one kind more e here there = elim (chosen (b == x && c == y) (Some one) more kind e) [ inl p ↦ subst P (sym (eqb-true b x (and_parts _ _ p.0).0)) here | inr p ↦ there p.1 ]
 
-two-symbol : (b c : ℕ) (kind : Kind) → two_bytes b c ≡ Some kind → IsSymbol b
+two-symbol : (b c : ℕ) (kind : TokenKind) → two_bytes b c ≡ Some kind → IsSymbol b
 two-symbol b c kind e = peel_two b c 60 62 IsSymbol _ kind _ e (refl, refl, refl) (λ e. peel_two b c 60 61 IsSymbol _ kind _ e (refl, refl, refl) (λ e. peel_two b c 62 61 IsSymbol _ kind _ e (refl, refl, refl) (λ e. absurd (cc))))
 
 pub at_symbol : (b : ℕ) (bs : List ℕ) → IsSymbol b → token_at (b ∷ bs) ≡ symbol_at (b ∷ bs)
 unfolding token_at
 at_symbol b bs s = rw (s.0, s.1, s.2) refl
 
-pub one-reads : (kind : Kind) (b : ℕ) (rest : List ℕ) → one_byte b ≡ Some kind → begins (λ c. is_some (two_bytes b c)) rest ≡ false → symbol_at (b ∷ rest) ≡ Some (kind, 1)
+pub one-reads : (kind : TokenKind) (b : ℕ) (rest : List ℕ) → one_byte b ≡ Some kind → begins (λ c. is_some (two_bytes b c)) rest ≡ false → symbol_at (b ∷ rest) ≡ Some (kind, 1)
 unfolding symbol_at
 one-reads kind b [] e alone = ap (option_map (λ kind. (kind, 1))) e
 one-reads kind b (c ∷ rest) e alone = go (two_bytes b c) alone
   where
-    go : (t : Option Kind) → is_some t ≡ false → symbol_by b t ≡ Some (kind, 1)
+    go : (t : Option TokenKind) → is_some t ≡ false → symbol_by b t ≡ Some (kind, 1)
     go None f = ap (option_map (λ kind. (kind, 1))) e
     go (Some a) f = absurd (cc)
 
-two-reads : (kind : Kind) (b c : ℕ) (rest : List ℕ) → two_bytes b c ≡ Some kind → symbol_at (b ∷ c ∷ rest) ≡ Some (kind, 2)
+two-reads : (kind : TokenKind) (b c : ℕ) (rest : List ℕ) → two_bytes b c ≡ Some kind → symbol_at (b ∷ c ∷ rest) ≡ Some (kind, 2)
 unfolding symbol_at
 two-reads kind b c rest e = ap (symbol_by b) e
 
@@ -131,11 +131,11 @@ pub digit-at : (b : ℕ) (bs : List ℕ) → is_digit b ≡ true → token_at (b
 unfolding token_at
 digit-at b bs e = rw (digit-no_letter b e, e) refl
 
-transition-at : (text : List ℕ) (kind : Kind) → transition text ≡ Some kind → word_at text ≡ Some (kind, 11)
+transition-at : (text : List ℕ) (kind : TokenKind) → transition text ≡ Some kind → word_at text ≡ Some (kind, 11)
 unfolding word_at
 transition-at text kind e = ap (word_by text) e
 
-pub token-reads : (kind : Kind) (bytes rest : List ℕ) → IsToken kind bytes rest → (token_at (bytes ++ rest) ≡ Some (kind, length bytes)) × (1 ≤ length bytes)
+pub token-reads : (kind : TokenKind) (bytes rest : List ℕ) → IsToken kind bytes rest → (token_at (bytes ++ rest) ≡ Some (kind, length bytes)) × (1 ≤ length bytes)
 token-reads kind bytes rest (lex.word {b = b} {bs = bs} letter words ends none) = (letter-at b (bs ++ rest) letter ∙ word-reads b bs rest letter words ends none, omega arith)
 token-reads kind bytes rest (lex.transition_word long is) = (first_letter (bytes ++ rest) kind is ∙ transition-at (bytes ++ rest) kind is ∙ ap (λ n. Some (kind, n)) (sym long), omega arith)
 token-reads kind bytes rest (lex.integer {b = b} {bs = bs} digit digits ends) = (digit-at b (bs ++ rest) digit ∙ integer-reads b bs rest digit digits ends, omega arith)

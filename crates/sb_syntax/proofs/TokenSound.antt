@@ -5,8 +5,8 @@ use Rattle.std.proofs.lemmas.Bool.{eqb-true, leb-true, and_from}
 use Rattle.std.proofs.lemmas.List.{take-append-drop, length-take-le}
 use Rattle.std.proofs.lemmas.Option.{same_Some}
 use Rattle.sb_value.specs.Printable.{is_printable}
-use Rattle.sb_syntax.specs.declared.kind.Kind.{Kind}
-use Rattle.sb_syntax.specs.declared.kind.Kind.TheVariants as k
+use Rattle.sb_syntax.specs.declared.kind.TokenKind.{TokenKind}
+use Rattle.sb_syntax.specs.declared.kind.TokenKind.TheVariants as k
 use Rattle.sb_syntax.specs.Lex as lex
 use Rattle.sb_syntax.specs.Lex.{IsToken, AreTokens, is_letter, is_digit, is_word, all, begins, doubled, two_bytes, one_byte, word_kind, transition}
 use Rattle.sb_syntax.specs.Scan.{token_at, word_at, word_by, integer_at, text_at, text_by, closing, longer, symbol_at, symbol_by}
@@ -16,14 +16,14 @@ use Rattle.sb_syntax.proofs.TokenLaws.{chosen}
 use Rattle.sb_syntax.proofs.Bytes.{goes_on, all-run, run-ends, no_word, letter-word, same_bytes, length_front}
 
 -- the token of n bytes at the front
-abbrev Fits : Kind → ℕ → List ℕ → Type 0
+abbrev Fits : TokenKind → ℕ → List ℕ → Type 0
 Fits kind n text = IsToken kind (take n text) (drop n text) × (1 ≤ n) × (n ≤ length text)
 
-fits : (text : List ℕ) (a kind : Kind) (m n : ℕ) → ◌≡◌ {A = Option (Kind × ℕ)} (Some (a, m)) (Some (kind, n)) → Fits a m text → Fits kind n text
-fits text a kind m n e h = let q = same_Some {A = Kind × ℕ} (a, m) (kind, n) e in subst (λ (p : Kind × ℕ). Fits p.0 p.1 text) q h
+fits : (text : List ℕ) (a kind : TokenKind) (m n : ℕ) → ◌≡◌ {A = Option (TokenKind × ℕ)} (Some (a, m)) (Some (kind, n)) → Fits a m text → Fits kind n text
+fits text a kind m n e h = let q = same_Some {A = TokenKind × ℕ} (a, m) (kind, n) e in subst (λ (p : TokenKind × ℕ). Fits p.0 p.1 text) q h
 
 -- a text with a transition word begins with one of two
-pub begins-transition : (text : List ℕ) (kind : Kind) → transition text ≡ Some kind → (take 11 text ≡ codes "old-updated") ⊎ (take 11 text ≡ codes "new-updated")
+pub begins-transition : (text : List ℕ) (kind : TokenKind) → transition text ≡ Some kind → (take 11 text ≡ codes "old-updated") ⊎ (take 11 text ≡ codes "new-updated")
 unfolding transition
 begins-transition text kind e = elim (chosen (begins is_word (drop 11 text)) _ _ kind e) [
   | inl p ↦ absurd (none p.1)
@@ -33,16 +33,16 @@ begins-transition text kind e = elim (chosen (begins is_word (drop 11 text)) _ _
   ]
 ]
   where
-    none : ◌≡◌ {A = Option Kind} None (Some kind) → ⊥
+    none : ◌≡◌ {A = Option TokenKind} None (Some kind) → ⊥
     none e = cc
 
-transition-long : (text : List ℕ) (kind : Kind) → transition text ≡ Some kind → 11 ≤ length text
+transition-long : (text : List ℕ) (kind : TokenKind) → transition text ≡ Some kind → 11 ≤ length text
 transition-long text kind e = elim (begins-transition text kind e) [
   | inl p ↦ omega (arith, length_front 11 text, ap (length {A = ℕ}) p)
   | inr p ↦ omega (arith, length_front 11 text, ap (length {A = ℕ}) p)
 ]
 
-word-sound : (kind : Kind) (n b : ℕ) (bs : List ℕ) → is_letter b ≡ true → (t : Option Kind) → transition (b ∷ bs) ≡ t → word_by (b ∷ bs) t ≡ Some (kind, n) → Fits kind n (b ∷ bs)
+word-sound : (kind : TokenKind) (n b : ℕ) (bs : List ℕ) → is_letter b ≡ true → (t : Option TokenKind) → transition (b ∷ bs) ≡ t → word_by (b ∷ bs) t ≡ Some (kind, n) → Fits kind n (b ∷ bs)
 word-sound kind n b bs letter (Some a) is e =
     let le = transition-long (b ∷ bs) a is in
     fits (b ∷ bs) a kind 11 n e (lex.transition_word (length-take-le 11 (b ∷ bs) le) (ap transition (take-append-drop 11 (b ∷ bs)) ∙ is), omega arith, le)
@@ -51,7 +51,7 @@ word-sound kind n b bs letter None is e =
     let h : Fits (word_kind (b ∷ take m bs)) (suc m) (b ∷ bs) = (lex.word letter (all-run is_word bs) (run-ends is_word bs) (ap (λ xs. transition (b ∷ xs)) (take-append-drop m bs) ∙ is), omega arith, omega (arith, prefix_len-le-length is_word bs)) in
     fits (b ∷ bs) _ kind _ n e (subst (λ (j : ℕ). Fits (word_kind (take j (b ∷ bs))) j (b ∷ bs)) (sym (goes_on is_word b bs (letter-word b letter))) h)
 
-integer-sound : (kind : Kind) (n b : ℕ) (bs : List ℕ) → is_digit b ≡ true → integer_at (b ∷ bs) ≡ Some (kind, n) → Fits kind n (b ∷ bs)
+integer-sound : (kind : TokenKind) (n b : ℕ) (bs : List ℕ) → is_digit b ≡ true → integer_at (b ∷ bs) ≡ Some (kind, n) → Fits kind n (b ∷ bs)
 unfolding integer_at
 integer-sound kind n b bs digit e = elim (chosen (begins is_letter (drop (prefix_len is_digit (b ∷ bs)) (b ∷ bs))) None (Some (k.Integer, prefix_len is_digit (b ∷ bs))) (kind, n) e) [
   | inl p ↦ absurd (never p.1)
@@ -128,7 +128,7 @@ closing-sound (b ∷ c ∷ bs) len n e = step (closing-sound bs) (closing-sound 
       ]
     ]
 
-text-sound : (kind : Kind) (n b : ℕ) (bs : List ℕ) → (b == 39) ≡ true → (r : Option (ℕ × ℕ)) → closing bs ≡ r → text_by r ≡ Some (kind, n) → Fits kind n (b ∷ bs)
+text-sound : (kind : TokenKind) (n b : ℕ) (bs : List ℕ) → (b == 39) ≡ true → (r : Option (ℕ × ℕ)) → closing bs ≡ r → text_by r ≡ Some (kind, n) → Fits kind n (b ∷ bs)
 text-sound kind n b bs is None f e = absurd (cc)
 text-sound kind n b bs is (Some p) f e = elim (chosen (nat_le p.0 255) (Some (k.Text, p.1 + 1)) None (kind, n) e) [
   | inl q ↦ (let h = closing-sound bs p.0 p.1 f in
@@ -140,26 +140,26 @@ text-sound kind n b bs is (Some p) f e = elim (chosen (nat_le p.0 255) (Some (k.
   | inr q ↦ absurd (none q.1)
 ]
   where
-    none : ◌≡◌ {A = Option (Kind × ℕ)} None (Some (kind, n)) → ⊥
+    none : ◌≡◌ {A = Option (TokenKind × ℕ)} None (Some (kind, n)) → ⊥
     none e = cc
 
-one-sound : (kind : Kind) (n b : ℕ) (bs : List ℕ) → begins (λ c. is_some (two_bytes b c)) bs ≡ false → symbol_by b None ≡ Some (kind, n) → Fits kind n (b ∷ bs)
+one-sound : (kind : TokenKind) (n b : ℕ) (bs : List ℕ) → begins (λ c. is_some (two_bytes b c)) bs ≡ false → symbol_by b None ≡ Some (kind, n) → Fits kind n (b ∷ bs)
 one-sound kind n b bs alone e = go (one_byte b) refl e
   where
-    go : (o : Option Kind) → one_byte b ≡ o → option_map {U = Kind × ℕ} (λ kind. (kind, 1)) o ≡ Some (kind, n) → Fits kind n (b ∷ bs)
+    go : (o : Option TokenKind) → one_byte b ≡ o → option_map {U = TokenKind × ℕ} (λ kind. (kind, 1)) o ≡ Some (kind, n) → Fits kind n (b ∷ bs)
     go None f e = absurd (cc)
     go (Some a) f e = fits (b ∷ bs) a kind 1 n e (lex.one f alone, omega arith, omega arith)
 
-symbol-sound : (kind : Kind) (n b : ℕ) (bs : List ℕ) → symbol_at (b ∷ bs) ≡ Some (kind, n) → Fits kind n (b ∷ bs)
+symbol-sound : (kind : TokenKind) (n b : ℕ) (bs : List ℕ) → symbol_at (b ∷ bs) ≡ Some (kind, n) → Fits kind n (b ∷ bs)
 unfolding symbol_at
 symbol-sound kind n b [] e = one-sound kind n b [] refl e
 symbol-sound kind n b (c ∷ bs) e = go (two_bytes b c) refl e
   where
-    go : (t : Option Kind) → two_bytes b c ≡ t → symbol_by b t ≡ Some (kind, n) → Fits kind n (b ∷ c ∷ bs)
+    go : (t : Option TokenKind) → two_bytes b c ≡ t → symbol_by b t ≡ Some (kind, n) → Fits kind n (b ∷ c ∷ bs)
     go (Some a) f e = fits (b ∷ c ∷ bs) a kind 2 n e (lex.two f, omega arith, omega arith)
     go None f e = one-sound kind n b (c ∷ bs) (ap is_some f) e
 
-pub token-sound : (kind : Kind) (n b : ℕ) (bs : List ℕ) → token_at (b ∷ bs) ≡ Some (kind, n) → IsToken kind (take n (b ∷ bs)) (drop n (b ∷ bs)) × (1 ≤ n) × (n ≤ length (b ∷ bs))
+pub token-sound : (kind : TokenKind) (n b : ℕ) (bs : List ℕ) → token_at (b ∷ bs) ≡ Some (kind, n) → IsToken kind (take n (b ∷ bs)) (drop n (b ∷ bs)) × (1 ≤ n) × (n ≤ length (b ∷ bs))
 unfolding token_at word_at text_at
 token-sound kind n b bs e = elim (chosen (is_letter b) _ _ (kind, n) e) [
   | inl p ↦ word-sound kind n b bs p.0 (transition (b ∷ bs)) refl p.1

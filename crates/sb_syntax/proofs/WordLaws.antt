@@ -3,14 +3,14 @@ use Rattle.std.proofs.Common.{◌≡◌, ◌≤◌, ◌<◌, ◌+◌, ◌==◌, 
 use Rattle.std.specs.Str.{bytes_eq}
 use Rattle.std.proofs.lemmas.Bool.{leb-true, and_parts}
 use Rattle.std.specs.List.{take-map}
-use Rattle.sb_syntax.specs.declared.kind.Kind.{Kind}
-use Rattle.sb_syntax.specs.declared.kind.Kind.TheVariants as k
+use Rattle.sb_syntax.specs.declared.kind.TokenKind.{TokenKind}
+use Rattle.sb_syntax.specs.declared.kind.TokenKind.TheVariants as k
 use Rattle.sb_syntax.specs.declared.kind.TheConstants.{WORDS, STARTS}
 use Rattle.sb_syntax.specs.Lex.{lookup, reserved_words, word_kind}
 use Rattle.sb_syntax.proofs.Bytes.{same_bytes}
 
 abbrev Words : Type 0
-Words = List (List ℕ × Kind)
+Words = List (List ℕ × TokenKind)
 
 abbrev same_length : ℕ → Words → Words
 same_length n [] = []
@@ -78,7 +78,7 @@ table_is : map (λ w. (w.0.now, w.1)) WORDS ≡ reserved_words
 table_is = refl
 
 -- the table as the code has it is seen as the words
-pub grouped_word : {A : Type 0} (f : A → List ℕ × Kind) (table : List A) (word : List ℕ) (found : Kind)
+pub grouped_word : {A : Type 0} (f : A → List ℕ × TokenKind) (table : List A) (word : List ℕ) (found : TokenKind)
     → found ≡ lookup (map f (take (get_or STARTS (length word + 1) 0 - get_or STARTS (length word) 0) (drop (get_or STARTS (length word) 0) table))) word
     → map f table ≡ map (λ w. (w.0.now, w.1)) WORDS → length word ≤ 10 → found ≡ word_kind word
 unfolding word_kind

@@ -7,8 +7,8 @@ use Rattle.sb_value.specs.declared.value.Value.TheVariants.{Int, Text}
 use Rattle.sb_value.specs.declared.value.ColumnType.{ColumnType}
 use Rattle.sb_value.specs.declared.value.ColumnType.TheVariants as t
 use Rattle.sb_value.specs.declared.value.ColumnDefinition.{ColumnDefinition}
-use Rattle.sb_syntax.specs.declared.kind.Kind.{Kind}
-use Rattle.sb_syntax.specs.declared.kind.Kind.TheVariants as k
+use Rattle.sb_syntax.specs.declared.kind.TokenKind.{TokenKind}
+use Rattle.sb_syntax.specs.declared.kind.TokenKind.TheVariants as k
 use Rattle.sb_syntax.specs.declared.tree.Arithmetic.TheVariants.{Add, Subtract, Multiply}
 use Rattle.sb_syntax.specs.declared.tree.Comparison.{Comparison}
 use Rattle.sb_syntax.specs.declared.tree.Comparison.TheVariants as c
@@ -23,11 +23,11 @@ use Rattle.sb_syntax.specs.Tree.{Name, Expression, Items, Condition, Operand, Fi
 use Rattle.sb_syntax.specs.Literal.{decimal, negative, unquoted}
 
 -- x {sep x}, as a list of one or more
-pub data More {A : Type 0} (sep : Kind) (Item : A → Input → Input → Type 0) : List A → Input → Input → Type 0 where
+pub data More {A : Type 0} (sep : TokenKind) (Item : A → Input → Input → Type 0) : List A → Input → Input → Type 0 where
   no_more : {ts : Input} → More sep Item [] ts ts
   one_more : {x : A} {xs : List A} {ts a b rest : Input} → Is sep ts a → Item x a b → More sep Item xs b rest → More sep Item (x ∷ xs) ts rest
 
-pub data Separated {A : Type 0} (sep : Kind) (Item : A → Input → Input → Type 0) : List A → Input → Input → Type 0 where
+pub data Separated {A : Type 0} (sep : TokenKind) (Item : A → Input → Input → Type 0) : List A → Input → Input → Type 0 where
   items : {x : A} {xs : List A} {ts a rest : Input} → Item x ts a → More sep Item xs a rest → Separated sep Item (x ∷ xs) ts rest
 
 -- a word that isn't reserved, of at most 32 bytes
@@ -195,7 +195,7 @@ pub data IsIf : Option Query → Input → Input → Type 0 where
   if_query : {q : Query} {ts x rest : Input} → Is k.If ts x → IsQuery max_depth q x rest → IsIf (Some q) ts rest
 
 -- the names behind this word, or nothing
-pub data IsListed (kind : Kind) : List Name → Input → Input → Type 0 where
+pub data IsListed (kind : TokenKind) : List Name → Input → Input → Type 0 where
   not_listed : {ts : Input} → IsListed kind [] ts ts
   listed : {names : List Name} {ts x rest : Input} → Is kind ts x → IsNames names x rest → IsListed kind names ts rest
 
@@ -205,7 +205,7 @@ pub data IsThen : Option (List Action) → Input → Input → Type 0 where
   then_actions : {actions : List Action} {ts x rest : Input} → Is k.Then ts x → Separated k.Semicolon IsAction actions x rest → length actions ≤ max_actions → IsThen (Some actions) ts rest
 
 -- two words and a name
-pub data IsPhrase (first second : Kind) : Name → Input → Input → Type 0 where
+pub data IsPhrase (first second : TokenKind) : Name → Input → Input → Type 0 where
   phrase : {n : Name} {ts x y rest : Input} → Is first ts x → Is second x y → IsName n y rest → IsPhrase first second n ts rest
 
 -- a rule up to its triggers, and what stands behind them

@@ -7,8 +7,8 @@ use Rattle.sb_value.specs.declared.value.Value.TheVariants.{Int, Text}
 use Rattle.sb_value.specs.declared.value.ColumnType.{ColumnType}
 use Rattle.sb_value.specs.declared.value.ColumnType.TheVariants as t
 use Rattle.sb_value.specs.declared.value.ColumnDefinition.{ColumnDefinition}
-use Rattle.sb_syntax.specs.declared.kind.Kind.{Kind}
-use Rattle.sb_syntax.specs.declared.kind.Kind.TheVariants as k
+use Rattle.sb_syntax.specs.declared.kind.TokenKind.{TokenKind}
+use Rattle.sb_syntax.specs.declared.kind.TokenKind.TheVariants as k
 use Rattle.sb_syntax.specs.declared.error.Fault.{Fault}
 use Rattle.sb_syntax.specs.declared.error.Fault.TheVariants.{Refused, NoMemory}
 use Rattle.sb_syntax.specs.declared.tree.Arithmetic.TheVariants.{Add, Subtract, Multiply}
@@ -58,11 +58,11 @@ Gives view read (Err e) old new = Fails e read
 
 -- ---- tokens
 
-unfoldable pub kind_at : Input → Option Kind
+unfoldable pub kind_at : Input → Option TokenKind
 kind_at [] = None
 kind_at (t ∷ ts) = Some t.kind
 
-unfoldable pub sees : Kind → Input → Bool
+unfoldable pub sees : TokenKind → Input → Bool
 sees k [] = false
 sees k (t ∷ ts) = same_kind t.kind k
 
@@ -70,24 +70,24 @@ unfoldable pub next : Input → Input
 next [] = []
 next (t ∷ ts) = ts
 
-abbrev pub after : Kind → Input → Input
+abbrev pub after : TokenKind → Input → Input
 after k ts = if sees k ts then next ts else ts
 
-abbrev pub eat : Kind → Reader Bool
+abbrev pub eat : TokenKind → Reader Bool
 eat k = λ ts. Some (sees k ts, after k ts)
 
-unfoldable pub expect : Kind → Reader (Unit {0})
+unfoldable pub expect : TokenKind → Reader (Unit {0})
 expect k ts = if sees k ts then Some (tt, next ts) else None
 
 -- the bytes of a token of this kind
-unfoldable pub bytes_of : Kind → Reader (List ℕ)
+unfoldable pub bytes_of : TokenKind → Reader (List ℕ)
 bytes_of k [] = None
 bytes_of k (t ∷ ts) = if same_kind t.kind k then Some (t.text, ts) else None
 
 -- ---- repetition: what the token's kind joins to what was read so far. The number bounds the turns.
 
 abbrev pub Joins : Type 0 → Type 0 → Type 0
-Joins B A = Option Kind → Option (B → A → B)
+Joins B A = Option TokenKind → Option (B → A → B)
 
 abbrev pub turn : {A B : Type 0} → Option (B → A → B) → Reader A → (B → Reader B) → B → Reader B
 turn None item more acc ts = Some (acc, ts)
@@ -101,15 +101,15 @@ chain joins item (suc n) acc ts = turn (joins (kind_at ts)) item (chain joins it
 abbrev pub chained : {A : Type 0} → Joins A A → Reader A → Reader A
 chained joins item = item >>= λ first. λ ts. chain joins item (length ts) first ts
 
-abbrev pub pushes : {A : Type 0} → Kind → Joins (List A) A
+abbrev pub pushes : {A : Type 0} → TokenKind → Joins (List A) A
 pushes sep None = None
 pushes sep (Some kind) = if same_kind kind sep then Some (λ xs x. xs ++ x ∷ []) else None
 
 -- a list with separators, and one of at most `more` items behind the first
-unfoldable pub separated : {A : Type 0} → Kind → Reader A → Reader (List A)
+unfoldable pub separated : {A : Type 0} → TokenKind → Reader A → Reader (List A)
 separated sep item = item >>= λ first. λ ts. chain (pushes sep) item (length ts) (first ∷ []) ts
 
-unfoldable pub separated_to : {A : Type 0} → ℕ → Kind → Reader A → Reader (List A)
+unfoldable pub separated_to : {A : Type 0} → ℕ → TokenKind → Reader A → Reader (List A)
 separated_to more sep item = item >>= λ first. chain (pushes sep) item more (first ∷ [])
 
 -- ---- names, literals, tables and columns
@@ -129,7 +129,7 @@ text = bytes_of k.Text >>= λ quoted. λ ts. if nat_le (length (unquoted quoted)
 unfoldable pub literal_value : Reader Value
 literal_value ts = if sees k.Integer ts then integer ts else (if sees k.Minus ts then minus ts else text ts)
 
-abbrev pub transition_of : Option Kind → Option TableReference
+abbrev pub transition_of : Option TokenKind → Option TableReference
 transition_of (Some k.Inserted) = Some Inserted
 transition_of (Some k.Deleted) = Some Deleted
 transition_of (Some k.OldUpdated) = Some OldUpdated
@@ -162,7 +162,7 @@ column ts = column_by (transition_of (kind_at ts)) ts
 
 -- ---- expressions
 
-abbrev pub is_literal : Option Kind → Bool
+abbrev pub is_literal : Option TokenKind → Bool
 is_literal (Some k.Integer) = true
 is_literal (Some k.Minus) = true
 is_literal (Some k.Text) = true
@@ -213,7 +213,7 @@ sum_rows = do
 unfoldable pub expressions : Reader (List Expression)
 expressions = separated_to 15 k.Comma expr
 
-abbrev pub items_by : Option Kind → Reader Items
+abbrev pub items_by : Option TokenKind → Reader Items
 items_by (Some k.Star) = all_columns
 items_by (Some k.Count) = count_rows
 items_by (Some k.Sum) = sum_rows
@@ -242,7 +242,7 @@ sources = do
 
 -- ---- conditions
 
-abbrev pub comparison_of : Option Kind → Option Comparison
+abbrev pub comparison_of : Option TokenKind → Option Comparison
 comparison_of (Some k.Equal) = Some c.Equal
 comparison_of (Some k.NotEqual) = Some c.NotEqual
 comparison_of (Some k.Less) = Some c.Less
@@ -386,7 +386,7 @@ deletes = do
   pure (tree.delete n f)
 
 -- by the kind of the first token
-abbrev pub change_by : Option Kind → Reader Statement
+abbrev pub change_by : Option TokenKind → Reader Statement
 change_by (Some k.Insert) = inserts
 change_by (Some k.Delete) = deletes
 change_by (Some k.Update) = updates
@@ -410,12 +410,12 @@ updated = do
   updated_of
 
 -- a word alone
-unfoldable pub word : {A : Type 0} → Kind → A → Reader A
+unfoldable pub word : {A : Type 0} → TokenKind → A → Reader A
 word kind x = do
   expect kind
   pure x
 
-abbrev pub trigger_by : Option Kind → Reader Trigger
+abbrev pub trigger_by : Option TokenKind → Reader Trigger
 trigger_by (Some k.Inserted) = word k.Inserted tree.on_insert
 trigger_by (Some k.Deleted) = word k.Deleted tree.on_delete
 trigger_by _ = updated
@@ -433,10 +433,10 @@ action ts = if sees k.Rollback ts then word k.Rollback tree.rolls_back ts else (
 unfoldable pub actions : Reader (List Action)
 actions = separated_to 7 k.Semicolon action
 
-unfoldable pub listed : Kind → Reader (List Name)
+unfoldable pub listed : TokenKind → Reader (List Name)
 listed kind ts = if sees kind ts then (do expect kind; names) ts else Some ([], ts)
 
-unfoldable pub name_after : Kind → Reader Name
+unfoldable pub name_after : TokenKind → Reader Name
 name_after kind = do
   expect kind
   name
@@ -510,7 +510,7 @@ creates_table = do
   expect k.RightParen
   pure (tree.create_table n cs)
 
-abbrev pub creates_by : Option Kind → Reader Command
+abbrev pub creates_by : Option TokenKind → Reader Command
 creates_by (Some k.Table) = creates_table
 creates_by (Some k.Ruleset) = do n ← name_after k.Ruleset; pure (tree.create_ruleset n)
 creates_by _ = do r ← rule; pure (tree.create_rule r)
@@ -520,7 +520,7 @@ creates = do
   expect k.Create
   (λ ts. creates_by (kind_at ts) ts)
 
-abbrev pub drops_by : Option Kind → Reader Command
+abbrev pub drops_by : Option TokenKind → Reader Command
 drops_by (Some k.Table) = do n ← name_after k.Table; pure (tree.drop_table n)
 drops_by (Some k.Rule) = do n ← name_after k.Rule; pure (tree.drop_rule n)
 drops_by _ = do n ← name_after k.Ruleset; pure (tree.drop_ruleset n)
@@ -530,7 +530,7 @@ drops = do
   expect k.Drop
   (λ ts. drops_by (kind_at ts) ts)
 
-abbrev pub processes_by : Option Kind → Reader Command
+abbrev pub processes_by : Option TokenKind → Reader Command
 processes_by (Some k.Rules) = word k.Rules tree.process_rules
 processes_by (Some k.Rule) = do n ← name_after k.Rule; pure (tree.process_rule n)
 processes_by _ = do n ← name_after k.Ruleset; pure (tree.process_ruleset n)
@@ -560,7 +560,7 @@ alters_ruleset = do
   n ← name_after k.Ruleset
   alters_from n
 
-abbrev pub alters_by : Option Kind → Reader Command
+abbrev pub alters_by : Option TokenKind → Reader Command
 alters_by (Some k.Rule) = do r ← alteration; pure (tree.alter_rule r)
 alters_by _ = alters_ruleset
 
@@ -581,7 +581,7 @@ deactivates = do
   n ← name_after k.Rule
   pure (tree.deactivate_rule n)
 
-abbrev pub leading_command_by : Option Kind → Reader Command
+abbrev pub leading_command_by : Option TokenKind → Reader Command
 leading_command_by (Some k.Open) = word k.Open tree.open_session
 leading_command_by (Some k.End) = word k.End tree.end_session
 leading_command_by (Some k.Begin) = word k.Begin tree.begin

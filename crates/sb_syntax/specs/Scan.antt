@@ -3,15 +3,15 @@ use Rattle.std.specs.Prelude.{ℕ, zero, suc, ◌+◌, ◌-◌, ◌==◌, nat_le
 use Rattle.std.specs.List.{prefix_len}
 use Rattle.sb_value.specs.Printable.{is_printable}
 use Rattle.sb_syntax.specs.declared.cursor.Token.{Token}
-use Rattle.sb_syntax.specs.declared.kind.Kind.{Kind}
-use Rattle.sb_syntax.specs.declared.kind.Kind.TheVariants as k
+use Rattle.sb_syntax.specs.declared.kind.TokenKind.{TokenKind}
+use Rattle.sb_syntax.specs.declared.kind.TokenKind.TheVariants as k
 use Rattle.sb_syntax.specs.Lex.{is_letter, is_digit, is_word, begins, word_kind, transition, two_bytes, one_byte}
 
 -- a kind, and how many bytes
 abbrev pub Found : Type 0
-Found = Option (Kind × ℕ)
+Found = Option (TokenKind × ℕ)
 
-abbrev pub word_by : List ℕ → Option Kind → Found
+abbrev pub word_by : List ℕ → Option TokenKind → Found
 word_by text (Some kind) = Some (kind, 11)
 word_by text None = Some (word_kind (take (prefix_len is_word text) text), prefix_len is_word text)
 
@@ -38,7 +38,7 @@ unfoldable pub text_at : List ℕ → Found
 text_at [] = None
 text_at (b ∷ bs) = text_by (closing bs)
 
-abbrev pub symbol_by : ℕ → Option Kind → Found
+abbrev pub symbol_by : ℕ → Option TokenKind → Found
 symbol_by b (Some kind) = Some (kind, 2)
 symbol_by b None = option_map (λ kind. (kind, 1)) (one_byte b)
 

@@ -7,7 +7,7 @@ ghost use Rattle.sb_syntax.specs.Views as view;
 
 use crate::cursor::Cursor;
 use crate::error::Fault;
-use crate::kind::Kind;
+use crate::kind::TokenKind;
 use crate::list::{Item, list};
 use crate::literal::{name, name_after, names};
 use crate::rule::{alteration, rule};
@@ -20,10 +20,10 @@ use std::alloc::Global;
 fn column_type(tokens: &mut Cursor<'_>) -> Result<ColumnType, Fault>
     ensures { Gives (λ t. t) (spec.column_type tokens.old) result tokens.old tokens.new }
 {
-    if tokens.eat(Kind::IntType) {
+    if tokens.eat(TokenKind::IntType) {
         return Ok(ColumnType::Int);
     }
-    tokens.expect(Kind::TextType)?;
+    tokens.expect(TokenKind::TextType)?;
     Ok(ColumnType::Text)
 }
 
@@ -41,18 +41,18 @@ impl Item for ColumnDefinition {
 fn columns(alloc: Global, tokens: &mut Cursor<'_>) -> Result<Vec<ColumnDefinition>, Fault>
     ensures { Gives (λ v. v.items) (spec.columns tokens.old) result tokens.old tokens.new }
 {
-    list(alloc, tokens, Kind::Comma, Some(COLUMN_LIMIT))
+    list(alloc, tokens, TokenKind::Comma, Some(COLUMN_LIMIT))
 }
 
 #[tactic(auto, unfolding(crate::specs::Reading::creates_table))]
 fn create_table(alloc: Global, tokens: &mut Cursor<'_>) -> Result<Command, Fault>
     ensures { Gives view.command (spec.creates_table tokens.old) result tokens.old tokens.new }
 {
-    tokens.expect(Kind::Table)?;
+    tokens.expect(TokenKind::Table)?;
     let table = name(tokens)?;
-    tokens.expect(Kind::LeftParen)?;
+    tokens.expect(TokenKind::LeftParen)?;
     let columns = columns(alloc, tokens)?;
-    tokens.expect(Kind::RightParen)?;
+    tokens.expect(TokenKind::RightParen)?;
     Ok(Command::CreateTable(table, columns))
 }
 
@@ -60,10 +60,13 @@ fn create_table(alloc: Global, tokens: &mut Cursor<'_>) -> Result<Command, Fault
 fn create(alloc: Global, tokens: &mut Cursor<'_>) -> Result<Command, Fault>
     ensures { Gives view.command (spec.creates tokens.old) result tokens.old tokens.new }
 {
-    tokens.expect(Kind::Create)?;
+    tokens.expect(TokenKind::Create)?;
     match tokens.peek() {
-        Some(Kind::Table) => create_table(alloc, tokens),
-        Some(Kind::Ruleset) => Ok(Command::CreateRuleset(name_after(tokens, Kind::Ruleset)?)),
+        Some(TokenKind::Table) => create_table(alloc, tokens),
+        Some(TokenKind::Ruleset) => Ok(Command::CreateRuleset(name_after(
+            tokens,
+            TokenKind::Ruleset,
+        )?)),
         _ => Ok(Command::CreateRule(Box::new(alloc, rule(alloc, tokens)?)?)),
     }
 }
@@ -72,11 +75,11 @@ fn create(alloc: Global, tokens: &mut Cursor<'_>) -> Result<Command, Fault>
 fn drop_named(tokens: &mut Cursor<'_>) -> Result<Command, Fault>
     ensures { Gives view.command (spec.drops tokens.old) result tokens.old tokens.new }
 {
-    tokens.expect(Kind::Drop)?;
+    tokens.expect(TokenKind::Drop)?;
     match tokens.peek() {
-        Some(Kind::Table) => Ok(Command::DropTable(name_after(tokens, Kind::Table)?)),
-        Some(Kind::Rule) => Ok(Command::DropRule(name_after(tokens, Kind::Rule)?)),
-        _ => Ok(Command::DropRuleset(name_after(tokens, Kind::Ruleset)?)),
+        Some(TokenKind::Table) => Ok(Command::DropTable(name_after(tokens, TokenKind::Table)?)),
+        Some(TokenKind::Rule) => Ok(Command::DropRule(name_after(tokens, TokenKind::Rule)?)),
+        _ => Ok(Command::DropRuleset(name_after(tokens, TokenKind::Ruleset)?)),
     }
 }
 
@@ -84,14 +87,14 @@ fn drop_named(tokens: &mut Cursor<'_>) -> Result<Command, Fault>
 fn process(tokens: &mut Cursor<'_>) -> Result<Command, Fault>
     ensures { Gives view.command (spec.processes tokens.old) result tokens.old tokens.new }
 {
-    tokens.expect(Kind::Process)?;
+    tokens.expect(TokenKind::Process)?;
     match tokens.peek() {
-        Some(Kind::Rules) => {
-            tokens.expect(Kind::Rules)?;
+        Some(TokenKind::Rules) => {
+            tokens.expect(TokenKind::Rules)?;
             Ok(Command::ProcessRules)
         }
-        Some(Kind::Rule) => Ok(Command::ProcessRule(name_after(tokens, Kind::Rule)?)),
-        _ => Ok(Command::ProcessRuleset(name_after(tokens, Kind::Ruleset)?)),
+        Some(TokenKind::Rule) => Ok(Command::ProcessRule(name_after(tokens, TokenKind::Rule)?)),
+        _ => Ok(Command::ProcessRuleset(name_after(tokens, TokenKind::Ruleset)?)),
     }
 }
 
@@ -99,7 +102,7 @@ fn process(tokens: &mut Cursor<'_>) -> Result<Command, Fault>
 fn add_rules(alloc: Global, tokens: &mut Cursor<'_>, target: Name) -> Result<Command, Fault>
     ensures { Gives view.command (spec.adds_rules target tokens.old) result tokens.old tokens.new }
 {
-    tokens.expect(Kind::AddRules)?;
+    tokens.expect(TokenKind::AddRules)?;
     let rules = names(alloc, tokens)?;
     Ok(Command::AddRules(target, rules))
 }
@@ -109,7 +112,7 @@ fn remove_rules(alloc: Global, tokens: &mut Cursor<'_>, target: Name) -> Result<
     ensures { Gives view.command
         (spec.removes_rules target tokens.old) result tokens.old tokens.new }
 {
-    tokens.expect(Kind::DelRules)?;
+    tokens.expect(TokenKind::DelRules)?;
     let rules = names(alloc, tokens)?;
     Ok(Command::DelRules(target, rules))
 }
@@ -118,8 +121,8 @@ fn remove_rules(alloc: Global, tokens: &mut Cursor<'_>, target: Name) -> Result<
 fn alter_ruleset(alloc: Global, tokens: &mut Cursor<'_>) -> Result<Command, Fault>
     ensures { Gives view.command (spec.alters_ruleset tokens.old) result tokens.old tokens.new }
 {
-    let ruleset = name_after(tokens, Kind::Ruleset)?;
-    if tokens.sees(Kind::AddRules) {
+    let ruleset = name_after(tokens, TokenKind::Ruleset)?;
+    if tokens.sees(TokenKind::AddRules) {
         add_rules(alloc, tokens, ruleset)
     } else {
         remove_rules(alloc, tokens, ruleset)
@@ -130,26 +133,29 @@ fn alter_ruleset(alloc: Global, tokens: &mut Cursor<'_>) -> Result<Command, Faul
 fn alter(alloc: Global, tokens: &mut Cursor<'_>) -> Result<Command, Fault>
     ensures { Gives view.command (spec.alters tokens.old) result tokens.old tokens.new }
 {
-    tokens.expect(Kind::Alter)?;
+    tokens.expect(TokenKind::Alter)?;
     match tokens.peek() {
-        Some(Kind::Rule) => Ok(Command::AlterRule(Box::new(alloc, alteration(alloc, tokens)?)?)),
+        Some(TokenKind::Rule) => Ok(Command::AlterRule(Box::new(
+            alloc,
+            alteration(alloc, tokens)?,
+        )?)),
         _ => alter_ruleset(alloc, tokens),
     }
 }
 
 /// The name of a rule, behind this word and `rule`.
-fn rule_behind(tokens: &mut Cursor<'_>, kind: Kind) -> Result<Name, Fault>
+fn rule_behind(tokens: &mut Cursor<'_>, kind: TokenKind) -> Result<Name, Fault>
     ensures { Gives (λ n. n)
-        (and_then (spec.expect kind tokens.old) (λ _. spec.name_after Kind.Rule))
+        (and_then (spec.expect kind tokens.old) (λ _. spec.name_after TokenKind.Rule))
         result tokens.old tokens.new }
 {
     tokens.expect(kind)?;
-    name_after(tokens, Kind::Rule)
+    name_after(tokens, TokenKind::Rule)
 }
 
 /// A command of one word.
 #[tactic(auto, unfolding(crate::specs::Reading::word))]
-fn word(tokens: &mut Cursor<'_>, kind: Kind, command: Command) -> Result<Command, Fault>
+fn word(tokens: &mut Cursor<'_>, kind: TokenKind, command: Command) -> Result<Command, Fault>
     ensures { Gives view.command
         (spec.word kind (view.command command) tokens.old) result tokens.old tokens.new }
 {
@@ -162,21 +168,24 @@ fn leading_command(alloc: Global, tokens: &mut Cursor<'_>) -> Result<Command, Fa
     ensures { Gives view.command (spec.leading_command tokens.old) result tokens.old tokens.new }
 {
     match tokens.peek() {
-        Some(Kind::Open) => word(tokens, Kind::Open, Command::OpenSession),
-        Some(Kind::End) => word(tokens, Kind::End, Command::EndSession),
-        Some(Kind::Begin) => word(tokens, Kind::Begin, Command::Begin),
-        Some(Kind::Commit) => word(tokens, Kind::Commit, Command::Commit),
-        Some(Kind::Rollback) => word(tokens, Kind::Rollback, Command::Rollback),
-        Some(Kind::Create) => create(alloc, tokens),
-        Some(Kind::Drop) => drop_named(tokens),
-        Some(Kind::Alter) => alter(alloc, tokens),
-        Some(Kind::Activate) => Ok(Command::ActivateRule(rule_behind(tokens, Kind::Activate)?)),
-        Some(Kind::Deactivate) => Ok(Command::DeactivateRule(rule_behind(
+        Some(TokenKind::Open) => word(tokens, TokenKind::Open, Command::OpenSession),
+        Some(TokenKind::End) => word(tokens, TokenKind::End, Command::EndSession),
+        Some(TokenKind::Begin) => word(tokens, TokenKind::Begin, Command::Begin),
+        Some(TokenKind::Commit) => word(tokens, TokenKind::Commit, Command::Commit),
+        Some(TokenKind::Rollback) => word(tokens, TokenKind::Rollback, Command::Rollback),
+        Some(TokenKind::Create) => create(alloc, tokens),
+        Some(TokenKind::Drop) => drop_named(tokens),
+        Some(TokenKind::Alter) => alter(alloc, tokens),
+        Some(TokenKind::Activate) => Ok(Command::ActivateRule(rule_behind(
             tokens,
-            Kind::Deactivate,
+            TokenKind::Activate,
         )?)),
-        Some(Kind::Process) => process(tokens),
-        Some(Kind::Select) => Ok(Command::Query(whole_query(alloc, tokens)?)),
+        Some(TokenKind::Deactivate) => Ok(Command::DeactivateRule(rule_behind(
+            tokens,
+            TokenKind::Deactivate,
+        )?)),
+        Some(TokenKind::Process) => process(tokens),
+        Some(TokenKind::Select) => Ok(Command::Query(whole_query(alloc, tokens)?)),
         _ => Ok(Command::Change(change(alloc, tokens)?)),
     }
 }

@@ -6,13 +6,13 @@ ghost use Rattle.sb_syntax.specs.Reading.{Gives};
 ghost use Rattle.sb_syntax.specs.Cursor.{AllWithin, lexemes};
 
 use crate::error::Fault;
-use crate::kind::Kind;
+use crate::kind::TokenKind;
 use std::marker::Model;
 
 /// A token: its kind, and where its bytes begin and end.
 #[derive(Clone, Copy)]
 pub struct Token {
-    pub kind: Kind,
+    pub kind: TokenKind,
     pub start: u32,
     pub end: u32,
 }
@@ -71,7 +71,7 @@ impl<'a> Cursor<'a> {
 
     /// The kind of the next token.
     #[tactic(auto, unfolding(crate::specs::Reading::kind_at))]
-    pub fn peek(&self) -> Option<Kind>
+    pub fn peek(&self) -> Option<TokenKind>
         ensures { result ≡ spec.kind_at self.now }
     {
         match self.tokens {
@@ -82,7 +82,7 @@ impl<'a> Cursor<'a> {
 
     /// Whether the next token is of that kind.
     #[tactic(auto, unfolding(crate::specs::Input::same_kind, crate::specs::Reading::sees))]
-    pub fn sees(&self, kind: Kind) -> bool
+    pub fn sees(&self, kind: TokenKind) -> bool
         ensures { result ≡ spec.sees kind self.now }
     {
         match self.tokens {
@@ -103,7 +103,7 @@ impl<'a> Cursor<'a> {
     }
 
     /// Takes the next token if it is of that kind, and says whether it did.
-    pub fn eat(&mut self, kind: Kind) -> bool
+    pub fn eat(&mut self, kind: TokenKind) -> bool
         ensures found { result ≡ spec.sees kind self.old }
         ensures after { self.new ≡ spec.after kind self.old }
         ensures shorter { length self.new ≤ length self.old }
@@ -117,7 +117,7 @@ impl<'a> Cursor<'a> {
 
     /// Takes the next token, which has to be of that kind.
     #[tactic(auto, unfolding(crate::specs::Reading::expect))]
-    pub fn expect(&mut self, kind: Kind) -> Result<(), Fault>
+    pub fn expect(&mut self, kind: TokenKind) -> Result<(), Fault>
         ensures { Gives (λ _. tt) (spec.expect kind self.old) result self.old self.new }
     {
         if self.sees(kind) {
@@ -131,7 +131,7 @@ impl<'a> Cursor<'a> {
     /// The bytes of the next token, if it is of this kind.
     #[inline(always)]
     #[tactic(auto, unfolding(crate::specs::Input::same_kind, crate::specs::Reading::bytes_of, crate::specs::Reading::next))]
-    pub fn bytes_of(&self, kind: Kind) -> Option<&'a [u8]>
+    pub fn bytes_of(&self, kind: TokenKind) -> Option<&'a [u8]>
         ensures { spec.bytes_of kind self.now
             ≡ option_map (λ bytes. (bytes.now, spec.next self.now)) result }
     {

@@ -8,20 +8,20 @@ ghost use Rattle.sb_syntax.specs.Views as view;
 
 use crate::cursor::Cursor;
 use crate::error::Fault;
-use crate::kind::Kind;
+use crate::kind::TokenKind;
 use crate::literal::{literal_value, name};
 use crate::tree::{Arithmetic, ColumnReference, Expression, TableReference};
 use sb_value::Name;
 use std::alloc::{AllocError, Global};
 
-fn transition_of(kind: Option<Kind>) -> Option<TableReference>
+fn transition_of(kind: Option<TokenKind>) -> Option<TableReference>
     ensures { result ≡ spec.transition_of kind }
 {
     match kind {
-        Some(Kind::Inserted) => Some(TableReference::Inserted),
-        Some(Kind::Deleted) => Some(TableReference::Deleted),
-        Some(Kind::OldUpdated) => Some(TableReference::OldUpdated),
-        Some(Kind::NewUpdated) => Some(TableReference::NewUpdated),
+        Some(TokenKind::Inserted) => Some(TableReference::Inserted),
+        Some(TokenKind::Deleted) => Some(TableReference::Deleted),
+        Some(TokenKind::OldUpdated) => Some(TableReference::OldUpdated),
+        Some(TokenKind::NewUpdated) => Some(TableReference::NewUpdated),
         _ => None,
     }
 }
@@ -44,7 +44,7 @@ pub fn table(tokens: &mut Cursor<'_>) -> Result<TableReference, Fault>
 fn column_from(tokens: &mut Cursor<'_>, table: TableReference) -> Result<ColumnReference, Fault>
     ensures { Gives (λ c. c) (spec.column_from table tokens.old) result tokens.old tokens.new }
 {
-    tokens.expect(Kind::Dot)?;
+    tokens.expect(TokenKind::Dot)?;
     Ok(ColumnReference::Qualified(table, name(tokens)?))
 }
 
@@ -54,7 +54,7 @@ fn column_from(tokens: &mut Cursor<'_>, table: TableReference) -> Result<ColumnR
 fn column_after(tokens: &mut Cursor<'_>, first: Name) -> Result<ColumnReference, Fault>
     ensures { Gives (λ c. c) (spec.column_after first tokens.old) result tokens.old tokens.new }
 {
-    if tokens.sees(Kind::Dot) {
+    if tokens.sees(TokenKind::Dot) {
         column_from(tokens, TableReference::Named(first))
     } else {
         Ok(ColumnReference::Plain(first))
@@ -74,10 +74,13 @@ fn column(tokens: &mut Cursor<'_>) -> Result<ColumnReference, Fault>
     column_after(tokens, first)
 }
 
-fn is_literal(kind: Option<Kind>) -> bool
+fn is_literal(kind: Option<TokenKind>) -> bool
     ensures { result ≡ spec.is_literal kind }
 {
-    matches!(kind, Some(Kind::Integer | Kind::Minus | Kind::Text))
+    matches!(
+        kind,
+        Some(TokenKind::Integer | TokenKind::Minus | TokenKind::Text)
+    )
 }
 
 #[inline(always)]
@@ -92,21 +95,21 @@ fn factor(alloc: Global, tokens: &mut Cursor<'_>) -> Result<Expression, Fault>
     }
 }
 
-fn multiplies(kind: Option<Kind>) -> Option<Arithmetic>
+fn multiplies(kind: Option<TokenKind>) -> Option<Arithmetic>
     ensures { spec.multiplies kind ≡ option_map (λ op a b. tree.binary a op b) result }
 {
     match kind {
-        Some(Kind::Star) => Some(Arithmetic::Multiply),
+        Some(TokenKind::Star) => Some(Arithmetic::Multiply),
         _ => None,
     }
 }
 
-fn adds(kind: Option<Kind>) -> Option<Arithmetic>
+fn adds(kind: Option<TokenKind>) -> Option<Arithmetic>
     ensures { spec.adds kind ≡ option_map (λ op a b. tree.binary a op b) result }
 {
     match kind {
-        Some(Kind::Plus) => Some(Arithmetic::Add),
-        Some(Kind::Minus) => Some(Arithmetic::Subtract),
+        Some(TokenKind::Plus) => Some(Arithmetic::Add),
+        Some(TokenKind::Minus) => Some(Arithmetic::Subtract),
         _ => None,
     }
 }

@@ -18,7 +18,7 @@ mod tree;
 
 pub use cursor::Token;
 pub use error::ParseError;
-pub use kind::Kind;
+pub use kind::TokenKind;
 pub use token::{
     COMMAND_LIMIT, command_of_is_the_grammar, one_command, parse, tokens, values_spell_themselves,
 };

@@ -5,7 +5,7 @@ ghost use Rattle.sb_syntax.specs.Lists.{has_room, follows, HasRead, EndsAt, IsRe
 
 use crate::cursor::Cursor;
 use crate::error::Fault;
-use crate::kind::Kind;
+use crate::kind::TokenKind;
 use std::alloc::Global;
 
 /// What lists are of.
@@ -33,7 +33,7 @@ fn has_room(most: Option<usize>, len: usize) -> bool
 }
 
 /// Whether one more item follows those `len` of a list.
-fn follows(tokens: &Cursor<'_>, separator: Kind, most: Option<usize>, len: usize) -> bool
+fn follows(tokens: &Cursor<'_>, separator: TokenKind, most: Option<usize>, len: usize) -> bool
     ensures { result ≡ follows separator most len tokens.now }
 {
     tokens.sees(separator) && has_room(most, len)
@@ -43,7 +43,7 @@ fn follows(tokens: &Cursor<'_>, separator: Kind, most: Option<usize>, len: usize
 pub fn list<T: Item>(
     alloc: Global,
     tokens: &mut Cursor<'_>,
-    separator: Kind,
+    separator: TokenKind,
     most: Option<usize>,
 ) -> Result<Vec<T>, Fault>
     ensures read { IfOk result (λ v. HasRead separator most T.gives tokens.old v.items tokens.new) }

@@ -10,7 +10,7 @@ ghost use Rattle.sb_syntax.specs.Reading.{Gives};
 
 use crate::cursor::Cursor;
 use crate::error::Fault;
-use crate::kind::Kind;
+use crate::kind::TokenKind;
 use crate::list::{Item, list};
 use sb_value::{NAME_LIMIT, Name, TEXT_LIMIT, Text, Value};
 use std::alloc::{AllocError, Global};
@@ -20,7 +20,7 @@ use std::alloc::{AllocError, Global};
 pub fn name(tokens: &mut Cursor<'_>) -> Result<Name, Fault>
     ensures { Gives (λ n. n) (spec.name tokens.old) result tokens.old tokens.new }
 {
-    let Some(bytes) = tokens.bytes_of(Kind::Name) else {
+    let Some(bytes) = tokens.bytes_of(TokenKind::Name) else {
         return Err(Fault::Refused);
     };
     if bytes.is_empty() || bytes.len() > NAME_LIMIT {
@@ -32,7 +32,7 @@ pub fn name(tokens: &mut Cursor<'_>) -> Result<Name, Fault>
 
 /// A name behind this word.
 #[tactic(auto, unfolding(crate::specs::Reading::name_after))]
-pub fn name_after(tokens: &mut Cursor<'_>, kind: Kind) -> Result<Name, Fault>
+pub fn name_after(tokens: &mut Cursor<'_>, kind: TokenKind) -> Result<Name, Fault>
     ensures { Gives (λ n. n) (spec.name_after kind tokens.old) result tokens.old tokens.new }
 {
     tokens.expect(kind)?;
@@ -51,7 +51,7 @@ impl Item for Name {
 pub fn names(alloc: Global, tokens: &mut Cursor<'_>) -> Result<Vec<Name>, Fault>
     ensures { Gives (λ v. v.items) (spec.names tokens.old) result tokens.old tokens.new }
 {
-    list(alloc, tokens, Kind::Comma, None)
+    list(alloc, tokens, TokenKind::Comma, None)
 }
 
 const LIMIT: u64 = 0x8000_0000_0000_0000;
@@ -80,7 +80,7 @@ fn decimal(digits: &[u8]) -> u64
 fn integer(tokens: &mut Cursor<'_>) -> Result<Value, Fault>
     ensures { Gives (λ v. v) (spec.integer tokens.old) result tokens.old tokens.new }
 {
-    let Some(digits) = tokens.bytes_of(Kind::Integer) else {
+    let Some(digits) = tokens.bytes_of(TokenKind::Integer) else {
         return Err(Fault::Refused);
     };
     let n = decimal(digits);
@@ -96,8 +96,8 @@ fn integer(tokens: &mut Cursor<'_>) -> Result<Value, Fault>
 fn minus(tokens: &mut Cursor<'_>) -> Result<Value, Fault>
     ensures { Gives (λ v. v) (spec.minus tokens.old) result tokens.old tokens.new }
 {
-    tokens.expect(Kind::Minus)?;
-    let Some(digits) = tokens.bytes_of(Kind::Integer) else {
+    tokens.expect(TokenKind::Minus)?;
+    let Some(digits) = tokens.bytes_of(TokenKind::Integer) else {
         return Err(Fault::Refused);
     };
     let n = decimal(digits);
@@ -194,7 +194,7 @@ fn all_printable(bytes: &[u8]) -> bool
 fn text(alloc: Global, tokens: &mut Cursor<'_>) -> Result<Value, Fault>
     ensures { Gives (λ v. v) (spec.text tokens.old) result tokens.old tokens.new }
 {
-    let Some(quoted) = tokens.bytes_of(Kind::Text) else {
+    let Some(quoted) = tokens.bytes_of(TokenKind::Text) else {
         return Err(Fault::Refused);
     };
     if let Some(bytes) = bare(alloc, quoted)? {
@@ -217,9 +217,9 @@ fn text(alloc: Global, tokens: &mut Cursor<'_>) -> Result<Value, Fault>
 pub fn literal_value(alloc: Global, tokens: &mut Cursor<'_>) -> Result<Value, Fault>
     ensures { Gives (λ v. v) (spec.literal_value tokens.old) result tokens.old tokens.new }
 {
-    if tokens.sees(Kind::Integer) {
+    if tokens.sees(TokenKind::Integer) {
         integer(tokens)
-    } else if tokens.sees(Kind::Minus) {
+    } else if tokens.sees(TokenKind::Minus) {
         minus(tokens)
     } else {
         text(alloc, tokens)

@@ -9,7 +9,7 @@ ghost use Rattle.sb_syntax.specs.Views as view;
 use crate::cursor::Cursor;
 use crate::error::Fault;
 use crate::expression::expr;
-use crate::kind::Kind;
+use crate::kind::TokenKind;
 use crate::select::{items, sources};
 use crate::tree::{Comparison, Condition, Expression, Operand, Query};
 use std::alloc::{AllocError, Global};
@@ -17,16 +17,16 @@ use std::alloc::{AllocError, Global};
 /// How deep `not` and parentheses nest in one condition.
 const MAX_NESTING: usize = 32;
 
-fn comparison_of(kind: Option<Kind>) -> Option<Comparison>
+fn comparison_of(kind: Option<TokenKind>) -> Option<Comparison>
     ensures { result ≡ spec.comparison_of kind }
 {
     match kind {
-        Some(Kind::Equal) => Some(Comparison::Equal),
-        Some(Kind::NotEqual) => Some(Comparison::NotEqual),
-        Some(Kind::Less) => Some(Comparison::Less),
-        Some(Kind::LessEqual) => Some(Comparison::LessEqual),
-        Some(Kind::Greater) => Some(Comparison::Greater),
-        Some(Kind::GreaterEqual) => Some(Comparison::GreaterEqual),
+        Some(TokenKind::Equal) => Some(Comparison::Equal),
+        Some(TokenKind::NotEqual) => Some(Comparison::NotEqual),
+        Some(TokenKind::Less) => Some(Comparison::Less),
+        Some(TokenKind::LessEqual) => Some(Comparison::LessEqual),
+        Some(TokenKind::Greater) => Some(Comparison::Greater),
+        Some(TokenKind::GreaterEqual) => Some(Comparison::GreaterEqual),
         _ => None,
     }
 }
@@ -85,9 +85,9 @@ fn subquery(alloc: Global, tokens: &mut Cursor<'_>, depth: usize) -> Result<Quer
     if depth == 0 {
         return Err(Fault::Refused);
     }
-    tokens.expect(Kind::LeftParen)?;
+    tokens.expect(TokenKind::LeftParen)?;
     let inner = query(alloc, tokens, depth - 1)?;
-    tokens.expect(Kind::RightParen)?;
+    tokens.expect(TokenKind::RightParen)?;
     Ok(inner)
 }
 
@@ -98,7 +98,7 @@ pub fn operand(alloc: Global, tokens: &mut Cursor<'_>, depth: usize) -> Result<O
     ensures { Gives view.operand
         (spec.operand (spec.inner_query depth) tokens.old) result tokens.old tokens.new }
 {
-    if tokens.sees(Kind::LeftParen) {
+    if tokens.sees(TokenKind::LeftParen) {
         let inner = subquery(alloc, tokens, depth)?;
         Ok(answer(alloc, inner)?)
     } else {
@@ -118,8 +118,8 @@ fn member(
         (spec.member (spec.inner_query depth) (view.expression left) tokens.old)
         result tokens.old tokens.new }
 {
-    let is_negated = tokens.eat(Kind::Not);
-    tokens.expect(Kind::In)?;
+    let is_negated = tokens.eat(TokenKind::Not);
+    tokens.expect(TokenKind::In)?;
     let inner = subquery(alloc, tokens, depth)?;
     Ok(within(alloc, left, is_negated, inner)?)
 }
@@ -130,8 +130,8 @@ fn predicate(alloc: Global, tokens: &mut Cursor<'_>, depth: usize) -> Result<Box
     ensures { Gives (λ c. view.condition c.value)
         (spec.predicate (spec.inner_query depth) tokens.old) result tokens.old tokens.new }
 {
-    if tokens.sees(Kind::Exists) {
-        tokens.expect(Kind::Exists)?;
+    if tokens.sees(TokenKind::Exists) {
+        tokens.expect(TokenKind::Exists)?;
         let inner = subquery(alloc, tokens, depth)?;
         return Ok(exists(alloc, inner)?);
     }
@@ -150,14 +150,14 @@ fn neg(alloc: Global, tokens: &mut Cursor<'_>, depth: usize, nesting: usize) -> 
     ensures { Gives (λ c. view.condition c.value)
         (spec.neg (spec.inner_query depth) nesting tokens.old) result tokens.old tokens.new }
 {
-    if tokens.sees(Kind::Not) {
+    if tokens.sees(TokenKind::Not) {
         if nesting == 0 {
             return Err(Fault::Refused);
         }
-        tokens.expect(Kind::Not)?;
+        tokens.expect(TokenKind::Not)?;
         let inner = neg(alloc, tokens, depth, nesting - 1)?;
         Ok(negation(alloc, inner)?)
-    } else if tokens.sees(Kind::LeftParen) {
+    } else if tokens.sees(TokenKind::LeftParen) {
         group(alloc, tokens, depth, nesting)
     } else {
         predicate(alloc, tokens, depth)
@@ -180,24 +180,24 @@ fn group(
     if nesting == 0 {
         return Err(Fault::Refused);
     }
-    tokens.expect(Kind::LeftParen)?;
+    tokens.expect(TokenKind::LeftParen)?;
     let inner = cond(alloc, tokens, depth, nesting - 1)?;
-    tokens.expect(Kind::RightParen)?;
+    tokens.expect(TokenKind::RightParen)?;
     Ok(inner)
 }
 
-fn ands(kind: Option<Kind>) -> bool
+fn ands(kind: Option<TokenKind>) -> bool
     ensures yes { result ≡ true → spec.ands kind ≡ Some tree.conjunction }
     ensures no { result ≡ false → spec.ands kind ≡ None }
 {
-    matches!(kind, Some(Kind::And))
+    matches!(kind, Some(TokenKind::And))
 }
 
-fn ors(kind: Option<Kind>) -> bool
+fn ors(kind: Option<TokenKind>) -> bool
     ensures yes { result ≡ true → spec.ors kind ≡ Some tree.disjunction }
     ensures no { result ≡ false → spec.ors kind ≡ None }
 {
-    matches!(kind, Some(Kind::Or))
+    matches!(kind, Some(TokenKind::Or))
 }
 
 #[cycle(query)]
@@ -253,10 +253,10 @@ pub fn filter(
     ensures { Gives view.filter
         (spec.filter (spec.inner_query depth) tokens.old) result tokens.old tokens.new }
 {
-    if !tokens.sees(Kind::Where) {
+    if !tokens.sees(TokenKind::Where) {
         return Ok(None);
     }
-    tokens.expect(Kind::Where)?;
+    tokens.expect(TokenKind::Where)?;
     let condition = cond(alloc, tokens, depth, MAX_NESTING)?;
     Ok(Some(Box::into_inner(condition)))
 }
@@ -267,9 +267,9 @@ pub fn filter(
 pub fn query(alloc: Global, tokens: &mut Cursor<'_>, depth: usize) -> Result<Query, Fault>
     ensures { Gives view.query (spec.query_to depth tokens.old) result tokens.old tokens.new }
 {
-    tokens.expect(Kind::Select)?;
+    tokens.expect(TokenKind::Select)?;
     let items = items(alloc, tokens)?;
-    tokens.expect(Kind::From)?;
+    tokens.expect(TokenKind::From)?;
     let sources = sources(alloc, tokens)?;
     let filter = filter(alloc, tokens, depth)?;
     Ok(Query {

@@ -7,7 +7,7 @@ ghost use Rattle.sb_syntax.specs.Views as view;
 
 use crate::cursor::Cursor;
 use crate::error::Fault;
-use crate::kind::Kind;
+use crate::kind::TokenKind;
 use crate::list::{Item, list};
 use crate::literal::{name_after, names};
 use crate::query::query;
@@ -24,12 +24,12 @@ const MAX_ACTIONS: usize = 8;
 fn updated_of(alloc: Global, tokens: &mut Cursor<'_>) -> Result<Trigger, Fault>
     ensures { Gives view.trigger (spec.updated_of tokens.old) result tokens.old tokens.new }
 {
-    if !tokens.sees(Kind::LeftParen) {
+    if !tokens.sees(TokenKind::LeftParen) {
         return Ok(Trigger::Update);
     }
-    tokens.expect(Kind::LeftParen)?;
+    tokens.expect(TokenKind::LeftParen)?;
     let columns = names(alloc, tokens)?;
-    tokens.expect(Kind::RightParen)?;
+    tokens.expect(TokenKind::RightParen)?;
     Ok(Trigger::UpdateOf(columns))
 }
 
@@ -39,16 +39,16 @@ impl Item for Trigger {
     #[tactic(auto, unfolding(crate::specs::Reading::trigger, crate::specs::Reading::updated, crate::specs::Reading::word))]
     fn read(alloc: Global, tokens: &mut Cursor<'_>) -> Result<Trigger, Fault> {
         match tokens.peek() {
-            Some(Kind::Inserted) => {
-                tokens.expect(Kind::Inserted)?;
+            Some(TokenKind::Inserted) => {
+                tokens.expect(TokenKind::Inserted)?;
                 Ok(Trigger::Insert)
             }
-            Some(Kind::Deleted) => {
-                tokens.expect(Kind::Deleted)?;
+            Some(TokenKind::Deleted) => {
+                tokens.expect(TokenKind::Deleted)?;
                 Ok(Trigger::Delete)
             }
             _ => {
-                tokens.expect(Kind::Updated)?;
+                tokens.expect(TokenKind::Updated)?;
                 updated_of(alloc, tokens)
             }
         }
@@ -57,9 +57,9 @@ impl Item for Trigger {
 
 fn triggers(alloc: Global, tokens: &mut Cursor<'_>) -> Result<Vec<Trigger>, Fault>
     ensures { Gives (λ v. map view.trigger v.items)
-        (spec.separated Kind.Comma spec.trigger tokens.old) result tokens.old tokens.new }
+        (spec.separated TokenKind.Comma spec.trigger tokens.old) result tokens.old tokens.new }
 {
-    list(alloc, tokens, Kind::Comma, None)
+    list(alloc, tokens, TokenKind::Comma, None)
 }
 
 #[tactic(auto, unfolding(crate::specs::Reading::condition_if))]
@@ -67,10 +67,10 @@ fn condition(alloc: Global, tokens: &mut Cursor<'_>) -> Result<Option<Query>, Fa
     ensures { Gives (option_map view.query)
         (spec.condition_if tokens.old) result tokens.old tokens.new }
 {
-    if !tokens.sees(Kind::If) {
+    if !tokens.sees(TokenKind::If) {
         return Ok(None);
     }
-    tokens.expect(Kind::If)?;
+    tokens.expect(TokenKind::If)?;
     Ok(Some(query(alloc, tokens, MAX_DEPTH)?))
 }
 
@@ -79,8 +79,8 @@ impl Item for Action {
 
     #[tactic(auto, unfolding(crate::specs::Reading::action, crate::specs::Reading::word))]
     fn read(alloc: Global, tokens: &mut Cursor<'_>) -> Result<Action, Fault> {
-        if tokens.sees(Kind::Rollback) {
-            tokens.expect(Kind::Rollback)?;
+        if tokens.sees(TokenKind::Rollback) {
+            tokens.expect(TokenKind::Rollback)?;
             Ok(Action::Rollback)
         } else {
             Ok(Action::Change(change(alloc, tokens)?))
@@ -92,12 +92,12 @@ fn actions(alloc: Global, tokens: &mut Cursor<'_>) -> Result<Vec<Action>, Fault>
     ensures { Gives (λ v. map view.action v.items)
         (spec.actions tokens.old) result tokens.old tokens.new }
 {
-    list(alloc, tokens, Kind::Semicolon, Some(MAX_ACTIONS))
+    list(alloc, tokens, TokenKind::Semicolon, Some(MAX_ACTIONS))
 }
 
 /// The names behind this word, if it stands there.
 #[tactic(auto, unfolding(crate::specs::Reading::listed))]
-fn listed(alloc: Global, tokens: &mut Cursor<'_>, kind: Kind) -> Result<Vec<Name>, Fault>
+fn listed(alloc: Global, tokens: &mut Cursor<'_>, kind: TokenKind) -> Result<Vec<Name>, Fault>
     ensures { Gives (λ v. v.items) (spec.listed kind tokens.old) result tokens.old tokens.new }
 {
     if !tokens.sees(kind) {
@@ -120,9 +120,9 @@ fn head(alloc: Global, tokens: &mut Cursor<'_>) -> Result<RuleHead, Fault>
     ensures { Gives (λ h. (h.name, h.table, map view.trigger h.triggers.items))
         (spec.rule_head tokens.old) result tokens.old tokens.new }
 {
-    let name = name_after(tokens, Kind::Rule)?;
-    let table = name_after(tokens, Kind::On)?;
-    tokens.expect(Kind::When)?;
+    let name = name_after(tokens, TokenKind::Rule)?;
+    let table = name_after(tokens, TokenKind::On)?;
+    tokens.expect(TokenKind::When)?;
     let triggers = triggers(alloc, tokens)?;
     Ok(RuleHead {
         name,
@@ -138,10 +138,10 @@ fn body(alloc: Global, tokens: &mut Cursor<'_>, head: RuleHead) -> Result<RuleTe
         result tokens.old tokens.new }
 {
     let condition = condition(alloc, tokens)?;
-    tokens.expect(Kind::Then)?;
+    tokens.expect(TokenKind::Then)?;
     let actions = actions(alloc, tokens)?;
-    let precedes = listed(alloc, tokens, Kind::Precedes)?;
-    let follows = listed(alloc, tokens, Kind::Follows)?;
+    let precedes = listed(alloc, tokens, TokenKind::Precedes)?;
+    let follows = listed(alloc, tokens, TokenKind::Follows)?;
     Ok(RuleText {
         name: head.name,
         table: head.table,
@@ -168,10 +168,10 @@ fn actions_then(alloc: Global, tokens: &mut Cursor<'_>) -> Result<Option<Vec<Act
     ensures { Gives (option_map (λ v. map view.action v.items))
         (spec.actions_then tokens.old) result tokens.old tokens.new }
 {
-    if !tokens.sees(Kind::Then) {
+    if !tokens.sees(TokenKind::Then) {
         return Ok(None);
     }
-    tokens.expect(Kind::Then)?;
+    tokens.expect(TokenKind::Then)?;
     Ok(Some(actions(alloc, tokens)?))
 }
 
@@ -180,12 +180,12 @@ fn actions_then(alloc: Global, tokens: &mut Cursor<'_>) -> Result<Option<Vec<Act
 pub fn alteration(alloc: Global, tokens: &mut Cursor<'_>) -> Result<AlterationText, Fault>
     ensures { Gives view.alteration (spec.alteration tokens.old) result tokens.old tokens.new }
 {
-    let name = name_after(tokens, Kind::Rule)?;
+    let name = name_after(tokens, TokenKind::Rule)?;
     let condition = condition(alloc, tokens)?;
     let actions = actions_then(alloc, tokens)?;
-    let precedes = listed(alloc, tokens, Kind::Precedes)?;
-    let follows = listed(alloc, tokens, Kind::Follows)?;
-    let nopriority = listed(alloc, tokens, Kind::NoPriority)?;
+    let precedes = listed(alloc, tokens, TokenKind::Precedes)?;
+    let follows = listed(alloc, tokens, TokenKind::Follows)?;
+    let nopriority = listed(alloc, tokens, TokenKind::NoPriority)?;
     Ok(AlterationText {
         name,
         condition,

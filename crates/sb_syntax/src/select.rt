@@ -8,7 +8,7 @@ ghost use Rattle.sb_syntax.specs.Views as view;
 use crate::cursor::Cursor;
 use crate::error::Fault;
 use crate::expression::{expr, table};
-use crate::kind::Kind;
+use crate::kind::TokenKind;
 use crate::list::{Item, list};
 use crate::literal::name;
 use crate::tree::{Expression, Items, SourceReference, TableReference};
@@ -22,7 +22,7 @@ const MAX_ITEMS: usize = 16;
 fn all_columns(tokens: &mut Cursor<'_>) -> Result<Items, Fault>
     ensures { Gives view.items (spec.all_columns tokens.old) result tokens.old tokens.new }
 {
-    tokens.expect(Kind::Star)?;
+    tokens.expect(TokenKind::Star)?;
     Ok(Items::All)
 }
 
@@ -30,10 +30,10 @@ fn all_columns(tokens: &mut Cursor<'_>) -> Result<Items, Fault>
 fn count_rows(tokens: &mut Cursor<'_>) -> Result<Items, Fault>
     ensures { Gives view.items (spec.count_rows tokens.old) result tokens.old tokens.new }
 {
-    tokens.expect(Kind::Count)?;
-    tokens.expect(Kind::LeftParen)?;
-    tokens.expect(Kind::Star)?;
-    tokens.expect(Kind::RightParen)?;
+    tokens.expect(TokenKind::Count)?;
+    tokens.expect(TokenKind::LeftParen)?;
+    tokens.expect(TokenKind::Star)?;
+    tokens.expect(TokenKind::RightParen)?;
     Ok(Items::Count)
 }
 
@@ -41,10 +41,10 @@ fn count_rows(tokens: &mut Cursor<'_>) -> Result<Items, Fault>
 fn sum_rows(alloc: Global, tokens: &mut Cursor<'_>) -> Result<Items, Fault>
     ensures { Gives view.items (spec.sum_rows tokens.old) result tokens.old tokens.new }
 {
-    tokens.expect(Kind::Sum)?;
-    tokens.expect(Kind::LeftParen)?;
+    tokens.expect(TokenKind::Sum)?;
+    tokens.expect(TokenKind::LeftParen)?;
     let summand = expr(alloc, tokens)?;
-    tokens.expect(Kind::RightParen)?;
+    tokens.expect(TokenKind::RightParen)?;
     Ok(Items::Sum(summand))
 }
 
@@ -60,7 +60,7 @@ fn expressions(alloc: Global, tokens: &mut Cursor<'_>) -> Result<Vec<Expression>
     ensures { Gives (λ v. map view.expression v.items)
         (spec.expressions tokens.old) result tokens.old tokens.new }
 {
-    list(alloc, tokens, Kind::Comma, Some(MAX_ITEMS))
+    list(alloc, tokens, TokenKind::Comma, Some(MAX_ITEMS))
 }
 
 /// What a query lists.
@@ -69,9 +69,9 @@ pub fn items(alloc: Global, tokens: &mut Cursor<'_>) -> Result<Items, Fault>
     ensures { Gives view.items (spec.items tokens.old) result tokens.old tokens.new }
 {
     match tokens.peek() {
-        Some(Kind::Star) => all_columns(tokens),
-        Some(Kind::Count) => count_rows(tokens),
-        Some(Kind::Sum) => sum_rows(alloc, tokens),
+        Some(TokenKind::Star) => all_columns(tokens),
+        Some(TokenKind::Count) => count_rows(tokens),
+        Some(TokenKind::Sum) => sum_rows(alloc, tokens),
         _ => Ok(Items::Each(expressions(alloc, tokens)?)),
     }
 }
@@ -80,7 +80,7 @@ pub fn items(alloc: Global, tokens: &mut Cursor<'_>) -> Result<Items, Fault>
 fn alias(tokens: &mut Cursor<'_>) -> Result<Option<Name>, Fault>
     ensures { Gives (λ n. n) (spec.alias tokens.old) result tokens.old tokens.new }
 {
-    if tokens.sees(Kind::Name) {
+    if tokens.sees(TokenKind::Name) {
         Ok(Some(name(tokens)?))
     } else {
         Ok(None)
@@ -106,8 +106,8 @@ pub fn sources(alloc: Global, tokens: &mut Cursor<'_>) -> Result<Vec<SourceRefer
     // The check of a list of these needs the types of both fields among the locals.
     let (_table, _alias): (TableReference, Option<Name>) = (first.table, first.alias);
     all.push(first)?;
-    if tokens.sees(Kind::Comma) {
-        tokens.expect(Kind::Comma)?;
+    if tokens.sees(TokenKind::Comma) {
+        tokens.expect(TokenKind::Comma)?;
         let second = source(tokens)?;
         all.push(second)?;
     }

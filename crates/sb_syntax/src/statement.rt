@@ -7,7 +7,7 @@ ghost use Rattle.sb_syntax.specs.Views as view;
 
 use crate::cursor::Cursor;
 use crate::error::Fault;
-use crate::kind::Kind;
+use crate::kind::TokenKind;
 use crate::list::{Item, list};
 use crate::literal::{literal_value, name};
 use crate::query::{filter, operand, query};
@@ -24,12 +24,12 @@ pub const MAX_DEPTH: usize = 4;
 fn literals(alloc: Global, tokens: &mut Cursor<'_>, all: &mut OpenTuples) -> Result<(), Fault>
     requires { all.old.begun ≡ [] }
     ensures read { Gives (λ _. all.new.begun)
-        (spec.separated Kind.Comma spec.literal_value tokens.old) result tokens.old tokens.new }
+        (spec.separated TokenKind.Comma spec.literal_value tokens.old) result tokens.old tokens.new }
     ensures closed { all.new.closed ≡ all.old.closed }
 {
     let first = literal_value(alloc, tokens)?;
     all.push(first)?;
-    'more: while tokens.sees(Kind::Comma) {
+    'more: while tokens.sees(TokenKind::Comma) {
         tokens.skip();
         let item = literal_value(alloc, tokens)?;
         all.push(item)?;
@@ -43,26 +43,26 @@ fn tuple(alloc: Global, tokens: &mut Cursor<'_>, all: &mut OpenTuples) -> Result
     ensures read { Gives (λ _. all.new.begun) (spec.tuple tokens.old) result tokens.old tokens.new }
     ensures closed { all.new.closed ≡ all.old.closed }
 {
-    tokens.expect(Kind::LeftParen)?;
+    tokens.expect(TokenKind::LeftParen)?;
     // A cursor of its own, which stays in registers.
     let mut here = tokens.copied();
     let read = literals(alloc, &mut here, all);
     *tokens = here;
     read?;
-    tokens.expect(Kind::RightParen)?;
+    tokens.expect(TokenKind::RightParen)?;
     Ok(())
 }
 
 #[tactic(auto, unfolding(crate::specs::Reading::separated))]
 fn tuples(alloc: Global, tokens: &mut Cursor<'_>) -> Result<Tuples, Fault>
     ensures { Gives (λ v. v)
-        (spec.separated Kind.Comma spec.tuple tokens.old) result tokens.old tokens.new }
+        (spec.separated TokenKind.Comma spec.tuple tokens.old) result tokens.old tokens.new }
 {
     // A comma or a parenthesis follows each value.
     let mut all = OpenTuples::with_capacity(alloc, tokens.left() / 2)?;
     tuple(alloc, tokens, &mut all)?;
     all.close()?;
-    'more: while tokens.sees(Kind::Comma) {
+    'more: while tokens.sees(TokenKind::Comma) {
         tokens.skip();
         tuple(alloc, tokens, &mut all)?;
         all.close()?;
@@ -75,7 +75,7 @@ fn tuples(alloc: Global, tokens: &mut Cursor<'_>) -> Result<Tuples, Fault>
 fn insert_rows(alloc: Global, tokens: &mut Cursor<'_>, table: Name) -> Result<Statement, Fault>
     ensures { Gives view.statement (spec.inserts_rows table tokens.old) result tokens.old tokens.new }
 {
-    tokens.expect(Kind::Values)?;
+    tokens.expect(TokenKind::Values)?;
     let tuples = tuples(alloc, tokens)?;
     Ok(Statement::InsertRows(table, tuples))
 }
@@ -94,10 +94,10 @@ pub fn whole_query(alloc: Global, tokens: &mut Cursor<'_>) -> Result<Box<Query>,
 fn insert(alloc: Global, tokens: &mut Cursor<'_>) -> Result<Statement, Fault>
     ensures { Gives view.statement (spec.inserts tokens.old) result tokens.old tokens.new }
 {
-    tokens.expect(Kind::Insert)?;
-    tokens.expect(Kind::Into)?;
+    tokens.expect(TokenKind::Insert)?;
+    tokens.expect(TokenKind::Into)?;
     let table = name(tokens)?;
-    if tokens.sees(Kind::Values) {
+    if tokens.sees(TokenKind::Values) {
         insert_rows(alloc, tokens, table)
     } else {
         Ok(Statement::InsertQuery(table, whole_query(alloc, tokens)?))
@@ -110,7 +110,7 @@ impl Item for Assignment {
     #[tactic(auto, unfolding(crate::specs::Reading::assignment))]
     fn read(alloc: Global, tokens: &mut Cursor<'_>) -> Result<Assignment, Fault> {
         let column = name(tokens)?;
-        tokens.expect(Kind::Equal)?;
+        tokens.expect(TokenKind::Equal)?;
         let operand = operand(alloc, tokens, MAX_DEPTH)?;
         Ok(Assignment { column, operand })
     }
@@ -118,9 +118,9 @@ impl Item for Assignment {
 
 fn assignments(alloc: Global, tokens: &mut Cursor<'_>) -> Result<Vec<Assignment>, Fault>
     ensures { Gives (λ v. map view.assignment v.items)
-        (spec.separated Kind.Comma spec.assignment tokens.old) result tokens.old tokens.new }
+        (spec.separated TokenKind.Comma spec.assignment tokens.old) result tokens.old tokens.new }
 {
-    list(alloc, tokens, Kind::Comma, None)
+    list(alloc, tokens, TokenKind::Comma, None)
 }
 
 /// The condition of a statement, if one stands there.
@@ -138,9 +138,9 @@ fn statement_filter(alloc: Global, tokens: &mut Cursor<'_>) -> Result<Option<Box
 fn update(alloc: Global, tokens: &mut Cursor<'_>) -> Result<Statement, Fault>
     ensures { Gives view.statement (spec.updates tokens.old) result tokens.old tokens.new }
 {
-    tokens.expect(Kind::Update)?;
+    tokens.expect(TokenKind::Update)?;
     let table = name(tokens)?;
-    tokens.expect(Kind::Set)?;
+    tokens.expect(TokenKind::Set)?;
     let assignments = assignments(alloc, tokens)?;
     let filter = statement_filter(alloc, tokens)?;
     Ok(Statement::Update(table, assignments, filter))
@@ -150,8 +150,8 @@ fn update(alloc: Global, tokens: &mut Cursor<'_>) -> Result<Statement, Fault>
 fn delete(alloc: Global, tokens: &mut Cursor<'_>) -> Result<Statement, Fault>
     ensures { Gives view.statement (spec.deletes tokens.old) result tokens.old tokens.new }
 {
-    tokens.expect(Kind::Delete)?;
-    tokens.expect(Kind::From)?;
+    tokens.expect(TokenKind::Delete)?;
+    tokens.expect(TokenKind::From)?;
     let table = name(tokens)?;
     let filter = statement_filter(alloc, tokens)?;
     Ok(Statement::Delete(table, filter))
@@ -163,9 +163,9 @@ pub fn change(alloc: Global, tokens: &mut Cursor<'_>) -> Result<Statement, Fault
     ensures { Gives view.statement (spec.change tokens.old) result tokens.old tokens.new }
 {
     match tokens.peek() {
-        Some(Kind::Insert) => insert(alloc, tokens),
-        Some(Kind::Delete) => delete(alloc, tokens),
-        Some(Kind::Update) => update(alloc, tokens),
+        Some(TokenKind::Insert) => insert(alloc, tokens),
+        Some(TokenKind::Delete) => delete(alloc, tokens),
+        Some(TokenKind::Update) => update(alloc, tokens),
         _ => Err(Fault::Refused),
     }
 }

@@ -7,8 +7,8 @@ use Rattle.std.proofs.lemmas.List.{map_push, same_from_push}
 use Rattle.std.proofs.lemmas.List.Folds.{list_any-append}
 use Rattle.sb_value.specs.declared.value.Value.{Value}
 use Rattle.sb_value.specs.declared.change.Change.{Change}
-use Rattle.sb_value.specs.declared.change.Kind.{Kind}
-use Rattle.sb_value.specs.declared.change.Kind.TheVariants.{Inserted, Deleted, Updated}
+use Rattle.sb_value.specs.declared.change.ChangeKind.{ChangeKind}
+use Rattle.sb_value.specs.declared.change.ChangeKind.TheVariants.{Inserted, Deleted, Updated}
 use Rattle.sb_value.specs.Table.{Table, IsTable, new_row, after_kind, fits_kind}
 use Rattle.sb_tables.specs.Rising.{Rises}
 use Rattle.sb_tables.specs.Stored.{Stored, IsStored, HavePlaces, numbers_of}
@@ -79,7 +79,7 @@ row_place n (r ∷ rows) places h s =
 
 -- ---- the laws
 
-keeps : (k : Kind) (c : Change) (s : Stored) → IsStored s → fits_kind k c s.table → IsStored (record { table = after_kind k c s.table; places = places_after k c.tuple s.places; room = s.room }) × Contains (places_after k c.tuple s.places) c.tuple
+keeps : (k : ChangeKind) (c : Change) (s : Stored) → IsStored s → fits_kind k c s.table → IsStored (record { table = after_kind k c s.table; places = places_after k c.tuple s.places; room = s.room }) × Contains (places_after k c.tuple s.places) c.tuple
 keeps Inserted c s is fits =
     let rises = rises_push 0 (numbers_of s.table.rows) s.table.next (table_rises s.table is.0) in
     let numbers : numbers_of (s.table.rows ++ (s.table.next, new_row c) ∷ []) ≡ numbers_of s.table.rows ++ s.table.next ∷ [] = map_push (λ r. r.0) s.table.rows (s.table.next, new_row c) in (
@@ -117,7 +117,7 @@ inserted_one c now one other a b =
     let next : one.next ≡ other.next = ap (λ r. r.0) rows.1 in
     λ i. record { columns = columns i; rows = rows.0 i; next = next i }
 
-one_before : (k : Kind) (c : Change) (now one other : Table) → c.kind ≡ k → IsBefore c now one → IsBefore c now other → one ≡ other
+one_before : (k : ChangeKind) (c : Change) (now one other : Table) → c.kind ≡ k → IsBefore c now one → IsBefore c now other → one ≡ other
 one_before Inserted c now one other kind a b = inserted_one c now one other (subst (λ k. after_kind k c one ≡ now) kind a.made) (subst (λ k. after_kind k c other ≡ now) kind b.made)
 one_before Deleted c now one other kind a b =
     let fits : fits_kind Deleted c one = subst (λ k. fits_kind k c one) kind a.fits in let old = there c.old fits.1 in

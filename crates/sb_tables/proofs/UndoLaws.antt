@@ -2,7 +2,7 @@
 use Rattle.std.proofs.Common.{◌≡◌, List, Some, sym, ◌∙◌, ap, subst}
 use Rattle.sb_value.specs.declared.value.Value.{Value}
 use Rattle.sb_value.specs.declared.change.Change.{Change}
-use Rattle.sb_value.specs.declared.change.Kind.TheVariants.{Deleted, Updated}
+use Rattle.sb_value.specs.declared.change.ChangeKind.TheVariants.{Deleted, Updated}
 use Rattle.sb_value.specs.Table.{Table, new_row, after_kind, fits_kind}
 use Rattle.sb_tables.specs.Stored.{with_row_put}
 use Rattle.sb_tables.specs.Undo.{IsBefore}

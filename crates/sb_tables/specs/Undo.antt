@@ -4,8 +4,8 @@ use Rattle.sb_value.specs.Table.{Table, IsTable, fits_kind, after_change}
 use Rattle.sb_tables.specs.Held.{Held, stored_at, with_stored}
 use Rattle.sb_tables.specs.Stored.{Stored}
 use Rattle.sb_value.specs.declared.change.Change.{Change}
-use Rattle.sb_value.specs.declared.change.Kind.{Kind}
-use Rattle.sb_value.specs.declared.change.Kind.TheVariants.{Inserted, Deleted, Updated}
+use Rattle.sb_value.specs.declared.change.ChangeKind.{ChangeKind}
+use Rattle.sb_value.specs.declared.change.ChangeKind.TheVariants.{Inserted, Deleted, Updated}
 
 -- the change can be made of the table before, and makes it the table now
 pub record IsBefore (c : Change) (now before : Table) : Type 0 where
@@ -18,13 +18,13 @@ abbrev pub IsNewest : Change → Table → Type 0
 IsNewest c now = (before : Table) × IsBefore c now before
 
 -- the numbers that have a place, after a change
-abbrev pub places_after : Kind → ℕ → List ℕ → List ℕ
+abbrev pub places_after : ChangeKind → ℕ → List ℕ → List ℕ
 places_after Inserted tuple places = places ++ tuple ∷ []
 places_after Deleted tuple places = places
 places_after Updated tuple places = places
 
 -- an insert that is undone leaves its room
-abbrev pub room_before : Kind → ℕ → ℕ
+abbrev pub room_before : ChangeKind → ℕ → ℕ
 room_before Inserted room = room + 1
 room_before Deleted room = room
 room_before Updated room = room

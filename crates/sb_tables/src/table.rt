@@ -4,7 +4,7 @@ ghost use Rattle.sb_value.specs.Table.{Table as Definition, empty_table, row_at}
 
 use crate::rows::Rows;
 use crate::slot::{Slot, place_of};
-use sb_value::{Change, ColumnDefinition, Kind, Row};
+use sb_value::{Change, ChangeKind, ColumnDefinition, Row};
 use std::alloc::{AllocError, Global};
 use std::marker::Model;
 use std::mem;
@@ -173,8 +173,8 @@ impl Table {
         ensures room { self.new.room ≡ room_before change.kind self.old.room }
     {
         match change.kind {
-            Kind::Inserted => self.drop_last(),
-            Kind::Deleted | Kind::Updated => {
+            ChangeKind::Inserted => self.drop_last(),
+            ChangeKind::Deleted | ChangeKind::Updated => {
                 self.put_back(change.tuple, change.old.unwrap());
             }
         }

@@ -3,8 +3,8 @@ use Rattle.std.proofs.Common.{◌≡◌, ◌∙◌, ℕ, ◌+◌, ◌<◌, Bool,
 use Rattle.std.proofs.lemmas.Bool.{eq-eqb}
 use Rattle.sb_value.specs.declared.value.Value.{Value}
 use Rattle.sb_value.specs.declared.change.Change.{Change}
-use Rattle.sb_value.specs.declared.change.Kind.{Kind}
-use Rattle.sb_value.specs.declared.change.Kind.TheVariants.{Inserted, Deleted, Updated}
+use Rattle.sb_value.specs.declared.change.ChangeKind.{ChangeKind}
+use Rattle.sb_value.specs.declared.change.ChangeKind.TheVariants.{Inserted, Deleted, Updated}
 use Rattle.sb_value.specs.Table.{Table, Entry, new_row, after_kind, after_change, fits_kind, table_at, after, after_all, has_table, IsProper, AreBelow, AreRising, IsTable}
 
 -- ---- a table after a change
@@ -82,7 +82,7 @@ sound-after c table h = by c.kind
     same r true e = sym (eqb-true r.0 c.tuple e)
     same r false e = refl
 
-    by : (k : Kind) → IsTable (after_kind k c table)
+    by : (k : ChangeKind) → IsTable (after_kind k c table)
     by Inserted = (below-last table.next (new_row c) table.rows h.0, rising-last table.next (new_row c) table.rows h.0 h.1)
     by Deleted = (below-filter (λ r. not (nat_eq r.0 c.tuple)) table.next table.rows h.0, rising-filter (λ r. not (nat_eq r.0 c.tuple)) table.rows h.1)
     by Updated = (

@@ -2,8 +2,8 @@
 use Rattle.std.proofs.Common.{◌≡◌, ◌∙◌, ◌⊎◌, ℕ, Bool, true, false, nat_eq, cond, List, [], ◌∷◌, map, refl, sym, ap, subst, inl, inr}
 use Rattle.std.specs.Prelude.{None, Result, Ok, Err}
 use Rattle.sb_value.specs.declared.change.Change.{Change}
-use Rattle.sb_value.specs.declared.change.Kind.{Kind}
-use Rattle.sb_value.specs.declared.change.Kind.TheVariants.{Inserted, Deleted, Updated}
+use Rattle.sb_value.specs.declared.change.ChangeKind.{ChangeKind}
+use Rattle.sb_value.specs.declared.change.ChangeKind.TheVariants.{Inserted, Deleted, Updated}
 use Rattle.sb_value.specs.declared.refusal.Refusal.{Refusal}
 use Rattle.sb_value.specs.declared.refusal.Refusal.TheVariants as refusal
 use Rattle.sb_value.specs.Table.{Table, after_kind}
@@ -36,7 +36,7 @@ use Rattle.sb_tenant.proofs.TableCommands.{outside}
 
 -- ---- what is seen of the tables
 
-same_columns : (k : Kind) (c : Change) (t : Table) → (after_kind k c t).columns ≡ t.columns
+same_columns : (k : ChangeKind) (c : Change) (t : Table) → (after_kind k c t).columns ≡ t.columns
 same_columns Inserted c t = refl
 same_columns Deleted c t = refl
 same_columns Updated c t = refl

@@ -3,7 +3,7 @@ ghost use Rattle.std.specs.Prelude.{◌≡◌};
 
 use crate::mark::mark;
 use sb_rawlog::ChangeLog;
-use sb_value::{Change, Columns, Kind, Row, SessionId, TableId, TenantId, Value, Who};
+use sb_value::{Change, ChangeKind, Columns, Row, SessionId, TableId, TenantId, Value, Who};
 use std::alloc::Global;
 use std::process::Abort;
 
@@ -38,7 +38,7 @@ pub fn integer(values: &[Value]) -> Option<i64> {
 }
 
 /// A change of tuple 1 by the tenant's session 0, which names no column.
-fn change(tenant: u8, kind: Kind, old: Option<Row>, new: Option<Row>) -> Change {
+fn change(tenant: u8, kind: ChangeKind, old: Option<Row>, new: Option<Row>) -> Change {
     Change {
         tenant: TenantId::new(tenant),
         session: SessionId::new(0),
@@ -52,14 +52,19 @@ fn change(tenant: u8, kind: Kind, old: Option<Row>, new: Option<Row>) -> Change 
 }
 
 pub fn insert(rt: &impl Abort, alloc: Global, tenant: u8, value: i64) -> Change {
-    change(tenant, Kind::Inserted, None, Some(row_of(rt, alloc, value)))
+    change(
+        tenant,
+        ChangeKind::Inserted,
+        None,
+        Some(row_of(rt, alloc, value)),
+    )
 }
 
 pub fn update(rt: &impl Abort, alloc: Global, tenant: u8, old: i64, new: i64) -> Change {
     let old = row_of(rt, alloc, old);
     change(
         tenant,
-        Kind::Updated,
+        ChangeKind::Updated,
         Some(old),
         Some(row_of(rt, alloc, new)),
     )

@@ -4,12 +4,12 @@ use crate::changes::{append, insert, integer, session_of, table, update};
 use crate::mark::mark;
 use crate::net::has_net_effects;
 use sb_rawlog::{ChangeLog, PlainLog, RawLog};
-use sb_value::{Change, Kind, Who};
+use sb_value::{Change, ChangeKind, Who};
 use std::alloc::Global;
 use std::process::Abort;
 
 /// The walk over the changes of the kind has these times.
-fn compare_op<L: ChangeLog>(rt: &impl Abort, log: &L, who: Who, kind: Kind, times: &[u64]) {
+fn compare_op<L: ChangeLog>(rt: &impl Abort, log: &L, who: Who, kind: ChangeKind, times: &[u64]) {
     let mut left = times.iter();
     mark();
     for (time, _) in log.by_op(who, table(), kind, 0) {
@@ -45,8 +45,8 @@ fn fill<L: ChangeLog>(rt: &impl Abort, alloc: Global, log: &mut L) {
 fn walk<L: ChangeLog>(rt: &impl Abort, log: &L) {
     compare_tuple(rt, log, 0, &[2, 0]);
     compare_tuple(rt, log, 1, &[2]);
-    compare_op(rt, log, session_of(8), Kind::Inserted, &[1]);
-    compare_op(rt, log, session_of(8), Kind::Updated, &[]);
+    compare_op(rt, log, session_of(8), ChangeKind::Inserted, &[1]);
+    compare_op(rt, log, session_of(8), ChangeKind::Updated, &[]);
 }
 
 /// A walk goes on from where it stands.
@@ -57,17 +57,17 @@ fn step<L: ChangeLog>(rt: &impl Abort, log: &L) {
         .expect(rt, "an update");
     let insert = log.tuple_next(update).expect(rt, "an insert");
     let (time, change) = log.get(insert);
-    assert!(rt; time == 0 && change.kind == Kind::Inserted);
+    assert!(rt; time == 0 && change.kind == ChangeKind::Inserted);
     assert!(rt; log.tuple_next(insert).is_none());
     let only = log
-        .op_first(session_of(8), table(), Kind::Inserted, 0)
+        .op_first(session_of(8), table(), ChangeKind::Inserted, 0)
         .expect(rt, "its insert");
     assert!(rt; log.op_next(only).is_none());
     mark();
 }
 
 /// The kind of the session's newest change, which is taken out.
-fn taken<L: ChangeLog>(log: &mut L, who: Who) -> Option<Kind> {
+fn taken<L: ChangeLog>(log: &mut L, who: Who) -> Option<ChangeKind> {
     match log.take_newest(who) {
         Some(change) => Some(change.kind),
         None => None,
@@ -78,7 +78,7 @@ fn taken<L: ChangeLog>(log: &mut L, who: Who) -> Option<Kind> {
 fn take<L: ChangeLog>(rt: &impl Abort, log: &mut L) {
     mark();
     assert!(rt; log.newest(session_of(0)).is_some());
-    assert!(rt; taken(log, session_of(0)) == Some(Kind::Updated));
+    assert!(rt; taken(log, session_of(0)) == Some(ChangeKind::Updated));
     log.forget(session_of(8));
     assert!(rt; taken(log, session_of(8)).is_none());
     assert!(rt; log.now() == 3 && log.len() == 1 && log.spare() == 2);
@@ -96,8 +96,8 @@ fn new_integer(change: Option<&Change>) -> Option<i64> {
 /// A place that is free again shows nothing of what stood there.
 fn fill_again<L: ChangeLog>(rt: &impl Abort, alloc: Global, log: &mut L) {
     append(rt, log, insert(rt, alloc, 1, 9));
-    compare_op(rt, log, session_of(1), Kind::Inserted, &[3]);
-    compare_op(rt, log, session_of(8), Kind::Inserted, &[]);
+    compare_op(rt, log, session_of(1), ChangeKind::Inserted, &[3]);
+    compare_op(rt, log, session_of(8), ChangeKind::Inserted, &[]);
     assert!(rt; new_integer(log.newest(session_of(1))) == Some(9));
     assert!(rt; log.len() == 2 && log.spare() == 1);
     log.shrink(0);

@@ -10,8 +10,8 @@ use Rattle.sb_value.specs.Values.{same_row}
 use Rattle.sb_value.specs.declared.change.Change.{Change}
 use Rattle.sb_value.specs.declared.net.Net.{Net}
 use Rattle.sb_value.specs.declared.net.Net.TheVariants as net
-use Rattle.sb_value.specs.declared.change.Kind.{Kind}
-use Rattle.sb_value.specs.declared.change.Kind.TheVariants.{Inserted, Deleted, Updated}
+use Rattle.sb_value.specs.declared.change.ChangeKind.{ChangeKind}
+use Rattle.sb_value.specs.declared.change.ChangeKind.TheVariants.{Inserted, Deleted, Updated}
 use Rattle.sb_value.specs.declared.value.Value.{Value}
 use Rattle.sb_value.specs.ValueEquality.{same_row_is}
 
@@ -22,17 +22,17 @@ last_of-append c (b ∷ cs) d ds = last_of-append b cs d ds
 -- ---- the kinds of a first and a last change
 
 -- the first and the last change of one life: all begins with an insert and ends with a delete
-abbrev pub span : Kind → Kind → Bool
+abbrev pub span : ChangeKind → ChangeKind → Bool
 span Inserted last = true
 span Deleted Deleted = true
 span first last = may_follow first last
 
-span_itself : (k : Kind) → span k k ≡ true
+span_itself : (k : ChangeKind) → span k k ≡ true
 span_itself Inserted = refl
 span_itself Updated = refl
 span_itself Deleted = refl
 
-span_onward : (k d e : Kind) → may_follow k d ≡ true → span d e ≡ true → span k e ≡ true
+span_onward : (k d e : ChangeKind) → may_follow k d ≡ true → span d e ≡ true → span k e ≡ true
 span_onward Inserted d e h s = refl
 span_onward Updated Inserted e h s = absurd (false≢true h)
 span_onward Updated Updated e h s = s
@@ -41,7 +41,7 @@ span_onward Updated Deleted Updated h s = refl
 span_onward Updated Deleted Deleted h s = refl
 span_onward Deleted d e h s = absurd (false≢true h)
 
-none_inserts : (k : Kind) → may_follow k Inserted ≡ false
+none_inserts : (k : ChangeKind) → may_follow k Inserted ≡ false
 none_inserts Inserted = refl
 none_inserts Updated = refl
 none_inserts Deleted = refl
@@ -95,7 +95,7 @@ module _ (p q r s : Change) (row : old_row r ≡ new_row q) where
   joined_deleted = shifted (λ b. Some (net.Deleted (old_row p)) ≡ then_net (update_between (old_row p) (new_row q)) (Some (net.Deleted b))) (update_deleted (old_row p) (new_row q))
 
   -- a row that the first part inserts, with the second part
-  inserted : (m d e : Kind) → may_follow m d ≡ true → span d e ≡ true → net_between Inserted e p s ≡ then_net (Some (net.Inserted (new_row q))) (net_between d e r s)
+  inserted : (m d e : ChangeKind) → may_follow m d ≡ true → span d e ≡ true → net_between Inserted e p s ≡ then_net (Some (net.Inserted (new_row q))) (net_between d e r s)
   inserted m Updated Updated f v = shifted (λ b. Some (net.Inserted (new_row s)) ≡ then_net (Some (net.Inserted (new_row q))) (update_between b (new_row s))) (insert_updated (new_row q) (new_row s))
   inserted m Updated Deleted f v = refl
   inserted m Updated Inserted f v = absurd (false≢true v)
@@ -104,7 +104,7 @@ module _ (p q r s : Change) (row : old_row r ≡ new_row q) where
   inserted m Deleted Inserted f v = absurd (false≢true v)
   inserted m Inserted e f v = absurd (false≢true (sym (none_inserts m) ∙ f))
 
-  joined : (k m d e : Kind) → span k m ≡ true → may_follow m d ≡ true → span d e ≡ true → net_between k e p s ≡ then_net (net_between k m p q) (net_between d e r s)
+  joined : (k m d e : ChangeKind) → span k m ≡ true → may_follow m d ≡ true → span d e ≡ true → net_between k e p s ≡ then_net (net_between k m p q) (net_between d e r s)
   joined Inserted Inserted d e u f v = inserted Inserted d e f v
   joined Inserted Updated d e u f v = inserted Updated d e f v
   joined Updated Updated Updated Updated u f v =

@@ -7,8 +7,8 @@ use Rattle.std.proofs.lemmas.Bool.{true≢false, eqb-true, eq-eqb, false≢true,
 use Rattle.std.proofs.lemmas.List.Folds.{list_any-append}
 use Rattle.sb_value.specs.declared.value.Value.{Value}
 use Rattle.sb_value.specs.declared.change.Change.{Change}
-use Rattle.sb_value.specs.declared.change.Kind.{Kind}
-use Rattle.sb_value.specs.declared.change.Kind.TheVariants.{Inserted, Deleted, Updated}
+use Rattle.sb_value.specs.declared.change.ChangeKind.{ChangeKind}
+use Rattle.sb_value.specs.declared.change.ChangeKind.TheVariants.{Inserted, Deleted, Updated}
 use Rattle.sb_value.specs.Table.{Table, Entry, new_row, old_row, after_kind, after_change, fits_kind, table_at, has_table, after, IsProper, AreBelow}
 use Rattle.sb_value.specs.NetEffect.{history}
 use Rattle.sb_value.specs.Laws.{may_follow, Follows, IsLife, ProperListsHaveLives}
@@ -135,14 +135,14 @@ row-map_own x row (r ∷ rows) h =
       | false ↦ λ e h. ap (λ b. option_map (λ (q : Numbered). q.1) (cond b (Some r) (find (λ q. q.0 == x) (map (replaced x row) rows)))) e ∙ row-map_own x row rows h
     ] refl h
 
-below_after : (kind : Kind) (c : Change) (t : Table) → AreBelow t.next t.rows → AreBelow (after_kind kind c t).next (after_kind kind c t).rows
+below_after : (kind : ChangeKind) (c : Change) (t : Table) → AreBelow t.next t.rows → AreBelow (after_kind kind c t).next (after_kind kind c t).rows
 below_after Inserted c t b = below-append (t.next + 1) t.rows (t.next, new_row c) (below_more t.next (t.next + 1) t.rows (omega arith) b) (omega arith)
 below_after Deleted c t b = below-filter t.next (λ r. not (r.0 == c.tuple)) t.rows b
 below_after Updated c t b = below-map t.next c.tuple (new_row c) t.rows b
 
 -- ---- how a tuple stands: after its insert or an update it has the new row, after its delete it is gone for good
 
-abbrev Stands : Kind → Change → Table → ℕ → Type 0
+abbrev Stands : ChangeKind → Change → Table → ℕ → Type 0
 Stands Inserted c t k = row_of k t.rows ≡ Some (new_row c)
 Stands Updated c t k = row_of k t.rows ≡ Some (new_row c)
 Stands Deleted c t k = (has_row k t.rows ≡ false) × (k < t.next)
@@ -157,29 +157,29 @@ not_yet t b = by (has_row t.next t.rows) refl
     by true e = absurd (let less = below_has t.next t.next t.rows b e in omega (arith, less))
     by false e = refl
 
-stands_after : (kind : Kind) (c : Change) (t : Table) → AreBelow t.next t.rows → fits_kind kind c t → Stands kind c (after_kind kind c t) c.tuple
+stands_after : (kind : ChangeKind) (c : Change) (t : Table) → AreBelow t.next t.rows → fits_kind kind c t → Stands kind c (after_kind kind c t) c.tuple
 stands_after Inserted c t b f = subst (λ n. row_of n (t.rows ++ (t.next, new_row c) ∷ []) ≡ Some (new_row c)) (sym f.0) (row-last t.next t.rows (new_row c) (not_yet t b))
 stands_after Deleted c t b f =
     (has-without c.tuple t.rows, below_has t.next c.tuple t.rows b (has_found c.tuple t.rows (subst IsSome (sym f.0) f.1)))
 stands_after Updated c t b f = row-map_own c.tuple (new_row c) t.rows (has_found c.tuple t.rows (subst IsSome (sym f.0) f.1))
 
 -- a tuple that another change leaves alone
-kept_number : (kind : Kind) (c : Change) (t : Table) (k : ℕ) → (c.tuple == k) ≡ false → fits_kind kind c t → has_row k (after_kind kind c t).rows ≡ has_row k t.rows
+kept_number : (kind : ChangeKind) (c : Change) (t : Table) (k : ℕ) → (c.tuple == k) ≡ false → fits_kind kind c t → has_row k (after_kind kind c t).rows ≡ has_row k t.rows
 kept_number Inserted c t k h f = has_inserted k c t ∙ ap (λ b. has_row k t.rows || b) (subst (λ n. (n == k) ≡ false) f.0 h) ∙ or-false (has_row k t.rows)
 kept_number Deleted c t k h f = has-without_other k c.tuple t.rows h
 kept_number Updated c t k h f = has-map k c.tuple (new_row c) t.rows
 
-kept_row : (kind : Kind) (c : Change) (t : Table) (k : ℕ) → (c.tuple == k) ≡ false → fits_kind kind c t → row_of k (after_kind kind c t).rows ≡ row_of k t.rows
+kept_row : (kind : ChangeKind) (c : Change) (t : Table) (k : ℕ) → (c.tuple == k) ≡ false → fits_kind kind c t → row_of k (after_kind kind c t).rows ≡ row_of k t.rows
 kept_row Inserted c t k h f = row-more k t.rows (t.next, new_row c) (subst (λ n. (n == k) ≡ false) f.0 h)
 kept_row Deleted c t k h f = row-without_other k c.tuple t.rows h
 kept_row Updated c t k h f = row-map_other k c.tuple (new_row c) t.rows h
 
-next_more : (kind : Kind) (c : Change) (t : Table) → t.next ≤ (after_kind kind c t).next
+next_more : (kind : ChangeKind) (c : Change) (t : Table) → t.next ≤ (after_kind kind c t).next
 next_more Inserted c t = omega arith
 next_more Deleted c t = omega arith
 next_more Updated c t = omega arith
 
-stays : (k : ℕ) (s : Kind) (b : Change) (t u : Table) → row_of k u.rows ≡ row_of k t.rows → has_row k u.rows ≡ has_row k t.rows → t.next ≤ u.next → Stands s b t k → Stands s b u k
+stays : (k : ℕ) (s : ChangeKind) (b : Change) (t u : Table) → row_of k u.rows ≡ row_of k t.rows → has_row k u.rows ≡ has_row k t.rows → t.next ≤ u.next → Stands s b t k → Stands s b u k
 stays k Inserted b t u row e n h = row ∙ h
 stays k Updated b t u row e n h = row ∙ h
 stays k Deleted b t u row e n h = (e ∙ h.0, let q : k < t.next = h.1 in omega (arith, q, n))
@@ -191,7 +191,7 @@ not_next k t e h = absurd (omega (arith, e, h))
 takes : (b c : Change) (t : Table) → row_of c.tuple t.rows ≡ c.old → row_of c.tuple t.rows ≡ Some (new_row b) → old_row c ≡ new_row b
 takes b c t f h = ap (λ o. unwrap_or o []) (sym f ∙ h)
 
-follows : (s kind : Kind) (a c : Change) (t : Table) → AreBelow t.next t.rows → fits_kind kind c t → Stands s a t c.tuple → (may_follow s kind ≡ true) × (old_row c ≡ new_row a)
+follows : (s kind : ChangeKind) (a c : Change) (t : Table) → AreBelow t.next t.rows → fits_kind kind c t → Stands s a t c.tuple → (may_follow s kind ≡ true) × (old_row c ≡ new_row a)
 follows Inserted Inserted a c t b f h = not_next c.tuple t f.0 (below_has t.next c.tuple t.rows b (has_row_of c.tuple t.rows (new_row a) h))
 follows Inserted Updated a c t b f h = (refl, takes a c t f.0 h)
 follows Inserted Deleted a c t b f h = (refl, takes a c t f.0 h)

@@ -15,8 +15,8 @@ use Rattle.sb_value.specs.Table.{new_row, old_row}
 use Rattle.sb_value.specs.Values.{same_row}
 use Rattle.sb_value.specs.declared.change.Change.{Change}
 use Rattle.sb_value.specs.declared.net.Net.TheVariants as net
-use Rattle.sb_value.specs.declared.change.Kind.{Kind}
-use Rattle.sb_value.specs.declared.change.Kind.TheVariants.{Inserted, Deleted, Updated}
+use Rattle.sb_value.specs.declared.change.ChangeKind.{ChangeKind}
+use Rattle.sb_value.specs.declared.change.ChangeKind.TheVariants.{Inserted, Deleted, Updated}
 use Rattle.sb_value.specs.declared.net.Triggers.{Triggers}
 use Rattle.sb_value.specs.declared.value.Value.{Value}
 
@@ -72,7 +72,7 @@ update_step triggers a b c h g = by (same_row a b) refl (same_row b c) refl
 
 module _ (triggers : Triggers) where
   -- p is the first change, q the last one so far, and c follows it
-  step_by : (p q c : Change) → old_row c ≡ new_row q → (k m n : Kind) → span k m ≡ true → may_follow m n ≡ true → is_operation triggers (net_between k n p c) ≡ true
+  step_by : (p q c : Change) → old_row c ≡ new_row q → (k m n : ChangeKind) → span k m ≡ true → may_follow m n ≡ true → is_operation triggers (net_between k n p c) ≡ true
       → is_operation triggers (net_between k m p q) ≡ false → kind_triggers n triggers c ≡ true
   step_by p q c row Inserted Inserted Inserted s f h g = absurd (false≢true f)
   step_by p q c row Inserted Inserted Updated s f h g = absurd (true≢false (sym h ∙ g))
@@ -89,7 +89,7 @@ module _ (triggers : Triggers) where
   step_by p q c row Deleted Inserted n s f h g = absurd (false≢true s)
   step_by p q c row Deleted Updated n s f h g = absurd (false≢true s)
 
-  one_by : (k : Kind) (c : Change) → is_operation triggers (net_between k k c c) ≡ true → kind_triggers k triggers c ≡ true
+  one_by : (k : ChangeKind) (c : Change) → is_operation triggers (net_between k k c c) ≡ true → kind_triggers k triggers c ≡ true
   one_by Inserted c h = h
   one_by Deleted c h = h
   one_by Updated c h = h

@@ -10,12 +10,12 @@ use Rattle.sb_value.specs.NetEffect.{history, net_effect, then_net, update_betwe
 use Rattle.sb_value.specs.Table.{Entry, table_at, IsTable, IsProper, new_row, old_row}
 use Rattle.sb_value.specs.Order.{Precedes, precedes}
 use Rattle.sb_value.specs.declared.change.Change.{Change}
-use Rattle.sb_value.specs.declared.change.Kind.{Kind}
-use Rattle.sb_value.specs.declared.change.Kind.TheVariants.{Inserted, Deleted, Updated}
+use Rattle.sb_value.specs.declared.change.ChangeKind.{ChangeKind}
+use Rattle.sb_value.specs.declared.change.ChangeKind.TheVariants.{Inserted, Deleted, Updated}
 use Rattle.sb_value.specs.declared.net.Triggers.{Triggers}
 
 -- what may come next on one tuple: nothing after its delete, and its insert after nothing
-abbrev pub may_follow : Kind → Kind → Bool
+abbrev pub may_follow : ChangeKind → ChangeKind → Bool
 may_follow Inserted Inserted = false
 may_follow Inserted Updated = true
 may_follow Inserted Deleted = true
@@ -45,7 +45,7 @@ NetEffectsCompose =
     net_effect (xs ++ ys) table tuple ≡ then_net (net_effect xs table tuple) (net_effect ys table tuple)
 
 -- whether a change is one of the triggering operations; an update that alters no value is none
-abbrev pub kind_triggers : Kind → Triggers → Change → Bool
+abbrev pub kind_triggers : ChangeKind → Triggers → Change → Bool
 kind_triggers Inserted triggers c = triggers.inserted
 kind_triggers Deleted triggers c = triggers.deleted
 kind_triggers Updated triggers c = is_operation triggers (update_between (old_row c) (new_row c))

@@ -9,8 +9,8 @@ use Rattle.sb_value.specs.declared.value.Value.{Value}
 use Rattle.sb_value.specs.declared.change.Change.{Change}
 use Rattle.sb_value.specs.declared.net.Net.{Net}
 use Rattle.sb_value.specs.declared.net.Net.TheVariants as net
-use Rattle.sb_value.specs.declared.change.Kind.{Kind}
-use Rattle.sb_value.specs.declared.change.Kind.TheVariants.{Inserted, Deleted, Updated}
+use Rattle.sb_value.specs.declared.change.ChangeKind.{ChangeKind}
+use Rattle.sb_value.specs.declared.change.ChangeKind.TheVariants.{Inserted, Deleted, Updated}
 use Rattle.sb_value.specs.declared.net.Transition.{Transition}
 use Rattle.sb_value.specs.declared.net.Triggers.{Triggers}
 
@@ -30,7 +30,7 @@ abbrev pub update_between : List Value → List Value → Option Net
 update_between old new = if same_row old new then None else Some (net.Updated old new (differing old new))
 
 -- from the kinds of the first and the last change
-abbrev pub net_between : Kind → Kind → Change → Change → Option Net
+abbrev pub net_between : ChangeKind → ChangeKind → Change → Change → Option Net
 net_between Inserted Deleted first last = None
 net_between Inserted Inserted first last = Some (net.Inserted (new_row last))
 net_between Inserted Updated first last = Some (net.Inserted (new_row last))

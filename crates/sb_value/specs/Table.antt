@@ -4,8 +4,8 @@ use Rattle.std.specs.List.{list_any}
 use Rattle.sb_value.specs.declared.value.Value.{Value}
 use Rattle.sb_value.specs.declared.value.ColumnDefinition.{ColumnDefinition}
 use Rattle.sb_value.specs.declared.change.Change.{Change}
-use Rattle.sb_value.specs.declared.change.Kind.{Kind}
-use Rattle.sb_value.specs.declared.change.Kind.TheVariants.{Inserted, Deleted, Updated}
+use Rattle.sb_value.specs.declared.change.ChangeKind.{ChangeKind}
+use Rattle.sb_value.specs.declared.change.ChangeKind.TheVariants.{Inserted, Deleted, Updated}
 
 -- rows in rising number, each with its number, and a number above them all
 pub record Table : Type 0 where
@@ -30,7 +30,7 @@ abbrev pub old_row : Change → List Value
 old_row c = unwrap_or c.old []
 
 -- the table after a change of it
-abbrev pub after_kind : Kind → Change → Table → Table
+abbrev pub after_kind : ChangeKind → Change → Table → Table
 after_kind Inserted c table = record table { rows = table.rows ++ (table.next, new_row c) ∷ []; next = table.next + 1 }
 after_kind Deleted c table = record table { rows = filter (λ r. not (r.0 == c.tuple)) table.rows }
 after_kind Updated c table = record table { rows = map (λ r. if r.0 == c.tuple then (c.tuple, new_row c) else r) table.rows }
@@ -39,7 +39,7 @@ abbrev pub after_change : Change → Table → Table
 after_change c table = after_kind c.kind c table
 
 -- the change can be made of this table
-abbrev pub fits_kind : Kind → Change → Table → Type 0
+abbrev pub fits_kind : ChangeKind → Change → Table → Type 0
 fits_kind Inserted c table = (c.tuple ≡ table.next) × IsNone c.old × IsSome c.new
 fits_kind Deleted c table = (row_at table c.tuple ≡ c.old) × IsSome c.old × IsNone c.new
 fits_kind Updated c table = (row_at table c.tuple ≡ c.old) × IsSome c.old × IsSome c.new

@@ -9,7 +9,7 @@ use crate::value::Value;
 
 /// What a change does.
 #[derive(Clone, Copy, Debug, PartialEq, Eq)]
-pub enum Kind {
+pub enum ChangeKind {
     Inserted,
     Deleted,
     Updated,
@@ -22,7 +22,7 @@ pub struct Change {
     pub session: SessionId,
     pub table: TableId,
     pub tuple: u64,
-    pub kind: Kind,
+    pub kind: ChangeKind,
     /// The row before it, of a delete or an update.
     pub old: Option<Row>,
     /// The row after it, of an insert or an update.

@@ -16,7 +16,7 @@ mod rule_set;
 mod tuples;
 mod value;
 
-pub use change::{Change, Kind};
+pub use change::{Change, ChangeKind};
 pub use columns::Columns;
 pub use difference::{differing, same_row};
 pub use id::{

@@ -2,18 +2,18 @@
 use Rattle.std.proofs.Common.{◌≡◌, ℕ, ◌+◌, ◌<◌, List, [], ◌∷◌, drop, length, get_or, inl, inr, subst, sym, add-one, drop-cons}
 use Rattle.clap.specs.Words.{Row}
 use Rattle.sb_words.specs.Asking.{AllFit, AreAllowed, AsksBy, Fits, IsFirstOf, IsFirstUnfit, IsUnfit}
-use Rattle.sb_words.specs.Parts.{parts}
-use Rattle.sb_words.specs.declared.part.Part.{Part}
-use Rattle.sb_words.specs.declared.part.Part.TheVariants.{Command, Old, New, Tenant, Load, DumpTo, Into, Journal, Sync, Keys, Status, Tenants, Bound, Cells, Workers, Port, Connections, Idle, IdleTransaction, FirstTenant, TenantMemory, Log, Slow, UntilInputEnds}
-use Rattle.sb_words.specs.declared.part.Unfit.{Unfit}
-use Rattle.sb_words.specs.declared.request.Request.{Request}
+use Rattle.sb_words.specs.Arguments.{parts}
+use Rattle.sb_words.specs.declared.argument.Argument.{Argument}
+use Rattle.sb_words.specs.declared.argument.Argument.TheVariants.{Command, Old, New, Tenant, Load, DumpTo, Into, Journal, Sync, Keys, Status, Tenants, Bound, Cells, Workers, Port, Connections, Idle, IdleTransaction, FirstTenant, TenantMemory, Log, Slow, UntilInputEnds}
+use Rattle.sb_words.specs.declared.argument.Unfit.{Unfit}
+use Rattle.sb_words.specs.declared.invocation.Invocation.{Invocation}
 
-none_first : (rows : List Row) (u : Unfit) (ps : List Part) → AreAllowed rows → IsFirstOf rows u ps → ⊥
+none_first : (rows : List Row) (u : Unfit) (ps : List Argument) → AreAllowed rows → IsFirstOf rows u ps → ⊥
 none_first rows u [] allowed first = first
 none_first rows u (p ∷ ps) allowed (inl here) = allowed p u.text.now here.0
 none_first rows u (p ∷ ps) allowed (inr behind) = none_first rows u ps allowed behind.1
 
-pub asks_fit : (rows : List Row) (u : Unfit) (a : Request) → AsksBy rows a → IsFirstUnfit rows u → ⊥
+pub asks_fit : (rows : List Row) (u : Unfit) (a : Invocation) → AsksBy rows a → IsFirstUnfit rows u → ⊥
 asks_fit rows u a asks unfit = none_first rows u parts asks.0 unfit
 
 -- each part is one of all
@@ -48,7 +48,7 @@ all_allowed rows a UntilInputEnds = a.1.1.1.1.1.1.1.1.1.1.1.1.1.1.1.1.1.1.1.1.1.
 pub split_at : {A : Type 0} (xs : List A) (k : ℕ) (d : A) → k < length xs → get_or xs k d ∷ drop (k + 1) xs ≡ drop k xs
 split_at xs k d within = rw (add-one k) (sym (drop-cons xs k d within))
 
-module _ (rows : List Row) (ps : List Part) (k : ℕ) (p : Part) (left : p ∷ drop (k + 1) ps ≡ drop k ps) where
+module _ (rows : List Row) (ps : List Argument) (k : ℕ) (p : Argument) (left : p ∷ drop (k + 1) ps ≡ drop k ps) where
   pub next_fits : Fits rows p → AllFit rows (drop (k + 1) ps) → AllFit rows (drop k ps)
   next_fits fits rest = subst (AllFit rows) left (fits, rest)
 

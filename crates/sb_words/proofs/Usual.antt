@@ -4,15 +4,15 @@ use Rattle.std.proofs.lemmas.Bool.{false≢true}
 use Rattle.clap.proofs.OnLiterals.{clap_on_literals}
 use Rattle.clap.specs.Words.{Row, Text, matches_of}
 use Rattle.sb_words.specs.Asking.{AllFit, text_at}
-use Rattle.sb_words.specs.Parts.{parts}
+use Rattle.sb_words.specs.Arguments.{parts}
 use Rattle.sb_words.specs.Words.{AskFor, starhost}
-use Rattle.sb_words.specs.declared.part.Part.{Part}
-use Rattle.sb_words.specs.declared.part.Verb.TheVariants as verb
-use Rattle.sb_words.specs.declared.request.Request.TheVariants.{Run}
+use Rattle.sb_words.specs.declared.argument.Argument.{Argument}
+use Rattle.sb_words.specs.declared.argument.Verb.TheVariants as verb
+use Rattle.sb_words.specs.declared.invocation.Invocation.TheVariants.{Run}
 use Rattle.sb_words.proofs.Fitting.{all_allowed}
 
 -- none of these parts is given
-abbrev none_given : List Row → List Part → Bool
+abbrev none_given : List Row → List Argument → Bool
 none_given rows [] = true
 none_given rows (p ∷ ps) = is_none (text_at rows p) && none_given rows ps
 
@@ -24,7 +24,7 @@ both : (a b : Bool) → (a && b) ≡ true → (a ≡ true) × (b ≡ true)
 both true b h = (refl, h)
 both false b h = absurd (false≢true h)
 
-all_fit : (rows : List Row) (ps : List Part) → none_given rows ps ≡ true → AllFit rows ps
+all_fit : (rows : List Row) (ps : List Argument) → none_given rows ps ≡ true → AllFit rows ps
 all_fit rows [] none = tt
 all_fit rows (p ∷ ps) none = let each = both (is_none (text_at rows p)) (none_given rows ps) none in
     (λ text unfit. ungiven (text_at rows p) text each.0 unfit, all_fit rows ps each.1)

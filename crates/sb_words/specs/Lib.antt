@@ -1,7 +1,7 @@
 pub mod Meanings
 pub mod Severities
 pub mod Syncs
-pub mod Parts
+pub mod Arguments
 pub mod Within
 pub mod Asking
 pub mod Words

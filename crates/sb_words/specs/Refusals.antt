@@ -1,13 +1,13 @@
 -- Promise: the line of words that aren't allowed.
 use Rattle.std.specs.Prelude.{ℕ, List, ◌++◌, codes}
 use Rattle.clap.specs.Words.{Text}
-use Rattle.sb_words.specs.Parts.{name_of}
-use Rattle.sb_words.specs.declared.part.Part.{Part}
-use Rattle.sb_words.specs.declared.part.Part.TheVariants.{Command, Old, New, UntilInputEnds}
-use Rattle.sb_words.specs.declared.part.Unfit.{Unfit}
+use Rattle.sb_words.specs.Arguments.{name_of}
+use Rattle.sb_words.specs.declared.argument.Argument.{Argument}
+use Rattle.sb_words.specs.declared.argument.Argument.TheVariants.{Command, Old, New, UntilInputEnds}
+use Rattle.sb_words.specs.declared.argument.Unfit.{Unfit}
 
 -- a part, with the text that stands for it
-abbrev pub part_text : Part → Text → List ℕ
+abbrev pub part_text : Argument → Text → List ℕ
 part_text Command text = codes "the word " ++ text
 part_text Old text = codes "the word " ++ text
 part_text New text = codes "the word " ++ text

@@ -5,10 +5,10 @@ use Rattle.std.specs.Option.{option_map_or}
 use Rattle.sb_words.specs.Keys.{Table}
 use Rattle.sb_words.specs.Text.{Key}
 use Rattle.sb_words.specs.declared.keys.Keys.{Keys}
-use Rattle.sb_words.specs.declared.line.Named.{Named}
+use Rattle.sb_words.specs.declared.line.KeyEntry.{KeyEntry}
 
 abbrev pub table_of : Keys → Table
 table_of keys t = option_map_or (λ digests. digests.items) (get nat_eq keys.by_tenant t) []
 
-abbrev pub key_seen : Named → Key
+abbrev pub key_seen : KeyEntry → Key
 key_seen named = record { holder = named.holder; digest = named.digest }

@@ -1,11 +1,11 @@
 -- Promise: the ranges of what is asked for.
 use Rattle.std.specs.Prelude.{◌≤◌, IfSome, ⊤}
-use Rattle.sb_words.specs.declared.request.Dumping.{Dumping}
-use Rattle.sb_words.specs.declared.request.Hosting.{Hosting}
-use Rattle.sb_words.specs.declared.request.Request.{Request}
-use Rattle.sb_words.specs.declared.request.Request.TheVariants.{Run as run_request, Load, Record, Serve, Keep, Replay, Parse, Dump, DumpAll, Compact, Key}
-use Rattle.sb_words.specs.declared.request.Run.{Run}
-use Rattle.sb_words.specs.declared.request.Serving.{Serving}
+use Rattle.sb_words.specs.declared.invocation.Dumping.{Dumping}
+use Rattle.sb_words.specs.declared.invocation.HostOptions.{HostOptions}
+use Rattle.sb_words.specs.declared.invocation.Invocation.{Invocation}
+use Rattle.sb_words.specs.declared.invocation.Invocation.TheVariants.{Run as run_request, Load, Record, Serve, Keep, Replay, Parse, Dump, DumpAll, Compact, Key}
+use Rattle.sb_words.specs.declared.invocation.Run.{Run}
+use Rattle.sb_words.specs.declared.invocation.ServerOptions.{ServerOptions}
 use Rattle.sb_words.specs.declared.words.Asked.{Asked}
 use Rattle.sb_words.specs.declared.words.Asked.TheVariants.{For}
 
@@ -15,15 +15,15 @@ AreRun r = (1 ≤ r.tenants) × (r.tenants ≤ 256) × (1 ≤ r.bound) × (r.bou
 abbrev pub AreDump : Dumping → Type 0
 AreDump d = AreRun d.run × (d.tenant ≤ 255)
 
-abbrev pub AreHost : Hosting → Type 0
+abbrev pub AreHost : HostOptions → Type 0
 AreHost h = AreRun h.run × (1 ≤ h.cells) × (h.cells ≤ 16) × (1 ≤ h.workers) × (h.workers ≤ 16)
 
-abbrev pub AreServer : Serving → Type 0
+abbrev pub AreServer : ServerOptions → Type 0
 AreServer s =
     AreHost s.hosting × (s.port ≤ 65535) × (s.connections ≤ 1000000) × (s.idle ≤ 86400) × (s.idle_transaction ≤ 86400)
     × (s.first_tenant ≤ 999999000) × (s.tenant_memory ≤ 1048576) × IfSome s.status (λ port. port ≤ 65535) × (s.slow ≤ 86400000)
 
-abbrev pub IsWithin : Request → Type 0
+abbrev pub IsWithin : Invocation → Type 0
 IsWithin (run_request r) = AreRun r
 IsWithin (Load r) = AreRun r
 IsWithin (Record r) = AreRun r

@@ -5,17 +5,17 @@ use Rattle.clap.specs.declared.builder.action.ArgAction.TheVariants.{SetTrue}
 use Rattle.clap.specs.declared.error.kind.ErrorKind.{ErrorKind}
 use Rattle.clap.specs.declared.error.kind.ErrorKind.TheVariants.{DisplayHelp, DisplayVersion}
 use Rattle.sb_words.specs.Asking.{ArePaths, AsksBy, IsFirstUnfit}
-use Rattle.sb_words.specs.Parts.{name_of, parts}
-use Rattle.sb_words.specs.declared.part.Part.{Part}
-use Rattle.sb_words.specs.declared.part.Part.TheVariants.{Command, Old, New, UntilInputEnds}
-use Rattle.sb_words.specs.declared.part.Unfit.{Unfit}
-use Rattle.sb_words.specs.declared.request.Request.{Request}
-use Rattle.sb_words.specs.declared.request.Request.TheVariants.{Run}
+use Rattle.sb_words.specs.Arguments.{name_of, parts}
+use Rattle.sb_words.specs.declared.argument.Argument.{Argument}
+use Rattle.sb_words.specs.declared.argument.Argument.TheVariants.{Command, Old, New, UntilInputEnds}
+use Rattle.sb_words.specs.declared.argument.Unfit.{Unfit}
+use Rattle.sb_words.specs.declared.invocation.Invocation.{Invocation}
+use Rattle.sb_words.specs.declared.invocation.Invocation.TheVariants.{Run}
 use Rattle.sb_words.specs.declared.words.Asked.{Asked}
 use Rattle.sb_words.specs.declared.words.Asked.TheVariants.{For, Help, Version, Refused, NotAllowed}
 
 -- an option `--name` with a value, one without, and the words without a name
-abbrev pub rule_of : Part → Rule
+abbrev pub rule_of : Argument → Rule
 rule_of Command = new_rule (codes "command")
 rule_of Old = new_rule (codes "old")
 rule_of New = new_rule (codes "new")
@@ -23,7 +23,7 @@ rule_of UntilInputEnds = record (new_rule (codes "until-input-ends")) { long = S
 rule_of p = record (new_rule (name_of p)) { long = Some (name_of p) }
 
 -- these parts are added
-abbrev pub with_parts : App → List Part → App
+abbrev pub with_parts : App → List Argument → App
 with_parts a [] = a
 with_parts a (p ∷ ps) = with_parts (with_rule a (rule_of p)) ps
 
@@ -36,7 +36,7 @@ abbrev pub starhost : App
 starhost = with_parts (with_version (new_app (codes "starhost"))) parts
 
 -- These words, the program's name first, ask for a command: clap finds no fault in them, and what it finds does.
-abbrev pub AskFor : List Text → Request → Type 0
+abbrev pub AskFor : List Text → Invocation → Type 0
 AskFor words r = (fault_of starhost words ≡ []) × AsksBy (matches_of starhost words) r
 
 abbrev pub AskForHelp : List Text → Type 0
@@ -63,15 +63,15 @@ IsAsked words (NotAllowed u) = HaveUnfit words u
 
 -- words ask for one command at most
 abbrev pub AskOnce : Type 0
-AskOnce = (words : List Text) (a b : Request) → AskFor words a → AskFor words b → a ≡ b
+AskOnce = (words : List Text) (a b : Invocation) → AskFor words a → AskFor words b → a ≡ b
 
 -- words without a fault are no question, and with one no command
 abbrev pub AskForOneThing : Type 0
-AskForOneThing = (words : List Text) (a : Request) → AskFor words a → (kind : ErrorKind) → IsAmong kind (fault_of starhost words) → ⊥
+AskForOneThing = (words : List Text) (a : Invocation) → AskFor words a → (kind : ErrorKind) → IsAmong kind (fault_of starhost words) → ⊥
 
 -- words of which a part isn't allowed ask for nothing
 abbrev pub UnfitAskForNothing : Type 0
-UnfitAskForNothing = (words : List Text) (u : Unfit) → HaveUnfit words u → (a : Request) → AskFor words a → ⊥
+UnfitAskForNothing = (words : List Text) (u : Unfit) → HaveUnfit words u → (a : Invocation) → AskFor words a → ⊥
 
 -- no word behind the name asks for a run of 16 tenants, with 1,000 considerations
 abbrev pub NoWordAsksForRun : Type 0

@@ -3,13 +3,13 @@ ghost use Rattle.std.specs.Prelude.{◌≡◌, ◌↔◌, ◌⊎◌, IfErr, IfOk
 ghost use Rattle.clap.specs.Words.{rows_of, found_of};
 ghost use Rattle.sb_words.specs.Asking as spec;
 ghost use Rattle.sb_words.specs.Asking.{AllFit, AreAllowed, Fits, IsFirstOf, IsFirstUnfit, IsForeign, IsUnfit, IsWrong, LacksCommand, LacksNumber, LacksWord};
-ghost use Rattle.sb_words.specs.Parts.{range_of, verb_in};
-ghost use Rattle.sb_words.specs.declared.part.Part.TheVariants as named;
+ghost use Rattle.sb_words.specs.Arguments.{range_of, verb_in};
+ghost use Rattle.sb_words.specs.declared.argument.Argument.TheVariants as named;
 
+use crate::argument::{Argument, PARTS, Unfit, Verb};
 use crate::given::text_at;
 use crate::meaning::{SEVERITIES, SYNCS, VERBS, meaning_of};
 use crate::number::number;
-use crate::part::{PARTS, Part, Unfit, Verb};
 use clap::ArgMatches;
 
 /// The command, if all parts are allowed; or the first that isn't.
@@ -33,20 +33,20 @@ fn verb_at<'a>(matches: &ArgMatches<'a>) -> Result<Verb, Unfit<'a>>
     ensures is { IfOk result (λ v. verb_in (spec.text_at (rows_of (found_of matches.now)) named.Command) ≡ Some v) }
     ensures unfit { IfErr result (λ u. IsUnfit (rows_of (found_of matches.now)) named.Command u.text.now × (u.part ≡ named.Command)) }
 {
-    let Some(text) = text_at(matches, Part::Command) else {
+    let Some(text) = text_at(matches, Argument::Command) else {
         return Ok(Verb::Run);
     };
     match meaning_of(text, &VERBS) {
         Some(verb) => Ok(verb),
         None => Err(Unfit {
-            part: Part::Command,
+            part: Argument::Command,
             text,
         }),
     }
 }
 
 /// The first of these parts that isn't allowed.
-fn first_among<'a>(matches: &ArgMatches<'a>, verb: Verb, parts: &[Part]) -> Option<Unfit<'a>>
+fn first_among<'a>(matches: &ArgMatches<'a>, verb: Verb, parts: &[Argument]) -> Option<Unfit<'a>>
     requires { verb_in (spec.text_at (rows_of (found_of matches.now)) named.Command) ≡ Some verb }
     ensures { MatchOption result (AllFit (rows_of (found_of matches.now)) parts.now)
         (λ u. IsFirstOf (rows_of (found_of matches.now)) u parts.now) }
@@ -61,7 +61,7 @@ fn first_among<'a>(matches: &ArgMatches<'a>, verb: Verb, parts: &[Part]) -> Opti
 }
 
 /// The part, if it isn't allowed.
-fn unfit_at<'a>(matches: &ArgMatches<'a>, verb: Verb, part: Part) -> Option<Unfit<'a>>
+fn unfit_at<'a>(matches: &ArgMatches<'a>, verb: Verb, part: Argument) -> Option<Unfit<'a>>
     requires { verb_in (spec.text_at (rows_of (found_of matches.now)) named.Command) ≡ Some verb }
     ensures { MatchOption result (Fits (rows_of (found_of matches.now)) part)
         (λ u. IsUnfit (rows_of (found_of matches.now)) part u.text.now × (u.part ≡ part)) }
@@ -76,14 +76,14 @@ fn unfit_at<'a>(matches: &ArgMatches<'a>, verb: Verb, part: Part) -> Option<Unfi
 }
 
 /// Whether a text isn't what the part has to be.
-fn is_wrong(matches: &ArgMatches<'_>, part: Part, text: &str) -> bool
+fn is_wrong(matches: &ArgMatches<'_>, part: Argument, text: &str) -> bool
     ensures { IsTrue result ↔ IsWrong (rows_of (found_of matches.now)) part text.now }
 {
     lacks_number(part, text) || lacks_word(matches, part, text)
 }
 
 /// Whether it is no number of the part's range, if there is one.
-fn lacks_number(part: Part, text: &str) -> bool
+fn lacks_number(part: Argument, text: &str) -> bool
     ensures { IsTrue result ↔ LacksNumber (range_of part) text.now }
 {
     match part.range() {
@@ -93,16 +93,16 @@ fn lacks_number(part: Part, text: &str) -> bool
 }
 
 /// Whether it is no word that the part may be, or doesn't go with what else is given.
-fn lacks_word(matches: &ArgMatches<'_>, part: Part, text: &str) -> bool
+fn lacks_word(matches: &ArgMatches<'_>, part: Argument, text: &str) -> bool
     ensures { IsTrue result ↔ LacksWord (rows_of (found_of matches.now)) part text.now }
 {
     match part {
-        Part::Command => lacks_command(matches, meaning_of(text, &VERBS)),
-        Part::Log => meaning_of(text, &SEVERITIES).is_none(),
-        Part::Into => text_at(matches, Part::Tenant).is_some(),
-        Part::Journal => text_at(matches, Part::Load).is_some(),
-        Part::Sync => meaning_of(text, &SYNCS).is_none()
-            || text_at(matches, Part::Journal).is_none(),
+        Argument::Command => lacks_command(matches, meaning_of(text, &VERBS)),
+        Argument::Log => meaning_of(text, &SEVERITIES).is_none(),
+        Argument::Into => text_at(matches, Argument::Tenant).is_some(),
+        Argument::Journal => text_at(matches, Argument::Load).is_some(),
+        Argument::Sync => meaning_of(text, &SYNCS).is_none()
+            || text_at(matches, Argument::Journal).is_none(),
         _ => false,
     }
 }
@@ -113,7 +113,7 @@ fn lacks_command(matches: &ArgMatches<'_>, verb: Option<Verb>) -> bool
 {
     match verb {
         None => true,
-        Some(Verb::Compact) => text_at(matches, Part::New).is_none(),
+        Some(Verb::Compact) => text_at(matches, Argument::New).is_none(),
         Some(_) => false,
     }
 }

@@ -3,25 +3,25 @@ ghost use Rattle.std.specs.Prelude.{◌≡◌, ◌≤◌, IfSome};
 ghost use Rattle.clap.specs.Words.{rows_of, found_of};
 ghost use Rattle.sb_words.specs.Asking as spec;
 ghost use Rattle.sb_words.specs.Asking.{Fits, given_flag, text_of};
-ghost use Rattle.sb_words.specs.Parts.{range_of};
+ghost use Rattle.sb_words.specs.Arguments.{range_of};
 
+use crate::argument::Argument;
 use crate::number::number;
-use crate::part::Part;
 use clap::ArgMatches;
 
 /// The text of a part, if it is given.
-pub(crate) fn text_at<'a>(matches: &ArgMatches<'a>, part: Part) -> Option<&'a str>
+pub(crate) fn text_at<'a>(matches: &ArgMatches<'a>, part: Argument) -> Option<&'a str>
     ensures { text_of result ≡ spec.text_at (rows_of (found_of matches.now)) part }
 {
     text_by(part, matches.get_str(part.name()))
 }
 
 /// The text of a part, by what clap gives.
-fn text_by<'a>(part: Part, text: Option<&'a str>) -> Option<&'a str>
+fn text_by<'a>(part: Argument, text: Option<&'a str>) -> Option<&'a str>
     ensures { text_of result ≡ spec.text_by part (text_of text.entry) }
 {
     match part {
-        Part::UntilInputEnds => flag(text),
+        Argument::UntilInputEnds => flag(text),
         _ => text,
     }
 }
@@ -37,7 +37,7 @@ fn flag<'a>(text: Option<&'a str>) -> Option<&'a str>
 }
 
 /// The number of an option, which is the usual one where the option isn't given.
-pub(crate) fn number_at(matches: &ArgMatches<'_>, part: Part) -> u32
+pub(crate) fn number_at(matches: &ArgMatches<'_>, part: Argument) -> u32
     requires { Fits (rows_of (found_of matches.now)) part }
     ensures is { result ≡ spec.number_in (rows_of (found_of matches.now)) part }
     ensures within { IfSome (range_of part) (λ r. (r.least ≤ result) × (result ≤ r.most)) }

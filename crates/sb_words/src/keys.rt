@@ -4,9 +4,9 @@ ghost use Rattle.sb_words.specs.Keys.{Admits, no_keys, with_key};
 ghost use Rattle.sb_words.specs.Text.{keys_of, with_line};
 
 use crate::compare::has_digest;
-use crate::cut::Cut;
 use crate::digest::{Digest, digest_of, is_key};
-use crate::line::{Named, said};
+use crate::halves::Halves;
+use crate::line::{KeyEntry, said};
 use std::alloc::{AllocError, Global};
 use std::collections::HashMap;
 
@@ -49,7 +49,7 @@ impl Keys {
         let mut rest = text;
         let mut line = 0;
         while !rest.is_empty() {
-            let cut = Cut::at(b'\n', rest);
+            let cut = Halves::at(b'\n', rest);
             line += 1;
             keys.add_line(alloc, cut.before, line)?;
             rest = cut.behind;
@@ -83,7 +83,7 @@ impl Keys {
         if said.is_empty() {
             return Ok(());
         }
-        let Some(named) = Named::read(said) else {
+        let Some(named) = KeyEntry::read(said) else {
             return Err(KeysError::BadLine { line: number });
         };
         if self.digests(named.holder).len() >= MOST {

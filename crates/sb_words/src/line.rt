@@ -2,8 +2,8 @@
 ghost use Rattle.std.specs.Prelude.{◌≡◌, option_map};
 ghost use Rattle.sb_words.specs.Text.{digest_of, holder_of, key_of, number_of, said};
 
-use crate::cut::Cut;
 use crate::digest::Digest;
+use crate::halves::Halves;
 use hex::FromHex;
 use std::str;
 
@@ -15,22 +15,22 @@ const DIGITS: usize = 9;
 
 /// The holder of a key, and its digest.
 #[derive(Clone, Copy)]
-pub(crate) struct Named {
+pub(crate) struct KeyEntry {
     pub(crate) holder: u32,
     pub(crate) digest: Digest,
 }
 
-impl Named {
+impl KeyEntry {
     ghost use Rattle.sb_words.specs.Seen.{key_seen};
 
     /// The key that a line names, if what it says is one.
-    pub(crate) fn read(said: &[u8]) -> Option<Named>
+    pub(crate) fn read(said: &[u8]) -> Option<KeyEntry>
         ensures { option_map key_seen result ≡ key_of said.now }
     {
-        let cut = Cut::at(b' ', said);
+        let cut = Halves::at(b' ', said);
         let holder = holder(cut.before)?;
         let digest = digest_in(cut.behind)?;
-        Some(Named { holder, digest })
+        Some(KeyEntry { holder, digest })
     }
 }
 
@@ -38,7 +38,7 @@ impl Named {
 pub(crate) fn said(line: &[u8]) -> &[u8]
     ensures { result.now ≡ said line.now }
 {
-    Cut::at(b'#', line).before.trim_ascii()
+    Halves::at(b'#', line).before.trim_ascii()
 }
 
 /// The digest that these bytes are in hex.

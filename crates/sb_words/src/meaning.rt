@@ -2,7 +2,7 @@
 ghost use Rattle.std.specs.Prelude.{◌≡◌};
 ghost use Rattle.sb_words.specs.Meanings as spec;
 
-use crate::part::Verb;
+use crate::argument::Verb;
 use crate::severity::Severity;
 use crate::syncs::Syncs;
 

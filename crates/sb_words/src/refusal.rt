@@ -1,10 +1,10 @@
 //! The line that tells why words are refused.
 ghost use Rattle.std.specs.Prelude.{◌≡◌, ◌++◌, codes, IfOk, OnOk};
-ghost use Rattle.sb_words.specs.Parts.{name_of};
+ghost use Rattle.sb_words.specs.Arguments.{name_of};
 ghost use Rattle.sb_words.specs.Refusals.{part_text, refusal_text};
 
+use crate::argument::{Argument, Unfit};
 use crate::help::ALLOWED;
-use crate::part::{Part, Unfit};
 use std::alloc::{AllocError, Global};
 
 /// The line of a part that isn't allowed, and what is.
@@ -24,13 +24,17 @@ fn push_part(out: &mut Vec<u8>, unfit: Unfit<'_>) -> Result<(), AllocError>
     ensures { OnOk result (out.new.items ≡ out.old.items ++ part_text unfit.entry.part unfit.entry.text.now) }
 {
     match unfit.part {
-        Part::Command | Part::Old | Part::New => push_both(out, "the word ", unfit.text),
-        Part::UntilInputEnds => push_both(out, "--until-input-ends", ""),
+        Argument::Command | Argument::Old | Argument::New => push_both(
+            out,
+            "the word ",
+            unfit.text,
+        ),
+        Argument::UntilInputEnds => push_both(out, "--until-input-ends", ""),
         option => push_option(out, option, unfit.text),
     }
 }
 
-fn push_option(out: &mut Vec<u8>, option: Part, text: &str) -> Result<(), AllocError>
+fn push_option(out: &mut Vec<u8>, option: Argument, text: &str) -> Result<(), AllocError>
     ensures { OnOk result (out.new.items ≡ out.old.items ++ (codes "--" ++ name_of option ++ codes " " ++ text.now)) }
 {
     push_both(out, "--", option.name())?;

@@ -4,8 +4,8 @@ ghost use Rattle.clap.specs.Words.{FailsBy, app_of, fault_of, found_of, matches_
 ghost use Rattle.sb_words.specs.Within.{AreWithin};
 ghost use Rattle.sb_words.specs.Words.{IsAsked, rule_of, starhost, with_parts};
 
-use crate::part::{PARTS, Part, Unfit};
-use crate::request::{Paths, Request, paths_of, requested};
+use crate::argument::{Argument, PARTS, Unfit};
+use crate::invocation::{Invocation, Paths, paths_of, requested};
 use clap::error::ErrorKind;
 use clap::{Arg, ArgAction, ArgMatches, Command, Error};
 use std::alloc::{AllocError, Global};
@@ -15,7 +15,7 @@ use std::convert::AsStr;
 #[derive(Drop)]
 pub enum Asked<'a> {
     /// A command, and the folders and files that it reads and writes.
-    For(Request, Paths<'a>),
+    For(Invocation, Paths<'a>),
     Help,
     Version,
     /// clap finds a fault in the words.
@@ -63,7 +63,7 @@ fn program<'a>(alloc: Global) -> Result<Command<'a>, AllocError>
 fn with_all<'a>(
     alloc: Global,
     command: Command<'a>,
-    parts: &[Part],
+    parts: &[Argument],
 ) -> Result<Command<'a>, AllocError>
     ensures { IfOk result (λ c. app_of c ≡ with_parts (app_of command.entry) parts.now) }
 {
@@ -75,22 +75,26 @@ fn with_all<'a>(
 }
 
 /// Adds a part.
-fn with_part<'a>(alloc: Global, command: Command<'a>, part: Part) -> Result<Command<'a>, AllocError>
+fn with_part<'a>(
+    alloc: Global,
+    command: Command<'a>,
+    part: Argument,
+) -> Result<Command<'a>, AllocError>
     ensures { IfOk result (λ c. app_of c ≡ with_rule (app_of command.entry) (rule_of part)) }
 {
     command.arg(arg_of(alloc, part))
 }
 
 /// An option with a value or without one, or a word without a name.
-fn arg_of<'a>(alloc: Global, part: Part) -> Arg<'a>
+fn arg_of<'a>(alloc: Global, part: Argument) -> Arg<'a>
     ensures rule { rule_of_arg result ≡ rule_of part }
     ensures local { result.global ≡ false }
 {
     let name = part.name();
     let arg = Arg::new(alloc, name);
     match part {
-        Part::Command | Part::Old | Part::New => arg,
-        Part::UntilInputEnds => arg.long(name).action(ArgAction::SetTrue),
+        Argument::Command | Argument::Old | Argument::New => arg,
+        Argument::UntilInputEnds => arg.long(name).action(ArgAction::SetTrue),
         _ => arg.long(name),
     }
 }

@@ -9,8 +9,8 @@ use Rattle.sb_dump.specs.declared.dumps.DumpError.TheVariants.{Busy, NotAlike, N
 use Rattle.sb_tenant.specs.Tenant.{Tenant, state}
 use Rattle.sb_wire.specs.Stream.{AnswersInput}
 use Rattle.starhost.specs.Dumping.{DumpsInput, IsUndumped, LeavesTenants, RefusesDump, script_text, undumped_as}
-use Rattle.starhost.specs.declared.fault.Fault.{Fault}
-use Rattle.starhost.specs.declared.fault.Fault.TheVariants.{Stream}
+use Rattle.starhost.specs.declared.fault.ProgramFault.{ProgramFault}
+use Rattle.starhost.specs.declared.fault.ProgramFault.TheVariants.{Stream}
 use Rattle.sb_wire.specs.declared.fault.StreamError.{StreamError}
 
 pub undumped : (cell : Cell) (t : ℕ) (own : Tenant) (e : DumpError) → Some own ≡ tenant_at cell t → (e ≡ Busy → is_busy (state own) ≡ true)
@@ -34,7 +34,7 @@ stream_failed tenants bound t None e = tt
 stream_failed tenants bound t (Some bytes) e = inl (e, refl)
 
 module _ (tenants bound t : ℕ) (cell : Cell) where
-  pub refuses : (input : Option (List ℕ)) (why : Fault) → IfSome input (Leaves tenants bound cell) → IsUndumped cell t why
+  pub refuses : (input : Option (List ℕ)) (why : ProgramFault) → IfSome input (Leaves tenants bound cell) → IsUndumped cell t why
       → IfSome input (λ bytes. RefusesDump tenants bound t bytes why)
   refuses None why left un = tt
   refuses (Some bytes) why left un = inr (left.0, subst (λ c. IsUndumped c t why) (sym left.1) un)

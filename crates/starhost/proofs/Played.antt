@@ -6,7 +6,7 @@ use Rattle.sb_wire.specs.Lines.{Piece, line, too_long, pieces_of}
 use Rattle.sb_wire.specs.Responses.{AreAnswered}
 use Rattle.sb_wire.specs.Stream.{AreFirst}
 use Rattle.starhost.specs.Playing.{HasLines, Plays, PlaysBy, TakesEach}
-use Rattle.starhost.specs.declared.player.Progress.{Progress}
+use Rattle.starhost.specs.declared.player.LoadProgress.{LoadProgress}
 
 -- a file that was read to its end has the lines that were answered
 read_whole : (file rest : Option (List ℕ)) (seen : List ℕ) (pieces : List Piece) (lines : List (List ℕ)) → Consumes file rest seen → IsAtEnd rest
@@ -22,23 +22,23 @@ module _ {S : Type 0} (takes refuses : S → List ℕ → S → Type 0) where
   good_line old new (line own) taken = (own, refl, taken)
   good_line old new too_long none = absurd none
 
-  abbrev is_bad : S × Progress → Bool
+  abbrev is_bad : S × LoadProgress → Bool
   is_bad state = state.1.is_bad
 
   -- lines, none of which was a bad one
-  stream_taken : (old new : S × Progress) (ps : List Piece) (text : List ℕ) → AreAnswered (Plays takes refuses) is_bad old ps text new → new.1.is_bad ≡ false
+  stream_taken : (old new : S × LoadProgress) (ps : List Piece) (text : List ℕ) → AreAnswered (Plays takes refuses) is_bad old ps text new → new.1.is_bad ≡ false
       → (lines : List (List ℕ)) × (ps ≡ map line lines) × TakesEach takes lines old.0 new.0
-  stream_taken old new [] text answered fine = ([], refl, ap (λ (s : S × Progress). s.0) answered.1)
+  stream_taken old new [] text answered fine = ([], refl, ap (λ (s : S × LoadProgress). s.0) answered.1)
   stream_taken old new (p ∷ ps) text (first, rest, mid, is, going, one, more) fine =
       let here = good_line old.0 mid.0 p (subst (λ (b : Bool). PlaysBy takes refuses b old.0 p mid.0) (still ps more) one.1) in
       let behind = stream_taken mid new ps rest more fine in
       (here.0 ∷ behind.0, (λ i. here.1 i ∷ behind.1 i), (mid.0, here.2, behind.2))
     where
       still : (ps : List Piece) → AreAnswered (Plays takes refuses) is_bad mid ps rest new → mid.1.is_bad ≡ false
-      still [] end = subst (λ (s : S × Progress). s.1.is_bad ≡ false) end.1 fine
+      still [] end = subst (λ (s : S × LoadProgress). s.1.is_bad ≡ false) end.1 fine
       still (q ∷ qs) next = next.4
 
-  pub file_taken : (old new : S × Progress) (file rest : Option (List ℕ)) (seen : List ℕ) (pieces : List Piece) (text : List ℕ)
+  pub file_taken : (old new : S × LoadProgress) (file rest : Option (List ℕ)) (seen : List ℕ) (pieces : List Piece) (text : List ℕ)
       → AreAnswered (Plays takes refuses) (λ s. s.1.is_bad) old pieces text new → new.1.is_bad ≡ false → Consumes file rest seen
       → ((new.1.is_bad ≡ true) × AreFirst pieces seen) ⊎ (IsAtEnd rest × (pieces ≡ pieces_of seen))
       → (lines : List (List ℕ)) × HasLines file lines × TakesEach takes lines old.0 new.0

@@ -5,9 +5,9 @@ use Rattle.std.specs.Io.KnownBytes.{Appends}
 use Rattle.std.proofs.KnownBytes.{Appends-trans}
 use Rattle.starhost.specs.Ends.{EndsEarly, FailsToServe}
 use Rattle.starhost.specs.Totals.{TellsServer, TellsTrails, listening_line}
-use Rattle.starhost.specs.declared.fault.Fault.{Fault}
+use Rattle.starhost.specs.declared.fault.ProgramFault.{ProgramFault}
 
-pub tells_both : (old mid new : Option (List ℕ)) (b bound t tenants port : ℕ) (ended : Result (Unit {0}) Fault) → b ≡ bound → t ≡ tenants
+pub tells_both : (old mid new : Option (List ℕ)) (b bound t tenants port : ℕ) (ended : Result (Unit {0}) ProgramFault) → b ≡ bound → t ≡ tenants
     → Appends old mid (listening_line port) → OnOk ended ((line : List ℕ) × Appends mid new line × TellsTrails b t line)
     → OnOk ended ((text : List ℕ) × Appends old new text × TellsServer bound tenants text)
 tells_both old mid new b bound t tenants port (Ok value) same_bound same_tenants first (line, last, tells) = (
@@ -19,7 +19,7 @@ tells_both old mid new b bound t tenants port (Err why) same_bound same_tenants 
 
 -- it ends early behind its first line
 module _ {W : Type 0} (refuses : W → Type 0) (contents : W → Option (List ℕ)) (old mid new : W) where
-  pub ends_behind : (b bound t tenants first port : ℕ) (ended : Result (Unit {0}) Fault) → b ≡ bound → t ≡ tenants
+  pub ends_behind : (b bound t tenants first port : ℕ) (ended : Result (Unit {0}) ProgramFault) → b ≡ bound → t ≡ tenants
       → Appends (contents old) (contents mid) (listening_line port) → IfErr ended (FailsToServe refuses contents b t first mid new)
       → IfErr ended (EndsEarly refuses contents bound tenants first old new)
   ends_behind b bound t tenants first port (Ok value) same_bound same_tenants told fails = fails

@@ -4,8 +4,8 @@ use Rattle.std.proofs.Math.Nat.{eq-or-lt_of_le}
 use Rattle.std.specs.Prelude.{IfSome}
 use Rattle.sb_cell.specs.Tenants.{Cell}
 use Rattle.starhost.specs.Dumping.{FirstUnwritten, HasScript, HaveScripts, RefusesDumps}
-use Rattle.starhost.specs.declared.fault.Fault.{Fault}
-use Rattle.starhost.specs.declared.fault.Fault.TheVariants.{Stream}
+use Rattle.starhost.specs.declared.fault.ProgramFault.{ProgramFault}
+use Rattle.starhost.specs.declared.fault.ProgramFault.TheVariants.{Stream}
 use Rattle.sb_wire.specs.declared.fault.StreamError.{StreamError}
 use Rattle.starhost.proofs.Dumped.{Leaves}
 
@@ -23,7 +23,7 @@ module _ (tenants bound : ℕ) (cell : Cell) where
   all_written (Some bytes) left each =
       record { leaves = left.0; each = subst (λ (c : Cell). (t : ℕ) → t < tenants → HasScript bound c t) (sym left.1) each }
 
-  pub some_unwritten : (input : Option (List ℕ)) (why : Fault) → IfSome input (Leaves tenants bound cell) → FirstUnwritten tenants bound cell why
+  pub some_unwritten : (input : Option (List ℕ)) (why : ProgramFault) → IfSome input (Leaves tenants bound cell) → FirstUnwritten tenants bound cell why
       → IfSome input (λ bytes. RefusesDumps tenants bound bytes why)
   some_unwritten None why left un = tt
   some_unwritten (Some bytes) why left un = inr (inr (left.0, subst (λ (c : Cell). FirstUnwritten tenants bound c why) (sym left.1) un))
@@ -33,17 +33,17 @@ stream_fault tenants bound None e = tt
 stream_fault tenants bound (Some bytes) e = inr (inl (e, refl))
 
 -- the first fault stays, and there is one from then on
-pub still_none : {X : Type 0} (first next : Option Fault) (why : Fault) → ((first ≢ None) × (next ≡ first)) ⊎ ((first ≡ None) × (next ≡ Some why)) → next ≡ None → X
+pub still_none : {X : Type 0} (first next : Option ProgramFault) (why : ProgramFault) → ((first ≢ None) × (next ≡ first)) ⊎ ((first ≡ None) × (next ≡ Some why)) → next ≡ None → X
 still_none first next why (inl (some, same)) none = absurd (some (sym same ∙ none))
 still_none first next why (inr (missing, is)) none = absurd (ne_some why (sym none ∙ is))
   where
-    ne_some : (w : Fault) → None ≡ Some w → ⊥
+    ne_some : (w : ProgramFault) → None ≡ Some w → ⊥
     ne_some w e = subst IsThere (sym e) tt
       where
-        IsThere : Option Fault → Type 0
+        IsThere : Option ProgramFault → Type 0
         IsThere None = ⊥
         IsThere (Some f) = Unit {0}
 
-pub first_why : (P : Fault → Type 0) (first next : Option Fault) (why : Fault) → IfSome first P → (first ≡ None → P why) → ((first ≢ None) × (next ≡ first)) ⊎ ((first ≡ None) × (next ≡ Some why)) → IfSome next P
-first_why P first next why before here (inl (some, same)) = subst (λ (o : Option Fault). IfSome o P) (sym same) before
-first_why P first next why before here (inr (missing, is)) = subst (λ (o : Option Fault). IfSome o P) (sym is) (here missing)
+pub first_why : (P : ProgramFault → Type 0) (first next : Option ProgramFault) (why : ProgramFault) → IfSome first P → (first ≡ None → P why) → ((first ≢ None) × (next ≡ first)) ⊎ ((first ≡ None) × (next ≡ Some why)) → IfSome next P
+first_why P first next why before here (inl (some, same)) = subst (λ (o : Option ProgramFault). IfSome o P) (sym same) before
+first_why P first next why before here (inr (missing, is)) = subst (λ (o : Option ProgramFault). IfSome o P) (sym is) (here missing)

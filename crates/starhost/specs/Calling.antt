@@ -9,8 +9,8 @@ use Rattle.sb_wire.specs.declared.fault.StreamError.TheVariants as stream
 use Rattle.sb_host.specs.Desk.{CallError, Calls, Receipt, Session, Stub, numbered, receipt}
 use Rattle.sb_host.specs.Lending.{Lends}
 use Rattle.starhost.specs.Playing.{IsTaken, MayEnd, MayHave, MayLack}
-use Rattle.starhost.specs.declared.fault.Fault.{Fault}
-use Rattle.starhost.specs.declared.fault.Fault.TheVariants.{CannotLoad, Stream}
+use Rattle.starhost.specs.declared.fault.ProgramFault.{ProgramFault}
+use Rattle.starhost.specs.declared.fault.ProgramFault.TheVariants.{CannotLoad, Stream}
 use Rattle.starhost.specs.declared.playing.Unplayed.{Unplayed}
 
 -- ---- one line
@@ -71,5 +71,5 @@ LeaveAll files (suc n) stubs =
     (before : List Stub) × (own : Option Stub) × LeaveAll files n before × LeavesFor n (files n) own × (stubs ≡ before ++ option_to_list own)
 
 -- or there is no memory, or one of the tenants, counted from the first one, has a file that can't be read or isn't a script
-abbrev pub IsUnplayedOf : ℕ → ℕ → Fault → Type 0
+abbrev pub IsUnplayedOf : ℕ → ℕ → ProgramFault → Type 0
 IsUnplayedOf first tenants why = (why ≡ Stream stream.NoMemory) ⊎ ((t : ℕ) × (t < tenants) × (why ≡ CannotLoad (first + t)))

@@ -5,8 +5,8 @@ use Rattle.sb_words.specs.Keys.{hex_digest, is_key}
 use Rattle.sb_wire.specs.Lines.{Piece, line, too_long}
 use Rattle.sb_wire.specs.Stream.{AreFirst}
 use Rattle.starhost.specs.Faults.{IsOfStream}
-use Rattle.starhost.specs.declared.fault.Fault.{Fault}
-use Rattle.starhost.specs.declared.fault.Fault.TheVariants.{BadKey}
+use Rattle.starhost.specs.declared.fault.ProgramFault.{ProgramFault}
+use Rattle.starhost.specs.declared.fault.ProgramFault.TheVariants.{BadKey}
 use Rattle.starhost.specs.declared.digesting.Digested.{Digested}
 use Rattle.starhost.specs.declared.digesting.Digested.TheVariants.{Awaits, Told, NoKey}
 
@@ -24,7 +24,7 @@ pub record TellsDigest (input rest held holds : Option (List ℕ)) : Type 0 wher
   pub appends : Appends held holds (digest_text key)
 
 -- a stream failed, or its first line is no key
-abbrev pub RefusesDigest : Fault → Type 0
+abbrev pub RefusesDigest : ProgramFault → Type 0
 RefusesDigest why = IsOfStream why ⊎ (why ≡ BadKey)
 
 -- ---- as a stream

@@ -7,8 +7,8 @@ use Rattle.sb_dump.specs.declared.dumps.DumpError.TheVariants.{Busy, NotAlike, N
 use Rattle.sb_wire.specs.declared.fault.StreamError.TheVariants as stream
 use Rattle.sb_tenant.specs.Tenant.{Tenant, state}
 use Rattle.sb_wire.specs.Stream.{AnswersInput}
-use Rattle.starhost.specs.declared.fault.Fault.{Fault}
-use Rattle.starhost.specs.declared.fault.Fault.TheVariants.{CannotDump, CannotWrite, NoFolder, NoTenant, Stream, TenantBusy}
+use Rattle.starhost.specs.declared.fault.ProgramFault.{ProgramFault}
+use Rattle.starhost.specs.declared.fault.ProgramFault.TheVariants.{CannotDump, CannotWrite, NoFolder, NoTenant, Stream, TenantBusy}
 use Rattle.starhost.specs.Faults.{IsOfStream}
 
 -- each line, and its end
@@ -34,13 +34,13 @@ pub record DumpsInput (tenants bound tenant : ℕ) (input text : List ℕ) : Typ
   pub text_is : text ≡ script_text script
 
 -- what a tenant without a script is told as
-abbrev pub undumped_as : ℕ → DumpError → Fault
+abbrev pub undumped_as : ℕ → DumpError → ProgramFault
 undumped_as tenant Busy = TenantBusy tenant
 undumped_as tenant NotAlike = CannotDump tenant
 undumped_as tenant NoMemory = Stream stream.NoMemory
 
 -- it is told that the tenant isn't hosted, or that it has a transaction, where it is so on the cell; or that its script makes another tenant, or memory ran out
-abbrev pub IsUndumped : ItsCell → ℕ → Fault → Type 0
+abbrev pub IsUndumped : ItsCell → ℕ → ProgramFault → Type 0
 IsUndumped cell tenant (NoTenant t) = (t ≡ tenant) × (tenant_at cell tenant ≡ None)
 IsUndumped cell tenant (TenantBusy t) = (t ≡ tenant) × (own : Tenant) × (tenant_at cell tenant ≡ Some own) × (is_busy (state own) ≡ true)
 IsUndumped cell tenant (CannotDump t) = t ≡ tenant
@@ -48,7 +48,7 @@ IsUndumped cell tenant (Stream e) = e ≡ stream.NoMemory
 IsUndumped cell tenant other = ⊥
 
 -- a stream failed, or so it is as the input leaves the tenant
-abbrev pub RefusesDump : ℕ → ℕ → ℕ → List ℕ → Fault → Type 0
+abbrev pub RefusesDump : ℕ → ℕ → ℕ → List ℕ → ProgramFault → Type 0
 RefusesDump tenants bound tenant input why =
     IsOfStream why ⊎ ((leaves : LeavesTenants tenants bound input) × IsUndumped leaves.cell tenant why)
 
@@ -65,15 +65,15 @@ pub record HaveScripts (tenants bound : ℕ) (input : List ℕ) : Type 0 where
   pub each : (t : ℕ) → t < tenants → HasScript bound leaves.cell t
 
 -- it is told why a tenant has no script, or that its file can't be written
-abbrev pub IsUnwritten : ItsCell → ℕ → Fault → Type 0
+abbrev pub IsUnwritten : ItsCell → ℕ → ProgramFault → Type 0
 IsUnwritten cell tenant why = (why ≡ CannotWrite tenant) ⊎ IsUndumped cell tenant why
 
 -- so it is of the first one that isn't written: each before it was never opened, or has a script
-abbrev pub FirstUnwritten : ℕ → ℕ → ItsCell → Fault → Type 0
+abbrev pub FirstUnwritten : ℕ → ℕ → ItsCell → ProgramFault → Type 0
 FirstUnwritten tenants bound cell why =
     (t : ℕ) × (t < tenants) × ((u : ℕ) → u < t → HasScript bound cell u) × IsUnwritten cell t why
 
 -- the folder isn't there, a stream failed, or so it is as the input leaves the tenants
-abbrev pub RefusesDumps : ℕ → ℕ → List ℕ → Fault → Type 0
+abbrev pub RefusesDumps : ℕ → ℕ → List ℕ → ProgramFault → Type 0
 RefusesDumps tenants bound input why =
     (why ≡ NoFolder) ⊎ (IsOfStream why ⊎ ((leaves : LeavesTenants tenants bound input) × FirstUnwritten tenants bound leaves.cell why))

@@ -11,33 +11,33 @@ use Rattle.sb_server.specs.Closed.{LeavesClosed}
 use Rattle.sb_server.specs.declared.server.ServeError.{ServeError}
 use Rattle.starhost.specs.Faults.{unfinished_as, unserved_as}
 use Rattle.starhost.specs.Totals.{listening_line}
-use Rattle.starhost.specs.declared.fault.Fault.{Fault}
-use Rattle.starhost.specs.declared.fault.Fault.TheVariants.{Stream, CannotListen}
+use Rattle.starhost.specs.declared.fault.ProgramFault.{ProgramFault}
+use Rattle.starhost.specs.declared.fault.ProgramFault.TheVariants.{Stream, CannotListen}
 
 module _ {W : Type 0} (refuses : W → Type 0) (contents : W → Option (List ℕ)) where
   -- the writer fails; or nothing is written, for this reason
-  abbrev pub WritesNot : W → W → Fault → Type 0 → Type 0
+  abbrev pub WritesNot : W → W → ProgramFault → Type 0 → Type 0
   WritesNot writer after why reason =
       ((why ≡ Stream stream.WriteFault) × MayFail refuses contents after) ⊎ (Keeps (contents writer) (contents after) × reason)
 
   -- The trails aren't told: the host wasn't finished with these receipts, or there was no memory for the line.
-  abbrev pub FailsToTell : ℕ → ℕ → ℕ → List Stub → W → W → Fault → Type 0
+  abbrev pub FailsToTell : ℕ → ℕ → ℕ → List Stub → W → W → ProgramFault → Type 0
   FailsToTell bound tenants first stubs writer after why =
       WritesNot writer after why
       ((why ≡ Stream stream.NoMemory) ⊎ ((e : FinishError) × Finishes bound tenants stubs (Err e) × (why ≡ unfinished_as first e)))
 
   -- So it is behind the last connection, with receipts that closed sessions left; or connections weren't served.
-  abbrev pub FailsToServe : ℕ → ℕ → ℕ → W → W → Fault → Type 0
+  abbrev pub FailsToServe : ℕ → ℕ → ℕ → W → W → ProgramFault → Type 0
   FailsToServe bound tenants first writer after why =
       (Keeps (contents writer) (contents after) × ((e : ServeError) × (why ≡ unserved_as e)))
       ⊎ ((stubs : List Stub) × All LeavesClosed stubs × FailsToTell bound tenants first stubs writer after why)
 
   -- nothing listens at the port, or there was no memory
-  abbrev pub FailsToListen : W → W → Fault → Type 0
+  abbrev pub FailsToListen : W → W → ProgramFault → Type 0
   FailsToListen writer after why = WritesNot writer after why ((why ≡ CannotListen) ⊎ (why ≡ Stream stream.NoMemory))
 
   -- a server ends so, or behind its first line
-  abbrev pub EndsEarly : ℕ → ℕ → ℕ → W → W → Fault → Type 0
+  abbrev pub EndsEarly : ℕ → ℕ → ℕ → W → W → ProgramFault → Type 0
   EndsEarly bound tenants first writer after why =
       FailsToListen writer after why
       ⊎ ((port : ℕ) × (mid : W) × Appends (contents writer) (contents mid) (listening_line port)

@@ -11,10 +11,10 @@ use Rattle.sb_server.specs.declared.server.ServeError.TheVariants as serve
 use Rattle.sb_replay.specs.declared.error.ReplayError.{ReplayError}
 use Rattle.sb_replay.specs.declared.error.ReplayError.TheVariants as replay
 use Rattle.starhost.specs.Does.{Tells}
-use Rattle.starhost.specs.declared.fault.Fault.{Fault}
+use Rattle.starhost.specs.declared.fault.ProgramFault.{ProgramFault}
 use Rattle.starhost.specs.declared.key_source.Unread.{Unread}
 use Rattle.starhost.specs.declared.key_source.Unread.TheVariants.{File, TooLong, Keys}
-use Rattle.starhost.specs.declared.fault.Fault.TheVariants.{Stream, CannotListen, CannotWait, CannotStart, WaitingFailed, CannotOpenJournal, JournalFailed, BadLine, NoTenant, TenantBusy, NoFolder, CannotLoad, CannotWrite, CannotDump, CannotAttach, TrailMissing, TrailMismatch, CannotWriteJournal, NoKeys, BadKeys, BadKey}
+use Rattle.starhost.specs.declared.fault.ProgramFault.TheVariants.{Stream, CannotListen, CannotWait, CannotStart, WaitingFailed, CannotOpenJournal, JournalFailed, BadLine, NoTenant, TenantBusy, NoFolder, CannotLoad, CannotWrite, CannotDump, CannotAttach, TrailMissing, TrailMismatch, CannotWriteJournal, NoKeys, BadKeys, BadKey}
 
 -- ---- the lines
 
@@ -26,7 +26,7 @@ one_number_text label number = label ++ decimal number ++ codes "\n"
 abbrev pub numbered_text : List ℕ → ℕ → ℕ → List ℕ
 numbered_text label tenant session = label ++ decimal tenant ++ codes " " ++ decimal session ++ codes "\n"
 
-abbrev pub fault_text : Fault → List ℕ
+abbrev pub fault_text : ProgramFault → List ℕ
 fault_text (Stream e) = fault_line e
 fault_text CannotListen = codes "fault: cannot listen\n"
 fault_text CannotWait = codes "fault: cannot wait\n"
@@ -51,35 +51,35 @@ fault_text (TrailMismatch t s) = numbered_text (codes "fault: trail mismatch ") 
 
 module _ {E : Type 0} (denies : E → Type 0) (told : E → Option (List ℕ)) (errors more : E) where
   -- a fault is told by its line, or want of memory where there is none for the line
-  abbrev pub TellsFault : Fault → Type 0
+  abbrev pub TellsFault : ProgramFault → Type 0
   TellsFault why = Tells denies told errors more (fault_text why) ⊎ Tells denies told errors more (fault_line stream.NoMemory)
 
   -- a server or a replay that ended well has status 0 and tells nothing; one that didn't has status 1 and tells its fault
-  abbrev pub TellsEnd : Result (Unit {0}) Fault → ℕ → Type 0
+  abbrev pub TellsEnd : Result (Unit {0}) ProgramFault → ℕ → Type 0
   TellsEnd (Ok value) status = (status ≡ 0) × (more ≡ errors)
   TellsEnd (Err why) status = (status ≡ 1) × TellsFault why
 
 -- ---- the reasons
 
 -- of a stream that failed
-abbrev pub IsOfStream : Fault → Type 0
+abbrev pub IsOfStream : ProgramFault → Type 0
 IsOfStream why = (e : StreamError) × (why ≡ Stream e)
 
 -- of keys that weren't read
-abbrev pub unread_as : Unread → Fault
+abbrev pub unread_as : Unread → ProgramFault
 unread_as (File e) = NoKeys
 unread_as TooLong = NoKeys
 unread_as (Keys (keys.BadLine n)) = BadKeys n
 unread_as (Keys keys.NoMemory) = Stream stream.NoMemory
 
 -- of a host that wasn't finished, whose tenants have this first number
-abbrev pub unfinished_as : ℕ → FinishError → Fault
+abbrev pub unfinished_as : ℕ → FinishError → ProgramFault
 unfinished_as first (finish.Missing t s) = TrailMissing (first + t) s
 unfinished_as first (finish.Mismatch t s) = TrailMismatch (first + t) s
 unfinished_as first finish.NoMemory = Stream stream.NoMemory
 
 -- of an input that wasn't replayed
-abbrev pub unplayed_as : ReplayError → Fault
+abbrev pub unplayed_as : ReplayError → ProgramFault
 unplayed_as replay.ReadFault = Stream stream.ReadFault
 unplayed_as replay.WriteFault = Stream stream.WriteFault
 unplayed_as (replay.BadLine n why) = BadLine n
@@ -88,7 +88,7 @@ unplayed_as (replay.Finish e) = unfinished_as 0 e
 unplayed_as replay.NoMemory = Stream stream.NoMemory
 
 -- of connections that weren't served
-abbrev pub unserved_as : ServeError → Fault
+abbrev pub unserved_as : ServeError → ProgramFault
 unserved_as serve.NoMemory = Stream stream.NoMemory
 unserved_as serve.NoPlace = CannotWait
 unserved_as serve.NoThread = CannotStart

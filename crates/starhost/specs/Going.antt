@@ -5,8 +5,8 @@ use Rattle.sb_replay.specs.declared.error.ReplayError.{ReplayError}
 use Rattle.sb_wire.specs.Stream.{AnswersFresh, MayFail, OnWriteFault}
 use Rattle.sb_wire.specs.declared.fault.StreamError.{StreamError}
 use Rattle.sb_wire.specs.declared.summary.Summary.{Summary}
-use Rattle.sb_words.specs.declared.request.Request.{Request}
-use Rattle.sb_words.specs.declared.request.Request.TheVariants.{Run, Load, Serve, Keep, Replay, Parse, Dump, DumpAll, Compact, Key, Record}
+use Rattle.sb_words.specs.declared.invocation.Invocation.{Invocation}
+use Rattle.sb_words.specs.declared.invocation.Invocation.TheVariants.{Run, Load, Serve, Keep, Replay, Parse, Dump, DumpAll, Compact, Key, Record}
 use Rattle.starhost.specs.Digesting.{RefusesDigest, TellsDigest}
 use Rattle.starhost.specs.Does.{GoesFresh, Tells, TellsRun, line_of, status_of}
 use Rattle.starhost.specs.Dumping.{DumpsInput, HaveScripts, RefusesDump, RefusesDumps}
@@ -17,11 +17,11 @@ use Rattle.starhost.specs.Loading.{AnswersLoaded, GoesLoaded, IsUnloaded}
 use Rattle.starhost.specs.Parsing.{ParsesStream, TellsLines}
 use Rattle.starhost.specs.Totals.{TellsServer}
 use Rattle.starhost.specs.Writing.{Writes, WritesOf}
-use Rattle.starhost.specs.declared.fault.Fault.{Fault}
+use Rattle.starhost.specs.declared.fault.ProgramFault.{ProgramFault}
 
 module _ {R W : Type 0} (remaining : R → Option (List ℕ)) (contents : W → Option (List ℕ)) (reader rest : R) (writer after : W) where
   -- with status 0 the writer has this, for all of the input where it is known
-  abbrev pub Succeeds : Request → Type 0
+  abbrev pub Succeeds : Invocation → Type 0
   Succeeds (Run r) = WritesOf remaining contents reader writer after (AnswersFresh r.tenants r.bound)
   Succeeds (Load r) = WritesOf remaining contents reader writer after (AnswersLoaded r.tenants r.bound)
   Succeeds (Record r) = WritesOf remaining contents reader writer after (AnswersJournaled r.tenants r.bound)
@@ -37,23 +37,23 @@ module _ {R W : Type 0} (remaining : R → Option (List ℕ)) (contents : W → 
 module _ {R W E : Type 0} (fails : R → Type 0) (remaining : R → Option (List ℕ)) (refuses : W → Type 0) (contents : W → Option (List ℕ))
     (denies : E → Type 0) (told : E → Option (List ℕ)) (reader rest : R) (writer after : W) (is_terminal : Bool) (errors more : E) (status : ℕ) where
   -- of a run how its stream went; of a server, a replay or a dump the fault that it ended with, and why; how the stream of lines went of which it is told whether they are commands
-  abbrev pub Goes : Request → Type 0
+  abbrev pub Goes : Invocation → Type 0
   Goes (Run r) =
       (ended : Result (Unit {0}) StreamError) × (summary : Summary) × (status ≡ status_of ended)
       × GoesFresh fails remaining refuses contents r.tenants r.bound reader rest writer after ended summary
       × TellsRun denies told is_terminal errors more summary ended
   Goes (Load r) =
-      ((why : Fault) × IsUnloaded r.tenants why × (status ≡ 1) × (rest ≡ reader) × (after ≡ writer) × TellsFault denies told errors more why)
+      ((why : ProgramFault) × IsUnloaded r.tenants why × (status ≡ 1) × (rest ≡ reader) × (after ≡ writer) × TellsFault denies told errors more why)
       ⊎ ((ended : Result (Unit {0}) StreamError) × (summary : Summary) × (status ≡ status_of ended)
       × GoesLoaded fails remaining refuses contents r.tenants r.bound reader rest writer after ended summary
       × TellsRun denies told is_terminal errors more summary ended)
-  Goes (Record r) = (ended : Result (Unit {0}) Fault) × TellsEnd denies told errors more ended status
+  Goes (Record r) = (ended : Result (Unit {0}) ProgramFault) × TellsEnd denies told errors more ended status
   Goes (Serve s) =
-      (ended : Result (Unit {0}) Fault) × TellsEnd denies told errors more ended status × (rest ≡ reader)
+      (ended : Result (Unit {0}) ProgramFault) × TellsEnd denies told errors more ended status × (rest ≡ reader)
       × IfErr ended (EndsEarly refuses contents s.hosting.run.bound s.hosting.run.tenants s.first_tenant writer after)
-  Goes (Keep s) = (ended : Result (Unit {0}) Fault) × TellsEnd denies told errors more ended status × (rest ≡ reader)
+  Goes (Keep s) = (ended : Result (Unit {0}) ProgramFault) × TellsEnd denies told errors more ended status × (rest ≡ reader)
   Goes (Replay h) =
-      (ended : Result (Unit {0}) Fault) × TellsEnd denies told errors more ended status
+      (ended : Result (Unit {0}) ProgramFault) × TellsEnd denies told errors more ended status
       × IfErr ended (λ why. (e : ReplayError) × (why ≡ unplayed_as e) × Fails fails remaining refuses contents h.run.tenants h.run.bound reader rest writer after e)
   Goes Parse =
       (ended : Result (Unit {0}) StreamError) × (status ≡ status_of ended)
@@ -61,10 +61,10 @@ module _ {R W E : Type 0} (fails : R → Type 0) (remaining : R → Option (List
       × OnWriteFault ended (MayFail refuses contents after)
       × Tells denies told errors more (line_of ended)
   Goes (Dump d) =
-      (ended : Result (Unit {0}) Fault) × TellsEnd denies told errors more ended status
+      (ended : Result (Unit {0}) ProgramFault) × TellsEnd denies told errors more ended status
       × IfErr ended (λ why. IfSome (remaining reader) (λ input. RefusesDump d.run.tenants d.run.bound d.tenant input why))
   Goes (DumpAll r) =
-      (ended : Result (Unit {0}) Fault) × TellsEnd denies told errors more ended status × (after ≡ writer)
+      (ended : Result (Unit {0}) ProgramFault) × TellsEnd denies told errors more ended status × (after ≡ writer)
       × IfErr ended (λ why. IfSome (remaining reader) (λ input. RefusesDumps r.tenants r.bound input why))
-  Goes (Compact r) = (ended : Result (Unit {0}) Fault) × TellsEnd denies told errors more ended status × (rest ≡ reader) × (after ≡ writer)
-  Goes Key = (ended : Result (Unit {0}) Fault) × TellsEnd denies told errors more ended status × IfErr ended RefusesDigest
+  Goes (Compact r) = (ended : Result (Unit {0}) ProgramFault) × TellsEnd denies told errors more ended status × (rest ≡ reader) × (after ≡ writer)
+  Goes Key = (ended : Result (Unit {0}) ProgramFault) × TellsEnd denies told errors more ended status × IfErr ended RefusesDigest

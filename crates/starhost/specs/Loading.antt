@@ -9,8 +9,8 @@ use Rattle.sb_wire.specs.declared.fault.StreamError.{StreamError}
 use Rattle.sb_wire.specs.declared.fault.StreamError.TheVariants as stream
 use Rattle.sb_wire.specs.declared.summary.Summary.{Summary}
 use Rattle.starhost.specs.Playing.{AreTaken, MayHave, MayLack}
-use Rattle.starhost.specs.declared.fault.Fault.{Fault}
-use Rattle.starhost.specs.declared.fault.Fault.TheVariants.{CannotLoad, NoFolder, Stream}
+use Rattle.starhost.specs.declared.fault.ProgramFault.{ProgramFault}
+use Rattle.starhost.specs.declared.fault.ProgramFault.TheVariants.{CannotLoad, NoFolder, Stream}
 
 -- a tenant is what one session of it left: it was opened, sent these lines, and ended, and each of them was answered as a script's line is
 abbrev pub IsPlayedBy : ℕ → ℕ → List (List ℕ) → State → Type 0
@@ -53,6 +53,6 @@ GoesLoaded fails remaining refuses contents tenants bound reader rest writer aft
     × OnWriteFault ended (MayFail refuses contents after)
 
 -- or there is no folder or no memory, or one of the tenants has a file that can't be read or isn't a script
-abbrev pub IsUnloaded : ℕ → Fault → Type 0
+abbrev pub IsUnloaded : ℕ → ProgramFault → Type 0
 IsUnloaded tenants why =
     (why ≡ NoFolder) ⊎ ((why ≡ Stream stream.NoMemory) ⊎ ((t : ℕ) × (t < tenants) × (why ≡ CannotLoad t)))

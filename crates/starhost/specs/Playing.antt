@@ -11,7 +11,7 @@ use Rattle.sb_tenant.specs.declared.reply.Answer.{Answer}
 use Rattle.sb_tenant.specs.declared.reply.Reply.{Reply}
 use Rattle.sb_tenant.specs.declared.reply.Reply.TheVariants as reply
 use Rattle.sb_wire.specs.Lines.{Piece, line, too_long, pieces_of}
-use Rattle.starhost.specs.declared.player.Progress.{Progress}
+use Rattle.starhost.specs.declared.player.LoadProgress.{LoadProgress}
 use Rattle.starhost.specs.declared.playing.Unplayed.{Unplayed}
 use Rattle.starhost.specs.declared.playing.Unplayed.TheVariants as unplayed
 
@@ -104,7 +104,7 @@ module _ {S : Type 0} (takes refuses : S → List ℕ → S → Type 0) where
   PlaysBy true old too_long new = new ≡ old
 
   -- so it is by a player, which answers nothing
-  abbrev pub Plays : S × Progress → Piece → List ℕ → S × Progress → Type 0
+  abbrev pub Plays : S × LoadProgress → Piece → List ℕ → S × LoadProgress → Type 0
   Plays old piece text new = (text ≡ []) × PlaysBy new.1.is_bad old.0 piece new.0
 
 -- lines are taken, one after another

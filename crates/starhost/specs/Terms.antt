@@ -8,7 +8,7 @@ use Rattle.std.specs.declared.net.ipv4_addr.Ipv4Addr.{Ipv4Addr}
 use Rattle.std.specs.declared.net.ip_addr.IpAddr.TheVariants.{V4}
 use Rattle.std.specs.declared.net.socket_addr.SocketAddr.{SocketAddr}
 use Rattle.sb_server.specs.declared.server.Terms.{Terms}
-use Rattle.sb_words.specs.declared.request.Serving.{Serving}
+use Rattle.sb_words.specs.declared.invocation.ServerOptions.{ServerOptions}
 use Rattle.starhost.specs.declared.terms.Plan.{Plan}
 
 -- this port of 127.0.0.1
@@ -31,7 +31,7 @@ AreMegabytes n None = n ≡ 0
 AreMegabytes n (Some bytes) = (0 < n) × (bytes ≡ n * 1_048_576)
 
 -- the terms say just what the words do
-abbrev pub AreTermsOf : Serving → Terms → Type 0
+abbrev pub AreTermsOf : ServerOptions → Terms → Type 0
 AreTermsOf s t =
     (t.workers ≡ s.hosting.workers) × (t.first_tenant ≡ s.first_tenant) × (t.connections ≡ s.connections) × IsSeconds s.idle t.idle
     × IsSeconds s.idle_transaction t.idle_transaction × (t.until_input_ends ≡ s.until_input_ends) × AreMillis s.slow t.slow
@@ -44,7 +44,7 @@ IsStatusOf None (Some address) = ⊥
 IsStatusOf (Some port) None = ⊥
 
 -- so does all of the plan
-abbrev pub IsPlanOf : Serving → Plan → Type 0
+abbrev pub IsPlanOf : ServerOptions → Plan → Type 0
 IsPlanOf s p =
     IsHere s.port p.address × (p.tenants ≡ s.hosting.run.tenants) × (p.cells ≡ s.hosting.cells) × (p.bound ≡ s.hosting.run.bound)
     × AreMegabytes s.tenant_memory p.tenant_memory × AreTermsOf s p.terms × (p.log ≡ s.log) × IsStatusOf s.status p.status

@@ -2,8 +2,8 @@
 
 use sb_server::{Board, Cause, Count, LIMITS, SlowLine};
 use sb_status::{
-    Activity, Bucket, HostNumbers, HostView, Refused, Rollbacks, SlowView, TenantNumbers, Times,
-    WorkerNumbers, host_page, metrics,
+    Activity, Bucket, Histogram, HostNumbers, HostView, Refused, Rollbacks, SlowView,
+    TenantNumbers, WorkerNumbers, host_page, metrics,
 };
 use std::alloc::{AllocError, Global};
 use std::sync::Wait;
@@ -104,7 +104,7 @@ impl Counted {
             considerations: self.considerations,
             rollbacks: self.rollbacks,
             refusals: self.refusals.as_slice(),
-            times: Times {
+            times: Histogram {
                 buckets: self.buckets.as_slice(),
                 others: self.others,
                 micros: self.micros,

@@ -5,7 +5,7 @@ ghost use Rattle.starhost.specs.Faults.{unfinished_as};
 ghost use Rattle.starhost.specs.Totals.{TellsTrails, trails_line};
 ghost use Rattle.starhost.specs.Writing.{Writes};
 
-use crate::fault::Fault;
+use crate::fault::ProgramFault;
 use sb_host::{FinishError, Host, Naming, Report, Stub};
 use sb_wire::{Sink, StreamError, write_and_flush, write_totals};
 use std::alloc::{AllocError, Global};
@@ -23,19 +23,19 @@ fn totals(alloc: Global, report: &Report) -> Result<Vec<u8>, AllocError>
 }
 
 /// What a finish that didn't go well is told as, of a host whose tenants have this first number.
-pub(crate) fn fault_of(first_tenant: u32, error: FinishError) -> Fault
+pub(crate) fn fault_of(first_tenant: u32, error: FinishError) -> ProgramFault
     ensures { result ≡ unfinished_as first_tenant error }
 {
     match error {
-        FinishError::Missing { tenant, session } => Fault::TrailMissing {
+        FinishError::Missing { tenant, session } => ProgramFault::TrailMissing {
             tenant: u64::from(first_tenant) + u64::from(tenant),
             session: u32::from(session.number()),
         },
-        FinishError::Mismatch { tenant, session } => Fault::TrailMismatch {
+        FinishError::Mismatch { tenant, session } => ProgramFault::TrailMismatch {
             tenant: u64::from(first_tenant) + u64::from(tenant),
             session: u32::from(session.number()),
         },
-        FinishError::NoMemory => Fault::Stream(StreamError::NoMemory),
+        FinishError::NoMemory => ProgramFault::Stream(StreamError::NoMemory),
     }
 }
 
@@ -46,7 +46,7 @@ pub(crate) fn finish<N: Naming, W: Sink>(
     first_tenant: u32,
     stubs: Vec<Stub>,
     writer: &mut W,
-) -> Result<(), Fault>
+) -> Result<(), ProgramFault>
     ensures ok { OnOk result (Writes W.contents writer.old writer.new (TellsTrails N.bound host)) }
     ensures err { IfErr result (λ why. FailsToTell W.refuses W.contents N.bound host first_tenant stubs.items
         writer.old writer.new why) }
@@ -56,10 +56,10 @@ pub(crate) fn finish<N: Naming, W: Sink>(
         Err(error) => return Err(fault_of(first_tenant, error)),
     };
     let Ok(line) = totals(alloc, &report) else {
-        return Err(Fault::Stream(StreamError::NoMemory));
+        return Err(ProgramFault::Stream(StreamError::NoMemory));
     };
     match write_and_flush(writer, line.as_slice()) {
         Ok(()) => Ok(()),
-        Err(error) => Err(Fault::Stream(error)),
+        Err(error) => Err(ProgramFault::Stream(error)),
     }
 }

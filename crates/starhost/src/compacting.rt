@@ -4,10 +4,10 @@ ghost use Rattle.sb_host.specs.Opening.{AreNames};
 ghost use Rattle.sb_words.specs.Within.{AreRun};
 
 use crate::dumping::undumped;
-use crate::fault::Fault;
-use crate::journal::Journal as Log;
+use crate::event_log::EventLog;
+use crate::fault::ProgramFault;
 use crate::recording::played_journal;
-use crate::saving::{Noted, Notes, noted_of};
+use crate::saving::{NotedScript, ScriptNotes, noted_of};
 use sb_dump::Script;
 use sb_durable::{
     File as JournalFile, Head, Journal, JournalError, Record, Syncing, Wary, open_path, sync_folder,
@@ -22,7 +22,7 @@ use std::marker::Brand;
 use std::rt::{Clock, Files};
 use std::sync::Wait;
 
-const OUT_OF_MEMORY: Fault = Fault::Stream(StreamError::NoMemory);
+const OUT_OF_MEMORY: ProgramFault = ProgramFault::Stream(StreamError::NoMemory);
 
 /// Writes the journal `old` anew as `new`, which isn't there yet and has its name once all of it is on the disk.
 pub(crate) fn compact<T: Wait + Eprint + Clock + Files<File = File>>(
@@ -31,11 +31,11 @@ pub(crate) fn compact<T: Wait + Eprint + Clock + Files<File = File>>(
     run: Run,
     old: Option<&str>,
     new: Option<&str>,
-) -> Result<(), Fault>
+) -> Result<(), ProgramFault>
     requires { AreRun run }
 {
     let (Some(old), Some(new)) = (old, new) else {
-        return Err(Fault::CannotOpenJournal);
+        return Err(ProgramFault::CannotOpenJournal);
     };
     match Opened::new(alloc, run.tenants, 1, run.bound) {
         Ok(opened) => compact_host::<Brand, T>(rt, alloc, opened, run, Renewal { old, new }),
@@ -57,14 +57,14 @@ fn compact_host<N: Naming, T: Wait + Eprint + Clock + Files<File = File>>(
     opened: Opened,
     run: Run,
     paths: Renewal<'_>,
-) -> Result<(), Fault>
+) -> Result<(), ProgramFault>
     requires named { AreNames N.table N.tenants N.cells N.bound N.name N.parts opened }
     requires bound { run.bound ≤ 1000 }
 {
     let Ok(host) = Host::<N>::new(alloc, opened) else {
         return Err(OUT_OF_MEMORY);
     };
-    let log = Log::new(rt, Severity::Info);
+    let log = EventLog::new(rt, Severity::Info);
     let compaction = Compaction {
         rt,
         alloc,
@@ -90,16 +90,16 @@ struct Compaction<'c, H, T> {
     host: H,
     bound: u32,
     head: Head,
-    log: &'c Log<'c, T>,
+    log: &'c EventLog<'c, T>,
     ghost few: { bound ≤ 1000 },
 }
 
 impl<'c, H: Lending, T: Wait + Eprint + Clock + Files<File = File>> Compaction<'c, H, T> {
     /// Has the tenants as the journal at this path leaves them.
-    fn play(&self, path: &str) -> Result<(), Fault> {
+    fn play(&self, path: &str) -> Result<(), ProgramFault> {
         if let Err(error) = fs::metadata(self.rt, path) {
             self.log.tell_no_journal(path, &error);
-            return Err(Fault::CannotOpenJournal);
+            return Err(ProgramFault::CannotOpenJournal);
         }
         match played_journal(
             self.rt,
@@ -116,10 +116,10 @@ impl<'c, H: Lending, T: Wait + Eprint + Clock + Files<File = File>> Compaction<'
     }
 
     /// Writes a journal beside this path, and then gives it the name.
-    fn write(&self, path: &str) -> Result<(), Fault> {
+    fn write(&self, path: &str) -> Result<(), ProgramFault> {
         if fs::metadata(self.rt, path).is_ok() {
             self.log.tell_no_journal(path, &"it is there already");
-            return Err(Fault::CannotWriteJournal);
+            return Err(ProgramFault::CannotWriteJournal);
         }
         let Ok(beside) = format!(in self.alloc; "{path}.new") else {
             return Err(OUT_OF_MEMORY);
@@ -133,14 +133,14 @@ impl<'c, H: Lending, T: Wait + Eprint + Clock + Files<File = File>> Compaction<'
     }
 
     /// Writes a journal as `beside`, and then gives it the name.
-    fn write_beside(&self, beside: &str, path: &str) -> Result<(), Fault> {
+    fn write_beside(&self, beside: &str, path: &str) -> Result<(), ProgramFault> {
         // nor is what an earlier try left
         let _removed = fs::remove_file(self.rt, beside);
         let mut journal = match open_path(self.rt, self.alloc, beside, Syncing::Always, self.head) {
             Ok(journal) => journal,
             Err(error) => {
                 self.log.tell_no_journal(beside, &error);
-                return Err(Fault::CannotWriteJournal);
+                return Err(ProgramFault::CannotWriteJournal);
             }
         };
         match self.write_all(&mut journal) {
@@ -151,7 +151,7 @@ impl<'c, H: Lending, T: Wait + Eprint + Clock + Files<File = File>> Compaction<'
             Ok(()) => Ok(()),
             Err(error) => {
                 self.log.tell_no_journal(path, &error);
-                Err(Fault::CannotWriteJournal)
+                Err(ProgramFault::CannotWriteJournal)
             }
         }
     }
@@ -163,13 +163,13 @@ impl<'c, H: Lending, T: Wait + Eprint + Clock + Files<File = File>> Compaction<'
     }
 
     /// Writes the tenants that were ever opened.
-    fn write_all(&self, journal: &mut Journal<JournalFile<Wary>>) -> Result<(), Fault> {
+    fn write_all(&self, journal: &mut Journal<JournalFile<Wary>>) -> Result<(), ProgramFault> {
         for tenant in 0..self.host.tenants() {
-            let notes = Notes::new(self.alloc, self.bound);
+            let notes = ScriptNotes::new(self.alloc, self.bound);
             match noted_of(self.rt, self.host, tenant, notes) {
-                Noted::Unused => {}
-                Noted::Lacking(error) => return Err(undumped(u64::from(tenant), error)),
-                Noted::Script(script) => {
+                NotedScript::Unused => {}
+                NotedScript::Lacking(error) => return Err(undumped(u64::from(tenant), error)),
+                NotedScript::Script(script) => {
                     if let Err(error) = write_script(journal, tenant, &script) {
                         return Err(self.unwritten(error));
                     }
@@ -182,9 +182,9 @@ impl<'c, H: Lending, T: Wait + Eprint + Clock + Files<File = File>> Compaction<'
         }
     }
 
-    fn unwritten(&self, error: JournalError) -> Fault {
+    fn unwritten(&self, error: JournalError) -> ProgramFault {
         self.log.tell_not_recorded(&error);
-        Fault::CannotWriteJournal
+        ProgramFault::CannotWriteJournal
     }
 }
 

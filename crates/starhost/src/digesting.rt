@@ -2,7 +2,7 @@
 ghost use Rattle.std.specs.Prelude.{◌≡◌, ◌++◌, IfErr, OnErr, OnOk};
 ghost use Rattle.starhost.specs.Digesting.{RefusesDigest, TellsDigest, digest_text};
 
-use crate::fault::Fault;
+use crate::fault::ProgramFault;
 use sb_wire::{Piece, Responder, Sink, Source, answer_stream};
 use sb_words::{digest_line, is_key};
 use std::alloc::{AllocError, Global};
@@ -22,7 +22,7 @@ pub(crate) fn tell_digest<R: Source, W: Sink>(
     alloc: Global,
     reader: &mut R,
     writer: &mut W,
-) -> Result<(), Fault>
+) -> Result<(), ProgramFault>
     ensures ok { OnOk result (TellsDigest (R.remaining reader.old) (R.remaining reader.new)
         (W.contents writer.old) (W.contents writer.new)) }
     ensures err { IfErr result RefusesDigest }
@@ -31,9 +31,9 @@ pub(crate) fn tell_digest<R: Source, W: Sink>(
     match answer_stream(alloc, reader, writer, &Digester, &mut (), &mut digested) {
         Ok(()) => match digested {
             Digested::Told => Ok(()),
-            Digested::Awaits | Digested::NoKey => Err(Fault::BadKey),
+            Digested::Awaits | Digested::NoKey => Err(ProgramFault::BadKey),
         },
-        Err(error) => Err(Fault::Stream(error)),
+        Err(error) => Err(ProgramFault::Stream(error)),
     }
 }
 

@@ -9,7 +9,7 @@ ghost use Rattle.starhost.specs.Dumping.{DumpsInput, IsUndumped, LeavesTenants, 
 ghost use Rattle.starhost.specs.Writing.{WritesOf};
 ghost use Rattle.sb_words.specs.Within.{AreDump, AreRun};
 
-use crate::fault::Fault;
+use crate::fault::ProgramFault;
 use sb_cell::{Cell, ample_buckets};
 use sb_dump::{DumpError, Script, dump};
 use sb_wire::{Sink, Source, StreamError, Summary, run_stream, write_and_flush};
@@ -58,7 +58,7 @@ pub(crate) fn dump_tenant<R: Source, W: Sink>(
     asked: Dumping,
     reader: &mut R,
     writer: &mut W,
-) -> Result<(), Fault>
+) -> Result<(), ProgramFault>
     requires { AreDump asked }
     ensures ok { OnOk result (WritesOf R.remaining W.contents reader.old writer.old writer.new
         (DumpsInput asked.run.tenants asked.run.bound asked.tenant)) }
@@ -67,7 +67,7 @@ pub(crate) fn dump_tenant<R: Source, W: Sink>(
 {
     let cell = match answered(alloc, asked.run, reader) {
         Ok(cell) => cell,
-        Err(error) => return Err(Fault::Stream(error)),
+        Err(error) => return Err(ProgramFault::Stream(error)),
     };
     let script = match script_of(alloc, &cell, asked) {
         Ok(script) => script,
@@ -75,7 +75,7 @@ pub(crate) fn dump_tenant<R: Source, W: Sink>(
     };
     match write_script(alloc, &script, writer) {
         Ok(()) => Ok(()),
-        Err(error) => Err(Fault::Stream(error)),
+        Err(error) => Err(ProgramFault::Stream(error)),
     }
 }
 
@@ -101,7 +101,7 @@ pub(crate) fn answered<R: Source>(
 }
 
 /// The script of a tenant of the cell.
-fn script_of(alloc: Global, cell: &Cell, asked: Dumping) -> Result<Script, Fault>
+fn script_of(alloc: Global, cell: &Cell, asked: Dumping) -> Result<Script, ProgramFault>
     requires { AreDump asked }
     ensures ok { IfOk result (λ script. (own : ItsTenant) × (tenant_at cell.now asked.tenant ≡ Some own)
         × Dumps asked.run.bound own script) }
@@ -110,7 +110,7 @@ fn script_of(alloc: Global, cell: &Cell, asked: Dumping) -> Result<Script, Fault
     let tenant = match cell.tenant(asked.tenant) {
         Some(tenant) => tenant,
         None => {
-            return Err(Fault::NoTenant {
+            return Err(ProgramFault::NoTenant {
                 tenant: u64::from(asked.tenant),
             });
         }
@@ -122,13 +122,13 @@ fn script_of(alloc: Global, cell: &Cell, asked: Dumping) -> Result<Script, Fault
 }
 
 /// What a tenant without a script is told as.
-pub(crate) fn undumped(tenant: u64, error: DumpError) -> Fault
+pub(crate) fn undumped(tenant: u64, error: DumpError) -> ProgramFault
     ensures { result ≡ undumped_as tenant error }
 {
     match error {
-        DumpError::Busy => Fault::TenantBusy { tenant },
-        DumpError::NotAlike => Fault::CannotDump { tenant },
-        DumpError::NoMemory => Fault::Stream(StreamError::NoMemory),
+        DumpError::Busy => ProgramFault::TenantBusy { tenant },
+        DumpError::NotAlike => ProgramFault::CannotDump { tenant },
+        DumpError::NoMemory => ProgramFault::Stream(StreamError::NoMemory),
     }
 }
 

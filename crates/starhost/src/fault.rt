@@ -10,7 +10,7 @@ const FAULT: u8 = 1;
 
 /// Why a server, a replay or a dump ended early.
 #[derive(Clone, Copy, Debug)]
-pub enum Fault {
+pub enum ProgramFault {
     /// Of the streams, or want of memory.
     Stream(StreamError),
     /// Nothing can listen at the port.
@@ -56,7 +56,7 @@ pub enum Fault {
 }
 
 /// Tells a fault by its line, or want of memory where there is none for the line.
-pub fn tell_fault<E: Sink>(alloc: Global, why: Fault, errors: &mut E) -> u8
+pub fn tell_fault<E: Sink>(alloc: Global, why: ProgramFault, errors: &mut E) -> u8
     ensures status { result ≡ 1 }
     ensures tells { TellsFault E.refuses E.contents errors.old errors.new why }
 {
@@ -70,7 +70,7 @@ pub fn tell_fault<E: Sink>(alloc: Global, why: Fault, errors: &mut E) -> u8
 }
 
 /// The line of a fault.
-fn line_of(alloc: Global, why: Fault) -> Result<Vec<u8>, AllocError>
+fn line_of(alloc: Global, why: ProgramFault) -> Result<Vec<u8>, AllocError>
     ensures { IfOk result (λ line. line.items ≡ fault_text why) }
 {
     let mut line = Vec::new(alloc);
@@ -81,35 +81,37 @@ fn line_of(alloc: Global, why: Fault) -> Result<Vec<u8>, AllocError>
 }
 
 /// The line of a fault, behind what there is.
-fn push_fault(line: &mut Vec<u8>, why: Fault) -> Result<(), AllocError>
+fn push_fault(line: &mut Vec<u8>, why: ProgramFault) -> Result<(), AllocError>
     ensures { OnOk result (line.new.items ≡ line.old.items ++ fault_text why) }
 {
     match why {
-        Fault::Stream(error) => line.extend_from_slice(error.line()),
-        Fault::CannotListen => line.extend_from_slice(b"fault: cannot listen\n"),
-        Fault::CannotWait => line.extend_from_slice(b"fault: cannot wait\n"),
-        Fault::CannotStart => line.extend_from_slice(b"fault: cannot start a thread\n"),
-        Fault::WaitingFailed => line.extend_from_slice(b"fault: waiting failed\n"),
-        Fault::CannotOpenJournal => line.extend_from_slice(b"fault: cannot open journal\n"),
-        Fault::JournalFailed => line.extend_from_slice(b"fault: journal failed\n"),
-        Fault::CannotWriteJournal => line.extend_from_slice(b"fault: cannot write journal\n"),
-        Fault::BadLine { line: number } => push_number(line, b"fault: bad line ", number),
-        Fault::NoTenant { tenant } => push_number(line, b"fault: no tenant ", tenant),
-        Fault::TenantBusy { tenant } => push_number(line, b"fault: busy tenant ", tenant),
-        Fault::NoFolder => line.extend_from_slice(b"fault: no folder\n"),
-        Fault::NoKeys => line.extend_from_slice(b"fault: no keys\n"),
-        Fault::BadKeys { line: number } => push_number(line, b"fault: bad keys ", number),
-        Fault::BadKey => line.extend_from_slice(b"fault: bad key\n"),
-        Fault::CannotLoad { tenant } => push_number(line, b"fault: cannot load ", tenant),
-        Fault::CannotWrite { tenant } => push_number(line, b"fault: cannot write ", tenant),
-        Fault::CannotDump { tenant } => push_number(line, b"fault: cannot dump ", tenant),
-        Fault::CannotAttach { tenant, session } => {
+        ProgramFault::Stream(error) => line.extend_from_slice(error.line()),
+        ProgramFault::CannotListen => line.extend_from_slice(b"fault: cannot listen\n"),
+        ProgramFault::CannotWait => line.extend_from_slice(b"fault: cannot wait\n"),
+        ProgramFault::CannotStart => line.extend_from_slice(b"fault: cannot start a thread\n"),
+        ProgramFault::WaitingFailed => line.extend_from_slice(b"fault: waiting failed\n"),
+        ProgramFault::CannotOpenJournal => line.extend_from_slice(b"fault: cannot open journal\n"),
+        ProgramFault::JournalFailed => line.extend_from_slice(b"fault: journal failed\n"),
+        ProgramFault::CannotWriteJournal => line.extend_from_slice(
+            b"fault: cannot write journal\n",
+        ),
+        ProgramFault::BadLine { line: number } => push_number(line, b"fault: bad line ", number),
+        ProgramFault::NoTenant { tenant } => push_number(line, b"fault: no tenant ", tenant),
+        ProgramFault::TenantBusy { tenant } => push_number(line, b"fault: busy tenant ", tenant),
+        ProgramFault::NoFolder => line.extend_from_slice(b"fault: no folder\n"),
+        ProgramFault::NoKeys => line.extend_from_slice(b"fault: no keys\n"),
+        ProgramFault::BadKeys { line: number } => push_number(line, b"fault: bad keys ", number),
+        ProgramFault::BadKey => line.extend_from_slice(b"fault: bad key\n"),
+        ProgramFault::CannotLoad { tenant } => push_number(line, b"fault: cannot load ", tenant),
+        ProgramFault::CannotWrite { tenant } => push_number(line, b"fault: cannot write ", tenant),
+        ProgramFault::CannotDump { tenant } => push_number(line, b"fault: cannot dump ", tenant),
+        ProgramFault::CannotAttach { tenant, session } => {
             push_session(line, b"fault: cannot attach ", tenant, session)
         }
-        Fault::TrailMissing { tenant, session } => {
+        ProgramFault::TrailMissing { tenant, session } => {
             push_session(line, b"fault: trail missing ", tenant, session)
         }
-        Fault::TrailMismatch { tenant, session } => {
+        ProgramFault::TrailMismatch { tenant, session } => {
             push_session(line, b"fault: trail mismatch ", tenant, session)
         }
     }

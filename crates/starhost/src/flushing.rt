@@ -1,6 +1,6 @@
 //! A file that is brought to the disk once a second.
 
-use crate::journal::Journal;
+use crate::event_log::EventLog;
 use std::fs::{self, File};
 use std::io;
 use std::rt::{Clock, Files};
@@ -16,7 +16,7 @@ const PERIOD: u64 = 1;
 #[derive(Drop)]
 pub(crate) struct Flusher<'k, T> {
     file: File,
-    journal: &'k Journal<'k, T>,
+    log: &'k EventLog<'k, T>,
     /// Something was written since the last sync.
     is_behind: AtomicBool,
     has_failed: AtomicBool,
@@ -30,11 +30,11 @@ impl<'k, T: Eprint + Clock> Flusher<'k, T> {
     pub(crate) fn open<R: Files<File = File>>(
         rt: &R,
         path: &str,
-        journal: &'k Journal<'k, T>,
+        log: &'k EventLog<'k, T>,
     ) -> io::Result<Flusher<'k, T>> {
         Ok(Flusher {
             file: fs::open(rt, path)?,
-            journal,
+            log,
             is_behind: AtomicBool::new(true),
             has_failed: AtomicBool::new(false),
             is_over: AtomicBool::new(false),
@@ -77,7 +77,7 @@ impl<'k, T: Eprint + Clock> Flusher<'k, T> {
         match self.file.sync_data() {
             Ok(()) => true,
             Err(error) => {
-                self.journal.tell_not_recorded(&error);
+                self.log.tell_not_recorded(&error);
                 self.has_failed.store(true, Ordering::SeqCst);
                 false
             }

@@ -2,8 +2,8 @@
 ghost use Rattle.std.specs.Prelude.{◌≡◌, ◌+◌, IfOk, IfSome, Some, codes, option_copied, string_bytes};
 ghost use Rattle.starhost.specs.Saving.{file_name};
 
-use crate::fault::Fault;
-use crate::journal::Journal;
+use crate::event_log::EventLog;
+use crate::fault::ProgramFault;
 use sb_wire::StreamError;
 use std::alloc::{AllocError, Global};
 use std::fs;
@@ -43,19 +43,15 @@ impl<'a> Folder<'a> {
     }
 
     /// Whether there is a folder. Why there is none is written in the log.
-    pub(crate) fn is_found<R: Eprint + Clock + Files>(
-        self,
-        rt: &R,
-        journal: &Journal<'_, R>,
-    ) -> bool {
+    pub(crate) fn is_found<R: Eprint + Clock + Files>(self, rt: &R, log: &EventLog<'_, R>) -> bool {
         match fs::metadata(rt, self.path) {
             Ok(found) if found.is_dir() => true,
             Ok(_) => {
-                journal.tell_no_folder(self.path, &"it is a file");
+                log.tell_no_folder(self.path, &"it is a file");
                 false
             }
             Err(error) => {
-                journal.tell_no_folder(self.path, &error);
+                log.tell_no_folder(self.path, &error);
                 false
             }
         }
@@ -68,12 +64,12 @@ impl<'a> Folder<'a> {
         alloc: Global,
         number: u64,
         text: &[u8],
-    ) -> Result<io::Result<()>, Fault> {
+    ) -> Result<io::Result<()>, ProgramFault> {
         let Ok(path) = self.file_of(alloc, number) else {
-            return Err(Fault::Stream(StreamError::NoMemory));
+            return Err(ProgramFault::Stream(StreamError::NoMemory));
         };
         let Ok(beside) = self.new_file_of(alloc, number) else {
-            return Err(Fault::Stream(StreamError::NoMemory));
+            return Err(ProgramFault::Stream(StreamError::NoMemory));
         };
         Ok(write_beside(rt, self.path, beside.as_str(), path.as_str(), text))
     }
@@ -83,7 +79,7 @@ impl<'a> Folder<'a> {
 pub(crate) fn found_folder<'a, R: Eprint + Clock + Files>(
     rt: &R,
     path: Option<&'a str>,
-    journal: &Journal<'_, R>,
+    log: &EventLog<'_, R>,
 ) -> Option<Folder<'a>>
     ensures { IfSome result (λ folder. (folder.first ≡ 0) × (option_copied path.entry ≡ Some folder.path.now)) }
 {
@@ -91,7 +87,7 @@ pub(crate) fn found_folder<'a, R: Eprint + Clock + Files>(
         path: path?,
         first: 0,
     };
-    match folder.is_found(rt, journal) {
+    match folder.is_found(rt, log) {
         true => Some(folder),
         false => None,
     }

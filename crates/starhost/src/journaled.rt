@@ -1,13 +1,13 @@
 //! A run whose lines are in a journal before they are answered.
 ghost use Rattle.std.specs.Prelude.{◌≡◌, ◌⊎◌, Err, false, is_ok, is_some, true, IfErr, IfOk, OnOk};
 ghost use Rattle.starhost.specs.Journaled.{AnswersJournaled, IsBegun};
-ghost use Rattle.starhost.specs.declared.fault.Fault.TheVariants as fault;
+ghost use Rattle.starhost.specs.declared.fault.ProgramFault.TheVariants as fault;
 ghost use Rattle.starhost.specs.Writing.{WritesOf};
 ghost use Rattle.sb_words.specs.Within.{AreRun};
 
-use crate::fault::Fault;
+use crate::event_log::EventLog;
+use crate::fault::ProgramFault;
 use crate::flushing::Flusher;
-use crate::journal::Journal as Log;
 use crate::recording::{Playing, syncing_of};
 use sb_cell::{Cell, ample_buckets};
 use sb_durable::{Disk, Head, PlayError, PlayFault, Recording, open_path, restart, run_recorded};
@@ -26,14 +26,14 @@ pub(crate) fn run_journaled<T: Wait + Eprint + Clock + Files<File = File>, R: So
     paths: Paths<'_>,
     reader: &mut R,
     writer: &mut W,
-) -> Result<(), Fault>
+) -> Result<(), ProgramFault>
     requires { AreRun asked }
     ensures { OnOk result (WritesOf R.remaining W.contents reader.old writer.old writer.new
         (AnswersJournaled asked.tenants asked.bound)) }
 {
-    let log = Log::new(rt, Severity::Info);
+    let log = EventLog::new(rt, Severity::Info);
     let Some(path) = paths.journal else {
-        return Err(Fault::CannotOpenJournal);
+        return Err(ProgramFault::CannotOpenJournal);
     };
     let head = Head {
         tenants: asked.tenants,
@@ -48,18 +48,18 @@ pub(crate) fn run_journaled<T: Wait + Eprint + Clock + Files<File = File>, R: So
                     let ended = run_recorded(alloc, reader, writer, &mut cell, &mut recording);
                     match is_settled(rt, path, paths.syncs, &log) {
                         true => end_by(&log, &recording, ended),
-                        false => Err(Fault::JournalFailed),
+                        false => Err(ProgramFault::JournalFailed),
                     }
                 }
                 Err(error) => {
                     log.tell_no_journal(path, &error);
-                    Err(Fault::CannotOpenJournal)
+                    Err(ProgramFault::CannotOpenJournal)
                 }
             }
         }
         Err(error) => {
             log.tell_no_journal(path, &error);
-            Err(Fault::CannotOpenJournal)
+            Err(ProgramFault::CannotOpenJournal)
         }
     }
 }
@@ -95,7 +95,7 @@ fn is_settled<T: Eprint + Clock + Files<File = File>>(
     rt: &T,
     path: &str,
     syncs: Syncs,
-    log: &Log<'_, T>,
+    log: &EventLog<'_, T>,
 ) -> bool {
     let Syncs::Second = syncs else {
         return true;
@@ -111,20 +111,20 @@ fn is_settled<T: Eprint + Clock + Files<File = File>>(
 
 /// How a run ends: by the journal's fault, if it has one, and else as its stream did.
 fn end_by<T: Eprint + Clock, D: Disk>(
-    log: &Log<'_, T>,
+    log: &EventLog<'_, T>,
     recording: &Recording<D>,
     ended: Result<(), StreamError>,
-) -> Result<(), Fault>
+) -> Result<(), ProgramFault>
     ensures ok { OnOk result ((is_ok ended ≡ true) × (is_some recording.now.fault ≡ false)) }
     ensures err { IfErr result (λ why. ((is_some recording.now.fault ≡ true) × (why ≡ fault.JournalFailed))
         ⊎ ((e : _) × (ended ≡ Err e) × (why ≡ fault.Stream e))) }
 {
     if let Some(error) = recording.fault {
         log.tell_not_recorded(&error);
-        return Err(Fault::JournalFailed);
+        return Err(ProgramFault::JournalFailed);
     }
     match ended {
         Ok(()) => Ok(()),
-        Err(error) => Err(Fault::Stream(error)),
+        Err(error) => Err(ProgramFault::Stream(error)),
     }
 }

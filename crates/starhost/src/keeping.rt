@@ -6,9 +6,9 @@ ghost use Rattle.starhost.specs.Writing.{Writes};
 ghost use Rattle.sb_words.specs.Within.{AreServer};
 
 use crate::closing::finish;
-use crate::fault::Fault;
+use crate::event_log::EventLog;
+use crate::fault::ProgramFault;
 use crate::folder::Folder;
-use crate::journal::Journal;
 use crate::listening::listen;
 use crate::loading::load_all;
 use crate::memory::memory_file;
@@ -23,7 +23,7 @@ use crate::watching::{StatusPort, bound_to, serve_beside};
 use sb_host::{Host, Lending, Naming, Opened, Stub};
 use sb_server::{Acceptor, Admission, Beside, Board, Keeper, NoBeside, Open, Unkept, serve_all};
 use sb_wire::Sink;
-use sb_words::{Paths, Serving};
+use sb_words::{Paths, ServerOptions};
 use std::alloc::{AllocError, Global};
 use std::marker::Brand;
 use std::net::TcpListener;
@@ -34,10 +34,10 @@ use std::time::Instant;
 pub(crate) fn keep<T: System + Sync, W: Sink>(
     rt: &T,
     alloc: Global,
-    serving: Serving,
+    serving: ServerOptions,
     paths: Paths<'_>,
     writer: &mut W,
-) -> Result<(), Fault>
+) -> Result<(), ProgramFault>
     requires { AreServer serving }
     ensures { OnOk result (Writes W.contents writer.old writer.new
         (TellsServer serving.hosting.run.bound serving.hosting.run.tenants)) }
@@ -57,7 +57,7 @@ fn keep_host<N: Naming + Send + Sync, T: System + Sync, W: Sink>(
     plan: Plan,
     paths: Paths<'_>,
     writer: &mut W,
-) -> Result<(), Fault>
+) -> Result<(), ProgramFault>
     requires named { AreNames N.table N.tenants N.cells N.bound N.name N.parts opened }
     requires cells { opened.cells ≡ plan.cells }
     requires bound { plan.bound ≤ 1000 }
@@ -67,7 +67,7 @@ fn keep_host<N: Naming + Send + Sync, T: System + Sync, W: Sink>(
     let Ok(host) = Host::<N>::new(alloc, opened) else {
         return Err(OUT_OF_MEMORY);
     };
-    let journal = Journal::new(rt, plan.log);
+    let log = EventLog::new(rt, plan.log);
     let Some(board) = board_of(rt, alloc, plan) else {
         return Err(OUT_OF_MEMORY);
     };
@@ -77,7 +77,7 @@ fn keep_host<N: Naming + Send + Sync, T: System + Sync, W: Sink>(
         host: &host,
         plan,
         paths,
-        journal: &journal,
+        log: &log,
         board: &board,
     };
     let served = match keeping.serve(writer) {
@@ -109,12 +109,12 @@ fn finish_served<N: Naming, W: Sink>(
     alloc: Global,
     host: Host<N>,
     first_tenant: u32,
-    served: Served,
+    served: ServerEnd,
     writer: &mut W,
-) -> Result<(), Fault>
+) -> Result<(), ProgramFault>
     ensures { OnOk result (Writes W.contents writer.old writer.new (TellsTrails N.bound host)) }
 {
-    let Served { stubs, saved } = served;
+    let ServerEnd { stubs, saved } = served;
     match finish(alloc, host, first_tenant, stubs, writer) {
         Ok(()) => saved,
         Err(why) => Err(why),
@@ -129,7 +129,7 @@ pub(crate) struct Keeping<'k, H, T> {
     pub(crate) host: H,
     pub(crate) plan: Plan,
     pub(crate) paths: Paths<'k>,
-    pub(crate) journal: &'k Journal<'k, T>,
+    pub(crate) log: &'k EventLog<'k, T>,
     pub(crate) board: &'k Board,
     ghost bound: { plan.bound ≤ 1000 },
     ghost workers: { (0 < plan.terms.workers) × (plan.terms.workers ≤ 16) },
@@ -137,18 +137,18 @@ pub(crate) struct Keeping<'k, H, T> {
 
 /// Whom a server admits, and what is done beside it for that.
 #[derive(Drop)]
-pub(crate) struct Gate<'a, 'g, A, G> {
+pub(crate) struct Entrance<'a, 'g, A, G> {
     pub(crate) admission: &'a A,
     pub(crate) beside: &'g G,
 }
 
 /// What is left where no connection comes any more.
 #[derive(Drop)]
-pub(crate) struct Served {
+pub(crate) struct ServerEnd {
     /// The receipts of all sessions.
     stubs: Vec<Stub>,
     /// Whether the files were written.
-    saved: Result<(), Fault>,
+    saved: Result<(), ProgramFault>,
 }
 
 impl<'k, H: Lending + Sync, T: System + Sync> Keeping<'k, H, T>
@@ -156,7 +156,7 @@ where
     H::Session: Send,
 {
     /// Has the tenants as they were kept, and serves connections until none comes any more.
-    fn serve<W: Sink>(&self, writer: &mut W) -> Result<Served, Fault>
+    fn serve<W: Sink>(&self, writer: &mut W) -> Result<ServerEnd, ProgramFault>
         ensures { OnOk result (TellsPort (W.contents writer.old) (W.contents writer.new)) }
     {
         let loaded = match self.prepare() {
@@ -166,7 +166,7 @@ where
         match self.paths.keys {
             Some(path) => self.with_keys(path, loaded, writer),
             None => {
-                let gate = Gate::<Open, NoBeside> {
+                let gate = Entrance::<Open, NoBeside> {
                     admission: &Open,
                     beside: &NoBeside,
                 };
@@ -178,10 +178,10 @@ where
     /// Serves whom this admits, with the journal that is asked for.
     pub(crate) fn admit<A: Admission + Sync, G: Beside, W: Sink>(
         &self,
-        gate: Gate<'_, '_, A, G>,
+        gate: Entrance<'_, '_, A, G>,
         loaded: Vec<Stub>,
         writer: &mut W,
-    ) -> Result<Served, Fault>
+    ) -> Result<ServerEnd, ProgramFault>
         ensures { OnOk result (TellsPort (W.contents writer.old) (W.contents writer.new)) }
     {
         match self.paths.journal {
@@ -193,11 +193,11 @@ where
     /// Serves whom this admits, with this keeper. Behind the last connection the tenants are written to their files.
     pub(crate) fn serve_with<A: Admission + Sync, G: Beside, K: Keeper + Sync, W: Sink>(
         &self,
-        gate: Gate<'_, '_, A, G>,
+        gate: Entrance<'_, '_, A, G>,
         keeper: &K,
         loaded: Vec<Stub>,
         writer: &mut W,
-    ) -> Result<Served, Fault>
+    ) -> Result<ServerEnd, ProgramFault>
         ensures { OnOk result (TellsPort (W.contents writer.old) (W.contents writer.new)) }
     {
         match self.ports(gate.admission, writer) {
@@ -211,12 +211,12 @@ where
         &'a self,
         admission: &'a A,
         writer: &mut W,
-    ) -> Result<(TcpListener, Option<StatusPort<Pages<'a, H, A, T>>>), Fault>
+    ) -> Result<(TcpListener, Option<StatusPort<Pages<'a, H, A, T>>>), ProgramFault>
         ensures { OnOk result (TellsPort (W.contents writer.old) (W.contents writer.new)) }
     {
         match self.status_port(admission) {
             Ok(port) => {
-                match listen(self.rt, self.alloc, self.plan.address, self.journal, writer) {
+                match listen(self.rt, self.alloc, self.plan.address, self.log, writer) {
                     Ok(listener) => Ok((listener, port)),
                     Err(why) => Err(why),
                 }
@@ -230,13 +230,13 @@ where
         &self,
         listener: &TcpListener,
         port: &Option<StatusPort<Pages<'_, H, A, T>>>,
-        gate: Gate<'_, '_, A, G>,
+        gate: Entrance<'_, '_, A, G>,
         keeper: &K,
         loaded: Vec<Stub>,
-    ) -> Result<Served, Fault> {
+    ) -> Result<ServerEnd, ProgramFault> {
         let acceptor = Acceptor {
             listener,
-            watch: self.journal,
+            watch: self.log,
             admission: gate.admission,
             keeper,
             board: self.board,
@@ -253,7 +253,7 @@ where
             Err(error) => return Err(unserved(error)),
         };
         match together(loaded, stubs) {
-            Ok(stubs) => Ok(Served {
+            Ok(stubs) => Ok(ServerEnd {
                 stubs,
                 saved: self.save(),
             }),
@@ -265,18 +265,18 @@ where
     fn status_port<'a, A: Admission>(
         &'a self,
         admission: &'a A,
-    ) -> Result<Option<StatusPort<Pages<'a, H, A, T>>>, Fault> {
+    ) -> Result<Option<StatusPort<Pages<'a, H, A, T>>>, ProgramFault> {
         let Some(address) = self.plan.status else {
             return Ok(None);
         };
         match bound_to(self.rt, address) {
             Ok((listener, port)) => {
-                self.journal.tell_status(port);
+                self.log.tell_status(port);
                 Ok(Some(StatusPort::new(listener, self.pages(admission))))
             }
             Err(error) => {
-                self.journal.tell_cannot_listen(address.port(), &error);
-                Err(Fault::CannotListen)
+                self.log.tell_cannot_listen(address.port(), &error);
+                Err(ProgramFault::CannotListen)
             }
         }
     }
@@ -297,29 +297,29 @@ where
     }
 
     /// Looks for the folders, and makes the tenants from their files.
-    fn prepare(&self) -> Result<Vec<Stub>, Fault> {
+    fn prepare(&self) -> Result<Vec<Stub>, ProgramFault> {
         if let Some(path) = self.paths.dump_to {
-            if !folder_at(self.plan, path).is_found(self.rt, self.journal) {
-                return Err(Fault::NoFolder);
+            if !folder_at(self.plan, path).is_found(self.rt, self.log) {
+                return Err(ProgramFault::NoFolder);
             }
         }
         let Some(path) = self.paths.load else {
             return Ok(Vec::new(self.alloc));
         };
         let folder = folder_at(self.plan, path);
-        if !folder.is_found(self.rt, self.journal) {
-            return Err(Fault::NoFolder);
+        if !folder.is_found(self.rt, self.log) {
+            return Err(ProgramFault::NoFolder);
         }
         let scripts = FolderScripts {
             rt: self.rt,
             folder,
-            journal: self.journal,
+            log: self.log,
         };
         load_all(self.rt, self.alloc, self.host, folder.first, &scripts)
     }
 
     /// Writes the tenants to their files, if that is asked for.
-    fn save(&self) -> Result<(), Fault> {
+    fn save(&self) -> Result<(), ProgramFault> {
         match self.paths.dump_to {
             Some(path) => {
                 let files = ScriptFiles {
@@ -327,7 +327,7 @@ where
                     alloc: self.alloc,
                     bound: self.plan.bound,
                     folder: folder_at(self.plan, path),
-                    journal: self.journal,
+                    log: self.log,
                 };
                 save_all(&files, self.host)
             }

@@ -12,7 +12,7 @@ use std::sync::{Mutex, Wait};
 
 /// A list of keys that was read.
 #[derive(Drop)]
-struct Held<L: KeyLists> {
+struct CurrentKeys<L: KeyLists> {
     keys: Keys,
     lists: PhantomData<L>,
     ghost read: { L.is_read (table_of keys) ≡ true },
@@ -21,7 +21,7 @@ struct Held<L: KeyLists> {
 /// Admits whoever brings a key of the list that was read last.
 #[derive(Drop)]
 pub(crate) struct KeyList<L: KeyLists> {
-    held: Mutex<Held<L>>,
+    held: Mutex<CurrentKeys<L>>,
 }
 
 impl<L: KeyLists> KeyList<L> {
@@ -29,7 +29,7 @@ impl<L: KeyLists> KeyList<L> {
         requires { L.is_read (table_of keys) ≡ true }
     {
         KeyList {
-            held: Mutex::new(Held {
+            held: Mutex::new(CurrentKeys {
                 keys,
                 lists: PhantomData,
             }),
@@ -40,7 +40,7 @@ impl<L: KeyLists> KeyList<L> {
     pub(crate) fn renew<R: Wait>(&self, rt: &R, keys: Keys)
         requires { L.is_read (table_of keys) ≡ true }
     {
-        let held = Held {
+        let held = CurrentKeys {
             keys,
             lists: PhantomData,
         };

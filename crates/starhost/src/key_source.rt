@@ -4,7 +4,7 @@ ghost use Rattle.starhost.specs.Faults.{unread_as};
 ghost use Rattle.sb_words.specs.Keys.{Table};
 ghost use Rattle.sb_words.specs.Seen.{table_of};
 
-use crate::fault::Fault;
+use crate::fault::ProgramFault;
 use sb_wire::StreamError;
 use sb_words::{Keys, KeysError};
 use std::fmt::{self, Display, Formatter};
@@ -32,13 +32,15 @@ impl Display for Unread {
 
 impl Unread {
     /// What a server ends with that can't begin.
-    pub(crate) fn fault(&self) -> Fault
+    pub(crate) fn fault(&self) -> ProgramFault
         ensures { result ≡ unread_as self.now }
     {
         match self {
-            Unread::Keys(KeysError::BadLine { line }) => Fault::BadKeys { line: *line as u64 },
-            Unread::Keys(KeysError::NoMemory) => Fault::Stream(StreamError::NoMemory),
-            Unread::File(_) | Unread::TooLong => Fault::NoKeys,
+            Unread::Keys(KeysError::BadLine { line }) => ProgramFault::BadKeys {
+                line: *line as u64,
+            },
+            Unread::Keys(KeysError::NoMemory) => ProgramFault::Stream(StreamError::NoMemory),
+            Unread::File(_) | Unread::TooLong => ProgramFault::NoKeys,
         }
     }
 

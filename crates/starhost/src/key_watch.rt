@@ -1,6 +1,6 @@
 //! A list of keys that is read again where its file changes.
 
-use crate::journal::Journal;
+use crate::event_log::EventLog;
 use crate::key_list::KeyList;
 use crate::key_source::{KeyLists, KeySource, Stamp};
 use sb_server::{Beside, Over};
@@ -23,7 +23,7 @@ pub(crate) struct KeyWatch<'p, 'l, 'k, L: KeyLists, S, T> {
     /// What was seen before the first read.
     first: Look,
     list: &'l KeyList<L>,
-    journal: &'k Journal<'k, T>,
+    log: &'k EventLog<'k, T>,
 }
 
 impl<'p, 'l, 'k, L: KeyLists, S: KeySource<L>, T: Eprint + Clock> KeyWatch<'p, 'l, 'k, L, S, T> {
@@ -33,7 +33,7 @@ impl<'p, 'l, 'k, L: KeyLists, S: KeySource<L>, T: Eprint + Clock> KeyWatch<'p, '
         path: &'p str,
         stamp: Option<Stamp>,
         list: &'l KeyList<L>,
-        journal: &'k Journal<'k, T>,
+        log: &'k EventLog<'k, T>,
     ) -> KeyWatch<'p, 'l, 'k, L, S, T> {
         KeyWatch {
             source,
@@ -43,7 +43,7 @@ impl<'p, 'l, 'k, L: KeyLists, S: KeySource<L>, T: Eprint + Clock> KeyWatch<'p, '
                 is_done: true,
             },
             list,
-            journal,
+            log,
         }
     }
 
@@ -57,7 +57,7 @@ impl<'p, 'l, 'k, L: KeyLists, S: KeySource<L>, T: Eprint + Clock> KeyWatch<'p, '
         match self.source.read() {
             Ok(keys) => {
                 self.list.renew(rt, keys);
-                self.journal.tell_keys(self.path);
+                self.log.tell_keys(self.path);
                 Look {
                     stamp,
                     is_done: true,
@@ -65,7 +65,7 @@ impl<'p, 'l, 'k, L: KeyLists, S: KeySource<L>, T: Eprint + Clock> KeyWatch<'p, '
             }
             Err(why) => {
                 if is_new {
-                    self.journal.tell_no_keys(self.path, &why);
+                    self.log.tell_no_keys(self.path, &why);
                 }
                 Look {
                     stamp,

@@ -2,8 +2,8 @@
 ghost use Rattle.std.specs.Prelude.{◌≡◌, OnOk};
 ghost use Rattle.starhost.specs.Totals.{TellsPort};
 
-use crate::fault::Fault;
-use crate::keeping::{Gate, Keeping, Served};
+use crate::fault::ProgramFault;
+use crate::keeping::{Entrance, Keeping, ServerEnd};
 use crate::key_list::KeyList;
 use crate::key_source::{KeyLists, KeySource, Stamp, Unread};
 use crate::key_watch::KeyWatch;
@@ -77,7 +77,7 @@ where
         path: &str,
         loaded: Vec<Stub>,
         writer: &mut W,
-    ) -> Result<Served, Fault>
+    ) -> Result<ServerEnd, ProgramFault>
         ensures { OnOk result (TellsPort (W.contents writer.old) (W.contents writer.new)) }
     {
         let file = KeyFile {
@@ -95,20 +95,20 @@ where
         path: &str,
         loaded: Vec<Stub>,
         writer: &mut W,
-    ) -> Result<Served, Fault>
+    ) -> Result<ServerEnd, ProgramFault>
         ensures { OnOk result (TellsPort (W.contents writer.old) (W.contents writer.new)) }
     {
         let stamp = source.stamp();
         let keys = match source.read() {
             Ok(keys) => keys,
             Err(why) => {
-                self.journal.tell_no_keys(path, &why);
+                self.log.tell_no_keys(path, &why);
                 return Err(why.fault());
             }
         };
         let list = KeyList::<L>::new(keys);
-        let watch = KeyWatch::new(source, path, stamp, &list, self.journal);
-        let gate = Gate {
+        let watch = KeyWatch::new(source, path, stamp, &list, self.log);
+        let gate = Entrance {
             admission: &list,
             beside: &watch,
         };

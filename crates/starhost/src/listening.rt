@@ -2,10 +2,10 @@
 ghost use Rattle.std.specs.Prelude.{◌≡◌, IfErr, IfOk, OnOk};
 ghost use Rattle.starhost.specs.Ends.{FailsToListen};
 ghost use Rattle.starhost.specs.Totals.{TellsPort, listening_line};
-ghost use Rattle.starhost.specs.declared.fault.Fault.TheVariants as fault;
+ghost use Rattle.starhost.specs.declared.fault.ProgramFault.TheVariants as fault;
 
-use crate::fault::Fault;
-use crate::journal::Journal;
+use crate::event_log::EventLog;
+use crate::fault::ProgramFault;
 use libc::net::listen as listen_longer;
 use sb_wire::{Sink, StreamError, push_labelled, write_and_flush};
 use std::alloc::{AllocError, Global};
@@ -22,37 +22,41 @@ pub(crate) fn listen<T: Net<Listener = TcpListener, Stream = TcpStream> + Eprint
     rt: &T,
     alloc: Global,
     address: SocketAddr,
-    journal: &Journal<'_, T>,
+    log: &EventLog<'_, T>,
     writer: &mut W,
-) -> Result<TcpListener, Fault>
+) -> Result<TcpListener, ProgramFault>
     ensures ok { OnOk result (TellsPort (W.contents writer.old) (W.contents writer.new)) }
     ensures err { IfErr result (FailsToListen W.refuses W.contents writer.old writer.new) }
 {
     let listener = match TcpListener::bind(rt, address) {
         Ok(listener) => listener,
-        Err(error) => return Err(told(journal, address, &error)),
+        Err(error) => return Err(told(log, address, &error)),
     };
     // where the system keeps to its first queue, the port listens all the same
     let _queue = listen_longer(listener.as_raw_fd(), QUEUE);
     let bound = match listener.local_addr() {
         Ok(bound) => bound,
-        Err(error) => return Err(told(journal, address, &error)),
+        Err(error) => return Err(told(log, address, &error)),
     };
     let Ok(line) = first_line(alloc, bound.port()) else {
-        return Err(Fault::Stream(StreamError::NoMemory));
+        return Err(ProgramFault::Stream(StreamError::NoMemory));
     };
     match write_and_flush(writer, line.as_slice()) {
         Ok(()) => Ok(listener),
-        Err(error) => Err(Fault::Stream(error)),
+        Err(error) => Err(ProgramFault::Stream(error)),
     }
 }
 
 /// Tells why nothing listens there.
-fn told<T: Eprint + Clock>(journal: &Journal<'_, T>, address: SocketAddr, why: &io::Error) -> Fault
+fn told<T: Eprint + Clock>(
+    log: &EventLog<'_, T>,
+    address: SocketAddr,
+    why: &io::Error,
+) -> ProgramFault
     ensures { result ≡ fault.CannotListen }
 {
-    journal.tell_cannot_listen(address.port(), why);
-    Fault::CannotListen
+    log.tell_cannot_listen(address.port(), why);
+    ProgramFault::CannotListen
 }
 
 /// The first line of a server.

@@ -2,22 +2,22 @@
 ghost use Rattle.std.specs.Prelude.{◌≡◌, ◌⊎◌, ◌+◌, ◌++◌, ◌<◌, List, ℕ, None, false, IfErr, IfOk, OnErr, OnOk, option_to_list};
 ghost use Rattle.starhost.specs.Calling.{IsPlayedIn, IsUnplayedOf, LeaveAll, LeavesFor, RefusesCall, StandsAs, TakesCall};
 ghost use Rattle.starhost.specs.Playing.{HasLines};
-ghost use Rattle.starhost.specs.declared.fault.Fault.TheVariants as fault;
+ghost use Rattle.starhost.specs.declared.fault.ProgramFault.TheVariants as fault;
 ghost use Rattle.sb_wire.specs.declared.fault.StreamError.TheVariants as stream;
 
-use crate::fault::Fault;
+use crate::fault::ProgramFault;
 use crate::player::{Sender, play_lines};
 use crate::playing::{Unplayed, is_taken, told, unsettled};
 use crate::script_source::{ScriptSource, Unopened};
 use sb_host::{Calling, Lending, Reading, Stub};
-use sb_server::Caller;
+use sb_server::SessionCaller;
 use sb_tenant::Tenant;
 use sb_wire::StreamError;
 use std::alloc::Global;
 use std::io::Read;
 use std::sync::Wait;
 
-const OUT_OF_MEMORY: Fault = Fault::Stream(StreamError::NoMemory);
+const OUT_OF_MEMORY: ProgramFault = ProgramFault::Stream(StreamError::NoMemory);
 
 /// Calls a session with lines.
 #[derive(Drop)]
@@ -25,12 +25,12 @@ struct ToSession<'r, T> {
     rt: &'r T,
 }
 
-impl<'r, T: Wait, S: Calling> Sender<Caller<S>> for ToSession<'r, T> {
+impl<'r, T: Wait, S: Calling> Sender<SessionCaller<S>> for ToSession<'r, T> {
     ghost takes = { λ _. TakesCall };
 
     ghost refuses = { λ _. RefusesCall };
 
-    fn send(&self, alloc: Global, line: &[u8], to: &mut Caller<S>) -> Result<(), Vec<u8>> {
+    fn send(&self, alloc: Global, line: &[u8], to: &mut SessionCaller<S>) -> Result<(), Vec<u8>> {
         call(self.rt, alloc, line, to)
     }
 }
@@ -40,7 +40,7 @@ fn call<T: Wait, S: Calling>(
     rt: &T,
     alloc: Global,
     line: &[u8],
-    caller: &mut Caller<S>,
+    caller: &mut SessionCaller<S>,
 ) -> Result<(), Vec<u8>>
     ensures ok { OnOk result (TakesCall caller.old line.now caller.new) }
     ensures err { OnErr result (RefusesCall caller.old line.now caller.new) }
@@ -65,7 +65,7 @@ pub(crate) fn load_all<T: Wait, H: Lending, F: Read + Drop, S: ScriptSource<F>>(
     host: H,
     first: u32,
     scripts: &S,
-) -> Result<Vec<Stub>, Fault>
+) -> Result<Vec<Stub>, ProgramFault>
     ensures ok { IfOk result (λ stubs. LeaveAll (S.files scripts.now) (H.tenants host) stubs.items) }
     ensures err { IfErr result (IsUnplayedOf first (H.tenants host)) }
 {
@@ -83,7 +83,7 @@ pub(crate) fn load_all<T: Wait, H: Lending, F: Read + Drop, S: ScriptSource<F>>(
 }
 
 /// Adds what a tenant's session left, if there was one.
-fn add(stubs: &mut Vec<Stub>, own: Option<Stub>) -> Result<(), Fault>
+fn add(stubs: &mut Vec<Stub>, own: Option<Stub>) -> Result<(), ProgramFault>
     ensures ok { OnOk result (stubs.new.items ≡ stubs.old.items ++ option_to_list own) }
     ensures err { IfErr result (λ why. why ≡ fault.Stream stream.NoMemory) }
 {
@@ -104,11 +104,11 @@ fn load_one<T: Wait, H: Lending, F: Read + Drop, S: ScriptSource<F>>(
     first: u32,
     scripts: &S,
     tenant: u32,
-) -> Result<Option<Stub>, Fault>
+) -> Result<Option<Stub>, ProgramFault>
     ensures ok { IfOk result (LeavesFor tenant (S.files scripts.now tenant)) }
     ensures err { IfErr result (λ why. (why ≡ fault.Stream stream.NoMemory) ⊎ (why ≡ fault.CannotLoad (first + tenant))) }
 {
-    let unplayed = Fault::CannotLoad {
+    let unplayed = ProgramFault::CannotLoad {
         tenant: u64::from(first) + u64::from(tenant),
     };
     match scripts.open(alloc, tenant) {
@@ -127,11 +127,11 @@ fn load_one<T: Wait, H: Lending, F: Read + Drop, S: ScriptSource<F>>(
 
 /// Notes why a script may not end where its session stands so.
 #[derive(Drop)]
-struct Ending {
+struct EndCheck {
     why: Option<Unplayed>,
 }
 
-impl Reading for Ending {
+impl Reading for EndCheck {
     ghost use Rattle.starhost.specs.Playing.{MayEnd};
     ghost use Rattle.sb_tenant.specs.State.{session_at};
     ghost use Rattle.sb_tenant.specs.Tenant.{state};
@@ -148,9 +148,9 @@ fn ending_of<T: Wait, H: Lending>(rt: &T, host: H, tenant: u32) -> Option<Unplay
     requires { tenant < H.tenants host }
     ensures { StandsAs tenant result }
 {
-    let mut ending = Ending { why: None };
+    let mut ending = EndCheck { why: None };
     let _is_there = host.read(rt, tenant, &mut ending);
-    let Ending { why } = ending;
+    let EndCheck { why } = ending;
     why
 }
 
@@ -168,7 +168,7 @@ fn play<T: Wait, H: Lending, F: Read + Drop>(
     let Ok(session) = host.attach(rt, alloc, tenant, 0) else {
         return Err(Unplayed::NoSession);
     };
-    let mut caller = Caller::new(session);
+    let mut caller = SessionCaller::new(session);
     let played = play_lines(alloc, ToSession { rt }, &mut caller, file);
     let ending = ending_of(rt, host, tenant);
     let has_ended = caller.ended();

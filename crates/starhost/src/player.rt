@@ -25,7 +25,7 @@ pub(crate) trait Sender<S> {
 
 /// How far a file is played.
 #[derive(Drop)]
-pub(crate) struct Progress {
+pub(crate) struct LoadProgress {
     /// The newest line, counted from 1.
     pub(crate) line: u64,
     /// It wasn't answered as a line of a script is.
@@ -34,11 +34,11 @@ pub(crate) struct Progress {
     pub(crate) told: Vec<u8>,
 }
 
-impl Progress {
-    fn new(alloc: Global) -> Progress
+impl LoadProgress {
+    fn new(alloc: Global) -> LoadProgress
         ensures { result.is_bad ≡ false }
     {
-        Progress {
+        LoadProgress {
             line: 0,
             is_bad: false,
             told: Vec::new(alloc),
@@ -57,10 +57,10 @@ pub(crate) fn play_lines<S, P: Sender<S> + Drop, F: Read + Drop>(
         × TakesEach (P.takes sender) lines to.old to.new) }
 {
     let mut reader = Fallible { inner: file };
-    let mut progress = Progress::new(alloc);
-    let player = Player { sender };
+    let mut progress = LoadProgress::new(alloc);
+    let player = LinePlayer { sender };
     let ended = answer_stream(alloc, &mut reader, &mut Nowhere, &player, to, &mut progress);
-    let Progress { line, is_bad, told } = progress;
+    let LoadProgress { line, is_bad, told } = progress;
     if is_bad {
         return Err(Unplayed::Line { line, told });
     }
@@ -72,11 +72,11 @@ pub(crate) fn play_lines<S, P: Sender<S> + Drop, F: Read + Drop>(
 
 /// Sends each line, until one isn't taken.
 #[derive(Drop)]
-struct Player<P> {
+struct LinePlayer<P> {
     sender: P,
 }
 
-impl<S, P: Sender<S>> Responder<S, Progress> for Player<P> {
+impl<S, P: Sender<S>> Responder<S, LoadProgress> for LinePlayer<P> {
     ghost use Rattle.starhost.specs.Playing.{Plays};
 
     ghost responds = { λ p. Plays (P.takes p.sender) (P.refuses p.sender) };
@@ -89,13 +89,13 @@ impl<S, P: Sender<S>> Responder<S, Progress> for Player<P> {
         piece: Piece<'_>,
         _out: &mut Vec<u8>,
         first: &mut S,
-        second: &mut Progress,
+        second: &mut LoadProgress,
     ) -> Result<(), AllocError> {
         play_line(alloc, piece, &self.sender, first, second);
         Ok(())
     }
 
-    fn is_over(&self, _first: &S, second: &Progress) -> bool {
+    fn is_over(&self, _first: &S, second: &LoadProgress) -> bool {
         second.is_bad
     }
 }
@@ -106,7 +106,7 @@ fn play_line<S, P: Sender<S>>(
     piece: Piece<'_>,
     sender: &P,
     to: &mut S,
-    progress: &mut Progress,
+    progress: &mut LoadProgress,
 )
     ensures { PlaysBy (P.takes sender.now) (P.refuses sender.now) progress.new.is_bad to.old (piece_seen piece.entry) to.new }
 {

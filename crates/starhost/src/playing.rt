@@ -3,15 +3,15 @@ ghost use Rattle.std.specs.Prelude.{◌≡◌, ◌⊎◌, ◌∷◌, ◌↔◌, 
 ghost use Rattle.sb_cell.specs.Tenants.{IsNew};
 ghost use Rattle.starhost.specs.Loading.{IsLoaded, IsLoadedFrom, IsUnloaded};
 ghost use Rattle.starhost.specs.Playing.{HasLines, IsPlayed, IsSettled, IsStarted, IsTaken, IsUnsettled, MayEnd, RefusesLine, Sends, TakesLine};
-ghost use Rattle.starhost.specs.declared.fault.Fault.TheVariants as fault;
+ghost use Rattle.starhost.specs.declared.fault.ProgramFault.TheVariants as fault;
 ghost use Rattle.sb_tenant.specs.State.{session_at};
 ghost use Rattle.sb_tenant.specs.Tenant.{state};
 ghost use Rattle.sb_wire.specs.declared.fault.StreamError.TheVariants as stream;
 ghost use Rattle.sb_words.specs.Within.{AreRun};
 
-use crate::fault::Fault;
+use crate::event_log::EventLog;
+use crate::fault::ProgramFault;
 use crate::folder::found_folder;
-use crate::journal::Journal;
 use crate::player::{Sender, play_lines};
 use crate::script_source::{FolderScripts, ScriptSource, Unopened};
 use sb_cell::{Cell, ample_buckets};
@@ -69,23 +69,23 @@ pub(crate) fn loaded_cell<T: Eprint + Clock + Files>(
     alloc: Global,
     run: Run,
     load: Option<&str>,
-) -> Result<Cell, Fault>
+) -> Result<Cell, ProgramFault>
     requires { AreRun run }
     ensures ok { IfOk result (IsLoaded run.tenants run.bound) }
     ensures err { IfErr result (IsUnloaded run.tenants) }
 {
-    let journal = Journal::new(rt, Severity::Info);
-    let Some(folder) = found_folder(rt, load, &journal) else {
-        return Err(Fault::NoFolder);
+    let log = EventLog::new(rt, Severity::Info);
+    let Some(folder) = found_folder(rt, load, &log) else {
+        return Err(ProgramFault::NoFolder);
     };
     let buckets = ample_buckets(run.tenants);
     let Ok(mut cell) = Cell::with_buckets(alloc, 0, 1, run.tenants, run.bound, buckets) else {
-        return Err(Fault::Stream(StreamError::NoMemory));
+        return Err(ProgramFault::Stream(StreamError::NoMemory));
     };
     let scripts = FolderScripts {
         rt,
         folder,
-        journal: &journal,
+        log: &log,
     };
     match load_each(alloc, &mut cell, run, &scripts) {
         Ok(()) => Ok(cell),
@@ -99,7 +99,7 @@ fn load_each<F: Read + Drop, S: ScriptSource<F>>(
     cell: &mut Cell,
     run: Run,
     scripts: &S,
-) -> Result<(), Fault>
+) -> Result<(), ProgramFault>
     requires { IsNew 0 1 run.tenants run.bound cell.old }
     ensures ok { OnOk result (IsLoadedFrom (S.files scripts.now) run.tenants run.bound cell.new) }
     ensures err { IfErr result (IsUnloaded run.tenants) }
@@ -119,7 +119,7 @@ fn load_one<F: Read + Drop, S: ScriptSource<F>>(
     cell: &mut Cell,
     scripts: &S,
     tenant: u32,
-) -> Result<(), Fault>
+) -> Result<(), ProgramFault>
     ensures ok { OnOk result (IsStarted tenant (S.files scripts.now tenant) cell.old cell.new) }
     ensures err { IfErr result (λ why. (why ≡ fault.Stream stream.NoMemory) ⊎ (why ≡ fault.CannotLoad tenant)) }
 {
@@ -128,16 +128,16 @@ fn load_one<F: Read + Drop, S: ScriptSource<F>>(
             Ok(()) => Ok(()),
             Err(why) => {
                 scripts.note(tenant, &why);
-                Err(Fault::CannotLoad {
+                Err(ProgramFault::CannotLoad {
                     tenant: u64::from(tenant),
                 })
             }
         },
         Ok(None) => Ok(()),
-        Err(Unopened::CannotRead) => Err(Fault::CannotLoad {
+        Err(Unopened::CannotRead) => Err(ProgramFault::CannotLoad {
             tenant: u64::from(tenant),
         }),
-        Err(Unopened::NoMemory) => Err(Fault::Stream(StreamError::NoMemory)),
+        Err(Unopened::NoMemory) => Err(ProgramFault::Stream(StreamError::NoMemory)),
     }
 }
 

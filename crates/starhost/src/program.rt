@@ -13,22 +13,22 @@ ghost use Rattle.starhost.specs.Going.{Goes, Succeeds};
 ghost use Rattle.starhost.specs.Journaled.{AnswersJournaled};
 ghost use Rattle.starhost.specs.Loading.{AnswersLoaded};
 ghost use Rattle.starhost.specs.Writing.{Writes, WritesOf};
-ghost use Rattle.sb_words.specs.declared.request.Dumping.{Dumping as ItsDumping};
-ghost use Rattle.sb_words.specs.declared.request.Hosting.{Hosting as ItsHosting};
-ghost use Rattle.sb_words.specs.declared.request.Request.{Request as ItsRequest};
-ghost use Rattle.sb_words.specs.declared.request.Request.TheVariants as request;
-ghost use Rattle.sb_words.specs.declared.request.Run.{Run as ItsRun};
-ghost use Rattle.sb_words.specs.declared.request.Serving.{Serving as ItsServing};
+ghost use Rattle.sb_words.specs.declared.invocation.Dumping.{Dumping as ItsDumping};
+ghost use Rattle.sb_words.specs.declared.invocation.HostOptions.{HostOptions as ItsHostOptions};
+ghost use Rattle.sb_words.specs.declared.invocation.Invocation.{Invocation as ItsInvocation};
+ghost use Rattle.sb_words.specs.declared.invocation.Invocation.TheVariants as request;
+ghost use Rattle.sb_words.specs.declared.invocation.Run.{Run as ItsRun};
+ghost use Rattle.sb_words.specs.declared.invocation.ServerOptions.{ServerOptions as ItsServerOptions};
 ghost use Rattle.sb_words.specs.Within.{AreRun, IsWithin};
 ghost use Rattle.sb_words.specs.Words.{AskFor, AskForHelp, AskForVersion, HasFault, HaveUnfit};
-ghost use Rattle.sb_words.specs.declared.part.Unfit.{Unfit as ItsUnfit};
+ghost use Rattle.sb_words.specs.declared.argument.Unfit.{Unfit as ItsUnfit};
 ghost use Rattle.sb_words.specs.Refusals.{refusal_text};
 
 use crate::compacting::compact;
 use crate::console::Console;
 use crate::digesting::tell_digest;
 use crate::dumping::dump_tenant;
-use crate::fault::{Fault, tell_fault};
+use crate::fault::{ProgramFault, tell_fault};
 use crate::journaled::run_journaled;
 use crate::keeping::keep;
 use crate::parsing::parse_lines;
@@ -40,7 +40,7 @@ use crate::system::System;
 use crate::telling::{SUCCESS, fault, tell_run, tell_stream_end};
 use crate::writing::dump_all;
 use sb_wire::{Sink, Source, StreamError, Summary, run_fresh, write_bytes};
-use sb_words::{ALLOWED, Asked, HELP, Paths, Request, Run, VERSION, read_words, words_ask_once};
+use sb_words::{ALLOWED, Asked, HELP, Invocation, Paths, Run, VERSION, read_words, words_ask_once};
 use std::alloc::Global;
 use std::convert::AsStr;
 
@@ -60,11 +60,11 @@ pub fn command<T: System + Sync, S: AsStr, R: Source, W: Sink, E: Sink>(
     ensures usual { length words.now ≤ 1 → result ≡ 0 →
         WritesOf R.remaining W.contents reader.old writer.old writer.new (AnswersFresh 16 1000) }
     // and words that ask for a server its port and its trails
-    ensures serves { (s : ItsServing) → AskFor (map S.text words.now) (request.Serve s)
+    ensures serves { (s : ItsServerOptions) → AskFor (map S.text words.now) (request.Serve s)
         → result ≡ 0 → Writes W.contents writer.old writer.new
         (TellsServer s.hosting.run.bound s.hosting.run.tenants) }
     // and words that ask for a replay what the sessions of the input were answered
-    ensures replays { (h : ItsHosting) → AskFor (map S.text words.now) (request.Replay h)
+    ensures replays { (h : ItsHostOptions) → AskFor (map S.text words.now) (request.Replay h)
         → result ≡ 0 → WritesOf R.remaining W.contents reader.old writer.old writer.new
         (Replays h.run.tenants h.run.bound) }
     // and words that ask for it which lines of the input are commands
@@ -75,7 +75,7 @@ pub fn command<T: System + Sync, S: AsStr, R: Source, W: Sink, E: Sink>(
         → result ≡ 0 → WritesOf R.remaining W.contents reader.old writer.old writer.new
         (DumpsInput d.run.tenants d.run.bound d.tenant) }
     // and words that ask for a server with files what a server has
-    ensures keeps { (s : ItsServing) → AskFor (map S.text words.now) (request.Keep s)
+    ensures keeps { (s : ItsServerOptions) → AskFor (map S.text words.now) (request.Keep s)
         → result ≡ 0 → Writes W.contents writer.old writer.new
         (TellsServer s.hosting.run.bound s.hosting.run.tenants) }
     // and words that ask for a run on files what it is answered on tenants that scripts made
@@ -98,7 +98,7 @@ pub fn command<T: System + Sync, S: AsStr, R: Source, W: Sink, E: Sink>(
     // why;
     // how the stream of lines went of which it is told whether they are commands; help and the version, as they are asked
     // for; words with a fault; the first part that isn't allowed, by its line; and want of memory
-    ensures asked { ((q : ItsRequest) × AskFor (map S.text words.now) q
+    ensures asked { ((q : ItsInvocation) × AskFor (map S.text words.now) q
         × Goes R.fails R.remaining W.refuses W.contents E.refuses E.contents reader.old reader.new
         writer.old writer.new errors.old.is_terminal errors.old.sink errors.new.sink result q)
         ⊎ (AskForHelp (map S.text words.now) × (reader.new ≡ reader.old)
@@ -132,7 +132,7 @@ pub fn command<T: System + Sync, S: AsStr, R: Source, W: Sink, E: Sink>(
 fn answer<T: System + Sync, R: Source, W: Sink, E: Sink>(
     rt: &T,
     alloc: Global,
-    wanted: Request,
+    wanted: Invocation,
     paths: Paths<'_>,
     reader: &mut R,
     writer: &mut W,
@@ -145,41 +145,41 @@ fn answer<T: System + Sync, R: Source, W: Sink, E: Sink>(
         writer.old writer.new errors.old.is_terminal errors.old.sink errors.new.sink result wanted }
 {
     match wanted {
-        Request::Run(asked) => run(alloc, asked, reader, writer, errors),
-        Request::Serve(asked) => {
+        Invocation::Run(asked) => run(alloc, asked, reader, writer, errors),
+        Invocation::Serve(asked) => {
             let ended = serve(rt, alloc, asked, writer);
             tell_end(alloc, ended, &mut errors.sink)
         }
-        Request::Replay(asked) => {
+        Invocation::Replay(asked) => {
             let ended = replay(rt, alloc, asked, reader, writer);
             tell_end(alloc, ended, &mut errors.sink)
         }
-        Request::Parse => {
+        Invocation::Parse => {
             let ended = parse_lines(alloc, reader, writer);
             tell_stream_end(ended, &mut errors.sink)
         }
-        Request::Load(asked) => run_loaded(rt, alloc, asked, paths.load, reader, writer, errors),
-        Request::Record(asked) => {
+        Invocation::Load(asked) => run_loaded(rt, alloc, asked, paths.load, reader, writer, errors),
+        Invocation::Record(asked) => {
             let ended = run_journaled(rt, alloc, asked, paths, reader, writer);
             tell_end(alloc, ended, &mut errors.sink)
         }
-        Request::Keep(asked) => {
+        Invocation::Keep(asked) => {
             let ended = keep(rt, alloc, asked, paths, writer);
             tell_end(alloc, ended, &mut errors.sink)
         }
-        Request::Dump(asked) => {
+        Invocation::Dump(asked) => {
             let ended = dump_tenant(alloc, asked, reader, writer);
             tell_end(alloc, ended, &mut errors.sink)
         }
-        Request::DumpAll(asked) => {
+        Invocation::DumpAll(asked) => {
             let ended = dump_all(rt, alloc, asked, paths.into, reader);
             tell_end(alloc, ended, &mut errors.sink)
         }
-        Request::Compact(asked) => {
+        Invocation::Compact(asked) => {
             let ended = compact(rt, alloc, asked, paths.old, paths.new);
             tell_end(alloc, ended, &mut errors.sink)
         }
-        Request::Key => {
+        Invocation::Key => {
             let ended = tell_digest(alloc, reader, writer);
             tell_end(alloc, ended, &mut errors.sink)
         }
@@ -216,7 +216,7 @@ fn run<R: Source, W: Sink, E: Sink>(
 }
 
 /// Tells of the fault that ended a server, a replay or a dump, if one did.
-fn tell_end<E: Sink>(alloc: Global, ended: Result<(), Fault>, errors: &mut E) -> u8
+fn tell_end<E: Sink>(alloc: Global, ended: Result<(), ProgramFault>, errors: &mut E) -> u8
     ensures { TellsEnd E.refuses E.contents errors.old errors.new ended result }
 {
     match ended {

@@ -3,16 +3,16 @@ ghost use Rattle.std.specs.Prelude.{◌≡◌, ◌↔◌, OnOk};
 ghost use Rattle.std.specs.Thread.{IsSend, IsSync};
 ghost use Rattle.starhost.specs.Totals.{TellsPort};
 
-use crate::fault::Fault;
+use crate::event_log::EventLog;
+use crate::fault::ProgramFault;
 use crate::flushing::Flusher;
-use crate::journal::Journal;
-use crate::keeping::{Gate, Keeping, Served};
+use crate::keeping::{Entrance, Keeping, ServerEnd};
 use crate::showing::Pages;
 use crate::system::System;
 use crate::watching::StatusPort;
 use sb_durable::{
-    File as JournalFile, Head, Journal as Records, JournalError, Played, Progress, Recorder,
-    Syncing, Wary, open_path, play,
+    File as JournalFile, Head, Journal, JournalError, Played, Progress, Recorder, Syncing, Wary,
+    open_path, play,
 };
 use sb_host::{Lending, Stub};
 use sb_server::{Admission, Beside, Keeper, Kept};
@@ -32,9 +32,9 @@ const TOLD: u64 = 1;
 
 /// Records what tenants are answered.
 #[derive(Drop)]
-struct Recording<'k, R, T> {
+struct JournalKeeper<'k, R, T> {
     recorder: R,
-    journal: &'k Journal<'k, T>,
+    log: &'k EventLog<'k, T>,
     /// There was no memory the last time.
     lacks_memory: AtomicBool,
     has_failed: AtomicBool,
@@ -42,15 +42,15 @@ struct Recording<'k, R, T> {
     flusher: Option<&'k Flusher<'k, T>>,
 }
 
-impl<'k, R, T: Eprint + Clock> Recording<'k, R, T> {
+impl<'k, R, T: Eprint + Clock> JournalKeeper<'k, R, T> {
     fn new(
         recorder: R,
-        journal: &'k Journal<'k, T>,
+        log: &'k EventLog<'k, T>,
         flusher: Option<&'k Flusher<'k, T>>,
-    ) -> Recording<'k, R, T> {
-        Recording {
+    ) -> JournalKeeper<'k, R, T> {
+        JournalKeeper {
             recorder,
-            journal,
+            log,
             lacks_memory: AtomicBool::new(false),
             has_failed: AtomicBool::new(false),
             flusher,
@@ -71,7 +71,7 @@ impl<'k, R, T: Eprint + Clock> Recording<'k, R, T> {
 }
 
 impl<'k, H: Lending, T: Eprint + Clock> Keeper
-    for Recording<'k, Recorder<H, JournalFile<Wary>>, T> {
+    for JournalKeeper<'k, Recorder<H, JournalFile<Wary>>, T> {
     fn is_set(&self) -> bool {
         true
     }
@@ -84,14 +84,14 @@ impl<'k, H: Lending, T: Eprint + Clock> Keeper
             }
             Err(JournalError::Memory) => {
                 if !self.lacks_memory.swap(true, Ordering::SeqCst) {
-                    self.journal.tell_not_recorded(&JournalError::Memory);
+                    self.log.tell_not_recorded(&JournalError::Memory);
                 }
                 Kept::NotYet
             }
             Err(error) => {
                 // one tells why, and the others that it was told
                 if !self.has_failed.swap(true, Ordering::SeqCst) {
-                    self.journal.tell_not_recorded(&error);
+                    self.log.tell_not_recorded(&error);
                 }
                 Kept::Failed
             }
@@ -117,13 +117,13 @@ pub(crate) fn played_journal<H: Lending, T: Wait + Eprint + Clock + Files<File =
     path: &str,
     syncing: Syncing,
     head: Head,
-    log: &Journal<'_, T>,
-) -> Result<(Records<JournalFile<Wary>>, Played), Fault> {
+    log: &EventLog<'_, T>,
+) -> Result<(Journal<JournalFile<Wary>>, Played), ProgramFault> {
     let mut file = match open_path(rt, alloc, path, syncing, head) {
         Ok(file) => file,
         Err(error) => {
             log.tell_no_journal(path, &error);
-            return Err(Fault::CannotOpenJournal);
+            return Err(ProgramFault::CannotOpenJournal);
         }
     };
     let mut playing = Playing::new(rt, log);
@@ -131,7 +131,7 @@ pub(crate) fn played_journal<H: Lending, T: Wait + Eprint + Clock + Files<File =
         Ok(played) => Ok((file, played)),
         Err(error) => {
             log.tell_no_journal(path, &error);
-            Err(Fault::CannotOpenJournal)
+            Err(ProgramFault::CannotOpenJournal)
         }
     }
 }
@@ -140,15 +140,15 @@ pub(crate) fn played_journal<H: Lending, T: Wait + Eprint + Clock + Files<File =
 #[derive(Drop)]
 pub(crate) struct Playing<'k, T> {
     rt: &'k T,
-    journal: &'k Journal<'k, T>,
+    log: &'k EventLog<'k, T>,
     told: Option<Instant>,
 }
 
 impl<'k, T> Playing<'k, T> {
-    pub(crate) fn new(rt: &'k T, journal: &'k Journal<'k, T>) -> Playing<'k, T> {
+    pub(crate) fn new(rt: &'k T, log: &'k EventLog<'k, T>) -> Playing<'k, T> {
         Playing {
             rt,
-            journal,
+            log,
             told: None,
         }
     }
@@ -163,7 +163,7 @@ impl<'k, T: Eprint + Clock> Progress for Playing<'k, T> {
             Some(told) if now.duration_since(told) < Duration::from_secs(TOLD) => {}
             Some(_) => {
                 self.told = Some(now);
-                self.journal.tell_played(records, bytes);
+                self.log.tell_played(records, bytes);
             }
             None => self.told = Some(now),
         }
@@ -178,9 +178,9 @@ where
     pub(crate) fn record<A: Admission + Sync, G: Beside, W: Sink>(
         &self,
         path: &str,
-        gate: Gate<'_, '_, A, G>,
+        gate: Entrance<'_, '_, A, G>,
         writer: &mut W,
-    ) -> Result<Served, Fault>
+    ) -> Result<ServerEnd, ProgramFault>
         ensures { OnOk result (TellsPort (W.contents writer.old) (W.contents writer.new)) }
     {
         let (recorder, stubs) = match self.restart(path) {
@@ -190,7 +190,7 @@ where
         if let Syncs::Second = self.paths.syncs {
             return self.record_by_seconds(path, gate, recorder, stubs, writer);
         }
-        let recording = Recording::new(recorder, self.journal, None);
+        let recording = JournalKeeper::new(recorder, self.log, None);
         self.serve_with(gate, &recording, stubs, writer)
     }
 
@@ -198,28 +198,28 @@ where
     fn record_by_seconds<A: Admission + Sync, G: Beside, W: Sink>(
         &self,
         path: &str,
-        gate: Gate<'_, '_, A, G>,
+        gate: Entrance<'_, '_, A, G>,
         recorder: Recorder<H, JournalFile<Wary>>,
         stubs: Vec<Stub>,
         writer: &mut W,
-    ) -> Result<Served, Fault>
+    ) -> Result<ServerEnd, ProgramFault>
         ensures { OnOk result (TellsPort (W.contents writer.old) (W.contents writer.new)) }
     {
-        let flusher = match Flusher::open(self.rt, path, self.journal) {
+        let flusher = match Flusher::open(self.rt, path, self.log) {
             Ok(flusher) => flusher,
             Err(error) => {
-                self.journal.tell_no_journal(path, &error);
-                return Err(Fault::CannotOpenJournal);
+                self.log.tell_no_journal(path, &error);
+                return Err(ProgramFault::CannotOpenJournal);
             }
         };
-        let recording = Recording::new(recorder, self.journal, Some(&flusher));
+        let recording = JournalKeeper::new(recorder, self.log, Some(&flusher));
         let (listener, port) = match self.ports(gate.admission, writer) {
             Ok(ports) => ports,
             Err(why) => return Err(why),
         };
         let served = self.serve_beside(&flusher, (&listener, &port), gate, &recording, stubs);
         if flusher.has_failed() {
-            return Err(Fault::JournalFailed);
+            return Err(ProgramFault::JournalFailed);
         }
         served
     }
@@ -229,19 +229,19 @@ where
         &self,
         flusher: &Flusher<'k, T>,
         ports: (&TcpListener, &Option<StatusPort<Pages<'_, H, A, T>>>),
-        gate: Gate<'_, '_, A, G>,
+        gate: Entrance<'_, '_, A, G>,
         keeper: &K,
         stubs: Vec<Stub>,
-    ) -> Result<Served, Fault> {
+    ) -> Result<ServerEnd, ProgramFault> {
         let rt = self.rt;
         thread::scope(
             thread::scope_env(),
             rt,
-            |scope| -> Result<Served, Fault>
+            |scope| -> Result<ServerEnd, ProgramFault>
                 requires { IsSync H.row × IsSend H.Session.row × IsSync T.row × IsSync A.row × IsSync K.row }
             {
                 if scope.spawn(move || flusher.run(rt)).is_err() {
-                    return Err(Fault::CannotStart);
+                    return Err(ProgramFault::CannotStart);
                 }
                 let (listener, port) = ports;
                 let served = self.serve_at(listener, port, gate, keeper, stubs);
@@ -252,20 +252,17 @@ where
     }
 
     /// Has the tenants as the journal at this path leaves them: what records, and what the sessions of the file left.
-    fn restart(&self, path: &str) -> Result<(Recorder<H, JournalFile<Wary>>, Vec<Stub>), Fault> {
+    fn restart(
+        &self,
+        path: &str,
+    ) -> Result<(Recorder<H, JournalFile<Wary>>, Vec<Stub>), ProgramFault> {
         let head = Head {
             tenants: self.plan.tenants,
             bound: u64::from(self.plan.bound),
         };
         let syncing = syncing_of(self.paths.syncs);
         match played_journal(
-            self.rt,
-            self.alloc,
-            self.host,
-            path,
-            syncing,
-            head,
-            self.journal,
+            self.rt, self.alloc, self.host, path, syncing, head, self.log,
         ) {
             Ok(
                 (

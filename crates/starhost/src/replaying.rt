@@ -7,11 +7,11 @@ ghost use Rattle.starhost.specs.Writing.{WritesOf};
 ghost use Rattle.sb_words.specs.Within.{AreHost};
 
 use crate::closing::fault_of;
-use crate::fault::Fault;
-use crate::journal::Journal;
+use crate::event_log::EventLog;
+use crate::fault::ProgramFault;
 use sb_replay::{ReplayError, Size, replay_fresh};
 use sb_wire::{Sink, Source, StreamError};
-use sb_words::{Hosting, Severity};
+use sb_words::{HostOptions, Severity};
 use std::alloc::Global;
 use std::rt::Clock;
 use std::sync::Wait;
@@ -21,10 +21,10 @@ use std::thread::Threads;
 pub(crate) fn replay<T: Threads + Wait + Eprint + Clock + Sync, R: Source, W: Sink>(
     rt: &T,
     alloc: Global,
-    hosting: Hosting,
+    hosting: HostOptions,
     reader: &mut R,
     writer: &mut W,
-) -> Result<(), Fault>
+) -> Result<(), ProgramFault>
     requires { AreHost hosting }
     ensures ok { OnOk result (WritesOf R.remaining W.contents reader.old writer.old writer.new
         (Replays hosting.run.tenants hosting.run.bound)) }
@@ -45,21 +45,21 @@ pub(crate) fn replay<T: Threads + Wait + Eprint + Clock + Sync, R: Source, W: Si
 }
 
 /// What a replay that didn't go well is told as. Why a line is bad is written in the log.
-pub fn unplayed<T: Eprint + Clock>(rt: &T, error: ReplayError) -> Fault
+pub fn unplayed<T: Eprint + Clock>(rt: &T, error: ReplayError) -> ProgramFault
     ensures { result ≡ unplayed_as error }
 {
     match error {
-        ReplayError::ReadFault => Fault::Stream(StreamError::ReadFault),
-        ReplayError::WriteFault => Fault::Stream(StreamError::WriteFault),
+        ReplayError::ReadFault => ProgramFault::Stream(StreamError::ReadFault),
+        ReplayError::WriteFault => ProgramFault::Stream(StreamError::WriteFault),
         ReplayError::BadLine { line, why } => {
-            Journal::new(rt, Severity::Info).tell_bad_line(line, why);
-            Fault::BadLine { line }
+            EventLog::new(rt, Severity::Info).tell_bad_line(line, why);
+            ProgramFault::BadLine { line }
         }
-        ReplayError::Attach { tenant, session } => Fault::CannotAttach {
+        ReplayError::Attach { tenant, session } => ProgramFault::CannotAttach {
             tenant: u64::from(tenant),
             session: u32::from(session.number()),
         },
         ReplayError::Finish(error) => fault_of(0, error),
-        ReplayError::NoMemory => Fault::Stream(StreamError::NoMemory),
+        ReplayError::NoMemory => ProgramFault::Stream(StreamError::NoMemory),
     }
 }

@@ -5,7 +5,7 @@ ghost use Rattle.sb_wire.specs.Stream.{AnswersInput, EndsBy, MayFail, OnWriteFau
 ghost use Rattle.starhost.specs.Does.{TellsRun, status_of};
 ghost use Rattle.starhost.specs.Faults.{TellsFault};
 ghost use Rattle.starhost.specs.Loading.{AnswersLoaded, GoesLoaded, IsUnloaded};
-ghost use Rattle.starhost.specs.declared.fault.Fault.{Fault as ItsFault};
+ghost use Rattle.starhost.specs.declared.fault.ProgramFault.{ProgramFault as ItsProgramFault};
 ghost use Rattle.starhost.specs.Writing.{WritesOf};
 ghost use Rattle.sb_words.specs.Within.{AreRun};
 
@@ -32,7 +32,7 @@ pub(crate) fn run_loaded<T: Eprint + Clock + Files, R: Source, W: Sink, E: Sink>
     requires { AreRun asked }
     ensures loads { result ≡ 0 → WritesOf R.remaining W.contents reader.old writer.old writer.new
         (AnswersLoaded asked.tenants asked.bound) }
-    ensures goes { ((why : ItsFault) × IsUnloaded asked.tenants why × (result ≡ 1) × (reader.new ≡ reader.old)
+    ensures goes { ((why : ItsProgramFault) × IsUnloaded asked.tenants why × (result ≡ 1) × (reader.new ≡ reader.old)
         × (writer.new ≡ writer.old) × TellsFault E.refuses E.contents errors.old.sink errors.new.sink why)
         ⊎ ((ended : _) × (summary : _) × (result ≡ status_of ended)
         × GoesLoaded R.fails R.remaining W.refuses W.contents asked.tenants asked.bound

@@ -3,7 +3,7 @@ ghost use Rattle.std.specs.Prelude.{◌≡◌, ◌⊎◌, ◌≤◌, ◌+◌, If
 ghost use Rattle.starhost.specs.Saving.{IsNotedOf, IsNotedOfSome, IsUnsaved};
 
 use crate::dumping::undumped;
-use crate::fault::Fault;
+use crate::fault::ProgramFault;
 use crate::script_files::ScriptFiles;
 use sb_dump::{DumpError, Script, dump};
 use sb_host::{Lending, Reading, Tried};
@@ -15,7 +15,7 @@ use std::sync::Wait;
 
 /// What is noted of a tenant.
 #[derive(Drop)]
-pub(crate) enum Noted {
+pub(crate) enum NotedScript {
     /// No session of it was ever opened.
     Unused,
     Script(Script),
@@ -25,28 +25,28 @@ pub(crate) enum Noted {
 
 /// Notes the script of a tenant.
 #[derive(Drop)]
-pub(crate) struct Notes {
+pub(crate) struct ScriptNotes {
     alloc: Global,
     bound: u32,
-    noted: Noted,
+    noted: NotedScript,
     ghost few: { bound ≤ 1000 },
 }
 
-impl Notes {
-    pub(crate) fn new(alloc: Global, bound: u32) -> Notes
+impl ScriptNotes {
+    pub(crate) fn new(alloc: Global, bound: u32) -> ScriptNotes
         requires { bound ≤ 1000 }
-        ensures { (result.bound ≡ bound) × (result.noted ≡ Noted.Unused) }
+        ensures { (result.bound ≡ bound) × (result.noted ≡ NotedScript.Unused) }
     {
-        Notes {
+        ScriptNotes {
             alloc,
             bound,
-            noted: Noted::Unused,
+            noted: NotedScript::Unused,
         }
     }
 }
 
-impl Reading for Notes {
-    ghost use Rattle.starhost.specs.declared.saving.Noted.TheVariants as found;
+impl Reading for ScriptNotes {
+    ghost use Rattle.starhost.specs.declared.saving.NotedScript.TheVariants as found;
 
     ghost reads = { λ old own new. old.noted ≡ found.Unused → IsNotedOf old.bound own new.noted };
 
@@ -59,13 +59,13 @@ impl Reading for Notes {
 }
 
 /// What a tenant has that was opened.
-fn script_of(alloc: Global, tenant: &Tenant, bound: u32) -> Noted
+fn script_of(alloc: Global, tenant: &Tenant, bound: u32) -> NotedScript
     requires { bound ≤ 1000 }
     ensures { IsNotedOf bound tenant.now result }
 {
     match dump(alloc, tenant, bound) {
-        Ok(script) => Noted::Script(script),
-        Err(error) => Noted::Lacking(error),
+        Ok(script) => NotedScript::Script(script),
+        Err(error) => NotedScript::Lacking(error),
     }
 }
 
@@ -74,7 +74,7 @@ fn script_of(alloc: Global, tenant: &Tenant, bound: u32) -> Noted
 pub(crate) fn save_all<T: Wait + Eprint + Clock + Files, H: Lending>(
     files: &ScriptFiles<'_, '_, T>,
     host: H,
-) -> Result<(), Fault> {
+) -> Result<(), ProgramFault> {
     let mut ended = Ok(());
     for tenant in 0..host.tenants() {
         if let Err(why) = save_one(files, host, tenant) {
@@ -92,25 +92,30 @@ fn save_one<T: Wait + Eprint + Clock + Files, H: Lending>(
     files: &ScriptFiles<'_, '_, T>,
     host: H,
     tenant: u32,
-) -> Result<(), Fault>
+) -> Result<(), ProgramFault>
     ensures { IfErr result (IsUnsaved (files.now.folder.first + tenant)) }
 {
     let number = files.folder.number_of(tenant);
-    let notes = Notes::new(files.alloc, files.bound);
+    let notes = ScriptNotes::new(files.alloc, files.bound);
     match noted_of(files.rt, host, tenant, notes) {
-        Noted::Unused => Ok(()),
-        Noted::Lacking(error) => Err(undumped(number, error)),
-        Noted::Script(script) => files.write(number, &script),
+        NotedScript::Unused => Ok(()),
+        NotedScript::Lacking(error) => Err(undumped(number, error)),
+        NotedScript::Script(script) => files.write(number, &script),
     }
 }
 
 /// The script of a tenant.
-pub(crate) fn noted_of<T: Wait, H: Lending>(rt: &T, host: H, tenant: u32, mut notes: Notes) -> Noted
-    requires { notes.noted ≡ Noted.Unused }
+pub(crate) fn noted_of<T: Wait, H: Lending>(
+    rt: &T,
+    host: H,
+    tenant: u32,
+    mut notes: ScriptNotes,
+) -> NotedScript
+    requires { notes.noted ≡ NotedScript.Unused }
     ensures { IsNotedOfSome notes.bound (H.tenants host) tenant result }
 {
     let _is_there = host.read(rt, tenant, &mut notes);
-    let Notes { noted, .. } = notes;
+    let ScriptNotes { noted, .. } = notes;
     noted
 }
 
@@ -119,14 +124,14 @@ pub(crate) fn noted_in<T: Clock, H: Lending>(
     patience: &mut Patience<'_, T>,
     host: H,
     tenant: u32,
-    mut notes: Notes,
-) -> Noted
-    requires { notes.noted ≡ Noted.Unused }
-    ensures { (result ≡ Noted.Lacking DumpError.Busy) ⊎ IsNotedOfSome notes.bound (H.tenants host) tenant result }
+    mut notes: ScriptNotes,
+) -> NotedScript
+    requires { notes.noted ≡ NotedScript.Unused }
+    ensures { (result ≡ NotedScript.Lacking DumpError.Busy) ⊎ IsNotedOfSome notes.bound (H.tenants host) tenant result }
 {
     if let Tried::Held = patience.read(host, tenant, &mut notes) {
-        return Noted::Lacking(DumpError::Busy);
+        return NotedScript::Lacking(DumpError::Busy);
     }
-    let Notes { noted, .. } = notes;
+    let ScriptNotes { noted, .. } = notes;
     noted
 }

@@ -1,12 +1,12 @@
 //! The files that the scripts of tenants are written to.
 ghost use Rattle.std.specs.Prelude.{◌≡◌, ◌⊎◌, ◌≤◌, IfErr};
-ghost use Rattle.starhost.specs.declared.fault.Fault.TheVariants as fault;
+ghost use Rattle.starhost.specs.declared.fault.ProgramFault.TheVariants as fault;
 ghost use Rattle.sb_wire.specs.declared.fault.StreamError.TheVariants as stream;
 
 use crate::dumping::text_of;
-use crate::fault::Fault;
+use crate::event_log::EventLog;
+use crate::fault::ProgramFault;
 use crate::folder::Folder;
-use crate::journal::Journal;
 use sb_dump::Script;
 use sb_wire::StreamError;
 use std::alloc::Global;
@@ -19,17 +19,17 @@ pub(crate) struct ScriptFiles<'r, 'j, T> {
     pub(crate) alloc: Global,
     pub(crate) bound: u32,
     pub(crate) folder: Folder<'r>,
-    pub(crate) journal: &'j Journal<'r, T>,
+    pub(crate) log: &'j EventLog<'r, T>,
     ghost few: { bound ≤ 1000 },
 }
 
 impl<'r, 'j, T: Eprint + Clock + Files> ScriptFiles<'r, 'j, T> {
     /// Writes a script to the file of the tenant with this number.
-    pub(crate) fn write(&self, number: u64, script: &Script) -> Result<(), Fault>
+    pub(crate) fn write(&self, number: u64, script: &Script) -> Result<(), ProgramFault>
         ensures { IfErr result (λ why. (why ≡ fault.Stream stream.NoMemory) ⊎ (why ≡ fault.CannotWrite number)) }
     {
         let Ok(text) = text_of(self.alloc, script) else {
-            return Err(Fault::Stream(StreamError::NoMemory));
+            return Err(ProgramFault::Stream(StreamError::NoMemory));
         };
         match self
             .folder
@@ -37,15 +37,15 @@ impl<'r, 'j, T: Eprint + Clock + Files> ScriptFiles<'r, 'j, T> {
         {
             Ok(Ok(())) => Ok(()),
             Ok(Err(error)) => {
-                self.journal.tell_cannot_write(number, &error);
-                Err(Fault::CannotWrite { tenant: number })
+                self.log.tell_cannot_write(number, &error);
+                Err(ProgramFault::CannotWrite { tenant: number })
             }
-            Err(_) => Err(Fault::Stream(StreamError::NoMemory)),
+            Err(_) => Err(ProgramFault::Stream(StreamError::NoMemory)),
         }
     }
 
     /// Tells that the script of a tenant isn't written.
     pub(crate) fn tell_unsaved(&self, tenant: u32) {
-        self.journal.tell_unsaved(self.folder.number_of(tenant));
+        self.log.tell_unsaved(self.folder.number_of(tenant));
     }
 }

@@ -2,8 +2,8 @@
 ghost use Rattle.std.specs.Prelude.{List, ℕ, Option, option_map, IfOk};
 ghost use Rattle.starhost.specs.Playing.{IsFound};
 
+use crate::event_log::EventLog;
 use crate::folder::Folder;
-use crate::journal::Journal;
 use crate::playing::Unplayed;
 use std::alloc::Global;
 use std::fs;
@@ -35,7 +35,7 @@ pub(crate) trait ScriptSource<F: Read> {
 pub(crate) struct FolderScripts<'r, 'j, T> {
     pub(crate) rt: &'r T,
     pub(crate) folder: Folder<'r>,
-    pub(crate) journal: &'j Journal<'r, T>,
+    pub(crate) log: &'j EventLog<'r, T>,
 }
 
 impl<'r, 'j, T: Eprint + Clock + Files> ScriptSource<T::File> for FolderScripts<'r, 'j, T> {
@@ -53,7 +53,7 @@ impl<'r, 'j, T: Eprint + Clock + Files> ScriptSource<T::File> for FolderScripts<
             Err(error) => match is_missing(&error) {
                 true => Ok(None),
                 false => {
-                    self.journal.tell_cannot_read(number, &error);
+                    self.log.tell_cannot_read(number, &error);
                     Err(Unopened::CannotRead)
                 }
             },
@@ -61,8 +61,7 @@ impl<'r, 'j, T: Eprint + Clock + Files> ScriptSource<T::File> for FolderScripts<
     }
 
     fn note(&self, tenant: u32, why: &Unplayed) {
-        self.journal
-            .tell_unplayed(self.folder.number_of(tenant), why);
+        self.log.tell_unplayed(self.folder.number_of(tenant), why);
     }
 }
 

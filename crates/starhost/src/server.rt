@@ -8,8 +8,8 @@ ghost use Rattle.starhost.specs.Writing.{Writes};
 ghost use Rattle.sb_words.specs.Within.{AreServer};
 
 use crate::closing::finish;
-use crate::fault::Fault;
-use crate::journal::Journal;
+use crate::event_log::EventLog;
+use crate::fault::ProgramFault;
 use crate::listening::listen;
 use crate::terms::{Plan, plan_of};
 use sb_host::{Host, Naming, Opened};
@@ -17,7 +17,7 @@ use sb_server::{
     Acceptor, Admission, Board, Keeper, NoBeside, Open, ServeError, Unkept, Watch, serve_all,
 };
 use sb_wire::{Sink, StreamError};
-use sb_words::Serving;
+use sb_words::ServerOptions;
 use std::alloc::{AllocError, Global};
 use std::marker::Brand;
 use std::net::{Net, TcpListener, TcpStream};
@@ -25,13 +25,13 @@ use std::rt::Clock;
 use std::sync::Wait;
 use std::thread::Threads;
 
-pub(crate) const OUT_OF_MEMORY: Fault = Fault::Stream(StreamError::NoMemory);
+pub(crate) const OUT_OF_MEMORY: ProgramFault = ProgramFault::Stream(StreamError::NoMemory);
 
 /// Serves connections over TCP on this machine, until the last one has ended.
 pub(crate) fn serve<
     T: Threads + Wait + Net<Listener = TcpListener, Stream = TcpStream> + Eprint + Clock + Sync,
     W: Sink,
->(rt: &T, alloc: Global, serving: Serving, writer: &mut W) -> Result<(), Fault>
+>(rt: &T, alloc: Global, serving: ServerOptions, writer: &mut W) -> Result<(), ProgramFault>
     requires { AreServer serving }
     ensures ok { OnOk result (Writes W.contents writer.old writer.new
         (TellsServer serving.hosting.run.bound serving.hosting.run.tenants)) }
@@ -63,7 +63,7 @@ fn serve_host<
     N: Naming + Send + Sync,
     T: Threads + Wait + Net<Listener = TcpListener, Stream = TcpStream> + Eprint + Clock + Sync,
     W: Sink,
->(rt: &T, alloc: Global, opened: Opened, plan: Plan, writer: &mut W) -> Result<(), Fault>
+>(rt: &T, alloc: Global, opened: Opened, plan: Plan, writer: &mut W) -> Result<(), ProgramFault>
     requires named { AreNames N.table N.tenants N.cells N.bound N.name N.parts opened }
     requires cells { opened.cells ≡ plan.cells }
     requires workers { (0 < plan.terms.workers) × (plan.terms.workers ≤ 16) }
@@ -75,15 +75,15 @@ fn serve_host<
     let Ok(host) = Host::<N>::new(alloc, opened) else {
         return Err(OUT_OF_MEMORY);
     };
-    let journal = Journal::new(rt, plan.log);
-    let listener = match listen(rt, alloc, plan.address, &journal, writer) {
+    let log = EventLog::new(rt, plan.log);
+    let listener = match listen(rt, alloc, plan.address, &log, writer) {
         Ok(listener) => listener,
         Err(why) => return Err(why),
     };
     let board = Board::blank(alloc);
     let acceptor = Acceptor {
         listener: &listener,
-        watch: &journal,
+        watch: &log,
         admission: &Open,
         keeper: &Unkept,
         board: &board,
@@ -106,7 +106,7 @@ pub fn serve_by<
     acceptor: &Acceptor<'_, V, A, K>,
     host: Host<N>,
     writer: &mut W,
-) -> Result<(), Fault>
+) -> Result<(), ProgramFault>
     requires { (0 < acceptor.now.terms.workers) × (acceptor.now.terms.workers ≤ 16) }
     ensures ok { OnOk result (Writes W.contents writer.old writer.new (TellsTrails N.bound host)) }
     ensures err { IfErr result (FailsToServe W.refuses W.contents N.bound host acceptor.now.terms.first_tenant
@@ -120,14 +120,14 @@ pub fn serve_by<
 }
 
 /// What connections that aren't served are told as.
-pub(crate) fn unserved(error: ServeError) -> Fault
+pub(crate) fn unserved(error: ServeError) -> ProgramFault
     ensures { result ≡ unserved_as error }
 {
     match error {
         ServeError::NoMemory => OUT_OF_MEMORY,
-        ServeError::NoPlace => Fault::CannotWait,
-        ServeError::NoThread => Fault::CannotStart,
-        ServeError::PollFailed => Fault::WaitingFailed,
-        ServeError::NotKept => Fault::JournalFailed,
+        ServeError::NoPlace => ProgramFault::CannotWait,
+        ServeError::NoThread => ProgramFault::CannotStart,
+        ServeError::PollFailed => ProgramFault::WaitingFailed,
+        ServeError::NotKept => ProgramFault::JournalFailed,
     }
 }

@@ -6,13 +6,14 @@ use crate::activity::{Counted, Overview};
 use crate::dumping::text_of;
 use crate::guarding::is_let_in;
 use crate::memory::resident;
-use crate::saving::{Noted, Notes, noted_in};
+use crate::saving::{NotedScript, ScriptNotes, noted_in};
 use sb_dump::DumpError;
 use sb_host::{Lending, SESSION_LIMIT, SessionId, Tried};
-use sb_server::{Admission, Board, Named};
+use sb_server::{Admission, Board, SessionName};
 use sb_status::{
-    Counting, Ended, HostNumbers, Incoming, Kind, Opening, Patience, Request, Route, Shelf, Status,
-    TenantNumbers, TenantView, read_request, respond, route_of, tenant_page, view_at,
+    ContentType, Counting, Ended, HostNumbers, Incoming, Patience, Request, Route, SessionReading,
+    Shelf, Status, TenantNumbers, TenantView, read_request, respond, route_of, tenant_page,
+    view_at,
 };
 use std::alloc::{AllocError, Global};
 use std::fs::File;
@@ -46,7 +47,7 @@ pub(crate) struct Pages<'k, H, A, T> {
 #[derive(Drop)]
 struct Shown {
     status: Status,
-    kind: Kind,
+    kind: ContentType,
     body: Vec<u8>,
 }
 
@@ -111,12 +112,12 @@ impl<'k, H: Lending, A: Admission, T: Wait + Clock> Pages<'k, H, A, T> {
 
     fn host_page(&self, shelf: &mut Shelf) -> Result<Shown, AllocError> {
         let overview = self.overview(shelf)?;
-        Ok(found(Kind::Page, overview.page(self.alloc)?))
+        Ok(found(ContentType::Page, overview.page(self.alloc)?))
     }
 
     fn metrics(&self, shelf: &mut Shelf) -> Result<Shown, AllocError> {
         let overview = self.overview(shelf)?;
-        Ok(found(Kind::Samples, overview.samples(self.alloc)?))
+        Ok(found(ContentType::Samples, overview.samples(self.alloc)?))
     }
 
     /// The host with its tenants, and what the workers have counted.
@@ -219,7 +220,7 @@ impl<'k, H: Lending, A: Admission, T: Wait + Clock> Pages<'k, H, A, T> {
         };
         for number in 0..SESSION_LIMIT {
             if let Some(session) = view.sessions.get_mut(number) {
-                let named = Named {
+                let named = SessionName {
                     tenant,
                     session: number as u32,
                 };
@@ -244,7 +245,7 @@ impl<'k, H: Lending, A: Admission, T: Wait + Clock> Pages<'k, H, A, T> {
         if !self.may_be_open(place, ended.session) {
             return told(self.alloc, Status::NotFound, b"no such session\n");
         }
-        let named = Named {
+        let named = SessionName {
             tenant: ended.tenant,
             session: ended.session,
         };
@@ -261,7 +262,7 @@ impl<'k, H: Lending, A: Admission, T: Wait + Clock> Pages<'k, H, A, T> {
         if session >= SESSION_LIMIT as u32 {
             return false;
         }
-        let mut opening = Opening::new(SessionId::new(session as u8));
+        let mut opening = SessionReading::new(SessionId::new(session as u8));
         let mut patience = Patience::new(self.rt);
         match patience.read(self.host, place, &mut opening) {
             Tried::Held => true,
@@ -275,17 +276,24 @@ impl<'k, H: Lending, A: Admission, T: Wait + Clock> Pages<'k, H, A, T> {
             return told(self.alloc, Status::NotFound, b"no such tenant\n");
         };
         let mut patience = Patience::new(self.rt);
-        let notes = Notes::new(self.alloc, self.bound);
+        let notes = ScriptNotes::new(self.alloc, self.bound);
         match noted_in(&mut patience, self.host, place, notes) {
-            Noted::Unused => told(self.alloc, Status::Found, b""),
-            Noted::Script(script) => Ok(found(Kind::Text, text_of(self.alloc, &script)?)),
-            Noted::Lacking(DumpError::Busy) => told(
+            NotedScript::Unused => told(self.alloc, Status::Found, b""),
+            NotedScript::Script(script) => Ok(found(
+                ContentType::Text,
+                text_of(self.alloc, &script)?,
+            )),
+            NotedScript::Lacking(DumpError::Busy) => told(
                 self.alloc,
                 Status::Busy,
                 b"the tenant is busy\n",
             ),
-            Noted::Lacking(DumpError::NotAlike) => told(self.alloc, Status::Failed, b"no script\n"),
-            Noted::Lacking(DumpError::NoMemory) => Err(AllocError),
+            NotedScript::Lacking(DumpError::NotAlike) => told(
+                self.alloc,
+                Status::Failed,
+                b"no script\n",
+            ),
+            NotedScript::Lacking(DumpError::NoMemory) => Err(AllocError),
         }
     }
 }
@@ -299,27 +307,27 @@ fn resident_of(memory: &Option<File>) -> Option<u64> {
 }
 
 fn refuse(alloc: Global, status: Status, body: &[u8]) -> Result<Vec<u8>, AllocError> {
-    respond(alloc, status, Kind::Text, body, true)
+    respond(alloc, status, ContentType::Text, body, true)
 }
 
 fn told(alloc: Global, status: Status, text: &[u8]) -> Result<Shown, AllocError>
-    ensures { IfOk result (λ shown. (shown.status ≡ status) × (shown.kind ≡ Kind.Text) × (shown.body.items ≡ text.now)) }
+    ensures { IfOk result (λ shown. (shown.status ≡ status) × (shown.kind ≡ ContentType.Text) × (shown.body.items ≡ text.now)) }
 {
     Ok(Shown {
         status,
-        kind: Kind::Text,
+        kind: ContentType::Text,
         body: text.to_vec(alloc)?,
     })
 }
 
 fn view_shown(alloc: Global, view: &TenantView) -> Result<Shown, AllocError>
-    ensures { IfOk result (λ shown. (shown.status ≡ Status.Found) × (shown.kind ≡ Kind.Page)) }
+    ensures { IfOk result (λ shown. (shown.status ≡ Status.Found) × (shown.kind ≡ ContentType.Page)) }
 {
-    Ok(found(Kind::Page, tenant_page(alloc, view)?))
+    Ok(found(ContentType::Page, tenant_page(alloc, view)?))
 }
 
 /// What is shown of what there is.
-fn found(kind: Kind, body: Vec<u8>) -> Shown
+fn found(kind: ContentType, body: Vec<u8>) -> Shown
     ensures { (result.status ≡ Status.Found) × (result.kind ≡ kind) × (result.body ≡ body) }
 {
     Shown {
@@ -331,32 +339,32 @@ fn found(kind: Kind, body: Vec<u8>) -> Shown
 
 /// Why a request isn't answered by what it asks for.
 #[derive(Clone, Copy)]
-struct Refusal {
+struct HttpRefusal {
     status: Status,
     text: &'static [u8],
 }
 
 /// Pages are got, and a session's end is posted. A browser names the page that posts, and no page of this server does.
-fn refusal_of(route: Route, request: &Request<'_>) -> Option<Refusal>
+fn refusal_of(route: Route, request: &Request<'_>) -> Option<HttpRefusal>
     ensures { IfSome result (λ refusal. IsTurnedAway refusal.status) }
 {
     let posts = request.method == b"POST".as_slice();
     let gets = request.method == b"GET".as_slice() || request.method == b"HEAD".as_slice();
     let ends = matches!(route, Route::End(_));
     if ends && !posts {
-        return Some(Refusal {
+        return Some(HttpRefusal {
             status: Status::NotPosted,
             text: b"only POST\n",
         });
     }
     if !ends && !gets {
-        return Some(Refusal {
+        return Some(HttpRefusal {
             status: Status::NotAllowed,
             text: b"only GET and HEAD\n",
         });
     }
     if ends && request.origin.is_some() {
-        return Some(Refusal {
+        return Some(HttpRefusal {
             status: Status::Foreign,
             text: b"not from a page\n",
         });

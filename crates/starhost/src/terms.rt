@@ -4,7 +4,7 @@ ghost use Rattle.starhost.specs.Terms.{AreMegabytes, AreMillis, AreTermsOf, IsHe
 ghost use Rattle.sb_words.specs.Within.{AreServer};
 
 use sb_server::Terms;
-use sb_words::{Serving, Severity};
+use sb_words::{ServerOptions, Severity};
 use std::net::{IpAddr, Ipv4Addr, SocketAddr};
 use std::time::Duration;
 
@@ -26,7 +26,7 @@ pub(crate) struct Plan {
 }
 
 /// The plan that these words are for.
-pub(crate) fn plan_of(serving: Serving) -> Plan
+pub(crate) fn plan_of(serving: ServerOptions) -> Plan
     requires { AreServer serving }
     ensures { IsPlanOf serving result }
 {
@@ -43,7 +43,7 @@ pub(crate) fn plan_of(serving: Serving) -> Plan
 }
 
 /// Where the status pages are to be, if there are to be some.
-fn status_of(serving: Serving) -> Option<SocketAddr>
+fn status_of(serving: ServerOptions) -> Option<SocketAddr>
     requires { AreServer serving }
     ensures { IsStatusOf serving.status result }
 {
@@ -53,7 +53,7 @@ fn status_of(serving: Serving) -> Option<SocketAddr>
     }
 }
 
-fn terms_of(serving: Serving) -> Terms
+fn terms_of(serving: ServerOptions) -> Terms
     ensures { AreTermsOf serving result }
 {
     Terms {

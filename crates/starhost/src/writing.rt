@@ -4,9 +4,9 @@ ghost use Rattle.starhost.specs.Dumping.{FirstUnwritten, HasScript, HaveScripts,
 ghost use Rattle.sb_words.specs.Within.{AreRun};
 
 use crate::dumping::{answered, undumped};
-use crate::fault::Fault;
+use crate::event_log::EventLog;
+use crate::fault::ProgramFault;
 use crate::folder::found_folder;
-use crate::journal::Journal;
 use crate::script_files::ScriptFiles;
 use sb_cell::Cell;
 use sb_dump::dump;
@@ -23,26 +23,26 @@ pub(crate) fn dump_all<T: Eprint + Clock + Files, R: Source>(
     asked: Run,
     into: Option<&str>,
     reader: &mut R,
-) -> Result<(), Fault>
+) -> Result<(), ProgramFault>
     requires { AreRun asked }
     ensures ok { OnOk result (IfSome (R.remaining reader.old) (HaveScripts asked.tenants asked.bound)) }
     ensures err { IfErr result (λ why. IfSome (R.remaining reader.old)
         (λ input. RefusesDumps asked.tenants asked.bound input why)) }
 {
-    let journal = Journal::new(rt, Severity::Info);
-    let Some(folder) = found_folder(rt, into, &journal) else {
-        return Err(Fault::NoFolder);
+    let log = EventLog::new(rt, Severity::Info);
+    let Some(folder) = found_folder(rt, into, &log) else {
+        return Err(ProgramFault::NoFolder);
     };
     let cell = match answered(alloc, asked, reader) {
         Ok(cell) => cell,
-        Err(error) => return Err(Fault::Stream(error)),
+        Err(error) => return Err(ProgramFault::Stream(error)),
     };
     let files = ScriptFiles {
         rt,
         alloc,
         bound: asked.bound,
         folder,
-        journal: &journal,
+        log: &log,
     };
     match write_each(&files, &cell, asked.tenants) {
         None => Ok(()),
@@ -56,7 +56,7 @@ fn write_each<T: Eprint + Clock + Files>(
     files: &ScriptFiles<'_, '_, T>,
     cell: &Cell,
     tenants: u32,
-) -> Option<Fault>
+) -> Option<ProgramFault>
     requires { files.now.folder.first ≡ 0 }
     ensures all { result ≡ None → (t : ℕ) → t < tenants → HasScript files.now.bound cell.now t }
     ensures why { IfSome result (FirstUnwritten tenants files.now.bound cell.now) }
@@ -75,7 +75,7 @@ fn write_each<T: Eprint + Clock + Files>(
 }
 
 /// The fault that came first.
-fn earlier(first: Option<Fault>, next: Fault) -> Option<Fault>
+fn earlier(first: Option<ProgramFault>, next: ProgramFault) -> Option<ProgramFault>
     ensures { ((first ≢ None) × (result ≡ first)) ⊎ ((first ≡ None) × (result ≡ Some next)) }
 {
     match first {
@@ -89,14 +89,14 @@ fn write_one<T: Eprint + Clock + Files>(
     files: &ScriptFiles<'_, '_, T>,
     cell: &Cell,
     tenant: u32,
-) -> Result<(), Fault>
+) -> Result<(), ProgramFault>
     requires { files.now.folder.first ≡ 0 }
     ensures ok { OnOk result (HasScript files.now.bound cell.now tenant) }
     ensures err { IfErr result (IsUnwritten cell.now tenant) }
 {
     let number = files.folder.number_of(tenant);
     let Some(own) = cell.tenant(tenant) else {
-        return Err(Fault::NoTenant { tenant: number });
+        return Err(ProgramFault::NoTenant { tenant: number });
     };
     if own.trail().is_empty() {
         return Ok(());

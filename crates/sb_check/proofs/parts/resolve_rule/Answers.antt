@@ -3,8 +3,8 @@ use Rattle.std.specs.Prelude.{Result, Err}
 use Rattle.sb_value.specs.declared.refusal.Refusal.{Refusal}
 use Rattle.sb_syntax.specs.Views.{rule}
 use Rattle.sb_check.specs.Answer.{Answers, IsRefused, refused}
-use Rattle.sb_check.specs.declared.fault.Fault.{Fault}
-use Rattle.sb_check.specs.declared.fault.Fault.TheVariants.{Refused, NoMemory}
+use Rattle.sb_check.specs.declared.fault.CheckFault.{CheckFault}
+use Rattle.sb_check.specs.declared.fault.CheckFault.TheVariants.{Refused, NoMemory}
 use Rattle.sb_check.specs.declared.rule.RuleParts.{RuleParts}
 use Rattle.sb_check.specs.RuleParts.{Parts, parts}
 use Rattle.sb_check.specs.RulePartsView.{rule_parts}
@@ -26,7 +26,7 @@ returns-in-Err-clause-value g c =
 pub returns-in-Ok-clause-head : goal.returns-in-Ok-clause-head
 returns-in-Ok-clause-head g c e h = absurd (c.in-Ok.ensures.head e h)
 
-refused_so : (fault : Fault) (e : Refusal) → IsRefused {X = RuleParts} e (Err fault) → refused fault ≡ e
+refused_so : (fault : CheckFault) (e : Refusal) → IsRefused {X = RuleParts} e (Err fault) → refused fault ≡ e
 refused_so (Refused r) e h = h
 refused_so NoMemory e h = absurd h
 

@@ -9,8 +9,8 @@ use Rattle.sb_check.specs.Lent.{LendsTable, SeenTable}
 use Rattle.sb_check.specs.Names.{and_then}
 use Rattle.sb_check.specs.Triggers.{walk_triggers}
 use Rattle.sb_check.specs.Walk.{table_named}
-use Rattle.sb_check.specs.declared.fault.Fault.{Fault}
-use Rattle.sb_check.specs.declared.fault.Fault.TheVariants.{Refused, NoMemory}
+use Rattle.sb_check.specs.declared.fault.CheckFault.{CheckFault}
+use Rattle.sb_check.specs.declared.fault.CheckFault.TheVariants.{Refused, NoMemory}
 use Rattle.sb_check.specs.declared.rule.RuleParts.{RuleParts}
 use Rattle.sb_check.proofs.Results.{same_refusal}
 use Rattle.sb_check.proofs.rule.rule.Goals as goal
@@ -23,7 +23,7 @@ returns-in-Ok-clause-head g c e h =
     c.parts_on.ensures.triggers e
     (ap (λ (s : SeenTable). walk_triggers s.2 r.triggers) found.2 ∙ sym (ap (λ (t : Result Entry Refusal). and_then t (λ x. walk_triggers x.table.columns r.triggers)) found.1) ∙ h)
 
-refused_first : (walk : Result Entry Refusal) (next : Entry → Result Triggers Refusal) (fault : Fault) (e : Refusal) → LendsTable walk (Err fault) → and_then walk next ≡ Err e → IsRefused {X = RuleParts} e (Err fault)
+refused_first : (walk : Result Entry Refusal) (next : Entry → Result Triggers Refusal) (fault : CheckFault) (e : Refusal) → LendsTable walk (Err fault) → and_then walk next ≡ Err e → IsRefused {X = RuleParts} e (Err fault)
 refused_first walk next (Refused r) e h k = same_refusal {A = Triggers} (and_then walk next) (refusal_of r) e (ap (λ w. and_then w next) h) k
 refused_first walk next NoMemory e h k = h
 

@@ -4,4 +4,4 @@ use Rattle.sb_check.proofs.visit.visit_assignments.Given as goal
 
 -- the assignments that are left are shown next
 abbrev pub invariant-loop-assignment : goal.invariant-loop-assignment
-invariant-loop-assignment g l = fold g.V.Visitor.after l.fn.visitor (assignment_sources l.assignments) ≡ fold g.V.Visitor.after l.visitor (assignment_sources (drop l.assignment-index l.assignments))
+invariant-loop-assignment g l = fold g.V.SourceVisitor.after l.fn.visitor (assignment_sources l.assignments) ≡ fold g.V.SourceVisitor.after l.visitor (assignment_sources (drop l.assignment-index l.assignments))

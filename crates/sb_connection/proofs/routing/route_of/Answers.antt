@@ -3,7 +3,7 @@ use Rattle.std.specs.Prelude.{Option}
 use Rattle.sb_wire.specs.Seen.{piece_seen}
 use Rattle.sb_connection.specs.Conversation.{hosting_by, named_by}
 use Rattle.sb_connection.specs.Routing.{RoutesBy}
-use Rattle.sb_connection.specs.declared.greeting.Named.{Named}
+use Rattle.sb_connection.specs.declared.greeting.SessionName.{SessionName}
 use Rattle.sb_connection.proofs.Routes.{begins_last, begins_line, routes_by}
 use Rattle.sb_connection.proofs.routing.route_of.Goals as goal
 
@@ -14,7 +14,7 @@ returns-in-Some c =
     let fed = c.in-Some.ensures in
     let begins = begins_line c.args.bytes.now fed.0 c.in-Some.field-0.now c.args.has_ended c.new-lines.result c.feed.new.self c.new-lines.ensures fed.1 fed.3 in
     routes_by h c.args.bytes.now c.args.has_ended c.feed.new.self c.route_by.result begins
-    (subst (λ (n : Option Named). RoutesBy h n c.route_by.result) (c.named_in.ensures ∙ ap (named_by c.args.keyed) c.line.ensures) c.route_by.ensures)
+    (subst (λ (n : Option SessionName). RoutesBy h n c.route_by.result) (c.named_in.ensures ∙ ap (named_by c.args.keyed) c.line.ensures) c.route_by.ensures)
 
 -- no more come
 pub returns-in-None : goal.returns-in-None
@@ -22,7 +22,7 @@ returns-in-None c =
     let h = hosting_by c.args.keyed c.args.first c.args.tenants in
     let begins = begins_last c.args.bytes.now c.args.has_ended c.new-lines.result c.feed.new.self c.new-lines.ensures c.if-has_ended.true c.in-None.ensures in
     routes_by h c.args.bytes.now c.args.has_ended c.feed.new.self c.route_by-in-None.result begins
-    (subst (λ (n : Option Named). RoutesBy h n c.route_by-in-None.result) (c.named_in-in-None.ensures ∙ ap (named_by c.args.keyed) c.line-in-None.ensures) c.route_by-in-None.ensures)
+    (subst (λ (n : Option SessionName). RoutesBy h n c.route_by-in-None.result) (c.named_in-in-None.ensures ∙ ap (named_by c.args.keyed) c.line-in-None.ensures) c.route_by-in-None.ensures)
 
 -- the open line is too long
 pub returns-in-TooLong : goal.returns-in-TooLong

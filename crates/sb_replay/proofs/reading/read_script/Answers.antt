@@ -1,4 +1,4 @@
-use Rattle.sb_replay.specs.declared.script.Progress.TheVariants.{Going}
+use Rattle.sb_replay.specs.declared.script.ScriptState.TheVariants.{Going}
 use Rattle.sb_replay.proofs.Lines.{fresh, whole}
 use Rattle.sb_replay.proofs.reading.read_script.Goals as goal
 

@@ -2,7 +2,7 @@ use Rattle.std.proofs.Common.{◌≡◌, [], ◌++◌, List, length, refl, sym, 
 use Rattle.std.specs.Vec.Iter.{into_iter_items}
 use Rattle.std.proofs.lemmas.List.{nil_from_length}
 use Rattle.sb_pool.specs.declared.pool.Done.{Done}
-use Rattle.sb_replay.specs.declared.part.Part.{Part}
+use Rattle.sb_replay.specs.declared.part.SessionPart.{SessionPart}
 use Rattle.sb_replay.specs.declared.round.Waiting.{Waiting}
 use Rattle.sb_replay.specs.Lists.{AllCut}
 use Rattle.sb_replay.specs.Parts.{Gathers, calls}
@@ -16,7 +16,7 @@ loop-part-init g c =
     let none = c.new-parts.ensures.items in (
       [],
       c.into_iter-answered.ensures.rest,
-      λ ys zs h. subst (λ (l : List (Part g.row.N.Denot)). AllCut Gathers c.args.waiting.items (l ++ ys) zs) (sym none)
+      λ ys zs h. subst (λ (l : List (SessionPart g.row.N.Denot)). AllCut Gathers c.args.waiting.items (l ++ ys) zs) (sym none)
           (subst (λ (l : List (Waiting g.row.N.Denot)). AllCut Gathers l ys zs) parts h),
       ap calls parts ∙ c.requires ∙ ap length (sym c.into_iter-answered.ensures.rest),
     )

@@ -1,5 +1,5 @@
 use Rattle.std.proofs.lemmas.List.{map-id}
-use Rattle.sb_syntax.specs.declared.kind.Kind.TheVariants.{Comma}
+use Rattle.sb_syntax.specs.declared.kind.TokenKind.TheVariants.{Comma}
 use Rattle.sb_syntax.specs.Reading.{definition, columns}
 use Rattle.sb_syntax.proofs.Lists.{limited_gives}
 use Rattle.sb_syntax.proofs.command.columns.Goals as goal

@@ -1,5 +1,5 @@
 use Rattle.std.proofs.lemmas.List.{map-id}
-use Rattle.sb_syntax.specs.declared.kind.Kind.TheVariants.{Comma}
+use Rattle.sb_syntax.specs.declared.kind.TokenKind.TheVariants.{Comma}
 use Rattle.sb_syntax.specs.Reading.{name, names}
 use Rattle.sb_syntax.proofs.Lists.{list_gives}
 use Rattle.sb_syntax.proofs.literal.names.Goals as goal

@@ -3,7 +3,7 @@ use Rattle.std.specs.List.{list_all}
 use Rattle.std.proofs.lemmas.Bool.{le-leb}
 use Rattle.sb_value.specs.Printable.{is_printable}
 use Rattle.sb_value.specs.declared.value.Value.TheVariants.{Text}
-use Rattle.sb_syntax.specs.declared.kind.Kind.TheVariants as k
+use Rattle.sb_syntax.specs.declared.kind.TokenKind.TheVariants as k
 use Rattle.sb_syntax.specs.Input.{Input}
 use Rattle.sb_syntax.specs.Literal.{unquoted}
 use Rattle.sb_syntax.specs.Reading.{text, bytes_of}

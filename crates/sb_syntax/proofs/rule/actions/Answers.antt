@@ -1,5 +1,5 @@
 use Rattle.std.proofs.Common.{map, refl}
-use Rattle.sb_syntax.specs.declared.kind.Kind.TheVariants.{Semicolon}
+use Rattle.sb_syntax.specs.declared.kind.TokenKind.TheVariants.{Semicolon}
 use Rattle.sb_syntax.specs.Reading.{action, actions}
 use Rattle.sb_syntax.specs.Views as view
 use Rattle.sb_syntax.proofs.Lists.{limited_gives}

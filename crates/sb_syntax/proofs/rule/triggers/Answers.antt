@@ -1,5 +1,5 @@
 use Rattle.std.proofs.Common.{map, refl}
-use Rattle.sb_syntax.specs.declared.kind.Kind.TheVariants.{Comma}
+use Rattle.sb_syntax.specs.declared.kind.TokenKind.TheVariants.{Comma}
 use Rattle.sb_syntax.specs.Reading.{trigger}
 use Rattle.sb_syntax.specs.Views as view
 use Rattle.sb_syntax.proofs.Lists.{list_gives}

@@ -1,5 +1,5 @@
 use Rattle.std.proofs.Common.{◌≡◌, length}
-use Rattle.sb_syntax.specs.declared.kind.Kind.TheVariants.{Comma}
+use Rattle.sb_syntax.specs.declared.kind.TokenKind.TheVariants.{Comma}
 use Rattle.sb_syntax.specs.Reading.{pushes, separated, literal_value}
 use Rattle.sb_syntax.specs.Turns.{GoesOn}
 use Rattle.sb_syntax.proofs.statement.literals.Given as goal

@@ -1,6 +1,6 @@
 use Rattle.std.proofs.Common.{refl, ap, ◌∙◌, ◌++◌, ◌∷◌, []}
 use Rattle.std.proofs.lemmas.Result.{err_from_is_err_and}
-use Rattle.sb_syntax.specs.declared.kind.Kind.TheVariants.{Comma}
+use Rattle.sb_syntax.specs.declared.kind.TokenKind.TheVariants.{Comma}
 use Rattle.sb_syntax.specs.Reading.{pushes, tuple}
 use Rattle.sb_syntax.proofs.Turns.{goes_on-next, goes_on-err, goes_on-end, seen_falls, pushes_yes, pushes_no}
 use Rattle.sb_syntax.proofs.statement.tuples.Goals as goal

@@ -1,7 +1,7 @@
 use Rattle.std.proofs.Common.{drop}
 use Rattle.clap.specs.Words.{rows_of, found_of}
 use Rattle.sb_words.specs.Asking.{AllFit, IsFirstOf}
-use Rattle.sb_words.specs.declared.part.Unfit.{Unfit}
+use Rattle.sb_words.specs.declared.argument.Unfit.{Unfit}
 use Rattle.sb_words.proofs.fit.first_among.Given as goal
 
 -- the parts so far fit

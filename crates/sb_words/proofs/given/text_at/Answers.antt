@@ -2,7 +2,7 @@ use Rattle.std.proofs.Common.{◌∙◌, ap}
 use Rattle.clap.specs.Matches.{first_value}
 use Rattle.clap.specs.Words.{found_of}
 use Rattle.sb_words.specs.Asking.{text_by}
-use Rattle.sb_words.specs.Parts.{name_of}
+use Rattle.sb_words.specs.Arguments.{name_of}
 use Rattle.sb_words.proofs.Found.{first_in_rows}
 use Rattle.sb_words.proofs.given.text_at.Goals as goal
 

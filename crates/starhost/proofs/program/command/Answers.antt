@@ -2,8 +2,8 @@ use Rattle.std.proofs.Common.{◌≡◌, ◌⊎◌, ℕ, List, map, inl, inr, re
 use Rattle.clap.specs.Words.{Text}
 use Rattle.clap.specs.declared.error.kind.ErrorKind.TheVariants.{DisplayHelp, DisplayVersion}
 use Rattle.sb_words.specs.Words.{AskFor, IsAsked}
-use Rattle.sb_words.specs.declared.request.Request.{Request}
-use Rattle.sb_words.specs.declared.request.Request.TheVariants.{Run, Load, Serve, Keep, Replay, Parse, Dump, DumpAll, Key, Record}
+use Rattle.sb_words.specs.declared.invocation.Invocation.{Invocation}
+use Rattle.sb_words.specs.declared.invocation.Invocation.TheVariants.{Run, Load, Serve, Keep, Replay, Parse, Dump, DumpAll, Key, Record}
 use Rattle.starhost.specs.Going.{Succeeds}
 use Rattle.starhost.proofs.Runs.{as_asked, asked_for, few_texts}
 use Rattle.starhost.proofs.program.command.Goals as goal
@@ -14,8 +14,8 @@ pub returns-in-Ok-For : goal.returns-in-Ok-For
 returns-in-Ok-For g c =
     let b = c.in-Ok-For in
     let words : List Text = map g.S.AsStr.text c.args.words.now in
-    let Has : Request → Type 0 = Succeeds g.R.Read.remaining g.W.Write.contents c.args.reader.now c.answer.new.reader c.args.writer.now c.answer.new.writer in
-    let has : (q : Request) → AskFor words q → c.answer.result ≡ 0 → Has q = λ q asks ok.
+    let Has : Invocation → Type 0 = Succeeds g.R.Read.remaining g.W.Write.contents c.args.reader.now c.answer.new.reader c.args.writer.now c.answer.new.writer in
+    let has : (q : Invocation) → AskFor words q → c.answer.result ≡ 0 → Has q = λ q asks ok.
     as_asked c.words_ask_once.ensures.once words Has b.field-0 b.asked q b.paths b.ensures.asked b.field-0-is asks (c.answer.ensures.succeeds ok) in
     record {
       runs = λ r. has (Run r);

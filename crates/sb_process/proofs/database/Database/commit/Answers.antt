@@ -1,6 +1,8 @@
 use Rattle.std.proofs.Common.{◌∙◌, ◌&&◌, nat_lt, Bool, List, ap, subst, sym, refl}
+use Rattle.sb_value.specs.declared.id.Who.{Who}
 use Rattle.sb_value.specs.declared.lock.Mode.TheVariants.{Write}
 use Rattle.sb_value.specs.Table.{after_all}
+use Rattle.sb_rawlog.specs.Sessions.{changes_by}
 use Rattle.sb_locks.specs.Held.{held}
 use Rattle.sb_tables.specs.Held.{Held, entries}
 use Rattle.sb_process.specs.Made.{AreNumbered, AreStored, EachBelow}
@@ -20,7 +22,7 @@ returns-clause-kept g c = λ origin setting progress r.
     let written = is_written (held c.args.self.now.locks) session in
     record {
       id = refl;
-      none = c.forget.ensures.own;
+      none = ap (λ (w : Who). changes_by w (g.L.ChangeLog.records c.forget.new.self)) (sym c.who-who.ensures) ∙ c.forget.ensures.own;
       tables = ap entries done ∙ entries-settled written old ∙ entries-made origin progress.changes old r.made ∙ ap (after_all progress.changes) r.base;
       made = record {
         numbered = subst AreNumbered (sym done) (numbered-settled written old sound.0);

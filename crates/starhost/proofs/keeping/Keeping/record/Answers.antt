@@ -3,10 +3,10 @@ use Rattle.std.proofs.Crossing.{crosses}
 use Rattle.sb_durable.proofs.Sending.{opened_send}
 use Rattle.starhost.proofs.Sending.{recorder_sync}
 use Rattle.starhost.proofs.flushing.Flusher.TheSendSync as flusher
-use Rattle.starhost.proofs.journal.Journal.TheSendSync as journal
-use Rattle.starhost.proofs.recording.Recording.TheSendSync as recording
+use Rattle.starhost.proofs.event_log.EventLog.TheSendSync as log
+use Rattle.starhost.proofs.recording.JournalKeeper.TheSendSync as recording
 use Rattle.starhost.proofs.keeping.Keeping.record.Goals as goal
 
 -- the threads share the recorder, the log and what syncs
 pub serve_with-requires-sync-K : goal.serve_with-requires-sync-K
-serve_with-requires-sync-K g c = λ κs bounds. search (param_sync, arg_sync, sendable, crosses, recording.the_sync, recorder_sync, opened_send, journal.the_sync, flusher.the_sync) depth 60
+serve_with-requires-sync-K g c = λ κs bounds. search (param_sync, arg_sync, sendable, crosses, recording.the_sync, recorder_sync, opened_send, log.the_sync, flusher.the_sync) depth 60

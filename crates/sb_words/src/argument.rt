@@ -1,0 +1,169 @@
+//! The parts of a command line: its command, and options.
+ghost use Rattle.std.specs.Prelude.{◌≡◌, ◌≤◌, IfSome};
+ghost use Rattle.sb_words.specs.Arguments as spec;
+
+/// The commands.
+#[derive(Clone, Copy, Debug)]
+pub enum Verb {
+    Run,
+    Serve,
+    Replay,
+    Parse,
+    Dump,
+    Compact,
+    Key,
+}
+
+/// A part of a command line: the command, a file behind it, or an option.
+#[derive(Clone, Copy, Debug)]
+pub enum Argument {
+    Command,
+    Old,
+    New,
+    Tenant,
+    Load,
+    DumpTo,
+    Into,
+    Journal,
+    Sync,
+    Keys,
+    Status,
+    Tenants,
+    Bound,
+    Cells,
+    Workers,
+    Port,
+    Connections,
+    Idle,
+    IdleTransaction,
+    FirstTenant,
+    TenantMemory,
+    Log,
+    Slow,
+    UntilInputEnds,
+}
+
+/// The parts, in the order in which they are looked at.
+pub(crate) const PARTS: [Argument; 24] = [
+    Argument::Command,
+    Argument::Old,
+    Argument::New,
+    Argument::Tenant,
+    Argument::Load,
+    Argument::DumpTo,
+    Argument::Into,
+    Argument::Journal,
+    Argument::Sync,
+    Argument::Keys,
+    Argument::Status,
+    Argument::Tenants,
+    Argument::Bound,
+    Argument::Cells,
+    Argument::Workers,
+    Argument::Port,
+    Argument::Connections,
+    Argument::Idle,
+    Argument::IdleTransaction,
+    Argument::FirstTenant,
+    Argument::TenantMemory,
+    Argument::Log,
+    Argument::Slow,
+    Argument::UntilInputEnds,
+];
+
+/// The numbers that an option may have, and the one that it has where it isn't given.
+#[derive(Clone, Copy, Debug)]
+pub struct NumberRange {
+    pub least: u32,
+    pub most: u32,
+    pub usual: u32,
+}
+
+impl Argument {
+    /// Its name, as clap knows it.
+    pub(crate) fn name<'a>(self) -> &'a str
+        ensures { result.now ≡ spec.name_of self }
+    {
+        match self {
+            Argument::Command => "command",
+            Argument::Old => "old",
+            Argument::New => "new",
+            Argument::Tenant => "tenant",
+            Argument::Load => "load",
+            Argument::DumpTo => "dump-to",
+            Argument::Into => "into",
+            Argument::Journal => "journal",
+            Argument::Sync => "sync",
+            Argument::Keys => "keys",
+            Argument::Status => "status",
+            Argument::Tenants => "tenants",
+            Argument::Bound => "bound",
+            Argument::Cells => "cells",
+            Argument::Workers => "workers",
+            Argument::Port => "port",
+            Argument::Connections => "connections",
+            Argument::Idle => "idle",
+            Argument::IdleTransaction => "idle-transaction",
+            Argument::FirstTenant => "first-tenant",
+            Argument::TenantMemory => "tenant-memory",
+            Argument::Log => "log",
+            Argument::Slow => "slow",
+            Argument::UntilInputEnds => "until-input-ends",
+        }
+    }
+
+    /// Whether a command has it.
+    pub(crate) fn is_of(self, verb: Verb) -> bool
+        ensures { result ≡ spec.has self verb }
+    {
+        match self {
+            Argument::Command => true,
+            Argument::Old | Argument::New => matches!(verb, Verb::Compact),
+            Argument::Tenants | Argument::Bound => !matches!(verb, Verb::Parse | Verb::Key),
+            Argument::Tenant | Argument::Into => matches!(verb, Verb::Dump),
+            Argument::Load | Argument::Journal | Argument::Sync => matches!(
+                verb,
+                Verb::Run | Verb::Serve
+            ),
+            Argument::Cells | Argument::Workers => matches!(verb, Verb::Serve | Verb::Replay),
+            _ => matches!(verb, Verb::Serve),
+        }
+    }
+
+    /// The range of its number, if it has one.
+    pub(crate) fn range(self) -> Option<NumberRange>
+        ensures is { result ≡ spec.range_of self }
+        ensures usual { IfSome result (λ r. (r.least ≤ r.usual) × (r.usual ≤ r.most)) }
+    {
+        match self {
+            Argument::Tenant => numbers(0, 255, 0),
+            Argument::Tenants => numbers(1, 256, 16),
+            Argument::Bound => numbers(1, 1000, 1000),
+            Argument::Cells => numbers(1, 16, 4),
+            Argument::Workers => numbers(1, 16, 4),
+            Argument::Port => numbers(0, 65_535, 0),
+            Argument::Status => numbers(0, 65_535, 0),
+            Argument::Connections => numbers(0, 1_000_000, 0),
+            Argument::Idle => numbers(0, 86_400, 0),
+            Argument::IdleTransaction => numbers(0, 86_400, 0),
+            Argument::FirstTenant => numbers(0, 999_999_000, 0),
+            Argument::TenantMemory => numbers(0, 1_048_576, 0),
+            Argument::Slow => numbers(0, 86_400_000, 1_000),
+            _ => None,
+        }
+    }
+}
+
+fn numbers(least: u32, most: u32, usual: u32) -> Option<NumberRange>
+    requires { (least ≤ usual) × (usual ≤ most) }
+    ensures { result ≡ spec.range least most usual }
+{
+    Some(NumberRange { least, most, usual })
+}
+
+/// A part that isn't allowed, and the text that stands for it.
+#[derive(Clone, Copy, Debug)]
+pub struct Unfit<'a> {
+    pub part: Argument,
+    pub text: &'a str,
+}

@@ -1,0 +1,257 @@
+//! What an operator reads on standard error.
+
+use crate::key_source::Unread;
+use crate::playing::Unplayed;
+use jiff::Timestamp;
+use libc::net as system;
+use libc::types::pollfd;
+use log::sink::Console;
+use log::{Level, LevelFilter, Logged, log};
+use sb_server::{Answered, ConnectionEvent, Slow, Watch};
+use sb_wire::WireRefusal;
+use sb_words::Severity;
+use std::fmt::Display;
+use std::io;
+use std::rt::Clock;
+use std::sync::Wait;
+use std::sync::atomic::{AtomicU64, Ordering};
+use std::time::Instant;
+
+const STANDARD_ERROR: i32 = 2;
+
+/// How many bytes of a slow line are told.
+const MOST_TOLD: usize = 200;
+
+/// Writes a line on standard error for each event that is severe enough, with its time. A line for which there is no
+/// room is dropped and counted, so that nobody waits for who reads them.
+#[derive(Drop)]
+pub(crate) struct EventLog<'r, T> {
+    rt: &'r T,
+    least: Severity,
+    dropped: AtomicU64,
+    /// In which second a slow line was told last, counted from the first.
+    slow: AtomicU64,
+    /// How many slow lines weren't told since.
+    untold: AtomicU64,
+    began: Option<Instant>,
+}
+
+impl<'r, T: Eprint + Clock> EventLog<'r, T> {
+    pub(crate) fn new(rt: &'r T, least: Severity) -> EventLog<'r, T> {
+        EventLog {
+            rt,
+            least,
+            dropped: AtomicU64::new(0),
+            slow: AtomicU64::new(0),
+            untold: AtomicU64::new(0),
+            began: Instant::now(rt).ok(),
+        }
+    }
+
+    /// Whether no slow line was told in this second.
+    fn may_tell_slow(&self) -> bool {
+        let second = match (self.began, Instant::now(self.rt)) {
+            (Some(began), Ok(now)) => now.duration_since(began).as_secs().saturating_add(1),
+            _ => u64::MAX,
+        };
+        self.slow.swap(second, Ordering::SeqCst) != second
+    }
+
+    /// Tells that the keys of the file at this path are read again.
+    pub(crate) fn tell_keys(&self, path: &str) {
+        self.write(Severity::Info, &format_args!("keys {path}: read again"));
+    }
+
+    /// Tells why nothing listens at this port.
+    pub(crate) fn tell_cannot_listen(&self, port: u16, why: &io::Error) {
+        self.write(
+            Severity::Error,
+            &format_args!("can't listen at port {port}: {why}"),
+        );
+    }
+
+    /// Tells at which port the status pages are.
+    pub(crate) fn tell_status(&self, port: u16) {
+        self.write(Severity::Info, &format_args!("status pages at port {port}"));
+    }
+
+    /// Tells why a replay refuses this line of its input.
+    pub(crate) fn tell_bad_line(&self, line: u64, why: WireRefusal) {
+        self.write(Severity::Error, &format_args!("bad line {line}: {why:?}"));
+    }
+
+    /// Tells why a folder isn't used.
+    pub(crate) fn tell_no_folder<D: Display>(&self, folder: &str, why: &D) {
+        self.write(Severity::Error, &format_args!("no folder {folder}: {why}"));
+    }
+
+    /// Tells why the file of the tenant with this number isn't read.
+    pub(crate) fn tell_cannot_read(&self, number: u64, why: &io::Error) {
+        self.write(
+            Severity::Error,
+            &format_args!("can't read {number}.lines: {why}"),
+        );
+    }
+
+    /// Tells why it isn't written.
+    pub(crate) fn tell_cannot_write(&self, number: u64, why: &io::Error) {
+        self.write(
+            Severity::Error,
+            &format_args!("can't write {number}.lines: {why}"),
+        );
+    }
+
+    /// Tells that a tenant isn't in its file.
+    pub(crate) fn tell_unsaved(&self, number: u64) {
+        self.write(
+            Severity::Error,
+            &format_args!("tenant {number} isn't written"),
+        );
+    }
+
+    /// Tells why the keys of the file at this path aren't read.
+    pub(crate) fn tell_no_keys(&self, path: &str, why: &Unread) {
+        self.write(Severity::Error, &format_args!("keys {path}: {why}"));
+    }
+
+    /// Tells why the journal at this path isn't opened, played or written.
+    pub(crate) fn tell_no_journal<D: Display>(&self, path: &str, why: &D) {
+        self.write(Severity::Error, &format_args!("journal {path}: {why}"));
+    }
+
+    /// Tells how far a journal is played.
+    pub(crate) fn tell_played(&self, records: u64, bytes: u64) {
+        self.write(
+            Severity::Info,
+            &format_args!("journal: {records} lines, {bytes} bytes are played"),
+        );
+    }
+
+    /// Tells why nothing is recorded any more, or what was recorded isn't on the disk.
+    pub(crate) fn tell_not_recorded<D: Display>(&self, why: &D) {
+        self.write(Severity::Error, &format_args!("journal: {why}"));
+    }
+
+    /// Tells why a file isn't played.
+    pub(crate) fn tell_unplayed(&self, number: u64, why: &Unplayed) {
+        match why {
+            Unplayed::NoSession => self.write(
+                Severity::Error,
+                &format_args!("{number}.lines: there is no session"),
+            ),
+            Unplayed::Stream(error) => {
+                self.write(Severity::Error, &format_args!("{number}.lines: {error}"));
+            }
+            Unplayed::InTransaction => self.write(
+                Severity::Error,
+                &format_args!("{number}.lines: it stops inside a transaction"),
+            ),
+            Unplayed::Ended => self.write(
+                Severity::Error,
+                &format_args!("{number}.lines: it ends its session"),
+            ),
+            Unplayed::Line { line, told } => {
+                let reply = first_line(told.as_slice());
+                self.write(
+                    Severity::Error,
+                    &format_args!("{number}.lines: line {line} is answered {reply}"),
+                );
+            }
+        }
+    }
+
+    /// Writes a line, if it is told and there is room, and before it how many were dropped.
+    fn write<D: Display>(&self, severity: Severity, text: &D) {
+        if !severity.is_told_at(self.least) {
+            return;
+        }
+        if !has_room() {
+            self.dropped.fetch_add(1, Ordering::SeqCst);
+            return;
+        }
+        let dropped = self.dropped.swap(0, Ordering::SeqCst);
+        if dropped > 0 {
+            self.write_now(Level::Warn, &format_args!("{dropped} lines were dropped"));
+        }
+        self.write_now(level_of(severity), text);
+    }
+
+    fn write_now<D: Display>(&self, level: Level, text: &D) {
+        let log = Logged::new(self.rt, LevelFilter::Info, Console(self.rt));
+        match Timestamp::now(self.rt) {
+            Ok(now) => log!(log; target: "starhost", level, "{now:.3} {text}"),
+            Err(_) => log!(log; target: "starhost", level, "{text}"),
+        }
+    }
+}
+
+impl<'r, T: Eprint + Clock> Watch for EventLog<'r, T> {
+    fn see(&self, event: ConnectionEvent) {
+        self.write(severity_of(&event), &event);
+    }
+
+    fn see_client(&self, port: u16, event: ConnectionEvent) {
+        self.write(severity_of(&event), &format_args!("port {port}: {event}"));
+    }
+
+    fn hear<R: Wait>(&self, _rt: &R, _answered: Answered<'_>) {}
+
+    /// One of a second is told, with how many others there were since the one before.
+    fn see_slow(&self, port: u16, slow: Slow<'_>) {
+        if !self.may_tell_slow() {
+            self.untold.fetch_add(1, Ordering::SeqCst);
+            return;
+        }
+        let untold = self.untold.swap(0, Ordering::SeqCst);
+        if untold > 0 {
+            self.write(
+                Severity::Warning,
+                &format_args!("{untold} slow lines more weren't told"),
+            );
+        }
+        let Slow {
+            named,
+            line,
+            millis,
+        } = slow;
+        let text = line[..line.len().min(MOST_TOLD)].escape_ascii();
+        self.write(
+            Severity::Warning,
+            &format_args!("port {port}: slow: {named}: {millis} ms: {text}"),
+        );
+    }
+}
+
+fn severity_of(event: &ConnectionEvent) -> Severity {
+    if event.is_warning() {
+        Severity::Warning
+    } else {
+        Severity::Info
+    }
+}
+
+fn level_of(severity: Severity) -> Level {
+    match severity {
+        Severity::Error => Level::Error,
+        Severity::Warning => Level::Warn,
+        Severity::Info => Level::Info,
+    }
+}
+
+/// The first line of a reply.
+fn first_line(reply: &[u8]) -> &str {
+    match str::from_utf8(reply) {
+        Ok(text) => text.lines().next().unwrap_or("nothing"),
+        Err(_) => "nothing",
+    }
+}
+
+/// Whether standard error takes a line at once. A pipe that has room has it for a line of each worker.
+fn has_room() -> bool {
+    let mut waits = [pollfd {
+        fd: STANDARD_ERROR,
+        events: system::POLLOUT,
+        revents: 0,
+    }];
+    system::poll(&mut waits, 0) > 0
+}
