@@ -21,19 +21,18 @@ saturate-more : (b : Bool) (n : ℕ) → one_more b (u64_saturate n) ≡ u64_sat
 saturate-more true n = omega arith
 saturate-more false n = omega arith
 
-count-more : (test : Option ℕ → Bool) (before : List Response) (r : Response) (old new : ℕ) → old ≡ count_of test before → new ≡ one_more (test (refusal_of r)) old → new ≡ count_of test (before ++ r ∷ [])
+count-more : (test : Response → Bool) (before : List Response) (r : Response) (old new : ℕ) → old ≡ count_of test before → new ≡ one_more (test r) old → new ≡ count_of test (before ++ r ∷ [])
 count-more test before r old new is step =
-    let passes : Response → Bool = λ x. test (refusal_of x) in
-    step ∙ ap (one_more (passes r)) is ∙ saturate-more (passes r) (length (filter passes before)) ∙ ap u64_saturate (sym (filter-one passes before r))
+    step ∙ ap (one_more (test r)) is ∙ saturate-more (test r) (length (filter test before)) ∙ ap u64_saturate (sym (filter-one test before r))
 
--- one response by its refusal
-pub adds-one : (old new : Summary) (r : Response) (refusal : Option ℕ) → refusal_of r ≡ refusal → new.lines ≡ one_more true old.lines → new.steps ≡ one_more (is_step refusal) old.steps
+-- one response, by its refusal and whether it is a step
+pub adds-one : (old new : Summary) (r : Response) (refusal : Option ℕ) (stepped : Bool) → refusal_of r ≡ refusal → is_step r ≡ stepped → new.lines ≡ one_more true old.lines → new.steps ≡ one_more stepped old.steps
     → ((n : ℕ) → n < 256 → slice_index new.refused n ≡ one_more (is_number n refusal) (slice_index old.refused n)) → Adds old (r ∷ []) new
-adds-one old new r refusal same lines steps refused = record {
+adds-one old new r refusal stepped same one lines steps refused = record {
   behind = λ before is. record {
     lines = count-more (λ x. true) before r old.lines new.lines is.lines lines;
-    steps = count-more is_step before r old.steps new.steps is.steps (subst (λ x. new.steps ≡ one_more (is_step x) old.steps) (sym same) steps);
-    refused = λ n below. count-more (is_number n) before r (slice_index old.refused n) (slice_index new.refused n) (is.refused n below)
+    steps = count-more is_step before r old.steps new.steps is.steps (subst (λ b. new.steps ≡ one_more b old.steps) (sym one) steps);
+    refused = λ n below. count-more (λ x. is_number n (refusal_of x)) before r (slice_index old.refused n) (slice_index new.refused n) (is.refused n below)
         (subst (λ x. slice_index new.refused n ≡ one_more (is_number n x) (slice_index old.refused n)) (sym same) (refused n below));
   };
 }

@@ -1,6 +1,5 @@
 -- Promise: what a stream has answered, in numbers, and the line that tells it.
-use Rattle.std.specs.Prelude.{◌≡◌, ◌==◌, ◌<◌, ◌+◌, ℕ, Bool, true, false, not, if◌then◌else◌, List, [], ◌∷◌, ◌++◌, Option, Some, None, Result, Ok, Err, length, filter, flat_map, map, codes, decimal, slice_index}
-use Rattle.std.specs.List.{list_any}
+use Rattle.std.specs.Prelude.{◌≡◌, ◌==◌, ◌<◌, ◌+◌, ℕ, Bool, true, false, if◌then◌else◌, List, [], ◌∷◌, ◌++◌, Option, Some, None, is_some, Result, Ok, Err, length, filter, flat_map, map, codes, decimal, slice_index}
 use Rattle.std.specs.Io.Iter.{u64_saturate}
 use Rattle.sb_value.specs.declared.refusal.Refusal.{Refusal}
 use Rattle.sb_value.specs.declared.refusal.Refusal.TheVariants as refusal
@@ -41,22 +40,22 @@ abbrev pub refusal_of : Response → Option ℕ
 refusal_of (step_reply line given) = refusal_given given
 refusal_of (line_refusal r) = Some (wire_number r)
 
--- TooLong, BadLine, NoTenant, NoSession, TrailFull and NotBegun: no step is made
-abbrev pub stepless : List ℕ
-stepless = 11 ∷ 12 ∷ 13 ∷ 14 ∷ 90 ∷ 92 ∷ []
+-- a step is what has a number in the trail
+abbrev pub has_number : Result Answer StepError → Bool
+has_number (Ok answer) = is_some answer.number
+has_number (Err e) = false
 
--- a line with this refusal, or none, is a step
-abbrev pub is_step : Option ℕ → Bool
-is_step None = true
-is_step (Some n) = not (list_any (λ k. k == n) stepless)
+abbrev pub is_step : Response → Bool
+is_step (step_reply line given) = has_number given
+is_step (line_refusal r) = false
 
 abbrev pub is_number : ℕ → Option ℕ → Bool
 is_number n None = false
 is_number n (Some m) = m == n
 
--- how many of the responses have such a refusal, or none; no count goes past 2^64 - 1
-abbrev pub count_of : (Option ℕ → Bool) → List Response → ℕ
-count_of test responses = u64_saturate (length (filter (λ r. test (refusal_of r)) responses))
+-- how many of the responses are such; no count goes past 2^64 - 1
+abbrev pub count_of : (Response → Bool) → List Response → ℕ
+count_of test responses = u64_saturate (length (filter test responses))
 
 -- a count that goes up by one, or stays
 abbrev pub one_more : Bool → ℕ → ℕ
@@ -66,7 +65,7 @@ one_more counted count = if counted then u64_saturate (count + 1) else count
 pub record IsSummary (responses : List Response) (s : Summary) : Type 0 where
   pub lines : s.lines ≡ count_of (λ r. true) responses
   pub steps : s.steps ≡ count_of is_step responses
-  pub refused : (n : ℕ) → n < 256 → slice_index s.refused n ≡ count_of (is_number n) responses
+  pub refused : (n : ℕ) → n < 256 → slice_index s.refused n ≡ count_of (λ r. is_number n (refusal_of r)) responses
 
 -- what was the summary of any responses is then that of these, too
 pub record Adds (old : Summary) (responses : List Response) (new : Summary) : Type 0 where

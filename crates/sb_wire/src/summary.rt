@@ -11,9 +11,6 @@ use sb_tenant::{Answer, Reply};
 /// A number for each byte, so that each refusal's number is below it.
 const NUMBERS: usize = 256;
 
-/// The refusals of lines that become no step, by their numbers.
-const STEPLESS: [u8; 6] = [11, 12, 13, 14, 90, 92];
-
 /// How many lines were answered, how many of them as steps, and how often with each refusal. A count
 /// that is full stays.
 #[derive(Drop)]
@@ -40,25 +37,25 @@ impl Summary {
     pub(crate) fn add_refusal(&mut self, refusal: WireRefusal)
         ensures { Adds self.old (line_refusal refusal ∷ []) self.new }
     {
-        self.add(Some(refusal.number()));
+        self.add(Some(refusal.number()), false);
     }
 
     /// Counts a line by what its session was answered.
     pub(crate) fn add_answer(&mut self, given: &Result<Answer, StepError>)
         ensures { (line : ItsAddressed) → Adds self.old (step_reply line given.now ∷ []) self.new }
     {
-        self.add(refusal_given(given));
+        self.add(refusal_given(given), has_number(given));
     }
 
-    /// Counts a line that is answered with this refusal, or with none.
-    fn add(&mut self, refusal: Option<u8>)
+    /// Counts a line that is answered with this refusal, or with none, and that is a step or isn't.
+    fn add(&mut self, refusal: Option<u8>, is_step: bool)
         ensures lines { self.new.lines ≡ one_more true self.old.lines }
-        ensures steps { self.new.steps ≡ one_more (counts.is_step refusal) self.old.steps }
+        ensures steps { self.new.steps ≡ one_more is_step self.old.steps }
         ensures refused { (n : ℕ) → n < 256 → slice_index self.new.refused n ≡
             one_more (counts.is_number n refusal) (slice_index self.old.refused n) }
     {
         self.lines = self.lines.saturating_add(1);
-        self.steps = stepped(self.steps, refusal);
+        self.steps = stepped(self.steps, is_step);
         if let Some(number) = refusal {
             let place = usize::from(number);
             self.refused[place] = self.refused[place].saturating_add(1);
@@ -67,23 +64,23 @@ impl Summary {
 }
 
 /// The steps so far, with one more where there is one.
-fn stepped(steps: u64, refusal: Option<u8>) -> u64
-    ensures { result ≡ one_more (counts.is_step refusal) steps }
+fn stepped(steps: u64, is_step: bool) -> u64
+    ensures { result ≡ one_more is_step steps }
 {
-    if is_step(refusal) {
+    if is_step {
         steps.saturating_add(1)
     } else {
         steps
     }
 }
 
-/// Whether a line with this refusal, or with none, is a step.
-fn is_step(refusal: Option<u8>) -> bool
-    ensures { result ≡ counts.is_step refusal }
+/// Whether what a line was given has a number in the trail.
+fn has_number(given: &Result<Answer, StepError>) -> bool
+    ensures { result ≡ counts.has_number given.now }
 {
-    match refusal {
-        Some(number) => !STEPLESS.contains(&number),
-        None => true,
+    match given {
+        Ok(answer) => answer.number.is_some(),
+        Err(_) => false,
     }
 }
 
