@@ -6,7 +6,7 @@ ghost use Rattle.sb_check.specs.RulePartsView.{new_parts, rule_parts};
 ghost use Rattle.sb_syntax.specs.Views.{alteration, rule};
 ghost use Rattle.sb_rulesets.specs.Sets.{has_name as has_ruleset};
 ghost use Rattle.sb_priority.specs.Ranks.{pairs_of};
-ghost use Rattle.sb_rulesets.specs.Members.{with_rules, without_rules};
+ghost use Rattle.sb_rulesets.specs.Members.{changed_members};
 ghost use Rattle.sb_catalog.specs.Definitions as spec;
 ghost use Rattle.sb_catalog.specs.Definitions.{AltersInOrder, AreIndexed, AreOrdered, ChangesMembers, CreatesInOrder, Drops, GivesActiveMembers, GivesActiveRule, OtherTenantsStay, PushesInOrder, SetsActive, StayIndexed, members};
 ghost use Rattle.sb_catalog.specs.Rules.{AreThere, free_rule, has_name, has_room, numbered, rule_named, is_active};
@@ -15,7 +15,7 @@ use crate::catalog::Catalog;
 use sb_check::{NewParts, RuleParts};
 use sb_index::RuleIndex;
 use sb_priority::Priorities;
-use sb_rulesets::Rulesets;
+use sb_rulesets::{MemberChange, Rulesets};
 use sb_syntax::{AlterationText, RuleText};
 use sb_value::{Name, Refusal, RuleId, RuleSet, TenantId};
 use std::alloc::Global;
@@ -231,22 +231,19 @@ impl Definitions {
         }
     }
 
-    /// Puts the rules of these names into the ruleset.
-    pub fn add_rules(&mut self, alloc: Global, set: &Name, names: &[Name]) -> Result<(), Refusal>
-        ensures { ChangesMembers with_rules self.old self.new set.now (members self.old set.now names.now) result }
+    /// Puts the rules of these names into the ruleset, or takes them out of it.
+    pub fn change_members(
+        &mut self,
+        alloc: Global,
+        set: &Name,
+        change: MemberChange,
+        names: &[Name],
+    ) -> Result<(), Refusal>
+        ensures { ChangesMembers (changed_members change) self.old self.new set.now
+            (members self.old set.now names.now) result }
     {
         match self.numbers(alloc, names) {
-            Ok(rules) => self.rulesets.add_rules(set, rules.as_slice()),
-            Err(refusal) => Err(self.refusal_beside(set, refusal)),
-        }
-    }
-
-    /// Takes the rules of these names out of the ruleset.
-    pub fn del_rules(&mut self, alloc: Global, set: &Name, names: &[Name]) -> Result<(), Refusal>
-        ensures { ChangesMembers without_rules self.old self.new set.now (members self.old set.now names.now) result }
-    {
-        match self.numbers(alloc, names) {
-            Ok(rules) => self.rulesets.del_rules(set, rules.as_slice()),
+            Ok(rules) => self.rulesets.change_members(set, change, rules.as_slice()),
             Err(refusal) => Err(self.refusal_beside(set, refusal)),
         }
     }

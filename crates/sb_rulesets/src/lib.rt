@@ -4,4 +4,5 @@
 mod members;
 mod rulesets;
 
+pub use members::MemberChange;
 pub use rulesets::{RULESET_LIMIT, Rulesets};

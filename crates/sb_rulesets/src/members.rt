@@ -6,18 +6,18 @@ use sb_value::{RuleId, RuleSet};
 
 /// What is done with the rules of a list.
 #[derive(Clone, Copy)]
-pub enum Change {
+pub enum MemberChange {
     Added,
     Taken,
 }
 
 /// The set behind such a change.
-pub fn changed(set: RuleSet, change: Change, rules: &[RuleId]) -> RuleSet
-    ensures { result ≡ changed_members change rules.now set }
+pub fn changed(set: RuleSet, change: MemberChange, rules: &[RuleId]) -> RuleSet
+    ensures { result ≡ changed_members change set rules.now }
 {
     match change {
-        Change::Added => with_all(set, rules),
-        Change::Taken => without_all(set, rules),
+        MemberChange::Added => with_all(set, rules),
+        MemberChange::Taken => without_all(set, rules),
     }
 }
 

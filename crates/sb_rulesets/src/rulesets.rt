@@ -1,11 +1,11 @@
 //! All rulesets of a tenant.
 ghost use Rattle.std.specs.Map.Iter.{deref_pair};
 ghost use Rattle.std.specs.Prelude.{◌≡◌, [], length, option_map, slice_get, IsTrue, IsFalse, map, unwrap_or, slice_set, false, OnOk, IfErr, OnErr};
-ghost use Rattle.sb_rulesets.specs.Members.{changed_members, with_rules, without_rules};
+ghost use Rattle.sb_rulesets.specs.Members.{changed_members};
 ghost use Rattle.sb_rulesets.specs.Sets.{has_name, create_refusal, created, without_set, changed, without_rule, members_of};
 ghost use Rattle.sb_rulesets.specs.Distinct.{AreDistinct};
 
-use crate::members::{Change, changed};
+use crate::members::{MemberChange, changed};
 use indexmap::IndexMap;
 use sb_value::{Name, Refusal, RuleId, RuleSet};
 use std::alloc::Global;
@@ -74,30 +74,15 @@ impl Rulesets {
         }
     }
 
-    /// Adds the rules to the ruleset of that name.
-    pub fn add_rules(&mut self, name: &Name, rules: &[RuleId]) -> Result<(), Refusal>
+    /// Adds the rules to the ruleset of that name, or takes them out of it.
+    pub fn change_members(
+        &mut self,
+        name: &Name,
+        change: MemberChange,
+        rules: &[RuleId],
+    ) -> Result<(), Refusal>
         ensures known { OnOk result (IsTrue (has_name self.old name.now)) }
-        ensures added { OnOk result (self.new ≡ changed (λ set. with_rules set rules.now) self.old name.now) }
-        ensures refused { IfErr result (λ e. (e ≡ Refusal.NoRuleset) × IsFalse (has_name self.old name.now)) }
-        ensures unchanged { OnErr result (self.new ≡ self.old) }
-    {
-        self.change(name, Change::Added, rules)
-    }
-
-    /// Takes the rules from the ruleset of that name.
-    pub fn del_rules(&mut self, name: &Name, rules: &[RuleId]) -> Result<(), Refusal>
-        ensures known { OnOk result (IsTrue (has_name self.old name.now)) }
-        ensures taken { OnOk result (self.new ≡ changed (λ set. without_rules set rules.now) self.old name.now) }
-        ensures refused { IfErr result (λ e. (e ≡ Refusal.NoRuleset) × IsFalse (has_name self.old name.now)) }
-        ensures unchanged { OnErr result (self.new ≡ self.old) }
-    {
-        self.change(name, Change::Taken, rules)
-    }
-
-    /// Changes the members of the ruleset of that name.
-    fn change(&mut self, name: &Name, change: Change, rules: &[RuleId]) -> Result<(), Refusal>
-        ensures known { OnOk result (IsTrue (has_name self.old name.now)) }
-        ensures changed { OnOk result (self.new ≡ changed (changed_members change rules.now) self.old name.now) }
+        ensures changed { OnOk result (self.new ≡ changed (λ set. changed_members change set rules.now) self.old name.now) }
         ensures refused { IfErr result (λ e. (e ≡ Refusal.NoRuleset) × IsFalse (has_name self.old name.now)) }
         ensures unchanged { OnErr result (self.new ≡ self.old) }
     {

@@ -8,6 +8,9 @@ use Rattle.sb_syntax.specs.Tree as text
 use Rattle.sb_check.specs.Names.{and_then, required}
 use Rattle.sb_rawlog.specs.Records.{Record}
 use Rattle.sb_index.specs.TableSets.{TableSets}
+use Rattle.sb_rulesets.specs.declared.members.MemberChange.{MemberChange}
+use Rattle.sb_rulesets.specs.declared.members.MemberChange.TheVariants.{Added, Taken}
+use Rattle.sb_rulesets.specs.Members.{changed_members, with_rules, without_rules}
 use Rattle.sb_rulesets.specs.Ruleset.{Ruleset}
 use Rattle.sb_rulesets.specs.Sets.{has_name, create_refusal, created, without_set, changed}
 use Rattle.sb_catalog.specs.Definitions.{ChangesMembers, members_named, rules_named}
@@ -15,10 +18,10 @@ use Rattle.sb_catalog.specs.declared.definitions.Definitions.{Definitions}
 use Rattle.sb_catalog.specs.declared.rule.Rule.{Rule}
 use Rattle.sb_tenant.specs.declared.reply.Reply.TheVariants as reply
 use Rattle.sb_tenant.specs.declared.store.Store.{Store}
-use Rattle.sb_tenant.specs.Defining.{Defines, IsAtRest}
+use Rattle.sb_tenant.specs.Defining.{Defines, IsAtRest, member_command}
 use Rattle.sb_tenant.specs.Perform.{perform}
 use Rattle.sb_tenant.specs.Represents.{StandFor}
-use Rattle.sb_tenant.specs.Resolved.{Resolved, create_ruleset, drop_ruleset}
+use Rattle.sb_tenant.specs.Resolved.{Resolved, create_ruleset, drop_ruleset, add_rules, del_rules}
 use Rattle.sb_tenant.specs.State.{State}
 use Rattle.sb_tenant.specs.Walk.{unless, walk}
 use Rattle.sb_tenant.proofs.Defining.{two_more, refused_here, is_done}
@@ -143,3 +146,10 @@ module _ (old new : Store) (index : List (List TableSets)) (name : List ℕ) (ru
       by : (meant ≡ Err e) ⊎ (e ≡ refusal.NoMemory) → (walk_members old.definitions.rulesets old.definitions.rules ≡ Err e) ⊎ (e ≡ refusal.NoMemory)
       by (inl w) = inl (resolves (has_name old.definitions.rulesets name) (rules_named old.definitions.rules rules) (Err e) w)
       by (inr m) = inr m
+
+-- by the command that adds them, or takes them
+pub members_by : (old new : Store) (index : List (List TableSets)) (name : List ℕ) (rules : List (List ℕ)) (change : MemberChange) → IsAtRest old.phases → (result : Result (Unit {0}) Refusal)
+    → ChangesMembers (changed_members change) old.definitions new.definitions name (members_named old.definitions.rulesets old.definitions.rules name rules) result
+    → new ≡ record old { definitions = new.definitions } → Defines old new index index (member_command change name rules) result
+members_by old new index name rules Added = members_changed old new index name rules (text.add_rules name rules) with_rules (add_rules name) (λ state. refl) (λ tenant bound s state ids. refl)
+members_by old new index name rules Taken = members_changed old new index name rules (text.del_rules name rules) without_rules (del_rules name) (λ state. refl) (λ tenant bound s state ids. refl)

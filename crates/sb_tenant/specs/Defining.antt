@@ -4,7 +4,9 @@ use Rattle.std.specs.List.{list_any}
 use Rattle.sb_value.specs.declared.refusal.Refusal.{Refusal}
 use Rattle.sb_value.specs.declared.refusal.Refusal.TheVariants.{NoMemory}
 use Rattle.sb_value.specs.Locks.{sessions}
-use Rattle.sb_syntax.specs.Tree.{Command, create_rule, alter_rule}
+use Rattle.sb_syntax.specs.Tree.{Command, create_rule, alter_rule, add_rules, del_rules}
+use Rattle.sb_rulesets.specs.declared.members.MemberChange.{MemberChange}
+use Rattle.sb_rulesets.specs.declared.members.MemberChange.TheVariants.{Added, Taken}
 use Rattle.sb_rawlog.specs.Records.{Record}
 use Rattle.sb_index.specs.TableSets.{TableSets}
 use Rattle.sb_catalog.specs.Definitions.{OtherTenantsStay}
@@ -20,6 +22,11 @@ use Rattle.sb_tenant.specs.Resolved.{Class}
 use Rattle.sb_tenant.specs.State.{State}
 use Rattle.sb_tenant.specs.Step.{outcome_of, refusal_by}
 use Rattle.sb_tenant.specs.Walk.{walk}
+
+-- the command by which the members of a ruleset change
+abbrev pub member_command : MemberChange → List ℕ → List (List ℕ) → Command
+member_command Added = add_rules
+member_command Taken = del_rules
 
 -- whether a session of this phase has a transaction
 abbrev pub is_under_way : Phase → Bool

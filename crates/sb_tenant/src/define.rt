@@ -7,6 +7,7 @@ ghost use Rattle.sb_tenant.specs.Walk.{class_of};
 
 use crate::store::Store;
 use sb_index::RuleIndex;
+use sb_rulesets::MemberChange;
 use sb_syntax::Command;
 use sb_value::Refusal;
 use std::alloc::Global;
@@ -35,8 +36,12 @@ impl Store {
             Command::DeactivateRule(name) => self.deactivate_rule(index, &name),
             Command::CreateRuleset(name) => self.create_ruleset(name),
             Command::DropRuleset(name) => self.drop_ruleset(&name),
-            Command::AddRules(name, rules) => self.add_rules(alloc, &name, rules.as_slice()),
-            Command::DelRules(name, rules) => self.del_rules(alloc, &name, rules.as_slice()),
+            Command::AddRules(name, rules) => {
+                self.change_members(alloc, &name, MemberChange::Added, rules.as_slice())
+            }
+            Command::DelRules(name, rules) => {
+                self.change_members(alloc, &name, MemberChange::Taken, rules.as_slice())
+            }
             Command::OpenSession
             | Command::EndSession
             | Command::Begin

@@ -1,8 +1,9 @@
 //! The commands that define rulesets.
 ghost use Rattle.sb_syntax.specs.Tree as text;
-ghost use Rattle.sb_tenant.specs.Defining.{DefinesAlone, IsAtRest};
+ghost use Rattle.sb_tenant.specs.Defining.{DefinesAlone, IsAtRest, member_command};
 
 use crate::store::Store;
+use sb_rulesets::MemberChange;
 use sb_value::{Name, Refusal};
 use std::alloc::Global;
 
@@ -23,29 +24,17 @@ impl Store {
         self.definitions.rulesets.drop_set(name)
     }
 
-    /// Puts rules into a ruleset.
-    pub(crate) fn add_rules(
+    /// Puts rules into a ruleset, or takes them out of it.
+    pub(crate) fn change_members(
         &mut self,
         alloc: Global,
         name: &Name,
+        change: MemberChange,
         rules: &[Name],
     ) -> Result<(), Refusal>
         requires { IsAtRest self.old.phases }
-        ensures { DefinesAlone self.old self.new (text.add_rules name.now rules.now) result }
+        ensures { DefinesAlone self.old self.new (member_command change name.now rules.now) result }
     {
-        self.definitions.add_rules(alloc, name, rules)
-    }
-
-    /// Takes rules out of a ruleset.
-    pub(crate) fn del_rules(
-        &mut self,
-        alloc: Global,
-        name: &Name,
-        rules: &[Name],
-    ) -> Result<(), Refusal>
-        requires { IsAtRest self.old.phases }
-        ensures { DefinesAlone self.old self.new (text.del_rules name.now rules.now) result }
-    {
-        self.definitions.del_rules(alloc, name, rules)
+        self.definitions.change_members(alloc, name, change, rules)
     }
 }

@@ -29,13 +29,13 @@ returns-in-DropRuleset c = defines-as c.in-DropRuleset.is (c.drop_ruleset.ensure
 
 pub returns-in-AddRules : goal.returns-in-AddRules
 returns-in-AddRules c =
-    let Q : List (List ℕ) → Type 0 = λ rules. Defines c.args.self.now c.add_rules.new.self c.args.index.now c.args.index.now (text.add_rules c.in-AddRules.name rules) c.add_rules.result in
-    defines-as c.in-AddRules.is (subst Q c.as_slice.ensures.value (c.add_rules.ensures c.args.index.now))
+    let Q : List (List ℕ) → Type 0 = λ rules. Defines c.args.self.now c.change_members.new.self c.args.index.now c.args.index.now (text.add_rules c.in-AddRules.name rules) c.change_members.result in
+    defines-as c.in-AddRules.is (subst Q c.as_slice.ensures.value (c.change_members.ensures c.args.index.now))
 
 pub returns-in-DelRules : goal.returns-in-DelRules
 returns-in-DelRules c =
-    let Q : List (List ℕ) → Type 0 = λ rules. Defines c.args.self.now c.del_rules.new.self c.args.index.now c.args.index.now (text.del_rules c.in-DelRules.name rules) c.del_rules.result in
-    defines-as c.in-DelRules.is (subst Q c.as_slice-in-DelRules.ensures.value (c.del_rules.ensures c.args.index.now))
+    let Q : List (List ℕ) → Type 0 = λ rules. Defines c.args.self.now c.change_members-in-DelRules.new.self c.args.index.now c.args.index.now (text.del_rules c.in-DelRules.name rules) c.change_members-in-DelRules.result in
+    defines-as c.in-DelRules.is (subst Q c.as_slice-in-DelRules.ensures.value (c.change_members-in-DelRules.ensures c.args.index.now))
 
 pub returns-in-AlterRule : goal.returns-in-AlterRule
 returns-in-AlterRule c =

@@ -8,12 +8,12 @@ use Rattle.sb_rulesets.specs.Members.{changed_members}
 use Rattle.sb_rulesets.specs.Sets.{changed}
 use Rattle.sb_rulesets.proofs.Names.{distinct_changed}
 use Rattle.sb_rulesets.proofs.Entries.{written, named_as}
-use Rattle.sb_rulesets.proofs.rulesets.Rulesets.change.Goals as goal
-use Rattle.sb_rulesets.proofs.rulesets.Rulesets.change.Goals.{in-Some, in-None}
+use Rattle.sb_rulesets.proofs.rulesets.Rulesets.change_members.Goals as goal
+use Rattle.sb_rulesets.proofs.rulesets.Rulesets.change_members.Goals.{in-Some, in-None}
 
 pub invariant_of-self : goal.invariant_of-self
 invariant_of-self c =
-    let change : List Bool → List Bool = changed_members c.args.change c.args.rules.now in
+    let change : List Bool → List Bool = λ set. changed_members c.args.change set c.args.rules.now in
     let sets : List Ruleset = map set_of c.self.inside.sets.entries in
     elim c.match-get_mut.branch [
       | in-Some w ↦
@@ -32,7 +32,7 @@ returns-clause-known c =
 
 pub returns-clause-changed : goal.returns-clause-changed
 returns-clause-changed c =
-    let change : List Bool → List Bool = changed_members c.args.change c.args.rules.now in
+    let change : List Bool → List Bool = λ set. changed_members c.args.change set c.args.rules.now in
     elim c.match-get_mut.branch [
       | in-Some w ↦
           let put = ap (map set_of) ((c.get_mut.follows.holds _).0) ∙ ap (λ flags. map set_of (set_value (same_name c.args.name.now) c.self.inside.sets.entries flags)) w.changed.ensures
