@@ -3,8 +3,9 @@ use Rattle.std.proofs.Common.{◌≡◌, ◌∙◌, sym, ap, subst, refl, ℕ, B
 use Rattle.std.proofs.lemmas.Bool.{false≢true, and_parts}
 use Rattle.sb_syntax.specs.Text.{command_of}
 use Rattle.sb_tenant.specs.declared.reply.Reply.TheVariants as told
+use Rattle.sb_tenant.specs.Closing.{closes, is_ok}
 use Rattle.sb_desk.specs.declared.receipts.Receipt.{Receipt}
-use Rattle.sb_desk.specs.Receipts.{closes, is_ok, list_by, numbered, receipt}
+use Rattle.sb_desk.specs.Receipts.{list_by, numbered, receipt}
 use Rattle.sb_connection.proofs.Talks.{by_cases}
 use Rattle.sb_connection.specs.Exchanges.{AreCalls, AreReceipts, Exchange, IsCall, IsClosed, answered, closing_receipts, ends, has_ended, overlong, receipt_of, receipts_of, unbegun}
 

@@ -3,6 +3,7 @@ use Rattle.std.specs.Prelude.{◌≡◌, ⊤, ℕ, Bool, true, false, List, [], 
 use Rattle.std.specs.List.{list_any}
 use Rattle.sb_tenant.specs.declared.reply.Answer.{Answer}
 use Rattle.sb_tenant.specs.declared.reply.Reply.TheVariants as told
+use Rattle.sb_tenant.specs.Closing.{closes}
 use Rattle.sb_wire.specs.Lines.{Piece}
 use Rattle.sb_wire.specs.Lines as lines
 use Rattle.sb_wire.specs.Output.{ended_lines}
@@ -10,7 +11,7 @@ use Rattle.sb_wire.specs.ReplyText.{reply_lines}
 use Rattle.sb_wire.specs.Seen.{refusal_line}
 use Rattle.sb_wire.specs.declared.refusal.WireRefusal.TheVariants as wire
 use Rattle.sb_desk.specs.declared.receipts.Receipt.{Receipt}
-use Rattle.sb_desk.specs.Receipts.{closes, list_after, numbered, receipt}
+use Rattle.sb_desk.specs.Receipts.{list_after, numbered, receipt}
 use Rattle.sb_desk.specs.Calls.{IsNumbered}
 
 -- a line that is too long, one whose step isn't begun, or one that has an answer

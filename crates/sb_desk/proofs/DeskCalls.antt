@@ -9,7 +9,8 @@ use Rattle.sb_tenant.specs.declared.reply.Entry.{Entry}
 use Rattle.sb_tenant.specs.declared.reply.Reply.TheVariants as told
 use Rattle.sb_tenant.specs.State.{session_at, is_open}
 use Rattle.sb_tenant.specs.Trail.{Extends, Steps, entry_of, is_no_memory, state_of}
-use Rattle.sb_tenant.specs.TrailLaws.{OthersStay, OwnOpens, open_by}
+use Rattle.sb_tenant.specs.Closing.{closes, is_end}
+use Rattle.sb_tenant.specs.TrailLaws.{EndsClose, OthersStay, OwnOpens, open_by}
 use Rattle.sb_cell.specs.declared.StepError.{StepError}
 use Rattle.sb_cell.specs.declared.StepError.TheVariants.{NoTenant, NoSession, NotBegun}
 use Rattle.sb_cell.specs.Events.{IsTurn}
@@ -17,11 +18,10 @@ use Rattle.sb_cell.specs.Hosting.{entry_count}
 use Rattle.sb_cell.specs.Tenants.{AnswersBy, AnswersEvent, Cell, hosts, trails, states}
 use Rattle.sb_desk.specs.Kept.{IsDesk, Place, SeatAt}
 use Rattle.sb_desk.specs.Desks.{open_in}
-use Rattle.sb_desk.specs.Receipts.{Receipts, closes, is_end}
+use Rattle.sb_desk.specs.Receipts.{Receipts}
 use Rattle.sb_desk.specs.Seats.{IsSeat, SessionSeat, number_of}
 use Rattle.sb_desk.proofs.CellSteps.{beside, entries_by}
 use Rattle.sb_desk.proofs.DeskSteps.{hosted_by, kept}
-use Rattle.sb_desk.proofs.Ending.{ends}
 use Rattle.sb_tenant.specs.Limits.{entry_limit}
 
 -- ---- the two lines that open and close
@@ -147,8 +147,8 @@ module _ (p : Place) (c c' : Cell) (parts : ℕ) (seats : List (Option SessionSe
     bound_is = λ i. is_open (session_at (state_of t (turned.2.2 i) (trails c' t)) s)
 
     -- a session that was open is closed by its `end` alone
-    pub closed_by : ((tenant bound : ℕ) → OwnOpens tenant bound) → open_in c t s ≡ true → open_in c' t s ≡ not (closes line a.reply)
-    closed_by own up = bound_is ∙ ends t c.bound (own t c.bound) (states c t) (state_of t c.bound (trails c' t)) (entry_of s line a.reply) longer.2 up
+    pub closed_by : ((tenant bound : ℕ) → EndsClose tenant bound) → open_in c t s ≡ true → open_in c' t s ≡ not (closes line a.reply)
+    closed_by ends up = bound_is ∙ ends t c.bound (states c t) (state_of t c.bound (trails c' t)) (entry_of s line a.reply) longer.2 up
 
     -- with `open` the session has its seat
     pub admitted : ((tenant bound : ℕ) → OthersStay tenant bound) → ((tenant bound : ℕ) → OwnOpens tenant bound) → line ≡ codes "open" → a.reply ≡ told.Ok → (k : ℕ) → k ≡ at → (o : Option SessionSeat) → o ≡ None → (left : ℕ) → left + 1 ≡ parts → IsDesk p c' left (set seats k o)

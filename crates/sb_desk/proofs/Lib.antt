@@ -1,7 +1,6 @@
 pub mod SeatSteps
 pub mod CellSteps
 pub mod DeskSteps
-pub mod Ending
 pub mod ReceiptSteps
 pub mod DeskCalls
 pub mod DeskNew

@@ -1,8 +1,9 @@
 -- One receipt more, and the answer of the last one.
 use Rattle.std.proofs.Common.{◌≡◌, ℕ, zero, suc, ◌+◌, true, List, [], ◌∷◌, ◌++◌, length, get_or, Some, None, refl, sym, ap, ◌∙◌, arith}
 use Rattle.sb_tenant.specs.declared.reply.Answer.{Answer}
+use Rattle.sb_tenant.specs.Closing.{closes}
 use Rattle.sb_desk.specs.declared.receipts.Receipt.{Receipt}
-use Rattle.sb_desk.specs.Receipts.{Receipts, after, closes, last_of, list_by, receipt}
+use Rattle.sb_desk.specs.Receipts.{Receipts, after, last_of, list_by, receipt}
 
 -- after one more receipt it is that one's
 pub last_of-push : (rs : List Receipt) (r : Receipt) → last_of (rs ++ r ∷ []) ≡ Some r.answer

@@ -3,6 +3,7 @@ use Rattle.std.specs.Prelude.{ℕ, ◌≡◌, ◌↔◌, ◌<◌, ◌≤◌, Boo
 use Rattle.sb_value.specs.declared.refusal.Refusal.TheVariants.{TrailFull}
 use Rattle.sb_tenant.specs.declared.reply.Answer.{Answer}
 use Rattle.sb_tenant.specs.declared.reply.Reply.TheVariants.{No}
+use Rattle.sb_tenant.specs.Closing.{closes}
 use Rattle.sb_tenant.specs.Limits.{session_count}
 use Rattle.sb_cell.specs.Tenants.{Cell, hosts}
 use Rattle.sb_desk.specs.declared.desk.AttachError.{AttachError}
@@ -11,7 +12,7 @@ use Rattle.sb_desk.specs.declared.desk.CallError.{CallError}
 use Rattle.sb_desk.specs.declared.desk.CallError.TheVariants as call
 use Rattle.sb_desk.specs.declared.receipts.Receipt.{Receipt}
 use Rattle.sb_desk.specs.Desks.{RefusesRightly}
-use Rattle.sb_desk.specs.Receipts.{Receipts, after, after_end, closes, list_after, newcomer}
+use Rattle.sb_desk.specs.Receipts.{Receipts, after, after_end, list_after, newcomer}
 
 -- ---- behind a lock
 

@@ -1,11 +1,10 @@
 -- Promise: what a session has of its calls.
-use Rattle.std.specs.Prelude.{ℕ, ◌+◌, ◌==◌, ◌&&◌, Bool, true, false, List, [], ◌∷◌, ◌++◌, if◌then◌else◌, codes, Option, Some, None}
-use Rattle.sb_syntax.specs.Text.{command_of}
-use Rattle.sb_syntax.specs.Tree.{Command, end_session}
+use Rattle.std.specs.Prelude.{ℕ, ◌+◌, ◌==◌, Bool, true, false, List, [], ◌∷◌, ◌++◌, if◌then◌else◌, codes, Option, Some, None}
 use Rattle.sb_tenant.specs.declared.reply.Answer.{Answer}
 use Rattle.sb_tenant.specs.declared.reply.Entry.{Entry}
 use Rattle.sb_tenant.specs.declared.reply.Reply.{Reply}
 use Rattle.sb_tenant.specs.declared.reply.Reply.TheVariants.{Ok}
+use Rattle.sb_tenant.specs.Closing.{closes}
 use Rattle.sb_desk.specs.declared.receipts.Receipt.{Receipt}
 use Rattle.sb_desk.specs.declared.receipts.Newest.{Newest}
 use Rattle.sb_desk.specs.declared.receipts.Newest.TheVariants as newest
@@ -34,20 +33,6 @@ list_by None list line answer = list
 
 abbrev pub list_after : List Receipt → List ℕ → Answer → List Receipt
 list_after list line answer = list_by answer.number list line answer
-
--- ---- the `end`
-
-abbrev pub is_end : Option Command → Bool
-is_end (Some end_session) = true
-is_end command = false
-
-abbrev pub is_ok : Reply → Bool
-is_ok Ok = true
-is_ok reply = false
-
--- an `end` that is answered `ok` ends a session that is open
-abbrev pub closes : List ℕ → Reply → Bool
-closes line reply = is_end (command_of line) && is_ok reply
 
 -- ---- after a call
 

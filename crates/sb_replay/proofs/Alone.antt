@@ -17,7 +17,8 @@ use Rattle.sb_tenant.specs.Trail.{IsLegal, IsNext, entry_of, state_of}
 use Rattle.sb_desk.specs.declared.desk.CallError.{CallError}
 use Rattle.sb_desk.specs.declared.desk.CallError.TheVariants as call
 use Rattle.sb_desk.specs.declared.receipts.Receipt.{Receipt}
-use Rattle.sb_desk.specs.Receipts.{closes, list_by, newcomer, numbered, receipt, receipts_of}
+use Rattle.sb_desk.specs.Receipts.{list_by, newcomer, numbered, receipt, receipts_of}
+use Rattle.sb_tenant.specs.Closing.{closes}
 use Rattle.sb_desk.specs.Calls.{Calls, Session, shown}
 use Rattle.sb_host.specs.Finish.{row_at, wanted}
 use Rattle.sb_desk.specs.Stubs.{LeavesStub}

@@ -7,7 +7,7 @@ use Rattle.sb_tenant.specs.declared.reply.Reply.TheVariants.{No}
 use Rattle.sb_tenant.specs.Limits.{session_count}
 use Rattle.sb_tenant.specs.State.{State, opening}
 use Rattle.sb_tenant.specs.Step.{step}
-use Rattle.sb_desk.specs.Receipts.{closes}
+use Rattle.sb_tenant.specs.Closing.{closes}
 use Rattle.sb_desk.specs.declared.desk.CallError.{CallError}
 use Rattle.sb_desk.specs.declared.desk.CallError.TheVariants as call
 use Rattle.sb_replay.specs.Input.{commands_for}

@@ -1,5 +1,5 @@
 -- Promise: laws of trails, as statements.
-use Rattle.std.specs.Prelude.{◌≡◌, ℕ, ◌+◌, ◌≤◌, ◌↔◌, Bool, true, false, ◌==◌, List, length, Option, Some, None, IsFalse}
+use Rattle.std.specs.Prelude.{◌≡◌, ℕ, ◌+◌, ◌≤◌, ◌↔◌, Bool, true, false, not, ◌==◌, List, length, Option, Some, None, IsFalse}
 use Rattle.sb_syntax.specs.Text.{command_of}
 use Rattle.sb_syntax.specs.Tree.{Command, open_session, end_session}
 use Rattle.sb_tenant.specs.Limits.{entry_limit}
@@ -7,6 +7,7 @@ use Rattle.sb_value.specs.declared.refusal.Refusal.TheVariants.{TrailFull}
 use Rattle.sb_tenant.specs.declared.reply.Answer.{Answer}
 use Rattle.sb_tenant.specs.declared.reply.Entry.{Entry}
 use Rattle.sb_tenant.specs.declared.reply.Reply.TheVariants.{No}
+use Rattle.sb_tenant.specs.Closing.{closes}
 use Rattle.sb_tenant.specs.State.{State, opening, session_at, is_open, open_count}
 use Rattle.sb_tenant.specs.Step.{step}
 use Rattle.sb_tenant.specs.Trail.{is_no_memory, IsNext, IsLegal, Steps, after_entry, state_of}
@@ -43,6 +44,12 @@ module _ (tenant bound : ℕ) where
       (before after : State) (entry : Entry) → IsNext tenant bound before entry after →
       is_open (session_at after entry.session)
       ≡ elim (is_no_memory entry.reply) [ true ↦ is_open (session_at before entry.session) | false ↦ open_by (command_of entry.line) (is_open (session_at before entry.session)) ]
+
+  -- an open session is open after an entry of its own, unless that is an `end` that was answered `ok`
+  abbrev pub EndsClose : Type 0
+  EndsClose =
+      (before after : State) (entry : Entry) → IsNext tenant bound before entry after → is_open (session_at before entry.session) ≡ true →
+      is_open (session_at after entry.session) ≡ not (closes entry.line entry.reply)
 
   -- a legal trail has no more entries than its limit, and one more for the end of each open session
   abbrev pub TrailsAreBounded : Type 0

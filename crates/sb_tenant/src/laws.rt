@@ -1,7 +1,7 @@
 //! What holds of the definitions alone: each law is the contract of a function that does nothing.
 ghost use Rattle.std.specs.Prelude.{ℕ};
 ghost use Rattle.sb_tenant.specs.RefusalLaws.{RefusalsTakeLocksAtMost, RefusedDefinitionsChangeNothing};
-ghost use Rattle.sb_tenant.specs.TrailLaws.{TrailsFixStates, LegalStatesAreReplayed, StepsHaveMemory, AnswersAreNumbered, OthersStay, OwnOpens, TrailsAreBounded};
+ghost use Rattle.sb_tenant.specs.TrailLaws.{TrailsFixStates, LegalStatesAreReplayed, StepsHaveMemory, AnswersAreNumbered, OthersStay, OwnOpens, EndsClose, TrailsAreBounded};
 ghost use Rattle.sb_tenant.specs.Walk.{NamesComeFirst};
 ghost use Rattle.sb_tenant.specs.WellFormed.{StatesAreWellFormed};
 
@@ -38,6 +38,7 @@ pub fn refused_lines_change_little()
 pub fn entries_open_and_close()
     ensures others { (tenant bound : ℕ) → OthersStay tenant bound }
     ensures own { (tenant bound : ℕ) → OwnOpens tenant bound }
+    ensures ends { (tenant bound : ℕ) → EndsClose tenant bound }
 {}
 
 /// A legal trail has at most 1,048,576 entries and one more for the end of each open session.

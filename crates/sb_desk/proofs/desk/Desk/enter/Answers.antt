@@ -3,7 +3,8 @@ use Rattle.std.proofs.lemmas.Bool.{true≢false, not-false}
 use Rattle.std.proofs.lemmas.Option.{same_Some}
 use Rattle.sb_cell.specs.Tenants.{AnswersEvent, Cell}
 use Rattle.sb_desk.specs.Desks.{open_in}
-use Rattle.sb_desk.specs.Receipts.{Receipts, closes, receipt}
+use Rattle.sb_desk.specs.Receipts.{Receipts, receipt}
+use Rattle.sb_tenant.specs.Closing.{closes}
 use Rattle.sb_desk.specs.Seats.{IsSeat, number_of}
 use Rattle.sb_desk.proofs.DeskCalls.{closed_by, enough, full, given_back, opened, own, still_open, unbegun}
 use Rattle.sb_desk.proofs.ReceiptSteps.{after_closing}
@@ -80,7 +81,7 @@ returns-then-not-is_open-clause-ok g c =
     let did : AnswersEvent c.self.inside.cell t s line (Ok c.in-Ok.answer) c.step_line.new.self = subst (λ (x : ℕ × List ℕ). AnswersEvent c.self.inside.cell t x.0 x.1 (Ok c.in-Ok.answer) c.step_line.new.self) (λ i. (c.number.ensures.value i, line_is i)) c.in-Ok.ensures.step in
     let has = numbered _ _ c.is_none.ensures c.if-is_none.false in
     let shut = sym c.is_open.ensures ∙ c.if-not-is_open.true in
-    let closing : closes line c.in-Ok.answer.reply ≡ true = not-false _ (sym (closed_by _ _ _ _ _ t s _ c.self.invariant.2 c.self.invariant.0 mine c.tenant-tenant.ensures.below c.session-session.ensures.below c.in-Ok.answer has.0 did has.1 c.entries_open_and_close.ensures.own up) ∙ shut) in
+    let closing : closes line c.in-Ok.answer.reply ≡ true = not-false _ (sym (closed_by _ _ _ _ _ t s _ c.self.invariant.2 c.self.invariant.0 mine c.tenant-tenant.ensures.below c.session-session.ensures.below c.in-Ok.answer has.0 did has.1 c.entries_open_and_close.ensures.ends up) ∙ shut) in
     let after_is : c.match-index_mut.self ≡ c.step_line.new.self = elim c.match-index_mut.branch [ in-Some-1 w ↦ w.self-is | in-None-1 w ↦ w.self-is ] in (
       line,
       c.in-Ok.answer,

@@ -11,9 +11,10 @@ use Rattle.sb_tenant.specs.declared.reply.Reply.TheVariants.{Ok, Count, Rows, Do
 use Rattle.sb_tenant.specs.State.{State, session_at, is_open}
 use Rattle.sb_tenant.specs.Step.{first_of, is_full_for, numbered, outcome_of, reply_to, reply_to_command}
 use Rattle.sb_tenant.specs.Trail.{is_no_memory, IsNext, IsStep}
-use Rattle.sb_tenant.specs.TrailLaws.{OwnOpens, open_by}
+use Rattle.sb_tenant.specs.TrailLaws.{EndsClose, open_by}
 use Rattle.sb_tenant.specs.Walk.{walk}
-use Rattle.sb_desk.specs.Receipts.{closes, is_end, is_ok}
+use Rattle.sb_tenant.specs.Closing.{closes, is_end, is_ok}
+use Rattle.sb_tenant.proofs.ReplayLaws.{own_opens}
 
 -- ---- what closes a session, by its command and its reply
 
@@ -86,9 +87,8 @@ module _ (tenant bound : ℕ) where
       ∙ end_is_ok before e.session up)
   answered before e after (is_one, inr abort) up is memory = absurd (true≢false (sym (ap is_no_memory abort.0) ∙ memory))
 
-  -- an open session is open after an entry of its own, unless that is an `end` that was answered `ok`
-  pub ends : OwnOpens tenant bound → (before after : State) (e : Entry) → IsNext tenant bound before e after → is_open (session_at before e.session) ≡ true → is_open (session_at after e.session) ≡ not (closes e.line e.reply)
-  ends own before after e next up =
-      own before after e next
+  pub ends_close : EndsClose tenant bound
+  ends_close before after e next up =
+      own_opens tenant bound before after e next
       ∙ ap (λ (b : Bool). elim (is_no_memory e.reply) [ true ↦ b | false ↦ open_by (command_of e.line) b ]) up
       ∙ closed_by (is_no_memory e.reply) (is_ok e.reply) (command_of e.line) (answered before e after next up) (no_memory_is_not_ok e.reply)
