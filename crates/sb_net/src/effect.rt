@@ -17,7 +17,7 @@ pub enum NetOf<'a> {
 }
 
 /// An update from one row to another, or nothing where these are equal.
-fn update<'a>(old: &'a [Value], new: &'a [Value]) -> Option<NetOf<'a>>
+pub(crate) fn update<'a>(old: &'a [Value], new: &'a [Value]) -> Option<NetOf<'a>>
     ensures { option_map seen result ≡ update_between old.now new.now }
 {
     if same_row(old, new) {

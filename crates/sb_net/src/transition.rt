@@ -8,6 +8,7 @@ ghost use Rattle.sb_net.specs.Tables.{with_net};
 
 use crate::effect::{NetOf, net};
 use crate::scope::ChangeScope;
+use crate::triggers::has_update;
 use sb_rawlog::ChangeLog;
 use sb_value::{ChangeKind, Row, RowList, TableId, Transition, Triggers, Who};
 use std::alloc::{AllocError, Global};
@@ -58,7 +59,7 @@ fn push_net(
         NetOf::Inserted(new) => tables.inserted.push(Row::from_values(alloc, new)?)?,
         NetOf::Deleted(old) => tables.deleted.push(Row::from_values(alloc, old)?)?,
         NetOf::Updated(old, new, columns) => {
-            if triggers.updated || triggers.columns.intersects(columns) {
+            if has_update(triggers, columns) {
                 tables.old_updated.push(Row::from_values(alloc, old)?)?;
                 tables.new_updated.push(Row::from_values(alloc, new)?)?;
             }

@@ -1,44 +1,35 @@
 //! Whether a rule is triggered.
-ghost use Rattle.std.specs.Prelude.{◌≡◌, ◌≤◌, ◌&&◌, IsFalse};
+ghost use Rattle.std.specs.Prelude.{◌≡◌, ◌≤◌, ◌&&◌, IsFalse, option_map};
 ghost use Rattle.sb_value.specs.Laws.{AreLives, kind_triggers};
-ghost use Rattle.sb_value.specs.NetEffect.{net_between, update_between, is_operation, is_triggered};
+ghost use Rattle.sb_value.specs.NetEffect.{has_update, is_operation, is_triggered};
 ghost use Rattle.sb_rawlog.specs.Changes.{is_op};
 ghost use Rattle.sb_rawlog.specs.Records.{walk};
 ghost use Rattle.sb_rawlog.specs.Sessions.{changes_since, changes_between};
 ghost use Rattle.sb_net.specs.Hits.{is_hit, names_kind, any_hit, any_tuple};
+ghost use Rattle.sb_net.specs.Seen.{seen};
 ghost use Rattle.sb_net.specs.Scopes.{changes_in, walk_in};
 
+use crate::effect::{NetOf, net, update};
 use crate::scope::ChangeScope;
-use crate::span::{Span, span_of};
 use sb_rawlog::ChangeLog;
-use sb_value::{
-    Change, ChangeKind, TableId, Triggers, Value, Who, differing, new_changes_trigger, same_row,
-};
+use sb_value::{Change, ChangeKind, Columns, TableId, Triggers, Who, new_changes_trigger};
 
-/// Whether an update from one row to another is one of the operations.
-fn is_update(triggers: &Triggers, old: &[Value], new: &[Value]) -> bool
-    ensures { result ≡ is_operation triggers.now (update_between old.now new.now) }
+/// Whether an update of these columns is one of the operations.
+pub(crate) fn has_update(triggers: &Triggers, columns: Columns) -> bool
+    ensures { result ≡ has_update triggers.now columns }
 {
-    if same_row(old, new) {
-        return false;
-    }
-    triggers.updated || triggers.columns.intersects(differing(old, new))
+    triggers.updated || triggers.columns.intersects(columns)
 }
 
-/// Whether what the changes come to is one of the operations.
-fn is_operation(changes: &Span<'_>, triggers: &Triggers) -> bool
-    ensures { let first = changes.now.first.now in let last = changes.now.last.now in
-        result ≡ is_operation triggers.now (net_between first.kind last.kind first last) }
+/// Whether a net effect is one of the operations.
+fn is_operation(triggers: &Triggers, net: &Option<NetOf<'_>>) -> bool
+    ensures { result ≡ is_operation triggers.now (option_map seen net.now) }
 {
-    match (changes.first.kind, changes.last.kind) {
-        (ChangeKind::Inserted, ChangeKind::Deleted) => false,
-        (ChangeKind::Inserted, _) => triggers.inserted,
-        (ChangeKind::Deleted, ChangeKind::Deleted) => triggers.deleted,
-        (ChangeKind::Updated, ChangeKind::Deleted) => triggers.deleted,
-        (ChangeKind::Updated, ChangeKind::Updated) => {
-            is_update(triggers, changes.first.old_row(), changes.last.new_row())
-        }
-        _ => false,
+    match net {
+        Some(NetOf::Inserted(_)) => triggers.inserted,
+        Some(NetOf::Deleted(_)) => triggers.deleted,
+        Some(NetOf::Updated(_, _, columns)) => has_update(triggers, *columns),
+        None => false,
     }
 }
 
@@ -46,10 +37,8 @@ fn is_operation(changes: &Span<'_>, triggers: &Triggers) -> bool
 fn is_hit<L: ChangeLog>(log: &L, scope: &ChangeScope, tuple: u64, triggers: &Triggers) -> bool
     ensures { result ≡ is_hit triggers.now scope.now.table (changes_in scope.now (L.records log.now)) tuple }
 {
-    match span_of(log, scope.who, scope.table, tuple, scope.since) {
-        Some(changes) => is_operation(&changes, triggers),
-        None => false,
-    }
+    let found = net(log, scope.who, scope.table, tuple, scope.since);
+    is_operation(triggers, &found)
 }
 
 /// Whether changes of the kind may be operations.
@@ -70,7 +59,9 @@ fn counts(triggers: &Triggers, kind: ChangeKind, change: &Change) -> bool
     match kind {
         ChangeKind::Inserted => triggers.inserted,
         ChangeKind::Deleted => triggers.deleted,
-        ChangeKind::Updated => is_update(triggers, change.old_row(), change.new_row()),
+        ChangeKind::Updated => {
+            is_operation(triggers, &update(change.old_row(), change.new_row()))
+        }
     }
 }
 
