@@ -5,7 +5,7 @@ use Rattle.std.proofs.lemmas.List.{length-map}
 use Rattle.std.proofs.lemmas.List.Elements.{All-nil, All-cons, All-head, All-tail}
 use Rattle.sb_value.specs.declared.value.Value.{Value}
 use Rattle.std.specs.List.{list_any}
-use Rattle.sb_value.specs.declared.lock.Mode.{Mode}
+use Rattle.sb_value.specs.declared.lock.LockMode.{LockMode}
 use Rattle.sb_value.specs.Locks.{no_locks, sessions}
 use Rattle.sb_value.specs.Table.{Table, Entry, values, has_table, AreBelow, AreRising, IsTable}
 use Rattle.sb_tenant.specs.Alike.{Shown, shown, HaveSamePairs, AreApart, IsAtRest, AreAlikeWithSessions}
@@ -195,7 +195,7 @@ plain_state state = record state {
 }
 
 abbrev pub AreUnlocked : State → Type 0
-AreUnlocked state = (s table : ℕ) (mode : Mode) → state.locks s table mode ≡ false
+AreUnlocked state = (s table : ℕ) (mode : LockMode) → state.locks s table mode ≡ false
 
 -- a state at rest that is alike is the plain state, renumbered
 from_plain : (tenant : ℕ) (one other : State) → map shown one.catalog.tables ≡ map shown other.catalog.tables → other.catalog.rules ≡ one.catalog.rules → other.catalog.rulesets ≡ one.catalog.rulesets →

@@ -2,7 +2,7 @@
 use Rattle.std.proofs.Common.{◌≡◌, ◌∙◌, ℕ, Bool, true, false, ◌&&◌, nat_eq, List, [], ◌++◌, map, Option, Some, None, Result, Ok, Err, refl, sym, ap, subst, IsTrue}
 use Rattle.std.proofs.lemmas.List.{map-append, length-map}
 use Rattle.sb_value.specs.declared.change.Change.{Change}
-use Rattle.sb_value.specs.declared.lock.Mode.{Mode}
+use Rattle.sb_value.specs.declared.lock.LockMode.{LockMode}
 use Rattle.sb_value.specs.declared.refusal.Refusal.{Refusal}
 use Rattle.sb_value.specs.declared.refusal.Refusal.TheVariants as refusal
 use Rattle.sb_value.specs.declared.refusal.Verdict.{Verdict}
@@ -93,7 +93,7 @@ module _ (law : PrecedesIsClosure) (first tenant bound : ℕ) (n : Numbering) (o
 
   -- ---- statements
 
-  request-same : (request : List (ℕ × Mode)) (next next-again : Progress → State × Reply) → ((p : Progress) → IsAnswered tenant (next p) (next-again (again p))) →
+  request-same : (request : List (ℕ × LockMode)) (next next-again : Progress → State × Reply) → ((p : Progress) → IsAnswered tenant (next p) (next-again (again p))) →
       IsAnswered tenant (with_request one s request next) (with_request other s request next-again)
   request-same request next next-again h = by (first_conflict one.locks s request)
     where

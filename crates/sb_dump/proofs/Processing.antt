@@ -4,7 +4,7 @@ use Rattle.std.proofs.lemmas.List.{map-append, length-map, drop-map}
 use Rattle.sb_value.specs.declared.value.Value.{Value}
 use Rattle.sb_value.specs.declared.change.Change.{Change}
 use Rattle.sb_value.specs.declared.net.Transition.{Transition}
-use Rattle.sb_value.specs.declared.lock.Mode.{Mode}
+use Rattle.sb_value.specs.declared.lock.LockMode.{LockMode}
 use Rattle.sb_value.specs.declared.refusal.Refusal.{Refusal}
 use Rattle.sb_value.specs.declared.refusal.Refusal.TheVariants.{Locked}
 use Rattle.sb_value.specs.declared.refusal.Verdict.TheVariants as verdict
@@ -91,7 +91,7 @@ module _ (law : PrecedesIsClosure) (tenant : ℕ) (n : Numbering) (one : Setting
 
   -- ---- what is asked of the locks
 
-  request-same : {A : Type 0} (f : A → A) (request : List (ℕ × Mode)) (p : Progress) (next next-again : Progress → Result A Refusal) →
+  request-same : {A : Type 0} (f : A → A) (request : List (ℕ × LockMode)) (p : Progress) (next next-again : Progress → Result A Refusal) →
       ((q : Progress) → next-again (again q) ≡ map_ok f (next q)) →
       with_request other (again p) request next-again ≡ map_ok f (with_request one p request next)
   request-same {A = A} f request p next next-again h = by (first_conflict p.locks one.who.session request)

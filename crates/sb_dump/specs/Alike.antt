@@ -1,7 +1,7 @@
 -- Promise: tenants that are alike at any time: but for the numbers of their tuples their states are the same.
 use Rattle.std.specs.Prelude.{◌≡◌, ℕ, ◌+◌, ◌<◌, false, List, map, IsTrue, All}
 use Rattle.sb_value.specs.declared.change.Change.{Change}
-use Rattle.sb_value.specs.declared.lock.Mode.{Mode}
+use Rattle.sb_value.specs.declared.lock.LockMode.{LockMode}
 use Rattle.sb_value.specs.Table.{Table, Entry, has_table}
 use Rattle.sb_tenant.specs.Alike.{HaveSamePairs}
 use Rattle.sb_tenant.specs.Limits.{is_session}
@@ -49,7 +49,7 @@ pub record IsRenumberedCatalog (numbering : Numbering) (one other : Catalog) : T
 -- the state is the other one with its tuples numbered so, of the tenant of that number
 pub record IsRenumbered (tenant : ℕ) (numbering : Numbering) (one other : State) : Type 0 where
   pub catalog : IsRenumberedCatalog numbering one.catalog other.catalog
-  pub locks : (s table : ℕ) (mode : Mode) → other.locks s table mode ≡ one.locks s table mode
+  pub locks : (s table : ℕ) (mode : LockMode) → other.locks s table mode ≡ one.locks s table mode
   pub sessions :
       (s : ℕ) → IsTrue (is_session s) → IsRenumberedSession tenant numbering (session_at one s) (session_at other s)
 

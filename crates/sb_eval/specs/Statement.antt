@@ -3,8 +3,8 @@ use Rattle.std.specs.Prelude.{ℕ, ◌+◌, ◌*◌, ◌^◌, Bool, ◌==◌, na
 use Rattle.sb_value.specs.declared.value.Value.{Value}
 use Rattle.sb_value.specs.declared.change.Change.{Change}
 use Rattle.sb_value.specs.declared.change.ChangeKind.TheVariants as kind
-use Rattle.sb_value.specs.declared.lock.Mode.{Mode}
-use Rattle.sb_value.specs.declared.lock.Mode.TheVariants.{Read, Write}
+use Rattle.sb_value.specs.declared.lock.LockMode.{LockMode}
+use Rattle.sb_value.specs.declared.lock.LockMode.TheVariants.{Read, Write}
 use Rattle.sb_value.specs.declared.refusal.Refusal.{Refusal}
 use Rattle.sb_value.specs.declared.refusal.Refusal.TheVariants.{TooBig, Overflow, TooManyRows}
 use Rattle.sb_value.specs.Columns.{set_of}
@@ -23,7 +23,7 @@ use Rattle.sb_plan.specs.Cost.{subquery_cost, operand_cost, query_cost}
 -- ---- the lock list: the tables in the order of their places in the text
 
 -- a read of each table among the sources; nothing for transition tables
-abbrev pub read_of : Source → Option (ℕ × Mode)
+abbrev pub read_of : Source → Option (ℕ × LockMode)
 read_of (source.Table t) = Some (t, Read)
 read_of source.Inserted = None
 read_of source.Deleted = None
@@ -31,19 +31,19 @@ read_of source.OldUpdated = None
 read_of source.NewUpdated = None
 
 -- the lock list of a query
-abbrev pub query_locks : Query → List (ℕ × Mode)
+abbrev pub query_locks : Query → List (ℕ × LockMode)
 query_locks q = filter_map read_of (query_sources q)
 
 -- a write of the table that is changed, and reads of the others
-abbrev pub write_of : ℕ → ℕ × Mode → ℕ × Mode
+abbrev pub write_of : ℕ → ℕ × LockMode → ℕ × LockMode
 write_of target r = if r.0 == target then (target, Write) else r
 
 -- the lock list of a statement with this target and these sources
-abbrev pub target_locks : ℕ → List Source → List (ℕ × Mode)
+abbrev pub target_locks : ℕ → List Source → List (ℕ × LockMode)
 target_locks target sources = (target, Write) ∷ map (write_of target) (filter_map read_of sources)
 
 -- the lock list of a statement
-abbrev pub statement_locks : Statement → List (ℕ × Mode)
+abbrev pub statement_locks : Statement → List (ℕ × LockMode)
 statement_locks (InsertRows t rows) = target_locks t []
 statement_locks (InsertQuery t q) = target_locks t (query_sources q)
 statement_locks (Delete t c) = target_locks t (sources_of c)

@@ -2,8 +2,8 @@
 use Rattle.std.specs.Prelude.{◌≡◌, ℕ, Bool, ◌&&◌, ◌||◌, ◌==◌, List, slice_index}
 use Rattle.std.specs.Int.{bit_at}
 use Rattle.sb_value.specs.Locks.{Locks, same_mode}
-use Rattle.sb_value.specs.declared.lock.Mode.{Mode}
-use Rattle.sb_value.specs.declared.lock.Mode.TheVariants.{Read, Write}
+use Rattle.sb_value.specs.declared.lock.LockMode.{LockMode}
+use Rattle.sb_value.specs.declared.lock.LockMode.TheVariants.{Read, Write}
 
 -- a word for each table
 pub record Holders : Type 0 where
@@ -21,10 +21,10 @@ held locks session table Write = has (slice_index locks.writers table) session
 
 -- the same locks are held
 abbrev pub Agree : Locks → Locks → Type 0
-Agree one other = (s t : ℕ) (m : Mode) → one s t m ≡ other s t m
+Agree one other = (s t : ℕ) (m : LockMode) → one s t m ≡ other s t m
 
 -- the locks with one more
-abbrev pub with_lock : Locks → ℕ → ℕ → Mode → Locks
+abbrev pub with_lock : Locks → ℕ → ℕ → LockMode → Locks
 with_lock locks session table mode s t m = locks s t m || ((s == session) && ((table == t) && same_mode mode m))
 
 -- whether the session is one of the table's holders

@@ -1,10 +1,10 @@
 //! The locks that are held, and requests for more.
 ghost use Rattle.std.specs.Prelude.{◌≡◌, ℕ, Bool, not, ◌&&◌, ◌||◌, ◌==◌, Option, length, slice_index, OnOk, IfErr, OnErr};
 ghost use Rattle.sb_value.specs.Locks.{no_locks, conflicts, first_conflict, with_locks, released};
-ghost use Rattle.sb_value.specs.declared.lock.Mode.{Mode};
+ghost use Rattle.sb_value.specs.declared.lock.LockMode.{LockMode};
 ghost use Rattle.sb_locks.specs.Held.{Agree, has, held, holds, with_lock};
 
-use sb_value::{Mode, SessionId, TABLE_LIMIT, TableId};
+use sb_value::{LockMode, SessionId, TABLE_LIMIT, TableId};
 use std::marker::Model;
 
 /// Another session holds this table.
@@ -31,7 +31,7 @@ impl Model for Locks {
 impl Locks {
     /// No locks.
     pub const fn new() -> Locks
-        ensures { (s t : ℕ) (m : Mode) → held result s t m ≡ no_locks s t m }
+        ensures { (s t : ℕ) (m : LockMode) → held result s t m ≡ no_locks s t m }
     {
         Locks {
             readers: [0; TABLE_LIMIT],
@@ -40,7 +40,11 @@ impl Locks {
     }
 
     /// Takes all locks of the list, in order of mention, or none.
-    pub fn request(&mut self, session: SessionId, request: &[(TableId, Mode)]) -> Result<(), Locked>
+    pub fn request(
+        &mut self,
+        session: SessionId,
+        request: &[(TableId, LockMode)],
+    ) -> Result<(), Locked>
         ensures granted { OnOk result (first_conflict (held self.old) session request.now ≡ None) }
         ensures taken { OnOk result (Agree (held self.new) (with_locks (held self.old) session request.now)) }
         ensures refused { IfErr result (λ e. first_conflict (held self.old) session request.now ≡ Some e.table) }
@@ -57,25 +61,25 @@ impl Locks {
 
     /// Gives up all locks of the session.
     pub fn release(&mut self, session: SessionId)
-        ensures { (s t : ℕ) (m : Mode) → held self.new s t m ≡ released (held self.old) session s t m }
+        ensures { (s t : ℕ) (m : LockMode) → held self.new s t m ≡ released (held self.old) session s t m }
     {
         leave(&mut self.readers, session);
         leave(&mut self.writers, session);
     }
 
     /// Whether the session holds the table in that mode.
-    pub fn is_held(&self, session: SessionId, table: TableId, mode: Mode) -> bool
+    pub fn is_held(&self, session: SessionId, table: TableId, mode: LockMode) -> bool
         ensures { result ≡ held self.now session table mode }
     {
         let holders = match mode {
-            Mode::Read => self.readers[table.index()],
-            Mode::Write => self.writers[table.index()],
+            LockMode::Read => self.readers[table.index()],
+            LockMode::Write => self.writers[table.index()],
         };
         holders >> session.number() & 1 == 1
     }
 
     /// The first table of the list that conflicts.
-    fn first_conflict(&self, session: SessionId, request: &[(TableId, Mode)]) -> Option<TableId>
+    fn first_conflict(&self, session: SessionId, request: &[(TableId, LockMode)]) -> Option<TableId>
         ensures { result ≡ first_conflict (held self.now) session request.now }
     {
         for (table, mode) in request {
@@ -87,24 +91,24 @@ impl Locks {
     }
 
     /// Whether the lock conflicts with one of another session.
-    fn conflicts(&self, session: SessionId, table: TableId, mode: Mode) -> bool
+    fn conflicts(&self, session: SessionId, table: TableId, mode: LockMode) -> bool
         ensures { result ≡ conflicts (held self.now) session table mode }
     {
         let writers = self.writers[table.index()];
         let holders = match mode {
-            Mode::Read => writers,
-            Mode::Write => writers | self.readers[table.index()],
+            LockMode::Read => writers,
+            LockMode::Write => writers | self.readers[table.index()],
         };
         holders & !(1 << session.number()) != 0
     }
 
     /// Adds one lock.
-    fn take(&mut self, session: SessionId, table: TableId, mode: Mode)
+    fn take(&mut self, session: SessionId, table: TableId, mode: LockMode)
         ensures { Agree (held self.new) (with_lock (held self.old) session table mode) }
     {
         match mode {
-            Mode::Read => join(&mut self.readers, table, session),
-            Mode::Write => join(&mut self.writers, table, session),
+            LockMode::Read => join(&mut self.readers, table, session),
+            LockMode::Write => join(&mut self.writers, table, session),
         }
     }
 }

@@ -7,7 +7,7 @@ use Rattle.sb_value.specs.declared.change.Change.{Change}
 use Rattle.sb_value.specs.declared.change.ChangeKind.{ChangeKind}
 use Rattle.sb_value.specs.declared.change.ChangeKind.TheVariants.{Inserted, Deleted, Updated}
 use Rattle.sb_value.specs.declared.id.Who.{Who}
-use Rattle.sb_value.specs.declared.lock.Mode.TheVariants.{Write}
+use Rattle.sb_value.specs.declared.lock.LockMode.TheVariants.{Write}
 use Rattle.sb_value.specs.declared.net.Triggers.{Triggers}
 use Rattle.sb_value.specs.Flags.{flag_at, share_place}
 use Rattle.sb_value.specs.Laws.{IsLife, AreLives, kind_triggers, ProperListsHaveLives, LastChangeTriggers}

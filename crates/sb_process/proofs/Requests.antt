@@ -4,8 +4,8 @@ use Rattle.std.proofs.lemmas.Option.{none-some, same_Some}
 use Rattle.std.specs.Option.{option_copied}
 use Rattle.sb_value.specs.declared.change.Change.{Change}
 use Rattle.sb_value.specs.declared.id.Who.{Who}
-use Rattle.sb_value.specs.declared.lock.Mode.{Mode}
-use Rattle.sb_value.specs.declared.lock.Mode.TheVariants.{Write}
+use Rattle.sb_value.specs.declared.lock.LockMode.{LockMode}
+use Rattle.sb_value.specs.declared.lock.LockMode.TheVariants.{Write}
 use Rattle.sb_value.specs.declared.refusal.Refusal.{Refusal}
 use Rattle.sb_value.specs.declared.refusal.Refusal.TheVariants.{Locked}
 use Rattle.sb_value.specs.Locks.{Locks, same_mode, conflicts, first_conflict, with_locks}
@@ -36,16 +36,16 @@ use Rattle.sb_process.proofs.Settling.{same_number, some_numbered, some_copied, 
 
 -- ---- names
 
-conflict_there : (tables : List Held) (held : Locks) (session : ℕ) (request : List (ℕ × Mode)) (table : ℕ) → AreThere tables request → first_conflict held session request ≡ Some table → has_number tables table ≡ true
+conflict_there : (tables : List Held) (held : Locks) (session : ℕ) (request : List (ℕ × LockMode)) (table : ℕ) → AreThere tables request → first_conflict held session request ≡ Some table → has_number tables table ≡ true
 conflict_there tables held session [] table h e = absurd (none-some table e)
 conflict_there tables held session (r ∷ request) table h e = by (conflicts held session r.0 r.1) e (conflict_there tables held session request table h.1)
   where
-    by : (b : Bool) → option_map (λ (x : ℕ × Mode). x.0) (cond b (Some r) (find (λ (x : ℕ × Mode). conflicts held session x.0 x.1) request)) ≡ Some table →
+    by : (b : Bool) → option_map (λ (x : ℕ × LockMode). x.0) (cond b (Some r) (find (λ (x : ℕ × LockMode). conflicts held session x.0 x.1) request)) ≡ Some table →
         (first_conflict held session request ≡ Some table → has_number tables table ≡ true) → has_number tables table ≡ true
     by true p rest = ap (has_number tables) (sym (same_Some r.0 table p)) ∙ h.0
     by false p rest = rest p
 
-pub has_name_of : (tables : List Held) (held : Locks) (session : ℕ) (request : List (ℕ × Mode)) (table : ℕ) (r : Option (Bor (List ℕ))) → AreThere tables request →
+pub has_name_of : (tables : List Held) (held : Locks) (session : ℕ) (request : List (ℕ × LockMode)) (table : ℕ) (r : Option (Bor (List ℕ))) → AreThere tables request →
     first_conflict held session request ≡ Some table → option_copied r ≡ option_map (λ (h : Held). h.name) (numbered tables table) → IsSome r
 has_name_of tables held session request table r h e named =
     sym (some_copied r) ∙ ap is_some named ∙ some_mapped (λ (h : Held). h.name) (numbered tables table) ∙ some_numbered tables table ∙ conflict_there tables held session request table h e
@@ -75,10 +75,10 @@ name-held (h ∷ tables) id name e = by (nat_eq h.id id) e (name-held tables id 
     by false p rest = rest p
 
 -- locks stay where more are taken
-still_locked : (held : Locks) (who session : ℕ) (list : List (ℕ × Mode)) (cs : List Change) → AreLocked held session cs → AreLocked (with_locks held who list) session cs
+still_locked : (held : Locks) (who session : ℕ) (list : List (ℕ × LockMode)) (cs : List Change) → AreLocked held session cs → AreLocked (with_locks held who list) session cs
 still_locked held who session list [] h = tt
 still_locked held who session list (c ∷ cs) h =
-    (ap (λ (b : Bool). b || ((nat_eq session who) && list_any (λ (x : ℕ × Mode). (nat_eq x.0 c.table) && same_mode x.1 Write) list)) h.0, still_locked held who session list cs h.1)
+    (ap (λ (b : Bool). b || ((nat_eq session who) && list_any (λ (x : ℕ × LockMode). (nat_eq x.0 c.table) && same_mode x.1 Write) list)) h.0, still_locked held who session list cs h.1)
 
 -- the candidates have nothing to do with locks
 same_candidates : (kept : Kept) (session : ℕ) (p : Progress) (more : Locks) (rules : List Rule) → AreCandidates kept session p rules → AreCandidates kept session (record p { locks = more }) rules
@@ -102,10 +102,10 @@ module _ {origin : List Held} {d : Database} {session : ℕ} {records : List Rec
   same_session = ap (λ (w : Who). w.session) r.who
 
   -- the conflict that is found is the definition's
-  pub same_conflict : (list : List (ℕ × Mode)) → first_conflict progress.locks setting.who.session list ≡ first_conflict (held d.locks) session list
+  pub same_conflict : (list : List (ℕ × LockMode)) → first_conflict progress.locks setting.who.session list ≡ first_conflict (held d.locks) session list
   same_conflict list = λ i. first_conflict (sym same_locks i) (same_session i) list
 
-  pub found_conflict : {list asked : List (ℕ × Mode)} {found : Option ℕ} → asked ≡ list → first_conflict (held d.locks) session asked ≡ found → first_conflict progress.locks setting.who.session list ≡ found
+  pub found_conflict : {list asked : List (ℕ × LockMode)} {found : Option ℕ} → asked ≡ list → first_conflict (held d.locks) session asked ≡ found → first_conflict progress.locks setting.who.session list ≡ found
   found_conflict {list} {asked} {found} same e = same_conflict list ∙ ap (first_conflict (held d.locks) session) (sym same) ∙ e
 
   -- a statement sees what memory holds
@@ -113,7 +113,7 @@ module _ {origin : List Held} {d : Database} {session : ℕ} {records : List Rec
   same_seen t p e = λ i. record { tables = (ap (λ cs. after_all cs setting.base) e ∙ sym seen_tables) i; transition = t; who = r.who i }
 
   -- with the same changes made of other tables, and under other locks
-  pub stands_with : (tables : List Held) (holders : Holders) (locks : Locks) → AreMade origin progress.changes tables → ((s t : ℕ) (m : Mode) → held holders s t m ≡ locks s t m) → AreLocked locks session progress.changes →
+  pub stands_with : (tables : List Held) (holders : Holders) (locks : Locks) → AreMade origin progress.changes tables → ((s t : ℕ) (m : LockMode) → held holders s t m ≡ locks s t m) → AreLocked locks session progress.changes →
       AreCandidates d.transactions session (record progress { locks = locks }) setting.rules → Represents origin (record d { tables = tables; locks = holders }) session records clock setting (record progress { locks = locks })
   stands_with tables holders locks made are_held are_locked are_candidates = record {
     who = r.who;
@@ -130,7 +130,7 @@ module _ {origin : List Held} {d : Database} {session : ℕ} {records : List Rec
   }
 
   -- with more locks
-  pub with_more : (more : Holders) (list : List (ℕ × Mode)) → ((s t : ℕ) (m : Mode) → held more s t m ≡ with_locks (held d.locks) session list s t m) →
+  pub with_more : (more : Holders) (list : List (ℕ × LockMode)) → ((s t : ℕ) (m : LockMode) → held more s t m ≡ with_locks (held d.locks) session list s t m) →
       Represents origin (record d { locks = more }) session records clock setting (record progress { locks = with_locks progress.locks setting.who.session list })
   with_more more list taken =
       let locks : Locks = with_locks progress.locks setting.who.session list in
@@ -139,21 +139,21 @@ module _ {origin : List Held} {d : Database} {session : ℕ} {records : List Rec
 
 -- ---- the definition, where the request is refused or granted
 
-pub refused_answer : {A : Type 0} (setting : Setting) (progress : Progress) (list : List (ℕ × Mode)) (next : Progress → Result A Refusal) (table : ℕ) →
+pub refused_answer : {A : Type 0} (setting : Setting) (progress : Progress) (list : List (ℕ × LockMode)) (next : Progress → Result A Refusal) (table : ℕ) →
     first_conflict progress.locks setting.who.session list ≡ Some table → with_request setting progress list next ≡ Err (Locked (name_at setting.base table))
 refused_answer {A} setting progress list next table e =
     λ i. elim (e i) as (λ _. Result A Refusal) [ Some t ↦ Err (Locked (name_at setting.base t)) | None ↦ next (record progress { locks = with_locks progress.locks setting.who.session list }) ]
 
-pub granted_answer : {A : Type 0} (setting : Setting) (progress : Progress) (list : List (ℕ × Mode)) (next : Progress → Result A Refusal) →
+pub granted_answer : {A : Type 0} (setting : Setting) (progress : Progress) (list : List (ℕ × LockMode)) (next : Progress → Result A Refusal) →
     first_conflict progress.locks setting.who.session list ≡ None → with_request setting progress list next ≡ next (record progress { locks = with_locks progress.locks setting.who.session list })
 granted_answer {A} setting progress list next e =
     λ i. elim (e i) as (λ _. Result A Refusal) [ Some t ↦ Err (Locked (name_at setting.base t)) | None ↦ next (record progress { locks = with_locks progress.locks setting.who.session list }) ]
 
-pub after_refused : (setting : Setting) (progress : Progress) (list : List (ℕ × Mode)) (table : ℕ) → first_conflict progress.locks setting.who.session list ≡ Some table → after_request setting list progress ≡ progress
+pub after_refused : (setting : Setting) (progress : Progress) (list : List (ℕ × LockMode)) (table : ℕ) → first_conflict progress.locks setting.who.session list ≡ Some table → after_request setting list progress ≡ progress
 after_refused setting progress list table e =
     λ i. elim (e i) as (λ _. Progress) [ Some t ↦ progress | None ↦ record progress { locks = with_locks progress.locks setting.who.session list } ]
 
-pub after_granted : (setting : Setting) (progress : Progress) (list : List (ℕ × Mode)) → first_conflict progress.locks setting.who.session list ≡ None →
+pub after_granted : (setting : Setting) (progress : Progress) (list : List (ℕ × LockMode)) → first_conflict progress.locks setting.who.session list ≡ None →
     after_request setting list progress ≡ record progress { locks = with_locks progress.locks setting.who.session list }
 after_granted setting progress list e =
     λ i. elim (e i) as (λ _. Progress) [ Some t ↦ progress | None ↦ record progress { locks = with_locks progress.locks setting.who.session list } ]
@@ -172,17 +172,17 @@ answer_err view meant same error.NoMemory f a p s = inr (ap Err p)
 -- ---- statements
 
 -- the target of a statement is locked for writing once its locks are taken
-first_locked : (locks : Locks) (session t : ℕ) (list : List (ℕ × Mode)) → with_locks locks session ((t, Write) ∷ list) session t Write ≡ true
+first_locked : (locks : Locks) (session t : ℕ) (list : List (ℕ × LockMode)) → with_locks locks session ((t, Write) ∷ list) session t Write ≡ true
 first_locked locks session t list = by (locks session t Write)
   where
-    rest : (((nat_eq session session) && (((nat_eq t t) && true) || list_any (λ (x : ℕ × Mode). (nat_eq x.0 t) && same_mode x.1 Write) list))) ≡ true
-    rest = λ i. same_number session i && ((same_number t i && true) || list_any (λ (x : ℕ × Mode). (nat_eq x.0 t) && same_mode x.1 Write) list)
+    rest : (((nat_eq session session) && (((nat_eq t t) && true) || list_any (λ (x : ℕ × LockMode). (nat_eq x.0 t) && same_mode x.1 Write) list))) ≡ true
+    rest = λ i. same_number session i && ((same_number t i && true) || list_any (λ (x : ℕ × LockMode). (nat_eq x.0 t) && same_mode x.1 Write) list)
 
-    by : (b : Bool) → (b || ((nat_eq session session) && (((nat_eq t t) && true) || list_any (λ (x : ℕ × Mode). (nat_eq x.0 t) && same_mode x.1 Write) list))) ≡ true
+    by : (b : Bool) → (b || ((nat_eq session session) && (((nat_eq t t) && true) || list_any (λ (x : ℕ × LockMode). (nat_eq x.0 t) && same_mode x.1 Write) list))) ≡ true
     by true = refl
     by false = rest
 
 pub target_locked : (locks : Locks) (session : ℕ) (s : Statement) → with_locks locks session (statement_locks s) session (target s) Write ≡ true
 target_locked locks session s =
-    let rest : List (ℕ × Mode) = map (write_of (target s)) (reads (mentioned s)) in
-    subst (λ (l : List (ℕ × Mode)). with_locks locks session l session (target s) Write ≡ true) (locks_of s ((target s, Write) ∷ rest) refl) (first_locked locks session (target s) rest)
+    let rest : List (ℕ × LockMode) = map (write_of (target s)) (reads (mentioned s)) in
+    subst (λ (l : List (ℕ × LockMode)). with_locks locks session l session (target s) Write ≡ true) (locks_of s ((target s, Write) ∷ rest) refl) (first_locked locks session (target s) rest)

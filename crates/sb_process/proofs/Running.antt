@@ -4,7 +4,7 @@ use Rattle.std.specs.List.{list_any}
 use Rattle.sb_value.specs.declared.value.Value.{Value}
 use Rattle.sb_value.specs.declared.change.Change.{Change}
 use Rattle.sb_value.specs.declared.net.Transition.{Transition}
-use Rattle.sb_value.specs.declared.lock.Mode.{Mode}
+use Rattle.sb_value.specs.declared.lock.LockMode.{LockMode}
 use Rattle.sb_value.specs.declared.refusal.Refusal.{Refusal}
 use Rattle.sb_value.specs.declared.refusal.Refusal.TheVariants.{Locked, NoMemory}
 use Rattle.sb_value.specs.Locks.{Locks, same_mode, first_conflict, with_locks, released}
@@ -32,15 +32,15 @@ use Rattle.sb_process.proofs.Sharing.{there}
 -- ---- locks
 
 -- a release takes what a session has taken more
-pub released-with : (locks : Locks) (who session : ℕ) (list : List (ℕ × Mode)) → who ≡ session → (s t : ℕ) (m : Mode) → released (with_locks locks who list) session s t m ≡ released locks session s t m
-released-with locks who session list same s t m = by (nat_eq s session) (locks s t m) (list_any (λ (r : ℕ × Mode). (nat_eq r.0 t) && same_mode r.1 m) list) (nat_eq s who) (ap (nat_eq s) same)
+pub released-with : (locks : Locks) (who session : ℕ) (list : List (ℕ × LockMode)) → who ≡ session → (s t : ℕ) (m : LockMode) → released (with_locks locks who list) session s t m ≡ released locks session s t m
+released-with locks who session list same s t m = by (nat_eq s session) (locks s t m) (list_any (λ (r : ℕ × LockMode). (nat_eq r.0 t) && same_mode r.1 m) list) (nat_eq s who) (ap (nat_eq s) same)
   where
     by : (b l more own : Bool) → own ≡ b → (not b && (l || (own && more))) ≡ (not b && l)
     by true l more own e = refl
     by false true more own e = refl
     by false false more own e = ap (λ (o : Bool). o && more) e
 
-pub released-after : (setting : Setting) (progress : Progress) (list : List (ℕ × Mode)) (session : ℕ) → setting.who.session ≡ session → (s t : ℕ) (m : Mode) →
+pub released-after : (setting : Setting) (progress : Progress) (list : List (ℕ × LockMode)) (session : ℕ) → setting.who.session ≡ session → (s t : ℕ) (m : LockMode) →
     released (after_request setting list progress).locks session s t m ≡ released progress.locks session s t m
 released-after setting progress list session same s t m = by (first_conflict progress.locks setting.who.session list)
   where
@@ -54,7 +54,7 @@ same-locks (Err refusal) p = refl
 
 -- ---- tables
 
-pub there-same : (old new : List Held) → ((id : ℕ) → has_number new id ≡ has_number old id) → (request : List (ℕ × Mode)) → AreThere old request → AreThere new request
+pub there-same : (old new : List Held) → ((id : ℕ) → has_number new id ≡ has_number old id) → (request : List (ℕ × LockMode)) → AreThere old request → AreThere new request
 there-same old new e [] h = tt
 there-same old new e (r ∷ request) h = (e r.0 ∙ h.0, there-same old new e request h.1)
 
@@ -73,7 +73,7 @@ module _ (origin : List Held) (session : ℕ) (setting : Setting) (progress : Pr
     same-numbers after n id = there origin new.tables after.changes n.stands.made id ∙ sym (there origin d.tables progress.changes r.made id)
 
     -- after the request, after the statement
-    pub comes-request : (list : List (ℕ × Mode)) → Represents origin new session later time setting (after_request setting list progress) →
+    pub comes-request : (list : List (ℕ × LockMode)) → Represents origin new session later time setting (after_request setting list progress) →
         ComesTo origin new session later time setting progress (after_request setting list progress)
     comes-request list n = record { stands = n; locks = released-after setting progress list session (same_session r) }
 

@@ -6,7 +6,7 @@ use Rattle.std.specs.Option.{option_copied}
 use Rattle.sb_value.specs.declared.change.Change.{Change}
 use Rattle.sb_tables.specs.Laws.{ChangesKeepPlaces}
 use Rattle.sb_value.specs.Locks.{Locks, released}
-use Rattle.sb_value.specs.declared.lock.Mode.{Mode}
+use Rattle.sb_value.specs.declared.lock.LockMode.{LockMode}
 use Rattle.sb_tables.specs.Stored.{Stored, IsStored, HavePlaces, numbers_of}
 use Rattle.sb_tables.specs.Held.{Held, numbered, has_number, stored_as, with_stored, settled}
 use Rattle.sb_process.specs.Made.{AreNumbered, AreStored, AreMade, tables_after_all, without_room}
@@ -101,5 +101,5 @@ sound-made law origin cs tables m =
 
 -- ---- locks
 
-pub same_released : (one other : Locks) (session : ℕ) → ((s t : ℕ) (m : Mode) → one s t m ≡ other s t m) → (s t : ℕ) (m : Mode) → released one session s t m ≡ released other session s t m
+pub same_released : (one other : Locks) (session : ℕ) → ((s t : ℕ) (m : LockMode) → one s t m ≡ other s t m) → (s t : ℕ) (m : LockMode) → released one session s t m ≡ released other session s t m
 same_released one other session h s t m = ap (λ b. not (nat_eq s session) && b) (h s t m)

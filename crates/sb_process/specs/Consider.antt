@@ -3,7 +3,7 @@ use Rattle.std.specs.Prelude.{ℕ, Bool, true, false, List, [], ◌∷◌, ◌++
 use Rattle.sb_value.specs.declared.value.Value.{Value}
 use Rattle.sb_value.specs.declared.change.Change.{Change}
 use Rattle.sb_value.specs.declared.net.Transition.{Transition}
-use Rattle.sb_value.specs.declared.lock.Mode.{Mode}
+use Rattle.sb_value.specs.declared.lock.LockMode.{LockMode}
 use Rattle.sb_value.specs.declared.refusal.Refusal.{Refusal}
 use Rattle.sb_value.specs.declared.refusal.Refusal.TheVariants.{Locked}
 use Rattle.sb_value.specs.Table.{name_at}
@@ -18,7 +18,7 @@ use Rattle.sb_eval.specs.Statement.{query_locks, statement_locks, condition_rows
 use Rattle.sb_process.specs.Setting.{Setting, Progress, rule_tables, marked, seen_with}
 
 -- the locks are asked for; what follows is done with them, and not at all where a table conflicts
-abbrev pub with_request : {A : Type 0} → Setting → Progress → List (ℕ × Mode) → (Progress → Result A Refusal) → Result A Refusal
+abbrev pub with_request : {A : Type 0} → Setting → Progress → List (ℕ × LockMode) → (Progress → Result A Refusal) → Result A Refusal
 with_request setting progress request next =
     elim (first_conflict progress.locks setting.who.session request) [
       | Some table ↦ Err (Locked (name_at setting.base table))

@@ -2,8 +2,8 @@
 use Rattle.std.specs.Prelude.{◌≡◌, ◌≤◌, ℕ, Bool, ◌&&◌, nat_lt, List, [], ◌∷◌, IsTrue, IsFalse}
 use Rattle.sb_value.specs.declared.change.Change.{Change}
 use Rattle.sb_value.specs.declared.id.Who.{Who}
-use Rattle.sb_value.specs.declared.lock.Mode.{Mode}
-use Rattle.sb_value.specs.declared.lock.Mode.TheVariants.{Write}
+use Rattle.sb_value.specs.declared.lock.LockMode.{LockMode}
+use Rattle.sb_value.specs.declared.lock.LockMode.TheVariants.{Write}
 use Rattle.sb_value.specs.Locks.{Locks, released}
 use Rattle.sb_value.specs.NetEffect.{is_triggered}
 use Rattle.sb_rawlog.specs.Records.{Record}
@@ -51,7 +51,7 @@ pub record Represents (origin : List Held) (database : Database) (session : ℕ)
   pub marks : (rule : ℕ) → progress.marks rule ≡ mark_at (who_in database session) (mark_of database.transactions session rule) records
   pub base : entries origin ≡ setting.base
   pub made : AreMade origin progress.changes database.tables
-  pub locks : (s t : ℕ) (m : Mode) → held database.locks s t m ≡ progress.locks s t m
+  pub locks : (s t : ℕ) (m : LockMode) → held database.locks s t m ≡ progress.locks s t m
   pub locked : AreLocked progress.locks session progress.changes
   pub candidates : AreCandidates database.transactions session progress setting.rules
 
@@ -77,7 +77,7 @@ pub record IsTakenBack (origin : List Held) (old new : Database) (session : ℕ)
   pub none : changes_by (who_in new session) records ≡ []
   pub tables : entries new.tables ≡ setting.base
   pub made : AreMade origin [] new.tables
-  pub locks : (s t : ℕ) (m : Mode) → held new.locks s t m ≡ released progress.locks session s t m
+  pub locks : (s t : ℕ) (m : LockMode) → held new.locks s t m ≡ released progress.locks session s t m
   pub sessions : OtherSessionsStay old.transactions new.transactions session
 
 -- the session has no changes; the tables are as the transaction saw them, sound for the next one; those that it had locked for writing are settled
@@ -87,7 +87,7 @@ pub record IsKept (old new : Database) (session : ℕ) (records : List Record) (
   pub tables : entries new.tables ≡ tables_seen setting progress
   pub made : AreMade new.tables [] new.tables
   pub settled : new.tables ≡ settled_where (is_written progress.locks session) old.tables
-  pub locks : (s t : ℕ) (m : Mode) → held new.locks s t m ≡ released progress.locks session s t m
+  pub locks : (s t : ℕ) (m : LockMode) → held new.locks s t m ≡ released progress.locks session s t m
   pub sessions : OtherSessionsStay old.transactions new.transactions session
 
 -- ---- the beginning of a transaction

@@ -1,7 +1,7 @@
 -- Machine: a session's statement with all its locks asked for at once.
 use Rattle.std.specs.Prelude.{◌≡◌, ◌⊎◌, ℕ, List, [], ◌∷◌, Some, None, Result, Err, IsTrue, option_map}
 use Rattle.sb_value.specs.declared.value.Value.{Value}
-use Rattle.sb_value.specs.declared.lock.Mode.{Mode}
+use Rattle.sb_value.specs.declared.lock.LockMode.{LockMode}
 use Rattle.sb_value.specs.declared.refusal.Refusal.{Refusal}
 use Rattle.sb_value.specs.declared.refusal.Refusal.TheVariants.{Locked, TooBig, Overflow, TooManyRows, NoMemory}
 use Rattle.sb_value.specs.Locks.{first_conflict, with_locks}
@@ -18,12 +18,12 @@ use Rattle.sb_process.specs.Setting.{Setting, Progress, seen_with}
 use Rattle.sb_process.specs.Consider.{with_request}
 
 -- each table of the request is there
-abbrev pub AreThere : List Held → List (ℕ × Mode) → Type 0
+abbrev pub AreThere : List Held → List (ℕ × LockMode) → Type 0
 AreThere tables [] = Unit {0}
 AreThere tables (r ∷ request) = IsTrue (has_number tables r.0) × AreThere tables request
 
 -- the progress once the locks were asked for: with all of them, or with none where a table conflicts
-abbrev pub after_request : Setting → List (ℕ × Mode) → Progress → Progress
+abbrev pub after_request : Setting → List (ℕ × LockMode) → Progress → Progress
 after_request setting request progress =
     elim (first_conflict progress.locks setting.who.session request) [
       | Some table ↦ progress

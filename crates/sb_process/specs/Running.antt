@@ -1,7 +1,7 @@
 -- Machine: what the consideration of a rule comes to in memory.
 use Rattle.std.specs.Prelude.{◌≡◌, ℕ, Bool, true, false, List, [], ◌∷◌, ◌++◌, Option, Some, None, Result, Ok, Err}
 use Rattle.sb_value.specs.declared.value.Value.{Value}
-use Rattle.sb_value.specs.declared.lock.Mode.{Mode}
+use Rattle.sb_value.specs.declared.lock.LockMode.{LockMode}
 use Rattle.sb_value.specs.declared.refusal.Refusal.{Refusal}
 use Rattle.sb_value.specs.declared.refusal.Verdict.{Verdict}
 use Rattle.sb_value.specs.declared.refusal.Verdict.TheVariants as verdict
@@ -41,7 +41,7 @@ EachRunning database session records clock index Says =
 -- the transaction has come to this; a release leaves the same locks as before
 pub record ComesTo (origin : List Held) (new : Database) (session : ℕ) (records : List Record) (clock : ℕ) (setting : Setting) (progress after : Progress) : Type 0 where
   pub stands : Represents origin new session records clock setting after
-  pub locks : (s t : ℕ) (m : Mode) → released after.locks session s t m ≡ released progress.locks session s t m
+  pub locks : (s t : ℕ) (m : LockMode) → released after.locks session s t m ≡ released progress.locks session s t m
 
 -- each transaction goes on, with the log as it is
 abbrev pub GoesOnHere : Database → Database → ℕ → Type 0

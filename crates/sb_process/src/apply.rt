@@ -1,6 +1,6 @@
 //! Changes made one after another, for which all memory is there.
 ghost use Rattle.std.specs.Prelude.{◌≡◌, ℕ, ◌+◌, ◌-◌, ◌<◌, ◌≤◌, ◌^◌, [], ◌∷◌, ◌++◌, length, IsTrue};
-ghost use Rattle.sb_value.specs.declared.lock.Mode.TheVariants as mode;
+ghost use Rattle.sb_value.specs.declared.lock.LockMode.TheVariants as mode;
 ghost use Rattle.sb_value.specs.Table.{fits_kind};
 ghost use Rattle.sb_rawlog.specs.Changes.{author};
 ghost use Rattle.sb_rawlog.specs.Sessions.{OthersStay};

@@ -1,6 +1,6 @@
 //! Statements that change tables.
 ghost use Rattle.std.specs.Prelude.{◌≡◌, ◌⊎◌, ℕ, ◌+◌, ◌<◌, ◌^◌, IsTrue, IfOk, IfErr, Ok, Err};
-ghost use Rattle.sb_value.specs.declared.lock.Mode.TheVariants as mode;
+ghost use Rattle.sb_value.specs.declared.lock.LockMode.TheVariants as mode;
 ghost use Rattle.sb_value.specs.declared.refusal.Refusal.TheVariants as variant;
 ghost use Rattle.sb_eval.specs.Laws.{AreMakeable};
 ghost use Rattle.sb_eval.specs.Seen.{no_transition};

@@ -1,7 +1,7 @@
 //! What statements and rules of a tenant change.
 ghost use Rattle.std.specs.Prelude.{◌≡◌, ℕ, []};
 ghost use Rattle.sb_value.specs.Locks.{no_locks};
-ghost use Rattle.sb_value.specs.declared.lock.Mode.{Mode};
+ghost use Rattle.sb_value.specs.declared.lock.LockMode.{LockMode};
 ghost use Rattle.sb_locks.specs.Held.{held};
 ghost use Rattle.sb_process.specs.Represents.{who_in};
 ghost use Rattle.sb_process.specs.Transactions.{mark_of, tested_of};
@@ -26,7 +26,7 @@ impl Database {
     pub fn new(alloc: Global, id: TenantId) -> Database
         ensures id { result.id ≡ id }
         ensures tables { result.tables ≡ [] }
-        ensures locks { (s t : ℕ) (m : Mode) → held result.locks s t m ≡ no_locks s t m }
+        ensures locks { (s t : ℕ) (m : LockMode) → held result.locks s t m ≡ no_locks s t m }
         ensures marks { (s r : ℕ) → mark_of result.transactions s r ≡ 0 }
         ensures tested { (s r : ℕ) → tested_of result.transactions s r ≡ 0 }
     {

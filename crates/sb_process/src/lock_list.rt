@@ -2,23 +2,23 @@
 ghost use Rattle.std.specs.Prelude.{◌≡◌, [], ◌∷◌, ◌++◌, map, filter_map, IfOk};
 ghost use Rattle.sb_check.specs.Mentions.{mentioned, target};
 ghost use Rattle.sb_eval.specs.Statement as spec;
-ghost use Rattle.sb_value.specs.declared.lock.Mode.TheVariants as mode;
+ghost use Rattle.sb_value.specs.declared.lock.LockMode.TheVariants as mode;
 ghost use Rattle.sb_eval.specs.Statement.{read_of, write_of as locked};
 
 use sb_check::{Query, Source, SourceVisitor, Statement, visit_query, visit_statement};
-use sb_value::{Mode, TableId};
+use sb_value::{LockMode, TableId};
 use std::alloc::{AllocError, Global};
 use std::marker::Model;
 
 /// A read of each table that is shown, in order.
 #[derive(Drop)]
 struct Reads {
-    list: Vec<(TableId, Mode)>,
+    list: Vec<(TableId, LockMode)>,
 }
 
 impl Model for Reads {
     ghost use Rattle.std.specs.Prelude.{ℕ, List};
-    ghost use Rattle.sb_value.specs.declared.lock.Mode.{Mode as OfLock};
+    ghost use Rattle.sb_value.specs.declared.lock.LockMode.{LockMode as OfLock};
 
     ghost Value = { List (ℕ × OfLock) };
 
@@ -32,7 +32,7 @@ impl SourceVisitor for Reads {
 
     fn visit(&mut self, source: Source) -> Result<(), AllocError> {
         if let Source::Table(table) = source {
-            self.list.push((table, Mode::Read))?;
+            self.list.push((table, LockMode::Read))?;
         }
         Ok(())
     }
@@ -40,7 +40,10 @@ impl SourceVisitor for Reads {
 
 /// The locks of a query, in order of mention.
 #[tactic(auto, using(crate::proofs::LockLists::shown))]
-pub(crate) fn query_locks(alloc: Global, query: &Query) -> Result<Vec<(TableId, Mode)>, AllocError>
+pub(crate) fn query_locks(
+    alloc: Global,
+    query: &Query,
+) -> Result<Vec<(TableId, LockMode)>, AllocError>
     ensures { IfOk result (λ locks. locks.items ≡ spec.query_locks query.now) }
 {
     let mut reads = Reads {
@@ -56,7 +59,7 @@ pub(crate) fn query_locks(alloc: Global, query: &Query) -> Result<Vec<(TableId, 
 pub(crate) fn statement_locks(
     alloc: Global,
     statement: &Statement,
-) -> Result<Vec<(TableId, Mode)>, AllocError>
+) -> Result<Vec<(TableId, LockMode)>, AllocError>
     ensures { IfOk result (λ locks. locks.items ≡ spec.statement_locks statement.now) }
 {
     let reads = statement_reads(alloc, statement)?;
@@ -64,7 +67,10 @@ pub(crate) fn statement_locks(
 }
 
 #[tactic(auto, using(crate::proofs::LockLists::shown))]
-fn statement_reads(alloc: Global, statement: &Statement) -> Result<Vec<(TableId, Mode)>, AllocError>
+fn statement_reads(
+    alloc: Global,
+    statement: &Statement,
+) -> Result<Vec<(TableId, LockMode)>, AllocError>
     ensures { IfOk result (λ reads. reads.items ≡ filter_map read_of (mentioned statement.now)) }
 {
     let mut reads = Reads {
@@ -84,13 +90,13 @@ pub(crate) fn target_of(statement: &Statement) -> TableId
 /// The write of the target before the locks of the sources, which are writes where they are of the target.
 fn with_target(
     alloc: Global,
-    reads: &[(TableId, Mode)],
+    reads: &[(TableId, LockMode)],
     target: TableId,
-) -> Result<Vec<(TableId, Mode)>, AllocError>
+) -> Result<Vec<(TableId, LockMode)>, AllocError>
     ensures { IfOk result (λ locks. locks.items ≡ (target, mode.Write) ∷ map (locked target) reads.now) }
 {
     let mut locks = Vec::with_capacity(alloc, reads.len() + 1)?;
-    locks.push((target, Mode::Write))?;
+    locks.push((target, LockMode::Write))?;
     for read in reads {
         locks.push(write_of(target, *read))?;
     }
@@ -98,11 +104,11 @@ fn with_target(
 }
 
 /// A lock of the target is a write.
-fn write_of(target: TableId, lock: (TableId, Mode)) -> (TableId, Mode)
+fn write_of(target: TableId, lock: (TableId, LockMode)) -> (TableId, LockMode)
     ensures { result ≡ locked target lock }
 {
     if lock.0 == target {
-        (target, Mode::Write)
+        (target, LockMode::Write)
     } else {
         lock
     }

@@ -1,7 +1,7 @@
 //! Locks for a session, all at once or none.
 ghost use Rattle.std.specs.Prelude.{◌≡◌, ◌⊎◌, ℕ, Some, None, OnOk, IfErr, OnErr};
 ghost use Rattle.sb_value.specs.Locks.{first_conflict, with_locks};
-ghost use Rattle.sb_value.specs.declared.lock.Mode.{Mode};
+ghost use Rattle.sb_value.specs.declared.lock.LockMode.{LockMode};
 ghost use Rattle.sb_eval.specs.Statement as spec;
 ghost use Rattle.sb_locks.specs.Held.{held};
 ghost use Rattle.sb_process.specs.Request.{AreThere, IsLocked};
@@ -10,7 +10,7 @@ use crate::lock_list::statement_locks;
 use sb_check::Statement;
 use sb_locks::Locks;
 use sb_tables::Tables;
-use sb_value::{Mode, Refusal, SessionId, TableId};
+use sb_value::{LockMode, Refusal, SessionId, TableId};
 use std::alloc::Global;
 
 /// Takes all locks of the list, or none: the first table that conflicts is named.
@@ -18,11 +18,11 @@ pub(crate) fn request(
     locks: &mut Locks,
     tables: &Tables,
     session: SessionId,
-    list: &[(TableId, Mode)],
+    list: &[(TableId, LockMode)],
 ) -> Result<(), Refusal>
     requires { AreThere tables.now list.now }
     ensures granted { OnOk result (first_conflict (held locks.old) session list.now ≡ None) }
-    ensures taken { OnOk result ((s t : ℕ) (m : Mode) →
+    ensures taken { OnOk result ((s t : ℕ) (m : LockMode) →
         held locks.new s t m ≡ with_locks (held locks.old) session list.now s t m) }
     ensures refused { IfErr result (λ e. (table : ℕ)
         × (first_conflict (held locks.old) session list.now ≡ Some table) × IsLocked tables.now table e) }
@@ -45,7 +45,7 @@ pub(crate) fn lock(
     requires { AreThere tables.now (spec.statement_locks statement.now) }
     ensures granted { OnOk result
         (first_conflict (held locks.old) session (spec.statement_locks statement.now) ≡ None) }
-    ensures taken { OnOk result ((s t : ℕ) (m : Mode) →
+    ensures taken { OnOk result ((s t : ℕ) (m : LockMode) →
         held locks.new s t m ≡ with_locks (held locks.old) session (spec.statement_locks statement.now) s t m) }
     ensures refused { IfErr result (λ e. (e ≡ Refusal.NoMemory) ⊎ ((table : ℕ)
         × (first_conflict (held locks.old) session (spec.statement_locks statement.now) ≡ Some table)
@@ -53,7 +53,7 @@ pub(crate) fn lock(
     ensures unchanged { OnErr result (locks.new ≡ locks.old) }
 {
     if let Statement::InsertRows(target, _) = statement {
-        return request(locks, tables, session, &[(*target, Mode::Write)]);
+        return request(locks, tables, session, &[(*target, LockMode::Write)]);
     }
     let Ok(list) = statement_locks(alloc, statement) else {
         return Err(Refusal::NoMemory);

@@ -14,7 +14,7 @@ use crate::database::Database;
 use sb_locks::Locks;
 use sb_rawlog::ChangeLog;
 use sb_tables::{Tables, changes_keep_places};
-use sb_value::{Mode, SessionId, TABLE_LIMIT, TableId};
+use sb_value::{LockMode, SessionId, TABLE_LIMIT, TableId};
 
 impl Database {
     /// Begins a transaction of the session.
@@ -54,7 +54,7 @@ fn settle_all(tables: &mut Tables, locks: &Locks, session: SessionId)
 {
     for number in 0..TABLE_LIMIT {
         let table = TableId::new(number as u8);
-        if locks.is_held(session, table, Mode::Write) {
+        if locks.is_held(session, table, LockMode::Write) {
             settle_at(tables, table);
         }
     }

@@ -3,7 +3,7 @@ use Rattle.std.proofs.Common.{◌≡◌, ◌∙◌, ◌⊎◌, inl, inr, ℕ, �
 use Rattle.std.proofs.lemmas.Bool.{eq-eqb}
 use Rattle.sb_value.specs.declared.value.Value.{Value}
 use Rattle.sb_value.specs.declared.change.Change.{Change}
-use Rattle.sb_value.specs.declared.lock.Mode.{Mode}
+use Rattle.sb_value.specs.declared.lock.LockMode.{LockMode}
 use Rattle.sb_value.specs.declared.refusal.Refusal.{Refusal}
 use Rattle.sb_value.specs.declared.refusal.Refusal.TheVariants.{Locked, NoMemory}
 use Rattle.sb_value.specs.declared.refusal.Verdict.{Verdict}
@@ -98,7 +98,7 @@ aborted-active state s e = λ i. elim (e i) as (λ _. State) [ true ↦ rolled_b
 pub aborted-none : (state : State) (s : ℕ) → has_transaction (session_at state s) ≡ false → aborted state s ≡ state
 aborted-none state s e = λ i. elim (e i) as (λ _. State) [ true ↦ rolled_back state s | false ↦ state ]
 
-released-same : (s : ℕ) (old new : Locks) → Taken s old new → (o t : ℕ) (m : Mode) → released new s o t m ≡ released old s o t m
+released-same : (s : ℕ) (old new : Locks) → Taken s old new → (o t : ℕ) (m : LockMode) → released new s o t m ≡ released old s o t m
 released-same s old new k o t m = by (nat_eq o s) refl
   where
     by : (b : Bool) → nat_eq o s ≡ b → (not b && new o t m) ≡ (not b && old o t m)
@@ -237,14 +237,14 @@ module _ {s : ℕ} {old new : Store} {earlier after : List Record} {clock later 
         aborted-active (with_progress state s p) s (ap has_transaction (own_session state s (active p.changes p.marks))) ∙ rolled-same state s p k ∙ sym (aborted-active state s has-one),
       )
 
-      taken-after : (list : List (ℕ × Mode)) → Taken s state.locks (after_request setting list progress).locks
+      taken-after : (list : List (ℕ × LockMode)) → Taken s state.locks (after_request setting list progress).locks
       taken-after list = by (first_conflict state.locks s list) refl
         where
           by : (o : Option ℕ) → first_conflict state.locks s list ≡ o → Taken s state.locks (elim o as (λ _. Progress) [ Some t ↦ progress | None ↦ record progress { locks = with_locks state.locks s list } ]).locks
           by (Some t) e = taken-none s state.locks h.exclusive
           by None e = taken-request s state.locks state.locks list e (taken-none s state.locks h.exclusive)
 
-      taken-granted : (list : List (ℕ × Mode)) → first_conflict state.locks s list ≡ None → Taken s state.locks (with_locks state.locks s list)
+      taken-granted : (list : List (ℕ × LockMode)) → first_conflict state.locks s list ≡ None → Taken s state.locks (with_locks state.locks s list)
       taken-granted list e = taken-request s state.locks state.locks list e (taken-none s state.locks h.exclusive)
 
       -- ---- a select

@@ -1,7 +1,7 @@
 -- Limits, the order of locks, overflow, a full trail and an abort, by computation.
 use Rattle.std.specs.Prelude.{◌≡◌, ℕ, zero, suc, ◌+◌, true, false, List, [], ◌∷◌, ◌++◌, map, drop, Some, None, refl, codes, pos, negsuc}
 use Rattle.sb_value.specs.declared.refusal.Refusal.TheVariants as refusal
-use Rattle.sb_value.specs.declared.lock.Mode.TheVariants.{Write}
+use Rattle.sb_value.specs.declared.lock.LockMode.TheVariants.{Write}
 use Rattle.sb_value.specs.declared.value.Value.{Value}
 use Rattle.sb_value.specs.declared.value.Value.TheVariants.{Int}
 use Rattle.sb_syntax.specs.declared.tree.Comparison.TheVariants.{Equal, Greater}

@@ -5,8 +5,8 @@ use Rattle.std.proofs.lemmas.Option.{none-some}
 use Rattle.sb_value.specs.declared.value.Value.{Value}
 use Rattle.sb_value.specs.declared.change.Change.{Change}
 use Rattle.sb_value.specs.declared.net.Transition.{Transition}
-use Rattle.sb_value.specs.declared.lock.Mode.{Mode}
-use Rattle.sb_value.specs.declared.lock.Mode.TheVariants.{Write}
+use Rattle.sb_value.specs.declared.lock.LockMode.{LockMode}
+use Rattle.sb_value.specs.declared.lock.LockMode.TheVariants.{Write}
 use Rattle.sb_value.specs.declared.refusal.Refusal.{Refusal}
 use Rattle.sb_value.specs.declared.refusal.Refusal.TheVariants.{Locked}
 use Rattle.sb_value.specs.declared.refusal.Verdict.TheVariants as verdict
@@ -72,12 +72,12 @@ OkIn K (Err refusal) = Unit {0}
 -- a property of the progress that requests, marks and the changes of good statements keep
 pub record IsKept (setting : Setting) (Good : Statement → Type 0) (Keeps : Progress → Type 0) : Type 0 where
   pub mark : (rule : Rule) (p : Progress) → Keeps p → Keeps (marked rule p)
-  pub request : (list : List (ℕ × Mode)) (p : Progress) → first_conflict p.locks setting.who.session list ≡ None → Keeps p → Keeps (record p { locks = with_locks p.locks setting.who.session list })
+  pub request : (list : List (ℕ × LockMode)) (p : Progress) → first_conflict p.locks setting.who.session list ≡ None → Keeps p → Keeps (record p { locks = with_locks p.locks setting.who.session list })
   pub change : (tables : Transition) (statement : Statement) (p : Progress) (changes : List Change) → Good statement → IsTrue (p.locks setting.who.session (target statement) Write) → Keeps p →
       statement_changes (seen_with setting tables p) statement ≡ Ok changes → Keeps (record p { changes = p.changes ++ changes })
 
 module _ (setting : Setting) (Good : Statement → Type 0) (Keeps : Progress → Type 0) (kept : IsKept setting Good Keeps) where
-  request-keeps : {A : Type 0} (K : A → Type 0) (request : List (ℕ × Mode)) (p : Progress) (next : Progress → Result A Refusal) → Keeps p →
+  request-keeps : {A : Type 0} (K : A → Type 0) (request : List (ℕ × LockMode)) (p : Progress) (next : Progress → Result A Refusal) → Keeps p →
       (Keeps (record p { locks = with_locks p.locks setting.who.session request }) → OkIn K (next (record p { locks = with_locks p.locks setting.who.session request }))) → OkIn K (with_request setting p request next)
   request-keeps {A = A} K request p next h f = by (first_conflict p.locks setting.who.session request) refl
     where

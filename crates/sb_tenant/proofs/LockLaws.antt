@@ -2,7 +2,7 @@
 use Rattle.std.proofs.Common.{◌≡◌, ◌∙◌, ℕ, ◌+◌, ◌≤◌, Bool, true, false, not, ◌&&◌, ◌==◌, cond, nat_eq, List, [], ◌++◌, length, Option, Some, None, Result, Ok, Err, refl, sym, ap, subst, eqb-true, true≢false, arith, length-append, IsFalse}
 use Rattle.std.proofs.lemmas.Bool.{eq-eqb}
 use Rattle.sb_value.specs.declared.change.Change.{Change}
-use Rattle.sb_value.specs.declared.lock.Mode.{Mode}
+use Rattle.sb_value.specs.declared.lock.LockMode.{LockMode}
 use Rattle.sb_value.specs.declared.refusal.Refusal.{Refusal}
 use Rattle.sb_value.specs.declared.refusal.Refusal.TheVariants as refusal
 use Rattle.sb_value.specs.Locks.{Locks, first_conflict, with_locks, released}
@@ -76,7 +76,7 @@ module _ (state : State) (h : HasSoundLocks state) (s : ℕ) where
       by false e = other e
 
   pub sound-put : (catalog : Catalog) (steps : ℕ) (session : Session) (locks : Locks) → Taken s state.locks locks → ((rule : ℕ) → marks_of session rule ≤ length (changes_of session)) →
-      ((t : ℕ) (m : Mode) → IsFalse (has_transaction session) → IsFalse (locks s t m)) → AreLocked locks s (changes_of session) →
+      ((t : ℕ) (m : LockMode) → IsFalse (has_transaction session) → IsFalse (locks s t m)) → AreLocked locks s (changes_of session) →
       HasSoundLocks (record { catalog = catalog; locks = locks; sessions = λ o. cond (nat_eq o s) session (session_at state o); steps = steps })
   sound-put catalog steps session locks taken marks owned locked = record {
     marks = λ o rule. at session o (λ x. marks_of x rule ≤ length (changes_of x)) (λ e. marks rule) (λ e. h.marks o rule);
@@ -135,10 +135,10 @@ module _ (tenant bound : ℕ) (state : State) (h : HasSoundLocks state) (s : ℕ
       sound-stands finish finishes p.outcome p.progress
       (process-keeps setting Any (IsFit s state.locks) (fit-kept setting state.locks) (any-rules setting.rules) bound eligible (progress_of state s) (begins-fit state h s))
 
-  abbrev pub asked : List (ℕ × Mode) → Progress
+  abbrev pub asked : List (ℕ × LockMode) → Progress
   asked request = record (progress_of state s) { locks = with_locks state.locks s request }
 
-  sound-request : (request : List (ℕ × Mode)) (next : Progress → State × Reply) → (IsFit s state.locks (asked request) → HasSoundLocks (next (asked request)).0) → HasSoundLocks (with_request state s request next).0
+  sound-request : (request : List (ℕ × LockMode)) (next : Progress → State × Reply) → (IsFit s state.locks (asked request) → HasSoundLocks (next (asked request)).0) → HasSoundLocks (with_request state s request next).0
   sound-request request next f = by (first_conflict state.locks s request) refl
     where
       by : (o : Option ℕ) → first_conflict state.locks s request ≡ o →

@@ -29,7 +29,7 @@ use Rattle.sb_eval.specs.Meaning.{rows_of}
 use Rattle.sb_eval.specs.Statement.{cost_limit, row_limit, or_overflow, within_cost, within_rows, condition_rows, select_rows, statement_cost, changes_by, rows_after, statement_changes}
 use Rattle.sb_value.specs.declared.value.Value.{Value}
 use Rattle.sb_value.specs.declared.change.Change.{Change}
-use Rattle.sb_value.specs.declared.lock.Mode.{Mode}
+use Rattle.sb_value.specs.declared.lock.LockMode.{LockMode}
 use Rattle.sb_value.specs.declared.refusal.Verdict.{Verdict}
 use Rattle.sb_value.specs.Table.{name_at}
 use Rattle.sb_value.specs.Locks.{first_conflict, with_locks}
@@ -344,7 +344,7 @@ fine-change_seen : (state : State) (s : ℕ) (progress : Progress) (r : Result (
 fine-change_seen state s progress r (given changes) = refl
 fine-change_seen state s progress r (refused e p) = p
 
-fine-with_request : (state : State) (s : ℕ) (request : List (ℕ × Mode)) (next : Progress → State × Reply) → ((p : Progress) → says_outside (next p).1 ≡ false) →
+fine-with_request : (state : State) (s : ℕ) (request : List (ℕ × LockMode)) (next : Progress → State × Reply) → ((p : Progress) → says_outside (next p).1 ≡ false) →
     says_outside (with_request state s request next).1 ≡ false
 fine-with_request state s request next h =
     elim (first_conflict state.locks s request) as (λ x.

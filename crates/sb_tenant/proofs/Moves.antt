@@ -1,6 +1,6 @@
 -- What stands after the calls on a session's transaction.
 use Rattle.std.proofs.Common.{◌≡◌, ◌∙◌, ℕ, Bool, ◌||◌, nat_eq, List, [], ◌∷◌, ◌++◌, drop, length, refl, sym, ap, subst, true≢false, IsTrue, filter, nat_le, nat_lt, ◌&&◌, arith}
-use Rattle.sb_value.specs.declared.lock.Mode.{Mode}
+use Rattle.sb_value.specs.declared.lock.LockMode.{LockMode}
 use Rattle.std.proofs.Math.Seq.{drop-nil}
 use Rattle.sb_value.specs.Locks.{sessions, released}
 use Rattle.sb_value.specs.NetEffect.{is_triggered}
@@ -93,7 +93,7 @@ module _ (laws : TablesAreShared) (s : ℕ) (is : IsTrue (is_session s)) (old ne
   module _ (none : changes_of (session_at next s) ≡ []) (unmarked : (rule : ℕ) → marks_of (session_at next s) rule ≡ 0) (locks : next.locks ≡ released state.locks s) (phase : phase_at new.phases s ≡ phase_of (session_at next s))
       (past : ArePast new.database.transactions s later) where
     module _ (numbers : (t : ℕ) → has_number new.database.tables t ≡ has_number old.database.tables t) (empty : changes (records_by (who_of new.database.id s) after) ≡ [])
-        (held_after : (o t : ℕ) (m : Mode) → held new.database.locks o t m ≡ released state.locks s o t m) where
+        (held_after : (o t : ℕ) (m : LockMode) → held new.database.locks o t m ≡ released state.locks s o t m) where
       rests : IsStepOf s old new earlier after clock later state next
       rests = record {
         call = c;
@@ -113,7 +113,7 @@ module _ (laws : TablesAreShared) (s : ℕ) (is : IsTrue (is_session s)) (old ne
 
     -- it had none
     pub stands-without : changes_at state s ≡ [] → new.database.id ≡ old.database.id → new.database.tables ≡ old.database.tables → changes (records_by (who_of new.database.id s) after) ≡ [] →
-        ((o t : ℕ) (m : Mode) → held new.database.locks o t m ≡ released state.locks s o t m) → next.catalog.tables ≡ state.catalog.tables → StandFor new after later index next
+        ((o t : ℕ) (m : LockMode) → held new.database.locks o t m ≡ released state.locks s o t m) → next.catalog.tables ≡ state.catalog.tables → StandFor new after later index next
     stands-without empty id tables free released_now same =
         stands-on s is old new earlier after clock later index state next origin h (rests (λ t. ap (λ ts. has_number ts t) tables) free released_now) a laws same
         (subst (λ ts. AreMade (base_of origin state s) (changes_at next s) ts) (sym tables) (subst (λ cs. AreMade (base_of origin state s) cs old.database.tables) (empty ∙ sym none) was.made))

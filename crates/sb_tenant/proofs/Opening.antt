@@ -6,7 +6,7 @@ use Rattle.sb_rawlog.specs.Records.{Record}
 use Rattle.sb_tables.specs.Held.{Held}
 use Rattle.sb_locks.specs.Held.{held}
 use Rattle.sb_index.specs.TableSets.{TableSets}
-use Rattle.sb_value.specs.declared.lock.Mode.{Mode}
+use Rattle.sb_value.specs.declared.lock.LockMode.{LockMode}
 use Rattle.sb_process.specs.Made.{AreMade}
 use Rattle.sb_process.specs.Represents.{AreCandidates, AreLocked}
 use Rattle.sb_process.specs.Sharing.{TablesAreShared}
@@ -82,7 +82,7 @@ none-left closed e = refl
 none-left idle e = refl
 none-left (active changes marks) e = absurd (cc)
 
-released-twice : (locks : Locks) (s o t : ℕ) (m : Mode) → released (released locks s) s o t m ≡ released locks s o t m
+released-twice : (locks : Locks) (s o t : ℕ) (m : LockMode) → released (released locks s) s o t m ≡ released locks s o t m
 released-twice locks s o t m = by (not (nat_eq o s))
   where
     by : (b : Bool) → (b && (b && locks o t m)) ≡ (b && locks o t m)
@@ -118,7 +118,7 @@ module _ (state : State) (s : ℕ) where
 module _ (laws : TablesAreShared) (s : ℕ) (is : IsTrue (is_session s)) (old new : Store) (records : List Record) (clock : ℕ) (index : List (List TableSets)) (state : State) (origin : List Held) (h : Holds origin old state)
     (a : Agrees old.database.id state old.database.transactions records clock index) (c : IsCallOf s old new records records clock clock) where
   pub closes : (phase_at old.phases s ≡ Active → ⊥) → phase_at new.phases s ≡ Closed → new.database.tables ≡ old.database.tables → new.database.transactions ≡ old.database.transactions →
-      ((o t : ℕ) (m : Mode) → held new.database.locks o t m ≡ released (held old.database.locks) s o t m) → StandFor new records clock index (closed_in s state)
+      ((o t : ℕ) (m : LockMode) → held new.database.locks o t m ≡ released (held old.database.locks) s o t m) → StandFor new records clock index (closed_in s state)
   closes was phase tables transactions held_after =
       let empty : changes_of (session_at state s) ≡ [] = none-left (session_at state s) (not-active (session_at state s) (λ e. was (h.phases s is ∙ e))) in
       stands-without laws s is old new records records clock clock index state (closed_in s state) origin h a c

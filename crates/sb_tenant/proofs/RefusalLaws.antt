@@ -3,7 +3,7 @@ use Rattle.std.proofs.Common.{◌≡◌, ◌∙◌, sym, ap, refl, ◌⊎◌, in
 use Rattle.std.proofs.lemmas.Bool.{true≢false, false≢true}
 use Rattle.std.specs.Prelude.{if◌then◌else◌, nat_lt, option_and_then}
 use Rattle.sb_value.specs.declared.change.Change.{Change}
-use Rattle.sb_value.specs.declared.lock.Mode.{Mode}
+use Rattle.sb_value.specs.declared.lock.LockMode.{LockMode}
 use Rattle.sb_value.specs.declared.refusal.Refusal.{Refusal}
 use Rattle.sb_value.specs.declared.refusal.Refusal.TheVariants as refusal
 use Rattle.sb_value.specs.declared.refusal.Verdict.{Verdict}
@@ -77,10 +77,10 @@ refilled idle h = absurd (false≢true h)
 refilled (active changes marks) h = refl
 
 module _ (tenant bound : ℕ) (state : State) (s : ℕ) where
-  abbrev asked : List (ℕ × Mode) → Progress
+  abbrev asked : List (ℕ × LockMode) → Progress
   asked request = record (progress_of state s) { locks = with_locks state.locks s request }
 
-  abbrev locked : List (ℕ × Mode) → State
+  abbrev locked : List (ℕ × LockMode) → State
   locked request = record state { locks = with_locks state.locks s request }
 
   same-session : has_transaction (session_at state s) ≡ true → (o : ℕ) →
@@ -91,18 +91,18 @@ module _ (tenant bound : ℕ) (state : State) (s : ℕ) where
       by true own = refilled (session_at state s) has ∙ ap (session_at state) (sym (eqb-true o s own))
       by false other = refl
 
-  goes-on : has_transaction (session_at state s) ≡ true → (request : List (ℕ × Mode)) → with_progress state s (asked request) ≡ locked request
+  goes-on : has_transaction (session_at state s) ≡ true → (request : List (ℕ × LockMode)) → with_progress state s (asked request) ≡ locked request
   goes-on has request = λ i. record state { locks = with_locks state.locks s request; sessions = λ o. same-session has o i }
 
   -- ---- what a command leaves where it is refused
 
   -- the state as it was, or with these locks
-  abbrev Leaves : Option (List (ℕ × Mode)) → State × Reply → Type 0
+  abbrev Leaves : Option (List (ℕ × LockMode)) → State × Reply → Type 0
   Leaves asks r =
       (e : Refusal) → r.1 ≡ reply.No e →
-      (r.0 ≡ state) ⊎ (ComesBehindLocks e × (request : List (ℕ × Mode)) × (asks ≡ Some request) × (first_conflict state.locks s request ≡ None) × (r.0 ≡ locked request))
+      (r.0 ≡ state) ⊎ (ComesBehindLocks e × (request : List (ℕ × LockMode)) × (asks ≡ Some request) × (first_conflict state.locks s request ≡ None) × (r.0 ≡ locked request))
 
-  leaves-request : (request : List (ℕ × Mode)) (next : Progress → State × Reply) →
+  leaves-request : (request : List (ℕ × LockMode)) (next : Progress → State × Reply) →
       ((e : Refusal) → (next (asked request)).1 ≡ reply.No e → ComesBehindLocks e × ((next (asked request)).0 ≡ locked request)) →
       Leaves (Some request) (with_request state s request next)
   leaves-request request next h = by (first_conflict state.locks s request) refl
@@ -112,7 +112,7 @@ module _ (tenant bound : ℕ) (state : State) (s : ℕ) where
       by (Some table) conflict = λ e told. inl refl
       by None free = λ e told. let left = h e told in inr (left.0, request, refl, free, left.1)
 
-  leaves-change : has_transaction (session_at state s) ≡ true → (request : List (ℕ × Mode)) (r : Result (List Change) Refusal) →
+  leaves-change : has_transaction (session_at state s) ≡ true → (request : List (ℕ × LockMode)) (r : Result (List Change) Refusal) →
       ((e : Refusal) → r ≡ Err e → ComesBehindLocks e) → (e : Refusal) →
       (change_seen state s (asked request) r).1 ≡ reply.No e → ComesBehindLocks e × ((change_seen state s (asked request) r).0 ≡ locked request)
   leaves-change has request (Err why) late e told = (late e (let x = told in cc), goes-on has request)
@@ -128,11 +128,11 @@ module _ (tenant bound : ℕ) (state : State) (s : ℕ) where
   never catalog (ByError r error) trace e told = cc
   never catalog ByLimit trace e told = cc
 
-  leaves-process : (asks : Option (List (ℕ × Mode))) (eligible : ℕ → Bool) (finish : State → State) → Leaves asks (process_at tenant bound state s eligible finish)
+  leaves-process : (asks : Option (List (ℕ × LockMode))) (eligible : ℕ → Bool) (finish : State → State) → Leaves asks (process_at tenant bound state s eligible finish)
   leaves-process asks eligible finish e told =
       let p = process bound (setting_of tenant state s) eligible (progress_of state s) in absurd (never state.catalog p.outcome (named state.catalog p.trace) e told)
 
-  leaves-perform : (r : Resolved) → ((request : List (ℕ × Mode)) → request_of (Ok r) ≡ Some request → has_transaction (session_at state s) ≡ true) →
+  leaves-perform : (r : Resolved) → ((request : List (ℕ × LockMode)) → request_of (Ok r) ≡ Some request → has_transaction (session_at state s) ≡ true) →
       Leaves (request_of (Ok r)) (perform tenant bound state s r)
   leaves-perform commit has = leaves-process None (is_active state.catalog.rules) (λ after. committed after s)
   leaves-perform process_rules has = leaves-process None (is_active state.catalog.rules) stays
@@ -150,7 +150,7 @@ module _ (tenant bound : ℕ) (state : State) (s : ℕ) where
   leaves-perform other has = λ e told. absurd (let x = told in cc)
 
   leaves-outcome : (r : Option Refusal) (w : Result Resolved Refusal) →
-      (r ≡ None → (request : List (ℕ × Mode)) → request_of w ≡ Some request → has_transaction (session_at state s) ≡ true) →
+      (r ≡ None → (request : List (ℕ × LockMode)) → request_of w ≡ Some request → has_transaction (session_at state s) ≡ true) →
       Leaves (request_of w) (outcome_of tenant bound state s r w)
   leaves-outcome (Some r) w has = λ e told. inl refl
   leaves-outcome None (Err r) has = λ e told. inl refl
@@ -162,7 +162,7 @@ module _ (tenant bound : ℕ) (state : State) (s : ℕ) where
   works-in true false h = absurd (let e = h in cc)
   works-in false own h = absurd (let e = h in cc)
 
-  has-transaction : (c : Command) → session_refusal (class_of c) state s ≡ None → (request : List (ℕ × Mode)) → request_of (walk state.catalog c) ≡ Some request →
+  has-transaction : (c : Command) → session_refusal (class_of c) state s ≡ None → (request : List (ℕ × LockMode)) → request_of (walk state.catalog c) ≡ Some request →
       has_transaction (session_at state s) ≡ true
   has-transaction c free request asks = by (is_statement c) refl
     where
@@ -199,7 +199,7 @@ module _ (tenant bound : ℕ) (state : State) (s : ℕ) where
       after : State
       after = (reply_to tenant bound state s line).0
 
-      by : (after ≡ state) ⊎ (ComesBehindLocks e × (request : List (ℕ × Mode)) × (request_in state line ≡ Some request) × (first_conflict state.locks s request ≡ None) × (after ≡ locked request)) →
+      by : (after ≡ state) ⊎ (ComesBehindLocks e × (request : List (ℕ × LockMode)) × (request_in state line ≡ Some request) × (first_conflict state.locks s request ≡ None) × (after ≡ locked request)) →
           ChangesNothing state (record after { steps = state.steps + 1 }) ⊎ (ComesBehindLocks e × TakesLocks state s line (record after { steps = state.steps + 1 }))
       by (inl same) = inl (λ i. record (same i) { steps = state.steps + 1 })
       by (inr (late, request, asks, free, is)) = inr (late, (request, asks, free, λ i. record (is i) { steps = state.steps + 1 }))

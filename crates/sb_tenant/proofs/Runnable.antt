@@ -4,8 +4,8 @@ use Rattle.std.proofs.Common.{◌≡◌, ◌∙◌, ℕ, ◌≤◌, Bool, true, 
 use Rattle.std.specs.Prelude.{filter_map, Option, None, Some, unwrap_or, IsTrue, IsFalse, ◌==◌}
 use Rattle.std.specs.List.{list_any}
 use Rattle.std.proofs.lemmas.List.Folds.{list_any-append}
-use Rattle.sb_value.specs.declared.lock.Mode.{Mode}
-use Rattle.sb_value.specs.declared.lock.Mode.TheVariants.{Write}
+use Rattle.sb_value.specs.declared.lock.LockMode.{LockMode}
+use Rattle.sb_value.specs.declared.lock.LockMode.TheVariants.{Write}
 use Rattle.sb_value.specs.Table.{has_table}
 use Rattle.sb_check.specs.Condition.{Query}
 use Rattle.sb_check.specs.Mentions.{sources_of, query_sources, assignment_sources}
@@ -41,11 +41,11 @@ reads_there tables (Deleted ∷ sources) h = reads_there tables sources h.1
 reads_there tables (OldUpdated ∷ sources) h = reads_there tables sources h.1
 reads_there tables (NewUpdated ∷ sources) h = reads_there tables sources h.1
 
-written_there : (tables : List Held) (target : ℕ) (r : ℕ × Mode) (b : Bool) → IsTrue (has_number tables target) → IsTrue (has_number tables r.0) → IsTrue (has_number tables (cond b (target, Write) r).0)
+written_there : (tables : List Held) (target : ℕ) (r : ℕ × LockMode) (b : Bool) → IsTrue (has_number tables target) → IsTrue (has_number tables r.0) → IsTrue (has_number tables (cond b (target, Write) r).0)
 written_there tables target r true h k = h
 written_there tables target r false h k = k
 
-writes_there : (tables : List Held) (target : ℕ) (request : List (ℕ × Mode)) → IsTrue (has_number tables target) → AreThere tables request → AreThere tables (map (write_of target) request)
+writes_there : (tables : List Held) (target : ℕ) (request : List (ℕ × LockMode)) → IsTrue (has_number tables target) → AreThere tables request → AreThere tables (map (write_of target) request)
 writes_there tables target [] h k = tt
 writes_there tables target (r ∷ request) h k = (written_there tables target r (r.0 == target) h k.0, writes_there tables target request h k.1)
 
@@ -122,7 +122,7 @@ module _ (tables : List Held) where
 
 -- the tables of a request are among others
 module _ (old new : List Held) (stays : (id : ℕ) → IsTrue (has_number old id) → IsTrue (has_number new id)) where
-  there_more : (request : List (ℕ × Mode)) → AreThere old request → AreThere new request
+  there_more : (request : List (ℕ × LockMode)) → AreThere old request → AreThere new request
   there_more [] h = tt
   there_more (r ∷ request) h = (stays r.0 h.0, there_more request h.1)
 
@@ -141,34 +141,34 @@ module _ (old new : List Held) (stays : (id : ℕ) → IsTrue (has_number old id
 
 -- the tables of a request but for one that it doesn't name
 module _ (old new : List Held) (id : ℕ) (stays : (k : ℕ) → IsFalse (k == id) → IsTrue (has_number old k) → IsTrue (has_number new k)) where
-  abbrev Lacks : List (ℕ × Mode) → Type 0
-  Lacks request = list_any (λ (r : ℕ × Mode). r.0 == id) request ≡ false
+  abbrev Lacks : List (ℕ × LockMode) → Type 0
+  Lacks request = list_any (λ (r : ℕ × LockMode). r.0 == id) request ≡ false
 
-  there_less : (request : List (ℕ × Mode)) → Lacks request → AreThere old request → AreThere new request
+  there_less : (request : List (ℕ × LockMode)) → Lacks request → AreThere old request → AreThere new request
   there_less [] l h = tt
   there_less (r ∷ request) l h =
-      let p = or_parts (r.0 == id) (list_any (λ (r : ℕ × Mode). r.0 == id) request) l in
+      let p = or_parts (r.0 == id) (list_any (λ (r : ℕ × LockMode). r.0 == id) request) l in
       (stays r.0 p.0 h.0, there_less request p.1 h.1)
 
   reads_lack : (sources : List Source) → has_source id sources ≡ false → Lacks (filter_map read_of sources)
   reads_lack [] h = refl
   reads_lack (Table t ∷ sources) h =
       let p = or_parts (t == id) (has_source id sources) h in
-      ap (λ (b : Bool). b || list_any (λ (r : ℕ × Mode). r.0 == id) (filter_map read_of sources)) p.0 ∙ reads_lack sources p.1
+      ap (λ (b : Bool). b || list_any (λ (r : ℕ × LockMode). r.0 == id) (filter_map read_of sources)) p.0 ∙ reads_lack sources p.1
   reads_lack (Inserted ∷ sources) h = reads_lack sources h
   reads_lack (Deleted ∷ sources) h = reads_lack sources h
   reads_lack (OldUpdated ∷ sources) h = reads_lack sources h
   reads_lack (NewUpdated ∷ sources) h = reads_lack sources h
 
-  written_lacks : (target : ℕ) (r : ℕ × Mode) (b : Bool) → (target == id) ≡ false → (r.0 == id) ≡ false → ((cond b (target, Write) r).0 == id) ≡ false
+  written_lacks : (target : ℕ) (r : ℕ × LockMode) (b : Bool) → (target == id) ≡ false → (r.0 == id) ≡ false → ((cond b (target, Write) r).0 == id) ≡ false
   written_lacks target r true t h = t
   written_lacks target r false t h = h
 
-  writes_lack : (target : ℕ) (request : List (ℕ × Mode)) → (target == id) ≡ false → Lacks request → Lacks (map (write_of target) request)
+  writes_lack : (target : ℕ) (request : List (ℕ × LockMode)) → (target == id) ≡ false → Lacks request → Lacks (map (write_of target) request)
   writes_lack target [] t h = refl
   writes_lack target (r ∷ request) t h =
-      let p = or_parts (r.0 == id) (list_any (λ (r : ℕ × Mode). r.0 == id) request) h in
-      ap (λ (b : Bool). b || list_any (λ (r : ℕ × Mode). r.0 == id) (map (write_of target) request)) (written_lacks target r (r.0 == target) t p.0) ∙ writes_lack target request t p.1
+      let p = or_parts (r.0 == id) (list_any (λ (r : ℕ × LockMode). r.0 == id) request) h in
+      ap (λ (b : Bool). b || list_any (λ (r : ℕ × LockMode). r.0 == id) (map (write_of target) request)) (written_lacks target r (r.0 == target) t p.0) ∙ writes_lack target request t p.1
 
   target_less : (target : ℕ) (sources : List Source) → (target == id) ≡ false → has_source id sources ≡ false
       → AreThere old ((target, Write) ∷ map (write_of target) (filter_map read_of sources)) → AreThere new ((target, Write) ∷ map (write_of target) (filter_map read_of sources))

@@ -2,7 +2,7 @@
 use Rattle.std.proofs.Common.{◌≡◌, ℕ, Bool, true, false, not, cond, ◌&&◌, ◌==◌, List, [], ◌++◌, Option, Some, None, Result, Ok, Err, refl, sym, ◌∙◌, ap}
 use Rattle.std.proofs.lemmas.Bool.{eq-eqb, true≢false}
 use Rattle.sb_value.specs.declared.change.Change.{Change}
-use Rattle.sb_value.specs.declared.lock.Mode.{Mode}
+use Rattle.sb_value.specs.declared.lock.LockMode.{LockMode}
 use Rattle.sb_value.specs.declared.refusal.Refusal.{Refusal}
 use Rattle.sb_value.specs.Table.{name_at}
 use Rattle.sb_value.specs.Locks.{first_conflict, with_locks}
@@ -55,7 +55,7 @@ module _ (s o : ℕ) (other : (o == s) ≡ false) where
   change-other state progress (Err refusal) = other_session state s (active progress.changes progress.marks) o other
   change-other state progress (Ok changes) = other_session state s (active (progress.changes ++ changes) progress.marks) o other
 
-  request-other : (state : State) (request : List (ℕ × Mode)) (next : Progress → State × Reply) → ((p : Progress) → session_at (next p).0 o ≡ session_at state o) →
+  request-other : (state : State) (request : List (ℕ × LockMode)) (next : Progress → State × Reply) → ((p : Progress) → session_at (next p).0 o ≡ session_at state o) →
       session_at (with_request state s request next).0 o ≡ session_at state o
   request-other state request next h =
       elim (first_conflict state.locks s request) as (λ x.
@@ -121,7 +121,7 @@ module _ (tenant bound : ℕ) (state : State) (s : ℕ) (was_open : is_open (ses
   change-open progress (Err refusal) = set_open state (active progress.changes progress.marks) refl
   change-open progress (Ok changes) = set_open state (active (progress.changes ++ changes) progress.marks) refl
 
-  request-open : (request : List (ℕ × Mode)) (next : Progress → State × Reply) → ((p : Progress) → is_open (session_at (next p).0 s) ≡ true) →
+  request-open : (request : List (ℕ × LockMode)) (next : Progress → State × Reply) → ((p : Progress) → is_open (session_at (next p).0 s) ≡ true) →
       is_open (session_at (with_request state s request next).0 s) ≡ true
   request-open request next h =
       elim (first_conflict state.locks s request) as (λ x.

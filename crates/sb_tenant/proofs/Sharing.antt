@@ -4,7 +4,7 @@ use Rattle.std.specs.List.{flat_map, list_any}
 use Rattle.std.proofs.lemmas.Bool.{ltb-true, eq-eqb, or_parts, false≢true}
 use Rattle.std.proofs.lemmas.List.Elements.{filter-append}
 use Rattle.sb_value.specs.declared.change.Change.{Change}
-use Rattle.sb_value.specs.declared.lock.Mode.TheVariants.{Write}
+use Rattle.sb_value.specs.declared.lock.LockMode.TheVariants.{Write}
 use Rattle.sb_value.specs.Locks.{Locks, sessions}
 use Rattle.sb_process.specs.Represents.{AreLocked, is_written}
 use Rattle.sb_process.specs.Sharing.{changes_to, ChangeTheSame, AreElsewhere}

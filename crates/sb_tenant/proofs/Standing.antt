@@ -4,8 +4,8 @@ use Rattle.std.specs.List.{flat_map}
 use Rattle.std.proofs.lemmas.Bool.{eq-eqb}
 use Rattle.sb_value.specs.declared.change.Change.{Change}
 use Rattle.sb_value.specs.declared.id.Who.{Who}
-use Rattle.sb_value.specs.declared.lock.Mode.{Mode}
-use Rattle.sb_value.specs.declared.lock.Mode.TheVariants.{Write}
+use Rattle.sb_value.specs.declared.lock.LockMode.{LockMode}
+use Rattle.sb_value.specs.declared.lock.LockMode.TheVariants.{Write}
 use Rattle.sb_value.specs.Locks.{Locks, sessions}
 use Rattle.sb_value.specs.NetEffect.{is_triggered}
 use Rattle.sb_value.specs.Table.{after_all}
@@ -81,7 +81,7 @@ own-or-other s o P own other = by (nat_eq o s) refl
     by true e = subst P (sym (eqb-true o s e)) own
     by false e = other e
 
-pub still-locked : (old new : Locks) (o : ℕ) → ((t : ℕ) (m : Mode) → new o t m ≡ old o t m) → (cs : List Change) → AreLocked old o cs → AreLocked new o cs
+pub still-locked : (old new : Locks) (o : ℕ) → ((t : ℕ) (m : LockMode) → new o t m ≡ old o t m) → (cs : List Change) → AreLocked old o cs → AreLocked new o cs
 still-locked old new o e [] h = tt
 still-locked old new o e (c ∷ cs) h = (e c.table Write ∙ h.0, still-locked old new o e cs h.1)
 
@@ -100,7 +100,7 @@ still-untriggered who other old new rs more same [] h = tt
 still-untriggered who other old new rs more same (rule ∷ rules) h = (ap (is_triggered rule.triggers rule.table) (same rule.id) ∙ h.0, still-untriggered who other old new rs more same rules h.1)
 
 module _ (old new : List Held) (e : (id : ℕ) → has_number new id ≡ has_number old id) where
-  still-there : (request : List (ℕ × Mode)) → AreThere old request → AreThere new request
+  still-there : (request : List (ℕ × LockMode)) → AreThere old request → AreThere new request
   still-there [] h = tt
   still-there (r ∷ request) h = (e r.0 ∙ h.0, still-there request h.1)
 
@@ -141,10 +141,10 @@ pub record IsStepOf (s : ℕ) (old new : Store) (earlier after : List Record) (c
   pub numbers : (t : ℕ) → has_number new.database.tables t ≡ has_number old.database.tables t
   -- the state
   pub leads : IsStateAfter s state next
-  pub locks : (o t : ℕ) (m : Mode) → nat_eq o s ≡ false → next.locks o t m ≡ state.locks o t m
+  pub locks : (o t : ℕ) (m : LockMode) → nat_eq o s ≡ false → next.locks o t m ≡ state.locks o t m
   pub exclusive : AreExclusive next.locks
   -- the session's own
-  pub held : (o t : ℕ) (m : Mode) → held new.database.locks o t m ≡ next.locks o t m
+  pub held : (o t : ℕ) (m : LockMode) → held new.database.locks o t m ≡ next.locks o t m
   pub phase : phase_at new.phases s ≡ phase_of (session_at next s)
   pub changes : changes_by (who_of new.database.id s) after ≡ changes_of (session_at next s)
   pub marks : StandsFor new.database.id s next after later (mark_of new.database.transactions s)

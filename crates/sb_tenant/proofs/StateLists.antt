@@ -3,7 +3,7 @@ use Rattle.std.proofs.lemmas.Bool.{not-true}
 use Rattle.std.proofs.Common.{◌≡◌, ◌∙◌, ℕ, ◌+◌, Bool, true, false, not, ◌&&◌, ◌==◌, nat_eq, nat_lt, List, [], ◌∷◌, ◌++◌, length, filter, map, Option, Some, None, Result, Ok, Err, refl, sym, ap, subst, eqb-true, true≢false, IsTrue, IsFalse}
 use Rattle.std.proofs.lemmas.Option.{none-some}
 use Rattle.sb_value.specs.declared.change.Change.{Change}
-use Rattle.sb_value.specs.declared.lock.Mode.{Mode}
+use Rattle.sb_value.specs.declared.lock.LockMode.{LockMode}
 use Rattle.sb_value.specs.declared.refusal.Refusal.{Refusal}
 use Rattle.sb_value.specs.declared.refusal.Refusal.TheVariants as refusal
 use Rattle.sb_value.specs.Locks.{first_conflict, with_locks, released}
@@ -101,10 +101,10 @@ module _ (laws : ChangesAreProper) (tenant bound : ℕ) (state : State) (h : Has
       let p = process bound setting eligible (progress_of state s) in
       proper-stands finish finishes p.outcome p.progress (process-keeps setting (IsIn tables) InOrder kept g.rules bound eligible (progress_of state s) begins-order)
 
-  abbrev wanted : List (ℕ × Mode) → Progress
+  abbrev wanted : List (ℕ × LockMode) → Progress
   wanted request = record (progress_of state s) { locks = with_locks state.locks s request }
 
-  proper-request : (request : List (ℕ × Mode)) (next : Progress → State × Reply) → (InOrder (wanted request) → HasProperTables (next (wanted request)).0) → HasProperTables (with_request state s request next).0
+  proper-request : (request : List (ℕ × LockMode)) (next : Progress → State × Reply) → (InOrder (wanted request) → HasProperTables (next (wanted request)).0) → HasProperTables (with_request state s request next).0
   proper-request request next f = by (first_conflict state.locks s request) refl
     where
       by : (o : Option ℕ) → first_conflict state.locks s request ≡ o →

@@ -5,8 +5,8 @@ use Rattle.std.specs.List.{list_any}
 use Rattle.std.proofs.lemmas.Bool.{eq-eqb}
 use Rattle.sb_value.specs.declared.value.Value.{Value}
 use Rattle.sb_value.specs.declared.change.Change.{Change}
-use Rattle.sb_value.specs.declared.lock.Mode.{Mode}
-use Rattle.sb_value.specs.declared.lock.Mode.TheVariants.{Write}
+use Rattle.sb_value.specs.declared.lock.LockMode.{LockMode}
+use Rattle.sb_value.specs.declared.lock.LockMode.TheVariants.{Write}
 use Rattle.sb_value.specs.declared.refusal.Refusal.{Refusal}
 use Rattle.sb_value.specs.declared.refusal.Refusal.TheVariants.{TooBig, TooManyRows}
 use Rattle.sb_value.specs.Locks.{Locks, same_mode, with_locks}
@@ -119,7 +119,7 @@ target-asked locks s (Update t assignments c) = first-asked locks s t (assignmen
 
 -- ---- what a session has changed stays locked
 
-pub locked-more : (locks : Locks) (s : ℕ) (request : List (ℕ × Mode)) (cs : List Change) → AreLocked locks s cs → AreLocked (with_locks locks s request) s cs
+pub locked-more : (locks : Locks) (s : ℕ) (request : List (ℕ × LockMode)) (cs : List Change) → AreLocked locks s cs → AreLocked (with_locks locks s request) s cs
 locked-more locks s request [] h = tt
 locked-more locks s request (c ∷ cs) h =
     (ap (λ (b : Bool). b || (nat_eq s s && list_any (λ r. nat_eq r.0 c.table && same_mode r.1 Write) request)) h.0, locked-more locks s request cs h.1)

@@ -2,7 +2,7 @@
 use Rattle.std.specs.Prelude.{ℕ, Bool, true, false, ◌&&◌, ◌==◌, List, [], ◌++◌, map, length, Some, None, Result, Ok, Err}
 use Rattle.sb_value.specs.declared.value.Value.{Value}
 use Rattle.sb_value.specs.declared.change.Change.{Change}
-use Rattle.sb_value.specs.declared.lock.Mode.{Mode}
+use Rattle.sb_value.specs.declared.lock.LockMode.{LockMode}
 use Rattle.sb_value.specs.declared.refusal.Verdict.{Verdict}
 use Rattle.sb_value.specs.declared.refusal.Refusal.{Refusal}
 use Rattle.sb_value.specs.declared.refusal.Refusal.TheVariants.{Locked}
@@ -43,7 +43,7 @@ change_seen state s progress (Ok changes) =
     (with_progress state s (record progress { changes = progress.changes ++ changes }), reply.Count (length changes))
 
 -- the locks are asked for first; a conflict takes none
-abbrev pub with_request : State → ℕ → List (ℕ × Mode) → (Progress → State × Reply) → State × Reply
+abbrev pub with_request : State → ℕ → List (ℕ × LockMode) → (Progress → State × Reply) → State × Reply
 with_request state s request next =
     elim (first_conflict state.locks s request) [
       | Some table ↦ (state, reply.No (Locked (name_at state.catalog.tables table)))

@@ -1,6 +1,6 @@
 -- Promise: what a refused line changes: the trail, and the locks that its statement had taken.
 use Rattle.std.specs.Prelude.{◌≡◌, ◌⊎◌, ℕ, List, Option, Some, None, Result, Ok, option_and_then}
-use Rattle.sb_value.specs.declared.lock.Mode.{Mode}
+use Rattle.sb_value.specs.declared.lock.LockMode.{LockMode}
 use Rattle.sb_value.specs.declared.refusal.Refusal.{Refusal}
 use Rattle.sb_value.specs.declared.refusal.Refusal.TheVariants.{TooBig, Overflow, TooManyRows}
 use Rattle.sb_value.specs.Locks.{first_conflict, with_locks}
@@ -14,13 +14,13 @@ use Rattle.sb_tenant.specs.Step.{step}
 use Rattle.sb_tenant.specs.Walk.{class_of, walk}
 
 -- the locks that a query or a statement asks for, once its names and types are resolved
-abbrev pub request_of : Result Resolved Refusal → Option (List (ℕ × Mode))
+abbrev pub request_of : Result Resolved Refusal → Option (List (ℕ × LockMode))
 request_of (Ok (query q)) = Some (query_locks q)
 request_of (Ok (change statement)) = Some (statement_locks statement)
 request_of other = None
 
 -- the locks that a line asks for
-abbrev pub request_in : State → List ℕ → Option (List (ℕ × Mode))
+abbrev pub request_in : State → List ℕ → Option (List (ℕ × LockMode))
 request_in state line = option_and_then (λ c. request_of (walk state.catalog c)) (command_of line)
 
 -- it comes when the statement has its locks: it would cost too much, overflows, or gives too many rows
@@ -34,7 +34,7 @@ ChangesNothing before after = after ≡ record before { steps = after.steps }
 -- nothing but that, and that the session has the locks which its line asked for
 abbrev pub TakesLocks : State → ℕ → List ℕ → State → Type 0
 TakesLocks before s line after =
-    (request : List (ℕ × Mode)) × (request_in before line ≡ Some request) × (first_conflict before.locks s request ≡ None)
+    (request : List (ℕ × LockMode)) × (request_in before line ≡ Some request) × (first_conflict before.locks s request ≡ None)
     × (after ≡ record before { locks = with_locks before.locks s request; steps = after.steps })
 
 module _ (tenant bound : ℕ) where

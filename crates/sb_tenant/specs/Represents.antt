@@ -1,8 +1,8 @@
 -- Machine: what a tenant keeps in memory, against its state.
 use Rattle.std.specs.Prelude.{◌≡◌, ◌⊎◌, ℕ, ◌+◌, Bool, false, ◌==◌, List, flat_map, slice_index_or, Result, Ok, Err, IsTrue, IsFalse}
 use Rattle.sb_value.specs.declared.change.Change.{Change}
-use Rattle.sb_value.specs.declared.lock.Mode.{Mode}
-use Rattle.sb_value.specs.declared.lock.Mode.TheVariants.{Write}
+use Rattle.sb_value.specs.declared.lock.LockMode.{LockMode}
+use Rattle.sb_value.specs.declared.lock.LockMode.TheVariants.{Write}
 use Rattle.sb_value.specs.declared.refusal.Refusal.{Refusal}
 use Rattle.sb_value.specs.declared.refusal.Refusal.TheVariants.{NoMemory}
 use Rattle.sb_value.specs.Locks.{Locks, sessions}
@@ -44,7 +44,7 @@ all_changes state = flat_map (λ s. changes_of (session_at state s)) sessions
 
 -- a table that a session has locked for writing is locked by no other session
 abbrev pub AreExclusive : Locks → Type 0
-AreExclusive locks = (s o t : ℕ) (m : Mode) → IsTrue (is_session s) → IsTrue (is_session o) → IsFalse (s == o) → IsTrue (locks s t Write) → locks o t m ≡ false
+AreExclusive locks = (s o t : ℕ) (m : LockMode) → IsTrue (is_session s) → IsTrue (is_session o) → IsFalse (s == o) → IsTrue (locks s t Write) → locks o t m ≡ false
 
 -- the tables in memory are the committed ones with the changes of all sessions made, and each session has locked the tables that it changed;
 -- locks, phases and candidates are those of the sessions; rules, their order and rulesets are the catalog's, and the rules can run
@@ -53,7 +53,7 @@ pub record Holds (origin : List Held) (store : Store) (state : State) : Type 0 w
   pub made : AreMade origin (all_changes state) store.database.tables
   pub locked : (s : ℕ) → IsTrue (is_session s) → AreLocked state.locks s (changes_of (session_at state s))
   pub exclusive : AreExclusive state.locks
-  pub locks : (s t : ℕ) (m : Mode) → held store.database.locks s t m ≡ state.locks s t m
+  pub locks : (s t : ℕ) (m : LockMode) → held store.database.locks s t m ≡ state.locks s t m
   pub phases : (s : ℕ) → IsTrue (is_session s) → phase_at store.phases s ≡ phase_of (session_at state s)
   pub candidates : (s : ℕ) → IsTrue (is_session s) → AreCandidates store.database.transactions s (progress_of state s) state.catalog.rules
   pub rules : store.definitions.rules ≡ state.catalog.rules

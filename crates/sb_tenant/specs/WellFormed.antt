@@ -1,6 +1,6 @@
 -- Machine: what holds of each state that can be reached: of its marks, its locks and its lists of changes.
 use Rattle.std.specs.Prelude.{◌≤◌, ℕ, List, length, IsTrue, IsFalse}
-use Rattle.sb_value.specs.declared.lock.Mode.{Mode}
+use Rattle.sb_value.specs.declared.lock.LockMode.{LockMode}
 use Rattle.sb_value.specs.Table.{IsProper}
 use Rattle.sb_process.specs.Represents.{AreLocked}
 use Rattle.sb_tenant.specs.declared.reply.Entry.{Entry}
@@ -13,7 +13,7 @@ use Rattle.sb_tenant.specs.Trail.{IsLegal}
 -- a session has locked what it has changed; and what it has locked for writing no other has locked
 pub record HasSoundLocks (state : State) : Type 0 where
   pub marks : (s rule : ℕ) → marks_of (session_at state s) rule ≤ length (changes_of (session_at state s))
-  pub owned : (s t : ℕ) (m : Mode) → IsFalse (has_transaction (session_at state s)) → IsFalse (state.locks s t m)
+  pub owned : (s t : ℕ) (m : LockMode) → IsFalse (has_transaction (session_at state s)) → IsFalse (state.locks s t m)
   pub locked : (s : ℕ) → AreLocked state.locks s (changes_of (session_at state s))
   pub exclusive : AreExclusive state.locks
 

@@ -5,7 +5,7 @@ use crate::mark::mark;
 use crate::schema::rule_parts;
 use sb_catalog::{Catalog, MemberChange, RuleIndex, Rulesets};
 use sb_locks::Locks;
-use sb_value::{Change, Columns, Mode, Name, RuleId, SessionId, TableId, TenantId, Triggers};
+use sb_value::{Change, Columns, LockMode, Name, RuleId, SessionId, TableId, TenantId, Triggers};
 use std::process::Abort;
 
 /// A rule on table 0 is looked up, made inactive and dropped.
@@ -109,10 +109,10 @@ fn locks_take_no_memory(rt: HostRuntime) {
     let [read, written] = [TableId::new(0), TableId::new(15)];
     let mut locks = Locks::new();
     mark();
-    let both = [(written, Mode::Write), (read, Mode::Read)];
+    let both = [(written, LockMode::Write), (read, LockMode::Read)];
     assert!(rt; locks.request(first, &both).is_ok());
     assert!(rt; locks.request(second, &both).is_err());
-    assert!(rt; !locks.is_held(second, read, Mode::Read));
+    assert!(rt; !locks.is_held(second, read, LockMode::Read));
     locks.release(first);
     assert!(rt; locks.request(second, &both).is_ok());
     mark();

@@ -28,7 +28,7 @@ pub use laws::{
     precedes_is_closure, proper_lists_have_lives, sets_take_places, untouched_tuples_stay,
 };
 pub use literal::{LiteralError, print_value};
-pub use lock::Mode;
+pub use lock::LockMode;
 pub use name::{NAME_LIMIT, Name};
 pub use net::{Net, Transition, Triggers};
 pub use refusal::{Refusal, Verdict};

@@ -2,7 +2,7 @@
 
 /// Whether a statement reads a table or writes it.
 #[derive(Clone, Copy, Debug, PartialEq, Eq)]
-pub enum Mode {
+pub enum LockMode {
     Read,
     Write,
 }

@@ -1,5 +1,5 @@
 use Rattle.std.proofs.Common.{◌≡◌, ◌∙◌, ℕ, ◌+◌, nat_eq, List, ap, sym, subst, arith}
-use Rattle.sb_value.specs.declared.lock.Mode.TheVariants.{Write}
+use Rattle.sb_value.specs.declared.lock.LockMode.TheVariants.{Write}
 use Rattle.sb_locks.specs.Held.{held}
 use Rattle.sb_tables.specs.Held.{Held}
 use Rattle.sb_process.specs.Made.{AreNumbered}

@@ -1,5 +1,5 @@
 use Rattle.std.proofs.Common.{◌≡◌}
-use Rattle.sb_value.specs.declared.lock.Mode.TheVariants.{Write}
+use Rattle.sb_value.specs.declared.lock.LockMode.TheVariants.{Write}
 use Rattle.sb_locks.specs.Held.{held}
 use Rattle.sb_process.specs.Made.{AreNumbered}
 use Rattle.sb_process.specs.Sharing.{settled_where}

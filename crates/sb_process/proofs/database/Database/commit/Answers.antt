@@ -1,6 +1,6 @@
 use Rattle.std.proofs.Common.{◌∙◌, ◌&&◌, nat_lt, Bool, List, ap, subst, sym, refl}
 use Rattle.sb_value.specs.declared.id.Who.{Who}
-use Rattle.sb_value.specs.declared.lock.Mode.TheVariants.{Write}
+use Rattle.sb_value.specs.declared.lock.LockMode.TheVariants.{Write}
 use Rattle.sb_value.specs.Table.{after_all}
 use Rattle.sb_rawlog.specs.Sessions.{changes_by}
 use Rattle.sb_locks.specs.Held.{held}

@@ -1,6 +1,6 @@
 use Rattle.std.proofs.Common.{◌∙◌, ℕ, List, Err, inl, inr, refl, sym, ap, subst}
-use Rattle.sb_value.specs.declared.lock.Mode.{Mode}
-use Rattle.sb_value.specs.declared.lock.Mode.TheVariants.{Write}
+use Rattle.sb_value.specs.declared.lock.LockMode.{LockMode}
+use Rattle.sb_value.specs.declared.lock.LockMode.TheVariants.{Write}
 use Rattle.sb_value.specs.Locks.{with_locks}
 use Rattle.sb_eval.specs.Statement.{statement_locks, statement_changes}
 use Rattle.sb_eval.specs.Target.{target}
@@ -22,7 +22,7 @@ returns-in-Err-clause-leaves g c = leaves-locked (leaves-all 4096 refl)
 pub run_granted-requires-clause-transaction : goal.run_granted-requires-clause-transaction
 run_granted-requires-clause-transaction g c =
     let d : Database = c.args.self.now in
-    let list : List (ℕ × Mode) = statement_locks c.args.statement.now in
+    let list : List (ℕ × LockMode) = statement_locks c.args.statement.now in
     let taken = c.in-Ok.ensures.taken in
     let some = c.requires.transaction in
     let p : Progress = record some.2 { locks = with_locks some.2.locks some.1.who.session list } in
@@ -37,7 +37,7 @@ run_granted-requires-clause-locked g c =
 -- with the locks taken, what is meant is what the changes of the statement are
 pub returns-in-Ok-clause-ran : goal.returns-in-Ok-clause-ran
 returns-in-Ok-clause-ran g c = λ origin setting progress w.
-    let list : List (ℕ × Mode) = statement_locks c.args.statement.now in
+    let list : List (ℕ × LockMode) = statement_locks c.args.statement.now in
     let none = same_conflict w.transaction list ∙ c.in-Ok.ensures.granted in
     let p : Progress = record progress { locks = with_locks progress.locks setting.who.session list } in
     let meant = granted_answer setting progress list (λ p. statement_changes (seen_with setting c.args.viewer.now.tables.now p) c.args.statement.now) none in
@@ -52,7 +52,7 @@ returns-in-Ok-clause-ran g c = λ origin setting progress w.
 pub returns-in-Err-clause-ran : goal.returns-in-Err-clause-ran
 returns-in-Err-clause-ran g c = λ origin setting progress w.
     let stands = λ (l : Holders) (p : Progress). Represents origin (record c.args.self.now { locks = l }) c.args.viewer.now.session (g.L.ChangeLog.records c.args.log.now) (g.L.ChangeLog.clock c.args.log.now) setting p in
-    let list : List (ℕ × Mode) = statement_locks c.args.statement.now in
+    let list : List (ℕ × LockMode) = statement_locks c.args.statement.now in
     let kept = subst (λ (l : Holders). stands l progress) (sym c.in-Err.ensures.unchanged) w.transaction in
     elim c.in-Err.ensures.refused [
       | inl none ↦ inr (ap Err none, inr kept)

@@ -1,5 +1,5 @@
 use Rattle.std.proofs.Common.{◌∙◌, ℕ, List, Err, sym, ap, subst, refl, inl}
-use Rattle.sb_value.specs.declared.lock.Mode.{Mode}
+use Rattle.sb_value.specs.declared.lock.LockMode.{LockMode}
 use Rattle.sb_value.specs.Locks.{with_locks}
 use Rattle.sb_eval.specs.Seen.{no_transition}
 use Rattle.sb_eval.specs.Statement.{query_locks, select_rows}
@@ -13,7 +13,7 @@ use Rattle.sb_process.proofs.database.Database.select.Goals as goal
 pub returns-clause-selected : goal.returns-clause-selected
 returns-clause-selected c = λ records clock origin setting progress r.
     let d = c.args.self.now in
-    let list : List (ℕ × Mode) = query_locks c.args.query.now in
+    let list : List (ℕ × LockMode) = query_locks c.args.query.now in
     let no = c.in-Err.ensures.refused in
     let conflict = found_conflict r (c.as_slice.ensures.value ∙ c.in-Ok.ensures) no.1 in
     record {
@@ -26,10 +26,10 @@ returns-clause-selected c = λ records clock origin setting progress r.
 pub returns-in-Ok-request-clause-selected : goal.returns-in-Ok-request-clause-selected
 returns-in-Ok-request-clause-selected c = λ records clock origin setting progress r.
     let d = c.args.self.now in
-    let list : List (ℕ × Mode) = query_locks c.args.query.now in
+    let list : List (ℕ × LockMode) = query_locks c.args.query.now in
     let listed = c.as_slice.ensures.value ∙ c.in-Ok.ensures in
     let none = found_conflict r listed c.in-Ok-request.ensures.granted in
-    let taken = λ (s t : ℕ) (m : Mode). c.in-Ok-request.ensures.taken s t m ∙ ap (λ l. with_locks (held d.locks) c.args.session l s t m) listed in
+    let taken = λ (s t : ℕ) (m : LockMode). c.in-Ok-request.ensures.taken s t m ∙ ap (λ l. with_locks (held d.locks) c.args.session l s t m) listed in
     let p : Progress = record progress { locks = with_locks progress.locks setting.who.session list } in
     let meant =
     granted_answer setting progress list (λ p. select_rows (seen_with setting no_transition p) c.args.query.now) none

@@ -1,5 +1,5 @@
 use Rattle.std.proofs.Common.{◌≡◌, ◌∙◌, ◌⊎◌, ℕ, Bool, List, Result, Err, sym, ap, subst, refl, inl}
-use Rattle.sb_value.specs.declared.lock.Mode.{Mode}
+use Rattle.sb_value.specs.declared.lock.LockMode.{LockMode}
 use Rattle.sb_value.specs.declared.refusal.Refusal.{Refusal}
 use Rattle.sb_value.specs.declared.refusal.Refusal.TheVariants.{NoMemory}
 use Rattle.sb_value.specs.Locks.{with_locks}
@@ -16,9 +16,9 @@ use Rattle.sb_process.proofs.database.Database.test_query.Goals as goal
 pub returns-in-Ok-request-clause-under_way : goal.returns-in-Ok-request-clause-under_way
 returns-in-Ok-request-clause-under_way c = λ records clock origin setting progress r.
     let d = c.args.self.now in
-    let list : List (ℕ × Mode) = query_locks c.args.query.now in
+    let list : List (ℕ × LockMode) = query_locks c.args.query.now in
     let listed = c.as_slice.ensures.value ∙ c.in-Ok.ensures in
-    let taken = λ (s t : ℕ) (m : Mode). c.in-Ok-request.ensures.taken s t m ∙ ap (λ l. with_locks (held d.locks) c.args.viewer.now.session l s t m) listed in
+    let taken = λ (s t : ℕ) (m : LockMode). c.in-Ok-request.ensures.taken s t m ∙ ap (λ l. with_locks (held d.locks) c.args.viewer.now.session l s t m) listed in
     let p : Progress = record progress { locks = with_locks progress.locks setting.who.session list } in (
       p,
       record {
@@ -31,7 +31,7 @@ pub returns-in-Ok-request-clause-tested : goal.returns-in-Ok-request-clause-test
 unfolding returns-in-Ok-request-clause-under_way
 returns-in-Ok-request-clause-tested c = λ records clock origin setting progress r.
     let come = returns-in-Ok-request-clause-under_way c records clock origin setting progress r in
-    let list : List (ℕ × Mode) = query_locks c.args.query.now in
+    let list : List (ℕ × LockMode) = query_locks c.args.query.now in
     let none = found_conflict r (c.as_slice.ensures.value ∙ c.in-Ok.ensures) c.in-Ok-request.ensures.granted in
     let S = λ (q : Progress). ComesTo origin (record c.args.self.now { locks = c.request.new.locks }) c.args.viewer.now.session records clock setting progress q in
     let meant =
@@ -42,7 +42,7 @@ returns-in-Ok-request-clause-tested c = λ records clock origin setting progress
 
 pub returns-clause-tested : goal.returns-clause-tested
 returns-clause-tested c = λ records clock origin setting progress r.
-    let list : List (ℕ × Mode) = query_locks c.args.query.now in
+    let list : List (ℕ × LockMode) = query_locks c.args.query.now in
     let no = c.in-Err.ensures.refused in
     let conflict = found_conflict r (c.as_slice.ensures.value ∙ c.in-Ok.ensures) no.1 in
     let S = λ (q : Progress). ComesTo origin (record c.args.self.now { locks = c.request.new.locks }) c.args.viewer.now.session records clock setting progress q in
