@@ -38,6 +38,17 @@ leaves-more {n} m {session} {old} {new} h le = record {
   numbers = λ k below. each-weaken (k + n) (k + m) (entries new.tables) (omega (arith, le)) (h.numbers k below);
 }
 
+-- work whose changes are then taken back
+pub leaves-back : {n session : ℕ} {old mid new : Database} {a b c : List Record} {x y z : ℕ} → Leaves n old mid session a b x y → new.id ≡ mid.id → OtherSessionsStay mid.transactions new.transactions session →
+    OthersStay (who_in mid session) b c → z ≡ y → ((m : ℕ) → NumbersBelow m mid.tables → NumbersBelow m new.tables) → Leaves n old new session a c x z
+leaves-back {n} {session} {old} {mid} {new} {a} {b} {c} f id sessions others clock numbers = record {
+  id = id ∙ f.id;
+  sessions = sessions-on old.transactions mid.transactions new.transactions session f.sessions sessions;
+  others = others-on session old mid a b c f.id f.others others;
+  times = (omega (arith, f.times.0, clock), omega (arith, f.times.1, clock));
+  numbers = λ k below. numbers (k + n) (f.numbers k below);
+}
+
 -- ---- what is as before
 
 -- the log and the tables

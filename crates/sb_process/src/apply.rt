@@ -6,7 +6,7 @@ ghost use Rattle.sb_rawlog.specs.Changes.{author};
 ghost use Rattle.sb_rawlog.specs.Sessions.{OthersStay};
 ghost use Rattle.sb_tables.specs.Held.{has_number, stored_at};
 ghost use Rattle.sb_locks.specs.Held.{held};
-ghost use Rattle.sb_process.specs.Made.{NumbersBelow};
+ghost use Rattle.sb_process.specs.Leaves.{Leaves};
 ghost use Rattle.sb_process.specs.Make.{HasPlaceFor, Makes};
 ghost use Rattle.sb_process.specs.Ready.{CanApply, copies_of};
 ghost use Rattle.sb_process.specs.Represents.{Represents, who_in};
@@ -38,12 +38,9 @@ impl Database {
         ensures all { EachRunning self.old session (L.records log.old) (L.clock log.old) index.now
             (λ origin setting progress. Represents origin self.new session (L.records log.new) (L.clock log.new) setting
             (record progress { changes = progress.changes ++ ready.changes.items })) }
-        ensures id { self.new.id ≡ self.old.id }
-        ensures sessions { OtherSessionsStay self.old.transactions self.new.transactions session }
-        ensures others { OthersStay (who_in self.old session) (L.records log.old) (L.records log.new) }
+        ensures leaves { Leaves (length ready.changes.items) self.old self.new session
+            (L.records log.old) (L.records log.new) (L.clock log.old) (L.clock log.new) }
         ensures clock { L.clock log.new ≡ L.clock log.old + length ready.changes.items }
-        ensures numbers { (n : ℕ) → NumbersBelow n self.old.tables
-            → NumbersBelow (n + length ready.changes.items) self.new.tables }
     {
         let Ready {
             changes,

@@ -6,7 +6,6 @@ ghost use Rattle.sb_eval.specs.Laws.{AreMakeable};
 ghost use Rattle.sb_eval.specs.Seen.{no_transition};
 ghost use Rattle.sb_eval.specs.Statement as spec;
 ghost use Rattle.sb_eval.specs.Target.{target};
-ghost use Rattle.sb_rawlog.specs.Sessions.{OthersStay};
 ghost use Rattle.sb_locks.specs.Held.{held};
 ghost use Rattle.sb_tables.specs.Held.{entries, has_number};
 ghost use Rattle.sb_process.specs.Made.{AreNumbered, AreStored, NumbersBelow};
@@ -15,8 +14,7 @@ ghost use Rattle.sb_process.specs.Ready.{Changes};
 ghost use Rattle.sb_process.specs.Represents.{IsTransaction, who_in};
 ghost use Rattle.sb_process.specs.Request.{AreThere};
 ghost use Rattle.sb_process.specs.Setting.{seen_with};
-ghost use Rattle.sb_process.specs.Statement.{Runs, RisesBy};
-ghost use Rattle.sb_process.specs.Transactions.{OtherSessionsStay};
+ghost use Rattle.sb_process.specs.Statement.{Runs};
 ghost use Rattle.sb_process.specs.View.{seen_by};
 ghost use Rattle.sb_process.specs.Running.{EachRunning};
 
@@ -60,11 +58,8 @@ impl Database {
             (λ origin setting progress.
             Runs origin self.new session no_transition statement.now result
             (L.records log.new) (L.clock log.new) setting progress) }
-        ensures id { self.new.id ≡ self.old.id }
-        ensures sessions { OtherSessionsStay self.old.transactions self.new.transactions session }
-        ensures others { OthersStay (who_in self.old session) (L.records log.old) (L.records log.new) }
-        ensures times { RisesBy 4096 (L.clock log.old) (L.clock log.new) }
-        ensures numbers { (n : ℕ) → NumbersBelow n self.old.tables → NumbersBelow (n + 4096) self.new.tables }
+        ensures leaves { Leaves 4096 self.old self.new session
+            (L.records log.old) (L.records log.new) (L.clock log.old) (L.clock log.new) }
     {
         let none = no_transition(alloc);
         let viewer = Viewer {

@@ -1,15 +1,13 @@
 //! Processing of eligible rules.
 ghost use Rattle.std.specs.Prelude.{◌≡◌, ℕ, ◌+◌, ◌*◌, ◌<◌, ◌^◌, IfOk, OnErr};
 ghost use Rattle.sb_value.specs.Flags.{flag_at};
-ghost use Rattle.sb_rawlog.specs.Sessions.{OthersStay};
 ghost use Rattle.sb_process.specs.Leaves.{HasRoom, Leaves};
 ghost use Rattle.sb_process.specs.Made.{NumbersBelow};
 ghost use Rattle.sb_process.specs.Process as spec;
-ghost use Rattle.sb_process.specs.Represents.{IsTakenBack, who_in};
+ghost use Rattle.sb_process.specs.Represents.{IsTakenBack};
 ghost use Rattle.sb_process.specs.Running.{ComesTo, Finds, is_done};
 ghost use Rattle.sb_process.specs.Setting.{Progress};
-ghost use Rattle.sb_process.specs.Statement.{RisesBy};
-ghost use Rattle.sb_process.specs.Transactions.{OtherSessionsStay, ArePast};
+ghost use Rattle.sb_process.specs.Transactions.{ArePast};
 ghost use Rattle.sb_process.specs.Work.{EachWork, IsAtWork, AreActive, CanRun, Processes};
 
 use crate::consider::Chosen;
@@ -76,12 +74,8 @@ impl Database {
             (λ origin setting progress.
             OnErr result
             (IsTakenBack origin self.old self.new point.now.session (L.records log.new) setting progress)) }
-        ensures id { self.new.id ≡ self.old.id }
-        ensures sessions { OtherSessionsStay self.old.transactions self.new.transactions point.now.session }
-        ensures others { OthersStay (who_in self.old point.now.session) (L.records log.old) (L.records log.new) }
-        ensures times { RisesBy (32768 * point.now.bound) (L.clock log.old) (L.clock log.new) }
-        ensures numbers { (n : ℕ) → NumbersBelow n self.old.tables
-            → NumbersBelow (n + 32768 * point.now.bound) self.new.tables }
+        ensures leaves { Leaves (32768 * point.now.bound) self.old self.new point.now.session
+            (L.records log.old) (L.records log.new) (L.clock log.old) (L.clock log.new) }
         ensures past { ArePast self.new.transactions point.now.session (L.clock log.new) }
     {
         let mut list = Vec::new(alloc);

@@ -98,10 +98,17 @@ returns-clause-all g c = λ origin setting progress w.
     (λ (cs : List Change). Represents origin c.loop-change.self c.args.session (g.L.ChangeLog.records c.loop-change.log) (g.L.ChangeLog.clock c.loop-change.log) setting (record progress { changes = progress.changes ++ cs }))
     whole (v.made.2 origin setting progress w)
 
-pub returns-clause-numbers : goal.returns-clause-numbers
-returns-clause-numbers g c = λ n b.
+pub returns-clause-leaves : goal.returns-clause-leaves
+returns-clause-leaves g c =
     let v = c.loop-change.invariant in
-    let q = v.numbers n b in
     let none : length (into_iter_items c.loop-change.change-iterator) ≡ 0 = sym v.len ∙ c.in-None.ensures.steps.0 in
-    let end : q.0 ≡ n + length c.args.ready.changes.items = omega (arith, q.1, none) in
-    subst (λ (m : ℕ). NumbersBelow m c.loop-change.self.tables) end q.2
+    record {
+      id = v.id;
+      sessions = v.sessions;
+      others = v.others;
+      times = (omega (arith, v.clock, none), omega (arith, v.clock, none));
+      numbers = λ n b.
+          let q = v.numbers n b in
+          let end : q.0 ≡ n + length c.args.ready.changes.items = omega (arith, q.1, none) in
+          subst (λ (m : ℕ). NumbersBelow m c.loop-change.self.tables) end q.2;
+    }

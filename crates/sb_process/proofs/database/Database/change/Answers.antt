@@ -6,6 +6,9 @@ use Rattle.sb_process.proofs.database.Database.change.Goals as goal
 pub run-requires-clause-room : goal.run-requires-clause-room
 run-requires-clause-room g c = record { times = omega (arith, c.requires.times); numbers = (2 ^ 63, omega arith, c.requires.numbers) }
 
+pub returns-clause-leaves : goal.returns-clause-leaves
+returns-clause-leaves g c = c.run.ensures.leaves
+
 pub returns-clause-changed : goal.returns-clause-changed
 returns-clause-changed g c = λ origin setting progress w.
     subst

@@ -33,13 +33,7 @@ pub returns-in-Ok-clause-leaves : goal.returns-in-Ok-clause-leaves
 returns-in-Ok-clause-leaves g c =
     let all : length c.args.effect.changes.items ≡ length c.in-Ok.ready.changes.items = sym (ap (λ (l : List Change). length l) c.in-Ok.ensures.changes) in
     let ran : Leaves (length c.in-Ok.ready.changes.items) (record c.args.self.now { tables = c.prepare.new.tables }) c.apply.new.self c.args.session (g.L.ChangeLog.records c.prepare.new.log)
-    (g.L.ChangeLog.records c.apply.new.log) (g.L.ChangeLog.clock c.prepare.new.log) (g.L.ChangeLog.clock c.apply.new.log) = record {
-      id = c.apply.ensures.id;
-      sessions = c.apply.ensures.sessions;
-      others = c.apply.ensures.others;
-      times = (omega (arith, c.apply.ensures.clock), omega (arith, c.apply.ensures.clock));
-      numbers = c.apply.ensures.numbers;
-    } in
+    (g.L.ChangeLog.records c.apply.new.log) (g.L.ChangeLog.clock c.prepare.new.log) (g.L.ChangeLog.clock c.apply.new.log) = c.apply.ensures.leaves in
     leaves-more 4096 (leaves-on (leaves-prepared c.args.self.now c.prepare.ensures.same c.prepare.ensures.records c.prepare.ensures.clock) ran) (omega (arith, all, c.in-Ok.ensures.few))
 
 pub returns-in-Err-clause-made : goal.returns-in-Err-clause-made

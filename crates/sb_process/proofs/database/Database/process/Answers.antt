@@ -1,10 +1,10 @@
-use Rattle.std.proofs.Common.{◌∙◌, ◌+◌, ◌*◌, ◌^◌, sym, arith}
+use Rattle.std.proofs.Common.{◌∙◌, ◌^◌, sym, arith}
 use Rattle.sb_value.specs.Flags.{flag_at}
 use Rattle.sb_process.specs.declared.Outcome.{Outcome}
 use Rattle.sb_process.specs.Process.{process}
 use Rattle.sb_process.specs.Running.{ComesTo, Finds}
 use Rattle.sb_process.specs.Setting.{Progress}
-use Rattle.sb_process.proofs.Leaving.{sessions-on}
+use Rattle.sb_process.proofs.Leaving.{leaves-back}
 use Rattle.sb_process.proofs.Processing.{taken-back, processes-done, processes-back, if-ok}
 use Rattle.sb_process.proofs.database.Database.process.Goals as goal
 
@@ -49,37 +49,22 @@ pub rollback-requires-in-Err : goal.rollback-requires-in-Err
 rollback-requires-in-Err g c =
     let w = c.requires.work in let come = c.consider_all.ensures.under_way w.0 w.1 w.2 w.3 in (w.0, w.1, come.0, (come.1).stands)
 
-pub returns-else-is_done-clause-id : goal.returns-else-is_done-clause-id
-returns-else-is_done-clause-id g c =
+pub returns-then-is_done-clause-leaves : goal.returns-then-is_done-clause-leaves
+returns-then-is_done-clause-leaves g c = c.consider_all.ensures.leaves
+
+pub returns-else-is_done-clause-leaves : goal.returns-else-is_done-clause-leaves
+returns-else-is_done-clause-leaves g c =
     let w = c.requires.work in
     let come = c.consider_all.ensures.under_way w.0 w.1 w.2 w.3 in
-    (c.rollback.ensures.back w.0 w.1 come.0 (come.1).stands).id ∙ c.consider_all.ensures.leaves.id
+    let back = c.rollback.ensures.back w.0 w.1 come.0 (come.1).stands in
+    leaves-back c.consider_all.ensures.leaves back.id back.sessions c.rollback.ensures.others c.rollback.ensures.clock c.rollback.ensures.numbers
 
-pub returns-else-is_done-clause-sessions : goal.returns-else-is_done-clause-sessions
-returns-else-is_done-clause-sessions g c =
+pub returns-in-Err-clause-leaves : goal.returns-in-Err-clause-leaves
+returns-in-Err-clause-leaves g c =
     let w = c.requires.work in
     let come = c.consider_all.ensures.under_way w.0 w.1 w.2 w.3 in
-    sessions-on c.args.self.now.transactions c.consider_all.new.self.transactions c.rollback.new.self.transactions c.args.point.now.session c.consider_all.ensures.leaves.sessions
-    (c.rollback.ensures.back w.0 w.1 come.0 (come.1).stands).sessions
-
-pub returns-else-is_done-clause-numbers : goal.returns-else-is_done-clause-numbers
-returns-else-is_done-clause-numbers g c = λ n h. c.rollback.ensures.numbers (n + 32768 * c.args.point.now.bound) (c.consider_all.ensures.leaves.numbers n h)
-
-pub returns-in-Err-clause-id : goal.returns-in-Err-clause-id
-returns-in-Err-clause-id g c =
-    let w = c.requires.work in
-    let come = c.consider_all.ensures.under_way w.0 w.1 w.2 w.3 in
-    (c.rollback-in-Err.ensures.back w.0 w.1 come.0 (come.1).stands).id ∙ c.consider_all.ensures.leaves.id
-
-pub returns-in-Err-clause-sessions : goal.returns-in-Err-clause-sessions
-returns-in-Err-clause-sessions g c =
-    let w = c.requires.work in
-    let come = c.consider_all.ensures.under_way w.0 w.1 w.2 w.3 in
-    sessions-on c.args.self.now.transactions c.consider_all.new.self.transactions c.rollback-in-Err.new.self.transactions c.args.point.now.session c.consider_all.ensures.leaves.sessions
-    (c.rollback-in-Err.ensures.back w.0 w.1 come.0 (come.1).stands).sessions
-
-pub returns-in-Err-clause-numbers : goal.returns-in-Err-clause-numbers
-returns-in-Err-clause-numbers g c = λ n h. c.rollback-in-Err.ensures.numbers (n + 32768 * c.args.point.now.bound) (c.consider_all.ensures.leaves.numbers n h)
+    let back = c.rollback-in-Err.ensures.back w.0 w.1 come.0 (come.1).stands in
+    leaves-back c.consider_all.ensures.leaves back.id back.sessions c.rollback-in-Err.ensures.others c.rollback-in-Err.ensures.clock c.rollback-in-Err.ensures.numbers
 
 pub returns-then-is_done-clause-past : goal.returns-then-is_done-clause-past
 returns-then-is_done-clause-past g c = λ rule.

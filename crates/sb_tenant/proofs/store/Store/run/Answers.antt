@@ -25,28 +25,37 @@ process-requires-clause-active g c = are-active (flag_at c.args.point.now.eligib
 pub returns-then-is_done-clause-aside : goal.returns-then-is_done-clause-aside
 returns-then-is_done-clause-aside g c = λ state st.
     let old = c.args.self.now in let s = c.args.point.now.session in let laws = c.tables_are_shared.ensures.laws in let is = c.tables_are_shared.ensures.in_range in
-    let call = called old c.process.new.self old.phases c.process.ensures.id c.process.ensures.others c.process.ensures.times.0 c.process.ensures.sessions (λ o other. refl) in
+    let l = c.process.ensures.leaves in
+    let call = called old c.process.new.self old.phases l.id l.others l.times.0 l.sessions (λ o other. refl) in
     (processed-done laws is st call c.requires.active c.args.point.now.bound (flag_at c.args.point.now.eligible) (c.in-Ok.ensures.processed (base_of st.0.0 state s) (setting_of old.database.id state s) (progress_of state s) (works-in laws is st)) (sym c.is_done.ensures ∙ c.if-is_done.true) c.requires.active).1
 
 pub returns-then-is_done-clause-found : goal.returns-then-is_done-clause-found
 returns-then-is_done-clause-found g c = λ state st chosen flags.
     let old = c.args.self.now in let s = c.args.point.now.session in let laws = c.tables_are_shared.ensures.laws in let is = c.tables_are_shared.ensures.in_range in
-    let call = called old c.process.new.self old.phases c.process.ensures.id c.process.ensures.others c.process.ensures.times.0 c.process.ensures.sessions (λ o other. refl) in
+    let l = c.process.ensures.leaves in
+    let call = called old c.process.new.self old.phases l.id l.others l.times.0 l.sessions (λ o other. refl) in
     let k = c.in-Ok.ensures.processed (base_of st.0.0 state s) (setting_of old.database.id state s) (progress_of state s) (works-in laws is st) in
     finds-with laws is st call c.requires.active c.args.point.now.bound (flag_at c.args.point.now.eligible) k c.in-Ok.processed refl refl flags (processed-done laws is st call c.requires.active c.args.point.now.bound (flag_at c.args.point.now.eligible) k (sym c.is_done.ensures ∙ c.if-is_done.true) c.requires.active).0
+
+pub returns-then-is_done-clause-leaves : goal.returns-then-is_done-clause-leaves
+returns-then-is_done-clause-leaves g c =
+    let l = c.process.ensures.leaves in
+    record { id = l.id; others = l.others; times = l.times; numbers = l.numbers }
 
 -- ---- where it is taken back
 
 pub returns-else-is_done-clause-aside : goal.returns-else-is_done-clause-aside
 returns-else-is_done-clause-aside g c = λ state st.
     let old = c.args.self.now in let s = c.args.point.now.session in let laws = c.tables_are_shared.ensures.laws in let is = c.tables_are_shared.ensures.in_range in
-    let call = called old c.process.new.self c.set.new.self c.process.ensures.id c.process.ensures.others c.process.ensures.times.0 c.process.ensures.sessions (set-other old.phases c.set.new.self s Idle c.set.ensures) in
+    let l = c.process.ensures.leaves in
+    let call = called old c.process.new.self c.set.new.self l.id l.others l.times.0 l.sessions (set-other old.phases c.set.new.self s Idle c.set.ensures) in
     (processed-back laws is st call c.requires.active c.args.point.now.bound (flag_at c.args.point.now.eligible) (c.in-Ok.ensures.processed (base_of st.0.0 state s) (setting_of old.database.id state s) (progress_of state s) (works-in laws is st)) (sym c.is_done.ensures ∙ c.if-is_done.false) (set-own old.phases c.set.new.self s Idle c.set.ensures) c.process.ensures.past).1
 
 pub returns-else-is_done-clause-found : goal.returns-else-is_done-clause-found
 returns-else-is_done-clause-found g c = λ state st chosen flags.
     let old = c.args.self.now in let s = c.args.point.now.session in let laws = c.tables_are_shared.ensures.laws in let is = c.tables_are_shared.ensures.in_range in
-    let call = called old c.process.new.self c.set.new.self c.process.ensures.id c.process.ensures.others c.process.ensures.times.0 c.process.ensures.sessions (set-other old.phases c.set.new.self s Idle c.set.ensures) in
+    let l = c.process.ensures.leaves in
+    let call = called old c.process.new.self c.set.new.self l.id l.others l.times.0 l.sessions (set-other old.phases c.set.new.self s Idle c.set.ensures) in
     let k = c.in-Ok.ensures.processed (base_of st.0.0 state s) (setting_of old.database.id state s) (progress_of state s) (works-in laws is st) in
     finds-with laws is st call c.requires.active c.args.point.now.bound (flag_at c.args.point.now.eligible) k c.in-Ok.processed refl refl flags
     (processed-back laws is st call c.requires.active c.args.point.now.bound (flag_at c.args.point.now.eligible) k (sym c.is_done.ensures ∙ c.if-is_done.false) (set-own old.phases c.set.new.self s Idle c.set.ensures) c.process.ensures.past).0
@@ -54,5 +63,16 @@ returns-else-is_done-clause-found g c = λ state st chosen flags.
 pub returns-in-Err-clause-aside : goal.returns-in-Err-clause-aside
 returns-in-Err-clause-aside g c = λ state st.
     let old = c.args.self.now in let s = c.args.point.now.session in let laws = c.tables_are_shared.ensures.laws in let is = c.tables_are_shared.ensures.in_range in
-    let call = called old c.process.new.self c.set-in-Err.new.self c.process.ensures.id c.process.ensures.others c.process.ensures.times.0 c.process.ensures.sessions (set-other old.phases c.set-in-Err.new.self s Idle c.set-in-Err.ensures) in
+    let l = c.process.ensures.leaves in
+    let call = called old c.process.new.self c.set-in-Err.new.self l.id l.others l.times.0 l.sessions (set-other old.phases c.set-in-Err.new.self s Idle c.set-in-Err.ensures) in
     back-aside laws is st.0.1 st.1 call c.requires.active (goes-back laws is st.0.1 st.1 call (set-own old.phases c.set-in-Err.new.self s Idle c.set-in-Err.ensures) c.process.ensures.past (c.in-Err.ensures.no_memory (base_of st.0.0 state s) (setting_of old.database.id state s) (progress_of state s) (works-in laws is st)))
+
+pub returns-else-is_done-clause-leaves : goal.returns-else-is_done-clause-leaves
+returns-else-is_done-clause-leaves g c =
+    let l = c.process.ensures.leaves in
+    record { id = l.id; others = l.others; times = l.times; numbers = l.numbers }
+
+pub returns-in-Err-clause-leaves : goal.returns-in-Err-clause-leaves
+returns-in-Err-clause-leaves g c =
+    let l = c.process.ensures.leaves in
+    record { id = l.id; others = l.others; times = l.times; numbers = l.numbers }
