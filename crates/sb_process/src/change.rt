@@ -19,7 +19,6 @@ ghost use Rattle.sb_process.specs.View.{seen_by};
 ghost use Rattle.sb_process.specs.Running.{EachRunning};
 
 use crate::database::Database;
-use crate::lock_list::target_of;
 use crate::ready::prepare;
 use crate::refusal::refusal_for;
 use crate::request::lock;
@@ -127,7 +126,7 @@ impl Database {
         match self.evaluate(alloc, viewer, statement) {
             Ok(changes) => {
                 let effect = TableChanges {
-                    target: target_of(statement),
+                    target: statement.target(),
                     changes,
                 };
                 self.make_all(alloc, log, index, viewer.session, effect)

@@ -80,13 +80,6 @@ fn statement_reads(
     Ok(reads.list)
 }
 
-/// The table that a statement changes.
-pub(crate) fn target_of(statement: &Statement) -> TableId
-    ensures { result ≡ target statement.now }
-{
-    statement.target()
-}
-
 /// The write of the target before the locks of the sources, which are writes where they are of the target.
 fn with_target(
     alloc: Global,

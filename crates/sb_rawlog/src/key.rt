@@ -1,6 +1,6 @@
 //! What a walk looks for.
 ghost use Rattle.std.specs.Prelude.{◌≡◌};
-ghost use Rattle.sb_rawlog.specs.Changes.{is_by, same_kind};
+ghost use Rattle.sb_rawlog.specs.Changes.{is_by};
 ghost use Rattle.sb_rawlog.specs.Keys.{fits};
 
 use sb_value::{Change, ChangeKind, TableId, Who};
@@ -20,25 +20,13 @@ fn is_by(change: &Change, who: Who) -> bool
     change.tenant == who.tenant && change.session == who.session
 }
 
-/// Whether the two kinds are one.
-fn same_kind(a: ChangeKind, b: ChangeKind) -> bool
-    ensures { result ≡ same_kind a b }
-{
-    match (a, b) {
-        (ChangeKind::Inserted, ChangeKind::Inserted) => true,
-        (ChangeKind::Deleted, ChangeKind::Deleted) => true,
-        (ChangeKind::Updated, ChangeKind::Updated) => true,
-        _ => false,
-    }
-}
-
 impl Key {
     pub(crate) fn fits(&self, change: &Change) -> bool
         ensures { result ≡ fits self.now change.now }
     {
         match self {
             Key::Op(who, table, kind) => {
-                is_by(change, *who) && change.table == *table && same_kind(change.kind, *kind)
+                is_by(change, *who) && change.table == *table && change.kind == *kind
             }
             Key::Tuple(who, table, tuple) => {
                 is_by(change, *who) && change.table == *table && change.tuple == *tuple

@@ -30,7 +30,7 @@ make_all-requires-clause-makeable g c =
     let some = c.requires.transaction in
     let sound = sound-made c.changes_keep_places.ensures some.0 some.2.changes c.args.self.now.tables some.3.made in
     let t : ℕ = target c.args.statement.now in
-    subst (λ (n : ℕ). AreMakeable (entries c.args.self.now.tables) (who_in c.args.self.now c.args.viewer.now.session) n c.in-Ok.changes.items) (sym c.target_of.ensures)
+    subst (λ (n : ℕ). AreMakeable (entries c.args.self.now.tables) (who_in c.args.self.now c.args.viewer.now.session) n c.in-Ok.changes.items) (sym c.target.ensures)
     (c.changes_are_proper.ensures (seen_by c.args.self.now.tables c.args.viewer.now.tables.now (who_in c.args.self.now c.args.viewer.now.session)) c.args.statement.now c.in-Ok.changes.items
     (number-entries c.args.self.now.tables t ∙ c.requires.there) (tables_are c.args.self.now.tables t sound.1) c.in-Ok.ensures.ok)
 
