@@ -17,11 +17,20 @@ use std::alloc::Global;
 use std::marker::Model;
 
 /// The rules in order of creation, found by name or by number in constant time.
-#[derive(Drop)]
 pub struct Catalog {
     rules: IndexMap<Name, Rule>,
     places: Places,
     active: RuleSet,
+}
+
+impl Drop for Catalog {
+    fn drop(self) {
+        let Self {
+            rules: _,
+            places: _,
+            active: _,
+        } = self;
+    }
 }
 
 impl Model for Catalog {

@@ -21,11 +21,20 @@ use sb_value::{Name, Refusal, RuleId, RuleSet, TenantId};
 use std::alloc::Global;
 
 /// All rules of a tenant, their order and its rulesets.
-#[derive(Drop)]
 pub struct Definitions {
     pub rules: Catalog,
     pub order: Priorities,
     pub rulesets: Rulesets,
+}
+
+impl Drop for Definitions {
+    fn drop(self) {
+        let Self {
+            rules: _,
+            order: _,
+            rulesets: _,
+        } = self;
+    }
 }
 
 impl Definitions {

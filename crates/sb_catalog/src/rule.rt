@@ -7,7 +7,6 @@ use sb_check::{Actions, NewParts, Query, RuleParts};
 use sb_value::{Name, RuleId, TableId, Triggers};
 
 /// A rule with its names resolved.
-#[derive(Drop)]
 pub struct Rule {
     pub id: RuleId,
     pub name: Name,
@@ -17,6 +16,20 @@ pub struct Rule {
     pub actions: Actions,
     /// Whether it is considered at all.
     pub active: bool,
+}
+
+impl Drop for Rule {
+    fn drop(self) {
+        let Self {
+            id: _,
+            name: _,
+            table: _,
+            triggers: _,
+            condition: _,
+            actions: _,
+            active: _,
+        } = self;
+    }
 }
 
 /// The active rule of that number and name with these parts.

@@ -42,7 +42,6 @@ pub fn ample_buckets(tenants: u32) -> usize
 }
 
 /// The tenants whose numbers are `first`, `first + stride`, .. with what their transactions share.
-#[derive(Drop)]
 pub struct Cell {
     first: u32,
     stride: u32,
@@ -50,6 +49,19 @@ pub struct Cell {
     tenants: Vec<Tenant>,
     log: Log,
     index: RuleIndex,
+}
+
+impl Drop for Cell {
+    fn drop(self) {
+        let Self {
+            first: _,
+            stride: _,
+            bound: _,
+            tenants: _,
+            log: _,
+            index: _,
+        } = self;
+    }
 }
 
 impl Model for Cell {
@@ -129,7 +141,14 @@ impl Cell {
         ensures hosted { All (IsTenantOf self) result.items }
         ensures whole { (t : ℕ) → hosts self t ≡ true → (own : ItsTenant) × Contains result.items own × (own.id ≡ t) }
     {
-        let Cell { tenants, .. } = self;
+        let Self {
+            first: _,
+            stride: _,
+            bound: _,
+            tenants,
+            log: _,
+            index: _,
+        } = self;
         tenants
     }
 

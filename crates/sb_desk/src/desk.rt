@@ -33,11 +33,20 @@ pub enum CallError {
 }
 
 /// What the lock of the cell `FIRST` holds. To a contract it is the cell.
-#[derive(Drop)]
 pub struct Desk<N: Naming, const FIRST: u32> {
     cell: Cell,
     share: Share<N>,
     seats: Vec<Option<SessionSeat>>,
+}
+
+impl<N: Naming, const FIRST: u32> Drop for Desk<N, FIRST> {
+    fn drop(self) {
+        let Self {
+            cell: _,
+            share: _,
+            seats: _,
+        } = self;
+    }
 }
 
 impl<N: Naming, const FIRST: u32> Model for Desk<N, FIRST> {
@@ -79,7 +88,11 @@ impl<N: Naming, const FIRST: u32> Desk<N, FIRST> {
         ensures of { (self.first ≡ FIRST) × (self.stride ≡ N.cells) × (self.bound ≡ N.bound) }
         ensures hosts { (t : ℕ) → hosts self t ≡ ((t % N.cells == FIRST) && nat_lt t N.tenants) }
     {
-        let Desk { cell, .. } = self;
+        let Self {
+            cell,
+            share: _,
+            seats: _,
+        } = self;
         cell
     }
 

@@ -14,10 +14,15 @@ use std::marker::Model;
 use std::sync::ledger::Share;
 
 /// The line that a call had, and its answer.
-#[derive(Drop)]
 pub struct Receipt {
     pub line: Line,
     pub answer: Answer,
+}
+
+impl Drop for Receipt {
+    fn drop(self) {
+        let Self { line: _, answer: _ } = self;
+    }
 }
 
 /// Where the answer of the newest call is.
@@ -36,7 +41,6 @@ pub(crate) struct Opening {
 }
 
 /// One session's receipts, and while it is open its seat.
-#[derive(Drop)]
 pub struct Receipts<N: Naming> {
     tenant: u32,
     session: SessionId,
@@ -46,6 +50,21 @@ pub struct Receipts<N: Naming> {
     known: KnownLines,
     ready: Option<Line>,
     newest: Newest,
+}
+
+impl<N: Naming> Drop for Receipts<N> {
+    fn drop(self) {
+        let Self {
+            tenant: _,
+            session: _,
+            list: _,
+            share: _,
+            opening: _,
+            known: _,
+            ready: _,
+            newest: _,
+        } = self;
+    }
 }
 
 impl<N: Naming> Model for Receipts<N> {
@@ -105,7 +124,16 @@ impl<N: Naming> Receipts<N> {
     pub fn into_list(self) -> Vec<Receipt>
         ensures { result.items ≡ self.list }
     {
-        let Receipts { list, .. } = self;
+        let Self {
+            tenant: _,
+            session: _,
+            list,
+            share: _,
+            opening: _,
+            known: _,
+            ready: _,
+            newest: _,
+        } = self;
         list
     }
 

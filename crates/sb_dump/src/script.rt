@@ -6,9 +6,14 @@ use std::marker::Model;
 
 /// Lines of commands, to be sent in one session: without the `open` in front and the `end` behind them, without numbers
 /// and without newlines.
-#[derive(Drop)]
 pub struct Script {
     pub(crate) lines: Vec<Line>,
+}
+
+impl Drop for Script {
+    fn drop(self) {
+        let Self { lines: _ } = self;
+    }
 }
 
 impl Model for Script {

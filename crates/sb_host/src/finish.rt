@@ -14,9 +14,14 @@ use sb_value::SessionId;
 use std::alloc::{AllocError, Global};
 
 /// The trails of all tenants, by number.
-#[derive(Drop)]
 pub struct Report {
     pub trails: Vec<Vec<Entry>>,
+}
+
+impl Drop for Report {
+    fn drop(self) {
+        let Self { trails: _ } = self;
+    }
 }
 
 impl Report {

@@ -10,10 +10,18 @@ use std::alloc::{AllocError, Global};
 use std::marker::Model;
 
 /// The rules of all tenants by what triggers them. A tenant has a slot by its number, and tables in it once it has a rule.
-#[derive(Drop)]
 pub struct RuleIndex {
     tenants: Vec<TenantRules>,
     alloc: Global,
+}
+
+impl Drop for RuleIndex {
+    fn drop(self) {
+        let Self {
+            tenants: _,
+            alloc: _,
+        } = self;
+    }
 }
 
 impl Model for RuleIndex {

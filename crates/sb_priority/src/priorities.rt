@@ -18,10 +18,15 @@ use std::marker::Model;
 pub struct Cycle;
 
 /// Rules in order of creation, and which of them precede which.
-#[derive(Drop)]
 pub struct Priorities {
     rules: RuleList,
     rows: PrecedenceRows,
+}
+
+impl Drop for Priorities {
+    fn drop(self) {
+        let Self { rules: _, rows: _ } = self;
+    }
 }
 
 impl Model for Priorities {

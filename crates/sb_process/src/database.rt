@@ -13,12 +13,22 @@ use sb_value::{SessionId, TenantId, Who};
 use std::alloc::Global;
 
 /// A tenant's tables, its locks, and what is kept of its transactions beside the log.
-#[derive(Drop)]
 pub struct Database {
     pub id: TenantId,
     pub tables: Tables,
     pub locks: Locks,
     pub transactions: Transactions,
+}
+
+impl Drop for Database {
+    fn drop(self) {
+        let Self {
+            id: _,
+            tables: _,
+            locks: _,
+            transactions: _,
+        } = self;
+    }
 }
 
 impl Database {

@@ -41,9 +41,14 @@ pub enum Outcome {
 }
 
 /// The considered rules with their verdicts, in order.
-#[derive(Drop)]
 pub struct Trace {
     list: Vec<(RuleId, Verdict)>,
+}
+
+impl Drop for Trace {
+    fn drop(self) {
+        let Self { list: _ } = self;
+    }
 }
 
 impl Model for Trace {
@@ -65,8 +70,16 @@ impl Trace {
 }
 
 /// The outcome, and the rules that were considered.
-#[derive(Drop)]
 pub struct Processed {
     pub outcome: Outcome,
     pub trace: Trace,
+}
+
+impl Drop for Processed {
+    fn drop(self) {
+        let Self {
+            outcome: _,
+            trace: _,
+        } = self;
+    }
 }

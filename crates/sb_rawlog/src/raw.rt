@@ -23,7 +23,6 @@ use std::alloc::{AllocError, Global};
 use std::marker::Model;
 
 /// A log over an arena, with three lists through its nodes.
-#[derive(Drop)]
 pub struct RawLog {
     arena: Arena<Node<Change>>,
     heads: Heads,
@@ -31,6 +30,19 @@ pub struct RawLog {
     used: usize,
     clock: u64,
     room: usize,
+}
+
+impl Drop for RawLog {
+    fn drop(self) {
+        let Self {
+            arena: _,
+            heads: _,
+            free: _,
+            used: _,
+            clock: _,
+            room: _,
+        } = self;
+    }
 }
 
 impl Model for RawLog {

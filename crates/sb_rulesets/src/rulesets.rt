@@ -15,9 +15,14 @@ use std::marker::Model;
 pub const RULESET_LIMIT: usize = 16;
 
 /// The rulesets in order of creation, found by name in constant time.
-#[derive(Drop)]
 pub struct Rulesets {
     sets: IndexMap<Name, RuleSet>,
+}
+
+impl Drop for Rulesets {
+    fn drop(self) {
+        let Self { sets: _ } = self;
+    }
 }
 
 impl Model for Rulesets {

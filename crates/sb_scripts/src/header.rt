@@ -99,21 +99,27 @@ impl Header {
 }
 
 fn read_lines(value: &[u8]) -> Result<BlockKind, ScriptFault> {
-    match value {
-        b"syntax" => Ok(BlockKind::Syntax),
-        b"memory" => Ok(BlockKind::Memory),
-        b"tenant" => Ok(BlockKind::Tenant),
-        b"shared" => Ok(BlockKind::Shared),
-        _ => Err(ScriptFault::BadHeader),
+    let kinds = [
+        (b"syntax".as_slice(), BlockKind::Syntax),
+        (b"memory".as_slice(), BlockKind::Memory),
+        (b"tenant".as_slice(), BlockKind::Tenant),
+        (b"shared".as_slice(), BlockKind::Shared),
+    ];
+    match kinds.iter().find(|(name, _)| *name == value) {
+        Some((_, kind)) => Ok(*kind),
+        None => Err(ScriptFault::BadHeader),
     }
 }
 
 fn read_each(value: &[u8]) -> Result<Each, ScriptFault> {
-    match value {
-        b"fails" => Ok(Each::Fails),
-        b"room" => Ok(Each::Room),
-        b"reads" => Ok(Each::Reads),
-        b"writes" => Ok(Each::Writes),
-        _ => Err(ScriptFault::BadHeader),
+    let kinds = [
+        (b"fails".as_slice(), Each::Fails),
+        (b"room".as_slice(), Each::Room),
+        (b"reads".as_slice(), Each::Reads),
+        (b"writes".as_slice(), Each::Writes),
+    ];
+    match kinds.iter().find(|(name, _)| *name == value) {
+        Some((_, each)) => Ok(*each),
+        None => Err(ScriptFault::BadHeader),
     }
 }

@@ -23,17 +23,26 @@ pub fn play_shared(
 ) -> Result<(), ScriptFault> {
     let ScriptBlock { header, lines } = block;
     let mut cell = fresh_cell(alloc, header)?;
+    play_lines(alloc, &mut cell, lines, out)
+}
+
+fn play_lines(
+    alloc: Global,
+    cell: &mut Cell,
+    lines: &[u8],
+    out: &mut Vec<u8>,
+) -> Result<(), ScriptFault> {
     let mut summary = Summary::new();
     for line in lines.split(|byte| *byte == b'\n') {
         if !line.is_empty() {
             let mut reader: &[u8] = line;
-            let ended = run_stream(alloc, &mut reader, out, &mut cell, &mut summary);
+            let ended = run_stream(alloc, &mut reader, out, cell, &mut summary);
             push_end(ended, out)?;
             push_line("log ", cell.log_len() as u64, out)?;
         }
     }
     for number in 0..TENANT_LIMIT {
-        push_inserts(&cell, TenantId::new(number as u8), out)?;
+        push_inserts(cell, TenantId::new(number as u8), out)?;
     }
     Ok(())
 }

@@ -108,8 +108,17 @@ fn ends_behind(
 
 /// Adds the replies to these lines, and the fault that ends them, if one does.
 fn play_once(alloc: Global, block: ScriptBlock<'_>, out: &mut Vec<u8>) -> Result<(), ScriptFault> {
+    let mut cell = fresh_cell(alloc, block.header)?;
+    play_on(alloc, &mut cell, block, out)
+}
+
+fn play_on(
+    alloc: Global,
+    cell: &mut Cell,
+    block: ScriptBlock<'_>,
+    out: &mut Vec<u8>,
+) -> Result<(), ScriptFault> {
     let ScriptBlock { header, lines } = block;
-    let mut cell = fresh_cell(alloc, header)?;
     let sent = lines.len().saturating_sub(header.cut as usize);
     let mut reader = Fallible {
         inner: Failing::new(header, &lines[..sent]),
@@ -118,7 +127,7 @@ fn play_once(alloc: Global, block: ScriptBlock<'_>, out: &mut Vec<u8>) -> Result
         inner: Narrow::new(header, out),
     };
     let mut summary = Summary::new();
-    let ended = run_stream(alloc, &mut reader, &mut writer, &mut cell, &mut summary);
+    let ended = run_stream(alloc, &mut reader, &mut writer, cell, &mut summary);
     push_end(ended, out)
 }
 

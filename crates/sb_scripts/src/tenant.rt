@@ -18,15 +18,34 @@ const SHOWN: usize = 4;
 /// Adds the numbers and the answers, and the end of the trail.
 pub fn play_tenant(alloc: Global, lines: &[u8], out: &mut Vec<u8>) -> Result<(), ScriptFault> {
     let mut cell = Cell::new(alloc, LONE, LONE + 1, LONE + 1, 0)?;
+    play_lines(alloc, &mut cell, lines, out)
+}
+
+fn play_lines(
+    alloc: Global,
+    cell: &mut Cell,
+    lines: &[u8],
+    out: &mut Vec<u8>,
+) -> Result<(), ScriptFault> {
     for line in lines.split(|byte| *byte == b'\n') {
         if !line.is_empty() {
-            push_answer(answer(alloc, &mut cell, line), out)?;
+            play_line(alloc, cell, line, out)?;
         }
     }
     match cell.trail(LONE) {
         Some(trail) => push_trail(trail, out),
         None => Err(ScriptFault::Stream(StreamError::NoMemory)),
     }
+}
+
+fn play_line(
+    alloc: Global,
+    cell: &mut Cell,
+    line: &[u8],
+    out: &mut Vec<u8>,
+) -> Result<(), ScriptFault> {
+    let answer = answer(alloc, cell, line);
+    push_answer(&answer, out)
 }
 
 /// The answer to a line. Sessions open and end by the calls for it, where they can.
@@ -45,7 +64,7 @@ fn answer(alloc: Global, cell: &mut Cell, line: &[u8]) -> Result<Answer, StepErr
     }
 }
 
-fn push_answer(answer: Result<Answer, StepError>, out: &mut Vec<u8>) -> Result<(), ScriptFault> {
+fn push_answer(answer: &Result<Answer, StepError>, out: &mut Vec<u8>) -> Result<(), ScriptFault> {
     let Ok(answer) = answer else {
         return Err(ScriptFault::Stream(StreamError::NoMemory));
     };

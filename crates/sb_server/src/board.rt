@@ -31,7 +31,6 @@ struct Orders {
 }
 
 /// What is known of a server, and what its workers are told. Each worker has a place, and the door the last one.
-#[derive(Drop)]
 pub struct Board {
     tallies: Vec<Tally>,
     desks: Vec<Mutex<Orders>>,
@@ -40,6 +39,18 @@ pub struct Board {
     /// A line that took no more than so many nanoseconds isn't one of them.
     floor: AtomicU64,
     last_lines: LastLines,
+}
+
+impl Drop for Board {
+    fn drop(self) {
+        let Self {
+            tallies: _,
+            desks: _,
+            slowest: _,
+            floor: _,
+            last_lines: _,
+        } = self;
+    }
 }
 
 impl Board {

@@ -10,10 +10,18 @@ use sb_tenant::{TRAIL_LIMIT, Tenant};
 use sb_value::{SESSION_LIMIT, SessionId};
 
 /// Copies the numbers of a tenant of which a session was ever opened.
-#[derive(Drop)]
 pub struct Counting {
     first_tenant: u32,
     pub numbers: Option<TenantNumbers>,
+}
+
+impl Drop for Counting {
+    fn drop(self) {
+        let Self {
+            first_tenant: _,
+            numbers: _,
+        } = self;
+    }
 }
 
 impl Counting {

@@ -11,11 +11,16 @@ use std::alloc::{AllocError, Global};
 const SCHEME: &[u8] = b"basic ";
 
 /// A user's name, a colon, and a key.
-#[derive(Drop)]
 pub struct Credentials {
     text: Vec<u8>,
     colon: usize,
     ghost within: { colon < vec_len text },
+}
+
+impl Drop for Credentials {
+    fn drop(self) {
+        let Self { text: _, colon: _ } = self;
+    }
 }
 
 impl Credentials {

@@ -21,10 +21,18 @@ struct TakenView {
 }
 
 /// The numbers of all tenants, and what the tenant was that was looked at last.
-#[derive(Drop)]
 pub struct Shelf {
     numbers: Vec<Option<TakenNumbers>>,
     seen: Option<TakenView>,
+}
+
+impl Drop for Shelf {
+    fn drop(self) {
+        let Self {
+            numbers: _,
+            seen: _,
+        } = self;
+    }
 }
 
 impl Shelf {

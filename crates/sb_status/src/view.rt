@@ -120,7 +120,6 @@ pub struct HostView<'a> {
 }
 
 /// What a tenant is.
-#[derive(Drop)]
 pub struct TenantView {
     pub numbers: TenantNumbers,
     pub tables: Vec<TableView>,
@@ -131,6 +130,19 @@ pub struct TenantView {
     pub sessions: Vec<SessionView>,
     /// The graph of its rules, by their places.
     pub graph: Graph,
+}
+
+impl Drop for TenantView {
+    fn drop(self) {
+        let Self {
+            numbers: _,
+            tables: _,
+            rules: _,
+            rulesets: _,
+            sessions: _,
+            graph: _,
+        } = self;
+    }
 }
 
 #[derive(Drop)]

@@ -139,7 +139,6 @@ pub enum Trigger {
 }
 
 /// A rule as `create rule` writes it.
-#[derive(Drop)]
 pub struct RuleText {
     pub name: Name,
     pub table: Name,
@@ -153,8 +152,21 @@ pub struct RuleText {
     pub follows: Vec<Name>,
 }
 
+impl Drop for RuleText {
+    fn drop(self) {
+        let Self {
+            name: _,
+            table: _,
+            triggers: _,
+            condition: _,
+            actions: _,
+            precedes: _,
+            follows: _,
+        } = self;
+    }
+}
+
 /// What `alter rule` writes of a rule. A part that isn't written stays as it is.
-#[derive(Drop)]
 pub struct AlterationText {
     pub name: Name,
     /// The query behind `if`.
@@ -167,6 +179,19 @@ pub struct AlterationText {
     pub follows: Vec<Name>,
     /// The rules to which it has no pair any more.
     pub nopriority: Vec<Name>,
+}
+
+impl Drop for AlterationText {
+    fn drop(self) {
+        let Self {
+            name: _,
+            condition: _,
+            actions: _,
+            precedes: _,
+            follows: _,
+            nopriority: _,
+        } = self;
+    }
 }
 
 /// A command line.

@@ -17,13 +17,24 @@ pub const ROW_LIMIT: usize = 4096;
 pub struct TooManyRows;
 
 /// A table: its columns, its rows in rising number, and the number of the next row.
-#[derive(Drop)]
 pub struct Table {
     columns: Vec<ColumnDefinition>,
     slots: Vec<Slot>,
     deleted: usize,
     next: u64,
     room: usize,
+}
+
+impl Drop for Table {
+    fn drop(self) {
+        let Self {
+            columns: _,
+            slots: _,
+            deleted: _,
+            next: _,
+            room: _,
+        } = self;
+    }
 }
 
 impl Model for Table {

@@ -18,11 +18,20 @@ use std::alloc::{AllocError, Global};
 use std::marker::Model;
 
 /// The tables in order of creation, found by name or by number in constant time.
-#[derive(Drop)]
 pub struct Tables {
     numbers: IndexMap<Name, TableId>,
     slots: Slots,
     alloc: Global,
+}
+
+impl Drop for Tables {
+    fn drop(self) {
+        let Self {
+            numbers: _,
+            slots: _,
+            alloc: _,
+        } = self;
+    }
 }
 
 impl Model for Tables {

@@ -10,9 +10,14 @@ use std::sync::Arc;
 
 /// A command line's bytes, without its newline. Its copies share them, and those of a line of at most 40 bytes stand in
 /// one piece of memory.
-#[derive(Drop)]
 pub struct Line {
     bytes: Arc<SmallVec<u8, 40>>,
+}
+
+impl Drop for Line {
+    fn drop(self) {
+        let Self { bytes: _ } = self;
+    }
 }
 
 impl Model for Line {
@@ -54,9 +59,14 @@ impl Line {
 
 /// The considered rules by name, with their verdicts, in order. Its copies share them; where no rule was considered
 /// there is nothing to share.
-#[derive(Drop)]
 pub struct NamedTrace {
     list: Option<Arc<Vec<(Name, Verdict)>>>,
+}
+
+impl Drop for NamedTrace {
+    fn drop(self) {
+        let Self { list: _ } = self;
+    }
 }
 
 impl Model for NamedTrace {
@@ -118,9 +128,14 @@ impl NamedTrace {
 
 /// The name of a rule that ended a transaction. It stands apart from its reply, so that the other replies, which are
 /// made and moved at each line, are small.
-#[derive(Drop)]
 pub struct RuleName {
     name: Box<Name>,
+}
+
+impl Drop for RuleName {
+    fn drop(self) {
+        let Self { name: _ } = self;
+    }
 }
 
 impl Model for RuleName {
@@ -186,7 +201,6 @@ impl RuleError {
 }
 
 /// What a command is answered.
-#[derive(Drop)]
 pub enum Reply {
     Ok,
     /// The number of changes.
@@ -199,18 +213,50 @@ pub enum Reply {
     No(Refusal),
 }
 
+impl Drop for Reply {
+    fn drop(self) {
+        match self {
+            Self::Ok => {}
+            Self::Count(_) => {}
+            Self::Rows(_) => {}
+            Self::Done(_) => {}
+            Self::ByRule(_, _) => {}
+            Self::ByError(_, _, _) => {}
+            Self::ByLimit(_) => {}
+            Self::No(_) => {}
+        }
+    }
+}
+
 /// A reply with the number of its step, if it was one.
-#[derive(Drop)]
 pub struct Answer {
     /// Which step of the tenant it was, from 1.
     pub number: Option<u32>,
     pub reply: Reply,
 }
 
+impl Drop for Answer {
+    fn drop(self) {
+        let Self {
+            number: _,
+            reply: _,
+        } = self;
+    }
+}
+
 /// A step of the trail.
-#[derive(Drop)]
 pub struct Entry {
     pub session: SessionId,
     pub line: Line,
     pub reply: Reply,
+}
+
+impl Drop for Entry {
+    fn drop(self) {
+        let Self {
+            session: _,
+            line: _,
+            reply: _,
+        } = self;
+    }
 }

@@ -52,7 +52,6 @@ pub struct Sent<'a> {
 }
 
 /// A database of its own, with the trail of its steps.
-#[derive(Drop)]
 pub struct Tenant {
     bound: u32,
     store: Store,
@@ -60,6 +59,19 @@ pub struct Tenant {
     end_lines: EndLines,
     known_lines: KnownLines,
     quota: Quota,
+}
+
+impl Drop for Tenant {
+    fn drop(self) {
+        let Self {
+            bound: _,
+            store: _,
+            trail: _,
+            end_lines: _,
+            known_lines: _,
+            quota: _,
+        } = self;
+    }
 }
 
 impl Model for Tenant {
@@ -124,7 +136,14 @@ impl Tenant {
         ensures value { result.items ≡ self.trail }
         ensures legal { IsLegal self }
     {
-        let Tenant { trail, .. } = self;
+        let Self {
+            bound: _,
+            store: _,
+            trail,
+            end_lines: _,
+            known_lines: _,
+            quota: _,
+        } = self;
         trail
     }
 

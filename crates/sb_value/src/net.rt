@@ -25,10 +25,20 @@ pub struct Triggers {
 }
 
 /// A rule's transition tables.
-#[derive(Drop)]
 pub struct Transition {
     pub inserted: RowList,
     pub deleted: RowList,
     pub old_updated: RowList,
     pub new_updated: RowList,
+}
+
+impl Drop for Transition {
+    fn drop(self) {
+        let Self {
+            inserted: _,
+            deleted: _,
+            old_updated: _,
+            new_updated: _,
+        } = self;
+    }
 }

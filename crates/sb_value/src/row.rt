@@ -7,9 +7,14 @@ use std::alloc::{AllocError, Global};
 use std::marker::Model;
 
 /// A row: its values in the order of the table's columns. Up to two stand inline.
-#[derive(Drop)]
 pub struct Row {
     values: SmallVec<Value, 2>,
+}
+
+impl Drop for Row {
+    fn drop(self) {
+        let Self { values: _ } = self;
+    }
 }
 
 impl Model for Row {
@@ -74,9 +79,14 @@ impl Row {
 }
 
 /// Rows in order.
-#[derive(Drop)]
 pub struct RowList {
     rows: Vec<Row>,
+}
+
+impl Drop for RowList {
+    fn drop(self) {
+        let Self { rows: _ } = self;
+    }
 }
 
 impl Model for RowList {

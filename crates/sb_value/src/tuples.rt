@@ -18,9 +18,14 @@ struct Written {
 }
 
 /// Lists of values, in order. Its copies share them.
-#[derive(Drop)]
 pub struct Tuples {
     written: Arc<Written>,
+}
+
+impl Drop for Tuples {
+    fn drop(self) {
+        let Self { written: _ } = self;
+    }
 }
 
 impl Model for Tuples {

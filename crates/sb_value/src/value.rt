@@ -62,10 +62,18 @@ impl Text {
 }
 
 /// A value of a column.
-#[derive(Drop)]
 pub enum Value {
     Int(i64),
     Text(Text),
+}
+
+impl Drop for Value {
+    fn drop(self) {
+        match self {
+            Self::Int(_) => {}
+            Self::Text(_) => {}
+        }
+    }
 }
 
 impl Value {

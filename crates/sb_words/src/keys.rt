@@ -14,9 +14,14 @@ use std::collections::HashMap;
 const MOST: usize = 64;
 
 /// The digests of the keys of each tenant.
-#[derive(Drop)]
 pub struct Keys {
     by_tenant: HashMap<u32, Vec<Digest>>,
+}
+
+impl Drop for Keys {
+    fn drop(self) {
+        let Self { by_tenant: _ } = self;
+    }
 }
 
 /// Why a text gives no table.
