@@ -26,9 +26,14 @@ const LINES_A_TURN: usize = 64;
 
 /// Give it what comes while it `wants_read`, `advance` it, and `send` while it `wants_write`,
 /// until it `is_done`. Then close it, or at any time before.
-#[derive(Drop)]
 pub struct Connection<H: Hosting> {
     machine: Machine<H>,
+}
+
+impl<H: Hosting> Drop for Connection<H> {
+    fn drop(self) {
+        let Self { machine: _ } = self;
+    }
 }
 
 impl<H: Hosting> Model for Connection<H> {

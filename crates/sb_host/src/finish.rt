@@ -1,17 +1,17 @@
 //! The closing check: every session's receipts against the entries of its tenant's trail.
-ghost use Rattle.std.specs.Prelude.{ℕ, ◌≡◌, ◌<◌, ◌≤◌, ◌+◌, All, length, IfOk, IfSome, IsSome};
+ghost use Rattle.std.specs.Prelude.{ℕ, ◌≡◌, ◌<◌, ◌≤◌, ◌+◌, All, length, IfSome, IsSome};
 ghost use Rattle.sb_tenant.specs.Trail.{IsTrail};
 ghost use Rattle.sb_host.specs.Comparing.{AreTrailsOf, Audits, trail_by};
-ghost use Rattle.sb_host.specs.Finish.{AreTrails, Finishes, row_at, steps_in};
+ghost use Rattle.sb_host.specs.Finish.{Finishes, row_at, steps_in};
 
 use crate::comparing::check_all;
-use crate::gathering::{blank, first_stray, rows_of};
+use crate::gathering::{first_stray, rows_of};
 use crate::host::Host;
 use crate::locks::Lock;
 use sb_desk::{Naming, Stub};
 use sb_tenant::{Entry, Tenant};
 use sb_value::SessionId;
-use std::alloc::{AllocError, Global};
+use std::alloc::Global;
 
 /// The trails of all tenants, by number.
 pub struct Report {
@@ -64,52 +64,6 @@ impl<N: Naming> Host<N> {
             Err(_) => Err(FinishError::NoMemory),
         }
     }
-
-    /// The trails of all cells, at the places of their tenants.
-    fn into_trails(self, alloc: Global) -> Result<Vec<Vec<Entry>>, AllocError>
-        ensures trails { IfOk result (λ trails. AreTrails N.bound self trails.items) }
-        ensures few { self ≤ 256 }
-    {
-        let Host {
-            tenants,
-            cells: _,
-            seats: _,
-            d0,
-            d1,
-            d2,
-            d3,
-            d4,
-            d5,
-            d6,
-            d7,
-            d8,
-            d9,
-            d10,
-            d11,
-            d12,
-            d13,
-            d14,
-            d15,
-        } = self;
-        let mut trails = blank(alloc, tenants as usize)?;
-        put(&mut trails, d0);
-        put(&mut trails, d1);
-        put(&mut trails, d2);
-        put(&mut trails, d3);
-        put(&mut trails, d4);
-        put(&mut trails, d5);
-        put(&mut trails, d6);
-        put(&mut trails, d7);
-        put(&mut trails, d8);
-        put(&mut trails, d9);
-        put(&mut trails, d10);
-        put(&mut trails, d11);
-        put(&mut trails, d12);
-        put(&mut trails, d13);
-        put(&mut trails, d14);
-        put(&mut trails, d15);
-        Ok(trails)
-    }
 }
 
 /// The report of these trails, where the receipts of every session are exactly its entries.
@@ -135,7 +89,7 @@ fn audit(alloc: Global, trails: Vec<Vec<Entry>>, stubs: Vec<Stub>) -> Result<Rep
 }
 
 /// Puts the trails of a lock's cell at the places of their tenants.
-fn put<N: Naming, const F: u32>(trails: &mut Vec<Vec<Entry>>, lock: Lock<N, F>)
+pub(crate) fn put<N: Naming, const F: u32>(trails: &mut Vec<Vec<Entry>>, lock: Lock<N, F>)
     requires trails { AreTrailsOf N.cells N.bound N.tenants F trails.old.items }
     requires cells { 0 < N.cells }
     requires there { F < N.cells → IsSome lock }

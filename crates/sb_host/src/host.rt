@@ -1,20 +1,23 @@
 //! The cells of a host, each behind a lock of its own.
 ghost use Rattle.std.specs.Prelude.{◌≡◌, ◌↔◌, ◌<◌, ◌≤◌, nat_lt, false, IsFalse, IsSome, IsTrue, IfOk, IfErr, OnOk};
 ghost use Rattle.sb_desk.specs.Calls.{Attached, Called, IsRefused, IsNewcomer, Left, Refused};
+ghost use Rattle.sb_host.specs.Finish.{AreTrails};
 ghost use Rattle.sb_host.specs.Lending.{Lends};
 
+use crate::finish::put;
+use crate::gathering::blank;
 use crate::locks::{Lock, Reach, admit_in, enter_in, leave_in, read_in, try_read_in};
 use crate::reading::{Reading, Tried};
 use crate::session::Session;
 use sb_desk::seats::Seats;
 use sb_desk::{AttachError, CallError, Gate, Naming, Receipts};
+use sb_tenant::Entry;
 use sb_value::{SESSION_LIMIT, SessionId};
-use std::alloc::Global;
+use std::alloc::{AllocError, Global};
 use std::marker::Model;
 use std::sync::Wait;
 
 /// The cells of a host, each behind its own lock, whose type names the cell.
-#[derive(Drop)]
 pub struct Host<N: Naming> {
     pub(crate) tenants: u32,
     pub(crate) cells: u32,
@@ -35,6 +38,32 @@ pub struct Host<N: Naming> {
     pub(crate) d13: Lock<N, 13>,
     pub(crate) d14: Lock<N, 14>,
     pub(crate) d15: Lock<N, 15>,
+}
+
+impl<N: Naming> Drop for Host<N> {
+    fn drop(self) {
+        let Self {
+            tenants: _,
+            cells: _,
+            seats: _,
+            d0: _,
+            d1: _,
+            d2: _,
+            d3: _,
+            d4: _,
+            d5: _,
+            d6: _,
+            d7: _,
+            d8: _,
+            d9: _,
+            d10: _,
+            d11: _,
+            d12: _,
+            d13: _,
+            d14: _,
+            d15: _,
+        } = self;
+    }
 }
 
 impl<N: Naming> Model for Host<N> {
@@ -271,5 +300,51 @@ impl<N: Naming> Host<N> {
             15 => leave_in(rt, &self.d15, r, reach),
             _ => unreachable!(),
         }
+    }
+
+    /// The trails of all cells, at the places of their tenants.
+    pub(crate) fn into_trails(self, alloc: Global) -> Result<Vec<Vec<Entry>>, AllocError>
+        ensures trails { IfOk result (λ trails. AreTrails N.bound self trails.items) }
+        ensures few { self ≤ 256 }
+    {
+        let mut trails = blank(alloc, self.tenants as usize)?;
+        let Self {
+            tenants: _,
+            cells: _,
+            seats: _,
+            d0,
+            d1,
+            d2,
+            d3,
+            d4,
+            d5,
+            d6,
+            d7,
+            d8,
+            d9,
+            d10,
+            d11,
+            d12,
+            d13,
+            d14,
+            d15,
+        } = self;
+        put(&mut trails, d0);
+        put(&mut trails, d1);
+        put(&mut trails, d2);
+        put(&mut trails, d3);
+        put(&mut trails, d4);
+        put(&mut trails, d5);
+        put(&mut trails, d6);
+        put(&mut trails, d7);
+        put(&mut trails, d8);
+        put(&mut trails, d9);
+        put(&mut trails, d10);
+        put(&mut trails, d11);
+        put(&mut trails, d12);
+        put(&mut trails, d13);
+        put(&mut trails, d14);
+        put(&mut trails, d15);
+        Ok(trails)
     }
 }

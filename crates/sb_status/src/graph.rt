@@ -3,10 +3,18 @@
 use crate::nodes::Nodes;
 
 /// Which rules may trigger which, and which precede which: for each rule, by its place, the places of others.
-#[derive(Drop)]
 pub struct Graph {
     pub triggers: Vec<Nodes>,
     pub precedes: Vec<Nodes>,
+}
+
+impl Drop for Graph {
+    fn drop(self) {
+        let Self {
+            triggers: _,
+            precedes: _,
+        } = self;
+    }
 }
 
 impl Graph {

@@ -8,9 +8,14 @@ use crate::text::Escaping;
 use std::alloc::{AllocError, Global};
 
 /// The pieces so far.
-#[derive(Drop)]
 pub(crate) struct Page<'a> {
     pieces: Vec<Fragment<'a>>,
+}
+
+impl<'a> Drop for Page<'a> {
+    fn drop(self) {
+        let Self { pieces: _ } = self;
+    }
 }
 
 impl<'a> Page<'a> {

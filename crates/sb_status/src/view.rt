@@ -145,11 +145,20 @@ impl Drop for TenantView {
     }
 }
 
-#[derive(Drop)]
 pub struct TableView {
     pub name: Vec<u8>,
     pub columns: Vec<ColumnView>,
     pub rows: u64,
+}
+
+impl Drop for TableView {
+    fn drop(self) {
+        let Self {
+            name: _,
+            columns: _,
+            rows: _,
+        } = self;
+    }
 }
 
 #[derive(Drop)]
@@ -159,7 +168,6 @@ pub struct ColumnView {
     pub is_text: bool,
 }
 
-#[derive(Drop)]
 pub struct RuleView {
     /// The number by which whoever fills this in finds it.
     pub number: usize,
@@ -169,6 +177,19 @@ pub struct RuleView {
     pub is_active: bool,
     /// The lines that made it what it is.
     pub lines: Vec<Vec<u8>>,
+}
+
+impl Drop for RuleView {
+    fn drop(self) {
+        let Self {
+            number: _,
+            name: _,
+            table: _,
+            triggers: _,
+            is_active: _,
+            lines: _,
+        } = self;
+    }
 }
 
 /// The operations that trigger a rule.
@@ -182,10 +203,15 @@ pub struct TriggersView {
     pub columns: Vec<Vec<u8>>,
 }
 
-#[derive(Drop)]
 pub struct RulesetView {
     pub name: Vec<u8>,
     pub rules: Vec<Vec<u8>>,
+}
+
+impl Drop for RulesetView {
+    fn drop(self) {
+        let Self { name: _, rules: _ } = self;
+    }
 }
 
 #[derive(Clone, Copy)]
