@@ -9,12 +9,21 @@ use crate::{JournalError, Record, RecordLog};
 use sqlite_disk::Disk;
 use std::alloc::Global;
 
-#[derive(Drop)]
 pub struct Journal<D: Disk> {
     alloc: Global,
     log: RecordLog<D>,
     waiting: Vec<u8>,
     ghost small: { length waiting.items ≤ 2 ^ 20 },
+}
+
+impl<D: Disk + Drop> Drop for Journal<D> {
+    fn drop(self) {
+        let Self {
+            alloc: _,
+            log: _,
+            waiting: _,
+        } = self;
+    }
 }
 
 impl<D: Disk> Journal<D> {
@@ -38,7 +47,12 @@ impl<D: Disk> Journal<D> {
     pub fn close(self) -> D
         ensures { result ≡ disk_of self }
     {
-        self.log.close()
+        let Self {
+            alloc: _,
+            log,
+            waiting: _,
+        } = self;
+        log.close()
     }
 
     /// Where the first batch is.

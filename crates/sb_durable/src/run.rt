@@ -23,10 +23,18 @@ use sb_wire::{
 use std::alloc::{AllocError, Global};
 
 /// The journal of a run, and why the run stops where a step can't be recorded.
-#[derive(Drop)]
 pub struct Recording<D: Disk> {
     pub journal: Journal<D>,
     pub fault: Option<JournalError>,
+}
+
+impl<D: Disk + Drop> Drop for Recording<D> {
+    fn drop(self) {
+        let Self {
+            journal: _,
+            fault: _,
+        } = self;
+    }
 }
 
 impl<D: Disk> Recording<D> {

@@ -11,10 +11,18 @@ use std::marker::Model;
 use std::sync::Wait;
 
 /// One session, which borrows its host.
-#[derive(Drop)]
 pub struct Session<'h, N: Naming> {
     pub(crate) host: &'h Host<N>,
     pub(crate) receipts: Receipts<N>,
+}
+
+impl<'h, N: Naming> Drop for Session<'h, N> {
+    fn drop(self) {
+        let Self {
+            host: _,
+            receipts: _,
+        } = self;
+    }
 }
 
 impl<'h, N: Naming> Model for Session<'h, N> {

@@ -22,10 +22,18 @@ pub(crate) enum ScriptState {
 }
 
 /// The commands so far, by the ranks of their sessions.
-#[derive(Drop)]
 pub(crate) struct RankedCommands {
     tenants: u32,
     rows: Vec<Vec<Vec<u8>>>,
+}
+
+impl Drop for RankedCommands {
+    fn drop(self) {
+        let Self {
+            tenants: _,
+            rows: _,
+        } = self;
+    }
 }
 
 impl Model for RankedCommands {
@@ -133,8 +141,9 @@ impl RankedCommands {
     pub(crate) fn understood(self, progress: ScriptState) -> Result<Vec<Vec<Vec<u8>>>, ScriptError>
         ensures { Gives progress self result }
     {
+        let Self { tenants: _, rows } = self;
         match progress {
-            ScriptState::Going { .. } => Ok(self.rows),
+            ScriptState::Going { .. } => Ok(rows),
             ScriptState::BadLine { line, why } => Err(ScriptError::BadLine { line, why }),
             ScriptState::NoMemory => Err(ScriptError::NoMemory),
         }

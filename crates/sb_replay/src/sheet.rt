@@ -11,13 +11,24 @@ use std::marker::Model;
 use std::vec::IntoIter;
 
 /// What a session still has to be called with, and what its calls were answered.
-#[derive(Drop)]
 pub(crate) struct Sheet {
     tenant: u32,
     number: SessionId,
     commands: IntoIter<Vec<u8>>,
     text: Vec<u8>,
     is_full: bool,
+}
+
+impl Drop for Sheet {
+    fn drop(self) {
+        let Self {
+            tenant: _,
+            number: _,
+            commands: _,
+            text: _,
+            is_full: _,
+        } = self;
+    }
 }
 
 impl Model for Sheet {
@@ -98,7 +109,14 @@ impl Sheet {
     pub(crate) fn into_text(self) -> Vec<u8>
         ensures { result.items ≡ self.text }
     {
-        self.text
+        let Self {
+            tenant: _,
+            number: _,
+            commands: _,
+            text,
+            is_full: _,
+        } = self;
+        text
     }
 }
 

@@ -19,10 +19,18 @@ pub enum Piece<'a> {
 
 /// The open line of a stream: what stands behind its last newline. Of a line that is too long no
 /// more bytes are kept than a line may have.
-#[derive(Drop)]
 pub struct Lines {
     kept: ArrayVec<u8, LINE_LIMIT>,
     is_long: bool,
+}
+
+impl Drop for Lines {
+    fn drop(self) {
+        let Self {
+            kept: _,
+            is_long: _,
+        } = self;
+    }
 }
 
 impl Model for Lines {

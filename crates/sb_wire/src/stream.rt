@@ -21,10 +21,15 @@ const PIECE_SIZE: usize = 65_536;
 const MOST_READS: u64 = 1 << 32;
 
 /// What stands between two reads: the line that is open, and the replies that wait to be written.
-#[derive(Drop)]
 struct Pending {
     lines: Lines,
     out: Vec<u8>,
+}
+
+impl Drop for Pending {
+    fn drop(self) {
+        let Self { lines: _, out: _ } = self;
+    }
 }
 
 /// Answers each line of the input when it is complete, until the stream is over, and writes the
