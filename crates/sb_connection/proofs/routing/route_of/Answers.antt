@@ -29,5 +29,5 @@ pub returns-in-TooLong : goal.returns-in-TooLong
 returns-in-TooLong c = inr (sym (c.in-None.ensures.behind [] c.new-lines.ensures).1 ∙ sym c.line-in-None-2.ensures ∙ ap piece_seen c.in-TooLong.is)
 
 -- it isn't complete
-pub returns-in-Line : goal.returns-in-Line
-returns-in-Line c = (c.in-None.ensures.behind [] c.new-lines.ensures).0
+pub returns : goal.returns
+returns c = (c.in-None.ensures.behind [] c.new-lines.ensures).0
