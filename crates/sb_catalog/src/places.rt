@@ -6,9 +6,14 @@ use sb_value::{RULE_LIMIT, RuleId};
 use std::marker::Model;
 
 /// A place for each number. Of a number that no rule has it says nothing.
-#[derive(Drop)]
 pub struct Places {
     places: [u8; RULE_LIMIT],
+}
+
+impl Drop for Places {
+    fn drop(self) {
+        let Self { places: _ } = self;
+    }
 }
 
 impl Model for Places {

@@ -123,9 +123,14 @@ pub(crate) fn places(assignments: &[Assignment]) -> Columns
 }
 
 /// A row while its columns are assigned.
-#[derive(Drop)]
 struct AssignedRow<'r> {
     values: SmallVec<ValueRef<'r>, 8>,
+}
+
+impl<'r> Drop for AssignedRow<'r> {
+    fn drop(self) {
+        let Self { values: _ } = self;
+    }
 }
 
 impl<'r> Model for AssignedRow<'r> {

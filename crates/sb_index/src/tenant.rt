@@ -10,9 +10,14 @@ use std::alloc::{AllocError, Global};
 use std::marker::Model;
 
 /// The rules of a tenant's tables, up to the last table that ever had one.
-#[derive(Drop)]
 pub struct TenantRules {
     tables: Vec<TableRules>,
+}
+
+impl Drop for TenantRules {
+    fn drop(self) {
+        let Self { tables: _ } = self;
+    }
 }
 
 impl Model for TenantRules {

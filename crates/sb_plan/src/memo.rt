@@ -8,7 +8,6 @@ use crate::way::Way;
 use std::alloc::{AllocError, Global};
 
 /// A memo: what is known of a condition's subqueries, as a tree that lies beside it.
-#[derive(Drop)]
 pub enum Memo<'r> {
     /// Nothing.
     Nothing,
@@ -26,15 +25,30 @@ pub enum Memo<'r> {
     Values(ValueSet<'r>),
 }
 
+impl<'r> Drop for Memo<'r> {
+    #[cycle(release_memo)]
+    fn drop(self) {
+        match self {
+            Self::Nothing => {}
+            Self::Both(_, _) => {}
+            Self::Within(_) => {}
+            Self::Prepared(_, _) => {}
+            Self::Truth(_) => {}
+            Self::OneValue(_) => {}
+            Self::Values(_) => {}
+        }
+    }
+}
+
 impl<'r> Memo<'r> {
     /// What is known of both sides. Of nothing no tree is made.
     pub fn both(alloc: Global, left: Memo<'r>, right: Memo<'r>) -> Result<Memo<'r>, AllocError>
         ensures left { IfOk result (λ memo. spec.left memo ≡ left.entry) }
         ensures right { IfOk result (λ memo. spec.right memo ≡ right.entry) }
     {
-        match (left, right) {
+        match (&left, &right) {
             (Memo::Nothing, Memo::Nothing) => Ok(Memo::Nothing),
-            (left, right) => Ok(Memo::Both(Box::new(alloc, left)?, Box::new(alloc, right)?)),
+            _ => Ok(Memo::Both(Box::new(alloc, left)?, Box::new(alloc, right)?)),
         }
     }
 

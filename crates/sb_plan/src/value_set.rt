@@ -16,19 +16,29 @@ const MANY: usize = 16;
 const SPREAD: usize = 8;
 
 /// A flag for each number from the least on.
-#[derive(Drop)]
 struct IntegerFlags {
     least: i64,
     flags: Vec<bool>,
 }
 
+impl Drop for IntegerFlags {
+    fn drop(self) {
+        let Self { least: _, flags: _ } = self;
+    }
+}
+
 /// Values. Where they are many, and numbers that lie close together, a flag tells whether a number is among them. Other
 /// many values are in order, and one is found by halving. To order them takes no memory, and whoever chose them can't
 /// make it slow.
-#[derive(Drop)]
 pub struct ValueSet<'r> {
     values: Vec<ValueRef<'r>>,
     keys: Option<IntegerFlags>,
+}
+
+impl<'r> Drop for ValueSet<'r> {
+    fn drop(self) {
+        let Self { values: _, keys: _ } = self;
+    }
 }
 
 impl<'r> Model for ValueSet<'r> {

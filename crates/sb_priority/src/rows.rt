@@ -20,9 +20,14 @@ pub struct PrecedenceRow {
 }
 
 /// A row for each number up to the highest that a rule ever had.
-#[derive(Drop)]
 pub struct PrecedenceRows {
     rows: Vec<PrecedenceRow>,
+}
+
+impl Drop for PrecedenceRows {
+    fn drop(self) {
+        let Self { rows: _ } = self;
+    }
 }
 
 impl Model for PrecedenceRows {

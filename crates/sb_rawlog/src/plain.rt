@@ -14,13 +14,22 @@ use sb_value::{Change, ChangeKind, TableId, Who};
 use std::alloc::{AllocError, Global};
 
 /// A log that keeps its changes in a list.
-#[derive(Drop)]
 pub struct PlainLog {
     items: Vec<(u64, Change)>,
     clock: u64,
     room: usize,
     ghost rising: { Rising 0 items.items clock } by { Rising-prop _ _ _ },
     ghost within: { length items.items + room ≤ vec_capacity items },
+}
+
+impl Drop for PlainLog {
+    fn drop(self) {
+        let Self {
+            items: _,
+            clock: _,
+            room: _,
+        } = self;
+    }
 }
 
 impl PlainLog {

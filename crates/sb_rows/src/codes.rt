@@ -8,9 +8,14 @@ use std::marker::Model;
 
 /// The texts of the columns that are compared with each other, in order. A text's code is how many of them come before
 /// it, so equal texts have one code.
-#[derive(Drop)]
 pub struct Codes<'r> {
     texts: Vec<&'r [u8]>,
+}
+
+impl<'r> Drop for Codes<'r> {
+    fn drop(self) {
+        let Self { texts: _ } = self;
+    }
 }
 
 impl<'r> Model for Codes<'r> {

@@ -11,10 +11,15 @@ use std::marker::Model;
 
 /// The text of rows, a line for each, and of the values of a row that is open. The text alone is kept: each value is
 /// read back from it.
-#[derive(Drop)]
 pub struct RowText {
     text: Vec<u8>,
     count: usize,
+}
+
+impl Drop for RowText {
+    fn drop(self) {
+        let Self { text: _, count: _ } = self;
+    }
 }
 
 impl Model for RowText {

@@ -9,9 +9,14 @@ use std::marker::Model;
 use std::sync::Arc;
 
 /// The rows of a `select`, which are one text. Its copies share it.
-#[derive(Drop)]
 pub struct SharedRows {
     rows: Arc<RowText>,
+}
+
+impl Drop for SharedRows {
+    fn drop(self) {
+        let Self { rows: _ } = self;
+    }
 }
 
 impl Model for SharedRows {

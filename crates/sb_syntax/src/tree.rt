@@ -51,15 +51,24 @@ pub enum Comparison {
 }
 
 /// A term of a condition or an item.
-#[derive(Drop)]
 pub enum Expression {
     Literal(Value),
     Column(ColumnReference),
     Binary(Box<Expression>, Arithmetic, Box<Expression>),
 }
 
+impl Drop for Expression {
+    #[cycle(release_expression)]
+    fn drop(self) {
+        match self {
+            Self::Literal(_) => {}
+            Self::Column(_) => {}
+            Self::Binary(_, _, _) => {}
+        }
+    }
+}
+
 /// What a query lists.
-#[derive(Drop)]
 pub enum Items {
     /// `*`: each column of each source.
     All,
@@ -71,9 +80,19 @@ pub enum Items {
     Each(Vec<Expression>),
 }
 
+impl Drop for Items {
+    fn drop(self) {
+        match self {
+            Self::All => {}
+            Self::Count => {}
+            Self::Sum(_) => {}
+            Self::Each(_) => {}
+        }
+    }
+}
+
 /// A condition, as behind `where`.
 #[cycle(syntax)]
-#[derive(Drop)]
 pub enum Condition {
     Disjunction(Box<Condition>, Box<Condition>),
     Conjunction(Box<Condition>, Box<Condition>),
@@ -84,32 +103,72 @@ pub enum Condition {
     Exists(Box<Query>),
 }
 
+impl Drop for Condition {
+    #[cycle(release)]
+    fn drop(self) {
+        match self {
+            Self::Disjunction(_, _) => {}
+            Self::Conjunction(_, _) => {}
+            Self::Negation(_) => {}
+            Self::Compare(_, _, _) => {}
+            Self::In(_, _, _) => {}
+            Self::Exists(_) => {}
+        }
+    }
+}
+
 /// The right side of a comparison or an assignment.
 #[cycle(syntax)]
-#[derive(Drop)]
 pub enum Operand {
     Expression(Expression),
     ScalarSubquery(Box<Query>),
 }
 
+impl Drop for Operand {
+    #[cycle(release)]
+    fn drop(self) {
+        match self {
+            Self::Expression(_) => {}
+            Self::ScalarSubquery(_) => {}
+        }
+    }
+}
+
 /// `select items from sources where filter`.
 #[cycle(syntax)]
-#[derive(Drop)]
 pub struct Query {
     pub items: Items,
     pub sources: Vec<SourceReference>,
     pub filter: Option<Condition>,
 }
 
+impl Drop for Query {
+    #[cycle(release)]
+    fn drop(self) {
+        let Self {
+            items: _,
+            sources: _,
+            filter: _,
+        } = self;
+    }
+}
+
 /// A column of an update, and what it becomes.
-#[derive(Drop)]
 pub struct Assignment {
     pub column: Name,
     pub operand: Operand,
 }
 
+impl Drop for Assignment {
+    fn drop(self) {
+        let Self {
+            column: _,
+            operand: _,
+        } = self;
+    }
+}
+
 /// A statement that changes a table's rows.
-#[derive(Drop)]
 pub enum Statement {
     /// `insert into .. values ..`.
     InsertRows(Name, Tuples),
@@ -121,21 +180,50 @@ pub enum Statement {
     Update(Name, Vec<Assignment>, Option<Box<Condition>>),
 }
 
+impl Drop for Statement {
+    fn drop(self) {
+        match self {
+            Self::InsertRows(_, _) => {}
+            Self::InsertQuery(_, _) => {}
+            Self::Delete(_, _) => {}
+            Self::Update(_, _, _) => {}
+        }
+    }
+}
+
 /// A part of a rule's `then`.
-#[derive(Drop)]
 pub enum Action {
     Change(Statement),
     Rollback,
 }
 
+impl Drop for Action {
+    fn drop(self) {
+        match self {
+            Self::Change(_) => {}
+            Self::Rollback => {}
+        }
+    }
+}
+
 /// What triggers a rule, as it is written behind `when`.
-#[derive(Drop)]
 pub enum Trigger {
     Insert,
     Delete,
     Update,
     /// An update of one of these columns.
     UpdateOf(Vec<Name>),
+}
+
+impl Drop for Trigger {
+    fn drop(self) {
+        match self {
+            Self::Insert => {}
+            Self::Delete => {}
+            Self::Update => {}
+            Self::UpdateOf(_) => {}
+        }
+    }
 }
 
 /// A rule as `create rule` writes it.

@@ -6,11 +6,20 @@ ghost use Rattle.sb_tables.specs.Slots.{numbers};
 use sb_value::Row;
 
 /// A row with its number. A deleted row keeps its slot until the table is settled.
-#[derive(Drop)]
 pub(crate) struct Slot {
     pub(crate) number: u64,
     pub(crate) row: Row,
     pub(crate) live: bool,
+}
+
+impl Drop for Slot {
+    fn drop(self) {
+        let Self {
+            number: _,
+            row: _,
+            live: _,
+        } = self;
+    }
 }
 
 /// The place of the first slot whose number isn't below this one.

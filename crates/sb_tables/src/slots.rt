@@ -12,9 +12,14 @@ use std::alloc::{AllocError, Global};
 use std::marker::Model;
 
 /// A slot for each number up to the greatest that a table ever had.
-#[derive(Drop)]
 pub(crate) struct Slots {
     tables: Vec<Option<Table>>,
+}
+
+impl Drop for Slots {
+    fn drop(self) {
+        let Self { tables: _ } = self;
+    }
 }
 
 impl Model for Slots {

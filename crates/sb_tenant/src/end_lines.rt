@@ -8,9 +8,14 @@ use std::alloc::{AllocError, Global};
 use std::marker::Model;
 
 /// So many lines `end`, which share their bytes.
-#[derive(Drop)]
 pub(crate) struct EndLines {
     lines: Vec<Line>,
+}
+
+impl Drop for EndLines {
+    fn drop(self) {
+        let Self { lines: _ } = self;
+    }
 }
 
 impl Model for EndLines {

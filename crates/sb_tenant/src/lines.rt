@@ -11,9 +11,14 @@ const SHORT: usize = 12;
 const KEPT: usize = 4;
 
 /// The first short lines that came: such as `begin` and `commit`, of at most 12 bytes.
-#[derive(Drop)]
 pub struct KnownLines {
     lines: Vec<Line>,
+}
+
+impl Drop for KnownLines {
+    fn drop(self) {
+        let Self { lines: _ } = self;
+    }
 }
 
 impl KnownLines {

@@ -15,9 +15,14 @@ pub(crate) enum Phase {
 }
 
 /// The phase of each session.
-#[derive(Drop)]
 pub(crate) struct Phases {
     list: [Phase; SESSION_LIMIT],
+}
+
+impl Drop for Phases {
+    fn drop(self) {
+        let Self { list: _ } = self;
+    }
 }
 
 impl Model for Phases {

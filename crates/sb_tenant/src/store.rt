@@ -24,11 +24,20 @@ use sb_value::{SessionId, TenantId};
 use std::alloc::Global;
 
 /// The tables with their locks and transactions, the rules, and how far the sessions are.
-#[derive(Drop)]
 pub(crate) struct Store {
     pub(crate) database: Database,
     pub(crate) definitions: Definitions,
     pub(crate) phases: Phases,
+}
+
+impl Drop for Store {
+    fn drop(self) {
+        let Self {
+            database: _,
+            definitions: _,
+            phases: _,
+        } = self;
+    }
 }
 
 /// How a session's transaction ends.
