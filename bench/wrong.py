@@ -3,12 +3,14 @@
 
     ./check --wrong [--since COMMIT] [CRATE ..]
 
-They stand in crates/NAME/wrong, as files of the form of those in must-fail/. The files of the work tree are copied to
-a folder that goes away again. There each crate's wrong bodies are laid beside those of its must-fail/, and `rt ci
-CRATE ..` proves the crates and tries them. It fails where a wrong body is proved, or can't be tried.
+They stand in crates/NAME/wrong, as files of the form of those in must-fail/. The crates that are named, and those that
+they stand on, are copied from the work tree to a folder that goes away again. There the wrong bodies of the named
+crates are laid beside those of their must-fail/, and `rt ci` proves all of these crates and tries them. It fails where a
+wrong body is proved, or can't be tried.
 
 Where no crate is named, it takes the crates whose files differ from those of COMMIT (origin/main), and tells which.
-A crate that is proved already, by `rt ci` on this machine, costs one proof more, and a bit for each wrong body.
+So it costs the proofs of the named crates and of those below them, for each named crate one proof more, and a bit for
+each wrong body.
 """
 
 import argparse
@@ -39,12 +41,36 @@ def changed(since):
     return sorted({names[1] for names in parts if len(names) > 2})
 
 
+def stood_on():
+    """Of each crate the line that lists it, and the crates of the project that it names."""
+    with open(os.path.join(TOP, "crates.txt")) as file:
+        lines = [line for line in file if ":" in line.partition("#")[0]]
+    listed = {line.split(":")[0].split()[0]: line for line in lines}
+    return {name: (line, [word for word in line.split(":")[1].split() if word in listed]) for name, line in listed.items()}
+
+
+def with_those_below(crates):
+    """The lines of crates.txt that list these crates and all that they stand on, by the crate."""
+    listed, found, left = stood_on(), {}, list(crates)
+    while left:
+        name = left.pop()
+        if name not in found:
+            found[name], below = listed[name]
+            left += below
+    return found
+
+
 def laid_out(folder, crates):
-    """Copies the work tree, and gives how many wrong bodies were laid out."""
+    """Copies these crates and those below them, and gives how many wrong bodies were laid out."""
+    listed = with_those_below(crates)
     for name in files():
-        to = os.path.join(folder, name)
-        os.makedirs(os.path.dirname(to), exist_ok=True)
-        shutil.copy2(os.path.join(TOP, name), to)
+        parts = name.split("/")
+        if parts == ["HANDLES"] or parts[0] == "crates" and parts[1] in listed and (parts[1] in crates or parts[2] != "must-fail"):
+            to = os.path.join(folder, name)
+            os.makedirs(os.path.dirname(to), exist_ok=True)
+            shutil.copy2(os.path.join(TOP, name), to)
+    with open(os.path.join(folder, "crates.txt"), "w") as file:
+        file.writelines(listed.values())
     count = 0
     for crate in crates:
         for edit in glob.glob(f"{folder}/crates/{crate}/wrong/*.edit"):
@@ -55,10 +81,10 @@ def laid_out(folder, crates):
     return count
 
 
-def tried(folder, crates):
+def tried(folder):
     """Whether all wrong bodies were refused."""
     is_well = True
-    with subprocess.Popen(["rt", "ci", *crates], cwd=folder, stdout=subprocess.PIPE, stderr=subprocess.STDOUT, text=True) as run:
+    with subprocess.Popen(["rt", "ci"], cwd=folder, stdout=subprocess.PIPE, stderr=subprocess.STDOUT, text=True) as run:
         for line in run.stdout:
             print(line, end="", flush=True)
             is_well = is_well and "BAD EDIT" not in line
@@ -80,7 +106,7 @@ def main():
         return 0
     with tempfile.TemporaryDirectory(prefix="wrong-") as folder:
         print(f"{laid_out(folder, crates)} wrong bodies of {' '.join(crates)}", flush=True)
-        is_well = tried(folder, crates)
+        is_well = tried(folder)
     print("all were refused" if is_well else "FAILED: a wrong body was proved or can't be tried, or a crate isn't proved")
     return 0 if is_well else 1
 
