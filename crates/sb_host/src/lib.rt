@@ -11,6 +11,7 @@ pub mod laws;
 mod lending;
 mod locks;
 mod opening;
+mod quarter;
 mod reading;
 mod session;
 

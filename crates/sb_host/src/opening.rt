@@ -6,6 +6,7 @@ ghost use Rattle.sb_host.specs.Opening.{AreNames, IsSeatOf, MayBe, left_at, left
 
 use crate::host::Host;
 use crate::locks::Lock;
+use crate::quarter::Quarter;
 use crossbeam_utils::CachePadded;
 use sb_cell::{Cell, ample_buckets};
 use sb_desk::seats::{SeatTable, Seats, SessionSeat, open_seats, split, split_block};
@@ -160,7 +161,7 @@ fn desk_of<N: Naming, const F: u32>(
 
 /// The lock of the cell `F`, if the host has it and memory was there for this cell and all before it. Its part of the
 /// numbers and of the ledger goes in every case.
-fn open_desk<N: Naming, const F: u32>(
+pub(crate) fn open_desk<N: Naming, const F: u32>(
     alloc: Global,
     table: &SeatTable,
     all: &mut SessionSeat,
@@ -207,46 +208,20 @@ impl<N: Naming> Host<N> {
         } = opened;
         let (_book, mut rest) = blank.open::<N>();
         let table = &seats.shared;
-        let mut well = true;
-        let d0 = open_desk::<N, 0>(alloc, table, &mut all, &mut rest, numbers, &mut well);
-        let d1 = open_desk::<N, 1>(alloc, table, &mut all, &mut rest, numbers, &mut well);
-        let d2 = open_desk::<N, 2>(alloc, table, &mut all, &mut rest, numbers, &mut well);
-        let d3 = open_desk::<N, 3>(alloc, table, &mut all, &mut rest, numbers, &mut well);
-        let d4 = open_desk::<N, 4>(alloc, table, &mut all, &mut rest, numbers, &mut well);
-        let d5 = open_desk::<N, 5>(alloc, table, &mut all, &mut rest, numbers, &mut well);
-        let d6 = open_desk::<N, 6>(alloc, table, &mut all, &mut rest, numbers, &mut well);
-        let d7 = open_desk::<N, 7>(alloc, table, &mut all, &mut rest, numbers, &mut well);
-        let d8 = open_desk::<N, 8>(alloc, table, &mut all, &mut rest, numbers, &mut well);
-        let d9 = open_desk::<N, 9>(alloc, table, &mut all, &mut rest, numbers, &mut well);
-        let d10 = open_desk::<N, 10>(alloc, table, &mut all, &mut rest, numbers, &mut well);
-        let d11 = open_desk::<N, 11>(alloc, table, &mut all, &mut rest, numbers, &mut well);
-        let d12 = open_desk::<N, 12>(alloc, table, &mut all, &mut rest, numbers, &mut well);
-        let d13 = open_desk::<N, 13>(alloc, table, &mut all, &mut rest, numbers, &mut well);
-        let d14 = open_desk::<N, 14>(alloc, table, &mut all, &mut rest, numbers, &mut well);
-        let d15 = open_desk::<N, 15>(alloc, table, &mut all, &mut rest, numbers, &mut well);
-        if !well {
-            return Err(AllocError);
-        }
+        let first = Quarter::<N, 0, 1, 2, 3>::open(alloc, table, &mut all, &mut rest, numbers)?;
+        let second = Quarter::<N, 4, 5, 6, 7>::open(alloc, table, &mut all, &mut rest, numbers)?;
+        let third = Quarter::<N, 8, 9, 10, 11>::open(alloc, table, &mut all, &mut rest, numbers)?;
+        let fourth = Quarter::<N, 12, 13, 14, 15>::open(
+            alloc, table, &mut all, &mut rest, numbers,
+        )?;
         Ok(Host {
             tenants: numbers.tenants,
             cells: numbers.cells,
             seats,
-            d0,
-            d1,
-            d2,
-            d3,
-            d4,
-            d5,
-            d6,
-            d7,
-            d8,
-            d9,
-            d10,
-            d11,
-            d12,
-            d13,
-            d14,
-            d15,
+            first,
+            second,
+            third,
+            fourth,
         })
     }
 }
