@@ -1,3 +1,4 @@
+pub mod Carrying
 pub mod Counting
 pub mod Failing
 pub mod Gains

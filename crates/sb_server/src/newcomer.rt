@@ -1,5 +1,5 @@
 //! A connection whose first line isn't known yet.
-ghost use Rattle.std.specs.Prelude.{◌≡◌, [], false, IfSome};
+ghost use Rattle.std.specs.Prelude.{◌≡◌, [], false, IfOk, IfSome};
 ghost use Rattle.sb_connection.specs.Conversation.{hosting_by};
 ghost use Rattle.sb_connection.specs.Routing.{Routes};
 ghost use Rattle.sb_connection.specs.Traffic.{gave, no_traffic, took};
@@ -7,14 +7,14 @@ ghost use Rattle.sb_server.specs.Carried.{Hears};
 ghost use Rattle.sb_server.specs.Hearings.{HeardBy};
 ghost use Rattle.sb_server.specs.Sockets.{traffic};
 
+use crate::door::Client;
 use crate::socket::Socket;
 use mio::{Interest, Registry, Token};
 use sb_connection::{Destination, Stream, route_of};
-use std::alloc::Global;
+use std::alloc::{AllocFailed, Global};
 use std::io::{self, ErrorKind};
 
 /// A connection before its first line is answered.
-#[derive(Drop)]
 pub(crate) struct Newcomer {
     pub(crate) socket: Socket,
     /// The client's.
@@ -29,6 +29,19 @@ pub(crate) struct Newcomer {
     pub(crate) is_cut: bool,
     ghost whole: { Hears is_cut (gave (traffic socket)) bytes.items },
     ghost fresh: { took (traffic socket) ≡ [] },
+}
+
+impl Drop for Newcomer {
+    fn drop(self) {
+        let Self {
+            socket: _,
+            port: _,
+            bytes: _,
+            age: _,
+            is_watched: _,
+            is_cut: _,
+        } = self;
+    }
 }
 
 /// What is known of a newcomer.
@@ -55,8 +68,18 @@ pub(crate) struct Reception {
 const MOST_READS: usize = 16;
 
 impl Newcomer {
-    pub(crate) fn new(alloc: Global, socket: Socket, port: u16) -> Newcomer
+    /// That of a client who has just come in. One for which there is no memory is given back.
+    pub(crate) fn of(alloc: Global, client: Client) -> Result<Box<Newcomer>, AllocFailed<Newcomer>>
+        ensures { IfOk result (λ newcomer. newcomer.value.port ≡ client.port) }
+    {
+        let Client { stream, port } = client;
+        let newcomer = Newcomer::new(alloc, Socket::new(stream), port);
+        Box::new(alloc, newcomer)
+    }
+
+    fn new(alloc: Global, socket: Socket, port: u16) -> Newcomer
         requires { traffic socket ≡ no_traffic }
+        ensures { result.port ≡ port }
     {
         Newcomer {
             socket,
@@ -66,6 +89,21 @@ impl Newcomer {
             is_watched: false,
             is_cut: false,
         }
+    }
+
+    /// Its socket, and what came.
+    pub(crate) fn into_parts(self) -> (Socket, Vec<u8>)
+        ensures { (result.0 ≡ self.socket) × (result.1 ≡ self.bytes) }
+    {
+        let Self {
+            socket,
+            port: _,
+            bytes,
+            age: _,
+            is_watched: _,
+            is_cut: _,
+        } = self;
+        (socket, bytes)
     }
 
     /// Reads until its first line is known, or nothing more is there.

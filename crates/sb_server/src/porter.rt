@@ -8,7 +8,6 @@ use crate::keeper::Keeper;
 use crate::mailbox::Letter;
 use crate::newcomer::{Heard, Newcomer};
 use crate::server::Serving;
-use crate::socket::Socket;
 use crate::sweeps::{SWEEP, Sweeps};
 use crate::worker::Worker;
 use mio::event::Event as Ready;
@@ -183,10 +182,8 @@ impl<'s, H: Hosting, V: Watch, A: Admission, K: Keeper, C: Clock> Porter<'s, H, 
     fn welcome<T: Wait>(&mut self, rt: &T, client: Client)
         ensures { self.new.lobby.stubs.items ≡ self.old.lobby.stubs.items }
     {
-        let Client { stream, port } = client;
-        let alloc = self.lobby.serving.alloc;
-        let newcomer = Newcomer::new(alloc, Socket::new(stream), port);
-        match Box::new(alloc, newcomer) {
+        let port = client.port;
+        match Newcomer::of(self.lobby.serving.alloc, client) {
             Ok(newcomer) => {
                 self.tell(port, ConnectionEvent::Came);
                 self.hear(rt, newcomer);

@@ -1,6 +1,8 @@
 //! All connections of a listener, served by workers.
-ghost use Rattle.std.specs.Prelude.{◌≡◌, ◌<◌, ◌≤◌, ◌++◌, [], IfOk, OnOk, vec_len};
+ghost use Rattle.std.specs.Prelude.{◌≡◌, ◌<◌, ◌≤◌, ◌++◌, [], IfOk, Ok, OnOk, Vec, vec_len};
+ghost use Rattle.std.specs.Global.{Global as ItsGlobal};
 ghost use Rattle.std.specs.List.{All, flat_map};
+ghost use Rattle.sb_desk.specs.declared.stub.Stub.{Stub as ItsStub};
 ghost use Rattle.sb_server.specs.Closed.{LeaveClosed, LeavesClosed};
 ghost use Rattle.sb_server.specs.Mailboxes.{ArePlaced};
 ghost use Rattle.sb_server.specs.Places.{place_of};
@@ -365,17 +367,8 @@ where
     if acceptor.listener.set_nonblocking(true).is_err() {
         return Err(ServeError::NoPlace);
     }
-    let (seat, events, waker) = Station::take(rt, alloc)?;
     let mut mailboxes = Vec::new(alloc);
-    let mut posts = posts(rt, alloc, acceptor.board, terms.workers, &mut mailboxes)?;
-    let door = Post {
-        role: Role::Door,
-        seat,
-        events,
-    };
-    if posts.push(door).is_err() {
-        return Err(ServeError::NoMemory);
-    }
+    let (posts, waker) = all_posts(rt, alloc, acceptor.board, terms.workers, &mut mailboxes)?;
     let serving = Serving {
         alloc,
         host,
@@ -398,16 +391,32 @@ where
     };
     let over = Over::new(posts.len());
     let parts = run_beside(rt, alloc, posts, &serving, beside, &over);
-    if let Some(error) = serving.failure() {
-        return Err(error);
+    all_stubs(alloc, serving.failure(), parts)
+}
+
+/// A post for each worker and for the door, with the mailboxes of the workers and what wakes who is at the door.
+fn all_posts<R: Net + Wait>(
+    rt: &R,
+    alloc: Global,
+    board: &Board,
+    workers: usize,
+    mailboxes: &mut Vec<Mailbox>,
+) -> Result<(Vec<Post>, Waker), ServeError>
+    requires { mailboxes.old.items ≡ [] }
+    ensures count { OnOk result (vec_len mailboxes.new ≡ workers) }
+    ensures placed { OnOk result (ArePlaced mailboxes.new.items) }
+{
+    let (seat, events, waker) = Station::take(rt, alloc)?;
+    let mut posts = posts(rt, alloc, board, workers, mailboxes)?;
+    let door = Post {
+        role: Role::Door,
+        seat,
+        events,
+    };
+    if posts.push(door).is_err() {
+        return Err(ServeError::NoMemory);
     }
-    match parts {
-        Ok(parts) => match gather(alloc, parts) {
-            Ok(stubs) => Ok(stubs),
-            Err(_) => Err(ServeError::NoMemory),
-        },
-        Err(_) => Err(ServeError::NoMemory),
-    }
+    Ok((posts, waker))
 }
 
 /// A post for each worker, and its mailbox.
@@ -443,6 +452,21 @@ fn worker_post(place: usize, seat: Station, events: Events) -> Post {
         role: Role::Worker(place),
         seat,
         events,
+    }
+}
+
+/// The receipts of all sessions, where each thread has left its own and the service didn't end early.
+fn all_stubs(
+    alloc: Global,
+    failure: Option<ServeError>,
+    parts: Result<Vec<Vec<Stub>>, AllocError>,
+) -> Result<Vec<Stub>, ServeError>
+    ensures { IfOk result (λ stubs. (lists : Vec (Vec ItsStub ItsGlobal) ItsGlobal)
+        × (parts ≡ Ok lists) × (stubs.items ≡ flat_map (λ part. part.items) lists.items)) }
+{
+    match failure {
+        Some(error) => Err(error),
+        None => Ok(gather(alloc, parts?)?),
     }
 }
 

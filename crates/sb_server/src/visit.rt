@@ -1,8 +1,8 @@
 //! A connection and its stream.
-ghost use Rattle.std.specs.Prelude.{◌≡◌, ◌<◌, ◌≤◌, ◌⊎◌, ◌↔◌, [], false, true, length, IfNone, IfOk, IfSome, IsFalse, IsSome, IsTrue, MatchResult, None, Some, is_some};
+ghost use Rattle.std.specs.Prelude.{◌≡◌, ◌<◌, ◌≤◌, ◌⊎◌, ◌↔◌, [], false, true, length, IfNone, IfOk, IfSome, IsFalse, IsSome, IsTrue, MatchResult, None, Ok, Some, is_some};
 ghost use Rattle.sb_connection.specs.Conversation.{hosting_by};
 ghost use Rattle.sb_connection.specs.History.{MayReceive, SameStreams, after_sending};
-ghost use Rattle.sb_connection.specs.Traffic.{after_write};
+ghost use Rattle.sb_connection.specs.Traffic.{Traffic, after_read, after_write};
 ghost use Rattle.sb_server.specs.Carried.{Carries};
 ghost use Rattle.sb_server.specs.Closed.{Leaves};
 ghost use Rattle.sb_server.specs.Visits.{EndsBy, IsBlocked, IsSilence, ReadsOnce, SendsSome, TellsEnd, ends};
@@ -15,14 +15,13 @@ use mio::{Interest, Registry, Token};
 use sb_connection::{Admission, Connection, ConnectionEnd, SessionName, Stream, Watch};
 use sb_desk::{Hosting, Stub};
 use sb_wire::StreamError;
-use std::alloc::Global;
+use std::alloc::{AllocError, Global};
 use std::io::{self, ErrorKind};
 use std::rt::Clock;
 use std::sync::Wait;
 use std::time::{Duration, Instant};
 
 /// A client that has a connection.
-#[derive(Drop)]
 pub(crate) struct Visit<H: Hosting, S: Stream + Drop> {
     pub(crate) stream: S,
     /// The client's.
@@ -45,6 +44,24 @@ pub(crate) struct Visit<H: Hosting, S: Stream + Drop> {
     /// An operator ends its session.
     pub(crate) is_ended: bool,
     ghost carries: { Carries (S.traffic stream) connection is_cut },
+}
+
+impl<H: Hosting, S: Stream + Drop> Drop for Visit<H, S> {
+    fn drop(self) {
+        let Self {
+            stream: _,
+            port: _,
+            tenant: _,
+            connection: _,
+            heard: _,
+            came: _,
+            is_active: _,
+            is_due: _,
+            hung_up: _,
+            is_cut: _,
+            is_ended: _,
+        } = self;
+    }
 }
 
 /// What becomes of a connection after its turn.
@@ -191,28 +208,16 @@ impl<H: Hosting, S: Stream + Drop> Visit<H, S> {
             return None;
         }
         match self.stream.read(buffer) {
-            // a read into no room says nothing
-            Ok(0) if buffer.is_empty() => None,
-            Ok(0) => {
-                self.connection.receive_end();
-                self.came = Came::Bytes {
-                    has_line: false,
-                    all: true,
-                };
-                None
-            }
-            Ok(count) => {
-                let bytes = &buffer[..count];
-                if self.connection.receive(bytes).is_err() {
-                    self.is_cut = true;
-                    return Some(out_of_memory());
+            Ok(count) => match take_bytes(&mut self.connection, buffer, count, self.hung_up) {
+                Ok(came) => {
+                    self.came = came;
+                    None
                 }
-                self.came = Came::Bytes {
-                    has_line: bytes.contains(&b'\n'),
-                    all: count < buffer.len() && !self.hung_up,
-                };
-                None
-            }
+                Err(_) => {
+                    self.is_cut = true;
+                    Some(out_of_memory())
+                }
+            },
             Err(error) => match error.kind() {
                 ErrorKind::WouldBlock => {
                     self.came = Came::Nothing;
@@ -314,10 +319,18 @@ impl<H: Hosting, S: Stream + Drop> Visit<H, S> {
         ensures leaves { Leaves (S.traffic self.stream) self.connection self.is_cut result }
         ensures session { self.connection.attached ≡ is_some result }
     {
-        let Visit {
-            connection,
+        let Self {
+            stream: _closed_last,
             port,
-            ..
+            tenant: _,
+            connection,
+            heard: _,
+            came: _,
+            is_active: _,
+            is_due: _,
+            hung_up: _,
+            is_cut: _,
+            is_ended: _,
         } = self;
         connection.close(rt, &Told { watch, port }, ending)
     }
@@ -336,13 +349,9 @@ impl<H: Hosting> Visit<H, Socket> {
         ensures host { result.connection.hosted ≡ hosting_by by.keyed by.first (H.tenants host) }
         ensures of { (result.tenant ≡ tenant) × (result.port ≡ newcomer.port) × (result.is_ended ≡ false) }
     {
-        let Newcomer {
-            socket,
-            port,
-            bytes,
-            is_cut,
-            ..
-        } = newcomer;
+        let port = newcomer.port;
+        let is_cut = newcomer.is_cut;
+        let (socket, bytes) = newcomer.into_parts();
         let mut connection = Connection::new(alloc, host, by.first, by.keyed);
         let is_lost = connection.receive(bytes.as_slice()).is_err();
         Visit {
@@ -392,6 +401,39 @@ fn is_over(silent: Duration, limit: Option<Duration>) -> bool
         Some(limit) => silent >= limit,
         None => false,
     }
+}
+
+/// Has a connection take what a read found, and tells what that was. There may be no memory for it.
+fn take_bytes<H: Hosting>(
+    connection: &mut Connection<H>,
+    buffer: &[u8],
+    count: usize,
+    hung_up: bool,
+) -> Result<Came, AllocError>
+    requires bound { count ≤ length buffer.now }
+    requires may { MayReceive connection.old }
+    ensures carries { (t : Traffic) → Carries t connection.old false → MatchResult result
+        (λ _. Carries (after_read t buffer.now (Ok count)) connection.new false)
+        (λ _. Carries (after_read t buffer.now (Ok count)) connection.new true) }
+    ensures stays { connection.new.attached ≡ connection.old.attached }
+{
+    if count > 0 {
+        let bytes = &buffer[..count];
+        connection.receive(bytes)?;
+        return Ok(Came::Bytes {
+            has_line: bytes.contains(&b'\n'),
+            all: count < buffer.len() && !hung_up,
+        });
+    }
+    // a read into no room says nothing
+    if buffer.is_empty() {
+        return Ok(Came::Unread);
+    }
+    connection.receive_end();
+    Ok(Came::Bytes {
+        has_line: false,
+        all: true,
+    })
 }
 
 fn out_of_memory() -> ConnectionEnd

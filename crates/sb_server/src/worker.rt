@@ -1,5 +1,5 @@
 //! One worker: it waits for events of its connections, and serves those that have some.
-ghost use Rattle.std.specs.Prelude.{◌≡◌, ◌+◌, ◌≤◌, ◌++◌, ◌==◌, [], ℕ, false, true, cond, length, IsTrue, None, OnOk, OnSome, Some, Option, option_to_list, vec_len, vec_capacity};
+ghost use Rattle.std.specs.Prelude.{◌≡◌, ◌+◌, ◌≤◌, ◌++◌, ◌==◌, [], ℕ, false, true, cond, length, IfOk, IsTrue, None, OnOk, OnSome, Some, Option, option_to_list, vec_len, vec_capacity};
 ghost use Rattle.sb_desk.specs.declared.stub.Stub.{Stub as ItsStub};
 ghost use Rattle.slab.specs.Slab.{Updates, get, slab_len};
 ghost use Rattle.sb_server.specs.Closed.{GainsClosed, Leaves};
@@ -24,7 +24,7 @@ use mio::{Events, Interest, Poll, Token};
 use sb_connection::{Admission, ConnectionEnd, ConnectionEvent, SessionName, Watch};
 use sb_desk::{Hosting, Stub};
 use slab::Slab;
-use std::alloc::AllocError;
+use std::alloc::{AllocError, AllocFailed};
 use std::mem;
 use std::rt::Clock;
 use std::sync::Wait;
@@ -395,15 +395,25 @@ impl<'s, H: Hosting, V: Watch, A: Admission, K: Keeper, C: Clock> Worker<'s, H, 
         ensures sessions { session_count self.old.visits (λ v. v.value.connection.attached) ≤ session_count self.new.visits (λ v. v.value.connection.attached) }
     {
         let port = newcomer.port;
-        if self.stubs.reserve(self.visits.len() + 1).is_err() || self.make_place().is_err() {
+        if self.make_room().is_err() {
             self.refuse(port, ConnectionEvent::NoPlace);
             return;
         }
-        // one is noted at most once among those that are due, and once among all
-        if self.answered.reserve(2 * (self.visits.len() + 1)).is_err() {
-            self.refuse(port, ConnectionEvent::NoPlace);
-            return;
+        match self.visit_of(newcomer, tenant) {
+            Ok(visit) => self.begin(visit),
+            Err(_) => self.refuse(port, ConnectionEvent::NoPlace),
         }
+    }
+
+    /// The visit of a newcomer, whose first line names this tenant if it opens a session. One for which there is no memory
+    /// is given back.
+    fn visit_of(
+        &self,
+        newcomer: Newcomer,
+        tenant: Option<u32>,
+    ) -> Result<Box<Visit<H, Socket>>, AllocFailed<Visit<H, Socket>>>
+        ensures { IfOk result (λ visit. (visit.value.tenant ≡ tenant) × (visit.value.port ≡ newcomer.port)) }
+    {
         let serving = self.serving;
         let heard = self.now();
         let visit = Visit::begin(
@@ -414,10 +424,20 @@ impl<'s, H: Hosting, V: Watch, A: Admission, K: Keeper, C: Clock> Worker<'s, H, 
             tenant,
             heard,
         );
-        match Box::new(serving.alloc, visit) {
-            Ok(visit) => self.begin(visit),
-            Err(_) => self.refuse(port, ConnectionEvent::NoPlace),
-        }
+        Box::new(serving.alloc, visit)
+    }
+
+    /// Makes room for one connection more, its receipts and its answers.
+    fn make_room(&mut self) -> Result<(), AllocError>
+        ensures stub { OnOk result (vec_len self.new.stubs + (slab_len self.new.visits + 1) ≤ vec_capacity self.new.stubs) }
+        ensures place { OnOk result (slab_len self.new.visits + 1 ≤ self.new.visits.capacity) }
+        ensures sessions { session_count self.new.visits (λ v. v.value.connection.attached) ≡ session_count self.old.visits (λ v. v.value.connection.attached) }
+        ensures stubs { self.new.stubs.items ≡ self.old.stubs.items }
+    {
+        self.stubs.reserve(self.visits.len() + 1)?;
+        self.make_place()?;
+        // one is noted at most once among those that are due, and once among all
+        self.answered.reserve(2 * (self.visits.len() + 1))
     }
 
     /// Makes a place for one connection more.
@@ -548,9 +568,7 @@ impl<'s, H: Hosting, V: Watch, A: Admission, K: Keeper, C: Clock> Worker<'s, H, 
             return;
         };
         visit.is_due = false;
-        let serving = self.serving;
-        let ears = self.ears();
-        match visit.take_in(rt, &ears, serving.admission, &mut self.buffer) {
+        match self.listen(rt, &mut visit) {
             Some(fault) => self.settle(rt, Box::into_inner(visit), fault),
             None => {
                 let answered = visit.answered();
@@ -558,6 +576,16 @@ impl<'s, H: Hosting, V: Watch, A: Admission, K: Keeper, C: Clock> Worker<'s, H, 
                 self.note_answered(answered);
             }
         }
+    }
+
+    /// The first part of the turn of a connection that is taken out. It gives the fault, if there is one.
+    fn listen<T: Wait>(&mut self, rt: &T, visit: &mut Visit<H, Socket>) -> Option<ConnectionEnd>
+        ensures stays { visit.old.connection.attached ≡ true → visit.new.connection.attached ≡ true }
+        ensures others { (self.new.stubs ≡ self.old.stubs) × (self.new.visits ≡ self.old.visits) }
+    {
+        let serving = self.serving;
+        let ears = self.ears();
+        visit.take_in(rt, &ears, serving.admission, &mut self.buffer)
     }
 
     /// Where it counts, and who is told of slow lines.

@@ -1,5 +1,5 @@
 use denote.Param.Send.{arg_sync, copied_sync, param_sync}
-use Rattle.std.proofs.Common.{List, [], ◌∷◌, ◌++◌, subst, sym}
+use Rattle.std.proofs.Common.{◌≡◌, List, [], ◌∷◌, Result, Ok, Err, subst, sym}
 use Rattle.std.specs.Prelude.{IfOk, Vec}
 use Rattle.std.specs.Global.{Global}
 use Rattle.std.specs.List.{All, AllZip, flat_map}
@@ -20,9 +20,15 @@ all_closed [] (part ∷ parts) all = absurd all
 all_closed (job ∷ jobs) [] all = absurd all
 all_closed (job ∷ jobs) (part ∷ parts) (own, others) = All-append LeavesClosed part.items (flat_map (λ part. part.items) parts) own (all_closed jobs parts others)
 
-pub returns-in-Ok-gather : goal.returns-in-Ok-gather
-returns-in-Ok-gather g c =
-    let posts = c.push.new.self.items in
-    let done = subst (λ r. IfOk r (λ results. AllZip (λ job part. LeaveClosed part) posts results.items)) c.in-Ok.is c.run_beside-parts.ensures in
-    let closed = all_closed posts c.in-Ok.parts.items done in
-    subst (λ (l : List Stub). All LeavesClosed l) (sym c.in-Ok-gather.ensures) closed
+-- the receipts of all of them
+all_left : {A E F : Type 0} (jobs : List A) (parts : Result (Vec (Vec Stub Global) Global) E) (all : Result (Vec Stub Global) F)
+    → IfOk parts (λ results. AllZip (λ job part. LeaveClosed part) jobs results.items)
+    → IfOk all (λ stubs. (lists : Vec (Vec Stub Global) Global) × (parts ≡ Ok lists) × (stubs.items ≡ flat_map (λ part. part.items) lists.items))
+    → IfOk all (λ stubs. All LeavesClosed stubs.items)
+all_left jobs parts (Err e) did left = tt
+all_left jobs parts (Ok stubs) did (lists, is, items) =
+    let done = subst (λ r. IfOk r (λ results. AllZip (λ job part. LeaveClosed part) jobs results.items)) is did in
+    subst (λ (l : List Stub). All LeavesClosed l) (sym items) (all_closed jobs lists.items done)
+
+pub returns : goal.returns
+returns g c = all_left _ c.run_beside-parts.result c.all_stubs.result c.run_beside-parts.ensures c.all_stubs.ensures

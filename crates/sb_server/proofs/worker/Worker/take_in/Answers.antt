@@ -8,4 +8,4 @@ use Rattle.sb_server.proofs.worker.Worker.take_in.Goals as goal
 pub returns-in-None-clause-gains : goal.returns-in-None-clause-gains
 returns-in-None-clause-gains g c =
     gains_nothing c.args.self.now.stubs.items c.note_answered.new.self.stubs.items
-    (c.note_answered.ensures.0 ∙ ap (λ (stubs : Vec Stub Global). stubs.items) (c.put_back.ensures.stubs ∙ c.take_out.ensures.stubs))
+    (c.note_answered.ensures.0 ∙ ap (λ (stubs : Vec Stub Global). stubs.items) (c.put_back.ensures.stubs ∙ c.listen.ensures.others.0 ∙ c.take_out.ensures.stubs))
