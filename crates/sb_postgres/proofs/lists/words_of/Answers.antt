@@ -1,0 +1,17 @@
+use Rattle.std.specs.Int.{w32}
+use Rattle.std.proofs.lemmas.Result.{err_from_is_err_and}
+use Rattle.sb_postgres.specs.Reading.{items_at, number_at}
+use Rattle.sb_postgres.proofs.Loop.{goes_on, ends, is_done}
+use Rattle.sb_postgres.proofs.lists.words_of.Goals as goal
+
+pub returns-in_err-one : goal.returns-in_err-one
+returns-in_err-one c =
+    let p = err_from_is_err_and c.from_residual.result c.from_residual.ensures.1 in
+    rw (p.1, p.2) (ends (number_at w32) c.in_err-one.field-0.0 c.loop.found.items c.args.count c.loop.counter c.loop.rest.now (items_at (number_at w32) c.args.count c.args.bytes.now) c.loop-test.true c.in_err-one.ensures c.loop.invariant)
+
+pub loop-preserved : goal.loop-preserved
+loop-preserved c =
+    rw c.in_ok-push.ensures.items (goes_on (number_at w32) c.loop.found.items c.args.count c.loop.counter c.loop.rest.now c.in_ok-one.one c.in_ok-one.behind.now (items_at (number_at w32) c.args.count c.args.bytes.now) c.loop-test.true c.in_ok-one.ensures c.loop.invariant)
+
+pub returns : goal.returns
+returns c = is_done (number_at w32) c.loop.found.items c.args.count c.loop.counter c.loop.rest.now (items_at (number_at w32) c.args.count c.args.bytes.now) c.loop-test.false c.loop.invariant
