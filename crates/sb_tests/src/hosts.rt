@@ -5,7 +5,7 @@ ghost use Rattle.sb_host.specs.Opening.{AreNames};
 use crate::mark::mark;
 use sb_host::{
     AttachError, CallError, Calling, FinishError, Host, Hosting, Naming, NoGate, Opened, Report,
-    Stub,
+    Session, Stub,
 };
 use sb_tenant::{Answer, Reply};
 use sb_value::Refusal;
@@ -86,23 +86,32 @@ const REPLIES: &[u8] =
     b"ok\nok\nok 2\nrows 2\n1,'x''y'\n-2,''\ndone 0\nok\nrows 2\n1,'x''y'\n-2,''\nok\n";
 
 /// Calls a session with these lines, one by one.
-fn play<S: Calling, R: Wait + Abort>(rt: &R, alloc: Global, session: &mut S) {
+fn play<N: Naming, R: Wait + Abort>(rt: &R, alloc: Global, session: &mut Session<'_, N>) {
     let mut text = Vec::new(alloc);
     for line in LINES.split(|byte| *byte == b'\n') {
-        let _ = session.step(rt, alloc, line, &NoGate);
-        if let Some(answer) = session.last() {
+        if let Ok(answer) = session.call(rt, alloc, line) {
             write_bare_reply(&mut text, &answer.reply).expect(rt, "a reply");
         }
     }
     assert!(rt; text.as_slice() == REPLIES);
     assert!(rt; session.ended());
+    let behind = session.call(rt, alloc, b"begin").err();
+    assert!(rt; behind == Some(CallError::Ended));
 }
 
 /// A session of that host, which leaves 9 receipts.
-fn play_alone<H: Hosting, R: Wait + Abort>(rt: &R, alloc: Global, host: H) -> Option<Stub> {
-    let mut session = attach(rt, alloc, host, 0, false)?;
+fn play_alone<N: Naming, R: Wait + Abort>(rt: &R, alloc: Global, host: &Host<N>) -> Stub {
+    let mut session = host.attach(rt, alloc, 0, 0).expect(rt, "a session");
     play(rt, alloc, &mut session);
-    Some(session.close(rt))
+    session.close(rt)
+}
+
+/// One more, whose only call goes by a gate. It leaves 3 receipts.
+fn play_gated<N: Naming, R: Wait + Abort>(rt: &R, alloc: Global, host: &Host<N>) -> Stub {
+    let mut session = host.attach(rt, alloc, 0, 1).expect(rt, "a session");
+    let begun = session.call_with(rt, alloc, b"begin", &NoGate);
+    assert!(rt; is_ok(begun.ok(), false));
+    session.close(rt)
 }
 
 fn serve<N: Naming, R: Wait + Abort>(rt: &R, alloc: Global, opened: Opened)
@@ -110,11 +119,16 @@ fn serve<N: Naming, R: Wait + Abort>(rt: &R, alloc: Global, opened: Opened)
 {
     let host = Host::<N>::new(alloc, opened).expect(rt, "a host");
     let mut stubs = Vec::new(alloc);
-    if let Some(stub) = play_alone(rt, alloc, &host) {
-        stubs.push(stub).expect(rt, "a stub");
-    }
+    stubs
+        .push(play_alone(rt, alloc, &host))
+        .expect(rt, "a stub");
+    stubs
+        .push(play_gated(rt, alloc, &host))
+        .expect(rt, "a stub");
     let report = finish(rt, alloc, host, stubs, false);
-    assert!(rt; report.is_some_and(|report| report.trails.len() == 1 && report.steps() == Some(9)));
+    assert!(rt;
+        report.is_some_and(|report| report.trails.len() == 1 && report.steps() == Some(12))
+    );
 }
 
 #[test]

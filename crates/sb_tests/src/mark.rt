@@ -2,8 +2,8 @@
 
 use std::thread;
 
-/// A place that `bench/refuse.c` sees: all memory is refused from the first such place to the second, from the third to
-/// the fourth, and so on. By itself it does nothing.
+/// A place that `bench/harness/refuse.c` sees: all memory is refused from the first such place to the second, from the
+/// third to the fourth, and so on. By itself it does nothing.
 pub fn mark() {
     thread::yield_now();
 }
