@@ -1,0 +1,1 @@
+"""Programs that measure the built program, some beside others. Each prints what docs/PERFORMANCE.md has of it."""

@@ -1,0 +1,1 @@
+"""Parts of `./check` that it starts by its words."""

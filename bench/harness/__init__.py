@@ -1,0 +1,32 @@
+"""What tests share: the built program, servers, clients, faults that are made, and how long something may take."""
+
+from bench.harness.client import Client, Closed, connect, more_lines, read_all, read_lines, say
+from bench.harness.faults import file_size, library
+from bench.harness.patience import PATIENCE, expect, fail, need, tried, until
+from bench.harness.program import BUILT, TOP, program_of, run
+from bench.harness.server import Ended, Server, free_port
+
+__all__ = [
+    "BUILT",
+    "PATIENCE",
+    "TOP",
+    "Client",
+    "Closed",
+    "Ended",
+    "Server",
+    "connect",
+    "expect",
+    "fail",
+    "file_size",
+    "free_port",
+    "library",
+    "more_lines",
+    "need",
+    "program_of",
+    "read_all",
+    "read_lines",
+    "run",
+    "say",
+    "tried",
+    "until",
+]

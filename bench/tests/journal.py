@@ -1,0 +1,467 @@
+#!/usr/bin/env python3
+"""Tries a server with a journal: what was answered is there after a restart.
+
+    python3 -m bench.tests.journal [PROGRAM] [--kills N] [--cuts N] [--each] [--requests N] [--calls N] [--seed N]
+
+PROGRAM is crates/starhost/out/starhost where no word is given. Eight clients make transactions while the server is killed
+at some moment, N times (12), with each --sync in turn; then it is started with the same file. Each line that was answered
+has to be a record, in its order, and each tenant's dump has to be that of `run` over the records, with the sessions that
+were open ended. Then the file is cut at N places (60), or at each of its first 3,000 bytes (--each): a first part of the
+records is found. So it is where other bytes stand behind the last record. Other bytes behind a cut may look like a
+record; no more is refused then than the file. N requests for memory (60) are refused in turn, alone or with those behind
+them (refuse.c, compiled by cc): where a record lacks memory, replies wait. Each of N calls on files (40) fails in turn
+(refuse_disk.c), with --sync always and second: the server ends with a fault, and what it answered is there. With second
+there is a sync each second under load and one behind the last line, none of it while nothing comes, and one that fails
+ends the server before its next reply; a run makes one before it ends. Then what can't be: two servers on one file,
+another number of tenants, another bound, a full disk. The first thing that isn't as it is to be ends this with status 1.
+"""
+
+import argparse
+import os
+import random
+import shutil
+import subprocess
+import tempfile
+import threading
+import time
+
+from bench.harness import BUILT, Server, connect, library, more_lines, need, run, tried
+from bench.tests.generated import Maker
+
+CLIENTS = 8
+HEAD = 25
+SYNCS = ("always", "second", "never")
+EACH = 3000
+
+
+def journaled(program, file, *words, tenants=16, limit=None, preloaded=None, **refused):
+    """A server with a journal at this path."""
+    shape = ["--tenants", str(tenants), "--cells", "4", "--workers", "4", "--journal", file]
+    return Server(program, *shape, *words, bytes_of_files=limit, library=preloaded, **refused)
+
+
+class Client(threading.Thread):
+    """It sends a line, and then waits for its answer. It notes the lines that were answered, and made."""
+
+    def __init__(self, server, tenant, session, lines):
+        super().__init__()
+        self.port, self.tenant, self.session, self.lines = server.port, tenant, session, lines
+        self.answered, self.answers = [], 0
+
+    def run(self):
+        try:
+            self.talk()
+        except (ConnectionError, TimeoutError):
+            pass
+
+    def talk(self):
+        with connect(self.port) as stream:
+            file = stream.makefile("rb")
+            for line in [f"{self.tenant} {self.session}", *self.lines]:
+                stream.sendall(line.encode() + b"\n")
+                first = self.answer(file)
+                if first is None:
+                    return
+                self.answers += 1
+                # what lacked memory is recorded as what it did, if at all
+                if not first.startswith((b"no 91", b"no 92")):
+                    self.answered.append(line)
+
+    @staticmethod
+    def answer(file):
+        """The first line of a reply, if all of it comes."""
+        first = file.readline()
+        lines = [first] + [file.readline() for _ in range(more_lines(first.decode()))]
+        return first if all(line.endswith(b"\n") for line in lines) else None
+
+
+def records(path):
+    """The records of a journal: tenant, session, line."""
+    with open(path, "rb") as file:
+        data = file.read()
+    contents, place = [], 0
+    while place + 5 <= len(data) and data[place] == 1:
+        length = int.from_bytes(data[place + 1:place + 5], "big")
+        if place + 5 + length > len(data):
+            break
+        contents.append(data[place + 5:place + 5 + length])
+        place += 5 + length
+    found = []
+    for batch in contents[1:]:
+        while batch:
+            length = int.from_bytes(batch[5:9], "big")
+            found.append((int.from_bytes(batch[:4], "big"), batch[4], batch[9:9 + length].decode("latin-1")))
+            batch = batch[9 + length:]
+    return found
+
+
+def with_ends(found):
+    """The lines for `run`, with the end of each session that is open."""
+    opened = []
+    for tenant, session, line in found:
+        if line.split() == ["open"] and (tenant, session) not in opened:
+            opened.append((tenant, session))
+        if line.split() == ["end"] and (tenant, session) in opened:
+            opened.remove((tenant, session))
+    return [f"{t} {s} {line}" for t, s, line in found] + [f"{t} {s} end" for t, s in opened]
+
+
+def has_in_order(lines, part):
+    left = iter(lines)
+    return all(line in left for line in part)
+
+
+def states(program, file, room, may_refuse=False, tenants=16):
+    """What a server that starts with the file has of each tenant, as scripts; None where it refuses the file."""
+    folder = os.path.join(room, "states")
+    shutil.rmtree(folder, ignore_errors=True)
+    os.mkdir(folder)
+    status, told, log = journaled(program, file, "--dump-to", folder, tenants=tenants).end()
+    if may_refuse and status == 1 and log.splitlines()[-1] == "fault: cannot open journal":
+        return None
+    need(status == 0, f"a start: {status}, {told}, {log[-500:]}")
+    found = {}
+    for name in os.listdir(folder):
+        with open(os.path.join(folder, name), encoding="latin-1") as script:
+            found[int(name.split(".")[0])] = script.read()
+    return found
+
+
+def states_of(program, found, room, tenants=16):
+    """What `run` has of each tenant behind these records."""
+    folder = os.path.join(room, "wanted")
+    shutil.rmtree(folder, ignore_errors=True)
+    os.mkdir(folder)
+    status, _, errors = run(program, f"dump --tenants {tenants} --into {folder}", with_ends(found))
+    need(status == 0, f"dump --into: {errors}")
+    wanted = {}
+    for name in os.listdir(folder):
+        with open(os.path.join(folder, name), encoding="latin-1") as script:
+            wanted[int(name.split(".")[0])] = script.read()
+    return wanted
+
+
+def are_records(file, clients, before=0):
+    """Each line that was answered is a record, in its order, behind so many that were there before."""
+    found = records(file)
+    for client in clients:
+        own = [line for tenant, session, line in found[before:] if (tenant, session) == (client.tenant, client.session)]
+        wanted = ["open", *client.answered[1:]] if client.answered else []
+        need(has_in_order(own, wanted), f"tenant {client.tenant}: lines that were answered aren't records: {wanted[-3:]} behind {own[-3:]}")
+    return found
+
+
+def survives_kills(program, room, kills, seed):
+    dice = random.Random(seed)
+    file = os.path.join(room, "killed")
+    makers = [Maker(seed * 100 + at) for at in range(CLIENTS)]
+    answered, found = 0, []
+    for at in range(kills):
+        server = journaled(program, file, "--sync", SYNCS[at % len(SYNCS)])
+        clients = [Client(server, at // 2, at % 2, makers[at].lines(60)[1:-1] + ["begin"]) for at in range(CLIENTS)]
+        for client in clients:
+            client.start()
+        time.sleep(dice.random() * 0.15)
+        server.kill()
+        for client in clients:
+            client.join()
+        found = are_records(file, clients, len(found))
+        need(states(program, file, room) == states_of(program, found, room), "a start behind a kill has another state")
+        answered += sum(len(client.answered) for client in clients)
+    return answered, len(records(file)), file
+
+
+def blocks(data):
+    """Where each block begins, and where the last one ends."""
+    places = [0]
+    while places[-1] + 5 <= len(data) and data[places[-1]] == 1:
+        end = places[-1] + 5 + int.from_bytes(data[places[-1] + 1:places[-1] + 5], "big")
+        if end > len(data):
+            break
+        places.append(end)
+    return places
+
+
+def crashed(data, dice):
+    """What a crash may leave of a file: its first blocks, and behind a shut gate a part of the next one, or other bytes."""
+    places = blocks(data)
+    at = dice.randrange(len(places))
+    behind = data[places[at] + 1:places[at + 1]] if at + 1 < len(places) else b""
+    part = behind[:dice.randint(0, len(behind))] if dice.random() < 0.7 else dice.randbytes(dice.randrange(40))
+    return data[:places[at]] + dice.choice([b"", b"\x00" + part, b"\x01"])
+
+
+def survives_cuts(program, room, file, cuts, each, seed):
+    """A file as a crash leaves it, or that is cut at any byte, has a first part of its records."""
+    dice = random.Random(seed)
+    with open(file, "rb") as whole:
+        data = whole.read()
+    found, cut, refused = records(file), os.path.join(room, "cut"), 0
+    places = [0, 1, 4, 5, HEAD - 1, HEAD, HEAD + 1, HEAD + 7, len(data) - 1, len(data)]
+    places += range(EACH) if each else [dice.randrange(len(data)) for _ in range(cuts // 2)]
+    parts = [data[:place] for place in places]
+    parts += [crashed(data, dice) for _ in range(cuts // 2)] + [data + dice.randbytes(9)]
+    for at, part in enumerate(parts):
+        with open(cut, "wb") as file:
+            file.write(part)
+        kept = records(cut)
+        need(kept == found[:len(kept)], "a part of the file has other records")
+        need(states(program, cut, room) == states_of(program, kept, room), f"part {at} of {len(part)} bytes has another state")
+    written = [data[:dice.randrange(len(data))] + dice.randbytes(dice.choice([1, 9, 300, 5000])) for _ in range(cuts // 2)]
+    for at, part in enumerate(written):
+        with open(cut, "wb") as file:
+            file.write(part)
+        kept = records(cut)
+        is_open = len(part) > blocks(part)[-1] and part[blocks(part)[-1]] == 1
+        has = states(program, cut, room, may_refuse=is_open or kept != found[:len(kept)])
+        refused += has is None
+        if has is not None and kept == found[:len(kept)]:
+            need(has == states_of(program, kept, room), f"part {at} with other bytes behind it has another state")
+    return len(parts), len(written), refused
+
+
+def fails_well(program, room, refuses, calls, sync):
+    """A call on a file that fails ends the server, with a fault; what it answered is there."""
+    felt = 0
+    for at in range(1, calls + 1):
+        file = os.path.join(room, f"failed{at}{sync}")
+        words = {"SHORT": 1} if at % 3 == 0 else {"REASON": 28} if at % 3 == 1 else {}
+        server = journaled(program, file, "--sync", sync, preloaded=refuses, FAILED=at, **words)
+        clients = []
+        if server.port is not None:
+            clients = [Client(server, tenant, 0, Maker(at * 10 + tenant).lines(5)[1:-1]) for tenant in range(3)]
+            for client in clients:
+                client.start()
+            for client in clients:
+                client.join()
+        status, _, log = server.end()
+        last = log.splitlines()[-2] if "calls on files" in log else log.splitlines()[-1]
+        need(status in (0, 1), f"call {at} fails: status {status}: {log[-400:]}")
+        if status == 1:
+            felt += 1
+            need(last in ("fault: journal failed", "fault: cannot open journal"), f"call {at} fails: {log[-400:]}")
+        if os.path.exists(file):
+            found = are_records(file, clients)
+            need(states(program, file, room) == states_of(program, found, room), f"call {at} fails: another state behind it")
+        else:
+            need(not any(client.answered for client in clients), f"call {at} fails: answers without a file")
+    return felt
+
+
+LACKING = "journal: there is no memory"
+
+
+def lacks_memory(program, room, many):
+    """Where memory is lacking for a record, replies wait and are sent later; that is logged once."""
+    refuses = library("refuse", room)
+
+    def served(name, **refused):
+        """The file, the clients, and the log."""
+        file = os.path.join(room, f"lacking{name}")
+        server = journaled(program, file, "--sync", "never", preloaded=refuses, **refused)
+        clients = [Client(server, tenant, 0, Maker(tenant).lines(12)[1:-1]) for tenant in range(3)]
+        for client in clients:
+            client.run()
+        status, told, log = server.end()
+        need(status == 0 or "fault: out of memory\n" in log, f"{refused}: status {status}: {log[-300:]}")
+        return file, clients, told, log
+
+    def requests(name, clients):
+        server = journaled(program, os.path.join(room, name), "--sync", "never", preloaded=refuses)
+        return server.end()[2] if not clients else served(name)[3]
+
+    first, last = (int(requests(name, clients).split(" requests")[0].split()[-1]) for name, clients in (("few", False), ("all", True)))
+    waited = 0
+    for at in range(many):
+        request = first + (last - first) * at // many
+        file, clients, told, log = served(at, REFUSED=request, UNTIL=request + (at % 4) * 20)
+        found = are_records(file, clients)
+        need(states(program, file, room) == states_of(program, found, room), f"request {request} is refused: another state behind it")
+        if LACKING in log:
+            waited += 1
+            if at % 4 == 0:
+                need(log.count(LACKING) == 1 and all(client.answers == len(client.lines) + 1 for client in clients), f"request {request} is refused: {log[-400:]}")
+    need(waited > 0, "no record lacked memory")
+    return waited
+
+
+def syncs_in(noted):
+    """When each sync was made, and when each write."""
+    with open(noted) as file:
+        calls = [line.split() for line in file]
+    return [float(at) for name, at in calls if name == "fdatasync"], [float(at) for name, at in calls if name == "pwrite"]
+
+
+def trial(part, program, room, refuses):
+    """Does a part that has a bound on time, each time in a folder of its own."""
+    folders = [os.path.join(room, f"{part.__name__}{at}") for at in range(3)]
+    for folder in folders:
+        os.mkdir(folder)
+    return tried(part, [(program, folder, refuses) for folder in folders])
+
+
+def syncs_by_seconds(program, room, refuses):
+    """With --sync second: a sync each second while lines come, and one behind the last."""
+    file, noted = os.path.join(room, "seconds"), os.path.join(room, "noted")
+    server = journaled(program, file, "--sync", "second", preloaded=refuses, NOTED=noted)
+    client = Client(server, 0, 0, ["create table t (a int)"])
+    client.run()
+    until = time.monotonic() + 4
+    with server.connect() as stream:
+        lines = stream.makefile("rb")
+        stream.sendall(b"1 0\n")
+        need(lines.readline() == b"ok\n", "a session")
+        while time.monotonic() < until:
+            stream.sendall(b"selec\n")
+            need(lines.readline().startswith(b"no "), "a line that isn't one")
+            time.sleep(0.005)
+        time.sleep(3)
+        syncs, writes = syncs_in(noted)
+        between = [later - sooner for sooner, later in zip(syncs, syncs[1:])]
+        need(len(syncs) >= 4 and all(0.9 < passed < 2 for passed in between), f"syncs under load: {between}")
+        need(len(writes) > 20 * len(syncs), f"{len(writes)} writes, {len(syncs)} syncs")
+        need(0 <= syncs[-1] - writes[-1] < 2, f"the last sync came {syncs[-1] - writes[-1]} seconds behind the last write")
+    need(server.end()[0] == 0, "a server with --sync second")
+    return len(syncs)
+
+
+def tells_fault(log):
+    """Whether a log tells why a journal isn't on the disk."""
+    return any("journal: " in line and "are played" not in line for line in log.splitlines())
+
+
+def feels_late_sync(program, room, refuses):
+    """With --sync second: a sync that fails is told at once, and ends the server before its next reply."""
+    file = os.path.join(room, "late")
+    server = journaled(program, file, "--sync", "second", preloaded=refuses, ONLY="fdatasync", FAILED=2, UNTIL=99)
+    with server.connect() as stream:
+        lines = stream.makefile("rb")
+        time.sleep(1.5)
+        stream.sendall(b"0 0\n")
+        need(lines.readline() == b"ok\n", "a session")
+        until = time.monotonic() + 60
+        while not tells_fault(server.told()):
+            need(time.monotonic() < until, f"a sync that failed isn't told: {server.told()}")
+            time.sleep(0.01)
+        # what it tells is also noted then
+        time.sleep(0.5)
+        stream.sendall(b"begin\n")
+        need(lines.readline() == b"", "a reply behind a sync that failed")
+    status, _, log = server.end()
+    told = [line for line in log.splitlines() if "calls on files" not in line]
+    need(status == 1 and told[-1] == "fault: journal failed" and tells_fault(log), f"a sync that failed: {status}, {log[-400:]}")
+
+
+def settles_a_run(program, room, refuses):
+    """With --sync second a run syncs what it wrote before it ends, and fails where that sync does."""
+    lines = b"0 0 open\n0 0 create table t (a int)\n0 0 begin\n0 0 insert into t values (1)\n0 0 commit\n"
+    for name, refused in (("settled", {}), ("unsettled", {"ONLY": "fdatasync", "FAILED": "1"})):
+        file, noted = os.path.join(room, name), os.path.join(room, f"noted-{name}")
+        environment = {**os.environ, "LD_PRELOAD": refuses, "NOTED": noted, **refused}
+        words = [program, "run", "--tenants", "1", "--journal", file, "--sync", "second"]
+        ran = subprocess.run(words, input=lines, capture_output=True, env=environment)
+        need(ran.returncode == (1 if refused else 0), f"a run with --sync second, {name}: status {ran.returncode}")
+        need((b"fault: journal failed" in ran.stderr) == bool(refused), f"a run with --sync second, {name}: {ran.stderr!r}")
+        if not refused:
+            syncs, writes = syncs_in(noted)
+            need(syncs and writes and syncs[-1] >= writes[-1], f"a run's last sync: {syncs}, its last write: {writes[-1:]}")
+
+
+def share_bounds_file(program, room):
+    """With --tenant-memory a tenant writes no more than its share, also over several starts; others go on."""
+    file, share, long = os.path.join(room, "share"), 1 << 20, "select " + "x" * 4000
+    for start in range(3):
+        server = journaled(program, file, "--sync", "never", "--tenant-memory", "1")
+        greedy, other = Client(server, 0, start, [long] * 400), Client(server, 1, start, ["begin", "rollback"])
+        greedy.run()
+        size = os.path.getsize(file)
+        need(size < share and greedy.answers == 401 - 400 * (start > 0), f"start {start}: {size} bytes, {greedy.answers} answers")
+        other.run()
+        need(len(other.answered) == 3, f"start {start}: beside a tenant that has taken its share: {other.answered}")
+        need(server.end()[0] == 0, "a server with shares")
+    return size
+
+
+def fault(ended):
+    status, out, log = ended
+    need(status == 1 and out == "", f"status {status}, {out}, {log}")
+    return log.splitlines()[-1], "\n".join(log.splitlines()[:-1])
+
+
+def cannot_be(program, room):
+    file, other = os.path.join(room, "one"), os.path.join(room, "other")
+    server = journaled(program, file)
+    client = Client(server, 0, 0, ["create table t (a int)"])
+    client.start()
+    client.join()
+
+    def refuses(why, path, *words, **shape):
+        told, log = fault(journaled(program, path, *words, **shape).end())
+        need(told == "fault: cannot open journal" and why in log, f"{path}, {words}, {shape}: {told}, {log}")
+
+    for words, shape in ((("--bound", "7"), {}), ((), {"tenants": 15}), ((), {})):
+        refuses("another server has it open", file, *words, **shape)
+    need(server.end()[0] == 0, "a server beside whom others were refused")
+    refuses("it has another bound on considerations", file, "--bound", "7")
+    refuses("it has another number of tenants", file, tenants=15)
+    with open(file, "rb") as whole:
+        data = whole.read()
+    for why, begins in (("it is no journal of this version", data[:12] + b"2" + data[13:]), ("it is damaged", b"\x01\xff" + data)):
+        with open(other, "wb") as written:
+            written.write(begins)
+        refuses(why, other)
+        with open(other, "rb") as left:
+            need(left.read() == begins, f"{why}, and it is another file")
+    refuses("Is a directory", room)
+    os.mkfifo(os.path.join(room, "pipe"))
+    refuses("it is no file", os.path.join(room, "pipe"))
+    refuses("No such file", room + "/none/one")
+    need(states(program, file, room)[0] == "create table t (a int)\n", "a file that others couldn't open")
+
+
+def full_disk(program, room):
+    file = os.path.join(room, "full")
+    server = journaled(program, file, limit=4000)
+    client = Client(server, 0, 0, ["create table t (a int, b text)"] + ["begin", f"insert into t values (1, '{'x' * 200}')", "commit"] * 30)
+    client.start()
+    client.join()
+    told, log = fault((lambda ended: (ended[0], "", ended[2]))(server.end()))
+    need(told == "fault: journal failed" and log, f"a full disk: {told}, {log}")
+    found = are_records(file, [client])
+    need(states(program, file, room) == states_of(program, found, room), "a full disk: another state behind it")
+    return len(client.answered)
+
+
+def main():
+    parser = argparse.ArgumentParser(description=__doc__, formatter_class=argparse.RawDescriptionHelpFormatter)
+    parser.add_argument("program", nargs="?", default=BUILT)
+    parser.add_argument("--kills", type=int, default=12)
+    parser.add_argument("--cuts", type=int, default=60)
+    parser.add_argument("--each", action="store_true")
+    parser.add_argument("--calls", type=int, default=40)
+    parser.add_argument("--requests", type=int, default=60)
+    parser.add_argument("--seed", type=int, default=1)
+    asked = parser.parse_args()
+    program = os.path.abspath(asked.program)
+    with tempfile.TemporaryDirectory() as room:
+        answered, kept, file = survives_kills(program, room, asked.kills, asked.seed)
+        print(f"{asked.kills} kills: {answered} lines were answered, and all are there; {kept} records")
+        parts, others, refused = survives_cuts(program, room, file, asked.cuts, asked.each, asked.seed)
+        print(f"{parts} parts of a file: a first part of the records is found")
+        print(f"{others} that were written over behind it: a first part is found, or what they look like; {refused} were refused")
+        refuses = library("refuse_disk", room)
+        waited = lacks_memory(program, room, asked.requests)
+        print(f"{asked.requests} requests for memory are refused in turn: what was answered is there; {waited} times replies waited for a record's")
+        for sync in ("always", "second"):
+            ended = fails_well(program, room, refuses, asked.calls, sync)
+            print(f"--sync {sync}: each of {asked.calls} calls on files fails in turn: {ended} ended the server, and what it answered is there")
+        print(f"--sync second: {trial(syncs_by_seconds, program, room, refuses)} syncs in 7 seconds, a second apart, the last behind the last line")
+        trial(feels_late_sync, program, room, refuses)
+        settles_a_run(program, room, refuses)
+        cannot_be(program, room)
+        print(f"--tenant-memory 1: a greedy tenant's part of the file is {share_bounds_file(program, room)} bytes over three starts")
+        print(f"a full disk ends the server behind {full_disk(program, room)} answers, and they are there")
+
+
+if __name__ == "__main__":
+    main()

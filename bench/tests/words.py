@@ -1,0 +1,306 @@
+#!/usr/bin/env python3
+"""Tries the words of a command line, the faults that end the program, and what a terminal is told.
+
+    python3 -m bench.tests.words [PROGRAM]
+
+PROGRAM is crates/starhost/out/starhost where no word is given. The first answer that isn't as it is to be ends this
+with status 1.
+"""
+
+import dataclasses
+import os
+import pathlib
+import re
+import select
+import signal
+import subprocess
+import sys
+import tty
+
+from bench.harness import program_of
+
+HELP = pathlib.Path(__file__).resolve().parent / "help.txt"
+
+# What stands behind each reason why words are refused.
+ALLOWED = (
+    b"; allowed are: run, serve, replay, parse, dump, compact OLD NEW, key; of all but parse and key --tenants 1 "
+    b"to 256, --bound 1 to 1000; of run and serve --load a folder, --journal a file but not with --load, --sync "
+    b"always, second or never with --journal; of dump --tenant 0 to 255, or --into a folder; of serve and replay "
+    b"--cells 1 to 16, --workers 1 to 16; of serve --port 0 to 65535, --connections 0 to 1000000, --idle 0 to 86400, "
+    b"--idle-transaction 0 to 86400, --first-tenant 0 to 999999000, --tenant-memory 0 to 1048576, --log error, "
+    b"warning or info, --slow 0 to 86400000, --until-input-ends, --dump-to a folder, --keys a file, --status 0 to 65535; "
+    b"--help, --version\n"
+)
+
+# A number past its range, and the words in front of it.
+PAST = [
+    ("--tenants 0", "run"),
+    ("--tenants 257", ""),
+    ("--bound 0", "replay"),
+    ("--bound 1001", "run"),
+    ("--cells 0", "serve"),
+    ("--cells 17", "replay"),
+    ("--workers 0", "replay"),
+    ("--workers 17", "serve"),
+    ("--port 65536", "serve"),
+    ("--connections 1000001", "serve"),
+    ("--idle 86401", "serve"),
+    ("--idle x", "serve"),
+    ("--idle-transaction 86401", "serve"),
+    ("--first-tenant 999999001", "serve"),
+    ("--tenant-memory 1048577", "serve"),
+    ("--log warn", "serve"),
+    ("--status 65536", "serve"),
+    ("--slow 86400001", "serve"),
+    ("--tenants 4294967297", "run"),
+    ("--tenants 01x", "run"),
+    ("--tenant 256", "dump"),
+    ("--tenant x", "dump"),
+    ("--tenants 0", "dump"),
+]
+
+# An option of another command.
+ELSEWHERE = [
+    ("--cells 2", "run"),
+    ("--workers 2", ""),
+    ("--port 1", "run"),
+    ("--port 1", "replay"),
+    ("--connections 1", "replay"),
+    ("--idle 1", "run"),
+    ("--until-input-ends", ""),
+    ("--idle-transaction 1", "replay"),
+    ("--first-tenant 1", ""),
+    ("--tenant-memory 1", "run"),
+    ("--status 0", "run"),
+    ("--slow 1", "replay"),
+    ("--log info", "run"),
+    ("--tenants 2", "parse"),
+    ("--cells 2", "parse"),
+    ("--log info", "parse"),
+    ("--tenant 0", "run"),
+    ("--tenant 0", ""),
+    ("--tenant 0", "serve"),
+    ("--tenant 0", "replay"),
+    ("--tenant 0", "parse"),
+    ("--load x", "replay"),
+    ("--load x", "parse"),
+    ("--load x", "dump"),
+    ("--dump-to x", "run"),
+    ("--dump-to x", "replay"),
+    ("--dump-to x", "parse"),
+    ("--dump-to x", "dump"),
+    ("--into x", "run"),
+    ("--into x", ""),
+    ("--into x", "serve"),
+    ("--into x", "replay"),
+    ("--into x", "parse"),
+    ("--into x", "dump --tenant 0"),
+    ("--journal x", "run --load y"),
+    ("--journal x", "replay"),
+    ("--journal x", "dump"),
+    ("--journal x", "serve --load y"),
+    ("--sync always", "replay"),
+    ("--sync always", "serve"),
+    ("--sync second", "run"),
+    ("--sync often", "serve --journal x"),
+    ("--sync seconds", "run --journal x"),
+    ("--keys x", "run"),
+    ("--keys x", "key"),
+    ("--tenants 2", "key"),
+    ("--cells 2", "compact x y"),
+    ("--load x", "compact x y"),
+    ("--tenant 0", "serve --load x"),
+    ("--cells 2", "dump"),
+    ("--port 1", "dump"),
+    ("--log info", "dump"),
+]
+
+# Words that clap refuses, with its reason.
+UNREAD = [
+    ("run x y z", "unexpected argument 'z' found"),
+    ("serve --port -1", "unexpected argument '-1' found"),
+    ("--nix", "unexpected argument '--nix' found"),
+    ("--bound", "a value is required for '--bound <bound>' but none was supplied"),
+    ("--bound 1 --bound 2", "the argument '--bound <bound>' cannot be used multiple times"),
+    ("--help=3", "unexpected value '3' for '--help' found; no more were expected"),
+]
+
+# The greatest numbers and the least.
+AT_THE_ENDS = [
+    "run --tenants 256 --bound 1000",
+    "run --tenants 1 --bound 1",
+    "replay --tenants 256 --bound 1000 --cells 16 --workers 16",
+    "replay --tenants 1 --bound 1 --cells 1 --workers 1",
+]
+SERVED_AT_THE_ENDS = [
+    "serve --port 0 --connections 1000000 --idle 86400 --idle-transaction 86400",
+    "serve --connections 0 --idle 0 --idle-transaction 0 --until-input-ends",
+    "serve --first-tenant 999999000 --tenant-memory 1048576 --log error",
+    "serve --first-tenant 0 --tenant-memory 0 --log info --slow 0",
+    "serve --slow 86400000",
+]
+
+# A session whose lines have three refusals.
+LINES = b"0 0 open\n0 0 selec\n0 9 open\nx\n0 0 end"
+REPLIES = b"0 0 ok\n0 0 no 10 Syntax\n0 9 no 14 NoSession\n- - no 12 BadLine\n0 0 ok\n"
+SUMMARY = b"lines 5, steps 3, no 10 Syntax: 1, no 12 BadLine: 1, no 14 NoSession: 1\n"
+
+# Two sessions of two tenants.
+SCRIPT = b"0 0 create table t (a int)\n1 0 create table t (b text)\n1 0 begin\n0 0 begin\n0 0 commit\n"
+REPLAYED = b"0 0 ok\n0 0 ok\n0 0 done 0\n1 0 ok\n1 0 ok\ntrails 2 steps 9\n"
+
+
+# Lines, each with what is told of it as a command.
+PARSED = [
+    (b"begin", b"ok"),
+    (b"select * from", b"syntax 14"),
+    (b"", b"syntax 1"),
+    (b"insert into t values (1", b"syntax 24"),
+    (b"x" * 5000, b"too long"),
+    (b"a" * 4096, b"syntax 1"),
+    (b"begin" + b" " * 4091, b"ok"),
+    (b"begin" + b" " * 4092, b"too long"),
+]
+
+
+@dataclasses.dataclass
+class Ended:
+    status: int
+    out: bytes
+    errors: bytes
+
+
+class Program:
+    def __init__(self, path):
+        self.path = path
+        self.count = 0
+
+    def run(self, words, text=b"", stdin=None, stdout=subprocess.PIPE):
+        """Runs it to its end."""
+        given = {"input": text} if stdin is None else {"stdin": stdin}
+        ended = subprocess.run([self.path, *words.split()], stdout=stdout, stderr=subprocess.PIPE, timeout=120, **given)
+        return Ended(ended.returncode, ended.stdout or b"", ended.stderr)
+
+    def at_terminal(self, words, text, stdout=subprocess.PIPE):
+        """The same with a terminal for standard error."""
+        shown, terminal = os.openpty()
+        tty.setraw(terminal)
+        ended = subprocess.run([self.path, *words.split()], input=text, stdout=stdout, stderr=terminal, timeout=120)
+        os.set_blocking(shown, False)
+        try:
+            told = os.read(shown, 65536)
+        except OSError:
+            told = b""
+        os.close(terminal)
+        os.close(shown)
+        return Ended(ended.returncode, ended.stdout or b"", told)
+
+    def listens(self, words):
+        """Whether a server with these words tells its port."""
+        with subprocess.Popen([self.path, *words.split()], stdin=subprocess.PIPE, stdout=subprocess.PIPE, stderr=subprocess.DEVNULL) as run:
+            told = run.stdout.readline()
+            run.send_signal(signal.SIGKILL)
+        return told.startswith(b"listening ")
+
+    def expect(self, what, ended, wanted):
+        self.count += 1
+        if ended != wanted:
+            sys.exit(f"wrong: {what}: {ended} in place of {wanted}")
+
+
+def are_refused(program):
+    for number, command in PAST + ELSEWHERE:
+        words = f"{command} {number}"
+        program.expect(words, program.run(words), Ended(2, b"", f"error: {number} isn't allowed".encode() + ALLOWED))
+    # the first part in the order of the options is told, whatever stands first in the line
+    words = "replay --workers x --cells 0"
+    program.expect(words, program.run(words), Ended(2, b"", b"error: --cells 0 isn't allowed" + ALLOWED))
+    for words in ("serve x", "key x y", "x", "compact", "compact x"):
+        told = words.split()[0] if words in ("x", "compact", "compact x") else "x"
+        wanted = f"error: the word {told} isn't allowed".encode() + ALLOWED
+        program.expect(words, program.run(words), Ended(2, b"", wanted))
+    program.expect("serves", program.run("serves"), Ended(2, b"", b"error: the word serves isn't allowed" + ALLOWED))
+    for words, why in UNREAD:
+        program.expect(words, program.run(words), Ended(2, b"", f"error: {why}".encode() + ALLOWED))
+
+
+def are_taken(program):
+    for words in AT_THE_ENDS:
+        tenants = int(words.split()[2])
+        out = f"trails {tenants} steps 0\n".encode() if words.startswith("replay") else b""
+        program.expect(words, program.run(words), Ended(0, out, b""))
+    for words in SERVED_AT_THE_ENDS:
+        program.expect(words, program.listens(words), True)
+
+
+def are_answered(program):
+    with open(HELP, "rb") as file:
+        told = file.read()
+    for words, out in [("--help", told), ("-h", told), ("--version", b"starhost 0.1\n"), ("-V", b"starhost 0.1\n")]:
+        program.expect(words, program.run(words, LINES), Ended(0, out, b""))
+
+
+def faults_are_told(program):
+    folder = os.open(HELP.parent, os.O_RDONLY)
+    program.expect("read failed", program.run("run", stdin=folder), Ended(1, b"", b"fault: read failed\n"))
+    program.expect("read failed, of a replay", program.run("replay", stdin=folder), Ended(1, b"", b"fault: read failed\n"))
+    os.close(folder)
+    with open("/dev/full", "wb") as full:
+        ended = program.at_terminal("run", b"0 0 open\n", stdout=full)
+        program.expect("write failed", ended, Ended(1, b"", b"lines 1, steps 1\nfault: write failed\n"))
+        ended = program.run("replay", SCRIPT, stdout=full)
+        program.expect("write failed, of a replay", ended, Ended(1, b"", b"fault: write failed\n"))
+    ended = program.run("replay --tenants 1", b"0 0 begin\n1 0 begin\n")
+    # behind the level and the time of a line of the log
+    ended.errors = re.sub(rb"^\[.*?Z ", b"", ended.errors)
+    program.expect("bad line", ended, Ended(1, b"", b"bad line 2: NoTenant\nfault: bad line 2\n"))
+
+
+def terminals_have_summaries(program):
+    program.expect("a terminal", program.at_terminal("run", LINES), Ended(0, REPLIES, SUMMARY))
+    program.expect("no terminal", program.run("run", LINES), Ended(0, REPLIES, b""))
+
+
+def replies_come_at_once(program):
+    """A reply is flushed before the next line is read."""
+    with subprocess.Popen([program.path, "run"], stdin=subprocess.PIPE, stdout=subprocess.PIPE, bufsize=0) as run:
+        for line, reply in [(b"0 0 open\n", b"0 0 ok\n"), (b"0 0 selec\n", b"0 0 no 10 Syntax\n"), (b"0 0 begin\n", b"0 0 ok\n")]:
+            run.stdin.write(line)
+            is_there = select.select([run.stdout], [], [], 60)[0]
+            program.expect(f"the reply to {line}", run.stdout.read(100) if is_there else b"", reply)
+        run.stdin.close()
+
+
+def lines_are_parsed(program):
+    text = b"".join(line + b"\n" for line, _ in PARSED)
+    told = b"".join(told + b"\n" for _, told in PARSED)
+    program.expect("parse", program.run("parse", text), Ended(0, told, b""))
+
+
+def replays_are_alike(program):
+    for workers in (1, 2, 16):
+        words = f"replay --tenants 2 --cells 2 --workers {workers}"
+        program.expect(words, program.run(words, SCRIPT), Ended(0, REPLAYED, b""))
+
+
+PARTS = [
+    are_refused,
+    are_taken,
+    are_answered,
+    faults_are_told,
+    terminals_have_summaries,
+    replies_come_at_once,
+    replays_are_alike,
+    lines_are_parsed,
+]
+
+
+def main():
+    program = Program(program_of(sys.argv[1:]))
+    for part in PARTS:
+        part(program)
+    print(f"words of a command line: {program.count} answers are as they are to be")
+
+
+if __name__ == "__main__":
+    main()
