@@ -1,7 +1,7 @@
 //! All rulesets of a tenant.
 ghost use Rattle.std.specs.Map.Iter.{deref_pair};
 ghost use Rattle.std.specs.Prelude.{◌≡◌, [], length, option_map, slice_get, IsTrue, IsFalse, map, unwrap_or, slice_set, false, OnOk, IfErr, OnErr};
-ghost use Rattle.sb_rulesets.specs.Members.{changed_members};
+ghost use Rattle.sb_rulesets.specs.Members.{changed_members, with_rules, without_rules};
 ghost use Rattle.sb_rulesets.specs.Sets.{has_name, create_refusal, created, without_set, changed, without_rule, members_of};
 ghost use Rattle.sb_rulesets.specs.Distinct.{AreDistinct};
 
@@ -98,6 +98,26 @@ impl Rulesets {
             }
             None => Err(Refusal::NoRuleset),
         }
+    }
+
+    /// Adds the rules to the ruleset of that name.
+    pub fn add_rules(&mut self, name: &Name, rules: &[RuleId]) -> Result<(), Refusal>
+        ensures known { OnOk result (IsTrue (has_name self.old name.now)) }
+        ensures added { OnOk result (self.new ≡ changed (λ set. with_rules set rules.now) self.old name.now) }
+        ensures refused { IfErr result (λ e. (e ≡ Refusal.NoRuleset) × IsFalse (has_name self.old name.now)) }
+        ensures unchanged { OnErr result (self.new ≡ self.old) }
+    {
+        self.change_members(name, MemberChange::Added, rules)
+    }
+
+    /// Takes the rules out of the ruleset of that name.
+    pub fn del_rules(&mut self, name: &Name, rules: &[RuleId]) -> Result<(), Refusal>
+        ensures known { OnOk result (IsTrue (has_name self.old name.now)) }
+        ensures taken { OnOk result (self.new ≡ changed (λ set. without_rules set rules.now) self.old name.now) }
+        ensures refused { IfErr result (λ e. (e ≡ Refusal.NoRuleset) × IsFalse (has_name self.old name.now)) }
+        ensures unchanged { OnErr result (self.new ≡ self.old) }
+    {
+        self.change_members(name, MemberChange::Taken, rules)
     }
 
     /// Takes the rule out of every ruleset.

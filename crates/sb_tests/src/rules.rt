@@ -3,7 +3,7 @@
 use crate::changes::insert;
 use crate::mark::mark;
 use crate::schema::rule_parts;
-use sb_catalog::{Catalog, MemberChange, RuleIndex, Rulesets};
+use sb_catalog::{Catalog, RuleIndex, Rulesets};
 use sb_locks::Locks;
 use sb_value::{Change, Columns, LockMode, Name, RuleId, SessionId, TableId, TenantId, Triggers};
 use std::process::Abort;
@@ -40,22 +40,14 @@ fn has_rule(sets: &Rulesets, name: &Name, rule: RuleId) -> bool {
 fn change_set(rt: &impl Abort, sets: &mut Rulesets, name: &Name, first: RuleId, second: RuleId) {
     mark();
     let rules = [first, second];
-    assert!(rt;
-        sets.change_members(name, MemberChange::Added, &rules)
-            .is_ok()
-    );
+    assert!(rt; sets.add_rules(name, &rules).is_ok());
     sets.drop_rule(first);
     assert!(rt; has_rule(sets, name, second) && !has_rule(sets, name, first));
-    assert!(rt;
-        sets.change_members(name, MemberChange::Taken, &rules)
-            .is_ok()
-    );
+    assert!(rt; sets.del_rules(name, &rules).is_ok());
     assert!(rt; !has_rule(sets, name, second));
     assert!(rt; sets.drop_set(name).is_ok() && !sets.has(name));
-    assert!(rt;
-        sets.change_members(name, MemberChange::Added, &rules)
-            .is_err()
-    );
+    assert!(rt; sets.add_rules(name, &rules).is_err());
+    assert!(rt; sets.del_rules(name, &rules).is_err());
     mark();
 }
 
