@@ -1,1 +1,3 @@
+pub mod Markup
 pub mod Targets
+pub mod Traced

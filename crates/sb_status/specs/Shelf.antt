@@ -1,11 +1,12 @@
 -- Promise: what was shown last is shown again, with an age.
-use Rattle.std.specs.Prelude.{◌≡◌, ◌+◌, ◌-◌, ◌^◌, min, ℕ, Option, None, Some, slice_get}
+use Rattle.std.specs.Prelude.{◌≡◌, ◌+◌, ◌-◌, ◌^◌, min, ℕ, Option, None, Some, IfSome, slice_get}
 use Rattle.std.specs.Option.{option_flatten}
 use Rattle.sb_status.specs.declared.view.TenantNumbers.{TenantNumbers}
 use Rattle.sb_status.specs.declared.view.TenantView.{TenantView}
 use Rattle.sb_status.specs.declared.shelf.TakenNumbers.{TakenNumbers}
 use Rattle.sb_status.specs.declared.shelf.TakenView.{TakenView}
 use Rattle.sb_status.specs.declared.shelf.Shelf.{Shelf}
+use Rattle.sb_status.specs.Viewing.{IsViewAt}
 
 -- what is kept of the numbers of the tenant at a place
 abbrev pub kept_at : Shelf → ℕ → Option TakenNumbers
@@ -20,13 +21,20 @@ abbrev pub AreAgain : Shelf → ℕ → ℕ → TenantNumbers → Type 0
 AreAgain shelf place now numbers =
     (kept : TakenNumbers) × (kept_at shelf place ≡ Some kept) × (numbers ≡ record kept.numbers { age = Some (age_at kept.taken now) })
 
--- what the tenant was that was looked at last, and no other one, is shown with its age
-abbrev pub IsAgain : Option TakenView → ℕ → ℕ → TenantView → Type 0
-IsAgain None place now view = ⊥
-IsAgain (Some seen) place now view =
-    (seen.place ≡ place) × (view ≡ record seen.view { numbers = record seen.view.numbers { age = Some (age_at seen.taken now) } })
+-- what a tenant was, with its age
+abbrev pub aged : ℕ → TakenView → TakenView
+aged now seen = record seen { view = record seen.view { numbers = record seen.view.numbers { age = Some (age_at seen.taken now) } } }
+
+-- the tenant that was looked at last, and no other one, was so
+abbrev pub IsAgain : Option TakenView → ℕ → TenantView → Type 0
+IsAgain None place view = ⊥
+IsAgain (Some seen) place view = (seen.place ≡ place) × (view ≡ seen.view)
 
 -- it isn't the one at this place
 abbrev pub IsUnseen : Option TakenView → ℕ → Type 0
 IsUnseen None place = Unit {0}
 IsUnseen (Some seen) place = seen.place ≡ place → ⊥
+
+-- where the host's first tenant has this number, what is kept of a tenant is what the one at its place was
+abbrev pub IsShelfOf : ℕ → Shelf → Type 0
+IsShelfOf first shelf = IfSome shelf.seen (λ seen. IsViewAt first seen.place seen.view)

@@ -8,6 +8,7 @@ use Rattle.sb_tenant.specs.Limits.{session_count}
 use Rattle.sb_tenant.specs.State.{Session, has_transaction, is_open, session_at}
 use Rattle.sb_tenant.specs.Tenant.{Tenant, state}
 use Rattle.sb_status.specs.Counting.{AreNumbersOf}
+use Rattle.sb_status.specs.Tracing.{HaveLinesOf}
 use Rattle.sb_status.specs.declared.viewing.Viewing.{Viewing}
 
 -- how a session stands
@@ -32,6 +33,15 @@ IsCopyOf first own found = (view : TenantView) × (found ≡ Some view) × IsVie
 abbrev pub Copies : Viewing → Tenant → Viewing → Type 0
 Copies old own new = IfOk new.view (IsCopyOf old.first_tenant own)
 
--- what is found is what a tenant of this number was
+-- a tenant of this number was so, and the lines of the rules are its own
+abbrev pub IsViewAt : ℕ → ℕ → TenantView → Type 0
+IsViewAt first t view = (own : Tenant) × (own.id ≡ t) × IsViewOf first own view × HaveLinesOf t view.rules.items
+
+-- what is found is that
 abbrev pub IsFoundView : ℕ → ℕ → Option TenantView → Type 0
-IsFoundView first t found = IfSome found (λ view. (own : Tenant) × (own.id ≡ t) × IsViewOf first own view)
+IsFoundView first t found = IfSome found (IsViewAt first t)
+
+-- how old last lines are may change, and nothing else
+pub record OnlyAges (old new : List SessionView) : Type 0 where
+  pub all : length new ≡ length old
+  pub states : (s : ℕ) (d : SessionView) → (slice_index_or new s d).state ≡ (slice_index_or old s d).state

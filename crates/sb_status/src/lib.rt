@@ -36,7 +36,7 @@ pub use credentials::Credentials;
 pub use fragment::Fragment;
 pub use graph::Graph;
 pub use host::host_page;
-pub use laws::texts_are_no_markup;
+pub use laws::{markup_stands_in_marks, texts_are_no_markup};
 pub use mark::Mark;
 pub use nodes::Nodes;
 pub use patience::Patience;

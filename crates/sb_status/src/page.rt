@@ -1,6 +1,8 @@
 //! A page that is being written.
-ghost use Rattle.std.specs.Prelude.{IfOk};
-ghost use Rattle.sb_status.specs.Pages.{IsPage};
+ghost use Rattle.std.specs.Prelude.{◌≡◌, ◌++◌, ◌∷◌, [], IfOk, OnOk};
+ghost use Rattle.sb_status.specs.Pages.{rendered};
+ghost use Rattle.sb_status.specs.TenantPages.{counted};
+ghost use Rattle.sb_status.specs.declared.fragment.Fragment.TheVariants as piece;
 
 use crate::fragment::{Fragment, render};
 use crate::mark::Mark;
@@ -19,13 +21,17 @@ impl<'a> Drop for Page<'a> {
 }
 
 impl<'a> Page<'a> {
-    pub(crate) fn new(alloc: Global) -> Page<'a> {
+    pub(crate) fn new(alloc: Global) -> Page<'a>
+        ensures { result.pieces.items ≡ [] }
+    {
         Page {
             pieces: Vec::new(alloc),
         }
     }
 
-    pub(crate) fn mark(&mut self, mark: Mark) -> Result<(), AllocError> {
+    pub(crate) fn mark(&mut self, mark: Mark) -> Result<(), AllocError>
+        ensures { OnOk result (self.new.pieces.items ≡ self.old.pieces.items ++ piece.Mark mark ∷ []) }
+    {
         self.pieces.push(Fragment::Mark(mark))?;
         Ok(())
     }
@@ -35,19 +41,25 @@ impl<'a> Page<'a> {
         Ok(())
     }
 
-    pub(crate) fn number(&mut self, number: u64) -> Result<(), AllocError> {
+    pub(crate) fn number(&mut self, number: u64) -> Result<(), AllocError>
+        ensures { OnOk result (self.new.pieces.items ≡ self.old.pieces.items ++ piece.Number number ∷ []) }
+    {
         self.pieces.push(Fragment::Number(number))?;
         Ok(())
     }
 
     /// A mark and a number behind it.
-    pub(crate) fn count(&mut self, mark: Mark, number: u64) -> Result<(), AllocError> {
+    pub(crate) fn count(&mut self, mark: Mark, number: u64) -> Result<(), AllocError>
+        ensures { OnOk result (self.new.pieces.items ≡ self.old.pieces.items ++ piece.Mark mark ∷ piece.Number number ∷ []) }
+    {
         self.mark(mark)?;
         self.number(number)
     }
 
     /// Marks, each with a number behind it.
-    pub(crate) fn counts(&mut self, counts: &[(Mark, u64)]) -> Result<(), AllocError> {
+    pub(crate) fn counts(&mut self, counts: &[(Mark, u64)]) -> Result<(), AllocError>
+        ensures { OnOk result (self.new.pieces.items ≡ self.old.pieces.items ++ counted counts.now) }
+    {
         for (mark, number) in counts {
             self.count(*mark, *number)?;
         }
@@ -76,9 +88,18 @@ impl<'a> Page<'a> {
         Ok(())
     }
 
+    /// The pieces of another page, behind those so far.
+    pub(crate) fn append(&mut self, other: Page<'a>) -> Result<(), AllocError>
+        ensures { OnOk result (self.new.pieces.items ≡ self.old.pieces.items ++ other.entry.pieces.items) }
+    {
+        let Page { mut pieces } = other;
+        self.pieces.append(&mut pieces)?;
+        Ok(())
+    }
+
     /// The bytes of all pieces.
     pub(crate) fn render(&self, alloc: Global, escaping: Escaping) -> Result<Vec<u8>, AllocError>
-        ensures { IfOk result (λ page. IsPage escaping page.items) }
+        ensures { IfOk result (λ page. page.items ≡ rendered escaping self.now.pieces.items) }
     {
         render(alloc, escaping, self.pieces.as_slice())
     }

@@ -97,10 +97,10 @@ fn write_others<'v>(
     Ok(())
 }
 
-/// Writes the lines that made a rule.
+/// Writes the lines that made a rule, the oldest first.
 fn write_lines<'v>(page: &mut Page<'v>, lines: &'v [Vec<u8>]) -> Result<(), AllocError> {
     page.mark(Mark::LinesBegin)?;
-    for line in lines {
+    for line in lines.iter().rev() {
         page.text(line.as_slice())?;
         page.mark(Mark::NewLine)?;
     }

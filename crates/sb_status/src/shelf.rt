@@ -1,6 +1,7 @@
 //! What pages showed last, for tenants that are busy.
-ghost use Rattle.std.specs.Prelude.{◌≡◌, None, Some, IfOk, MatchOption, replicate, slice_set};
-ghost use Rattle.sb_status.specs.Shelf.{AreAgain, IsAgain, IsUnseen, age_at, kept_at};
+ghost use Rattle.std.specs.Prelude.{◌≡◌, None, Some, IfOk, IfSome, MatchOption, option_map, replicate, slice_set, ℕ};
+ghost use Rattle.sb_status.specs.Shelf.{AreAgain, IsAgain, IsShelfOf, IsUnseen, age_at, aged, kept_at};
+ghost use Rattle.sb_status.specs.Viewing.{IsViewAt};
 
 use crate::view::{TenantNumbers, TenantView};
 use std::alloc::{AllocError, Global};
@@ -38,7 +39,8 @@ impl Drop for Shelf {
 impl Shelf {
     /// Nothing of so many tenants.
     pub fn new(alloc: Global, tenants: u32) -> Result<Shelf, AllocError>
-        ensures { IfOk result (λ shelf. (shelf.numbers.items ≡ replicate tenants None) × (shelf.seen ≡ None)) }
+        ensures empty { IfOk result (λ shelf. (shelf.numbers.items ≡ replicate tenants None) × (shelf.seen ≡ None)) }
+        ensures own { IfOk result (λ shelf. (first : ℕ) → IsShelfOf first shelf) }
     {
         let mut numbers = Vec::new(alloc);
         for _place in 0..tenants {
@@ -54,6 +56,7 @@ impl Shelf {
     pub fn keep(&mut self, place: u32, numbers: TenantNumbers, taken: u64)
         ensures kept { self.new.numbers.items ≡ slice_set self.old.numbers.items place (Some (record { numbers = numbers; taken = taken })) }
         ensures seen { self.new.seen ≡ self.old.seen }
+        ensures own { (first : ℕ) → IsShelfOf first self.old → IsShelfOf first self.new }
     {
         if let Some(kept) = self.numbers.get_mut(place as usize) {
             *kept = Some(TakenNumbers { numbers, taken });
@@ -85,22 +88,31 @@ impl Shelf {
     pub fn keep_view(&mut self, place: u32, view: TenantView, taken: u64)
         ensures seen { self.new.seen ≡ Some (record { place = place; view = view; taken = taken }) }
         ensures kept { self.new.numbers ≡ self.old.numbers }
+        ensures own { (first : ℕ) → IsViewAt first place view → IsShelfOf first self.new }
     {
         self.seen = Some(TakenView { place, view, taken });
     }
 
-    /// What the tenant at this place was, with its age at this time, if it was looked at last.
-    pub fn view(&mut self, place: u32, now: u64) -> Option<&TenantView>
-        ensures { MatchOption result (IsUnseen self.old.seen place) (λ view. IsAgain self.old.seen place now view.now) }
+    /// Notes how old it is at this time what the tenant was that was looked at last.
+    pub fn tell_age(&mut self, now: u64)
+        ensures seen { self.new.seen ≡ option_map (aged now) self.old.seen }
+        ensures kept { self.new.numbers ≡ self.old.numbers }
+        ensures own { (first : ℕ) → IsShelfOf first self.old → IsShelfOf first self.new }
     {
-        let Some(seen) = &mut self.seen else {
-            return None;
-        };
-        if seen.place != place {
-            return None;
+        if let Some(seen) = &mut self.seen {
+            seen.view.numbers.age = Some(age(seen.taken, now));
         }
-        seen.view.numbers.age = Some(age(seen.taken, now));
-        Some(&seen.view)
+    }
+
+    /// What the tenant at this place was, if it was looked at last.
+    pub fn view(&self, place: u32) -> Option<&TenantView>
+        ensures last { MatchOption result (IsUnseen self.now.seen place) (λ view. IsAgain self.now.seen place view.now) }
+        ensures own { (first : ℕ) → IsShelfOf first self.now → IfSome result (λ view. IsViewAt first place view.now) }
+    {
+        match &self.seen {
+            Some(seen) if seen.place == place => Some(&seen.view),
+            _ => None,
+        }
     }
 }
 

@@ -1,7 +1,7 @@
 //! The page of a tenant.
-ghost use Rattle.std.specs.Prelude.{IfOk};
-ghost use Rattle.sb_status.specs.Pages.{IsPage};
-ghost use Rattle.sb_status.specs.declared.text.Escaping.TheVariants as escaping;
+ghost use Rattle.std.specs.Prelude.{◌≡◌, ◌++◌, ◌∷◌, [], IfOk, OnOk};
+ghost use Rattle.sb_status.specs.TenantPages.{IsPageOf, age_pieces, beginning_of, counted, numbered};
+ghost use Rattle.sb_status.specs.declared.fragment.Fragment.TheVariants as piece;
 
 use crate::mark::Mark;
 use crate::page::Page;
@@ -11,33 +11,42 @@ use crate::text::Escaping;
 use crate::view::{RulesetView, SessionState, SessionView, TableView, TenantNumbers, TenantView};
 use std::alloc::{AllocError, Global};
 
-/// Its tables, its rules with their picture, its rulesets and its sessions.
+/// Its numbers, its tables, its rules with their picture, its rulesets and its sessions.
 pub fn tenant_page(alloc: Global, view: &TenantView) -> Result<Vec<u8>, AllocError>
-    ensures { IfOk result (λ page. IsPage escaping.Html page.items) }
+    ensures { IfOk result (λ page. IsPageOf view.now page.items) }
 {
     let mut page = Page::new(alloc);
-    write(alloc, &mut page, view)?;
+    write_beginning(&mut page, view.numbers)?;
+    let mut rest = Page::new(alloc);
+    write_rest(alloc, &mut rest, view)?;
+    page.append(rest)?;
     page.render(alloc, Escaping::Html)
 }
 
-fn write<'v>(alloc: Global, page: &mut Page<'v>, view: &'v TenantView) -> Result<(), AllocError> {
+fn write_beginning(page: &mut Page<'_>, numbers: TenantNumbers) -> Result<(), AllocError>
+    ensures { OnOk result (page.new.pieces.items ≡ page.old.pieces.items ++ beginning_of numbers) }
+{
     page.mark(Mark::Head)?;
-    if let Some(seconds) = view.numbers.age {
-        page.count(Mark::OldPage, seconds)?;
-        page.mark(Mark::OldPageEnd)?;
-    }
-    write_numbers(page, view.numbers)?;
-    write_tables(page, view.tables.as_slice())?;
-    if !view.rules.is_empty() {
-        write_rules(page, view)?;
-        draw(alloc, page, view)?;
-    }
-    write_rulesets(page, view.rulesets.as_slice())?;
-    write_sessions(page, view.sessions.as_slice())?;
-    page.mark(Mark::Foot)
+    write_age(page, numbers.age)?;
+    write_numbers(page, numbers)
 }
 
-fn write_numbers(page: &mut Page<'_>, numbers: TenantNumbers) -> Result<(), AllocError> {
+fn write_age(page: &mut Page<'_>, age: Option<u64>) -> Result<(), AllocError>
+    ensures { OnOk result (page.new.pieces.items ≡ page.old.pieces.items ++ age_pieces age) }
+{
+    match age {
+        Some(seconds) => {
+            page.count(Mark::OldPage, seconds)?;
+            page.mark(Mark::OldPageEnd)
+        }
+        None => Ok(()),
+    }
+}
+
+fn write_numbers(page: &mut Page<'_>, numbers: TenantNumbers) -> Result<(), AllocError>
+    ensures { OnOk result (page.new.pieces.items
+        ≡ page.old.pieces.items ++ (counted (numbered numbers) ++ piece.Mark Mark.FactsEnd ∷ [])) }
+{
     page.counts(&[
         (Mark::TenantTitle, numbers.tenant),
         (Mark::FactSteps, numbers.steps),
@@ -49,6 +58,22 @@ fn write_numbers(page: &mut Page<'_>, numbers: TenantNumbers) -> Result<(), Allo
         (Mark::FactChanges, numbers.changes),
     ])?;
     page.mark(Mark::FactsEnd)
+}
+
+/// Writes what stands behind the numbers.
+fn write_rest<'v>(
+    alloc: Global,
+    page: &mut Page<'v>,
+    view: &'v TenantView,
+) -> Result<(), AllocError> {
+    write_tables(page, view.tables.as_slice())?;
+    if !view.rules.is_empty() {
+        write_rules(page, view)?;
+        draw(alloc, page, view)?;
+    }
+    write_rulesets(page, view.rulesets.as_slice())?;
+    write_sessions(page, view.sessions.as_slice())?;
+    page.mark(Mark::Foot)
 }
 
 fn write_tables<'v>(page: &mut Page<'v>, tables: &'v [TableView]) -> Result<(), AllocError> {

@@ -1,4 +1,7 @@
 //! The lines of a trail that made its tenant's rules.
+ghost use Rattle.std.specs.Prelude.{Contains, IfOk, ℕ};
+ghost use Rattle.sb_status.specs.Tracing.{AreFoundOf, AreLinesOf, IsLineOf, Traces};
+ghost use Rattle.sb_tenant.specs.Tenant.{Tenant as ItsTenant};
 
 use crate::patience::Patience;
 use memchr::memchr;
@@ -38,27 +41,24 @@ pub(crate) struct RuleLines {
 }
 
 impl Reading for RuleLines {
-    ghost use Rattle.std.specs.Prelude.{⊤};
-
-    ghost reads = { λ _ _ _. ⊤ };
+    ghost reads = { Traces };
 
     fn read(&mut self, tenant: &Tenant) {
-        let rules = &tenant.definitions().rules;
         for _ in 0..PIECE {
             if self.left == 0 || self.lacks_memory {
                 return;
             }
             self.left -= 1;
-            if let Some(entry) = tenant.trail().get(self.left) {
-                self.look_at(rules, entry);
-            }
+            self.look_at_next(tenant);
         }
     }
 }
 
 impl RuleLines {
     /// Nothing is found yet in a trail of so many entries.
-    pub(crate) fn new(alloc: Global, steps: usize) -> Result<RuleLines, AllocError> {
+    pub(crate) fn new(alloc: Global, steps: usize) -> Result<RuleLines, AllocError>
+        ensures { IfOk result (λ lines. (t : ℕ) → AreFoundOf t lines) }
+    {
         let mut found = Vec::new(alloc);
         for _ in 0..RULE_LIMIT {
             found.push(FoundLines {
@@ -80,12 +80,14 @@ impl RuleLines {
         patience: &mut Patience<'_, T>,
         host: H,
         tenant: u32,
-    ) -> Result<bool, AllocError> {
+    ) -> Result<bool, AllocError>
+        ensures { AreFoundOf tenant self.old → AreFoundOf tenant self.new }
+    {
         for _ in 0..self.left / PIECE + 1 {
             if self.left == 0 || self.lacks_memory {
                 break;
             }
-            if let Tried::Held = patience.read(host, tenant, self) {
+            if !self.trace_piece(patience, host, tenant) {
                 return Ok(false);
             }
         }
@@ -95,17 +97,45 @@ impl RuleLines {
         Ok(true)
     }
 
-    /// The lines of the rule with this number, the oldest first.
-    pub(crate) fn take(&mut self, number: usize) -> Vec<Vec<u8>> {
+    /// Looks at the next entries. False if the cell was busy for too long.
+    fn trace_piece<T: Clock, H: Lending>(
+        &mut self,
+        patience: &mut Patience<'_, T>,
+        host: H,
+        tenant: u32,
+    ) -> bool
+        ensures { AreFoundOf tenant self.old → AreFoundOf tenant self.new }
+    {
+        match patience.read(host, tenant, self) {
+            Tried::Held => false,
+            Tried::Read | Tried::NoTenant => true,
+        }
+    }
+
+    /// The lines of the rule with this number, the newest first.
+    pub(crate) fn take(&mut self, number: usize) -> Vec<Vec<u8>>
+        ensures taken { (t : ℕ) → AreFoundOf t self.old → AreLinesOf t result.items }
+        ensures left { (t : ℕ) → AreFoundOf t self.old → AreFoundOf t self.new }
+    {
         let Some(found) = self.found.get_mut(number) else {
             return Vec::new(self.alloc);
         };
-        found.lines.as_mut_slice().reverse();
         mem::replace(&mut found.lines, Vec::new(self.alloc))
     }
 
+    /// Keeps the line of the next entry if that made a rule that there is.
+    fn look_at_next(&mut self, tenant: &Tenant)
+        ensures { Traces self.old tenant.now self.new }
+    {
+        if let Some(entry) = tenant.trail().get(self.left) {
+            self.look_at(&tenant.definitions().rules, entry);
+        }
+    }
+
     /// Keeps the line of an entry if it created or altered a rule that there is.
-    fn look_at(&mut self, rules: &Catalog, entry: &Entry) {
+    fn look_at(&mut self, rules: &Catalog, entry: &Entry)
+        ensures { (own : ItsTenant) → Contains own.trail entry.now → AreFoundOf own.id self.old → AreFoundOf own.id self.new }
+    {
         let Reply::Ok = &entry.reply else {
             return;
         };
@@ -126,7 +156,9 @@ impl RuleLines {
 
 impl FoundLines {
     /// Adds an older line, unless it is of an earlier rule of the name, or there are too many.
-    fn add(&mut self, alloc: Global, line: &[u8], creates: bool) -> Result<(), AllocError> {
+    fn add(&mut self, alloc: Global, line: &[u8], creates: bool) -> Result<(), AllocError>
+        ensures { (t : ℕ) → IsLineOf t line.now → AreLinesOf t self.old.lines.items → AreLinesOf t self.new.lines.items }
+    {
         if self.is_whole {
             return Ok(());
         }

@@ -175,7 +175,7 @@ pub struct RuleView {
     pub table: Vec<u8>,
     pub triggers: TriggersView,
     pub is_active: bool,
-    /// The lines that made it what it is.
+    /// The lines that made it what it is, the newest first.
     pub lines: Vec<Vec<u8>>,
 }
 

@@ -1,8 +1,9 @@
 //! What a tenant is, copied within the lock of its cell.
-ghost use Rattle.std.specs.Prelude.{◌≡◌, IfOk};
+ghost use Rattle.std.specs.Prelude.{◌≡◌, IfOk, IfSome, ℕ};
 ghost use Rattle.sb_tenant.specs.Limits.{session_count};
 ghost use Rattle.sb_tenant.specs.State.{session_at};
-ghost use Rattle.sb_tenant.specs.Tenant.{state};
+ghost use Rattle.sb_tenant.specs.Tenant.{Tenant as ItsTenant, state};
+ghost use Rattle.sb_status.specs.Tracing.{AreFoundOf, HaveLinesOf};
 ghost use Rattle.sb_status.specs.Viewing.{AreSessionsOf, IsCopyOf, IsFoundView, IsViewOf, shown_as};
 
 use crate::counting::numbers_of;
@@ -49,6 +50,27 @@ pub fn view_at<T: Clock, H: Lending>(
 ) -> Result<Option<TenantView>, AllocError>
     ensures { IfOk result (IsFoundView first_tenant tenant) }
 {
+    let Some(mut view) = copy_at(patience, alloc, host, first_tenant, tenant)? else {
+        return Ok(None);
+    };
+    let mut lines = RuleLines::new(alloc, view.numbers.steps as usize)?;
+    if !lines.trace(patience, host, tenant)? {
+        return Ok(None);
+    }
+    fill_in_lines(&mut view.rules, &mut lines);
+    Ok(Some(view))
+}
+
+/// What a tenant is, without the lines that made its rules, unless its cell is busy for too long.
+fn copy_at<T: Clock, H: Lending>(
+    patience: &mut Patience<'_, T>,
+    alloc: Global,
+    host: H,
+    first_tenant: u32,
+    tenant: u32,
+) -> Result<Option<TenantView>, AllocError>
+    ensures { IfOk result (λ found. IfSome found (λ view. (own : ItsTenant) × (own.id ≡ tenant) × IsViewOf first_tenant own view)) }
+{
     let mut viewing = Viewing {
         alloc,
         first_tenant,
@@ -56,17 +78,17 @@ pub fn view_at<T: Clock, H: Lending>(
     };
     let _unless_it_is_busy = patience.read(host, tenant, &mut viewing);
     let Viewing { view, .. } = viewing;
-    let Some(mut view) = view? else {
-        return Ok(None);
-    };
-    let mut lines = RuleLines::new(alloc, view.numbers.steps as usize)?;
-    if !lines.trace(patience, host, tenant)? {
-        return Ok(None);
-    }
-    for rule in view.rules.iter_mut() {
+    view
+}
+
+/// Fills in the lines that made each rule.
+fn fill_in_lines(rules: &mut Vec<RuleView>, lines: &mut RuleLines)
+    ensures { (t : ℕ) → AreFoundOf t lines.old → HaveLinesOf t rules.new.items }
+{
+    for place in 0..rules.len() {
+        let rule = &mut rules[place];
         rule.lines = lines.take(rule.number);
     }
-    Ok(Some(view))
 }
 
 /// What is found of a tenant.

@@ -1,0 +1,33 @@
+-- Promise: what the page of a tenant begins with.
+use Rattle.std.specs.Prelude.{◌≡◌, ℕ, List, [], ◌∷◌, ◌++◌, Option, None, Some}
+use Rattle.std.specs.List.{flat_map}
+use Rattle.sb_status.specs.Pages.{rendered}
+use Rattle.sb_status.specs.declared.fragment.Fragment.{Fragment}
+use Rattle.sb_status.specs.declared.fragment.Fragment.TheVariants as piece
+use Rattle.sb_status.specs.declared.mark.Mark.{Mark}
+use Rattle.sb_status.specs.declared.mark.Mark.TheVariants.{FactActive, FactBytes, FactChanges, FactOpen, FactRoom, FactRows, FactSteps, FactsEnd, Head, OldPage, OldPageEnd, TenantTitle}
+use Rattle.sb_status.specs.declared.text.Escaping.TheVariants.{Html}
+use Rattle.sb_status.specs.declared.view.TenantNumbers.{TenantNumbers}
+use Rattle.sb_status.specs.declared.view.TenantView.{TenantView}
+
+-- marks, each with a number behind it
+abbrev pub counted : List (Mark × ℕ) → List Fragment
+counted counts = flat_map (λ c. piece.Mark c.0 ∷ piece.Number c.1 ∷ []) counts
+
+-- how old the numbers are, if they aren't new
+abbrev pub age_pieces : Option ℕ → List Fragment
+age_pieces None = []
+age_pieces (Some seconds) = piece.Mark OldPage ∷ piece.Number seconds ∷ piece.Mark OldPageEnd ∷ []
+
+-- the tenant's number in the title, and its others
+abbrev pub numbered : TenantNumbers → List (Mark × ℕ)
+numbered n =
+    (TenantTitle, n.tenant) ∷ (FactSteps, n.steps) ∷ (FactRoom, n.room) ∷ (FactBytes, n.bytes)
+    ∷ (FactRows, n.rows) ∷ (FactOpen, n.open) ∷ (FactActive, n.active) ∷ (FactChanges, n.changes) ∷ []
+
+abbrev pub beginning_of : TenantNumbers → List Fragment
+beginning_of n = piece.Mark Head ∷ (age_pieces n.age ++ (counted (numbered n) ++ piece.Mark FactsEnd ∷ []))
+
+-- these bytes are a page of this tenant: its numbers stand in front
+abbrev pub IsPageOf : TenantView → List ℕ → Type 0
+IsPageOf view bytes = (rest : List Fragment) × (bytes ≡ rendered Html (beginning_of view.numbers ++ rest))
