@@ -3,6 +3,7 @@ pub mod Parts
 pub mod Steps
 pub mod Crashes
 pub mod Records
+pub mod Calls
 mod Bytes
 mod Contents
 mod Crash

@@ -4,6 +4,7 @@ use Rattle.std.specs.Prelude.{Contains}
 use Rattle.std.proofs.lemmas.List.{append-nil, get_or_default, length-map, take-map, take-take}
 use Rattle.std.proofs.lemmas.Bool.{cases_lt}
 use Rattle.sqlite_disk.specs.declared.Disk.{Ghosts}
+use Rattle.sb_host.specs.Lending.{Lends}
 use Rattle.sb_durable.specs.Log.{IsSpent}
 use Rattle.sb_durable.specs.Records.{Entry as Record}
 use Rattle.sb_durable.specs.Journal.{Has, Keeps, disk_of}
@@ -159,18 +160,18 @@ module _ {D : Type 0} {g : Ghosts D} (seen : D → List ℕ) (may_leave : D → 
 
   -- a part of a trail is staged
   pub takes_part : (G : Type 0) (old new : Book D g) (head : Head) (records waiting : List Record) (t n from : ℕ) (own : Tenant) (notes : List Note)
-      → t < length old.recorded.items → from ≡ slice_index old.recorded.items t → IsLegal own → from + n ≤ length own.trail
+      → t < length old.recorded.items → own.id ≡ t → from ≡ slice_index old.recorded.items t → IsLegal own → from + n ≤ length own.trail
       → IsFront (drop from own.trail) notes → n ≤ length notes → length (take n notes) ≡ n → Stages seen may_leave old new t (take n notes)
       → Has seen may_leave old.journal head records waiting → ((head : Head) (records waiting : List Record) → Has seen may_leave new.journal head records waiting → (file : List ℕ) → may_leave (disk_of new.journal) file → Keeps head records file)
       → Takes seen may_leave G old new head records waiting (record { tenant = t; own = own; from = from; count = n } ∷ [])
-  takes_part G old new head records waiting t n from own notes there start legal within front few long stages has kept =
+  takes_part G old new head records waiting t n from own notes there lent start legal within front few long stages has kept =
       let part : Part = record { tenant = t; own = own; from = from; count = n } in
       let all : waiting ++ map (record_of_note t) (take n notes) ≡ waiting ++ records_of (part ∷ []) =
       ap (λ (l : List Record). waiting ++ l) (front_is t n (drop from own.trail) notes front few ∙ sym (append-nil (map (record_of t) (entries_of part)))) in
       let now = subst (λ (w : List Record). Has seen may_leave new.journal head records w) all (stages.has head records waiting has) in
       let counts : new.recorded.items ≡ slice_set old.recorded.items t (from + n) = stages.counts ∙ (λ i. slice_set old.recorded.items t (sym start i + long i)) in
       record {
-        counts = ((there, start, within, legal), counts);
+        counts = ((there, lent, start, within, legal), counts);
         has = inr (record { front = []; back = waiting ++ records_of (part ∷ []); all = refl; has = subst (λ (r : List Record). Has seen may_leave new.journal head r (waiting ++ records_of (part ∷ []))) (sym (append-nil records)) now });
         crash = λ file left. record { front = []; back = waiting ++ records_of (part ∷ []); all = refl; keeps = subst (λ (r : List Record). Keeps head r file) (sym (append-nil records)) (kept head records (waiting ++ records_of (part ∷ [])) now file left) };
       }
@@ -204,12 +205,12 @@ module _ {D : Type 0} {g : Ghosts D} (seen : D → List ℕ) (may_leave : D → 
   Taken G old new t whole =
       (head : Head) (records waiting : List Record) → Has seen may_leave old.journal head records waiting → (parts : List Part) × Takes seen may_leave G old new head records waiting parts × AreOf t parts × (whole → Reaches parts t)
 
-  taken_front : (G : Type 0) (old new : Book D g) (t from : ℕ) (own : Tenant) (notes : List Note) (all : Bool) (whole : Type 0) → t < length old.recorded.items → from ≡ slice_index old.recorded.items t → IsLegal own
+  taken_front : (G : Type 0) (old new : Book D g) (t from : ℕ) (own : Tenant) (notes : List Note) (all : Bool) (whole : Type 0) → t < length old.recorded.items → own.id ≡ t → from ≡ slice_index old.recorded.items t → IsLegal own
       → from ≤ length own.trail → IsFront (drop from own.trail) notes → (whole → (length notes ≡ length (drop from own.trail)) × IsTrue all) → StagesFront seen may_leave old new t notes all → Kept new → Taken G old new t whole
-  taken_front G old new t from own notes all whole there start legal within front to_end staged kept head records waiting has =
+  taken_front G old new t from own notes all whole there lent start legal within front to_end staged kept head records waiting has =
       let part : Part = record { tenant = t; own = own; from = from; count = staged.count } in (
         part ∷ [],
-        takes_part G old new head records waiting t staged.count from own notes there start legal (omega (arith, within, front.0, staged.few, length-drop from own.trail)) front staged.few (length-take-le staged.count notes staged.few) staged.stages has kept,
+        takes_part G old new head records waiting t staged.count from own notes there lent start legal (omega (arith, within, front.0, staged.few, length-drop from own.trail)) front staged.few (length-take-le staged.count notes staged.few) staged.stages has kept,
         (refl, tt),
         λ w. inl (refl, omega (arith, within, (to_end w).0, staged.whole (to_end w).1, length-drop from own.trail)),
       )
@@ -220,33 +221,33 @@ module _ {D : Type 0} {g : Ghosts D} (seen : D → List ℕ) (may_leave : D → 
       ([], takes_none G old new head records waiting (ap (λ (b : Book D g). b.recorded.items) same) now (kept head records waiting now), tt, λ w. absurd (none w))
 
   -- by how far the notes go, and whether all of them were taken
-  pub taken : (G : Type 0) (old new : Book D g) (t from : ℕ) (own : Tenant) (notes : List Note) (reach : NoteReach) (all : Bool) (whole : Type 0) → t < length old.recorded.items → from ≡ slice_index old.recorded.items t → IsLegal own
+  pub taken : (G : Type 0) (old new : Book D g) (t from : ℕ) (own : Tenant) (notes : List Note) (reach : NoteReach) (all : Bool) (whole : Type 0) → t < length old.recorded.items → own.id ≡ t → from ≡ slice_index old.recorded.items t → IsLegal own
       → NotesBehind from own.trail notes reach → (whole → (reach ≡ End) × IsTrue all) → StagesBy seen may_leave old new t notes all reach → Kept new → Taken G old new t whole
-  taken G old new t from own notes Nowhere all whole there start legal behind to_end staged kept = taken_none G old new t whole staged (λ w. absurd (cc ((to_end w).0))) kept
-  taken G old new t from own notes NoMemory all whole there start legal behind to_end staged kept = taken_none G old new t whole staged (λ w. absurd (cc ((to_end w).0))) kept
-  taken G old new t from own notes OfPart all whole there start legal behind to_end staged kept =
-      taken_front G old new t from own notes all whole there start legal behind.0 behind.1 (λ w. absurd (cc ((to_end w).0))) staged kept
-  taken G old new t from own notes End all whole there start legal behind to_end staged kept =
-      taken_front G old new t from own notes all whole there start legal behind.0 behind.1 (λ w. (behind.2, (to_end w).1)) staged kept
+  taken G old new t from own notes Nowhere all whole there lent start legal behind to_end staged kept = taken_none G old new t whole staged (λ w. absurd (cc ((to_end w).0))) kept
+  taken G old new t from own notes NoMemory all whole there lent start legal behind to_end staged kept = taken_none G old new t whole staged (λ w. absurd (cc ((to_end w).0))) kept
+  taken G old new t from own notes OfPart all whole there lent start legal behind to_end staged kept =
+      taken_front G old new t from own notes all whole there lent start legal behind.0 behind.1 (λ w. absurd (cc ((to_end w).0))) staged kept
+  taken G old new t from own notes End all whole there lent start legal behind to_end staged kept =
+      taken_front G old new t from own notes all whole there lent start legal behind.0 behind.1 (λ w. (behind.2, (to_end w).1)) staged kept
 
   -- a reading, and what was staged of it
   pub taken_ok : (old new : Book D g) (t : ℕ) (blank notes : Notes) (there : Bool) (r : Result Bool JournalError) → t < length old.recorded.items → blank.from ≡ slice_index old.recorded.items t → blank.reach ≡ Nowhere
-      → (IsTrue there → (own : Tenant) × Reads blank own notes) → (IsFalse there → notes ≡ blank) → IfOk r (λ w. IsStaged notes.reach w) → StagesNoted seen may_leave old new t notes (is_ok r) → Kept new
+      → (IsTrue there → Lends (Reads blank) t notes) → (IsFalse there → notes ≡ blank) → IfOk r (λ w. IsStaged notes.reach w) → StagesNoted seen may_leave old new t notes (is_ok r) → Kept new
       → IfOk r (λ w. Taken ⊥ old new t (IsTrue w))
   taken_ok old new t blank notes there (Err e) has start nowhere read none whole staged kept = tt
   taken_ok old new t blank notes true (Ok w) has start nowhere read none whole staged kept =
       let own = read refl in
-      taken ⊥ old new t blank.from own.0 notes.list.items notes.reach true (IsTrue w) has start own.1.0 own.1.1 (λ is. (whole_reach notes.reach w whole is, refl)) staged kept
+      taken ⊥ old new t blank.from own.0 notes.list.items notes.reach true (IsTrue w) has own.1 start own.2.0 own.2.1 (λ is. (whole_reach notes.reach w whole is, refl)) staged kept
   taken_ok old new t blank notes false (Ok w) has start nowhere read none whole staged kept =
       let is : notes.reach ≡ Nowhere = ap (λ (n : Notes). n.reach) (none refl) ∙ nowhere in
       taken_none ⊥ old new t (IsTrue w) (subst (λ (r : NoteReach). StagesBy seen may_leave old new t notes.list.items true r) is staged) (λ _. subst (λ (r : NoteReach). IsStaged r w) is whole) kept
 
   pub taken_err : (G : Type 0) (old new : Book D g) (t : ℕ) (blank notes : Notes) (there : Bool) (r : Result Bool JournalError) → t < length old.recorded.items → blank.from ≡ slice_index old.recorded.items t → blank.reach ≡ Nowhere
-      → (IsTrue there → (own : Tenant) × Reads blank own notes) → (IsFalse there → notes ≡ blank) → StagesNoted seen may_leave old new t notes (is_ok r) → Kept new → OnErr r (Taken G old new t ⊥)
+      → (IsTrue there → Lends (Reads blank) t notes) → (IsFalse there → notes ≡ blank) → StagesNoted seen may_leave old new t notes (is_ok r) → Kept new → OnErr r (Taken G old new t ⊥)
   taken_err G old new t blank notes there (Ok w) has start nowhere read none staged kept = tt
   taken_err G old new t blank notes true (Err e) has start nowhere read none staged kept =
       let own = read refl in
-      taken G old new t blank.from own.0 notes.list.items notes.reach false ⊥ has start own.1.0 own.1.1 (λ is. absurd is) staged kept
+      taken G old new t blank.from own.0 notes.list.items notes.reach false ⊥ has own.1 start own.2.0 own.2.1 (λ is. absurd is) staged kept
   taken_err G old new t blank notes false (Err e) has start nowhere read none staged kept =
       let is : notes.reach ≡ Nowhere = ap (λ (n : Notes). n.reach) (none refl) ∙ nowhere in
       taken_none G old new t ⊥ (subst (λ (r : NoteReach). StagesBy seen may_leave old new t notes.list.items false r) is staged) (λ is. is) kept

@@ -14,7 +14,8 @@ use Rattle.sb_tenant.specs.State.{State}
 use Rattle.sb_tenant.specs.Trail.{state_after, state_of}
 use Rattle.sb_cell.specs.Tenants.{Cell, IsSame, hosts, states, trails}
 use Rattle.sb_value.specs.Locks.{sessions}
-use Rattle.sb_durable.specs.Played.{EndsSessions, KeepsUp, PlaysAll, PlaysRecord}
+use Rattle.sb_durable.specs.Played.{EndsSessions, KeepsUp, PlaysRecord}
+use Rattle.sb_durable.specs.Playing.{PlaysAll}
 use Rattle.sb_durable.specs.Restart.{AreRecords, IsRestarted, Remembers, ended, made_of, own_records, restarted}
 use Rattle.sb_durable.specs.declared.run.Recording.{Recording}
 use Rattle.sb_durable.proofs.Steps.{after-append, hosts_same, leads, remembers_more, same_then}

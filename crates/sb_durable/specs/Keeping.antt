@@ -1,5 +1,5 @@
 -- Promise: what a journal and its counts are after parts of trails were recorded.
-use Rattle.std.specs.Prelude.{◌≡◌, ◌⊎◌, ℕ, ◌+◌, ◌<◌, ◌≤◌, Bool, IsTrue, List, ◌++◌, length, map, take, slice_index, slice_set}
+use Rattle.std.specs.Prelude.{◌≡◌, ◌⊎◌, ℕ, ◌+◌, ◌<◌, ◌≤◌, Bool, Contains, IsTrue, List, [], ◌++◌, length, map, take, slice_index, slice_set}
 use Rattle.sqlite_disk.specs.declared.Disk.{Ghosts}
 use Rattle.sb_durable.specs.Records.{Entry as Record}
 use Rattle.sb_durable.specs.Journal.{Has, Keeps, disk_of}
@@ -43,6 +43,25 @@ pub record Stages {D : Type 0} {g : Ghosts D} (seen : D → List ℕ) (may_leave
 pub record Brings (tenants : List ℕ) (parts : List Part) : Type 0 where
   pub each : (k : ℕ) → k < length tenants → Reaches parts (slice_index tenants k)
   pub no_others : AreAmong tenants parts
+
+-- A book was brought up to the trails of these tenants: what it had, what waited and these parts are on the disk.
+abbrev pub BringsUp : {D : Type 0} {g : Ghosts D} → (D → List ℕ) → (D → List ℕ → Type 0) → Book D g → Book D g → List ℕ → Type 0
+BringsUp seen may_leave old new tenants =
+    (head : Head) (records waiting : List Record) → Has seen may_leave old.journal head records waiting
+    → (parts : List Part) × Takes seen may_leave ⊥ old new head records waiting parts
+    × Has seen may_leave new.journal head (records ++ (waiting ++ records_of parts)) [] × Brings tenants parts
+
+-- each of these tenants is in the list
+abbrev pub HasEach : List ℕ → List ℕ → Type 0
+HasEach list tenants = (t : ℕ) → Contains tenants t → Contains list t
+
+-- A book was brought up to the trails of tenants, and these were among them.
+pub record AreKept {D : Type 0} (disk : Ghosts D) (tenants : List ℕ) : Type 0 where
+  pub old : Book D disk
+  pub new : Book D disk
+  pub all : List ℕ
+  pub among : HasEach all tenants
+  pub brings : BringsUp disk.seen disk.may_leave old new all
 
 -- The first of these steps wait, and all of them where all were taken.
 pub record StagesFront {D : Type 0} {g : Ghosts D} (seen : D → List ℕ) (may_leave : D → List ℕ → Type 0) (old new : Book D g) (tenant : ℕ) (notes : List Note) (all : Bool) : Type 0 where

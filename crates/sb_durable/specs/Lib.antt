@@ -4,6 +4,7 @@ pub mod Keeping
 pub mod Restart
 pub mod Runs
 pub mod Recorded
+pub mod Playing
 pub mod Played
 pub mod Blocks
 pub mod Log

@@ -10,11 +10,6 @@ use Rattle.sb_durable.specs.Restart.{Tells, ended}
 use Rattle.sb_durable.specs.Runs.{records_of}
 use Rattle.sb_durable.specs.declared.run.Recording.{Recording}
 
--- one record after another
-abbrev pub PlaysAll : {S : Type 0} → (S → Record → S → Type 0) → S → List Record → S → Type 0
-PlaysAll plays old [] new = new ≡ old
-PlaysAll {S} plays old (r ∷ rs) new = (mid : S) × plays old r mid × PlaysAll plays mid rs new
-
 -- a step was made of it that is recorded as it is
 abbrev pub PlaysRecord : Cell → Record → Cell → Type 0
 PlaysRecord old r new =

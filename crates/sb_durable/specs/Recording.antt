@@ -41,10 +41,10 @@ abbrev pub records_of : List Part → List Record
 records_of [] = []
 records_of (part ∷ parts) = map (record_of part.tenant) (entries_of part) ++ records_of parts
 
--- it begins where the tenant's records end, and lies within a legal trail
+-- it is of the tenant of its number, begins where that tenant's records end, and lies within a legal trail
 abbrev pub IsNextPart : List ℕ → Part → Type 0
 IsNextPart counts part =
-    (part.tenant < length counts) × (part.from ≡ slice_index counts part.tenant) × (part.from + part.count ≤ length part.own.trail) × IsLegal part.own
+    (part.tenant < length counts) × (part.own.id ≡ part.tenant) × (part.from ≡ slice_index counts part.tenant) × (part.from + part.count ≤ length part.own.trail) × IsLegal part.own
 
 -- so many entries of each tenant are recorded, before these parts and after them
 abbrev pub Counts : List ℕ → List Part → List ℕ → Type 0

@@ -6,13 +6,17 @@ use Rattle.sb_durable.specs.Records.{Entry as Record}
 use Rattle.sb_durable.specs.declared.head.Head.{Head}
 use Rattle.sb_tenant.specs.declared.reply.Answer.{Answer}
 use Rattle.sb_tenant.specs.declared.reply.Entry.{Entry}
+use Rattle.sb_tenant.specs.State.{State}
 use Rattle.sb_tenant.specs.Trail.{is_no_memory, state_of}
 use Rattle.sb_cell.specs.declared.Event.{Event}
 use Rattle.sb_cell.specs.declared.StepError.{StepError}
 use Rattle.sb_cell.specs.Headline.{Run, IsRun}
-use Rattle.sb_cell.specs.Tenants.{Cell, hosts, trails}
+use Rattle.sb_cell.specs.Tenants.{Cell, IsSame, hosts, states, trails}
+use Rattle.sb_wire.specs.Apart.{RunsApart}
 use Rattle.sb_wire.specs.Counts.{Response, step_reply, line_refusal, response_text}
 use Rattle.sb_wire.specs.Lines.{Addressed, Piece, line, too_long, addressed_of, pieces_of}
+use Rattle.sb_wire.specs.Output.{AreAnswers}
+use Rattle.sb_wire.specs.Stream.{AnswersInput}
 use Rattle.sb_wire.specs.declared.refusal.WireRefusal.TheVariants.{TooLong, BadLine}
 use Rattle.sb_durable.specs.Restart.{AreRecords, ended, restarted}
 
@@ -76,7 +80,7 @@ pub record Survives (old : Cell) (steps : List Step) (answered : ℕ) (head : He
   pub keeps : Keeps head records file
   pub states : (t : ℕ) → IsTrue (hosts old t) → restarted old.bound t records ≡ ended old.bound t (state_of t old.bound (between t))
 
--- Lines are answered from one cell to another, and a first part of the text is written. At most one step more was made, which couldn't be recorded and isn't answered.
+-- Lines are answered from one cell to another, each tenant's as if it were alone, and a first part of the text is written. At most one step more was made, which couldn't be recorded and isn't answered.
 -- Where the journal told what the tenants were, a crash leaves at least the steps that are answered.
 pub record RunsRecorded (old new : Cell) (pieces : List Piece) (held holds : Option (List ℕ)) (left : List ℕ) (told_by : Head → Type 0) (crash : List ℕ → Type 0) : Type 0 where
   pub told : List Piece
@@ -84,17 +88,23 @@ pub record RunsRecorded (old new : Cell) (pieces : List Piece) (held holds : Opt
   pub split : pieces ≡ told ++ untold
   pub responses : List Response
   pub answers : AreResponses told responses
+  pub between : ℕ → State
+  pub answered : AreAnswers (hosts old) old.bound (states old) told (flat_map response_text responses) between
+  pub apart : RunsApart (hosts old) old.bound (states old) told (flat_map response_text responses) between
+  pub same : IsSame old new
   pub written : List ℕ
   pub whole : flat_map response_text responses ≡ written ++ left
   pub appends : Appends held holds written
   pub unanswered : List Step
   pub few : length unanswered ≤ 1
+  pub last : unanswered ≡ [] → between ≡ states new
   pub run : IsRun old.bound (run_by (hosts old) (trails old) (steps_of responses ++ unanswered) (trails new))
   pub survives : (head : Head) → told_by head → (file : List ℕ) → crash file → Survives old (steps_of responses ++ unanswered) (length (steps_of responses)) head file
 
--- The text answers the lines of an input in order, each as a step of the cell or as a refusal, and the cell goes on from there.
+-- The text answers the lines of an input in order, each as a step of the cell or as a refusal, and each tenant's as if it were alone. The cell goes on from there.
 pub record AnswersRecorded (old : Cell) (input text : List ℕ) (new : Cell) : Type 0 where
   pub responses : List Response
   pub answers : AreResponses (pieces_of input) responses
   pub whole : text ≡ flat_map response_text responses
+  pub input_is_answered : AnswersInput old input text new
   pub run : IsRun old.bound (run_by (hosts old) (trails old) (steps_of responses) (trails new))

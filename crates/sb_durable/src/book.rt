@@ -24,7 +24,7 @@ pub(crate) struct Book<D: Disk> {
 
 impl<D: Disk> Book<D> {
     ghost use Rattle.sb_durable.specs.Noting.{IsStaged};
-    ghost use Rattle.sb_durable.specs.Keeping.{Brings, StagesFront, StagesNoted, Takes};
+    ghost use Rattle.sb_durable.specs.Keeping.{BringsUp, StagesFront, StagesNoted, Takes};
 
     /// Brings the file up to the trails of these tenants. After want of memory it may be called again.
     pub(crate) fn bring_up<H: Lending, T: Wait>(
@@ -33,9 +33,7 @@ impl<D: Disk> Book<D> {
         host: H,
         tenants: &[u32],
     ) -> Result<(), JournalError>
-        ensures ok { OnOk result ((head : Head) (records waiting : List Entry) → Has D.Disk.seen D.Disk.may_leave self.old.journal head records waiting
-            → (parts : List Part) × Takes D.Disk.seen D.Disk.may_leave ⊥ self.old self.new head records waiting parts
-            × Has D.Disk.seen D.Disk.may_leave self.new.journal head (records ++ (waiting ++ records_of parts)) [] × Brings tenants.now parts) }
+        ensures ok { OnOk result (BringsUp D.Disk.seen D.Disk.may_leave self.old self.new tenants.now) }
         ensures err { OnErr result ((head : Head) (records waiting : List Entry) → Has D.Disk.seen D.Disk.may_leave self.old.journal head records waiting
             → (parts : List Part) × Takes D.Disk.seen D.Disk.may_leave (IsSpent self.new.journal.log) self.old self.new head records waiting parts × AreAmong tenants.now parts) }
         ensures spent { IsSpent self.old.journal.log → IsErr result × (self.new ≡ self.old) }

@@ -8,6 +8,7 @@ use sqlite_disk::{Modelled, Start, Wary};
 use std::alloc::Global;
 use std::fs::{Files, OpenOptions, TryLockError};
 use std::os::fd::AsRawFd;
+use std::os::unix::fs::FileExt;
 use std::path::Path;
 use std::{fs, io};
 use thiserror::Error;
@@ -26,6 +27,9 @@ pub enum OpenError {
     /// A folder, a device or the like has its name.
     #[error("it is no file")]
     NotAFile,
+    /// Something else stands in it.
+    #[error("it is no journal")]
+    NotAJournal,
 }
 
 impl From<io::Error> for OpenError {
@@ -34,8 +38,14 @@ impl From<io::Error> for OpenError {
     }
 }
 
+/// How a journal begins: an open gate, the length of its head, and the word of its head but for the version.
+const BEGINNING: &[u8] = b"\x01\x00\x00\x00\x14FILGJRN";
+
+/// The most bytes of a journal whose head isn't there yet: a shut gate, a length, the head and the next gate.
+const MOST_BEGUN: u64 = 26;
+
 /// Opens the file of a path, and makes it if it is missing. It is locked until it is dropped. No other code may write
-/// to it meanwhile.
+/// to it meanwhile. A file in which something else stands is left as it is (NotAJournal).
 pub fn open_file<R: Files<File = fs::File>, S: Start>(
     rt: &R,
     path: &str,
@@ -53,11 +63,25 @@ pub fn open_file<R: Files<File = fs::File>, S: Start>(
         Err(TryLockError::WouldBlock) => return Err(OpenError::Locked),
         Err(TryLockError::Error(error)) => return Err(OpenError::System(error)),
     }
+    if !may_be_journal(&file)? {
+        return Err(OpenError::NotAJournal);
+    }
     if is_new {
         sync_folder(rt, path)?;
     }
     let settled = SystemFile::settle(file, syncing)?;
     Ok(Modelled::new(settled, false, 0))
+}
+
+/// Whether a file is empty, begins as a journal does, or may be one that a crash left before it had its head.
+fn may_be_journal(file: &fs::File) -> io::Result<bool> {
+    let mut buffer = [0u8; 12];
+    let count = file.read_at(&mut buffer, 0)?;
+    let found = &buffer[..count];
+    if found.first() == Some(&0) {
+        return Ok(file.metadata()?.len() <= MOST_BEGUN);
+    }
+    Ok(BEGINNING.starts_with(found))
 }
 
 /// Why there is no journal at a path.

@@ -1,9 +1,9 @@
 //! A journal's records, played to what is new.
-ghost use Rattle.std.specs.Prelude.{◌≡◌, List, [], OnOk, IsTrue};
+ghost use Rattle.std.specs.Prelude.{◌≡◌, ◌+◌, List, [], length, IfOk, OnOk, IsTrue};
 ghost use Rattle.sb_durable.specs.Journal.{Has, disk_of};
 ghost use Rattle.sb_durable.specs.Records.{Entry, bytes_of, entry_of};
 ghost use Rattle.sb_durable.specs.declared.head.Head.{Head};
-ghost use Rattle.sb_durable.specs.Played.{PlaysAll};
+ghost use Rattle.sb_durable.specs.Playing.{LeavesPlayed, PlaysAll};
 ghost use Rattle.sb_durable.specs.Restart.{AreRecords};
 
 use crate::player::Player;
@@ -67,16 +67,33 @@ pub fn play<T: Wait, H: Hosting, D: Disk, P: Progress>(
     host: H,
     journal: &mut Journal<D>,
     progress: &mut P,
-) -> Result<Played, PlayError> {
+) -> Result<Played, PlayError>
+    ensures plays { IfOk result (λ left. (played : List Entry)
+        × LeavesPlayed (H.tenants host) played left.stubs.items left.recorded.items × (left.records ≡ length played)
+        × (IsTrue (D.Disk.is_clean (disk_of journal.new)) → (head : Head) (records : List Entry)
+        → Has D.Disk.seen D.Disk.may_leave journal.old head records [] → AreRecords records
+        → (played ≡ records) × Has D.Disk.seen D.Disk.may_leave journal.new head records [])) }
+{
     let Ok(mut player) = Player::new(alloc, host) else {
         return Err(PlayError {
             record: 1,
             why: PlayFault::NoMemory,
         });
     };
-    match play_all(rt, alloc, &mut player, journal, progress) {
-        Ok(records) => leave(rt, player, records),
-        Err(error) => Err(error),
+    let records = match play_all(rt, alloc, &mut player, journal, progress) {
+        Ok(records) => records,
+        Err(error) => return Err(error),
+    };
+    match player.end_all(rt) {
+        Ok(left) => Ok(Played {
+            stubs: left.0,
+            records,
+            recorded: left.1,
+        }),
+        Err(_) => Err(PlayError {
+            record: records,
+            why: PlayFault::NoMemory,
+        }),
     }
 }
 
@@ -98,8 +115,8 @@ pub(crate) fn play_all<T: Wait, S: Plays, D: Disk, P: Progress>(
     journal: &mut Journal<D>,
     progress: &mut P,
 ) -> Result<u64, PlayError>
-    ensures { OnOk result ((played : List Entry) × PlaysAll S.plays player.old played player.new
-        × (IsTrue (D.Disk.is_clean (disk_of journal.new)) → (head : Head) (records : List Entry)
+    ensures { IfOk result (λ count. (played : List Entry) × PlaysAll S.plays player.old played player.new
+        × (count ≡ length played) × (IsTrue (D.Disk.is_clean (disk_of journal.new)) → (head : Head) (records : List Entry)
         → Has D.Disk.seen D.Disk.may_leave journal.old head records [] → AreRecords records
         → (played ≡ records) × Has D.Disk.seen D.Disk.may_leave journal.new head records [])) }
 {
@@ -139,7 +156,7 @@ fn play_batch<T: Wait, S: Plays>(
     batch: &[u8],
 ) -> Result<(), PlayFault>
     ensures { OnOk result ((played : List Entry) × PlaysAll S.plays player.old played player.new
-        × ((entries : List Entry) → AreRecords entries → batch.now ≡ bytes_of entries → played ≡ entries)) }
+        × (records.new ≡ records.old + length played) × ((entries : List Entry) → AreRecords entries → batch.now ≡ bytes_of entries → played ≡ entries)) }
 {
     let mut left = batch;
     while !left.is_empty() {
@@ -154,23 +171,4 @@ fn play_batch<T: Wait, S: Plays>(
         left = behind;
     }
     Ok(())
-}
-
-/// Ends the sessions that are open.
-fn leave<T: Wait, H: Hosting>(
-    rt: &T,
-    player: Player<H>,
-    records: u64,
-) -> Result<Played, PlayError> {
-    match player.end_all(rt) {
-        Ok((stubs, recorded)) => Ok(Played {
-            stubs,
-            records,
-            recorded,
-        }),
-        Err(_) => Err(PlayError {
-            record: records,
-            why: PlayFault::NoMemory,
-        }),
-    }
 }

@@ -1,4 +1,7 @@
 //! What threads share to record what they are about to answer.
+ghost use Rattle.std.specs.Prelude.{◌≡◌, IsTrue, OnOk};
+ghost use Rattle.sb_durable.specs.Keeping.{AreKept, HasEach};
+
 use crate::book::Book;
 use crate::{Disk, Journal, JournalError};
 use sb_host::Lending;
@@ -19,8 +22,6 @@ pub struct Recorder<H: Lending, D: Disk> {
 #[derive(Drop)]
 struct Callers {
     tenants: Vec<u32>,
-    /// How many times they were taken.
-    round: u64,
 }
 
 impl<H: Lending, D: Disk> Recorder<H, D> {
@@ -36,46 +37,39 @@ impl<H: Lending, D: Disk> Recorder<H, D> {
             }),
             callers: Mutex::new(Callers {
                 tenants: Vec::new(alloc),
-                round: 0,
             }),
         }
     }
 
     /// Brings the file up to the trails of these tenants, and to the disk. After an error each further call is one, and
     /// writes nothing.
-    pub fn keep<T: Wait>(&self, rt: &T, tenants: &[u32]) -> Result<(), JournalError> {
-        let round = self.join(rt, tenants);
+    pub fn keep<T: Wait>(&self, rt: &T, tenants: &[u32]) -> Result<(), JournalError>
+        ensures { OnOk result (AreKept D.Disk tenants.now) }
+    {
+        let place = self.join(rt, tenants);
         let mut book = self.book.lock(rt);
         // one commit serves all that wait
         let callers = self.take(rt);
-        match book.bring_up(rt, self.host, &callers.tenants) {
-            Ok(()) => {}
-            Err(error) => return Err(error),
-        }
-        if round == Some(callers.round) {
-            return Ok(());
-        }
-        // another call has taken them, and may have lacked memory
-        book.bring_up(rt, self.host, tenants)
+        bring_up_both(rt, self.host, &mut book, &callers.tenants, place, tenants)
     }
 
-    /// Has these tenants wait with the others, and says in which round; `None` where there is no memory for that.
-    fn join<T: Wait>(&self, rt: &T, tenants: &[u32]) -> Option<u64> {
+    /// Has these tenants wait behind the others, and says from which place on; `None` where there is no memory for that.
+    fn join<T: Wait>(&self, rt: &T, tenants: &[u32]) -> Option<usize> {
         let mut callers = self.callers.lock(rt);
+        let place = callers.tenants.len();
         match callers.tenants.extend_from_slice(tenants) {
-            Ok(()) => Some(callers.round),
+            Ok(()) => Some(place),
             Err(_) => None,
         }
     }
 
-    /// The tenants that wait, and their round.
+    /// The tenants that wait.
     fn take<T: Wait>(&self, rt: &T) -> Callers {
         let mut callers = self.callers.lock(rt);
-        let next = Callers {
+        let none = Callers {
             tenants: Vec::new(self.alloc),
-            round: callers.round.wrapping_add(1),
         };
-        mem::replace(&mut *callers, next)
+        mem::replace(&mut *callers, none)
     }
 
     /// Gives the file back.
@@ -84,4 +78,40 @@ impl<H: Lending, D: Disk> Recorder<H, D> {
         let Book { journal, .. } = book.into_inner();
         journal.close()
     }
+}
+
+/// Brings a book up to the trails of the tenants that wait, and to those of a caller's own, unless they stand at this
+/// place among the others.
+fn bring_up_both<H: Lending, D: Disk, T: Wait>(
+    rt: &T,
+    host: H,
+    book: &mut Book<D>,
+    waiting: &[u32],
+    place: Option<usize>,
+    own: &[u32],
+) -> Result<(), JournalError>
+    ensures { OnOk result (AreKept D.Disk own.now) }
+{
+    match book.bring_up(rt, host, waiting) {
+        Ok(()) => {}
+        Err(error) => return Err(error),
+    }
+    if stand_at(waiting, place, own) {
+        return Ok(());
+    }
+    // another call has taken them, and may have lacked memory
+    book.bring_up(rt, host, own)
+}
+
+/// Whether these tenants stand in a list from a place on.
+fn stand_at(list: &[u32], place: Option<usize>, tenants: &[u32]) -> bool
+    ensures { IsTrue result → HasEach list.now tenants.now }
+{
+    let Some(place) = place else {
+        return false;
+    };
+    if place > list.len() {
+        return false;
+    }
+    list[place..].starts_with(tenants)
 }

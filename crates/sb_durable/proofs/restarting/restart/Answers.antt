@@ -10,7 +10,7 @@ loop-tenant-init g c =
     let kept : Remembers cell p.0 = remembers_all c.args.cell.now cell p.0 [] p.1 (remembers_new c.args.cell.now c.requires.new) in (
       p.0,
       midway_first c.args.cell.now cell p.0 (same_all c.args.cell.now cell p.0 p.1) kept,
-      λ clean head there has are. let f = p.2 clean head there has are in (f.0, record { records = there; are = are; remembers = subst (Remembers cell) f.0 kept; has = f.1 }),
+      λ clean head there has are. let f = p.3 clean head there has are in (f.0, record { records = there; are = are; remembers = subst (Remembers cell) f.0 kept; has = f.1 }),
       refl,
     )
 

@@ -14,7 +14,7 @@ returns-clause-ok g c =
     let staged = c.stage_noted-staged in
     let there : c.args.tenant < length c.args.self.now.recorded.items = omega (arith, c.if-place-len.false, c.len.ensures) in
     taken_ok g.D.Disk.seen g.D.Disk.may_leave _ _ c.args.tenant _ read.new.reading read.result staged.result there (c.index.ensures ∙ get_or_default c.args.self.now.recorded.items c.args.tenant c.index.result.now 0 there) refl
-    (λ was. let lent = read.ensures.read was in (lent.0, lent.2)) read.ensures.none staged.ensures.whole staged.ensures.staged c.is_kept-2.ensures
+    read.ensures.read read.ensures.none staged.ensures.whole staged.ensures.staged c.is_kept-2.ensures
 
 pub returns-clause-err : goal.returns-clause-err
 returns-clause-err g c =
@@ -23,4 +23,4 @@ returns-clause-err g c =
     let there : c.args.tenant < length c.args.self.now.recorded.items = omega (arith, c.if-place-len.false, c.len.ensures) in
     on_err_weaker staged.result (λ taken head records waiting has. let a = taken head records waiting has in (a.0, a.1, a.2))
     (taken_err g.D.Disk.seen g.D.Disk.may_leave (IsSpent staged.new.self.journal.log) _ _ c.args.tenant _ read.new.reading read.result staged.result there (c.index.ensures ∙ get_or_default c.args.self.now.recorded.items c.args.tenant c.index.result.now 0 there) refl
-    (λ was. let lent = read.ensures.read was in (lent.0, lent.2)) read.ensures.none staged.ensures.staged c.is_kept-2.ensures)
+    read.ensures.read read.ensures.none staged.ensures.staged c.is_kept-2.ensures)

@@ -1,0 +1,100 @@
+-- Promise: what playing records to a host leaves.
+use Rattle.std.specs.Prelude.{◌≡◌, ◌⊎◌, ◌<◌, ◌+◌, ◌*◌, ℕ, true, false, List, [], ◌∷◌, ◌++◌, Option, Some, None, length, map, option_map, option_to_list, replicate, slice_get, slice_set, codes, ⊤}
+use Rattle.sb_tenant.specs.Limits.{session_count}
+use Rattle.sb_tenant.specs.Trail.{is_no_memory}
+use Rattle.sb_tenant.specs.declared.reply.Answer.{Answer}
+use Rattle.sb_desk.specs.Calls.{Session, after_call, shown}
+use Rattle.sb_desk.specs.Receipts.{newcomer}
+use Rattle.sb_desk.specs.Stubs.{LeavesStub}
+use Rattle.sb_desk.specs.declared.stub.Stub.{Stub}
+use Rattle.sb_durable.specs.Records.{Entry as Record}
+
+-- one record after another
+abbrev pub PlaysAll : {S : Type 0} → (S → Record → S → Type 0) → S → List Record → S → Type 0
+PlaysAll plays old [] new = new ≡ old
+PlaysAll {S} plays old (r ∷ rs) new = (mid : S) × plays old r mid × PlaysAll plays mid rs new
+
+-- the sessions that are open, each at its place; what those that have ended left; and the number of each tenant's newest step
+pub record Playing : Type 0 where
+  pub sessions : List (Option Session)
+  pub stubs : List Stub
+  pub steps : List ℕ
+
+-- what a clause sees of sessions, by what it sees of each of them
+abbrev pub playing_of : {S : Type 0} → (S → Session) → List (Option S) → List Stub → List ℕ → Playing
+playing_of seen sessions stubs steps = record { sessions = map (option_map seen) sessions; stubs = stubs; steps = steps }
+
+-- no session of these tenants was ever open
+abbrev pub none_open : ℕ → Playing
+none_open tenants = record { sessions = replicate (session_count * tenants) None; stubs = []; steps = replicate tenants 0 }
+
+-- ---- one record
+
+-- where the session of a record stands among those of all tenants
+abbrev pub place_of : Record → ℕ
+place_of r = session_count * r.tenant + r.session
+
+-- a session was called with a line, and the step that it made in full has this number
+abbrev pub MakesStep : Session → List ℕ → ℕ → Session → Type 0
+MakesStep old line number new =
+    (answer : Answer) × (old.ended ≡ false) × (answer.number ≡ Some number) × (is_no_memory answer.reply ≡ false) × (new ≡ after_call old line answer)
+
+-- it is still open; or it has ended, and this is what it left
+abbrev pub Stays : Session → Option Session → Option Stub → Type 0
+Stays own still None = (own.ended ≡ false) × (still ≡ Some own)
+Stays own still (Some stub) = (own.ended ≡ true) × (still ≡ None) × LeavesStub own stub
+
+module _ (old : Playing) (r : Record) (new : Playing) where
+  -- with these at the record's place, so many steps of its tenant, and this behind what others left
+  abbrev pub Becomes : Option Session → ℕ → Option Stub → Type 0
+  Becomes still number left = new ≡ record {
+    sessions = slice_set old.sessions (place_of r) still;
+    stubs = old.stubs ++ option_to_list left;
+    steps = slice_set old.steps r.tenant number;
+  }
+
+  -- an `open` opened the session, and an abort of one that isn't open did nothing
+  abbrev pub Begins : Type 0
+  Begins =
+      ((r.line ≡ codes "rollback") × (new ≡ old))
+      ⊎ ((r.line ≡ codes "open") × ((number : ℕ) × Becomes (Some (shown (newcomer r.tenant r.session number))) number None))
+
+  -- a session that is open was called with the line
+  abbrev pub CallsOn : Session → Type 0
+  CallsOn session =
+      (own : Session) × (still : Option Session) × (left : Option Stub) × (number : ℕ)
+      × MakesStep session r.line number own × Stays own still left × Becomes still number left
+
+  abbrev pub PlaysBy : Option Session → Type 0
+  PlaysBy None = Begins
+  PlaysBy (Some session) = CallsOn session
+
+  -- a record was played: its line is one of its session of its tenant
+  abbrev pub PlaysLine : Type 0
+  PlaysLine =
+      (r.tenant < length old.steps) × (r.session < session_count)
+      × ((found : Option Session) × (slice_get old.sessions (place_of r) ≡ Some found) × PlaysBy found)
+
+-- ---- all of them
+
+-- a session that is open is closed, and this is what it leaves
+abbrev pub IsClosed : Option Session → Option Stub → Type 0
+IsClosed None None = ⊤
+IsClosed (Some session) (Some stub) = LeavesStub session stub
+IsClosed None (Some stub) = ⊥
+IsClosed (Some session) None = ⊥
+
+-- so are all, one after another
+abbrev pub AreClosed : List (Option Session) → List Stub → Type 0
+AreClosed [] stubs = stubs ≡ []
+AreClosed (session ∷ more) stubs =
+    (left : Option Stub) × (others : List Stub) × (stubs ≡ option_to_list left ++ others) × IsClosed session left × AreClosed more others
+
+-- Records were played one after another to a host with so many tenants. Its sessions, all of which are closed now, left these stubs. Each tenant's newest step before they were closed has this number, or 0 where there is none.
+pub record LeavesPlayed (tenants : ℕ) (records : List Record) (stubs : List Stub) (steps : List ℕ) : Type 0 where
+  pub last : Playing
+  pub plays : PlaysAll PlaysLine (none_open tenants) records last
+  pub closed : List Stub
+  pub are_closed : AreClosed last.sessions closed
+  pub stubs_are : stubs ≡ last.stubs ++ closed
+  pub steps_are : steps ≡ last.steps
