@@ -4,11 +4,11 @@ use Rattle.std.specs.Prelude.{is_some}
 use Rattle.std.proofs.lemmas.Bool.{false≢true}
 use Rattle.sb_wire.specs.Lines.{Piece, last_piece, line, too_long}
 use Rattle.sb_wire.specs.Responses.{AreAnswered}
-use Rattle.sb_desk.specs.Calls.{Session}
 use Rattle.sb_connection.specs.Admission.{BringsKey, LetsIn}
-use Rattle.sb_connection.specs.Conversation.{Hosted, Visitor, visitor_of}
+use Rattle.sb_connection.specs.Conversation.{Hosted}
 use Rattle.sb_connection.specs.History.{History, SameStreams}
-use Rattle.sb_connection.specs.Responding.{Admits, Greets, GreetsLine, GreetsVisitor, Responds, RespondsBy, State, anyone, over}
+use Rattle.sb_connection.specs.Policies.{Admits}
+use Rattle.sb_connection.specs.Responding.{Opened, Greets, Responds, RespondsBy, State, over}
 use Rattle.sb_connection.specs.Routing.{Begins}
 use Rattle.sb_connection.proofs.Whole.{turned}
 
@@ -21,32 +21,9 @@ some_from None e = absurd (false≢true e)
 some_from (Some x) e = (x, refl)
 
 module _ (admits : Admits) (hosted : Hosted) where
-  -- ---- what is answered to somebody is answered to anyone
-
-  visitor_to : (visitor : Option Visitor) (text : List ℕ) (s : Option Session) (away : Bool) → GreetsVisitor admits hosted visitor text s away → GreetsVisitor anyone hosted visitor text s away
-  visitor_to None text s away greets = greets
-  visitor_to (Some v) text s away (inl barred) = inl barred
-  visitor_to (Some v) text s away (inr (admitted, greets)) = inr (tt, greets)
-
-  line_to : (keyed : Bool) (bytes text : List ℕ) (s : Option Session) (away : Bool) → GreetsLine admits keyed hosted bytes text s away → GreetsLine anyone keyed hosted bytes text s away
-  line_to false bytes text s away greets = greets
-  line_to true bytes text s away greets = visitor_to (visitor_of bytes) text s away greets
-
-  by_session : (s : Option Session) (p : Piece) (text : List ℕ) (new : State) → RespondsBy admits hosted s p text new → RespondsBy anyone hosted s p text new
-  by_session None too_long text new greets = greets
-  by_session None (line bytes) text new greets = line_to hosted.keyed bytes text new.0 new.1 greets
-  by_session (Some s) p text new exchange = exchange
-
-  pub to_anyone : (old : State) (p : Piece) (text : List ℕ) (new : State) → Responds admits hosted old p text new → Responds anyone hosted old p text new
-  to_anyone old p text new responds = by_session old.0 p text new responds
-
-  pub all_to_anyone : (old : State) (ps : List Piece) (text : List ℕ) (new : State) → AreAnswered (Responds admits hosted) over old ps text new → AreAnswered (Responds anyone hosted) over old ps text new
-  all_to_anyone old [] text new are = are
-  all_to_anyone old (p ∷ ps) text new (first, rest, mid, is, going, own, later) = (first, rest, mid, is, going, to_anyone old p first mid own, all_to_anyone mid ps rest new later)
-
   -- ---- a session stays
 
-  keeps : (s : Option Session) (p : Piece) (text : List ℕ) (new : State) → RespondsBy admits hosted s p text new → is_some s ≡ true → is_some new.0 ≡ true
+  keeps : (s : Option Opened) (p : Piece) (text : List ℕ) (new : State) → RespondsBy admits hosted s p text new → is_some s ≡ true → is_some new.0 ≡ true
   keeps None p text new responds has = absurd (false≢true has)
   keeps (Some s) p text new (e, after, own_line, said, exchange, now) has = ap is_some now
 
@@ -63,17 +40,17 @@ module _ (admits : Admits) (hosted : Hosted) where
   Answered old ps text new = AreAnswered (Responds admits hosted) over old ps text new
 
   -- a session stays
-  stays : (ps : List Piece) (s : Session) (away : Bool) (text : List ℕ) (new : State) → Answered (Some s, away) ps text new → new.0 ≡ None → ⊥
+  stays : (ps : List Piece) (s : Opened) (away : Bool) (text : List ℕ) (new : State) → Answered (Some s, away) ps text new → new.0 ≡ None → ⊥
   stays [] s away text new (none, same) gone = absurd (let e : Some s ≡ None = ap (λ (x : State). x.0) (sym same) ∙ gone in cc)
   stays (p ∷ ps) s away text new (first, rest, mid, is, going, (e, after, own_line, said, exchange, now), later) gone =
-      stays ps after mid.1 rest new (subst (λ (x : Option Session). Answered (x, mid.1) ps rest new) now later) gone
+      stays ps after mid.1 rest new (subst (λ (x : Option Opened). Answered (x, mid.1) ps rest new) now later) gone
 
   -- a line that opened none is the last one
   turned_last : (ps : List Piece) (p : Piece) (text rest : List ℕ) (away : Bool) (new : State) → Greets admits hosted p text None away → Answered (None, away) ps rest new → over new ≡ false → ⊥
   turned_last [] p text rest away new greets (none, same) going = false≢true (sym going ∙ ap over same ∙ (turned admits hosted p text away greets).0)
   turned_last (q ∷ qs) p text rest away new greets (first, more, mid, is, still, own, later) going = false≢true (sym still ∙ (turned admits hosted p text away greets).0)
 
-  by_mid : (s : Option Session) (ps : List Piece) (p : Piece) (text rest : List ℕ) (away : Bool) (new : State) → Greets admits hosted p text s away → Answered (s, away) ps rest new → new.0 ≡ None → over new ≡ false → ⊥
+  by_mid : (s : Option Opened) (ps : List Piece) (p : Piece) (text rest : List ℕ) (away : Bool) (new : State) → Greets admits hosted p text s away → Answered (s, away) ps rest new → new.0 ≡ None → over new ≡ false → ⊥
   by_mid None ps p text rest away new greets later gone going = turned_last ps p text rest away new greets later going
   by_mid (Some s) ps p text rest away new greets later gone going = stays ps s away rest new later gone
 

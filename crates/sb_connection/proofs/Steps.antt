@@ -1,30 +1,35 @@
 -- What a connection does keeps what holds of it.
 use Rattle.std.proofs.Common.{◌≡◌, ◌⊎◌, ◌<◌, ◌≤◌, ◌+◌, ◌-◌, ◌∙◌, ◌==◌, MatchBool, arith, length, length-append, sym, ap, subst, refl, inl, inr, ℕ, Bool, true, false, List, [], ◌∷◌, ◌++◌, take, drop, append_assoc, append-nil, Option, Some, None}
+use Rattle.std.specs.Option.{option_map_or}
+use Rattle.std.specs.Prelude.{flat_map, OnErr, OnOk, Result, Ok, Err}
 use Rattle.std.proofs.lemmas.Bool.{eqb-false, eqb-true, false≢true}
-use Rattle.std.proofs.lemmas.List.{length-drop, take-append-drop}
+use Rattle.std.proofs.lemmas.List.{drop-append-le, length-drop, take-append-drop}
 use Rattle.std.proofs.Math.Seq.{drop-append_seam, drop-length}
 use Rattle.sb_wire.specs.Lines.{Completes, Piece, complete_pieces, last_piece, line, open_line, piece_of}
 use Rattle.sb_wire.specs.Responses.{AreAnswered}
 use Rattle.sb_connection.specs.declared.state.State.TheVariants.{Open, Answered, Over, Failed}
 use Rattle.sb_connection.specs.declared.state.State as stands
-use Rattle.sb_connection.specs.Conversation.{Hosted}
-use Rattle.sb_connection.specs.History.{AreAll, AreComplete, History, IsSettled, MayReceive, Stands, Tells, after_end, after_receiving, after_sending, nothing_yet}
-use Rattle.sb_connection.specs.Machine.{Adds, AddsLast, Answers, Finishes, Holds, Steps, Talking}
-use Rattle.sb_connection.specs.Responding.{Admits, Greets, Responds, RespondsBy, State, anyone, over}
+use Rattle.sb_connection.specs.Conversation.{Hosted, named_by, welcome}
+use Rattle.sb_connection.specs.Exchanges.{said_text}
+use Rattle.sb_connection.specs.History.{AreAll, AreComplete, AreFirstLines, History, IsSessionOf, IsSettled, MayReceive, Stands, Tells, Transacts, after_end, after_receiving, after_sending, nothing_yet}
+use Rattle.sb_connection.specs.Machine.{Adds, AddsLast, Answers, Finishes, Holds, IsNamedBy, Steps, Talking, ended, last_state, named_after, named_first, naming}
+use Rattle.sb_connection.specs.Policies.{Admits}
+use Rattle.sb_connection.specs.Responding.{Opened, Greets, Responds, RespondsBy, State, over}
+use Rattle.sb_connection.specs.declared.greeting.SessionName.{SessionName}
 use Rattle.sb_connection.specs.Admission.{BringsKey}
 use Rattle.sb_connection.specs.Standing.{is_open}
-use Rattle.sb_desk.specs.Calls.{Session}
-use Rattle.sb_connection.proofs.Admitting.{all_keep_session, all_to_anyone, keeps_session, last_cases, none_before, none_from, some_from, to_anyone}
-use Rattle.sb_connection.proofs.Whole.{admitted}
+use Rattle.sb_connection.proofs.Admitting.{all_keep_session, keeps_session, last_cases, none_before, none_from, some_from}
+use Rattle.sb_connection.proofs.Whole.{admitted, transacting}
 
-pub nothing_holds : (hosted : Hosted) → Holds (record { history = nothing_yet hosted; opened = line []; talk = (None, false) })
-nothing_holds hosted = record {
+pub nothing_holds : (admits : Admits) (hosted : Hosted) → Holds admits (record { history = nothing_yet hosted; opened = line []; talk = (None, false) })
+nothing_holds admits hosted = record {
   pieces = [];
   text = [];
   tells = record { taken = []; split = refl; lost = []; whole = refl; stands = (refl, refl, refl) };
   is_open = refl;
   attached = refl;
   answered = (refl, refl);
+  named = refl;
 }
 
 -- behind the last line none is answered
@@ -63,17 +68,17 @@ drop_behind n bytes fed behind is =
     subst (λ (t : List ℕ). drop (length t - length behind) t ≡ behind) (sym whole)
     (ap (λ (m : ℕ). drop m (front ++ behind)) count ∙ drop-append_seam front behind)
 
-abbrev AreSaid : Hosted → State → List Piece → List ℕ → State → Type 0
-AreSaid hosted old ps text new = AreAnswered (Responds anyone hosted) over old ps text new
+abbrev AreSaid : Admits → Hosted → State → List Piece → List ℕ → State → Type 0
+AreSaid admits hosted old ps text new = AreAnswered (Responds admits hosted) over old ps text new
 
 -- some lines, and then others
-answered_then : (hosted : Hosted) (a b c : State) (ps qs : List Piece) (text more : List ℕ) → AreSaid hosted a ps text b → AreSaid hosted b qs more c → AreSaid hosted a (ps ++ qs) (text ++ more) c
-answered_then hosted a b c [] qs text more (none, same) others =
-    subst (λ (t : List ℕ). AreSaid hosted a qs t c) (ap (λ (t : List ℕ). t ++ more) (sym none)) (subst (λ (s : State). AreSaid hosted s qs more c) same others)
-answered_then hosted a b c (p ∷ ps) qs text more (first, rest, mid, is, going, own, first-others) others =
-    (first, rest ++ more, mid, ap (λ (t : List ℕ). t ++ more) is ∙ append_assoc first rest more, going, own, answered_then hosted mid b c ps qs rest more first-others others)
+answered_then : (admits : Admits) (hosted : Hosted) (a b c : State) (ps qs : List Piece) (text more : List ℕ) → AreSaid admits hosted a ps text b → AreSaid admits hosted b qs more c → AreSaid admits hosted a (ps ++ qs) (text ++ more) c
+answered_then admits hosted a b c [] qs text more (none, same) others =
+    subst (λ (t : List ℕ). AreSaid admits hosted a qs t c) (ap (λ (t : List ℕ). t ++ more) (sym none)) (subst (λ (s : State). AreSaid admits hosted s qs more c) same others)
+answered_then admits hosted a b c (p ∷ ps) qs text more (first, rest, mid, is, going, own, first-others) others =
+    (first, rest ++ more, mid, ap (λ (t : List ℕ). t ++ more) is ∙ append_assoc first rest more, going, own, answered_then admits hosted mid b c ps qs rest more first-others others)
 
-module _ (k : Talking) (holds : Holds k) where
+module _ (admits : Admits) (k : Talking) (holds : Holds admits k) where
   abbrev h : History
   h = k.history
 
@@ -86,6 +91,40 @@ module _ (k : Talking) (holds : Holds k) where
       ap (λ (t : List ℕ). t ++ own) (holds.tells.whole ∙ ap (λ (t : List ℕ). (h.handed ++ h.pending) ++ t) none ∙ append-nil (h.handed ++ h.pending))
       ∙ append_assoc h.handed h.pending own ∙ ap (λ (t : List ℕ). h.handed ++ t) (sym is) ∙ ap (λ (t : List ℕ). t ++ pending) (sym same)
 
+  -- ---- the session
+
+  first_lines : (s : stands.State) (seen : List ℕ) (pieces : List Piece) (lost : List ℕ) (b : Bool) → h.received ≡ seen ++ h.waiting → Stands s h seen pieces lost b → AreFirstLines h pieces
+  first_lines Open seen pieces lost b split so = inl (seen, h.waiting, split, so.0)
+  first_lines Answered seen pieces lost b split so = inr so.0
+  first_lines Over seen pieces lost b split so = inl (seen, h.waiting, split, so.0)
+  first_lines Failed seen pieces lost b split (inl some) = inl (seen, h.waiting, split, some)
+  first_lines Failed seen pieces lost b split (inr all) = inr all
+
+  -- it is the one that the first line names
+  pub session_named : (named : SessionName) → h.named ≡ Some named → IsSessionOf h named
+  session_named named is = by holds.pieces refl
+    where
+      by : (ps : List Piece) → holds.pieces ≡ ps → IsSessionOf h named
+      by [] none = absurd (let e : Some named ≡ None = sym is ∙ holds.named ∙ ap (λ (qs : List Piece). named_first h.hosted.keyed qs) none in cc)
+      by (p ∷ ps) some = record {
+        first = p;
+        behind = ps;
+        are_first = subst (λ (qs : List Piece). AreFirstLines h qs) some (first_lines h.state taken holds.pieces holds.tells.lost (over k.talk) holds.tells.split holds.tells.stands);
+        is = ap (λ (qs : List Piece). named_first h.hosted.keyed qs) (sym some) ∙ sym holds.named ∙ is;
+      }
+
+  -- whether it has a transaction
+  pub transacting_now : h.attached ≡ true → (has : Bool) → has ≡ option_map_or (λ (o : Opened). o.transacts) k.talk.0 false → Transacts h has
+  transacting_now attached has is =
+      let one = some_from k.talk.0 (sym holds.attached ∙ attached) in
+      let said = transacting admits h.hosted holds.pieces holds.text k.talk one.0 holds.answered one.1 in record {
+        first = said.0;
+        exchanges = said.1;
+        over = over k.talk;
+        tells = subst (λ (ps : List Piece). Tells h ps (welcome ++ flat_map said_text said.1) (over k.talk)) said.2 (subst (λ (t : List ℕ). Tells h holds.pieces t (over k.talk)) said.3 holds.tells);
+        is = is ∙ ap (λ (s : Option Opened). option_map_or (λ (o : Opened). o.transacts) s false) one.1 ∙ said.4;
+      }
+
   -- ---- from outside
 
   stands_sent : (s : stands.State) (count : ℕ) (pieces : List Piece) (lost : List ℕ) (b : Bool) → Stands s h taken pieces lost b → Stands s (after_sending h count) taken pieces lost b
@@ -97,7 +136,7 @@ module _ (k : Talking) (holds : Holds k) where
   -- the same is told where something was sent, or no more comes
   holds_with : (at_end : Bool) (handed pending : List ℕ) → holds.text ≡ (handed ++ pending) ++ holds.tells.lost
       → Stands h.state (record h { at_end = at_end; handed = handed; pending = pending }) taken holds.pieces holds.tells.lost (over k.talk)
-      → Holds (record k { history = record h { at_end = at_end; handed = handed; pending = pending } })
+      → Holds admits (record k { history = record h { at_end = at_end; handed = handed; pending = pending } })
   holds_with at_end handed pending whole so = record {
     pieces = holds.pieces;
     text = holds.text;
@@ -111,9 +150,10 @@ module _ (k : Talking) (holds : Holds k) where
     is_open = holds.is_open;
     attached = holds.attached;
     answered = holds.answered;
+    named = holds.named;
   }
 
-  pub holds_sent : (count : ℕ) → Holds (record k { history = after_sending h count })
+  pub holds_sent : (count : ℕ) → Holds admits (record k { history = after_sending h count })
   holds_sent count =
       let sent : (h.handed ++ take count h.pending) ++ drop count h.pending ≡ h.handed ++ h.pending =
       append_assoc h.handed (take count h.pending) (drop count h.pending) ∙ ap (λ (t : List ℕ). h.handed ++ t) (take-append-drop count h.pending) in
@@ -126,6 +166,25 @@ module _ (k : Talking) (holds : Holds k) where
 
     pub not_over : over k.talk ≡ false
     not_over = standing.2
+
+    -- what is named behind lines more
+    names_more : (ps : List Piece) → named_after k.talk.0 h.hosted.keyed h.named ps ≡ named_first h.hosted.keyed (holds.pieces ++ ps)
+    names_more ps = names_by k.talk.0 refl ps
+      where
+        names_new : (ps : List Piece) → holds.pieces ≡ [] → named_after None h.hosted.keyed h.named ps ≡ named_first h.hosted.keyed (holds.pieces ++ ps)
+        names_new [] none =
+            holds.named ∙ ap (λ (qs : List Piece). named_first h.hosted.keyed qs) (sym (append-nil holds.pieces))
+        names_new (p ∷ ps) none = ap (λ (qs : List Piece). named_first h.hosted.keyed (qs ++ p ∷ ps)) (sym none)
+
+        names_old : (s : Opened) (qs ps : List Piece) → k.talk.0 ≡ Some s → holds.pieces ≡ qs → h.named ≡ named_first h.hosted.keyed (qs ++ ps)
+        names_old s [] ps is none =
+            let said = subst (λ (qs : List Piece). AreSaid admits h.hosted (None, false) qs holds.text k.talk) none holds.answered in
+            absurd (let e : None ≡ Some s = ap (λ (x : State). x.0) (sym said.1) ∙ is in cc)
+        names_old s (q ∷ qs) ps is some = holds.named ∙ ap (λ (rs : List Piece). named_first h.hosted.keyed rs) some
+
+        names_by : (o : Option Opened) → k.talk.0 ≡ o → (ps : List Piece) → named_after o h.hosted.keyed h.named ps ≡ named_first h.hosted.keyed (holds.pieces ++ ps)
+        names_by None is ps = names_new ps (none_before admits h.hosted holds.pieces holds.text k.talk holds.answered is standing.2)
+        names_by (Some s) is ps = names_old s holds.pieces ps is refl
 
     -- what is told behind lines more: nothing is lost of their text
     all_told : (new : History) (seen : List ℕ) (pieces : List Piece) (own : List ℕ) (is_over : Bool) → new.received ≡ seen ++ new.waiting → new.handed ≡ h.handed → new.pending ≡ h.pending ++ own
@@ -160,7 +219,7 @@ module _ (k : Talking) (holds : Holds k) where
     stands_open : (new : History) (others : List ℕ) → new.state ≡ h.state → AreComplete others holds.pieces → Stands new.state new others holds.pieces holds.tells.lost (over k.talk)
     stands_open new others same all = subst (λ (s : stands.State). Stands s new others holds.pieces holds.tells.lost (over k.talk)) (sym (same ∙ open_is h.state going)) (all, standing.1, standing.2)
 
-    pub holds_received : (bytes : List ℕ) → Holds (record k { history = after_receiving h bytes })
+    pub holds_received : (bytes : List ℕ) → Holds admits (record k { history = after_receiving h bytes })
     holds_received bytes = record {
       pieces = holds.pieces;
       text = holds.text;
@@ -174,15 +233,16 @@ module _ (k : Talking) (holds : Holds k) where
       is_open = holds.is_open;
       attached = holds.attached;
       answered = holds.answered;
+      named = holds.named;
     }
 
-    pub holds_ended : Holds (record k { history = after_end h })
+    pub holds_ended : Holds admits (record k { history = after_end h })
     holds_ended = holds_with true h.handed h.pending holds.tells.whole (stands_open (after_end h) taken refl standing.0)
 
     -- ---- a step
 
     -- what waits goes on with the open line
-    pub holds_none : (q : Piece) → Completes k.opened h.waiting [] q → Holds (record { history = record h { waiting = [] }; opened = q; talk = k.talk })
+    pub holds_none : (q : Piece) → Completes k.opened h.waiting [] q → Holds admits (record { history = record h { waiting = [] }; opened = q; talk = k.talk })
     holds_none q completes =
         let more = completes.behind taken holds.is_open in record {
           pieces = holds.pieces;
@@ -197,10 +257,11 @@ module _ (k : Talking) (holds : Holds k) where
           is_open = more.1;
           attached = holds.attached;
           answered = holds.answered;
+          named = holds.named;
         }
 
     -- the line that the first bytes complete is answered
-    module _ (fed behind : List ℕ) (split : h.waiting ≡ fed ++ behind) (p : Piece) (completes : Completes k.opened fed (p ∷ []) (line [])) (admits : Admits) (new : Talking) (a : Answers admits (record { history = record h { waiting = behind }; opened = p; talk = k.talk }) new) where
+    module _ (fed behind : List ℕ) (split : h.waiting ≡ fed ++ behind) (p : Piece) (completes : Completes k.opened fed (p ∷ []) (line [])) (new : Talking) (a : Answers admits (record { history = record h { waiting = behind }; opened = p; talk = k.talk }) new) where
       abbrev pieces : List Piece
       pieces = holds.pieces ++ p ∷ []
 
@@ -221,8 +282,8 @@ module _ (k : Talking) (holds : Holds k) where
       told Over is (added, at_last) = all_told new.history (taken ++ fed) pieces a.text (over new.talk) new_split a.streams.3 added (stands_by Over [] is (complete, refl, at_last))
       told Failed is same = none_told new.history (taken ++ fed) pieces a.text (over new.talk) new_split a.streams.3 same (stands_by Failed a.text is (inl complete))
 
-      pub holds_line : Holds (record new { opened = line [] })
-      holds_line =
+      pub holds_line : IsNamedBy k (p ∷ []) new → Holds admits (record new { opened = line [] })
+      holds_line named =
           let t = told new.history.state refl a.adds in record {
             pieces = pieces;
             text = holds.text ++ a.text;
@@ -230,8 +291,9 @@ module _ (k : Talking) (holds : Holds k) where
             is_open = (completes.behind taken holds.is_open).1 ∙ ap (λ (bytes : List ℕ). piece_of (open_line bytes)) (sym t.1);
             attached = a.attached;
             answered =
-                subst (λ (n : Hosted). AreSaid n (None, false) pieces (holds.text ++ a.text) new.talk) (sym a.streams.0)
-                (answered_then h.hosted (None, false) k.talk new.talk holds.pieces (p ∷ []) holds.text a.text holds.answered (a.text, [], new.talk, sym (append-nil a.text), standing.2, to_anyone admits h.hosted k.talk p a.text new.talk a.responds, (refl, refl)));
+                subst (λ (n : Hosted). AreSaid admits n (None, false) pieces (holds.text ++ a.text) new.talk) (sym a.streams.0)
+                (answered_then admits h.hosted (None, false) k.talk new.talk holds.pieces (p ∷ []) holds.text a.text holds.answered (a.text, [], new.talk, sym (append-nil a.text), standing.2, a.responds, (refl, refl)));
+            named = named ∙ names_more (p ∷ []) ∙ ap (λ (n : Hosted). named_first n.keyed pieces) (sym a.streams.0);
           }
 
       -- it took bytes
@@ -253,11 +315,11 @@ module _ (k : Talking) (holds : Holds k) where
       pub brings : new.history.hosted.keyed ≡ true → h.attached ≡ false → new.history.attached ≡ true → BringsKey admits new.history
       brings keyed before after =
           let none : k.talk.0 ≡ None = none_from k.talk.0 (sym holds.attached ∙ before) in
-          let alone : holds.pieces ≡ [] = none_before anyone h.hosted holds.pieces holds.text k.talk holds.answered none standing.2 in
-          let greets : Greets admits h.hosted p a.text new.talk.0 new.talk.1 = subst (λ (s : Option Session). RespondsBy admits h.hosted s p a.text new.talk) none a.responds in
+          let alone : holds.pieces ≡ [] = none_before admits h.hosted holds.pieces holds.text k.talk holds.answered none standing.2 in
+          let greets : Greets admits h.hosted p a.text new.talk.0 new.talk.1 = subst (λ (s : Option Opened). RespondsBy admits h.hosted s p a.text new.talk) none a.responds in
           let one = some_from new.talk.0 (sym a.attached ∙ after) in
           let visitor = admitted admits h.hosted p a.text one.0 new.talk.1 (ap (λ (n : Hosted). n.keyed) (sym a.streams.0) ∙ keyed)
-          (subst (λ (s : Option Session). Greets admits h.hosted p a.text s new.talk.1) one.1 greets) in record {
+          (subst (λ (s : Option Opened). Greets admits h.hosted p a.text s new.talk.1) one.1 greets) in record {
             first = p;
             begins = inl (taken ++ fed, new.history.waiting, new_split, sym complete ∙ ap (λ (ps : List Piece). ps ++ p ∷ []) alone);
             visitor = visitor.0;
@@ -266,7 +328,7 @@ module _ (k : Talking) (holds : Holds k) where
           }
 
     -- the line that stands open at the end is answered
-    module _ (none : h.waiting ≡ []) (at_end : h.at_end ≡ true) (admits : Admits) (new : Talking) (a : Finishes admits k new) where
+    module _ (none : h.waiting ≡ []) (at_end : h.at_end ≡ true) (new : Talking) (a : Finishes admits k new) where
       abbrev all : List Piece
       all = holds.pieces ++ last_piece k.opened
 
@@ -291,8 +353,8 @@ module _ (k : Talking) (holds : Holds k) where
           none_told new.history taken all a.text (over new.talk) last_split a.streams.3 same
           (subst (λ (s : stands.State). Stands s new.history taken all a.text (over new.talk)) (sym is) (inr are_all))
 
-      pub holds_last : Holds new
-      holds_last =
+      pub holds_last : IsNamedBy k (last_piece k.opened) new → Holds admits new
+      holds_last named =
           let t = last_told new.history.state refl a.adds in record {
             pieces = all;
             text = holds.text ++ a.text;
@@ -300,8 +362,9 @@ module _ (k : Talking) (holds : Holds k) where
             is_open = a.opened ∙ holds.is_open ∙ ap (λ (bytes : List ℕ). piece_of (open_line bytes)) (sym t.1);
             attached = a.attached;
             answered =
-                subst (λ (n : Hosted). AreSaid n (None, false) all (holds.text ++ a.text) new.talk) (sym a.streams.0)
-                (answered_then h.hosted (None, false) k.talk new.talk holds.pieces (last_piece k.opened) holds.text a.text holds.answered (all_to_anyone admits h.hosted k.talk (last_piece k.opened) a.text new.talk a.answered));
+                subst (λ (n : Hosted). AreSaid admits n (None, false) all (holds.text ++ a.text) new.talk) (sym a.streams.0)
+                (answered_then admits h.hosted (None, false) k.talk new.talk holds.pieces (last_piece k.opened) holds.text a.text holds.answered a.answered);
+            named = named ∙ names_more (last_piece k.opened) ∙ ap (λ (n : Hosted). named_first n.keyed all) (sym a.streams.0);
           }
 
       -- a session that it opens
@@ -311,11 +374,11 @@ module _ (k : Talking) (holds : Holds k) where
           closed : k.talk.0 ≡ None
           closed = none_from k.talk.0 (sym holds.attached ∙ before)
 
-          one : (s : Session) × (new.talk.0 ≡ Some s)
+          one : (s : Opened) × (new.talk.0 ≡ Some s)
           one = some_from new.talk.0 (sym a.attached ∙ after)
 
           alone : holds.pieces ≡ []
-          alone = none_before anyone h.hosted holds.pieces holds.text k.talk holds.answered closed standing.2
+          alone = none_before admits h.hosted holds.pieces holds.text k.talk holds.answered closed standing.2
 
           by : (last_piece k.opened ≡ []) ⊎ (last_piece k.opened ≡ k.opened ∷ []) → BringsKey admits new.history
           by (inl no_line) =
@@ -325,9 +388,9 @@ module _ (k : Talking) (holds : Holds k) where
               let are = subst (λ (ps : List Piece). AreAnswered (Responds admits h.hosted) over k.talk ps a.text new.talk) is a.answered in
               let mid = are.2 in
               let now : mid ≡ new.talk = sym are.6.1 in
-              let greets : Greets admits h.hosted k.opened are.0 mid.0 mid.1 = subst (λ (s : Option Session). RespondsBy admits h.hosted s k.opened are.0 mid) closed are.5 in
+              let greets : Greets admits h.hosted k.opened are.0 mid.0 mid.1 = subst (λ (s : Option Opened). RespondsBy admits h.hosted s k.opened are.0 mid) closed are.5 in
               let visitor = admitted admits h.hosted k.opened are.0 one.0 mid.1 (ap (λ (n : Hosted). n.keyed) (sym a.streams.0) ∙ keyed)
-              (subst (λ (s : Option Session). Greets admits h.hosted k.opened are.0 s mid.1) (ap (λ (x : State). x.0) now ∙ one.1) greets) in record {
+              (subst (λ (s : Option Opened). Greets admits h.hosted k.opened are.0 s mid.1) (ap (λ (x : State). x.0) now ∙ one.1) greets) in record {
                 first = k.opened;
                 begins = inr (a.streams.1 ∙ at_end, ap complete_pieces same_bytes ∙ sym standing.0 ∙ alone, holds.is_open ∙ ap (λ (t : List ℕ). piece_of (open_line t)) (sym same_bytes));
                 visitor = visitor.0;
@@ -353,17 +416,17 @@ with_waiting k waiting opened = record { history = record k.history { waiting = 
 
 module _ (admits : Admits) (k0 k : Talking) (is : k0 ≡ k) (going : is_open k0.history.state ≡ true) (waiting : List ℕ) where
   pub line_step : (fed behind : List ℕ) (p q : Piece) (new0 new : Talking) → k0.history.waiting ≡ fed ++ behind → waiting ≡ behind → Completes k0.opened fed (p ∷ []) (line []) → q ≡ line [] → new0 ≡ new
-      → Answers admits (with_waiting k0 waiting p) new → Steps admits k true (record new0 { opened = q })
-  line_step fed behind p q new0 new split left completes cleared view_is a =
+      → Answers admits (with_waiting k0 waiting p) new → IsNamedBy (with_waiting k0 waiting p) (p ∷ []) new → Steps admits k true (record new0 { opened = q })
+  line_step fed behind p q new0 new split left completes cleared view_is a named =
       let answers : Answers admits (with_waiting k0 behind p) new = subst (λ (t : List ℕ). Answers admits (with_waiting k0 t p) new) left a in
       subst (λ (m : Talking). Steps admits m true (record new0 { opened = q })) is
       (subst (λ (n : Talking). Steps admits k0 true (record n { opened = q })) (sym view_is)
       (subst (λ (r : Piece). Steps admits k0 true (record new { opened = r })) (sym cleared)
       (record {
-        holds = λ holds. holds_line k0 holds going fed behind split p completes admits new answers;
-        lets = λ holds. brings k0 holds going fed behind split p completes admits new answers;
+        holds = λ holds. holds_line admits k0 holds going fed behind split p completes new answers named;
+        lets = λ holds. brings admits k0 holds going fed behind split p completes new answers;
         stays = λ holds before. answers.attached ∙ keeps_session admits k0.history.hosted k0.talk p answers.text new.talk answers.responds (sym holds.attached ∙ before);
-        goes = λ holds more. took k0 holds going fed behind split p completes admits new answers;
+        goes = λ holds more. took admits k0 holds going fed behind split p completes new answers;
         streams = a.streams;
         settles = λ more. absurd (false≢true (sym more));
       })))
@@ -373,7 +436,7 @@ module _ (admits : Admits) (k0 k : Talking) (is : k0 ≡ k) (going : is_open k0.
       subst (λ (m : Talking). Steps admits m false (with_waiting k0 waiting q)) is
       (subst (λ (t : List ℕ). Steps admits k0 false (with_waiting k0 t q)) (sym none)
       (record {
-        holds = λ holds. holds_none k0 holds going q completes;
+        holds = λ holds. holds_none admits k0 holds going q completes;
         lets = λ holds keyed before after. absurd (false≢true (sym before ∙ after));
         stays = λ holds before. before;
         goes = λ holds more. absurd (false≢true more);
@@ -381,16 +444,72 @@ module _ (admits : Admits) (k0 k : Talking) (is : k0 ≡ k) (going : is_open k0.
         settles = λ over. inr (inr (refl, more));
       }))
 
-  pub last_step : (q : Piece) (new : Talking) → waiting ≡ [] → Completes k0.opened k0.history.waiting [] q → k0.history.at_end ≡ true → Finishes admits (with_waiting k0 waiting q) new → Steps admits k false new
-  last_step q new none completes at_end a =
+  pub last_step : (q : Piece) (new : Talking) → waiting ≡ [] → Completes k0.opened k0.history.waiting [] q → k0.history.at_end ≡ true → Finishes admits (with_waiting k0 waiting q) new → IsNamedBy (with_waiting k0 waiting q) (last_piece q) new → Steps admits k false new
+  last_step q new none completes at_end a named =
       let finishes : Finishes admits (with_waiting k0 [] q) new = subst (λ (t : List ℕ). Finishes admits (with_waiting k0 t q) new) none a in
-      let open_yet : Holds k0 → Holds (with_waiting k0 [] q) = λ holds. holds_none k0 holds going q completes in
+      let open_yet : Holds admits k0 → Holds admits (with_waiting k0 [] q) = λ holds. holds_none admits k0 holds going q completes in
       subst (λ (m : Talking). Steps admits m false new) is
       (record {
-        holds = λ holds. holds_last (with_waiting k0 [] q) (open_yet holds) going refl at_end admits new finishes;
-        lets = λ holds. brings_last (with_waiting k0 [] q) (open_yet holds) going refl at_end admits new finishes;
+        holds = λ holds. holds_last admits (with_waiting k0 [] q) (open_yet holds) going refl at_end new finishes named;
+        lets = λ holds. brings_last admits (with_waiting k0 [] q) (open_yet holds) going refl at_end new finishes;
         stays = λ holds before. finishes.attached ∙ all_keep_session admits k0.history.hosted k0.talk (last_piece q) finishes.text new.talk finishes.answered (sym holds.attached ∙ before);
         goes = λ holds more. absurd (false≢true more);
         streams = a.streams;
         settles = λ over. inl (closed_last new.history.state _ _ _ a.adds);
       })
+
+-- ---- its name
+
+-- what answers the line under its name answers it
+pub answers_named : (admits : Admits) (old new : Talking) → Answers admits (naming old) new → Answers admits old new
+answers_named admits old new a =
+    record { text = a.text; responds = a.responds; adds = a.adds; attached = a.attached; streams = a.streams; waiting = a.waiting; opened = a.opened }
+
+-- ---- the last line
+
+last_some : (p q : Piece) → q ∷ [] ≡ last_piece p → last_piece p ≡ p ∷ []
+last_some p q some =
+    elim (last_cases p) [
+      | inl none ↦ absurd (let e : q ∷ [] ≡ [] = some ∙ none in cc)
+      | inr is ↦ is
+    ]
+
+adds_last : (s : stands.State) (old text new : List ℕ) (is_over : Bool) → Adds s old text new is_over → AddsLast (last_state s) old text new
+adds_last Open old text new is_over added = added.0
+adds_last Answered old text new is_over none = absurd none
+adds_last Over old text new is_over added = added.0
+adds_last Failed old text new is_over same = same
+
+module _ (old mid : Talking) (q : Piece) (some : q ∷ [] ≡ last_piece old.opened) where
+  -- it is answered, and no other one comes
+  pub finishes_line : (admits : Admits) → over old.talk ≡ false → Answers admits old mid → Finishes admits old (ended mid)
+  finishes_line admits going a = record {
+    text = a.text;
+    answered =
+        subst (λ (ps : List Piece). AreAnswered (Responds admits old.history.hosted) over old.talk ps a.text mid.talk) (sym (last_some old.opened q some))
+        (a.text, [], mid.talk, sym (append-nil a.text), going, a.responds, (refl, refl));
+    adds = adds_last mid.history.state old.history.pending a.text mid.history.pending (over mid.talk) a.adds;
+    attached = a.attached;
+    streams = a.streams;
+    waiting = a.waiting;
+    opened = a.opened;
+  }
+
+  pub named_last : IsNamedBy old (old.opened ∷ []) mid → IsNamedBy old (last_piece old.opened) (ended mid)
+  named_last named = subst (λ (ps : List Piece). IsNamedBy old ps mid) (sym (last_some old.opened q some)) named
+
+-- ---- what a reply adds
+
+module _ {T E : Type 0} (r : Result T E) where
+  -- behind what waits
+  pub adds_by : (s : stands.State) (is_over : Bool) (sent : ℕ) (old text new : List ℕ) → sent ≤ length old → OnErr r (s ≡ Failed) → OnOk r (MatchBool is_over (s ≡ Over) (s ≡ Open))
+      → OnOk r (new ≡ old ++ text) → OnErr r (new ≡ old) → Adds s (drop sent old) text (drop sent new) is_over
+  adds_by s is_over sent old text new within failed done more same = by r is_over failed done more same
+    where
+      behind : new ≡ old ++ text → drop sent new ≡ drop sent old ++ text
+      behind is = ap (λ (l : List ℕ). drop sent l) is ∙ drop-append-le sent old text within
+
+      by : (a : Result T E) (b : Bool) → OnErr a (s ≡ Failed) → OnOk a (MatchBool b (s ≡ Over) (s ≡ Open)) → OnOk a (new ≡ old ++ text) → OnErr a (new ≡ old) → Adds s (drop sent old) text (drop sent new) b
+      by (Err e) b failed done more same = subst (λ (t : stands.State). Adds t (drop sent old) text (drop sent new) b) (sym failed) (ap (λ (l : List ℕ). drop sent l) same)
+      by (Ok x) true failed done more same = subst (λ (t : stands.State). Adds t (drop sent old) text (drop sent new) true) (sym done) (behind more, refl)
+      by (Ok x) false failed done more same = subst (λ (t : stands.State). Adds t (drop sent old) text (drop sent new) false) (sym done) (behind more, refl)

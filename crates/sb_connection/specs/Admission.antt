@@ -3,7 +3,7 @@ use Rattle.std.specs.Prelude.{◌≡◌, true, false, Some}
 use Rattle.sb_wire.specs.Lines.{Piece}
 use Rattle.sb_connection.specs.Conversation.{Visitor, visitor_in}
 use Rattle.sb_connection.specs.History.{History}
-use Rattle.sb_connection.specs.Responding.{Admits}
+use Rattle.sb_connection.specs.Policies.{Admits}
 use Rattle.sb_connection.specs.Routing.{Begins}
 
 -- the first line of what came names the tenant, and brings a key that opens it

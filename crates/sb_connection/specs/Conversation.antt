@@ -16,6 +16,7 @@ use Rattle.sb_desk.specs.Calls.{Attached}
 use Rattle.sb_desk.specs.declared.stub.Stub.{Stub}
 use Rattle.sb_connection.specs.declared.greeting.SessionName.{SessionName}
 use Rattle.sb_connection.specs.declared.serve.Served.{Served}
+use Rattle.sb_connection.specs.Policies.{Admits, anyone}
 use Rattle.sb_connection.specs.Exchanges.{AreCalls, AreReceipts, Exchange, has_ended, line_in, said_text}
 
 -- ---- the tenants of a host, as lines name them
@@ -69,6 +70,12 @@ abbrev pub visitor_in : Piece → Option Visitor
 visitor_in too_long = None
 visitor_in (line bytes) = visitor_of bytes
 
+-- it brings a key that opens the tenant which it names
+pub record IsAdmitted (admits : Admits) (first : Piece) : Type 0 where
+  pub visitor : Visitor
+  pub is : visitor_in first ≡ Some visitor
+  pub admitted : admits visitor.named.tenant visitor.key
+
 -- why no session was opened
 abbrev pub attach_lines : AttachError → List (List ℕ)
 attach_lines attach.NoTenant = refusal_line wire.NoTenant ∷ []
@@ -102,10 +109,12 @@ welcome = ended_lines (codes "ok" ∷ [])
 
 -- ---- all lines
 
--- The session that the first line names was opened, called with the lines behind, and closed; it is over where one of them ended it.
-pub record Serves (hosted : Hosted) (first : Piece) (behind : List Piece) (text : List ℕ) (stub : Stub) (over : Bool) : Type 0 where
+-- The session that the first line names was opened, with keys to whoever brings one of its tenant's, called with the lines behind, and closed; it
+-- is over where one of them ended it.
+pub record Serves (admits : Admits) (hosted : Hosted) (first : Piece) (behind : List Piece) (text : List ℕ) (stub : Stub) (over : Bool) : Type 0 where
   pub named : SessionName
   pub is_named : named_by hosted.keyed first ≡ Some named
+  pub admitted : hosted.keyed ≡ true → IsAdmitted admits first
   pub within : (tenant_at hosted named.tenant < hosted.tenants) × (named.session < session_count)
   pub exchanges : List Exchange
   pub are_calls : AreCalls exchanges
@@ -116,11 +125,11 @@ pub record Serves (hosted : Hosted) (first : Piece) (behind : List Piece) (text 
   pub over_is : over ≡ has_ended exchanges
 
 -- no line came; or the first one opened no session, and is the last; or it did
-abbrev pub Talks : Hosted → List Piece → List ℕ → Option Stub → Bool → Type 0
-Talks hosted [] text stub over = (text ≡ []) × (stub ≡ None) × (over ≡ false)
-Talks hosted (first ∷ behind) text None over =
+abbrev pub Talks : Admits → Hosted → List Piece → List ℕ → Option Stub → Bool → Type 0
+Talks admits hosted [] text stub over = (text ≡ []) × (stub ≡ None) × (over ≡ false)
+Talks admits hosted (first ∷ behind) text None over =
     (behind ≡ []) × ((said : List (List ℕ)) × TurnsAway hosted first said × (text ≡ ended_lines said)) × (over ≡ true)
-Talks hosted (first ∷ behind) text (Some stub) over = Serves hosted first behind text stub over
+Talks admits hosted (first ∷ behind) text (Some stub) over = Serves admits hosted first behind text stub over
 
 -- What a connection does until it is closed: it reads some bytes and answers some lines, the writer took a first part of the text, and
 -- the rest is left.
@@ -130,7 +139,7 @@ pub record Conversation (hosted : Hosted) (input held rest holds : Option (List 
   pub pieces : List Piece
   pub text : List ℕ
   pub over : Bool
-  pub talks : Talks hosted pieces text stub over
+  pub talks : Talks anyone hosted pieces text stub over
   pub written : List ℕ
   pub left : List ℕ
   pub whole : text ≡ written ++ left

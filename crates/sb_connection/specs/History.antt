@@ -1,10 +1,14 @@
 -- Machine: what a connection has received and handed out, however both were cut, and which lines it has answered.
-use Rattle.std.specs.Prelude.{◌≡◌, ◌⊎◌, ℕ, Bool, true, false, List, [], ◌++◌, take, drop, Option}
+use Rattle.std.specs.Prelude.{◌≡◌, ◌⊎◌, ℕ, Bool, true, false, List, [], ◌++◌, take, drop, map, flat_map, Option, Some, None, ◌∷◌}
 use Rattle.sb_wire.specs.Lines.{Piece, complete_pieces, last_piece, open_line, piece_of}
 use Rattle.sb_desk.specs.declared.stub.Stub.{Stub}
 use Rattle.sb_connection.specs.declared.state.State.{State}
 use Rattle.sb_connection.specs.declared.state.State.TheVariants.{Open, Answered, Over, Failed}
-use Rattle.sb_connection.specs.Conversation.{Hosted, Talks}
+use Rattle.sb_connection.specs.Conversation.{Hosted, Talks, named_by, welcome}
+use Rattle.sb_connection.specs.Exchanges.{Exchange, line_in, said_text}
+use Rattle.sb_connection.specs.Transactions.{transacts_from}
+use Rattle.sb_connection.specs.Policies.{Admits}
+use Rattle.sb_connection.specs.declared.greeting.SessionName.{SessionName}
 use Rattle.sb_connection.specs.Standing.{is_open}
 
 pub record History : Type 0 where
@@ -13,6 +17,8 @@ pub record History : Type 0 where
   pub state : State
   -- a session was opened
   pub attached : Bool
+  -- what the first line names, once it is answered
+  pub named : Option SessionName
   -- the client sends no more
   pub at_end : Bool
   -- all bytes that came, and those of them that aren't looked at yet
@@ -25,7 +31,7 @@ pub record History : Type 0 where
 -- ---- what is done from outside
 
 abbrev pub nothing_yet : Hosted → History
-nothing_yet hosted = record { hosted = hosted; state = Open; attached = false; at_end = false; received = []; waiting = []; handed = []; pending = [] }
+nothing_yet hosted = record { hosted = hosted; state = Open; attached = false; named = None; at_end = false; received = []; waiting = []; handed = []; pending = [] }
 
 abbrev pub after_receiving : History → List ℕ → History
 after_receiving h bytes = record h { received = h.received ++ bytes; waiting = h.waiting ++ bytes }
@@ -80,10 +86,29 @@ pub record Tells (h : History) (pieces : List Piece) (text : List ℕ) (over : B
   pub whole : text ≡ (h.handed ++ h.pending) ++ lost
   pub stands : Stands h.state h taken pieces lost over
 
+-- these are the first lines of all that came
+abbrev pub AreFirstLines : History → List Piece → Type 0
+AreFirstLines h pieces = ((taken rest : List ℕ) × (h.received ≡ taken ++ rest) × AreComplete taken pieces) ⊎ AreAll h.received pieces
+
+-- the session that the first line names
+pub record IsSessionOf (h : History) (named : SessionName) : Type 0 where
+  pub first : Piece
+  pub behind : List Piece
+  pub are_first : AreFirstLines h (first ∷ behind)
+  pub is : named_by h.hosted.keyed first ≡ Some named
+
+-- whether its session has a transaction, by the answers to the lines behind the first one
+pub record Transacts (h : History) (has : Bool) : Type 0 where
+  pub first : Piece
+  pub exchanges : List Exchange
+  pub over : Bool
+  pub tells : Tells h (first ∷ map line_in exchanges) (welcome ++ flat_map said_text exchanges) over
+  pub is : has ≡ transacts_from false exchanges
+
 -- what a connection did until it was closed
-pub record Converses (h : History) (stub : Option Stub) : Type 0 where
+pub record Converses (admits : Admits) (h : History) (stub : Option Stub) : Type 0 where
   pub pieces : List Piece
   pub text : List ℕ
   pub over : Bool
   pub tells : Tells h pieces text over
-  pub talks : Talks h.hosted pieces text stub over
+  pub talks : Talks admits h.hosted pieces text stub over

@@ -1,8 +1,11 @@
+pub mod Policies
 pub mod Exchanges
 pub mod Conversation
 pub mod Responding
 pub mod Seen
+pub mod Passes
 pub mod Watching
+pub mod Telling
 pub mod Standing
 pub mod History
 pub mod Admission

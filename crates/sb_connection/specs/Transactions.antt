@@ -1,10 +1,11 @@
 -- Promise: whether a session has a transaction, by what it was answered.
-use Rattle.std.specs.Prelude.{ℕ, Bool, true, false, not, ◌==◌, drop, unwrap_or, List}
+use Rattle.std.specs.Prelude.{ℕ, Bool, true, false, not, ◌==◌, drop, unwrap_or, List, [], ◌∷◌}
 use Rattle.std.specs.Char.{is_ascii_whitespace}
 use Rattle.std.specs.List.{prefix_len, slice_get}
 use Rattle.sb_value.specs.declared.refusal.Refusal.{Refusal}
 use Rattle.sb_value.specs.declared.refusal.Refusal.TheVariants as refusal
 use Rattle.sb_tenant.specs.declared.reply.Reply.{Reply}
+use Rattle.sb_connection.specs.Exchanges.{Exchange, answered, overlong, unbegun}
 use Rattle.sb_tenant.specs.declared.reply.Reply.TheVariants.{Ok, Count, Rows, Done, ByRule, ByError, ByLimit, No}
 
 -- the first byte of a line behind the spaces in front, or 0
@@ -29,3 +30,14 @@ transacts_after was line (ByRule name trace) = false
 transacts_after was line (ByError name error trace) = false
 transacts_after was line (ByLimit trace) = false
 transacts_after was line (No error) = transacts_refused was error
+
+-- behind a line that was no step it is as before
+abbrev pub transacts_behind : Bool → Exchange → Bool
+transacts_behind was overlong = was
+transacts_behind was (unbegun line) = was
+transacts_behind was (answered line answer) = transacts_after was line answer.reply
+
+-- behind one exchange after another
+abbrev pub transacts_from : Bool → List Exchange → Bool
+transacts_from was [] = was
+transacts_from was (e ∷ es) = transacts_from (transacts_behind was e) es

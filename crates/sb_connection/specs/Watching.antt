@@ -1,5 +1,6 @@
 -- Machine: what is told of connections.
-use Rattle.std.specs.Prelude.{Bool, true, false}
+use Rattle.sb_wire.specs.Lines.{Piece, line, too_long}
+use Rattle.std.specs.Prelude.{ℕ, Bool, true, false, List, [], codes}
 use Rattle.sb_connection.specs.declared.watch.ConnectionEvent.{ConnectionEvent}
 use Rattle.sb_connection.specs.declared.watch.ConnectionEvent.TheVariants.{Came, Attached, Closed, Left}
 
@@ -10,3 +11,9 @@ is_warning (Attached named) = false
 is_warning (Closed named steps left) = false
 is_warning Left = false
 is_warning other = true
+
+-- The line that is told. The first one of a connection may bring a key: it is told as `open`.
+abbrev pub told_line : Bool → Piece → List ℕ
+told_line true first = codes "open"
+told_line false too_long = []
+told_line false (line bytes) = bytes

@@ -20,6 +20,21 @@ pub trait Admission {
         ensures { IsTrue result → admits self.now tenant key.now };
 }
 
+/// Lets in by one policy, which its type names.
+pub trait Doorkeeper {
+    ghost use Rattle.sb_connection.specs.Policies.{Policy};
+
+    ghost policy: { Policy };
+
+    /// Whether it asks for a key.
+    fn asks_for_key(&self) -> bool
+        ensures { result ≡ policy.keyed };
+
+    /// Whether it lets in who brings this key of a tenant, by the number that a line names.
+    fn lets_in<T: Wait>(&self, rt: &T, tenant: u32, key: &[u8]) -> bool
+        ensures { IsTrue result → policy.admits tenant key.now };
+}
+
 /// Every tenant is open, and first lines bring no key.
 pub struct Open;
 
@@ -38,5 +53,22 @@ impl Admission for Open {
         ensures { IsTrue result }
     {
         true
+    }
+}
+
+impl Doorkeeper for Open {
+    ghost use Rattle.std.specs.Prelude.{false};
+    ghost use Rattle.sb_connection.specs.Policies.{anyone, policy};
+
+    ghost policy = { policy false anyone };
+
+    fn asks_for_key(&self) -> bool {
+        self.wants_key()
+    }
+
+    fn lets_in<T: Wait>(&self, rt: &T, tenant: u32, key: &[u8]) -> bool
+        ensures { IsTrue result }
+    {
+        self.admits(rt, tenant, key)
     }
 }

@@ -1,13 +1,13 @@
 //! A connection as a value over bytes: bytes come in and bytes go out, and it makes no system call.
-ghost use Rattle.std.specs.Prelude.{◌≡◌, ◌<◌, ◌≤◌, ◌↔◌, length, IfOk, IfSome, IsFalse, IsSome, IsTrue, OnErr, OnOk, [], false, is_some, true};
+ghost use Rattle.std.specs.Prelude.{◌≡◌, ◌<◌, ◌≤◌, ◌↔◌, length, IfOk, IfSome, IsFalse, IsTrue, None, OnErr, OnOk, [], false, is_some, true};
 ghost use Rattle.sb_connection.specs.Conversation.{hosting_by};
 ghost use Rattle.sb_connection.specs.Admission.{LetsIn};
 ghost use Rattle.sb_connection.specs.Exchanges.{IsClosed};
-ghost use Rattle.sb_connection.specs.History.{Converses, IsSettled, MayReceive, SameStreams, after_end, after_receiving, after_sending, nothing_yet, pending_limit};
+ghost use Rattle.sb_connection.specs.History.{Converses, IsSessionOf, IsSettled, MayReceive, SameStreams, Transacts, after_end, after_receiving, after_sending, nothing_yet, pending_limit};
 ghost use Rattle.sb_connection.specs.Standing.{is_open};
 ghost use Rattle.sb_connection.specs.Traffic.{after_write};
 
-use crate::admission::Admission;
+use crate::admission::Doorkeeper;
 use crate::ending::ConnectionEnd;
 use crate::greeting::SessionName;
 use crate::machine::Machine;
@@ -26,17 +26,17 @@ const LINES_A_TURN: usize = 64;
 
 /// Give it what comes while it `wants_read`, `advance` it, and `send` while it `wants_write`,
 /// until it `is_done`. Then close it, or at any time before.
-pub struct Connection<H: Hosting> {
-    machine: Machine<H>,
+pub struct Connection<H: Hosting, D: Doorkeeper> {
+    machine: Machine<H, D>,
 }
 
-impl<H: Hosting> Drop for Connection<H> {
+impl<H: Hosting, D: Doorkeeper> Drop for Connection<H, D> {
     fn drop(self) {
         let Self { machine: _ } = self;
     }
 }
 
-impl<H: Hosting> Model for Connection<H> {
+impl<H: Hosting, D: Doorkeeper> Model for Connection<H, D> {
     ghost use Rattle.sb_connection.specs.History.{History};
     ghost use Rattle.sb_connection.specs.Machine.{Holds};
 
@@ -44,13 +44,14 @@ impl<H: Hosting> Model for Connection<H> {
 
     ghost view = { λ c. c.machine.history };
 
-    ghost invariant = { λ c. Holds c.machine };
+    ghost invariant = { λ c. Holds D.policy.admits c.machine };
 }
 
-impl<H: Hosting> Connection<H> {
+impl<H: Hosting, D: Doorkeeper> Connection<H, D> {
     /// Before its first byte; the host's first tenant has this number, and its first line brings a key or doesn't. It
     /// allocates nothing.
-    pub fn new(alloc: Global, host: H, first: u32, keyed: bool) -> Connection<H>
+    pub fn new(alloc: Global, host: H, first: u32, keyed: bool) -> Connection<H, D>
+        requires { keyed ≡ D.policy.keyed }
         ensures { result ≡ nothing_yet (hosting_by keyed first (H.tenants host)) }
     {
         Connection {
@@ -85,22 +86,17 @@ impl<H: Hosting> Connection<H> {
     }
 
     /// Answers the lines that came, as many as there are for one turn. Whether there may be more to answer at once.
-    pub fn advance<T: Wait, V: Watch, A: Admission>(
-        &mut self,
-        rt: &T,
-        watch: &V,
-        admission: &A,
-    ) -> bool
+    pub fn advance<T: Wait, V: Watch>(&mut self, rt: &T, watch: &V, doorkeeper: &D) -> bool
         ensures streams { SameStreams self.old self.new }
         ensures settles { IsFalse result → IsSettled self.new }
         ensures goes { IsTrue result → length self.new.waiting < length self.old.waiting }
-        ensures lets { LetsIn (A.admits admission.now) self.old self.new }
+        ensures lets { LetsIn D.policy.admits self.old self.new }
         ensures stays { self.old.attached ≡ true → self.new.attached ≡ true }
         // replies don't pile up
         ensures full { pending_limit ≤ length self.old.pending → self.new ≡ self.old }
     {
         for _line in 0..LINES_A_TURN {
-            if !self.machine.step(rt, watch, admission) {
+            if !self.machine.step(rt, watch, doorkeeper) {
                 return false;
             }
         }
@@ -145,14 +141,19 @@ impl<H: Hosting> Connection<H> {
         self.machine.waiting().len()
     }
 
-    /// Whether its session has a transaction, by what it was answered.
-    pub fn transacts(&self) -> bool {
-        self.machine.transacts
+    /// Whether its session has a transaction.
+    pub fn transacts(&self) -> bool
+        ensures session { self.now.attached ≡ true → Transacts self.now result }
+        ensures none { self.now.attached ≡ false → result ≡ false }
+    {
+        self.machine.transacts()
     }
 
     /// The session that it opened, if it did.
     pub fn session(&self) -> Option<SessionName>
-        ensures { IsSome result → self.now.attached ≡ true }
+        ensures is { self.now.attached ≡ true → result ≡ self.now.named }
+        ensures none { self.now.attached ≡ false → result ≡ None }
+        ensures named { IfSome result (IsSessionOf self.now) }
     {
         match self.machine.session {
             Some(_) => self.machine.named,
@@ -162,7 +163,8 @@ impl<H: Hosting> Connection<H> {
 
     /// Closes the session, if one was opened, and tells of it.
     pub fn close<T: Wait, V: Watch>(self, rt: &T, watch: &V, ended: ConnectionEnd) -> Option<Stub>
-        ensures conversation { Converses self result }
+        ensures conversation { Converses D.policy.admits self result }
+        ensures keyed { self.hosted.keyed ≡ D.policy.keyed }
         ensures closed { IfSome result (λ stub. IsClosed stub.receipts.items) }
         ensures attached { self.attached ≡ is_some result }
     {

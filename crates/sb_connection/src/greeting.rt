@@ -5,8 +5,9 @@ ghost use Rattle.sb_wire.specs.Seen.{piece_seen, refusal_line};
 ghost use Rattle.sb_connection.specs.Conversation.{attach_lines, hosting, hosting_by, named_by, named_of, tenant_at, visitor_of};
 ghost use Rattle.sb_connection.specs.Responding.{Greets, GreetsNamed, GreetsVisitor, WritesText};
 
-use crate::admission::Admission;
-use crate::caller::SessionCaller;
+use crate::admission::Doorkeeper;
+use crate::entrance::Pass;
+use crate::open_session::OpenSession;
 use crate::talking::Talk;
 use crate::watch::{ConnectionEvent, Watch};
 use sb_desk::{AttachError, Hosting};
@@ -94,52 +95,52 @@ pub(crate) fn number_of(first: u32, tenant: u32) -> u32 {
 }
 
 /// Opens the session that a first line names, or turns the connection away.
-pub(crate) fn greet<T: Wait, H: Hosting, V: Watch, A: Admission>(
-    talk: &Talk<'_, T, H, V, A>,
+pub(crate) fn greet<T: Wait, H: Hosting, V: Watch, D: Doorkeeper>(
+    talk: &Talk<'_, T, H, V, D>,
     alloc: Global,
     piece: Piece<'_>,
     out: &mut Vec<u8>,
-    session: &mut Option<SessionCaller<H::Session>>,
+    session: &mut Option<OpenSession<H::Session>>,
     away: &mut bool,
 ) -> Result<(), AllocError>
     requires { session.old ≡ None }
-    ensures { WritesText (λ text. Greets (A.admits talk.now.admission.now) (hosting_by talk.now.keyed talk.now.first (H.tenants talk.now.host))
+    ensures { WritesText (λ text. Greets D.policy.admits (hosting_by talk.now.keyed talk.now.first (H.tenants talk.now.entrance.now))
         (piece_seen piece.entry) text session.new away.new) out.old.items result out.new.items }
 {
     match piece {
         Piece::TooLong => turn_away(talk.watch, out, away, WireRefusal::TooLong),
         Piece::Line(line) if talk.keyed => greet_visitor(talk, alloc, line, out, session, away),
         Piece::Line(line) => match SessionName::split(line) {
-            Some(named) => open(talk, alloc, named, out, session, away),
+            Some(named) => open(talk, alloc, Pass::of_anybody(named), out, session, away),
             None => turn_away(talk.watch, out, away, WireRefusal::BadLine),
         },
     }
 }
 
 /// Opens the session that a first line with a key names, if it is a key of the tenant.
-fn greet_visitor<T: Wait, H: Hosting, V: Watch, A: Admission>(
-    talk: &Talk<'_, T, H, V, A>,
+fn greet_visitor<T: Wait, H: Hosting, V: Watch, D: Doorkeeper>(
+    talk: &Talk<'_, T, H, V, D>,
     alloc: Global,
     line: &[u8],
     out: &mut Vec<u8>,
-    session: &mut Option<SessionCaller<H::Session>>,
+    session: &mut Option<OpenSession<H::Session>>,
     away: &mut bool,
 ) -> Result<(), AllocError>
     requires { session.old ≡ None }
-    ensures { WritesText (λ text. GreetsVisitor (A.admits talk.now.admission.now)
-        (hosting_by talk.now.keyed talk.now.first (H.tenants talk.now.host)) (visitor_of line.now) text session.new away.new)
+    ensures { WritesText (λ text. GreetsVisitor D.policy.admits
+        (hosting_by talk.now.keyed talk.now.first (H.tenants talk.now.entrance.now)) (visitor_of line.now) text session.new away.new)
         out.old.items result out.new.items }
 {
     let Some(visitor) = Visitor::split(line) else {
         return turn_away(talk.watch, out, away, WireRefusal::BadKey);
     };
     let Visitor { named, key } = visitor;
-    if !talk.admission.admits(talk.rt, named.tenant, key) {
+    if !talk.doorkeeper.lets_in(talk.rt, named.tenant, key) {
         talk.watch.see(ConnectionEvent::Barred(named));
         *away = true;
         return write_bare_refusal(out, WireRefusal::BadKey);
     }
-    open(talk, alloc, named, out, session, away)
+    open(talk, alloc, Pass::by_key(named, key), out, session, away)
 }
 
 /// Turns a connection away whose first line names no session.
@@ -158,24 +159,24 @@ fn turn_away<V: Watch>(
     write_bare_refusal(out, why)
 }
 
-/// Opens this session, or turns the connection away.
-fn open<T: Wait, H: Hosting, V: Watch, A: Admission>(
-    talk: &Talk<'_, T, H, V, A>,
+/// Opens the session of a pass, or turns the connection away.
+fn open<T: Wait, H: Hosting, V: Watch, D: Doorkeeper>(
+    talk: &Talk<'_, T, H, V, D>,
     alloc: Global,
-    named: SessionName,
+    pass: Pass<D>,
     out: &mut Vec<u8>,
-    session: &mut Option<SessionCaller<H::Session>>,
+    session: &mut Option<OpenSession<H::Session>>,
     away: &mut bool,
 ) -> Result<(), AllocError>
     requires { session.old ≡ None }
-    ensures { WritesText (λ text. GreetsNamed (hosting_by talk.now.keyed talk.now.first (H.tenants talk.now.host)) named text
+    ensures { WritesText (λ text. GreetsNamed (hosting_by talk.now.keyed talk.now.first (H.tenants talk.now.entrance.now)) pass text
         session.new away.new) out.old.items result out.new.items }
 {
-    let tenant = tenant_at(talk.first, talk.host.tenants(), named.tenant);
-    match talk.host.attach(talk.rt, alloc, tenant, named.session) {
+    let named = pass.named();
+    match talk.entrance.open(talk.rt, alloc, talk.first, pass) {
         Ok(opened) => {
             talk.watch.see(ConnectionEvent::Attached(named));
-            *session = Some(SessionCaller::new(opened));
+            *session = Some(OpenSession::new(opened));
             write_bare_reply(out, &Reply::Ok)
         }
         Err(error) => {

@@ -1,29 +1,29 @@
 //! The steps of a connection, each of which answers a line.
-ghost use Rattle.std.specs.Prelude.{◌≡◌, ◌<◌, ◌≤◌, [], false, true, None, length, ◌⊎◌, IfOk, IsFalse, IsTrue, MatchBool, OnErr, OnOk};
-ghost use Rattle.sb_wire.specs.Lines.{line};
+ghost use Rattle.std.specs.Prelude.{◌≡◌, ◌<◌, ◌≤◌, [], ◌∷◌, false, true, None, length, ◌⊎◌, IfOk, IsFalse, IsTrue, MatchBool, OnErr, OnOk};
+ghost use Rattle.std.specs.Option.{option_map_or};
+ghost use Rattle.sb_wire.specs.Lines.{last_piece, line};
 ghost use Rattle.sb_connection.specs.Conversation.{hosting_by};
 ghost use Rattle.sb_connection.specs.History.{MayReceive, after_end, after_receiving, after_sending, nothing_yet, pending_limit};
-ghost use Rattle.sb_connection.specs.Machine.{Answers, Finishes, Steps};
+ghost use Rattle.sb_connection.specs.Machine.{Answers, Finishes, IsNamedBy, Steps, ended, naming};
 ghost use Rattle.sb_connection.specs.Responding.{over};
 ghost use Rattle.sb_connection.specs.Standing.{is_open};
 ghost use Rattle.sb_connection.specs.Traffic.{after_write};
 
-use crate::admission::Admission;
-use crate::caller::SessionCaller;
+use crate::admission::Doorkeeper;
+use crate::entrance::Entrance;
 use crate::greeting::{SessionName, named_in};
+use crate::open_session::OpenSession;
 use crate::room::{newest_step, tell_refusal, tell_reply, tell_room, was_unbegun};
 use crate::state::State;
 use crate::stream::Stream;
 use crate::talking::Talk;
-use crate::transactions::transacts_after;
 use crate::watch::{ConnectionEvent, Watch};
 use http_server::Log;
 use sb_desk::Hosting;
-use sb_tenant::OPEN;
 use sb_wire::{Lines, Piece, Responder, WireRefusal};
 use std::alloc::{AllocError, Global};
 use std::io;
-use std::marker::Model;
+use std::marker::{Model, PhantomData};
 use std::sync::Wait;
 
 /// While so many bytes or more wait to be sent, no line is answered.
@@ -31,9 +31,10 @@ const MOST_PENDING: usize = 65_536;
 
 /// What a connection is: its session, the bytes that came and the bytes that go.
 #[derive(Drop)]
-pub(crate) struct Machine<H: Hosting> {
+pub(crate) struct Machine<H: Hosting, D: Doorkeeper> {
     pub(crate) alloc: Global,
-    pub(crate) host: H,
+    pub(crate) entrance: Entrance<H>,
+    pub(crate) by: PhantomData<D>,
     /// The number of the host's first tenant.
     pub(crate) first: u32,
     /// The first line brings a key.
@@ -41,15 +42,13 @@ pub(crate) struct Machine<H: Hosting> {
     pub(crate) state: State,
     /// The client sends no more.
     pub(crate) at_end: bool,
-    pub(crate) session: Option<SessionCaller<H::Session>>,
+    pub(crate) session: Option<OpenSession<H::Session>>,
     /// None was opened, and none will be.
     pub(crate) away: bool,
     /// What the first line names.
     pub(crate) named: Option<SessionName>,
     /// It is told that a line wasn't begun.
     pub(crate) tells_unbegun: bool,
-    /// It has a transaction.
-    pub(crate) transacts: bool,
     /// The line that stands open behind what is taken of the input.
     pub(crate) lines: Lines,
     pub(crate) input: Vec<u8>,
@@ -62,8 +61,17 @@ pub(crate) struct Machine<H: Hosting> {
     pub(crate) writes: Log<Vec<u8>, (usize, usize)>,
 }
 
-impl<H: Hosting> Model for Machine<H> {
-    ghost use Rattle.std.specs.Prelude.{◌≤◌, flat_map, is_some, take, drop, vec_len};
+/// How a session stood before a line.
+#[derive(Clone, Copy)]
+struct Before {
+    /// The newest answer that is a step.
+    step: Option<u32>,
+    has_session: bool,
+    transacts: bool,
+}
+
+impl<H: Hosting, D: Doorkeeper> Model for Machine<H, D> {
+    ghost use Rattle.std.specs.Prelude.{◌≡◌, ◌≤◌, flat_map, is_some, take, drop, vec_len};
     ghost use Rattle.sb_connection.specs.Conversation.{hosting_by};
     ghost use Rattle.sb_connection.specs.Machine.{Talking};
 
@@ -71,9 +79,10 @@ impl<H: Hosting> Model for Machine<H> {
 
     ghost view = { λ m. record {
       history = record {
-        hosted = hosting_by m.keyed m.first (H.tenants m.host);
+        hosted = hosting_by m.keyed m.first (H.tenants m.entrance);
         state = m.state;
         attached = is_some m.session;
+        named = m.named;
         at_end = m.at_end;
         received = flat_map (λ r. r.0.items) m.reads.items;
         waiting = drop m.taken m.input.items;
@@ -84,16 +93,18 @@ impl<H: Hosting> Model for Machine<H> {
       talk = (m.session, m.away);
     } };
 
-    ghost invariant = { λ m. (m.taken ≤ vec_len m.input) × (m.sent ≤ vec_len m.output) };
+    ghost invariant = { λ m. (m.taken ≤ vec_len m.input) × (m.sent ≤ vec_len m.output) × (m.keyed ≡ D.policy.keyed) };
 }
 
-impl<H: Hosting> Machine<H> {
-    pub(crate) fn new(alloc: Global, host: H, first: u32, keyed: bool) -> Machine<H>
+impl<H: Hosting, D: Doorkeeper> Machine<H, D> {
+    pub(crate) fn new(alloc: Global, host: H, first: u32, keyed: bool) -> Machine<H, D>
+        requires { keyed ≡ D.policy.keyed }
         ensures { result ≡ record { history = nothing_yet (hosting_by keyed first (H.tenants host)); opened = line []; talk = (None, false) } }
     {
         Machine {
             alloc,
-            host,
+            entrance: Entrance::new(host),
+            by: PhantomData,
             first,
             keyed,
             state: State::Open,
@@ -102,7 +113,6 @@ impl<H: Hosting> Machine<H> {
             away: false,
             named: None,
             tells_unbegun: false,
-            transacts: false,
             lines: Lines::new(),
             input: Vec::new(alloc),
             taken: 0,
@@ -126,22 +136,18 @@ impl<H: Hosting> Machine<H> {
         self.at_end = true;
     }
 
-    pub(crate) fn into_session(self) -> Option<SessionCaller<H::Session>>
-        ensures { result ≡ self.talk.0 }
+    pub(crate) fn into_session(self) -> Option<OpenSession<H::Session>>
+        ensures session { result ≡ self.talk.0 }
+        ensures keyed { self.history.hosted.keyed ≡ D.policy.keyed }
     {
         let Machine { session, .. } = self;
         session
     }
 
     /// Answers the next line, if one is complete and there is room for its reply. Whether there may be another one.
-    pub(crate) fn step<T: Wait, V: Watch, A: Admission>(
-        &mut self,
-        rt: &T,
-        watch: &V,
-        admission: &A,
-    ) -> bool
+    pub(crate) fn step<T: Wait, V: Watch>(&mut self, rt: &T, watch: &V, doorkeeper: &D) -> bool
         requires { is_open self.old.history.state ≡ true → over self.old.talk ≡ false }
-        ensures steps { Steps (A.admits admission.now) self.old result self.new }
+        ensures steps { Steps D.policy.admits self.old result self.new }
         ensures full { pending_limit ≤ length self.old.history.pending → self.new ≡ self.old }
     {
         if !self.may_answer() {
@@ -152,7 +158,7 @@ impl<H: Hosting> Machine<H> {
             Some(behind) => {
                 let left = behind.len();
                 self.taken = self.input.len() - left;
-                self.answer(rt, watch, admission);
+                self.answer(rt, watch, doorkeeper);
                 self.lines.clear();
                 true
             }
@@ -161,7 +167,7 @@ impl<H: Hosting> Machine<H> {
                 self.input = Vec::new(self.alloc);
                 self.taken = 0;
                 if self.at_end {
-                    self.answer_last(rt, watch, admission);
+                    self.answer_last(rt, watch, doorkeeper);
                 }
                 false
             }
@@ -169,85 +175,130 @@ impl<H: Hosting> Machine<H> {
     }
 
     /// Answers the line that is complete. A trail that fills up is told.
-    fn answer<T: Wait, V: Watch, A: Admission>(&mut self, rt: &T, watch: &V, admission: &A)
+    fn answer<T: Wait, V: Watch>(&mut self, rt: &T, watch: &V, doorkeeper: &D)
         requires { over self.old.talk ≡ false }
-        ensures { Answers (A.admits admission.now) self.old self.new }
+        ensures answers { Answers D.policy.admits self.old self.new }
+        ensures named { IsNamedBy self.old (self.old.opened ∷ []) self.new }
     {
-        let had_session = self.session.is_some();
-        if !had_session {
-            self.named = named_in(self.lines.line(), self.keyed);
-        }
-        let before = newest_step(&self.session);
-        self.respond(rt, watch, admission);
+        let before = Before {
+            step: newest_step(&self.session),
+            has_session: self.session.is_some(),
+            transacts: self.transacts(),
+        };
+        self.note_name();
+        self.respond(rt, watch, doorkeeper);
+        self.tell_answer(rt, watch, before);
+    }
+
+    /// Tells what the line was answered.
+    fn tell_answer<T: Wait, V: Watch>(&mut self, rt: &T, watch: &V, before: Before)
+        ensures { self.new ≡ self.old }
+    {
         match newest_step(&self.session) {
-            Some(step) if before != Some(step) => self.note_step(rt, watch, step, had_session),
-            step if had_session => self.note_none(rt, watch, step),
+            Some(step) if before.step != Some(step) => self.tell_step(rt, watch, step, before),
+            step if before.has_session => self.tell_none(rt, watch, step, before),
             _ => {}
         }
     }
 
-    /// The line was answered by this step.
-    fn note_step<T: Wait, V: Watch>(&mut self, rt: &T, watch: &V, step: u32, had_session: bool)
-        ensures { self.new ≡ self.old }
+    /// Before a session is open, notes what the line names.
+    fn note_name(&mut self)
+        ensures { self.new ≡ naming self.old }
     {
-        let transacted = self.transacts;
-        self.transacts = self.transacts_now();
+        if self.session.is_none() {
+            self.named = named_in(self.lines.line(), self.keyed);
+        }
+    }
+
+    /// The line was answered by this step.
+    fn tell_step<T: Wait, V: Watch>(&self, rt: &T, watch: &V, step: u32, before: Before) {
         let Some(named) = self.named else {
             return;
         };
         tell_room(watch, named.tenant, step);
-        match self.lines.line() {
-            Piece::Line(line) if had_session => {
-                tell_reply(rt, watch, &self.session, named, line, transacted);
-            }
-            _ => tell_reply(rt, watch, &self.session, named, OPEN, transacted),
-        }
+        tell_reply(
+            rt,
+            watch,
+            &self.session,
+            named,
+            self.lines.line(),
+            !before.has_session,
+            before.transacts,
+        );
     }
 
     /// The line was answered by no step, and the newest one is still this. Where it wasn't begun, that is told once.
-    fn note_none<T: Wait, V: Watch>(&mut self, rt: &T, watch: &V, newest: Option<u32>)
+    fn tell_none<T: Wait, V: Watch>(
+        &mut self,
+        rt: &T,
+        watch: &V,
+        newest: Option<u32>,
+        before: Before,
+    )
         ensures { self.new ≡ self.old }
     {
         let Some(named) = self.named else {
             return;
         };
-        let Piece::Line(line) = self.lines.line() else {
-            tell_refusal(rt, watch, named, WireRefusal::TooLong, self.transacts);
+        let Piece::Line(_) = self.lines.line() else {
+            tell_refusal(
+                rt,
+                watch,
+                named,
+                Piece::TooLong,
+                WireRefusal::TooLong,
+                before.transacts,
+            );
             return;
         };
         if !was_unbegun(&self.session, newest) {
-            tell_reply(rt, watch, &self.session, named, line, self.transacts);
+            tell_reply(
+                rt,
+                watch,
+                &self.session,
+                named,
+                self.lines.line(),
+                false,
+                before.transacts,
+            );
             return;
         }
-        tell_refusal(rt, watch, named, WireRefusal::NotBegun, self.transacts);
+        tell_refusal(
+            rt,
+            watch,
+            named,
+            self.lines.line(),
+            WireRefusal::NotBegun,
+            before.transacts,
+        );
         if !self.tells_unbegun {
             self.tells_unbegun = true;
             watch.see(ConnectionEvent::NotBegun(named));
         }
     }
 
-    /// Whether the session has a transaction, behind the newest answer.
-    fn transacts_now(&self) -> bool {
-        match (&self.session, self.lines.line()) {
-            (Some(session), Piece::Line(line)) => match session.last() {
-                Some(answer) => transacts_after(self.transacts, line, &answer.reply),
-                None => false,
-            },
-            _ => self.transacts,
+    /// Whether its session has a transaction.
+    pub(crate) fn transacts(&self) -> bool
+        ensures { result ≡ option_map_or (λ o. o.transacts) self.now.talk.0 false }
+    {
+        match &self.session {
+            Some(session) => session.transacts(),
+            None => false,
         }
     }
 
-    fn respond<T: Wait, V: Watch, A: Admission>(&mut self, rt: &T, watch: &V, admission: &A)
+    fn respond<T: Wait, V: Watch>(&mut self, rt: &T, watch: &V, doorkeeper: &D)
         requires { over self.old.talk ≡ false }
-        ensures { Answers (A.admits admission.now) self.old self.new }
+        ensures answers { Answers D.policy.admits self.old self.new }
+        ensures named { self.new.history.named ≡ self.old.history.named }
     {
         let talk = Talk {
             rt,
-            host: self.host,
+            entrance: &self.entrance,
             watch,
             first: self.first,
             keyed: self.keyed,
-            admission,
+            doorkeeper,
         };
         let answered = talk.respond(
             self.alloc,
@@ -256,23 +307,28 @@ impl<H: Hosting> Machine<H> {
             &mut self.session,
             &mut self.away,
         );
-        self.state = match answered {
-            Err(_) => State::Failed,
-            Ok(()) if talk.is_over(&self.session, &self.away) => State::Over,
-            Ok(()) => State::Open,
-        };
+        let is_over = talk.is_over(&self.session, &self.away);
+        self.state = state_after(answered, is_over);
     }
 
     /// Answers the line that stands open at the end, if it has a byte.
-    fn answer_last<T: Wait, V: Watch, A: Admission>(&mut self, rt: &T, watch: &V, admission: &A)
+    fn answer_last<T: Wait, V: Watch>(&mut self, rt: &T, watch: &V, doorkeeper: &D)
         requires { over self.old.talk ≡ false }
-        ensures { Finishes (A.admits admission.now) self.old self.new }
+        ensures finishes { Finishes D.policy.admits self.old self.new }
+        ensures named { IsNamedBy self.old (last_piece self.old.opened) self.new }
     {
         let Some(_) = self.lines.finish() else {
             self.state = State::Answered;
             return;
         };
-        self.answer(rt, watch, admission);
+        self.answer(rt, watch, doorkeeper);
+        self.end_lines();
+    }
+
+    /// No line is answered any more.
+    fn end_lines(&mut self)
+        ensures { self.new ≡ ended self.old }
+    {
         match self.state {
             State::Failed => {}
             _ => self.state = State::Answered,
@@ -376,5 +432,17 @@ impl<H: Hosting> Machine<H> {
             self.output = Vec::new(self.alloc);
             self.sent = 0;
         }
+    }
+}
+
+/// Where a connection stands behind a reply, which may have found no memory.
+fn state_after(answered: Result<(), AllocError>, is_over: bool) -> State
+    ensures failed { OnErr answered (result ≡ State.Failed) }
+    ensures done { OnOk answered (MatchBool is_over (result ≡ State.Over) (result ≡ State.Open)) }
+{
+    match answered {
+        Err(_) => State::Failed,
+        Ok(()) if is_over => State::Over,
+        Ok(()) => State::Open,
     }
 }

@@ -1,11 +1,11 @@
 //! What is told of the answers of a session, and of the room of its tenant's trail.
 
-use crate::caller::SessionCaller;
 use crate::greeting::SessionName;
+use crate::open_session::OpenSession;
 use crate::watch::{Answered, ConnectionEvent, Said, Watch};
 use sb_desk::Calling;
 use sb_tenant::TRAIL_LIMIT;
-use sb_wire::WireRefusal;
+use sb_wire::{Piece, WireRefusal};
 use std::sync::Wait;
 
 /// The most steps of a trail.
@@ -15,7 +15,7 @@ const MOST_STEPS: u32 = TRAIL_LIMIT as u32;
 const FEW_STEPS: u32 = MOST_STEPS / 10;
 
 /// Which step of its tenant the newest answer of a session is, if it is one.
-pub(crate) fn newest_step<S: Calling>(session: &Option<SessionCaller<S>>) -> Option<u32> {
+pub(crate) fn newest_step<S: Calling>(session: &Option<OpenSession<S>>) -> Option<u32> {
     let Some(session) = session else {
         return None;
     };
@@ -28,7 +28,7 @@ pub(crate) fn newest_step<S: Calling>(session: &Option<SessionCaller<S>>) -> Opt
 /// Whether the newest line wasn't begun, where it was no step and this is the newest one: an answer that is no step says
 /// that the trail is full.
 pub(crate) fn was_unbegun<S: Calling>(
-    session: &Option<SessionCaller<S>>,
+    session: &Option<OpenSession<S>>,
     newest: Option<u32>,
 ) -> bool {
     let Some(session) = session else {
@@ -45,21 +45,22 @@ pub(crate) fn steps_left(step: Option<u32>) -> u32 {
     }
 }
 
-/// Tells of a trail that fills up with this step.
+/// Tells of a trail that fills up with this step. The `end` of a session may stand behind the last one.
 pub(crate) fn tell_room<V: Watch>(watch: &V, tenant: u32, step: u32) {
     let left = steps_left(Some(step));
-    if left == 0 || left == FEW_STEPS {
+    if step == MOST_STEPS || left == FEW_STEPS {
         watch.see(ConnectionEvent::Fills { tenant, left });
     }
 }
 
-/// Tells the newest answer of a session, to this line.
+/// Tells the newest answer of a session, to this line, which may be the first one.
 pub(crate) fn tell_reply<T: Wait, V: Watch, S: Calling>(
     rt: &T,
     watch: &V,
-    session: &Option<SessionCaller<S>>,
+    session: &Option<OpenSession<S>>,
     named: SessionName,
-    line: &[u8],
+    piece: Piece<'_>,
+    is_first: bool,
     transacted: bool,
 ) {
     let Some(session) = session else {
@@ -70,30 +71,27 @@ pub(crate) fn tell_reply<T: Wait, V: Watch, S: Calling>(
     };
     watch.hear(
         rt,
-        Answered {
+        Answered::new(
             named,
-            line,
-            said: Said::Reply(&answer.reply),
+            piece,
+            is_first,
+            Said::Reply(&answer.reply),
             transacted,
-        },
+        ),
     );
 }
 
-/// Tells that a line of a session was no step.
+/// Tells that this line of a session was no step.
 pub(crate) fn tell_refusal<T: Wait, V: Watch>(
     rt: &T,
     watch: &V,
     named: SessionName,
+    piece: Piece<'_>,
     why: WireRefusal,
     transacted: bool,
 ) {
     watch.hear(
         rt,
-        Answered {
-            named,
-            line: &[],
-            said: Said::Refusal(why),
-            transacted,
-        },
+        Answered::new(named, piece, false, Said::Refusal(why), transacted),
     );
 }

@@ -6,9 +6,10 @@ ghost use Rattle.sb_connection.specs.Responding.{LeavesSome};
 ghost use Rattle.sb_wire.specs.Stream.{MayFail, OnWriteFault};
 
 use crate::admission::Open;
-use crate::caller::SessionCaller;
 use crate::ending::ConnectionEnd;
+use crate::entrance::Entrance;
 use crate::greeting::{SessionName, number_of};
+use crate::open_session::OpenSession;
 use crate::room::steps_left;
 use crate::talking::Talk;
 use crate::watch::{ConnectionEvent, NoWatch, Watch};
@@ -53,13 +54,14 @@ pub fn serve_one_with<T: Wait, H: Hosting, R: Source, W: Sink, V: Watch>(
     ensures refused { OnWriteFault result.ended (MayFail W.refuses W.contents writer.new) }
     ensures closed { IfSome result.stub (λ stub. IsClosed stub.receipts.items) }
 {
+    let entrance = Entrance::new(host);
     let talk = Talk {
         rt,
-        host,
+        entrance: &entrance,
         watch,
         first: 0,
         keyed: false,
-        admission: &Open,
+        doorkeeper: &Open,
     };
     let mut session = None;
     let mut away = false;
@@ -70,7 +72,7 @@ pub fn serve_one_with<T: Wait, H: Hosting, R: Source, W: Sink, V: Watch>(
 }
 
 /// Closes the session, if one was opened.
-pub(crate) fn close<T: Wait, S: Calling>(rt: &T, session: Option<SessionCaller<S>>) -> Option<Stub>
+pub(crate) fn close<T: Wait, S: Calling>(rt: &T, session: Option<OpenSession<S>>) -> Option<Stub>
     ensures { LeavesSome session result }
 {
     match session {

@@ -6,9 +6,10 @@ ghost use Rattle.sb_wire.specs.Seen.{piece_seen};
 ghost use Rattle.sb_connection.specs.Exchanges.{Exchange, line_in, said_text};
 ghost use Rattle.sb_connection.specs.Responding.{Exchanges};
 
-use crate::admission::Admission;
-use crate::caller::SessionCaller;
+use crate::admission::Doorkeeper;
+use crate::entrance::Entrance;
 use crate::greeting::greet;
+use crate::open_session::OpenSession;
 use crate::watch::Watch;
 use sb_desk::{CallError, Calling, Hosting};
 use sb_wire::{Piece, Responder, WireRefusal, write_bare_refusal, write_bare_reply};
@@ -17,25 +18,26 @@ use std::sync::Wait;
 
 /// Answers the lines of a connection: the first one on the host, the others by the session that it opened.
 #[derive(Drop)]
-pub(crate) struct Talk<'r, T, H: Hosting, V, A> {
+pub(crate) struct Talk<'r, T, H: Hosting, V, D: Doorkeeper> {
     pub(crate) rt: &'r T,
-    pub(crate) host: H,
+    pub(crate) entrance: &'r Entrance<H>,
     pub(crate) watch: &'r V,
     /// The number of the host's first tenant.
     pub(crate) first: u32,
     /// The first line brings a key.
     pub(crate) keyed: bool,
-    pub(crate) admission: &'r A,
+    pub(crate) doorkeeper: &'r D,
+    ghost asks: { keyed ≡ D.policy.keyed },
 }
 
-impl<'r, T: Wait, H: Hosting, V: Watch, A: Admission> Responder<
-    Option<SessionCaller<H::Session>>,
+impl<'r, T: Wait, H: Hosting, V: Watch, D: Doorkeeper> Responder<
+    Option<OpenSession<H::Session>>,
     bool,
-> for Talk<'r, T, H, V, A> {
+> for Talk<'r, T, H, V, D> {
     ghost use Rattle.sb_connection.specs.Conversation.{hosting_by};
     ghost use Rattle.sb_connection.specs.Responding.{Responds, over};
 
-    ghost responds = { λ talk. Responds (A.admits talk.admission.now) (hosting_by talk.keyed talk.first (H.tenants talk.host)) };
+    ghost responds = { λ talk. Responds D.policy.admits (hosting_by talk.keyed talk.first (H.tenants talk.entrance.now)) };
 
     ghost over = { over };
 
@@ -44,7 +46,7 @@ impl<'r, T: Wait, H: Hosting, V: Watch, A: Admission> Responder<
         alloc: Global,
         piece: Piece<'_>,
         out: &mut Vec<u8>,
-        first: &mut Option<SessionCaller<H::Session>>,
+        first: &mut Option<OpenSession<H::Session>>,
         second: &mut bool,
     ) -> Result<(), AllocError> {
         match first {
@@ -53,7 +55,7 @@ impl<'r, T: Wait, H: Hosting, V: Watch, A: Admission> Responder<
         }
     }
 
-    fn is_over(&self, first: &Option<SessionCaller<H::Session>>, second: &bool) -> bool {
+    fn is_over(&self, first: &Option<OpenSession<H::Session>>, second: &bool) -> bool {
         match first {
             Some(session) => session.ended(),
             None => *second,
@@ -67,9 +69,9 @@ fn exchange<T: Wait, S: Calling>(
     alloc: Global,
     piece: Piece<'_>,
     out: &mut Vec<u8>,
-    session: &mut SessionCaller<S>,
+    session: &mut OpenSession<S>,
 ) -> Result<(), AllocError>
-    requires { session.old.ended ≡ false }
+    requires { session.old.session.ended ≡ false }
     ensures { (e : Exchange) × (piece_seen piece.entry ≡ line_in e) × Exchanges session.old e session.new
         × OnOk result (out.new.items ≡ out.old.items ++ said_text e)
         × OnErr result (out.new.items ≡ out.old.items) }
@@ -85,9 +87,9 @@ fn exchange<T: Wait, S: Calling>(
 }
 
 /// Writes the newest answer of a session.
-fn write_last<S: Calling>(out: &mut Vec<u8>, session: &SessionCaller<S>) -> Result<(), AllocError>
-    requires { IsSome session.now.last }
-    ensures ok { IfSome session.now.last (λ answer. OnOk result (out.new.items ≡
+fn write_last<S: Calling>(out: &mut Vec<u8>, session: &OpenSession<S>) -> Result<(), AllocError>
+    requires { IsSome session.now.session.last }
+    ensures ok { IfSome session.now.session.last (λ answer. OnOk result (out.new.items ≡
         out.old.items ++ ended_lines (reply_lines answer.reply))) }
     ensures err { OnErr result (out.new.items ≡ out.old.items) }
 {

@@ -1,11 +1,12 @@
 //! What is told of connections while they are served.
 ghost use Rattle.std.specs.Prelude.{◌≡◌};
-ghost use Rattle.sb_connection.specs.Watching.{is_warning};
+ghost use Rattle.sb_wire.specs.Seen.{piece_seen};
+ghost use Rattle.sb_connection.specs.Watching.{is_warning, told_line};
 
 use crate::greeting::SessionName;
 use sb_desk::AttachError;
-use sb_tenant::Reply;
-use sb_wire::{StreamError, WireRefusal};
+use sb_tenant::{OPEN, Reply};
+use sb_wire::{Piece, StreamError, WireRefusal};
 use std::fmt;
 use std::fmt::{Display, Formatter};
 use std::io::ErrorKind;
@@ -140,11 +141,44 @@ impl Display for ConnectionEvent {
 #[derive(Clone, Copy)]
 pub struct Answered<'a> {
     pub named: SessionName,
-    /// The first line of a connection, which may bring a key, isn't told: it is `open` here.
-    pub line: &'a [u8],
+    line: &'a [u8],
     pub said: Said<'a>,
     /// The session had a transaction before.
     pub transacted: bool,
+}
+
+impl<'a> Answered<'a> {
+    ghost use Rattle.sb_connection.specs.Telling.{line_of};
+
+    /// What a line was answered, which may be the first one of a connection.
+    pub(crate) fn new(
+        named: SessionName,
+        piece: Piece<'a>,
+        is_first: bool,
+        said: Said<'a>,
+        transacted: bool,
+    ) -> Answered<'a>
+        ensures { line_of result ≡ told_line is_first (piece_seen piece.entry) }
+    {
+        let line = match piece {
+            _ if is_first => OPEN,
+            Piece::Line(line) => line,
+            Piece::TooLong => &[],
+        };
+        Answered {
+            named,
+            line,
+            said,
+            transacted,
+        }
+    }
+
+    /// The line, or `open` for the first one of a connection.
+    pub fn line(&self) -> &'a [u8]
+        ensures { result.now ≡ line_of self.now }
+    {
+        self.line
+    }
 }
 
 /// What a line was answered.

@@ -1,12 +1,13 @@
 use Rattle.sb_connection.specs.Conversation.{hosting}
-use Rattle.sb_connection.specs.Responding.{anyone, is_over}
+use Rattle.sb_connection.specs.Policies.{anyone}
+use Rattle.sb_connection.specs.Responding.{is_over}
 use Rattle.sb_connection.proofs.Whole.{whole}
 use Rattle.sb_connection.proofs.serve.serve_one_with.Goals as goal
 
 pub returns-clause-goes : goal.returns-clause-goes
-returns-clause-goes g c =
+returns-clause-goes g c = rw (← c.new-entrance.ensures) (
     let s = c.answer_stream-ended.ensures.goes.0 in
-    let all = whole anyone (hosting 0 (g.H.Hosting.tenants c.args.host)) s.pieces s.lines.text (c.answer_stream-ended.new.first, c.answer_stream-ended.new.second) c.close-stub.result s.lines.answered c.close-stub.ensures in (
+    let all = whole anyone (hosting 0 (g.H.Hosting.tenants c.new-entrance.result)) s.pieces s.lines.text (c.answer_stream-ended.new.first, c.answer_stream-ended.new.second) c.close-stub.result s.lines.answered c.close-stub.ensures in (
       record {
         seen = s.seen;
         reads = s.reads;
@@ -20,9 +21,9 @@ returns-clause-goes g c =
         appends = s.lines.appends;
       },
       c.answer_stream-ended.ensures.goes.1,
-    )
+    ))
 
 pub returns-clause-closed : goal.returns-clause-closed
 returns-clause-closed g c =
     let s = c.answer_stream-ended.ensures.goes.0 in
-    (whole anyone (hosting 0 (g.H.Hosting.tenants c.args.host)) s.pieces s.lines.text (c.answer_stream-ended.new.first, c.answer_stream-ended.new.second) c.close-stub.result s.lines.answered c.close-stub.ensures).1
+    (whole anyone (hosting 0 (g.H.Hosting.tenants c.new-entrance.result)) s.pieces s.lines.text (c.answer_stream-ended.new.first, c.answer_stream-ended.new.second) c.close-stub.result s.lines.answered c.close-stub.ensures).1

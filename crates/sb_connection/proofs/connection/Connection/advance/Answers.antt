@@ -18,7 +18,7 @@ returns-then-not-step-clause-full g c = λ many.
 pub returns-then-not-step-clause-lets : goal.returns-then-not-step-clause-lets
 returns-then-not-step-clause-lets g c =
     let so_far = c.loop-line.invariant in
-    lets_then (g.A.Admission.admits c.args.admission.now) c.args.self.now c.loop-line.self-inside.machine.history c.step.new.self.history c.step.ensures.steps.streams so_far.lets (c.step.ensures.steps.lets so_far.holds)
+    lets_then g.D.Doorkeeper.policy.admits c.args.self.now c.loop-line.self-inside.machine.history c.step.new.self.history c.step.ensures.steps.streams so_far.lets (c.step.ensures.steps.lets so_far.holds)
 
 pub returns-then-not-step-clause-stays : goal.returns-then-not-step-clause-stays
 returns-then-not-step-clause-stays g c = λ before. c.step.ensures.steps.stays c.loop-line.invariant.holds (c.loop-line.invariant.stays before)
@@ -31,7 +31,7 @@ loop-line-preserved g c =
     record {
       streams = (same.0 ∙ so_far.streams.0, same.1 ∙ so_far.streams.1, same.2 ∙ so_far.streams.2, same.3 ∙ so_far.streams.3);
       holds = c.step.ensures.steps.holds so_far.holds;
-      lets = lets_then (g.A.Admission.admits c.args.admission.now) c.args.self.now c.loop-line.self-inside.machine.history c.step.new.self.history same so_far.lets (c.step.ensures.steps.lets so_far.holds);
+      lets = lets_then g.D.Doorkeeper.policy.admits c.args.self.now c.loop-line.self-inside.machine.history c.step.new.self.history same so_far.lets (c.step.ensures.steps.lets so_far.holds);
       stays = λ before. c.step.ensures.steps.stays so_far.holds (so_far.stays before);
       goes = omega (arith, fewer, so_far.goes);
       full = λ many. still c.args.self.now c.loop-line.self-inside.machine.history c.loop-line.self-inside.machine c.step.new.self refl c.step.ensures.full (so_far.full many) many;

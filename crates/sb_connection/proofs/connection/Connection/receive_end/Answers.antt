@@ -7,4 +7,4 @@ use Rattle.sb_connection.proofs.connection.Connection.receive_end.Goals as goal
 pub invariant_of-self : goal.invariant_of-self
 invariant_of-self g c =
     let going : is_open c.self.inside.machine.history.state ≡ true = ap (λ h. is_open h.state) c.self.view_is ∙ c.requires.0 in
-    subst Holds (sym c.end.ensures) (holds_ended c.self.inside.machine c.self.invariant going)
+    subst (Holds g.D.Doorkeeper.policy.admits) (sym c.end.ensures) (holds_ended g.D.Doorkeeper.policy.admits c.self.inside.machine c.self.invariant going)

@@ -18,7 +18,7 @@ returns-in-Some-clause-steps g c =
     let behind = c.in-Some.behind.now in
     let split : drop c.self.inside.taken input ≡ fed.0 ++ behind = sym (slice_is c.self.inside.taken input c.as_slice.result.now c.as_slice.ensures.value) ∙ fed.1 in
     let left : drop (c.len.result - length behind) input ≡ behind = ap (λ (n : ℕ). drop (n - length behind) input) (search rules) ∙ drop_behind c.self.inside.taken input fed.0 behind split in
-    line_step _ _ _ c.self.view_is going _ fed.0 behind c.feed.new.self c.clear.new.self _ _ split left fed.3 c.clear.ensures c.self-in-Some.view_is c.answer.ensures
+    line_step _ _ _ c.self.view_is going _ fed.0 behind c.feed.new.self c.clear.new.self _ _ split left fed.3 c.clear.ensures c.self-in-Some.view_is c.answer.ensures.answers c.answer.ensures.named
 
 -- no line is complete, and none comes any more
 pub returns-then-self-clause-steps : goal.returns-then-self-clause-steps
@@ -26,7 +26,7 @@ returns-then-self-clause-steps g c =
     let going : is_open c.self.inside.state ≡ true = ap (λ k. is_open k.history.state) c.self.view_is ∙ c.may_answer.ensures.open (search rules) in
     let input = c.self.inside.input.items in
     let rest = slice_is c.self.inside.taken input c.as_slice.result.now c.as_slice.ensures.value in
-    last_step _ _ _ c.self.view_is going _ c.feed.new.self _ c.new.ensures.items (subst (λ (t : List ℕ). Completes c.self.inside.lines t [] c.feed.new.self) rest c.in-None.ensures) c.if-self.true c.answer_last.ensures
+    last_step _ _ _ c.self.view_is going _ c.feed.new.self _ c.new.ensures.items (subst (λ (t : List ℕ). Completes c.self.inside.lines t [] c.feed.new.self) rest c.in-None.ensures) c.if-self.true c.answer_last.ensures.finishes c.answer_last.ensures.named
 
 -- no line is complete yet
 pub returns-else-self-clause-steps : goal.returns-else-self-clause-steps
