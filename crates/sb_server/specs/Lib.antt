@@ -3,8 +3,10 @@ pub mod Carried
 pub mod Closed
 pub mod Doors
 pub mod Hearings
+pub mod Keeping
 pub mod Mailboxes
 pub mod Places
 pub mod Sessions
 pub mod Sockets
 pub mod Visits
+pub use Rattle.sb_connection.specs.Policies

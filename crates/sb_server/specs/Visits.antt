@@ -1,14 +1,20 @@
 -- Machine: how a turn of a connection over a stream ends.
-use Rattle.std.specs.Prelude.{◌≡◌, ◌⊎◌, ◌++◌, ◌∷◌, ℕ, Bool, true, false, List, [], ⊤, Result, Ok, Err}
+use Rattle.std.specs.Prelude.{◌≡◌, ◌⊎◌, ◌≤◌, ◌-◌, ◌++◌, ◌∷◌, ℕ, Bool, true, false, List, [], ⊤, Option, Some, Result, Ok, Err}
+use Rattle.std.specs.Duration.{as_nanos}
+use Rattle.std.specs.declared.time.Duration.{Duration}
 use Rattle.std.specs.IoError.{error_kind}
+use Rattle.std.specs.Time.{instant_nanos}
+use Rattle.std.specs.declared.time.Instant.{Instant}
 use Rattle.std.specs.declared.io.Error.{Error}
 use Rattle.sb_wire.specs.declared.fault.StreamError.TheVariants.{ReadFault, WriteFault, NoMemory}
 use Rattle.sb_connection.specs.declared.ending.ConnectionEnd.{ConnectionEnd}
+use Rattle.sb_connection.specs.declared.greeting.SessionName.{SessionName}
 use Rattle.sb_connection.specs.declared.ending.ConnectionEnd.TheVariants.{Well, Fault, Idle, IdleTransaction, ByOperator}
 use Rattle.sb_connection.specs.declared.state.State.TheVariants.{Failed}
 use Rattle.sb_connection.specs.History.{History, MayReceive}
 use Rattle.sb_connection.specs.Standing.{is_open}
 use Rattle.sb_connection.specs.Traffic.{Call, Traffic, after_read, blocks, reading_failed, writing_failed}
+use Rattle.sb_server.specs.declared.visit.Limits.{Limits}
 use Rattle.sb_server.specs.declared.visit.Next.{Next}
 use Rattle.sb_server.specs.declared.visit.Next.TheVariants.{Waits, GoesOn, Ends}
 
@@ -34,11 +40,23 @@ TellsEnd t h is_cut Waits = IsUnderWay h × ((h.pending ≡ [] → ⊥) ⊎ MayR
 TellsEnd t h is_cut GoesOn = IsUnderWay h × (h.pending ≡ [])
 TellsEnd t h is_cut (Ends ending) = EndsBy t h is_cut ending
 
+-- there is a limit, and nothing was heard for at least so long
+pub record IsSilentFor (limit : Option Duration) (heard : Option Instant) (now : Instant) : Type 0 where
+  pub length : Duration
+  pub last : Instant
+  pub is_limit : limit ≡ Some length
+  pub is_heard : heard ≡ Some last
+  pub reached : as_nanos length ≤ instant_nanos now - instant_nanos last
+
 -- so ends one that has been silent for too long
-abbrev pub IsSilence : ConnectionEnd → Type 0
-IsSilence Idle = ⊤
-IsSilence IdleTransaction = ⊤
-IsSilence ending = ⊥
+abbrev pub EndsSilent : Limits → Option Instant → Instant → ConnectionEnd → Type 0
+EndsSilent limits heard now Idle = IsSilentFor limits.idle heard now
+EndsSilent limits heard now IdleTransaction = IsSilentFor limits.idle_transaction heard now
+EndsSilent limits heard now ending = ⊥
+
+-- this session was opened for it
+abbrev pub HasSession : History → SessionName → Type 0
+HasSession h named = (h.attached ≡ true) × (h.named ≡ Some named)
 
 abbrev pub ends : Next → Bool
 ends Waits = false

@@ -83,7 +83,7 @@ impl<'e, 'w, V: Watch, C: Clock> Hearing<'e, 'w, V, C> {
                 trace.as_slice().len(),
             ),
             Reply::ByLimit(trace) => self.count_rollback(Cause::Limit, trace.as_slice().len()),
-            Reply::Ok if answered.transacted && is_rollback(answered.line) => {
+            Reply::Ok if answered.transacted && is_rollback(answered.line()) => {
                 self.count_rollback(Cause::Command, 0);
             }
             _ => {}
@@ -109,7 +109,7 @@ impl<'e, 'w, V: Watch, C: Clock> Hearing<'e, 'w, V, C> {
             self.add(Count::Steps, nanos);
             self.ears
                 .board
-                .note_line(rt, answered.named, answered.line, nanos);
+                .note_line(rt, answered.named, answered.line(), nanos);
             self.note_last(answered.named);
         }
         let Some(slow) = self.ears.slow else {
@@ -118,7 +118,7 @@ impl<'e, 'w, V: Watch, C: Clock> Hearing<'e, 'w, V, C> {
         if u128::from(nanos) >= slow.as_nanos() {
             let slow = Slow {
                 named: answered.named,
-                line: answered.line,
+                line: answered.line(),
                 millis: nanos / NANOS,
             };
             self.ears.watch.see_slow(self.port, slow);

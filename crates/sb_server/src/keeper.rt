@@ -1,4 +1,5 @@
 //! What is done before replies are sent.
+ghost use Rattle.std.specs.Prelude.{◌≡◌, ℕ, Bool, List};
 
 use std::sync::Wait;
 
@@ -14,11 +15,19 @@ pub enum Kept {
 
 /// Keeps what tenants were answered, before their clients are told.
 pub trait Keeper {
+    // anything is kept
+    ghost is_set: { Self → Bool };
+
+    // all that these tenants were answered so far is kept
+    ghost keeps: { Self → List ℕ → Type 0 };
+
     /// Whether anything is kept. Where nothing is, each connection is served by itself.
-    fn is_set(&self) -> bool;
+    fn is_set(&self) -> bool
+        ensures { result ≡ is_set self.now };
 
     /// Keeps all that these tenants were answered so far.
-    fn keep<T: Wait>(&self, rt: &T, tenants: &[u32]) -> Kept;
+    fn keep<T: Wait>(&self, rt: &T, tenants: &[u32]) -> Kept
+        ensures { result ≡ Kept.All → keeps self.now tenants.now };
 }
 
 /// Nothing is kept.
@@ -26,6 +35,12 @@ pub trait Keeper {
 pub struct Unkept;
 
 impl Keeper for Unkept {
+    ghost use Rattle.std.specs.Prelude.{false, ⊤};
+
+    ghost is_set = { λ _. false };
+
+    ghost keeps = { λ _ _. ⊤ };
+
     fn is_set(&self) -> bool {
         false
     }

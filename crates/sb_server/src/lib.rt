@@ -6,6 +6,7 @@ mod beside;
 mod board;
 mod counts;
 mod door;
+mod guard;
 mod hearing;
 mod input;
 mod keeper;

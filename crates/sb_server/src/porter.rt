@@ -12,7 +12,7 @@ use crate::sweeps::{SWEEP, Sweeps};
 use crate::worker::Worker;
 use mio::event::Event as Ready;
 use mio::{Events, Token};
-use sb_connection::{Admission, ConnectionEvent, Destination, Watch};
+use sb_connection::{ConnectionEvent, Destination, Doorkeeper, Watch};
 use sb_desk::{Hosting, Stub};
 use sb_wire::StreamError;
 use slab::Slab;
@@ -36,8 +36,8 @@ pub(crate) const FIRST_LINE: u32 = 10;
 
 /// The door with the newcomers, and a worker of its own for those that open no session.
 #[derive(Drop)]
-pub(crate) struct Porter<'s, H: Hosting, V, A, K, C> {
-    lobby: Worker<'s, H, V, A, K, C>,
+pub(crate) struct Porter<'s, H: Hosting, V, D: Doorkeeper, K: Keeper, C> {
+    lobby: Worker<'s, H, V, D, K, C>,
     door: Door<'s>,
     newcomers: Slab<Box<Newcomer>>,
     /// When late newcomers were looked for.
@@ -46,8 +46,8 @@ pub(crate) struct Porter<'s, H: Hosting, V, A, K, C> {
     has_told: bool,
 }
 
-impl<'s, H: Hosting, V: Watch, A: Admission, K: Keeper, C: Clock> Porter<'s, H, V, A, K, C> {
-    pub(crate) fn new(lobby: Worker<'s, H, V, A, K, C>, door: Door<'s>) -> Porter<'s, H, V, A, K, C>
+impl<'s, H: Hosting, V: Watch, D: Doorkeeper, K: Keeper, C: Clock> Porter<'s, H, V, D, K, C> {
+    pub(crate) fn new(lobby: Worker<'s, H, V, D, K, C>, door: Door<'s>) -> Porter<'s, H, V, D, K, C>
         ensures { result.lobby.stubs.items ≡ lobby.entry.stubs.items }
     {
         let newcomers = Slab::new(lobby.serving.alloc);
@@ -70,7 +70,7 @@ impl<'s, H: Hosting, V: Watch, A: Admission, K: Keeper, C: Clock> Porter<'s, H, 
 
     /// Takes connections, once all threads run, and closes those that are left.
     pub(crate) fn run<T: Wait>(&mut self, rt: &T, events: &mut Events, watches_input: bool)
-        ensures { GainsClosed self.old.lobby.stubs.items self.new.lobby.stubs.items }
+        ensures { GainsClosed D.policy self.old.lobby.stubs.items self.new.lobby.stubs.items }
     {
         if !self.lobby.meet(events) {
             return;
@@ -81,7 +81,7 @@ impl<'s, H: Hosting, V: Watch, A: Admission, K: Keeper, C: Clock> Porter<'s, H, 
 
     /// Takes connections until none is to be taken and none is left, or the server stops. Then the port is closed.
     fn serve<T: Wait>(&mut self, rt: &T, events: &mut Events, watches_input: bool)
-        ensures { GainsClosed self.old.lobby.stubs.items self.new.lobby.stubs.items }
+        ensures { GainsClosed D.policy self.old.lobby.stubs.items self.new.lobby.stubs.items }
     {
         self.begin(watches_input);
         self.turns(rt, events);
@@ -100,7 +100,7 @@ impl<'s, H: Hosting, V: Watch, A: Admission, K: Keeper, C: Clock> Porter<'s, H, 
     }
 
     fn turns<T: Wait>(&mut self, rt: &T, events: &mut Events)
-        ensures { GainsClosed self.old.lobby.stubs.items self.new.lobby.stubs.items }
+        ensures { GainsClosed D.policy self.old.lobby.stubs.items self.new.lobby.stubs.items }
     {
         for _turn in 0..u64::MAX {
             self.tell_last();

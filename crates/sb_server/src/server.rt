@@ -1,8 +1,9 @@
 //! All connections of a listener, served by workers.
-ghost use Rattle.std.specs.Prelude.{◌≡◌, ◌<◌, ◌≤◌, ◌++◌, [], IfOk, Ok, OnOk, Vec, vec_len};
+ghost use Rattle.std.specs.Prelude.{◌≡◌, ◌<◌, ◌≤◌, ◌++◌, [], ℕ, List, IfOk, IsTrue, Ok, OnOk, Vec, vec_len};
 ghost use Rattle.std.specs.Global.{Global as ItsGlobal};
 ghost use Rattle.std.specs.List.{All, flat_map};
 ghost use Rattle.sb_desk.specs.declared.stub.Stub.{Stub as ItsStub};
+ghost use Rattle.sb_connection.specs.Policies.{policy};
 ghost use Rattle.sb_server.specs.Closed.{LeaveClosed, LeavesClosed};
 ghost use Rattle.sb_server.specs.Mailboxes.{ArePlaced};
 ghost use Rattle.sb_server.specs.Places.{place_of};
@@ -10,6 +11,7 @@ ghost use Rattle.sb_server.specs.Places.{place_of};
 use crate::beside::{Beside, Over, run_beside};
 use crate::board::Board;
 use crate::door::Door;
+use crate::guard::{Guard, PolicyName};
 use crate::keeper::{Keeper, Kept};
 use crate::mailbox::{Letter, Mailbox};
 use crate::newcomer::Reception;
@@ -18,10 +20,11 @@ use crate::station::Station;
 use crate::visit::Limits;
 use crate::worker::Worker;
 use mio::{Events, Waker};
-use sb_connection::{Admission, Watch};
+use sb_connection::{Admission, Doorkeeper, Watch};
 use sb_desk::{Hosting, Stub};
 use sb_workers::Work;
 use std::alloc::{AllocError, Global};
+use std::marker::Brand;
 use std::net::{Net, TcpListener};
 use std::rt::Clock;
 use std::sync::Wait;
@@ -83,11 +86,11 @@ impl From<AllocError> for ServeError {
 
 /// What all threads share.
 #[derive(Drop)]
-pub(crate) struct Serving<'s, H: Hosting, V, A, K, C> {
+pub(crate) struct Serving<'s, H: Hosting, V, D, K, C> {
     pub(crate) alloc: Global,
     pub(crate) host: H,
     pub(crate) watch: &'s V,
-    pub(crate) admission: &'s A,
+    pub(crate) doorkeeper: &'s D,
     pub(crate) keeper: &'s K,
     pub(crate) board: &'s Board,
     pub(crate) clock: &'s C,
@@ -109,7 +112,7 @@ pub(crate) struct Serving<'s, H: Hosting, V, A, K, C> {
     ghost placed: { ArePlaced mailboxes.items },
 }
 
-impl<'s, H: Hosting, V, A, K, C> Serving<'s, H, V, A, K, C> {
+impl<'s, H: Hosting, V, D, K, C> Serving<'s, H, V, D, K, C> {
     /// The place of the worker that has a tenant's cell.
     pub(crate) fn place_of(&self, tenant: u32) -> usize
         ensures { result ≡ place_of H.cells (vec_len self.now.mailboxes) tenant }
@@ -238,11 +241,11 @@ pub(crate) struct Post {
     events: Events,
 }
 
-impl<'s, H: Hosting, V: Watch, A: Admission, K: Keeper, C: Clock> Work<Post, Vec<Stub>>
-    for Serving<'s, H, V, A, K, C> {
+impl<'s, H: Hosting, V: Watch, D: Doorkeeper, K: Keeper, C: Clock> Work<Post, Vec<Stub>>
+    for Serving<'s, H, V, D, K, C> {
     ghost use Rattle.sb_server.specs.Closed.{LeaveClosed};
 
-    ghost does = { λ _ stubs. LeaveClosed stubs };
+    ghost does = { λ _ stubs. LeaveClosed D.policy stubs };
 
     fn work<R: Wait>(&self, rt: &R, post: Post) -> Vec<Stub> {
         let Post {
@@ -257,21 +260,23 @@ impl<'s, H: Hosting, V: Watch, A: Admission, K: Keeper, C: Clock> Work<Post, Vec
     }
 }
 
-impl<'s, H: Hosting, V: Watch, A: Admission, K: Keeper, C: Clock> Serving<'s, H, V, A, K, C> {
+impl<'s, H: Hosting, V: Watch, D: Doorkeeper, K: Keeper, C: Clock> Serving<'s, H, V, D, K, C> {
     /// By what first lines are read.
     pub(crate) fn reception(&self) -> Reception
         ensures tenants { (result.first ≡ self.now.first_tenant) × (result.tenants ≡ H.tenants self.now.host) }
-        ensures keyed { result.keyed ≡ A.wants self.now.admission.now }
+        ensures keyed { result.keyed ≡ D.policy.keyed }
     {
         Reception {
             first: self.first_tenant,
             tenants: self.host.tenants(),
-            keyed: self.admission.wants_key(),
+            keyed: self.doorkeeper.asks_for_key(),
         }
     }
 
     /// Keeps what these tenants were answered. Whether it is kept; where nothing can be kept any more, the service ends.
-    pub(crate) fn keep<T: Wait>(&self, rt: &T, tenants: &[u32]) -> bool {
+    pub(crate) fn keep<T: Wait>(&self, rt: &T, tenants: &[u32]) -> bool
+        ensures { IsTrue result → K.keeps self.now.keeper.now tenants.now }
+    {
         match self.keeper.keep(rt, tenants) {
             Kept::All => !self.has_lost(),
             Kept::NotYet => false,
@@ -299,7 +304,7 @@ impl<'s, H: Hosting, V: Watch, A: Admission, K: Keeper, C: Clock> Serving<'s, H,
 
     /// Takes connections at the door, and closes those that open no session.
     fn keep_door<R: Wait>(&self, rt: &R, seat: Station, events: &mut Events) -> Vec<Stub>
-        ensures { LeaveClosed result }
+        ensures { LeaveClosed D.policy result }
     {
         let place = self.mailboxes.len();
         let lobby = Worker::new(self, place, self.lobby_limits(), seat);
@@ -317,10 +322,10 @@ impl<'s, H: Hosting, V: Watch, A: Admission, K: Keeper, C: Clock> Serving<'s, H,
         seat: Station,
         events: &mut Events,
     ) -> Vec<Stub>
-        ensures { LeaveClosed result }
+        ensures { LeaveClosed D.policy result }
     {
         let mut worker = Worker::new(self, place, self.limits(), seat);
-        worker.run(rt, place, events);
+        worker.run(rt, events);
         worker.into_stubs()
     }
 
@@ -361,8 +366,35 @@ where
     R: Threads + Wait + Net + Clock + Sync,
     H::Session: Send,
     requires workers { (0 < acceptor.now.terms.workers) × (acceptor.now.terms.workers ≤ 16) }
-    ensures { IfOk result (λ stubs. All LeavesClosed stubs.items) }
+    ensures { IfOk result (λ stubs. All
+        (LeavesClosed (policy (A.wants acceptor.now.admission.now) (A.admits acceptor.now.admission.now))) stubs.items) }
 {
+    serve_as::<Brand, H, V, A, K, G, R>(rt, alloc, acceptor, host, beside)
+}
+
+/// Serves them under a name of the policy.
+fn serve_as<N, H, V, A, K, G, R>(
+    rt: &R,
+    alloc: Global,
+    acceptor: &Acceptor<'_, V, A, K>,
+    host: H,
+    beside: &G,
+) -> Result<Vec<Stub>, ServeError>
+where
+    N: PolicyName + Sync,
+    H: Hosting + Sync,
+    V: Watch + Sync,
+    A: Admission + Sync,
+    K: Keeper + Sync,
+    G: Beside,
+    R: Threads + Wait + Net + Clock + Sync,
+    H::Session: Send,
+    requires workers { (0 < acceptor.now.terms.workers) × (acceptor.now.terms.workers ≤ 16) }
+    requires wants { A.wants acceptor.now.admission.now ≡ N.policy.keyed }
+    requires admits { (tenant : ℕ) (key : List ℕ) → A.admits acceptor.now.admission.now tenant key → N.policy.admits tenant key }
+    ensures { IfOk result (λ stubs. All (LeavesClosed N.policy) stubs.items) }
+{
+    let guard = Guard::<A, N>::new(acceptor.admission);
     let terms = acceptor.terms;
     if acceptor.listener.set_nonblocking(true).is_err() {
         return Err(ServeError::NoPlace);
@@ -373,7 +405,7 @@ where
         alloc,
         host,
         watch: acceptor.watch,
-        admission: acceptor.admission,
+        doorkeeper: &guard,
         keeper: acceptor.keeper,
         board: acceptor.board,
         clock: rt,

@@ -1,18 +1,19 @@
 //! A connection and its stream.
-ghost use Rattle.std.specs.Prelude.{◌≡◌, ◌<◌, ◌≤◌, ◌⊎◌, ◌↔◌, [], false, true, length, IfNone, IfOk, IfSome, IsFalse, IsSome, IsTrue, MatchResult, None, Ok, Some, is_some};
+ghost use Rattle.std.specs.Prelude.{◌≡◌, ◌<◌, ◌≤◌, ◌⊎◌, ◌↔◌, [], false, true, length, IfNone, IfOk, IfSome, IsSome, IsSomeAnd, IsTrue, MatchResult, None, Ok, Some, is_some};
 ghost use Rattle.sb_connection.specs.Conversation.{hosting_by};
-ghost use Rattle.sb_connection.specs.History.{MayReceive, SameStreams, after_sending};
+ghost use Rattle.std.specs.Duration.{as_nanos};
+ghost use Rattle.sb_connection.specs.History.{MayReceive, SameStreams, Transacts, after_sending};
 ghost use Rattle.sb_connection.specs.Traffic.{Traffic, after_read, after_write};
 ghost use Rattle.sb_server.specs.Carried.{Carries};
 ghost use Rattle.sb_server.specs.Closed.{Leaves};
-ghost use Rattle.sb_server.specs.Visits.{EndsBy, IsBlocked, IsSilence, ReadsOnce, SendsSome, TellsEnd, ends};
+ghost use Rattle.sb_server.specs.Visits.{EndsBy, EndsSilent, HasSession, IsBlocked, ReadsOnce, SendsSome, TellsEnd, ends};
 
 use crate::hearing::{Ears, Hearing};
 use crate::newcomer::{Newcomer, Reception};
 use crate::socket::Socket;
 use crate::told::Told;
 use mio::{Interest, Registry, Token};
-use sb_connection::{Admission, Connection, ConnectionEnd, SessionName, Stream, Watch};
+use sb_connection::{Connection, ConnectionEnd, Doorkeeper, SessionName, Stream, Watch};
 use sb_desk::{Hosting, Stub};
 use sb_wire::StreamError;
 use std::alloc::{AllocError, Global};
@@ -22,13 +23,13 @@ use std::sync::Wait;
 use std::time::{Duration, Instant};
 
 /// A client that has a connection.
-pub(crate) struct Visit<H: Hosting, S: Stream + Drop> {
+pub(crate) struct Visit<H: Hosting, S: Stream + Drop, D: Doorkeeper> {
     pub(crate) stream: S,
     /// The client's.
     pub(crate) port: u16,
     /// The one that its first line names, if it opens a session.
     pub(crate) tenant: Option<u32>,
-    pub(crate) connection: Connection<H>,
+    pub(crate) connection: Connection<H, D>,
     /// When its last whole line came, or was answered.
     pub(crate) heard: Option<Instant>,
     /// What the newest read found.
@@ -46,7 +47,7 @@ pub(crate) struct Visit<H: Hosting, S: Stream + Drop> {
     ghost carries: { Carries (S.traffic stream) connection is_cut },
 }
 
-impl<H: Hosting, S: Stream + Drop> Drop for Visit<H, S> {
+impl<H: Hosting, S: Stream + Drop, D: Doorkeeper> Drop for Visit<H, S, D> {
     fn drop(self) {
         let Self {
             stream: _,
@@ -87,31 +88,29 @@ pub(crate) enum Came {
 /// How often a client that has hung up is read in one turn, so that its session is soon closed.
 const LAST_READS: usize = 4;
 
-impl<H: Hosting, S: Stream + Drop> Visit<H, S> {
-    /// The first part of a turn: what waits is sent, and what comes is read and answered. It gives the fault, if there is
-    /// one.
-    pub(crate) fn take_in<T: Wait, V: Watch, C: Clock, A: Admission>(
+impl<H: Hosting, S: Stream + Drop, D: Doorkeeper> Visit<H, S, D> {
+    /// The first part of a turn: what comes is read and answered, and nothing is sent. It gives the fault, if there is one.
+    pub(crate) fn take_in<T: Wait, V: Watch, C: Clock>(
         &mut self,
         rt: &T,
         ears: &Ears<'_, V, C>,
-        admission: &A,
+        doorkeeper: &D,
         buffer: &mut Vec<u8>,
     ) -> Option<ConnectionEnd>
         ensures fault { IfSome result (EndsBy (S.traffic self.new.stream) self.new.connection self.new.is_cut) }
         ensures stays { self.old.connection.attached ≡ true → self.new.connection.attached ≡ true }
+        ensures unsent { self.new.connection.handed ≡ self.old.connection.handed }
+        ensures others { (self.new.tenant ≡ self.old.tenant) × (self.new.is_ended ≡ self.old.is_ended) }
     {
         self.is_active = false;
         if self.is_ended {
             return None;
         }
-        if let Some(fault) = self.send() {
-            return Some(fault);
-        }
         for _read in 0..LAST_READS {
             if let Some(fault) = self.hear(buffer) {
                 return Some(fault);
             }
-            self.answer(rt, ears, admission);
+            self.answer(rt, ears, doorkeeper);
             if !self.has_more() {
                 return None;
             }
@@ -124,6 +123,7 @@ impl<H: Hosting, S: Stream + Drop> Visit<H, S> {
         ensures tells { TellsEnd (S.traffic self.new.stream) self.new.connection self.new.is_cut result }
         ensures ended { self.old.is_ended ≡ true → ends result ≡ true }
         ensures stays { self.new.connection.attached ≡ self.old.connection.attached }
+        ensures others { self.new.tenant ≡ self.old.tenant }
     {
         match self.send() {
             Some(fault) => Next::Ends(fault),
@@ -149,19 +149,15 @@ impl<H: Hosting, S: Stream + Drop> Visit<H, S> {
     }
 
     /// Answers what came.
-    fn answer<T: Wait, V: Watch, C: Clock, A: Admission>(
-        &mut self,
-        rt: &T,
-        ears: &Ears<'_, V, C>,
-        admission: &A,
-    )
+    fn answer<T: Wait, V: Watch, C: Clock>(&mut self, rt: &T, ears: &Ears<'_, V, C>, doorkeeper: &D)
         ensures streams { SameStreams self.old.connection self.new.connection }
         ensures stays { self.old.connection.attached ≡ true → self.new.connection.attached ≡ true }
-        ensures others { (self.new.stream ≡ self.old.stream) × (self.new.is_cut ≡ self.old.is_cut) }
+        ensures stream { (self.new.stream ≡ self.old.stream) × (self.new.is_cut ≡ self.old.is_cut) }
+        ensures others { (self.new.tenant ≡ self.old.tenant) × (self.new.is_ended ≡ self.old.is_ended) }
     {
         let before = self.connection.waiting();
         let hearing = Hearing::new(ears, self.port);
-        self.connection.advance(rt, &hearing, admission);
+        self.connection.advance(rt, &hearing, doorkeeper);
         self.is_active |= match self.came {
             Came::Bytes { has_line, .. } => has_line,
             _ => self.connection.waiting() < before,
@@ -199,6 +195,8 @@ impl<H: Hosting, S: Stream + Drop> Visit<H, S> {
         ensures reads { MayReceive self.old.connection → self.old.connection.pending ≡ [] → self.old.is_cut ≡ false
             → ReadsOnce (S.traffic self.old.stream) (S.traffic self.new.stream) }
         ensures stays { self.new.connection.attached ≡ self.old.connection.attached }
+        ensures unsent { self.new.connection.handed ≡ self.old.connection.handed }
+        ensures others { (self.new.tenant ≡ self.old.tenant) × (self.new.is_ended ≡ self.old.is_ended) }
     {
         if self.is_cut {
             return Some(out_of_memory());
@@ -234,7 +232,7 @@ impl<H: Hosting, S: Stream + Drop> Visit<H, S> {
         ensures sends { SendsSome self.old.connection self.new.connection }
         ensures all { IfNone result ((self.new.connection.pending ≡ []) ⊎ IsBlocked (S.traffic self.new.stream)) }
         ensures fault { IfSome result (EndsBy (S.traffic self.new.stream) self.new.connection self.new.is_cut) }
-        ensures others { (self.new.is_cut ≡ self.old.is_cut) × (self.new.is_ended ≡ self.old.is_ended) }
+        ensures others { (self.new.is_cut ≡ self.old.is_cut) × (self.new.is_ended ≡ self.old.is_ended) × (self.new.tenant ≡ self.old.tenant) }
     {
         while self.connection.wants_write() {
             match self.send_once() {
@@ -259,14 +257,14 @@ impl<H: Hosting, S: Stream + Drop> Visit<H, S> {
             (λ _. self.new.connection ≡ self.old.connection) }
         ensures traffic { S.traffic self.new.stream
             ≡ after_write (S.traffic self.old.stream) self.old.connection.pending result }
-        ensures others { (self.new.is_cut ≡ self.old.is_cut) × (self.new.is_ended ≡ self.old.is_ended) }
+        ensures others { (self.new.is_cut ≡ self.old.is_cut) × (self.new.is_ended ≡ self.old.is_ended) × (self.new.tenant ≡ self.old.tenant) }
     {
         self.connection.send(&mut self.stream)
     }
 
     /// Takes note of its newest turn at this time.
     pub(crate) fn note_turn(&mut self, now: Option<Instant>)
-        ensures { self.new.connection ≡ self.old.connection }
+        ensures { (self.new.connection ≡ self.old.connection) × (self.new.tenant ≡ self.old.tenant) }
     {
         if self.is_active {
             self.heard = now;
@@ -275,7 +273,8 @@ impl<H: Hosting, S: Stream + Drop> Visit<H, S> {
 
     /// How a connection ends that has been silent for too long, if it has.
     pub(crate) fn silence(&self, now: Instant, limits: &Limits) -> Option<ConnectionEnd>
-        ensures ending { IfSome result IsSilence }
+        ensures ending { IfSome result (EndsSilent limits.now self.now.heard now) }
+        ensures transaction { result ≡ Some ConnectionEnd.IdleTransaction → Transacts self.now.connection true }
         ensures due { self.now.is_due ≡ true → result ≡ None }
         ensures limits { limits.now.idle ≡ None → limits.now.idle_transaction ≡ None → result ≡ None }
     {
@@ -283,7 +282,7 @@ impl<H: Hosting, S: Stream + Drop> Visit<H, S> {
             return None;
         }
         let silent = now.duration_since(self.heard?);
-        if is_over(silent, limits.idle_transaction) && self.connection.transacts() {
+        if is_over(silent, limits.idle_transaction) && self.has_transaction() {
             return Some(ConnectionEnd::IdleTransaction);
         }
         if is_over(silent, limits.idle) {
@@ -294,7 +293,7 @@ impl<H: Hosting, S: Stream + Drop> Visit<H, S> {
 
     /// Whether it has this session.
     pub(crate) fn has_session(&self, named: SessionName) -> bool
-        ensures { IsTrue result → self.now.connection.attached ≡ true }
+        ensures { IsTrue result ↔ HasSession self.now.connection named }
     {
         match self.connection.session() {
             Some(own) => own.tenant == named.tenant && own.session == named.session,
@@ -304,9 +303,10 @@ impl<H: Hosting, S: Stream + Drop> Visit<H, S> {
 
     /// Whether its session has a transaction.
     pub(crate) fn has_transaction(&self) -> bool
-        ensures { IsTrue result → self.now.connection.attached ≡ true }
+        ensures attached { IsTrue result → self.now.connection.attached ≡ true }
+        ensures session { self.now.connection.attached ≡ true → Transacts self.now.connection result }
     {
-        self.connection.session().is_some() && self.connection.transacts()
+        self.connection.transacts()
     }
 
     /// Closes the connection with its session, whose receipts are left.
@@ -316,7 +316,7 @@ impl<H: Hosting, S: Stream + Drop> Visit<H, S> {
         watch: &V,
         ending: ConnectionEnd,
     ) -> Option<Stub>
-        ensures leaves { Leaves (S.traffic self.stream) self.connection self.is_cut result }
+        ensures leaves { Leaves D.policy (S.traffic self.stream) self.connection self.is_cut result }
         ensures session { self.connection.attached ≡ is_some result }
     {
         let Self {
@@ -336,7 +336,7 @@ impl<H: Hosting, S: Stream + Drop> Visit<H, S> {
     }
 }
 
-impl<H: Hosting> Visit<H, Socket> {
+impl<H: Hosting, D: Doorkeeper> Visit<H, Socket, D> {
     /// That of a newcomer. Where memory runs out for its bytes, its first turn ends it.
     pub(crate) fn begin(
         alloc: Global,
@@ -345,7 +345,8 @@ impl<H: Hosting> Visit<H, Socket> {
         newcomer: Newcomer,
         tenant: Option<u32>,
         heard: Option<Instant>,
-    ) -> Visit<H, Socket>
+    ) -> Visit<H, Socket, D>
+        requires { by.keyed ≡ D.policy.keyed }
         ensures host { result.connection.hosted ≡ hosting_by by.keyed by.first (H.tenants host) }
         ensures of { (result.tenant ≡ tenant) × (result.port ≡ newcomer.port) × (result.is_ended ≡ false) }
     {
@@ -395,17 +396,17 @@ impl Limits {
 
 /// Whether a limit is reached.
 fn is_over(silent: Duration, limit: Option<Duration>) -> bool
-    ensures { limit ≡ None → IsFalse result }
+    ensures { IsTrue result ↔ IsSomeAnd limit (λ limit. as_nanos limit ≤ as_nanos silent) }
 {
     match limit {
-        Some(limit) => silent >= limit,
+        Some(limit) => silent.as_nanos() >= limit.as_nanos(),
         None => false,
     }
 }
 
 /// Has a connection take what a read found, and tells what that was. There may be no memory for it.
-fn take_bytes<H: Hosting>(
-    connection: &mut Connection<H>,
+fn take_bytes<H: Hosting, D: Doorkeeper>(
+    connection: &mut Connection<H, D>,
     buffer: &[u8],
     count: usize,
     hung_up: bool,
@@ -416,6 +417,7 @@ fn take_bytes<H: Hosting>(
         (λ _. Carries (after_read t buffer.now (Ok count)) connection.new false)
         (λ _. Carries (after_read t buffer.now (Ok count)) connection.new true) }
     ensures stays { connection.new.attached ≡ connection.old.attached }
+    ensures unsent { connection.new.handed ≡ connection.old.handed }
 {
     if count > 0 {
         let bytes = &buffer[..count];

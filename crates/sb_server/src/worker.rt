@@ -1,11 +1,13 @@
 //! One worker: it waits for events of its connections, and serves those that have some.
-ghost use Rattle.std.specs.Prelude.{◌≡◌, ◌+◌, ◌≤◌, ◌++◌, ◌==◌, [], ℕ, false, true, cond, length, IfOk, IsTrue, None, OnOk, OnSome, Some, Option, option_to_list, vec_len, vec_capacity};
+ghost use Rattle.std.specs.Prelude.{◌≡◌, ◌⊎◌, ◌+◌, ◌≤◌, ◌++◌, ◌==◌, [], ℕ, false, true, cond, length, Contains, IfOk, IfSome, IsFalse, IsTrue, None, OnOk, OnSome, Some, Option, option_to_list, vec_len, vec_capacity};
 ghost use Rattle.sb_desk.specs.declared.stub.Stub.{Stub as ItsStub};
 ghost use Rattle.slab.specs.Slab.{Updates, get, slab_len};
 ghost use Rattle.sb_server.specs.Closed.{GainsClosed, Leaves};
+ghost use Rattle.sb_server.specs.Keeping.{IsNoted};
 ghost use Rattle.sb_server.specs.Places.{place_of};
 ghost use Rattle.sb_server.specs.Sessions.{KeepsSessions, has_one, session_count};
 ghost use Rattle.sb_server.specs.Sockets.{traffic};
+ghost use Rattle.sb_server.specs.Visits.{HasSession};
 
 use crate::counts::{Cause, Count};
 use crate::hearing::Ears;
@@ -21,7 +23,7 @@ use crate::visit::{Limits, Next, Visit};
 use mio::event::Event as Ready;
 use mio::unix::SourceFd;
 use mio::{Events, Interest, Poll, Token};
-use sb_connection::{Admission, ConnectionEnd, ConnectionEvent, SessionName, Watch};
+use sb_connection::{ConnectionEnd, ConnectionEvent, Doorkeeper, SessionName, Watch};
 use sb_desk::{Hosting, Stub};
 use slab::Slab;
 use std::alloc::{AllocError, AllocFailed};
@@ -49,14 +51,14 @@ enum TurnPart {
 
 /// A worker with its connections, by their tokens.
 #[derive(Drop)]
-pub(crate) struct Worker<'s, H: Hosting, V, A, K, C> {
-    pub(crate) serving: &'s Serving<'s, H, V, A, K, C>,
+pub(crate) struct Worker<'s, H: Hosting, V, D: Doorkeeper, K: Keeper, C> {
+    pub(crate) serving: &'s Serving<'s, H, V, D, K, C>,
     /// Where it counts.
     place: usize,
     limits: Limits,
     pub(crate) poll: Poll,
     pub(crate) buffer: Vec<u8>,
-    visits: Slab<Box<Visit<H, Socket>>>,
+    visits: Slab<Box<Visit<H, Socket, D>>>,
     /// Those that are served next.
     due: Vec<usize>,
     /// There was no place for one of them: all connections are served next.
@@ -72,12 +74,14 @@ pub(crate) struct Worker<'s, H: Hosting, V, A, K, C> {
     sweeps: Sweeps,
     /// Each connection has a place for its receipts.
     ghost room: { vec_len stubs + slab_len visits ≤ vec_capacity stubs },
+    /// Where nothing is kept, nothing waits for it.
+    ghost unkept: { K.is_set serving.now.keeper.now ≡ false → answered.items ≡ [] },
 }
 
-impl<'s, H: Hosting, V: Watch, A: Admission, K: Keeper, C: Clock> Worker<'s, H, V, A, K, C> {
+impl<'s, H: Hosting, V: Watch, D: Doorkeeper, K: Keeper, C: Clock> Worker<'s, H, V, D, K, C> {
     /// A worker at its seat, which has no connection yet.
     pub(crate) fn new(
-        serving: &'s Serving<'s, H, V, A, K, C>,
+        serving: &'s Serving<'s, H, V, D, K, C>,
         place: usize,
         limits: Limits,
         seat: Station,
@@ -129,27 +133,27 @@ impl<'s, H: Hosting, V: Watch, A: Admission, K: Keeper, C: Clock> Worker<'s, H, 
     }
 
     /// Serves the connections of its place, once all threads run, and closes those that are left.
-    pub(crate) fn run<T: Wait>(&mut self, rt: &T, place: usize, events: &mut Events)
-        ensures gains { GainsClosed self.old.stubs.items self.new.stubs.items }
+    pub(crate) fn run<T: Wait>(&mut self, rt: &T, events: &mut Events)
+        ensures gains { GainsClosed D.policy self.old.stubs.items self.new.stubs.items }
         ensures sessions { KeepsSessions self.old.visits self.new.visits (λ v. v.value.connection.attached) self.old.stubs.items self.new.stubs.items }
     {
         if !self.meet(events) {
             return;
         }
-        self.serve(rt, place, events);
+        self.serve(rt, events);
         self.close_all(rt);
     }
 
     /// Serves the connections of its place until none comes and none is left, or the server stops.
-    fn serve<T: Wait>(&mut self, rt: &T, place: usize, events: &mut Events)
-        ensures gains { GainsClosed self.old.stubs.items self.new.stubs.items }
+    fn serve<T: Wait>(&mut self, rt: &T, events: &mut Events)
+        ensures gains { GainsClosed D.policy self.old.stubs.items self.new.stubs.items }
         ensures sessions { KeepsSessions self.old.visits self.new.visits (λ v. v.value.connection.attached) self.old.stubs.items self.new.stubs.items }
     {
         for _turn in 0..u64::MAX {
             // what was handed over before the door closed is there, told or not
             let is_last = self.serving.is_door_closed();
             self.is_called |= is_last;
-            self.take_over(rt, place);
+            self.take_over(rt);
             if self.serving.is_stopping() || (is_last && self.visits.is_empty()) {
                 return;
             }
@@ -279,7 +283,7 @@ impl<'s, H: Hosting, V: Watch, A: Admission, K: Keeper, C: Clock> Worker<'s, H, 
     }
 
     /// Takes a connection out, if there is one, which is put back or settled.
-    fn take_out(&mut self, key: usize) -> Option<Box<Visit<H, Socket>>>
+    fn take_out(&mut self, key: usize) -> Option<Box<Visit<H, Socket, D>>>
         ensures visit { result ≡ get self.old.visits key }
         ensures updates { Updates self.old.visits self.new.visits key None }
         ensures sessions { session_count self.old.visits (λ v. v.value.connection.attached) ≡ session_count self.new.visits (λ v. v.value.connection.attached) + cond (has_one result (λ v. v.value.connection.attached)) 1 0 }
@@ -287,12 +291,13 @@ impl<'s, H: Hosting, V: Watch, A: Admission, K: Keeper, C: Clock> Worker<'s, H, 
         ensures place { OnSome result (slab_len self.new.visits + 1 ≤ self.new.visits.capacity) }
         ensures room { OnSome result (vec_len self.new.stubs + (slab_len self.new.visits + 1) ≤ vec_capacity self.new.stubs) }
         ensures stubs { self.new.stubs ≡ self.old.stubs }
+        ensures answered { self.new.answered ≡ self.old.answered }
     {
         self.visits.try_remove(key)
     }
 
     /// Puts a connection into the vacant place, and tells which that is.
-    fn put_back(&mut self, visit: Box<Visit<H, Socket>>) -> usize
+    fn put_back(&mut self, visit: Box<Visit<H, Socket, D>>) -> usize
         requires stub { vec_len self.old.stubs + (slab_len self.old.visits + 1) ≤ vec_capacity self.old.stubs }
         requires place { slab_len self.old.visits + 1 ≤ self.old.visits.capacity }
         ensures key { result ≡ self.old.visits.vacant_key }
@@ -300,16 +305,19 @@ impl<'s, H: Hosting, V: Watch, A: Admission, K: Keeper, C: Clock> Worker<'s, H, 
         ensures sessions { session_count self.new.visits (λ v. v.value.connection.attached) ≡ session_count self.old.visits (λ v. v.value.connection.attached) + cond visit.value.connection.attached 1 0 }
         ensures stubs { self.new.stubs ≡ self.old.stubs }
         ensures due { (self.new.due ≡ self.old.due) × (self.new.all_due ≡ self.old.all_due) }
+        ensures answered { self.new.answered ≡ self.old.answered }
     {
         self.visits.insert_reserved(visit)
     }
 
     /// Puts a connection back, and serves it next.
-    fn put_due(&mut self, mut visit: Box<Visit<H, Socket>>)
+    fn put_due(&mut self, mut visit: Box<Visit<H, Socket, D>>)
         requires stub { vec_len self.old.stubs + (slab_len self.old.visits + 1) ≤ vec_capacity self.old.stubs }
         requires place { slab_len self.old.visits + 1 ≤ self.old.visits.capacity }
         ensures sessions { session_count self.new.visits (λ v. v.value.connection.attached) ≡ session_count self.old.visits (λ v. v.value.connection.attached) + cond visit.value.connection.attached 1 0 }
-        ensures others { self.new.stubs ≡ self.old.stubs }
+        ensures visit { IfSome (get self.new.visits self.old.visits.vacant_key) (λ v.
+            (v.value.connection ≡ visit.value.connection) × (v.value.is_ended ≡ visit.value.is_ended)) }
+        ensures others { (self.new.stubs ≡ self.old.stubs) × (self.new.answered ≡ self.old.answered) }
     {
         let was_due = visit.is_due;
         visit.is_due = true;
@@ -320,7 +328,7 @@ impl<'s, H: Hosting, V: Watch, A: Admission, K: Keeper, C: Clock> Worker<'s, H, 
     }
 
     /// Takes over the connections that were handed to its place.
-    fn take_over<T: Wait>(&mut self, rt: &T, place: usize)
+    fn take_over<T: Wait>(&mut self, rt: &T)
         ensures stubs { self.new.stubs.items ≡ self.old.stubs.items }
         ensures sessions { session_count self.old.visits (λ v. v.value.connection.attached) ≤ session_count self.new.visits (λ v. v.value.connection.attached) }
     {
@@ -328,22 +336,26 @@ impl<'s, H: Hosting, V: Watch, A: Admission, K: Keeper, C: Clock> Worker<'s, H, 
             return;
         }
         self.is_called = false;
-        for letter in self.serving.letters(rt, place) {
-            if self.serving.place_of(letter.tenant) == place {
-                self.settle_in(place, letter);
+        for letter in self.serving.letters(rt, self.place) {
+            if self.serving.place_of(letter.tenant) == self.place {
+                self.settle_in(letter);
             } else {
                 self.refuse(letter.newcomer.port, ConnectionEvent::NoPlace);
             }
         }
-        self.obey(rt, place);
+        self.obey(rt);
     }
 
-    /// Has the sessions end that the worker of this place is told to end.
-    fn obey<T: Wait>(&mut self, rt: &T, place: usize)
+    /// Has the sessions end that it is told to end.
+    fn obey<T: Wait>(&mut self, rt: &T)
         ensures stubs { self.new.stubs.items ≡ self.old.stubs.items }
         ensures sessions { session_count self.old.visits (λ v. v.value.connection.attached) ≤ session_count self.new.visits (λ v. v.value.connection.attached) }
     {
-        for named in self.serving.board.take_ends(rt, self.serving.alloc, place) {
+        for named in self
+            .serving
+            .board
+            .take_ends(rt, self.serving.alloc, self.place)
+        {
             self.end_session(named);
         }
     }
@@ -360,6 +372,9 @@ impl<'s, H: Hosting, V: Watch, A: Admission, K: Keeper, C: Clock> Worker<'s, H, 
 
     /// Has a connection end in its next turn, if it has this session.
     fn end_if(&mut self, key: usize, named: SessionName)
+        ensures ended { IfSome (get self.new.visits key) (λ v. v.value.is_ended ≡ true
+            → (HasSession v.value.connection named) ⊎ IfSome (get self.old.visits key) (λ v. v.value.is_ended ≡ true)) }
+        ensures has { IfSome (get self.new.visits key) (λ v. HasSession v.value.connection named → v.value.is_ended ≡ true) }
         ensures stubs { self.new.stubs ≡ self.old.stubs }
         ensures sessions { session_count self.old.visits (λ v. v.value.connection.attached) ≤ session_count self.new.visits (λ v. v.value.connection.attached) }
     {
@@ -375,8 +390,8 @@ impl<'s, H: Hosting, V: Watch, A: Admission, K: Keeper, C: Clock> Worker<'s, H, 
     }
 
     /// Takes over a connection of this place.
-    fn settle_in(&mut self, place: usize, letter: Letter)
-        requires { place ≡ place_of H.cells (vec_len self.old.serving.now.mailboxes) letter.tenant }
+    fn settle_in(&mut self, letter: Letter)
+        requires { self.old.place ≡ place_of H.cells (vec_len self.old.serving.now.mailboxes) letter.tenant }
         ensures stubs { self.new.stubs.items ≡ self.old.stubs.items }
         ensures sessions { session_count self.old.visits (λ v. v.value.connection.attached) ≤ session_count self.new.visits (λ v. v.value.connection.attached) }
     {
@@ -391,6 +406,7 @@ impl<'s, H: Hosting, V: Watch, A: Admission, K: Keeper, C: Clock> Worker<'s, H, 
 
     /// Takes a connection, whose first line names this tenant if it opens a session. One that has no place isn't served.
     pub(crate) fn admit(&mut self, newcomer: Newcomer, tenant: Option<u32>)
+        requires { IfSome tenant (λ tenant. self.old.place ≡ place_of H.cells (vec_len self.old.serving.now.mailboxes) tenant) }
         ensures stubs { self.new.stubs.items ≡ self.old.stubs.items }
         ensures sessions { session_count self.old.visits (λ v. v.value.connection.attached) ≤ session_count self.new.visits (λ v. v.value.connection.attached) }
     {
@@ -411,7 +427,7 @@ impl<'s, H: Hosting, V: Watch, A: Admission, K: Keeper, C: Clock> Worker<'s, H, 
         &self,
         newcomer: Newcomer,
         tenant: Option<u32>,
-    ) -> Result<Box<Visit<H, Socket>>, AllocFailed<Visit<H, Socket>>>
+    ) -> Result<Box<Visit<H, Socket, D>>, AllocFailed<Visit<H, Socket, D>>>
         ensures { IfOk result (λ visit. (visit.value.tenant ≡ tenant) × (visit.value.port ≡ newcomer.port)) }
     {
         let serving = self.serving;
@@ -427,7 +443,7 @@ impl<'s, H: Hosting, V: Watch, A: Admission, K: Keeper, C: Clock> Worker<'s, H, 
         Box::new(serving.alloc, visit)
     }
 
-    /// Makes room for one connection more, its receipts and its answers.
+    /// Makes room for one connection more, and its receipts.
     fn make_room(&mut self) -> Result<(), AllocError>
         ensures stub { OnOk result (vec_len self.new.stubs + (slab_len self.new.visits + 1) ≤ vec_capacity self.new.stubs) }
         ensures place { OnOk result (slab_len self.new.visits + 1 ≤ self.new.visits.capacity) }
@@ -435,9 +451,7 @@ impl<'s, H: Hosting, V: Watch, A: Admission, K: Keeper, C: Clock> Worker<'s, H, 
         ensures stubs { self.new.stubs.items ≡ self.old.stubs.items }
     {
         self.stubs.reserve(self.visits.len() + 1)?;
-        self.make_place()?;
-        // one is noted at most once among those that are due, and once among all
-        self.answered.reserve(2 * (self.visits.len() + 1))
+        self.make_place()
     }
 
     /// Makes a place for one connection more.
@@ -451,7 +465,7 @@ impl<'s, H: Hosting, V: Watch, A: Admission, K: Keeper, C: Clock> Worker<'s, H, 
     }
 
     /// Has a connection reported from now on, and serves it next.
-    fn begin(&mut self, mut visit: Box<Visit<H, Socket>>)
+    fn begin(&mut self, mut visit: Box<Visit<H, Socket, D>>)
         requires stub { vec_len self.old.stubs + (slab_len self.old.visits + 1) ≤ vec_capacity self.old.stubs }
         requires visit { slab_len self.old.visits + 1 ≤ self.old.visits.capacity }
         ensures stubs { self.new.stubs ≡ self.old.stubs }
@@ -470,7 +484,7 @@ impl<'s, H: Hosting, V: Watch, A: Admission, K: Keeper, C: Clock> Worker<'s, H, 
     /// Gives each connection that is due its turn. Where something is kept, a turn has three parts: all that came is
     /// answered, all answers are kept at once, and then they are sent.
     pub(crate) fn serve_due<T: Wait>(&mut self, rt: &T)
-        ensures gains { GainsClosed self.old.stubs.items self.new.stubs.items }
+        ensures gains { GainsClosed D.policy self.old.stubs.items self.new.stubs.items }
         ensures sessions { KeepsSessions self.old.visits self.new.visits (λ v. v.value.connection.attached) self.old.stubs.items self.new.stubs.items }
     {
         if !self.keep(rt) {
@@ -483,7 +497,7 @@ impl<'s, H: Hosting, V: Watch, A: Admission, K: Keeper, C: Clock> Worker<'s, H, 
 
     /// Gives a connection its turn apart from those of others.
     fn serve_apart<T: Wait>(&mut self, rt: &T, key: usize)
-        ensures gains { GainsClosed self.old.stubs.items self.new.stubs.items }
+        ensures gains { GainsClosed D.policy self.old.stubs.items self.new.stubs.items }
         ensures sessions { KeepsSessions self.old.visits self.new.visits (λ v. v.value.connection.attached) self.old.stubs.items self.new.stubs.items }
     {
         if self.keep(rt) {
@@ -493,7 +507,8 @@ impl<'s, H: Hosting, V: Watch, A: Admission, K: Keeper, C: Clock> Worker<'s, H, 
 
     /// The turn of these connections, or of all.
     fn give_turn<T: Wait>(&mut self, rt: &T, keys: &[usize], all: bool)
-        ensures gains { GainsClosed self.old.stubs.items self.new.stubs.items }
+        requires { self.old.answered.items ≡ [] }
+        ensures gains { GainsClosed D.policy self.old.stubs.items self.new.stubs.items }
         ensures sessions { KeepsSessions self.old.visits self.new.visits (λ v. v.value.connection.attached) self.old.stubs.items self.new.stubs.items }
     {
         self.do_part(rt, TurnPart::First, keys, all);
@@ -502,7 +517,7 @@ impl<'s, H: Hosting, V: Watch, A: Admission, K: Keeper, C: Clock> Worker<'s, H, 
 
     /// What is left of their turn behind its first part.
     fn finish<T: Wait>(&mut self, rt: &T, keys: &[usize], all: bool)
-        ensures gains { GainsClosed self.old.stubs.items self.new.stubs.items }
+        ensures gains { GainsClosed D.policy self.old.stubs.items self.new.stubs.items }
         ensures sessions { KeepsSessions self.old.visits self.new.visits (λ v. v.value.connection.attached) self.old.stubs.items self.new.stubs.items }
     {
         if !self.serving.keeper.is_set() {
@@ -517,7 +532,8 @@ impl<'s, H: Hosting, V: Watch, A: Admission, K: Keeper, C: Clock> Worker<'s, H, 
 
     /// A part of the turn of these connections, or of all.
     fn do_part<T: Wait>(&mut self, rt: &T, part: TurnPart, keys: &[usize], all: bool)
-        ensures gains { GainsClosed self.old.stubs.items self.new.stubs.items }
+        requires { part ≡ TurnPart.Last → self.old.answered.items ≡ [] }
+        ensures gains { GainsClosed D.policy self.old.stubs.items self.new.stubs.items }
         ensures sessions { KeepsSessions self.old.visits self.new.visits (λ v. v.value.connection.attached) self.old.stubs.items self.new.stubs.items }
     {
         for key in keys {
@@ -529,7 +545,8 @@ impl<'s, H: Hosting, V: Watch, A: Admission, K: Keeper, C: Clock> Worker<'s, H, 
     }
 
     fn do_part_of_all<T: Wait>(&mut self, rt: &T, part: TurnPart)
-        ensures gains { GainsClosed self.old.stubs.items self.new.stubs.items }
+        requires { part ≡ TurnPart.Last → self.old.answered.items ≡ [] }
+        ensures gains { GainsClosed D.policy self.old.stubs.items self.new.stubs.items }
         ensures sessions { KeepsSessions self.old.visits self.new.visits (λ v. v.value.connection.attached) self.old.stubs.items self.new.stubs.items }
     {
         for key in 0..self.visits.capacity() {
@@ -538,7 +555,9 @@ impl<'s, H: Hosting, V: Watch, A: Admission, K: Keeper, C: Clock> Worker<'s, H, 
     }
 
     fn do_part_of<T: Wait>(&mut self, rt: &T, part: TurnPart, key: usize)
-        ensures gains { GainsClosed self.old.stubs.items self.new.stubs.items }
+        requires { part ≡ TurnPart.Last → self.old.answered.items ≡ [] }
+        ensures answered { part ≡ TurnPart.Last → self.new.answered.items ≡ [] }
+        ensures gains { GainsClosed D.policy self.old.stubs.items self.new.stubs.items }
         ensures sessions { KeepsSessions self.old.visits self.new.visits (λ v. v.value.connection.attached) self.old.stubs.items self.new.stubs.items }
     {
         match part {
@@ -549,7 +568,7 @@ impl<'s, H: Hosting, V: Watch, A: Admission, K: Keeper, C: Clock> Worker<'s, H, 
 
     /// The first part of a connection's turn. Where nothing is kept, it is the whole turn.
     fn begin_turn<T: Wait>(&mut self, rt: &T, key: usize)
-        ensures gains { GainsClosed self.old.stubs.items self.new.stubs.items }
+        ensures gains { GainsClosed D.policy self.old.stubs.items self.new.stubs.items }
         ensures sessions { KeepsSessions self.old.visits self.new.visits (λ v. v.value.connection.attached) self.old.stubs.items self.new.stubs.items }
     {
         self.take_in(rt, key);
@@ -561,9 +580,18 @@ impl<'s, H: Hosting, V: Watch, A: Admission, K: Keeper, C: Clock> Worker<'s, H, 
     /// Reads and answers what came of a connection.
     #[tactic(auto, using(crate::proofs::Counting::keeps_bit))]
     fn take_in<T: Wait>(&mut self, rt: &T, key: usize)
-        ensures gains { GainsClosed self.old.stubs.items self.new.stubs.items }
+        ensures noted { IfSome (get self.new.visits key) (λ v. (get self.old.visits key ≡ Some v)
+            ⊎ IsNoted (K.is_set self.new.serving.now.keeper.now) self.new.answered.items v.value.tenant v.value.connection) }
+        ensures unsent { IfSome (get self.new.visits key) (λ v. IfSome (get self.old.visits key)
+            (λ w. v.value.connection.handed ≡ w.value.connection.handed)) }
+        ensures gains { GainsClosed D.policy self.old.stubs.items self.new.stubs.items }
         ensures sessions { KeepsSessions self.old.visits self.new.visits (λ v. v.value.connection.attached) self.old.stubs.items self.new.stubs.items }
     {
+        // where there is no memory to note what is answered, nothing is
+        if self.answered.reserve(1).is_err() {
+            self.all_due = true;
+            return;
+        }
         let Some(mut visit) = self.take_out(key) else {
             return;
         };
@@ -579,13 +607,16 @@ impl<'s, H: Hosting, V: Watch, A: Admission, K: Keeper, C: Clock> Worker<'s, H, 
     }
 
     /// The first part of the turn of a connection that is taken out. It gives the fault, if there is one.
-    fn listen<T: Wait>(&mut self, rt: &T, visit: &mut Visit<H, Socket>) -> Option<ConnectionEnd>
+    fn listen<T: Wait>(&mut self, rt: &T, visit: &mut Visit<H, Socket, D>) -> Option<ConnectionEnd>
         ensures stays { visit.old.connection.attached ≡ true → visit.new.connection.attached ≡ true }
-        ensures others { (self.new.stubs ≡ self.old.stubs) × (self.new.visits ≡ self.old.visits) }
+        ensures unsent { visit.new.connection.handed ≡ visit.old.connection.handed }
+        ensures tenant { visit.new.tenant ≡ visit.old.tenant }
+        ensures others { (self.new.stubs ≡ self.old.stubs) × (self.new.visits ≡ self.old.visits)
+            × (self.new.answered ≡ self.old.answered) }
     {
         let serving = self.serving;
         let ears = self.ears();
-        visit.take_in(rt, &ears, serving.admission, &mut self.buffer)
+        visit.take_in(rt, &ears, serving.doorkeeper, &mut self.buffer)
     }
 
     /// Where it counts, and who is told of slow lines.
@@ -601,9 +632,11 @@ impl<'s, H: Hosting, V: Watch, A: Admission, K: Keeper, C: Clock> Worker<'s, H, 
         }
     }
 
-    /// Sends the replies of a connection.
+    /// Sends the replies of a connection, all of which are kept.
     fn give_out<T: Wait>(&mut self, rt: &T, key: usize)
-        ensures gains { GainsClosed self.old.stubs.items self.new.stubs.items }
+        requires { self.old.answered.items ≡ [] }
+        ensures answered { self.new.answered.items ≡ [] }
+        ensures gains { GainsClosed D.policy self.old.stubs.items self.new.stubs.items }
         ensures sessions { KeepsSessions self.old.visits self.new.visits (λ v. v.value.connection.attached) self.old.stubs.items self.new.stubs.items }
     {
         let Some(mut visit) = self.take_out(key) else {
@@ -622,20 +655,38 @@ impl<'s, H: Hosting, V: Watch, A: Admission, K: Keeper, C: Clock> Worker<'s, H, 
 
     /// Has what this tenant was answered kept behind the turn.
     fn note_answered(&mut self, tenant: Option<u32>)
-        ensures { (self.new.stubs.items ≡ self.old.stubs.items) × (self.new.visits ≡ self.old.visits) }
+        requires { vec_len self.old.answered + 1 ≤ vec_capacity self.old.answered }
+        ensures noted { K.is_set self.new.serving.now.keeper.now ≡ true → IfSome tenant (Contains self.new.answered.items) }
+        ensures others { (self.new.stubs ≡ self.old.stubs) × (self.new.visits ≡ self.old.visits) }
     {
         let Some(tenant) = tenant else {
             return;
         };
-        // there is a place for it since its connection was taken
-        if self.serving.keeper.is_set() && self.answered.push(tenant).is_err() {
-            self.serving.lose();
+        if !self.serving.keeper.is_set() {
+            return;
         }
+        self.note_tenant(tenant);
+    }
+
+    /// Notes a tenant once.
+    fn note_tenant(&mut self, tenant: u32)
+        requires set { K.is_set self.old.serving.now.keeper.now ≡ true }
+        requires room { vec_len self.old.answered + 1 ≤ vec_capacity self.old.answered }
+        ensures noted { Contains self.new.answered.items tenant }
+        ensures others { (self.new.stubs ≡ self.old.stubs) × (self.new.visits ≡ self.old.visits) }
+    {
+        if self.answered.contains(&tenant) {
+            return;
+        }
+        self.answered.push_reserved(tenant);
     }
 
     /// Keeps what tenants were answered. Whether all is kept, and replies may be sent.
     fn keep<T: Wait>(&mut self, rt: &T) -> bool
         ensures all { IsTrue result → self.new.answered.items ≡ [] }
+        ensures kept { IsTrue result → (self.old.answered.items ≡ [])
+            ⊎ K.keeps self.old.serving.now.keeper.now self.old.answered.items }
+        ensures not_yet { IsFalse result → self.new.answered.items ≡ self.old.answered.items }
         ensures others { (self.new.stubs.items ≡ self.old.stubs.items) × (self.new.visits ≡ self.old.visits) }
     {
         if self.answered.is_empty() {
@@ -650,7 +701,7 @@ impl<'s, H: Hosting, V: Watch, A: Admission, K: Keeper, C: Clock> Worker<'s, H, 
 
     /// Closes the connections that have been silent for too long.
     pub(crate) fn sweep<T: Wait>(&mut self, rt: &T)
-        ensures gains { GainsClosed self.old.stubs.items self.new.stubs.items }
+        ensures gains { GainsClosed D.policy self.old.stubs.items self.new.stubs.items }
         ensures sessions { KeepsSessions self.old.visits self.new.visits (λ v. v.value.connection.attached) self.old.stubs.items self.new.stubs.items }
     {
         let now = self.now();
@@ -664,7 +715,7 @@ impl<'s, H: Hosting, V: Watch, A: Admission, K: Keeper, C: Clock> Worker<'s, H, 
 
     /// Closes a connection that has been silent for too long. What has come is read first.
     fn judge<T: Wait>(&mut self, rt: &T, key: usize, now: Instant)
-        ensures gains { GainsClosed self.old.stubs.items self.new.stubs.items }
+        ensures gains { GainsClosed D.policy self.old.stubs.items self.new.stubs.items }
         ensures sessions { KeepsSessions self.old.visits self.new.visits (λ v. v.value.connection.attached) self.old.stubs.items self.new.stubs.items }
     {
         if self.silence(key, now).is_none() {
@@ -687,7 +738,7 @@ impl<'s, H: Hosting, V: Watch, A: Admission, K: Keeper, C: Clock> Worker<'s, H, 
     /// Closes all connections that are left.
     pub(crate) fn close_all<T: Wait>(&mut self, rt: &T)
         ensures none_left { (key : ℕ) → get self.new.visits key ≡ None }
-        ensures gains { GainsClosed self.old.stubs.items self.new.stubs.items }
+        ensures gains { GainsClosed D.policy self.old.stubs.items self.new.stubs.items }
         ensures sessions { KeepsSessions self.old.visits self.new.visits (λ v. v.value.connection.attached) self.old.stubs.items self.new.stubs.items }
     {
         for key in 0..self.visits.capacity() {
@@ -698,7 +749,7 @@ impl<'s, H: Hosting, V: Watch, A: Admission, K: Keeper, C: Clock> Worker<'s, H, 
     /// Closes a connection, if there is one.
     fn end<T: Wait>(&mut self, rt: &T, key: usize, ending: ConnectionEnd)
         ensures ends { Updates self.old.visits self.new.visits key None }
-        ensures gains { GainsClosed self.old.stubs.items self.new.stubs.items }
+        ensures gains { GainsClosed D.policy self.old.stubs.items self.new.stubs.items }
         ensures sessions { KeepsSessions self.old.visits self.new.visits (λ v. v.value.connection.attached) self.old.stubs.items self.new.stubs.items }
     {
         if let Some(visit) = self.take_out(key) {
@@ -716,13 +767,13 @@ impl<'s, H: Hosting, V: Watch, A: Admission, K: Keeper, C: Clock> Worker<'s, H, 
     }
 
     /// Closes a connection, and keeps the receipts of its session.
-    fn settle<T: Wait>(&mut self, rt: &T, visit: Visit<H, Socket>, ending: ConnectionEnd)
+    fn settle<T: Wait>(&mut self, rt: &T, visit: Visit<H, Socket, D>, ending: ConnectionEnd)
         requires { vec_len self.old.stubs + (slab_len self.old.visits + 1) ≤ vec_capacity self.old.stubs }
-        ensures left { (stub : Option ItsStub) × Leaves (traffic visit.stream) visit.connection visit.is_cut stub
+        ensures left { (stub : Option ItsStub) × Leaves D.policy (traffic visit.stream) visit.connection visit.is_cut stub
             × (self.new.stubs.items ≡ self.old.stubs.items ++ option_to_list stub) }
-        ensures others { self.new.visits ≡ self.old.visits }
+        ensures others { (self.new.visits ≡ self.old.visits) × (self.new.answered ≡ self.old.answered) }
         ensures session { length self.new.stubs.items ≡ length self.old.stubs.items + cond visit.connection.attached 1 0 }
-        ensures gains { GainsClosed self.old.stubs.items self.new.stubs.items }
+        ensures gains { GainsClosed D.policy self.old.stubs.items self.new.stubs.items }
     {
         self.note_end(visit.has_transaction());
         if let Some(stub) = visit.leave(rt, self.serving.watch, ending) {

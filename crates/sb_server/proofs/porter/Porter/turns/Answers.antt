@@ -10,6 +10,6 @@ loop-turn-preserved g c =
     let served = c.serve_due.new.self.stubs.items in
     let swept = c.sweep.new.self.stubs.items in
     let last = c.sweep-in-loop-turn.new.self.lobby.stubs.items in
-    gains_then old swept last
-    (gains_then old served swept (gains_then old taken served (gains_then old event taken c.loop-event.invariant (gains_nothing event taken c.take_some.ensures)) c.serve_due.ensures.gains) c.sweep.ensures.gains)
-    (gains_nothing swept last c.sweep-in-loop-turn.ensures)
+    gains_then g.D.Doorkeeper.policy old swept last
+    (gains_then g.D.Doorkeeper.policy old served swept (gains_then g.D.Doorkeeper.policy old taken served (gains_then g.D.Doorkeeper.policy old event taken c.loop-event.invariant (gains_nothing g.D.Doorkeeper.policy event taken c.take_some.ensures)) c.serve_due.ensures.gains) c.sweep.ensures.gains)
+    (gains_nothing g.D.Doorkeeper.policy swept last c.sweep-in-loop-turn.ensures)

@@ -9,4 +9,4 @@ pub returns : goal.returns
 returns g c =
     let gained = c.run.ensures.gains in
     let is = c.into_stubs.ensures ∙ gained.1 ∙ ap (λ (l : List Stub). l ++ gained.0) c.new-worker.ensures in
-    subst (λ (l : List Stub). All LeavesClosed l) (sym is) gained.2
+    subst (λ (l : List Stub). All (LeavesClosed g.D.Doorkeeper.policy) l) (sym is) gained.2

@@ -12,6 +12,7 @@ loop-self-preserved g c =
       sends_more c.args.self.now.connection c.loop-self.self.connection c.send_once.new.self.connection c.in-Ok.field-0 was.0 sent.sent,
       sent.others.0 ∙ was.1,
       sent.others.1 ∙ was.2,
+      sent.others.2 ∙ was.3,
     )
 
 -- one that is to be made again
@@ -24,7 +25,7 @@ returns-in-WouldBlock g c =
       sends = sends_same c.args.self.now.connection before.connection c.send_once.new.self.connection was.0 sent.sent;
       all = inr ((g.S.Stream.traffic before.stream).writes, (before.connection.pending, Err c.in-Err.error), ap (λ t. t.writes) sent.traffic, ap blocks (sym c.in-WouldBlock.ensures));
       fault = tt;
-      others = (sent.others.0 ∙ was.1, sent.others.1 ∙ was.2);
+      others = (sent.others.0 ∙ was.1, sent.others.1 ∙ was.2, sent.others.2 ∙ was.3);
     }
 
 -- one that failed
@@ -36,5 +37,5 @@ returns-in_default g c =
       sends = sends_same c.args.self.now.connection c.loop-self.self.connection c.send_once.new.self.connection was.0 sent.sent;
       all = tt;
       fault = ends_by_write (g.S.Stream.traffic c.loop-self.self.stream) (g.S.Stream.traffic c.send_once.new.self.stream) c.send_once.new.self.connection c.send_once.new.self.is_cut c.fault-in_default.result c.loop-self.self.connection.pending c.in-Err.error c.kind.result sent.traffic c.kind.ensures c.in_default.not-WouldBlock _ c.fault-in_default.ensures;
-      others = (sent.others.0 ∙ was.1, sent.others.1 ∙ was.2);
+      others = (sent.others.0 ∙ was.1, sent.others.1 ∙ was.2, sent.others.2 ∙ was.3);
     }

@@ -9,7 +9,7 @@ loop-key-preserved g c =
     let old = c.loop-key.self.visits in
     let new = c.end.new.self.visits in
     let was = c.loop-key.invariant.2 in (
-      gains_then c.args.self.now.stubs.items c.loop-key.self.stubs.items c.end.new.self.stubs.items c.loop-key.invariant.0 c.end.ensures.gains,
+      gains_then g.D.Doorkeeper.policy c.args.self.now.stubs.items c.loop-key.self.stubs.items c.end.new.self.stubs.items c.loop-key.invariant.0 c.end.ensures.gains,
       omega arith,
       λ k. (
         (λ below. vacant_after_removal old new c.loop-key.key k c.end.ensures.ends (λ differs. (was k).0 (omega arith))),

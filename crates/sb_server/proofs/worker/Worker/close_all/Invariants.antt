@@ -7,6 +7,6 @@ use Rattle.sb_server.proofs.worker.Worker.close_all.Given as goal
 -- none is left below, and none comes
 abbrev pub invariant-loop-key : goal.invariant-loop-key
 invariant-loop-key g l =
-    GainsClosed l.fn.self.stubs.items l.self.stubs.items
+    GainsClosed g.D.Doorkeeper.policy l.fn.self.stubs.items l.self.stubs.items
     × KeepsSessions l.fn.self.visits l.self.visits (λ v. v.value.connection.attached) l.fn.self.stubs.items l.self.stubs.items
     × ((k : ℕ) → (k < l.key → get l.self.visits k ≡ None) × (get l.fn.self.visits k ≡ None → get l.self.visits k ≡ None))

@@ -4,11 +4,12 @@ use Rattle.sb_server.proofs.worker.Worker.do_part.Goals as goal
 
 pub loop-key-preserved : goal.loop-key-preserved
 loop-key-preserved g c = (
-  gains_then c.args.self.now.stubs.items c.loop-key.self.stubs.items c.do_part_of.new.self.stubs.items c.loop-key.invariant.0 c.do_part_of.ensures.gains,
+  gains_then g.D.Doorkeeper.policy c.args.self.now.stubs.items c.loop-key.self.stubs.items c.do_part_of.new.self.stubs.items c.loop-key.invariant.0 c.do_part_of.ensures.gains,
   omega arith,
+  c.do_part_of.ensures.answered,
 )
 
 -- all do it behind those that were named
 pub returns-then-all-clause-gains : goal.returns-then-all-clause-gains
 returns-then-all-clause-gains g c =
-    gains_then c.args.self.now.stubs.items c.loop-key.self.stubs.items c.do_part_of_all.new.self.stubs.items c.loop-key.invariant.0 c.do_part_of_all.ensures.gains
+    gains_then g.D.Doorkeeper.policy c.args.self.now.stubs.items c.loop-key.self.stubs.items c.do_part_of_all.new.self.stubs.items c.loop-key.invariant.0 c.do_part_of_all.ensures.gains

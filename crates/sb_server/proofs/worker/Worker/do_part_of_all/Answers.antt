@@ -4,6 +4,7 @@ use Rattle.sb_server.proofs.worker.Worker.do_part_of_all.Goals as goal
 
 pub loop-key-preserved : goal.loop-key-preserved
 loop-key-preserved g c = (
-  gains_then c.args.self.now.stubs.items c.loop-key.self.stubs.items c.do_part_of.new.self.stubs.items c.loop-key.invariant.0 c.do_part_of.ensures.gains,
+  gains_then g.D.Doorkeeper.policy c.args.self.now.stubs.items c.loop-key.self.stubs.items c.do_part_of.new.self.stubs.items c.loop-key.invariant.0 c.do_part_of.ensures.gains,
   omega arith,
+  c.do_part_of.ensures.answered,
 )

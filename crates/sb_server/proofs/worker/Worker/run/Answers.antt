@@ -6,4 +6,4 @@ returns-clause-gains g c =
     let old = c.args.self.now.stubs.items in
     let met = c.meet.new.self.stubs.items in
     let served = c.serve.new.self.stubs.items in
-    gains_then old served c.close_all.new.self.stubs.items (gains_then old met served (gains_nothing old met c.meet.ensures.0) c.serve.ensures.gains) c.close_all.ensures.gains
+    gains_then g.D.Doorkeeper.policy old served c.close_all.new.self.stubs.items (gains_then g.D.Doorkeeper.policy old met served (gains_nothing g.D.Doorkeeper.policy old met c.meet.ensures.0) c.serve.ensures.gains) c.close_all.ensures.gains

@@ -8,4 +8,4 @@ loop-turn-preserved g c =
     let old = c.args.self.now.stubs.items in
     let event = c.loop-event.self.stubs.items in
     let served = c.serve_due.new.self.stubs.items in
-    (gains_then old served c.sweep.new.self.stubs.items (gains_then old event served c.loop-event.invariant.0 c.serve_due.ensures.gains) c.sweep.ensures.gains, omega arith)
+    (gains_then g.D.Doorkeeper.policy old served c.sweep.new.self.stubs.items (gains_then g.D.Doorkeeper.policy old event served c.loop-event.invariant.0 c.serve_due.ensures.gains) c.sweep.ensures.gains, omega arith)

@@ -4,11 +4,11 @@ use Rattle.sb_server.proofs.worker.Worker.serve.Given as goal
 
 abbrev pub invariant-loop-turn : goal.invariant-loop-turn
 invariant-loop-turn g l =
-    GainsClosed l.fn.self.stubs.items l.self.stubs.items
+    GainsClosed g.D.Doorkeeper.policy l.fn.self.stubs.items l.self.stubs.items
     × KeepsSessions l.fn.self.visits l.self.visits (λ v. v.value.connection.attached) l.fn.self.stubs.items l.self.stubs.items
 
 -- an event changes no receipts
 abbrev pub invariant-loop-event : goal.invariant-loop-event
 invariant-loop-event g l =
-    GainsClosed l.fn.self.stubs.items l.self.stubs.items
+    GainsClosed g.D.Doorkeeper.policy l.fn.self.stubs.items l.self.stubs.items
     × KeepsSessions l.fn.self.visits l.self.visits (λ v. v.value.connection.attached) l.fn.self.stubs.items l.self.stubs.items

@@ -10,11 +10,11 @@ returns-in-Some-clause-left g c = (Some c.in-Some.stub, c.in-Some.ensures.leaves
 pub returns-in-Some-clause-gains : goal.returns-in-Some-clause-gains
 returns-in-Some-clause-gains g c =
     let visit = c.args.visit in
-    gains_left c.args.self.now.stubs.items c.push_reserved.new.self.items (traffic visit.stream) visit.connection visit.is_cut c.in-Some.stub c.in-Some.ensures.leaves c.push_reserved.ensures.items
+    gains_left g.D.Doorkeeper.policy c.args.self.now.stubs.items c.push_reserved.new.self.items (traffic visit.stream) visit.connection visit.is_cut c.in-Some.stub c.in-Some.ensures.leaves c.push_reserved.ensures.items
 
 -- it had none
 pub returns-in_default-clause-left : goal.returns-in_default-clause-left
 returns-in_default-clause-left g c = (None, c.in_default.ensures.leaves, sym (append-nil c.args.self.now.stubs.items))
 
 pub returns-in_default-clause-gains : goal.returns-in_default-clause-gains
-returns-in_default-clause-gains g c = gains_nothing c.args.self.now.stubs.items c.args.self.now.stubs.items refl
+returns-in_default-clause-gains g c = gains_nothing g.D.Doorkeeper.policy c.args.self.now.stubs.items c.args.self.now.stubs.items refl

@@ -4,6 +4,6 @@ use Rattle.sb_server.proofs.worker.Worker.sweep.Goals as goal
 
 pub loop-key-preserved : goal.loop-key-preserved
 loop-key-preserved g c = (
-  gains_then c.args.self.now.stubs.items c.loop-key.self.stubs.items c.judge.new.self.stubs.items c.loop-key.invariant.0 c.judge.ensures.gains,
+  gains_then g.D.Doorkeeper.policy c.args.self.now.stubs.items c.loop-key.self.stubs.items c.judge.new.self.stubs.items c.loop-key.invariant.0 c.judge.ensures.gains,
   omega arith,
 )

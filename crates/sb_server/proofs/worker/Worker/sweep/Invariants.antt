@@ -4,5 +4,5 @@ use Rattle.sb_server.proofs.worker.Worker.sweep.Given as goal
 
 abbrev pub invariant-loop-key : goal.invariant-loop-key
 invariant-loop-key g l =
-    GainsClosed l.fn.self.stubs.items l.self.stubs.items
+    GainsClosed g.D.Doorkeeper.policy l.fn.self.stubs.items l.self.stubs.items
     × KeepsSessions l.fn.self.visits l.self.visits (λ v. v.value.connection.attached) l.fn.self.stubs.items l.self.stubs.items

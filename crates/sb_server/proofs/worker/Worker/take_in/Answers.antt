@@ -7,5 +7,5 @@ use Rattle.sb_server.proofs.worker.Worker.take_in.Goals as goal
 -- nothing is closed
 pub returns-in-None-clause-gains : goal.returns-in-None-clause-gains
 returns-in-None-clause-gains g c =
-    gains_nothing c.args.self.now.stubs.items c.note_answered.new.self.stubs.items
-    (c.note_answered.ensures.0 ∙ ap (λ (stubs : Vec Stub Global). stubs.items) (c.put_back.ensures.stubs ∙ c.listen.ensures.others.0 ∙ c.take_out.ensures.stubs))
+    gains_nothing g.D.Doorkeeper.policy c.args.self.now.stubs.items c.note_answered.new.self.stubs.items
+    (ap (λ (stubs : Vec Stub Global). stubs.items) (c.note_answered.ensures.others.0 ∙ c.put_back.ensures.stubs ∙ c.listen.ensures.others.0 ∙ c.take_out.ensures.stubs))
