@@ -1,4 +1,5 @@
 mod Runs
+mod Journals
 mod Told
 mod Servers
 mod Commands
@@ -9,3 +10,5 @@ mod Called
 mod Written
 mod Digests
 mod Sending
+mod Shown
+mod KeyTexts

@@ -18,7 +18,7 @@ module _ (H D S : RattleType) (d : _) where
   pub recorder_sync : IsSync H → IsSend D → IsSync (Recorder.the_row H D S d)
   recorder_sync host file = sync_of host (book_send D d file) callers_send
 
--- what a status port shows may be shared where its host, whom it admits and the system may
-module _ (H A T : RattleType) where
-  pub pages_sync : (κ : NamedLft) → IsSync H → IsSync A → IsSync T → IsSync (Pages.the_row κ H A T)
-  pages_sync κ host admission system = search (sendable, crosses, board.the_sync, sync) depth 60
+-- what a status port shows may be shared where its host, whom it admits, the system and what ends sessions may
+module _ (H A T E : RattleType) where
+  pub pages_sync : (κ : NamedLft) → IsSync H → IsSync A → IsSync T → IsSync E → IsSync (Pages.the_row κ H A T E)
+  pages_sync κ host admission system ender = search (sendable, crosses, board.the_sync, sync) depth 60

@@ -1,8 +1,9 @@
 -- A server's first line and its last, and why it ends early.
-use Rattle.std.proofs.Common.{◌≡◌, ◌++◌, ℕ, List, Option, Result, Ok, Err, refl, inr, subst}
+use Rattle.std.proofs.Common.{◌≡◌, ◌++◌, ℕ, false, List, Option, Result, Ok, Err, refl, inr, subst}
 use Rattle.std.specs.Prelude.{IfErr, OnOk}
 use Rattle.std.specs.Io.KnownBytes.{Appends}
 use Rattle.std.proofs.KnownBytes.{Appends-trans}
+use Rattle.sb_server.specs.Policies.{anyone, policy}
 use Rattle.starhost.specs.Ends.{EndsEarly, FailsToServe}
 use Rattle.starhost.specs.Totals.{TellsServer, TellsTrails, listening_line}
 use Rattle.starhost.specs.declared.fault.ProgramFault.{ProgramFault}
@@ -20,7 +21,7 @@ tells_both old mid new b bound t tenants port (Err why) same_bound same_tenants 
 -- it ends early behind its first line
 module _ {W : Type 0} (refuses : W → Type 0) (contents : W → Option (List ℕ)) (old mid new : W) where
   pub ends_behind : (b bound t tenants first port : ℕ) (ended : Result (Unit {0}) ProgramFault) → b ≡ bound → t ≡ tenants
-      → Appends (contents old) (contents mid) (listening_line port) → IfErr ended (FailsToServe refuses contents b t first mid new)
+      → Appends (contents old) (contents mid) (listening_line port) → IfErr ended (FailsToServe refuses contents (policy false anyone) b t first mid new)
       → IfErr ended (EndsEarly refuses contents bound tenants first old new)
   ends_behind b bound t tenants first port (Ok value) same_bound same_tenants told fails = fails
   ends_behind b bound t tenants first port (Err why) same_bound same_tenants told fails =
@@ -28,6 +29,6 @@ module _ {W : Type 0} (refuses : W → Type 0) (contents : W → Option (List �
         port,
         mid,
         told,
-        subst (λ x. FailsToServe refuses contents x tenants first mid new why) same_bound
-            (subst (λ x. FailsToServe refuses contents b x first mid new why) same_tenants fails),
+        subst (λ x. FailsToServe refuses contents (policy false anyone) x tenants first mid new why) same_bound
+            (subst (λ x. FailsToServe refuses contents (policy false anyone) b x first mid new why) same_tenants fails),
       )

@@ -1,5 +1,5 @@
 -- Machine: why a server ends early.
-use Rattle.std.specs.Prelude.{ℕ, ◌≡◌, ◌⊎◌, List, Option, Err}
+use Rattle.std.specs.Prelude.{ℕ, ◌≡◌, ◌⊎◌, false, List, Option, Err}
 use Rattle.std.specs.List.{All}
 use Rattle.std.specs.Io.KnownBytes.{Appends, Keeps}
 use Rattle.sb_wire.specs.Stream.{MayFail}
@@ -7,6 +7,7 @@ use Rattle.sb_wire.specs.declared.fault.StreamError.TheVariants as stream
 use Rattle.sb_host.specs.Finish.{Finishes}
 use Rattle.sb_host.specs.declared.finish.FinishError.{FinishError}
 use Rattle.sb_host.specs.Desk.{Stub}
+use Rattle.sb_server.specs.Policies.{Policy, anyone, policy}
 use Rattle.sb_server.specs.Closed.{LeavesClosed}
 use Rattle.sb_server.specs.declared.server.ServeError.{ServeError}
 use Rattle.starhost.specs.Faults.{unfinished_as, unserved_as}
@@ -27,18 +28,18 @@ module _ {W : Type 0} (refuses : W → Type 0) (contents : W → Option (List �
       ((why ≡ Stream stream.NoMemory) ⊎ ((e : FinishError) × Finishes bound tenants stubs (Err e) × (why ≡ unfinished_as first e)))
 
   -- So it is behind the last connection, with receipts that closed sessions left; or connections weren't served.
-  abbrev pub FailsToServe : ℕ → ℕ → ℕ → W → W → ProgramFault → Type 0
-  FailsToServe bound tenants first writer after why =
+  abbrev pub FailsToServe : Policy → ℕ → ℕ → ℕ → W → W → ProgramFault → Type 0
+  FailsToServe p bound tenants first writer after why =
       (Keeps (contents writer) (contents after) × ((e : ServeError) × (why ≡ unserved_as e)))
-      ⊎ ((stubs : List Stub) × All LeavesClosed stubs × FailsToTell bound tenants first stubs writer after why)
+      ⊎ ((stubs : List Stub) × All (LeavesClosed p) stubs × FailsToTell bound tenants first stubs writer after why)
 
   -- nothing listens at the port, or there was no memory
   abbrev pub FailsToListen : W → W → ProgramFault → Type 0
   FailsToListen writer after why = WritesNot writer after why ((why ≡ CannotListen) ⊎ (why ≡ Stream stream.NoMemory))
 
-  -- a server ends so, or behind its first line
+  -- a server without keys ends so, or behind its first line
   abbrev pub EndsEarly : ℕ → ℕ → ℕ → W → W → ProgramFault → Type 0
   EndsEarly bound tenants first writer after why =
       FailsToListen writer after why
       ⊎ ((port : ℕ) × (mid : W) × Appends (contents writer) (contents mid) (listening_line port)
-      × FailsToServe bound tenants first mid after why)
+      × FailsToServe (policy false anyone) bound tenants first mid after why)

@@ -12,7 +12,7 @@ use Rattle.starhost.specs.Does.{GoesFresh, Tells, TellsRun, line_of, status_of}
 use Rattle.starhost.specs.Dumping.{DumpsInput, HaveScripts, RefusesDump, RefusesDumps}
 use Rattle.starhost.specs.Ends.{EndsEarly}
 use Rattle.starhost.specs.Faults.{TellsEnd, TellsFault, unplayed_as}
-use Rattle.starhost.specs.Journaled.{AnswersJournaled}
+use Rattle.starhost.specs.Journaled.{AnswersJournaled, EndsJournaled}
 use Rattle.starhost.specs.Loading.{AnswersLoaded, GoesLoaded, IsUnloaded}
 use Rattle.starhost.specs.Parsing.{ParsesStream, TellsLines}
 use Rattle.starhost.specs.Totals.{TellsServer}
@@ -47,7 +47,9 @@ module _ {R W E : Type 0} (fails : R → Type 0) (remaining : R → Option (List
       ⊎ ((ended : Result (Unit {0}) StreamError) × (summary : Summary) × (status ≡ status_of ended)
       × GoesLoaded fails remaining refuses contents r.tenants r.bound reader rest writer after ended summary
       × TellsRun denies told is_terminal errors more summary ended)
-  Goes (Record r) = (ended : Result (Unit {0}) ProgramFault) × TellsEnd denies told errors more ended status
+  Goes (Record r) =
+      (ended : Result (Unit {0}) ProgramFault) × TellsEnd denies told errors more ended status
+      × IfErr ended (EndsJournaled fails remaining contents reader rest writer after r.tenants r.bound)
   Goes (Serve s) =
       (ended : Result (Unit {0}) ProgramFault) × TellsEnd denies told errors more ended status × (rest ≡ reader)
       × IfErr ended (EndsEarly refuses contents s.hosting.run.bound s.hosting.run.tenants s.first_tenant writer after)

@@ -12,5 +12,9 @@ pub mod Does
 pub mod Faults
 pub mod Ends
 pub mod Journaled
+pub mod Guarding
+pub mod HttpRefusals
 pub mod Showing
+pub mod Answering
+pub mod KeyTexts
 pub mod Going

@@ -1,4 +1,7 @@
 //! What the workers of a server have counted, as pages show it.
+ghost use Rattle.std.specs.Prelude.{IfOk};
+ghost use Rattle.sb_status.specs.Pages.{IsPage};
+ghost use Rattle.sb_status.specs.declared.text.Escaping.TheVariants as escaping;
 
 use sb_server::{Board, Cause, Count, LIMITS, SlowLine};
 use sb_status::{
@@ -34,13 +37,17 @@ pub(crate) struct Overview {
 
 impl Overview {
     /// Its page.
-    pub(crate) fn page(&self, alloc: Global) -> Result<Vec<u8>, AllocError> {
+    pub(crate) fn page(&self, alloc: Global) -> Result<Vec<u8>, AllocError>
+        ensures { IfOk result (λ page. IsPage escaping.Html page.items) }
+    {
         let slowest = self.counted.slowest(alloc)?;
         host_page(alloc, self.view(slowest.as_slice()))
     }
 
     /// Its samples.
-    pub(crate) fn samples(&self, alloc: Global) -> Result<Vec<u8>, AllocError> {
+    pub(crate) fn samples(&self, alloc: Global) -> Result<Vec<u8>, AllocError>
+        ensures { IfOk result (λ samples. IsPage escaping.Label samples.items) }
+    {
         metrics(alloc, self.view(&[]))
     }
 

@@ -156,9 +156,10 @@ impl<'c, H: Lending, T: Wait + Eprint + Clock + Files<File = File>> Compaction<'
         }
     }
 
-    /// Renames a file, and brings its name to the disk.
+    /// Gives a file another name, unless a file has come to that name meanwhile, and brings it to the disk.
     fn give_name(&self, from: &str, to: &str) -> io::Result<()> {
-        fs::rename(self.rt, from, to)?;
+        fs::hard_link(self.rt, from, to)?;
+        let _removed = fs::remove_file(self.rt, from);
         sync_folder(self.rt, to)
     }
 

@@ -8,7 +8,6 @@ use libc::types::pollfd;
 use log::sink::Console;
 use log::{Level, LevelFilter, Logged, log};
 use sb_server::{Answered, ConnectionEvent, Slow, Watch};
-use sb_wire::WireRefusal;
 use sb_words::Severity;
 use std::fmt::Display;
 use std::io;
@@ -73,11 +72,6 @@ impl<'r, T: Eprint + Clock> EventLog<'r, T> {
     /// Tells at which port the status pages are.
     pub(crate) fn tell_status(&self, port: u16) {
         self.write(Severity::Info, &format_args!("status pages at port {port}"));
-    }
-
-    /// Tells why a replay refuses this line of its input.
-    pub(crate) fn tell_bad_line(&self, line: u64, why: WireRefusal) {
-        self.write(Severity::Error, &format_args!("bad line {line}: {why:?}"));
     }
 
     /// Tells why a folder isn't used.

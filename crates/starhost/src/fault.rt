@@ -5,53 +5,75 @@ ghost use Rattle.starhost.specs.Faults.{TellsFault, fault_text, numbered_text, o
 use crate::telling::fault;
 use sb_wire::{Sink, StreamError, push_labelled, write_bytes};
 use std::alloc::{AllocError, Global};
+use thiserror::Error;
 
 const FAULT: u8 = 1;
 
 /// Why a server, a replay or a dump ended early.
-#[derive(Clone, Copy, Debug)]
+#[derive(Clone, Copy, Debug, Error)]
 pub enum ProgramFault {
     /// Of the streams, or want of memory.
+    #[error("{0}")]
     Stream(StreamError),
     /// Nothing can listen at the port.
+    #[error("cannot listen")]
     CannotListen,
     /// The system has no place where a server may wait.
+    #[error("cannot wait")]
     CannotWait,
     /// It starts no thread.
+    #[error("cannot start a thread")]
     CannotStart,
     /// It doesn't tell any more what comes.
+    #[error("waiting failed")]
     WaitingFailed,
     /// The journal can't be opened, is another server's, or can't be played.
+    #[error("cannot open journal")]
     CannotOpenJournal,
     /// What was answered couldn't be written to the journal.
+    #[error("journal failed")]
     JournalFailed,
     /// A journal can't be written anew.
+    #[error("cannot write journal")]
     CannotWriteJournal,
     /// This line of the input, counted from 1, is no command for a session of the host.
+    #[error("bad line {line}")]
     BadLine { line: u64 },
     /// The host doesn't have the tenant.
+    #[error("no tenant {tenant}")]
     NoTenant { tenant: u64 },
     /// A session of the tenant has a transaction.
+    #[error("busy tenant {tenant}")]
     TenantBusy { tenant: u64 },
     /// The tenant that its script makes isn't alike.
+    #[error("cannot dump {tenant}")]
     CannotDump { tenant: u64 },
     /// A folder that is asked for isn't there.
+    #[error("no folder")]
     NoFolder,
     /// The file of keys can't be read.
+    #[error("no keys")]
     NoKeys,
     /// This line of the file of keys, counted from 1, names no key.
+    #[error("bad keys {line}")]
     BadKeys { line: u64 },
     /// The line of the input is no key.
+    #[error("bad key")]
     BadKey,
     /// The tenant's file can't be read, or a line of it isn't answered as a line of a script.
+    #[error("cannot load {tenant}")]
     CannotLoad { tenant: u64 },
     /// The tenant's file can't be written.
+    #[error("cannot write {tenant}")]
     CannotWrite { tenant: u64 },
     /// The session is open already, or its tenant's trail is full.
+    #[error("cannot attach {tenant} {session}")]
     CannotAttach { tenant: u64, session: u32 },
     /// The session has fewer receipts than its tenant's trail has entries of it.
+    #[error("trail missing {tenant} {session}")]
     TrailMissing { tenant: u64, session: u32 },
     /// The session's receipts are others than those entries.
+    #[error("trail mismatch {tenant} {session}")]
     TrailMismatch { tenant: u64, session: u32 },
 }
 

@@ -7,7 +7,7 @@ use crate::fault::ProgramFault;
 use sb_wire::StreamError;
 use std::alloc::{AllocError, Global};
 use std::fs;
-use std::fs::OpenFile as _;
+use std::fs::{File, OpenFile as _, TryLockError};
 use std::io::{self, Write as _};
 use std::rt::{Clock, Files};
 
@@ -57,6 +57,25 @@ impl<'a> Folder<'a> {
         }
     }
 
+    /// Locks the folder for this process until the lock is dropped. Why it can't be is written in the log.
+    pub(crate) fn lock<R: Eprint + Clock + Files<File = File>>(
+        self,
+        rt: &R,
+        log: &EventLog<'_, R>,
+    ) -> Option<FolderLock> {
+        match locked(rt, self.path) {
+            Ok(lock) => Some(lock),
+            Err(TryLockError::WouldBlock) => {
+                log.tell_no_folder(self.path, &"another process writes to it");
+                None
+            }
+            Err(TryLockError::Error(error)) => {
+                log.tell_no_folder(self.path, &error);
+                None
+            }
+        }
+    }
+
     /// Writes the file of the tenant with this number. There is never a part of it under its name.
     pub(crate) fn write<R: Files>(
         self,
@@ -72,6 +91,24 @@ impl<'a> Folder<'a> {
             return Err(ProgramFault::Stream(StreamError::NoMemory));
         };
         Ok(write_beside(rt, self.path, beside.as_str(), path.as_str(), text))
+    }
+}
+
+/// Keeps other processes from writing to a folder.
+#[derive(Drop)]
+pub(crate) struct FolderLock {
+    _folder: File,
+}
+
+/// The lock of the folder at this path, if no other process has it.
+fn locked<R: Files<File = File>>(rt: &R, path: &str) -> Result<FolderLock, TryLockError> {
+    let folder = match fs::open(rt, path) {
+        Ok(folder) => folder,
+        Err(error) => return Err(TryLockError::Error(error)),
+    };
+    match folder.try_lock() {
+        Ok(()) => Ok(FolderLock { _folder: folder }),
+        Err(why) => Err(why),
     }
 }
 
@@ -119,9 +156,10 @@ fn sync_folder<R: Files>(rt: &R, folder: &str) -> io::Result<()> {
     fs::open(rt, folder)?.sync_all()
 }
 
-/// Writes a file, to the disk.
+/// Writes a file, to the disk. What an earlier try left under its name goes first; of a link it is the link alone.
 fn write_new<R: Files>(rt: &R, path: &str, text: &[u8]) -> io::Result<()> {
-    let mut file = fs::create(rt, path)?;
+    let _removed = fs::remove_file(rt, path);
+    let mut file = File::create_new(rt, path)?;
     file.write_all(text)?;
     file.sync_all()
 }

@@ -1,6 +1,6 @@
 //! Whose key opens which page.
-ghost use Rattle.std.specs.Prelude.{◌≡◌, ◌+◌, IfOk, IsTrue, drop, option_copied, true};
-ghost use Rattle.starhost.specs.Showing.{Opens, holder_of};
+ghost use Rattle.std.specs.Prelude.{◌≡◌, IfOk, IsFalse, IsTrue, option_copied, true};
+ghost use Rattle.starhost.specs.Guarding.{IsGuarded, Opens, OpensBy};
 
 use sb_server::Admission;
 use sb_status::{Credentials, Request, Route, number};
@@ -16,8 +16,9 @@ pub(crate) fn is_let_in<A: Admission, T: Wait>(
     route: Route,
     request: &Request<'_>,
 ) -> Result<bool, AllocError>
-    ensures { IfOk result (λ let_in. IsTrue let_in → A.wants admission.now ≡ true
-        → Opens (A.admits admission.now) route (option_copied request.now.authorization)) }
+    ensures guarded { IfOk result (λ let_in. IsTrue let_in
+        → IsGuarded (A.wants admission.now) (A.admits admission.now) route (option_copied request.now.authorization)) }
+    ensures wanted { IfOk result (λ let_in. IsFalse let_in → A.wants admission.now ≡ true) }
 {
     if !admission.wants_key() {
         return Ok(true);
@@ -51,8 +52,7 @@ fn admits<A: Admission, T: Wait>(
     route: Route,
     credentials: &Credentials,
 ) -> bool
-    ensures { IsTrue result → A.admits admission.now (holder_of route)
-        (drop (credentials.now.colon + 1) credentials.now.text.items) }
+    ensures { IsTrue result → OpensBy (A.admits admission.now) route credentials.now.text.items credentials.now.colon }
 {
     match route {
         Route::Tenant(tenant) | Route::Dump(tenant) => admits_to(
@@ -76,8 +76,8 @@ fn admits_to<A: Admission, T: Wait>(
     tenant: u32,
     credentials: &Credentials,
 ) -> bool
-    ensures { IsTrue result → A.admits admission.now tenant
-        (drop (credentials.now.colon + 1) credentials.now.text.items) }
+    ensures { IsTrue result
+        → OpensBy (A.admits admission.now) (Route.Tenant tenant) credentials.now.text.items credentials.now.colon }
 {
     number(credentials.user()) == Some(tenant) && admission.admits(rt, tenant, credentials.key())
 }

@@ -1,7 +1,12 @@
 //! A run whose lines are in a journal before they are answered.
-ghost use Rattle.std.specs.Prelude.{◌≡◌, ◌⊎◌, Err, false, is_ok, is_some, true, IfErr, IfOk, OnOk};
-ghost use Rattle.starhost.specs.Journaled.{AnswersJournaled, IsBegun};
+ghost use Rattle.std.specs.Prelude.{◌≡◌, ◌⊎◌, [], Err, List, false, is_ok, is_some, true, IfErr, IfOk, IsTrue, OnErr, OnOk};
+ghost use Rattle.sb_durable.specs.Journal.{Has, disk_of};
+ghost use Rattle.sb_durable.specs.Records.{Entry};
+ghost use Rattle.sb_durable.specs.Restart.{AreRecords, Tells};
+ghost use Rattle.sb_durable.specs.declared.head.Head.{Head as ItsHead};
+ghost use Rattle.starhost.specs.Journaled.{AnswersJournaled, EndsJournaled, IsBegun, RunsJournaled};
 ghost use Rattle.starhost.specs.declared.fault.ProgramFault.TheVariants as fault;
+ghost use Rattle.sb_wire.specs.declared.fault.StreamError.{StreamError as ItsStreamError};
 ghost use Rattle.starhost.specs.Writing.{WritesOf};
 ghost use Rattle.sb_words.specs.Within.{AreRun};
 
@@ -28,8 +33,10 @@ pub(crate) fn run_journaled<T: Wait + Eprint + Clock + Files<File = File>, R: So
     writer: &mut W,
 ) -> Result<(), ProgramFault>
     requires { AreRun asked }
-    ensures { OnOk result (WritesOf R.remaining W.contents reader.old writer.old writer.new
+    ensures ok { OnOk result (WritesOf R.remaining W.contents reader.old writer.old writer.new
         (AnswersJournaled asked.tenants asked.bound)) }
+    ensures err { IfErr result (EndsJournaled R.fails R.remaining W.contents reader.old reader.new
+        writer.old writer.new asked.tenants asked.bound) }
 {
     let log = EventLog::new(rt, Severity::Info);
     let Some(path) = paths.journal else {
@@ -43,14 +50,19 @@ pub(crate) fn run_journaled<T: Wait + Eprint + Clock + Files<File = File>, R: So
         Ok(journal) => {
             let mut recording = Recording::new(journal);
             let mut playing = Playing::new(rt, &log);
-            match restarted_cell(rt, alloc, asked, &mut recording, &mut playing) {
-                Ok(mut cell) => {
-                    let ended = run_recorded(alloc, reader, writer, &mut cell, &mut recording);
-                    match is_settled(rt, path, paths.syncs, &log) {
-                        true => end_by(&log, &recording, ended),
-                        false => Err(ProgramFault::JournalFailed),
-                    }
-                }
+            match run_on(
+                rt,
+                alloc,
+                asked,
+                &mut recording,
+                &mut playing,
+                reader,
+                writer,
+            ) {
+                Ok(ended) => match is_settled(rt, path, paths.syncs, &log) {
+                    true => end_by(&log, &recording, ended),
+                    false => Err(ProgramFault::JournalFailed),
+                },
                 Err(error) => {
                     log.tell_no_journal(path, &error);
                     Err(ProgramFault::CannotOpenJournal)
@@ -64,6 +76,32 @@ pub(crate) fn run_journaled<T: Wait + Eprint + Clock + Files<File = File>, R: So
     }
 }
 
+/// Has the tenants as the records of a journal make them, and answers the lines of the input on them. How the stream of
+/// lines ended.
+fn run_on<T: Wait + Eprint + Clock, D: Disk, R: Source, W: Sink>(
+    rt: &T,
+    alloc: Global,
+    asked: Run,
+    recording: &mut Recording<D>,
+    playing: &mut Playing<'_, T>,
+    reader: &mut R,
+    writer: &mut W,
+) -> Result<Result<(), StreamError>, PlayError>
+    requires run { AreRun asked }
+    requires goes { is_some recording.old.fault ≡ false }
+    ensures runs { IfOk result (RunsJournaled R.fails R.remaining W.contents reader.old reader.new
+        writer.old writer.new D.Disk asked.tenants asked.bound recording.old recording.new) }
+    ensures answers { IfOk result (λ ended. OnOk ended (is_some recording.new.fault ≡ false
+        → WritesOf R.remaining W.contents reader.old writer.old writer.new
+        (AnswersJournaled asked.tenants asked.bound))) }
+    ensures err { OnErr result ((reader.new ≡ reader.old) × (writer.new ≡ writer.old)) }
+{
+    match restarted_cell(rt, alloc, asked, recording, playing) {
+        Ok(mut cell) => Ok(run_recorded(alloc, reader, writer, &mut cell, recording)),
+        Err(error) => Err(error),
+    }
+}
+
 /// A cell as the records of a journal make it.
 fn restarted_cell<T: Wait + Eprint + Clock, D: Disk>(
     rt: &T,
@@ -74,7 +112,10 @@ fn restarted_cell<T: Wait + Eprint + Clock, D: Disk>(
 ) -> Result<Cell, PlayError>
     requires run { AreRun asked }
     requires goes { is_some recording.old.fault ≡ false }
-    ensures cell { IfOk result (IsBegun asked.tenants asked.bound) }
+    ensures cell { IfOk result (λ cell. (records : List Entry) × IsBegun asked.tenants asked.bound records cell
+        × (IsTrue (D.Disk.is_clean (disk_of recording.new.journal)) → (head : ItsHead) (there : List Entry)
+        → Has D.Disk.seen D.Disk.may_leave recording.old.journal head there [] → AreRecords there
+        → (records ≡ there) × Tells D.Disk.seen D.Disk.may_leave recording.new.journal head cell)) }
     ensures goes { is_some recording.new.fault ≡ false }
 {
     let buckets = ample_buckets(asked.tenants);
@@ -117,7 +158,7 @@ fn end_by<T: Eprint + Clock, D: Disk>(
 ) -> Result<(), ProgramFault>
     ensures ok { OnOk result ((is_ok ended ≡ true) × (is_some recording.now.fault ≡ false)) }
     ensures err { IfErr result (λ why. ((is_some recording.now.fault ≡ true) × (why ≡ fault.JournalFailed))
-        ⊎ ((e : _) × (ended ≡ Err e) × (why ≡ fault.Stream e))) }
+        ⊎ ((is_some recording.now.fault ≡ false) × ((e : ItsStreamError) × (ended ≡ Err e) × (why ≡ fault.Stream e)))) }
 {
     if let Some(error) = recording.fault {
         log.tell_not_recorded(&error);

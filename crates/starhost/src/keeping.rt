@@ -8,7 +8,7 @@ ghost use Rattle.sb_words.specs.Within.{AreServer};
 use crate::closing::finish;
 use crate::event_log::EventLog;
 use crate::fault::ProgramFault;
-use crate::folder::Folder;
+use crate::folder::{Folder, FolderLock};
 use crate::listening::listen;
 use crate::loading::load_all;
 use crate::memory::memory_file;
@@ -159,6 +159,10 @@ where
     fn serve<W: Sink>(&self, writer: &mut W) -> Result<ServerEnd, ProgramFault>
         ensures { OnOk result (TellsPort (W.contents writer.old) (W.contents writer.new)) }
     {
+        let _lock = match self.lock_folder() {
+            Ok(lock) => lock,
+            Err(why) => return Err(why),
+        };
         let loaded = match self.prepare() {
             Ok(stubs) => stubs,
             Err(why) => return Err(why),
@@ -293,16 +297,27 @@ where
             began: Instant::now(self.rt).ok(),
             memory: memory_file(self.rt),
             board: self.board,
+            ender: self.board,
         }
     }
 
-    /// Looks for the folders, and makes the tenants from their files.
-    fn prepare(&self) -> Result<Vec<Stub>, ProgramFault> {
-        if let Some(path) = self.paths.dump_to {
-            if !folder_at(self.plan, path).is_found(self.rt, self.log) {
-                return Err(ProgramFault::NoFolder);
-            }
+    /// Locks the folder to which the tenants are to be written, if there is to be one.
+    fn lock_folder(&self) -> Result<Option<FolderLock>, ProgramFault> {
+        let Some(path) = self.paths.dump_to else {
+            return Ok(None);
+        };
+        let folder = folder_at(self.plan, path);
+        if !folder.is_found(self.rt, self.log) {
+            return Err(ProgramFault::NoFolder);
         }
+        match folder.lock(self.rt, self.log) {
+            Some(lock) => Ok(Some(lock)),
+            None => Err(ProgramFault::NoFolder),
+        }
+    }
+
+    /// Makes the tenants from the files of a folder, if there is to be one.
+    fn prepare(&self) -> Result<Vec<Stub>, ProgramFault> {
         let Some(path) = self.paths.load else {
             return Ok(Vec::new(self.alloc));
         };

@@ -1,9 +1,8 @@
 //! A list of keys, and whom it admits.
-ghost use Rattle.std.specs.Prelude.{◌≡◌, true};
-ghost use Rattle.sb_words.specs.Keys.{Table};
+ghost use Rattle.starhost.specs.KeyTexts.{AreReadKeys};
 ghost use Rattle.sb_words.specs.Seen.{table_of};
 
-use crate::key_source::KeyLists;
+use crate::key_source::KeyFiles;
 use sb_server::Admission;
 use sb_words::Keys;
 use std::marker::PhantomData;
@@ -12,21 +11,21 @@ use std::sync::{Mutex, Wait};
 
 /// A list of keys that was read.
 #[derive(Drop)]
-struct CurrentKeys<L: KeyLists> {
+struct CurrentKeys<L: KeyFiles> {
     keys: Keys,
     lists: PhantomData<L>,
-    ghost read: { L.is_read (table_of keys) ≡ true },
+    ghost read: { ∥ AreReadKeys L.is_opened (table_of keys) ∥₁ },
 }
 
 /// Admits whoever brings a key of the list that was read last.
 #[derive(Drop)]
-pub(crate) struct KeyList<L: KeyLists> {
+pub(crate) struct KeyList<L: KeyFiles> {
     held: Mutex<CurrentKeys<L>>,
 }
 
-impl<L: KeyLists> KeyList<L> {
+impl<L: KeyFiles> KeyList<L> {
     pub(crate) fn new(keys: Keys) -> KeyList<L>
-        requires { L.is_read (table_of keys) ≡ true }
+        requires { AreReadKeys L.is_opened (table_of keys) }
     {
         KeyList {
             held: Mutex::new(CurrentKeys {
@@ -38,7 +37,7 @@ impl<L: KeyLists> KeyList<L> {
 
     /// Has this list in place of the one before, which goes behind the lock.
     pub(crate) fn renew<R: Wait>(&self, rt: &R, keys: Keys)
-        requires { L.is_read (table_of keys) ≡ true }
+        requires { AreReadKeys L.is_opened (table_of keys) }
     {
         let held = CurrentKeys {
             keys,
@@ -48,12 +47,11 @@ impl<L: KeyLists> KeyList<L> {
     }
 }
 
-impl<L: KeyLists> Admission for KeyList<L> {
-    ghost use Rattle.std.specs.Prelude.{◌≡◌, true};
-    ghost use Rattle.sb_words.specs.Keys.{Admits, Table};
+impl<L: KeyFiles> Admission for KeyList<L> {
+    ghost use Rattle.std.specs.Prelude.{true};
+    ghost use Rattle.starhost.specs.KeyTexts.{IsReadKey};
 
-    // it is a key of the tenant in a list that was read
-    ghost admits = { λ _ tenant key. (table : Table) × (L.is_read table ≡ true) × Admits table tenant key };
+    ghost admits = { λ _. IsReadKey L.is_opened };
 
     ghost wants = { λ _. true };
 

@@ -1,15 +1,19 @@
 //! Where lists of keys are read.
-ghost use Rattle.std.specs.Prelude.{◌≡◌, Bool, IfOk, true};
+ghost use Rattle.std.specs.Prelude.{◌≡◌, ◌<◌, ℕ, Bool, IfErr, IfOk, List, Option, length, true};
 ghost use Rattle.starhost.specs.Faults.{unread_as};
-ghost use Rattle.sb_words.specs.Keys.{Table};
+ghost use Rattle.starhost.specs.KeyTexts.{AreReadKeys, IsBadLine, IsTextOf};
 ghost use Rattle.sb_words.specs.Seen.{table_of};
 
 use crate::fault::ProgramFault;
 use sb_wire::StreamError;
 use sb_words::{Keys, KeysError};
+use std::alloc::Global;
 use std::fmt::{self, Display, Formatter};
-use std::io;
+use std::io::{self, Read};
 use std::time::SystemTime;
+
+/// The most bytes of a file of keys, which are more than 800,000 lines.
+const MOST_BYTES: u64 = 1 << 26;
 
 /// Why keys aren't read.
 #[derive(Drop)]
@@ -50,10 +54,10 @@ impl Unread {
     }
 }
 
-/// Which lists of keys are read.
-pub(crate) trait KeyLists {
-    // this list was read: nothing but `KeySource::read` says so
-    ghost is_read: { Table → Bool };
+/// What is known of the files of keys that are opened.
+pub(crate) trait KeyFiles {
+    // a file was opened that has these bytes, if they are known: nothing but `KeySource::open` says so
+    ghost is_opened: { Option (List ℕ) → Bool };
 }
 
 /// By what it is seen that a list has changed.
@@ -64,10 +68,59 @@ pub(crate) struct Stamp {
 }
 
 /// Where lists of keys are read.
-pub(crate) trait KeySource<L: KeyLists> {
+pub(crate) trait KeySource<L: KeyFiles> {
+    type File: Read + Drop;
+
     /// That of the list that is read now, if there is one.
     fn stamp(&self) -> Option<Stamp>;
 
-    fn read(&self) -> Result<Keys, Unread>
-        ensures { IfOk result (λ keys. L.is_read (table_of keys) ≡ true) };
+    /// Opens the file that it stands in.
+    fn open(&self) -> io::Result<Self::File>
+        ensures { IfOk result (λ file. L.is_opened (Self.File.remaining file) ≡ true) };
+}
+
+/// Reads the list that is there now.
+pub(crate) fn keys_at<L: KeyFiles, S: KeySource<L>>(
+    alloc: Global,
+    source: &S,
+) -> Result<Keys, Unread>
+    ensures keys { IfOk result (λ keys. AreReadKeys L.is_opened (table_of keys)) }
+    ensures bad { (line : ℕ) → result ≡ Err (Unread.Keys (KeysError.BadLine line)) → IsBadLine L.is_opened line }
+{
+    let file = match source.open() {
+        Ok(file) => file,
+        Err(error) => return Err(Unread::File(error)),
+    };
+    let text = match text_of(alloc, file) {
+        Ok(text) => text,
+        Err(why) => return Err(why),
+    };
+    match Keys::read(alloc, text.as_slice()) {
+        Ok(keys) => Ok(keys),
+        Err(why) => Err(Unread::Keys(why)),
+    }
+}
+
+/// All that a file gives.
+fn text_of<F: Read + Drop>(alloc: Global, file: F) -> Result<Vec<u8>, Unread>
+    ensures text { IfOk result (λ text. IsTextOf (F.remaining file) text.items) }
+    ensures none { (why : _) → result ≡ Err (Unread.Keys why) → ⊥ }
+{
+    let mut text = Vec::new(alloc);
+    let mut front = file.take(MOST_BYTES);
+    match front.read_to_end(&mut text) {
+        Ok(_) => whole(text),
+        Err(error) => Err(Unread::File(error)),
+    }
+}
+
+/// A text that is shorter than what was asked for.
+fn whole(text: Vec<u8>) -> Result<Vec<u8>, Unread>
+    ensures whole { IfOk result (λ whole. (whole.items ≡ text.items) × (length text.items < 67108864)) }
+    ensures none { (why : _) → result ≡ Err (Unread.Keys why) → ⊥ }
+{
+    if text.len() as u64 >= MOST_BYTES {
+        return Err(Unread::TooLong);
+    }
+    Ok(text)
 }

@@ -2,8 +2,9 @@
 
 use crate::event_log::EventLog;
 use crate::key_list::KeyList;
-use crate::key_source::{KeyLists, KeySource, Stamp};
+use crate::key_source::{KeyFiles, KeySource, Stamp, keys_at};
 use sb_server::{Beside, Over};
+use std::alloc::Global;
 use std::rt::Clock;
 use std::sync::Wait;
 
@@ -17,7 +18,8 @@ struct Look {
 
 /// Has a list of keys read again where its file changes.
 #[derive(Drop)]
-pub(crate) struct KeyWatch<'p, 'l, 'k, L: KeyLists, S, T> {
+pub(crate) struct KeyWatch<'p, 'l, 'k, L: KeyFiles, S, T> {
+    alloc: Global,
     source: S,
     path: &'p str,
     /// What was seen before the first read.
@@ -26,9 +28,10 @@ pub(crate) struct KeyWatch<'p, 'l, 'k, L: KeyLists, S, T> {
     log: &'k EventLog<'k, T>,
 }
 
-impl<'p, 'l, 'k, L: KeyLists, S: KeySource<L>, T: Eprint + Clock> KeyWatch<'p, 'l, 'k, L, S, T> {
+impl<'p, 'l, 'k, L: KeyFiles, S: KeySource<L>, T: Eprint + Clock> KeyWatch<'p, 'l, 'k, L, S, T> {
     /// For a list that was read when this was its stamp.
     pub(crate) fn new(
+        alloc: Global,
         source: S,
         path: &'p str,
         stamp: Option<Stamp>,
@@ -36,6 +39,7 @@ impl<'p, 'l, 'k, L: KeyLists, S: KeySource<L>, T: Eprint + Clock> KeyWatch<'p, '
         log: &'k EventLog<'k, T>,
     ) -> KeyWatch<'p, 'l, 'k, L, S, T> {
         KeyWatch {
+            alloc,
             source,
             path,
             first: Look {
@@ -54,7 +58,7 @@ impl<'p, 'l, 'k, L: KeyLists, S: KeySource<L>, T: Eprint + Clock> KeyWatch<'p, '
         if last.is_done && !is_new {
             return last;
         }
-        match self.source.read() {
+        match keys_at::<L, S>(self.alloc, &self.source) {
             Ok(keys) => {
                 self.list.renew(rt, keys);
                 self.log.tell_keys(self.path);
@@ -76,7 +80,7 @@ impl<'p, 'l, 'k, L: KeyLists, S: KeySource<L>, T: Eprint + Clock> KeyWatch<'p, '
     }
 }
 
-impl<'p, 'l, 'k, L: KeyLists, S: KeySource<L>, T: Eprint + Clock> Beside
+impl<'p, 'l, 'k, L: KeyFiles, S: KeySource<L>, T: Eprint + Clock> Beside
     for KeyWatch<'p, 'l, 'k, L, S, T> {
     fn run<R: Wait>(&self, rt: &R, over: &Over) {
         let mut last = self.first;

@@ -1,6 +1,7 @@
 //! A server with a journal: it begins as the journal leaves it, and what is answered is recorded before it is sent.
-ghost use Rattle.std.specs.Prelude.{◌≡◌, ◌↔◌, OnOk};
+ghost use Rattle.std.specs.Prelude.{◌≡◌, ◌↔◌, OnOk, true};
 ghost use Rattle.std.specs.Thread.{IsSend, IsSync};
+ghost use Rattle.sb_durable.specs.Keeping.{AreKept};
 ghost use Rattle.starhost.specs.Totals.{TellsPort};
 
 use crate::event_log::EventLog;
@@ -11,8 +12,8 @@ use crate::showing::Pages;
 use crate::system::System;
 use crate::watching::StatusPort;
 use sb_durable::{
-    File as JournalFile, Head, Journal, JournalError, Played, Progress, Recorder, Syncing, Wary,
-    open_path, play,
+    Disk, File as JournalFile, Head, Journal, JournalError, Played, Progress, Recorder, Syncing,
+    Wary, open_path, play,
 };
 use sb_host::{Lending, Stub};
 use sb_server::{Admission, Beside, Keeper, Kept};
@@ -68,10 +69,24 @@ impl<'k, R, T: Eprint + Clock> JournalKeeper<'k, R, T> {
             None => Kept::All,
         }
     }
+
+    /// Tells why nothing was recorded: want of memory until there is some again, and all else once.
+    fn tell(&self, error: &JournalError) {
+        let was_told = match error {
+            JournalError::Memory => self.lacks_memory.swap(true, Ordering::SeqCst),
+            _ => self.has_failed.swap(true, Ordering::SeqCst),
+        };
+        if !was_told {
+            self.log.tell_not_recorded(error);
+        }
+    }
 }
 
-impl<'k, H: Lending, T: Eprint + Clock> Keeper
-    for JournalKeeper<'k, Recorder<H, JournalFile<Wary>>, T> {
+impl<'k, H: Lending, D: Disk, T: Eprint + Clock> Keeper for JournalKeeper<'k, Recorder<H, D>, T> {
+    ghost is_set = { λ _. true };
+
+    ghost keeps = { λ _ tenants. AreKept D.Disk tenants };
+
     fn is_set(&self) -> bool {
         true
     }
@@ -83,16 +98,11 @@ impl<'k, H: Lending, T: Eprint + Clock> Keeper
                 self.written()
             }
             Err(JournalError::Memory) => {
-                if !self.lacks_memory.swap(true, Ordering::SeqCst) {
-                    self.log.tell_not_recorded(&JournalError::Memory);
-                }
+                self.tell(&JournalError::Memory);
                 Kept::NotYet
             }
             Err(error) => {
-                // one tells why, and the others that it was told
-                if !self.has_failed.swap(true, Ordering::SeqCst) {
-                    self.log.tell_not_recorded(&error);
-                }
+                self.tell(&error);
                 Kept::Failed
             }
         }

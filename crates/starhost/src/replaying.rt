@@ -7,18 +7,16 @@ ghost use Rattle.starhost.specs.Writing.{WritesOf};
 ghost use Rattle.sb_words.specs.Within.{AreHost};
 
 use crate::closing::fault_of;
-use crate::event_log::EventLog;
 use crate::fault::ProgramFault;
 use sb_replay::{ReplayError, Size, replay_fresh};
 use sb_wire::{Sink, Source, StreamError};
-use sb_words::{HostOptions, Severity};
+use sb_words::HostOptions;
 use std::alloc::Global;
-use std::rt::Clock;
 use std::sync::Wait;
 use std::thread::Threads;
 
 /// Calls the sessions that an input names on a host of its own, and writes what they were answered.
-pub(crate) fn replay<T: Threads + Wait + Eprint + Clock + Sync, R: Source, W: Sink>(
+pub(crate) fn replay<T: Threads + Wait + Sync, R: Source, W: Sink>(
     rt: &T,
     alloc: Global,
     hosting: HostOptions,
@@ -40,21 +38,18 @@ pub(crate) fn replay<T: Threads + Wait + Eprint + Clock + Sync, R: Source, W: Si
     };
     match replay_fresh(rt, alloc, size, reader, writer) {
         Ok(()) => Ok(()),
-        Err(error) => Err(unplayed(rt, error)),
+        Err(error) => Err(unplayed(error)),
     }
 }
 
-/// What a replay that didn't go well is told as. Why a line is bad is written in the log.
-pub fn unplayed<T: Eprint + Clock>(rt: &T, error: ReplayError) -> ProgramFault
+/// What a replay that didn't go well is told as.
+pub fn unplayed(error: ReplayError) -> ProgramFault
     ensures { result ≡ unplayed_as error }
 {
     match error {
         ReplayError::ReadFault => ProgramFault::Stream(StreamError::ReadFault),
         ReplayError::WriteFault => ProgramFault::Stream(StreamError::WriteFault),
-        ReplayError::BadLine { line, why } => {
-            EventLog::new(rt, Severity::Info).tell_bad_line(line, why);
-            ProgramFault::BadLine { line }
-        }
+        ReplayError::BadLine { line, .. } => ProgramFault::BadLine { line },
         ReplayError::Attach { tenant, session } => ProgramFault::CannotAttach {
             tenant: u64::from(tenant),
             session: u32::from(session.number()),

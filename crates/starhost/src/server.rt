@@ -1,6 +1,7 @@
 //! A server, from its port to its last line.
 ghost use Rattle.std.specs.Prelude.{◌≡◌, ◌<◌, ◌≤◌, IfErr, IfOk, OnOk};
 ghost use Rattle.sb_host.specs.Opening.{AreNames};
+ghost use Rattle.sb_server.specs.Policies.{policy};
 ghost use Rattle.starhost.specs.Ends.{EndsEarly, FailsToServe};
 ghost use Rattle.starhost.specs.Faults.{unserved_as};
 ghost use Rattle.starhost.specs.Totals.{TellsServer, TellsTrails};
@@ -109,7 +110,8 @@ pub fn serve_by<
 ) -> Result<(), ProgramFault>
     requires { (0 < acceptor.now.terms.workers) × (acceptor.now.terms.workers ≤ 16) }
     ensures ok { OnOk result (Writes W.contents writer.old writer.new (TellsTrails N.bound host)) }
-    ensures err { IfErr result (FailsToServe W.refuses W.contents N.bound host acceptor.now.terms.first_tenant
+    ensures err { IfErr result (FailsToServe W.refuses W.contents
+        (policy (A.wants acceptor.now.admission.now) (A.admits acceptor.now.admission.now)) N.bound host acceptor.now.terms.first_tenant
         writer.old writer.new) }
 {
     let first_tenant = acceptor.terms.first_tenant;

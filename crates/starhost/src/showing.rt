@@ -1,18 +1,26 @@
 //! What the status port answers.
-ghost use Rattle.std.specs.Prelude.{◌≡◌, ◌⊎◌, ◌+◌, ◌<◌, ◌≤◌, IfOk, IfSome, MatchOption, option_copied};
-ghost use Rattle.starhost.specs.Showing.{IsGuarded, IsTurnedAway};
+ghost use Rattle.std.specs.Prelude.{◌≡◌, ◌⊎◌, ◌+◌, ◌<◌, ◌≤◌, IfOk, MatchOption, ℕ, false, true};
+ghost use Rattle.sb_status.specs.Shelf.{IsShelfOf};
+ghost use Rattle.sb_status.specs.TenantPages.{IsPageOf};
+ghost use Rattle.sb_status.specs.Routes.{Names};
+ghost use Rattle.sb_status.specs.Viewing.{IsFoundView, OnlyAges};
+ghost use Rattle.sb_status.specs.declared.route.Route.{Route as ItsRoute};
+ghost use Rattle.starhost.specs.Answering.{Answers, ComesTo, outcome_text};
+ghost use Rattle.starhost.specs.Showing.{AreSamples, IsEndOutcome, IsHostOutcome, IsPageOutcome, IsScriptOutcome, LacksSession, Shows};
 
 use crate::activity::{Counted, Overview};
 use crate::dumping::text_of;
+use crate::ending::SessionEnder;
 use crate::guarding::is_let_in;
 use crate::memory::resident;
+use crate::outcome::{HttpRefusal, Outcome, Shown, has_body};
 use crate::saving::{NotedScript, ScriptNotes, noted_in};
 use sb_dump::DumpError;
 use sb_host::{Lending, SESSION_LIMIT, SessionId, Tried};
 use sb_server::{Admission, Board, SessionName};
 use sb_status::{
     ContentType, Counting, Ended, HostNumbers, Incoming, Patience, Request, Route, SessionReading,
-    Shelf, Status, TenantNumbers, TenantView, read_request, respond, route_of, tenant_page,
+    SessionView, Shelf, Status, TenantNumbers, TenantView, read_request, route_of, tenant_page,
     view_at,
 };
 use std::alloc::{AllocError, Global};
@@ -26,7 +34,7 @@ const VERSION: &str = "0.1";
 
 /// What is shown, and whom.
 #[derive(Drop)]
-pub(crate) struct Pages<'k, H, A, T> {
+pub(crate) struct Pages<'k, H, A, T, E = Board> {
     pub(crate) rt: &'k T,
     pub(crate) alloc: Global,
     pub(crate) host: H,
@@ -38,90 +46,95 @@ pub(crate) struct Pages<'k, H, A, T> {
     pub(crate) began: Option<Instant>,
     /// Where the system tells how much memory the process has.
     pub(crate) memory: Option<File>,
-    /// What the workers have counted, and where they are told whose sessions end.
+    /// What the workers have counted.
     pub(crate) board: &'k Board,
+    /// What tells them that sessions are to end.
+    pub(crate) ender: &'k E,
     ghost few: { bound ≤ 1000 },
 }
 
-/// An answer before it has a head.
-#[derive(Drop)]
-struct Shown {
-    status: Status,
-    kind: ContentType,
-    body: Vec<u8>,
-}
-
-impl<'k, H: Lending, A: Admission, T: Wait + Clock> Pages<'k, H, A, T> {
+impl<'k, H: Lending, A: Admission, T: Wait + Clock, E: SessionEnder> Pages<'k, H, A, T, E> {
     /// For what pages showed last.
-    pub(crate) fn shelf(&self) -> Result<Shelf, AllocError> {
+    pub(crate) fn shelf(&self) -> Result<Shelf, AllocError>
+        ensures { IfOk result (IsShelfOf self.now.first_tenant) }
+    {
         Shelf::new(self.alloc, self.host.tenants())
     }
 
     /// The answer to the bytes of a request.
-    pub(crate) fn answer(&self, bytes: &[u8], shelf: &mut Shelf) -> Result<Vec<u8>, AllocError> {
+    pub(crate) fn answer(&self, bytes: &[u8], shelf: &mut Shelf) -> Result<Vec<u8>, AllocError>
+        requires { IsShelfOf self.now.first_tenant shelf.old }
+        ensures answers { IfOk result (λ answer. Answers (A.wants self.now.admission.now) (A.admits self.now.admission.now)
+            self.now.first_tenant (H.tenants self.now.host) H.cells self.now.bound (E.told self.now.ender.now)
+            bytes.now answer.items) }
+        ensures shelf { IsShelfOf self.now.first_tenant shelf.new }
+    {
         match read_request(bytes) {
             Incoming::Whole(request) => {
-                let shown = self.shown(&request, shelf)?;
-                let has_body = request.method != b"HEAD".as_slice();
-                respond(
-                    self.alloc,
-                    shown.status,
-                    shown.kind,
-                    shown.body.as_slice(),
-                    has_body,
-                )
+                let outcome = self.outcome(&request, shelf)?;
+                outcome.answer(self.alloc, has_body(&request))
             }
-            Incoming::TooLong => refuse(self.alloc, Status::TooLong, b"too long\n"),
-            Incoming::Malformed | Incoming::Partial => refuse(
-                self.alloc,
-                Status::Malformed,
-                b"bad request\n",
-            ),
+            Incoming::TooLong => refuse(self.alloc, HttpRefusal::TooLong),
+            Incoming::Malformed | Incoming::Partial => refuse(self.alloc, HttpRefusal::BadRequest),
         }
     }
 
-    /// The page that a request asks for, if who asks may see it.
-    fn shown(&self, request: &Request<'_>, shelf: &mut Shelf) -> Result<Shown, AllocError>
-        ensures { IfOk result (λ shown. IsGuarded (A.wants self.now.admission.now) (A.admits self.now.admission.now)
-            request.now.target.now (option_copied request.now.authorization) shown.status) }
+    /// What a request comes to at the page that its target names.
+    fn outcome(&self, request: &Request<'_>, shelf: &mut Shelf) -> Result<Outcome, AllocError>
+        requires { IsShelfOf self.now.first_tenant shelf.old }
+        ensures comes { IfOk result (λ outcome. (route : ItsRoute) × Names request.now.target.now route
+            × ComesTo (A.wants self.now.admission.now) (A.admits self.now.admission.now)
+            self.now.first_tenant (H.tenants self.now.host) H.cells self.now.bound (E.told self.now.ender.now)
+            request.now route outcome) }
+        ensures shelf { IsShelfOf self.now.first_tenant shelf.new }
     {
         let route = route_of(request.target);
-        if let Some(refusal) = refusal_of(route, request) {
-            return told(self.alloc, refusal.status, refusal.text);
+        if let Some(misfit) = HttpRefusal::of_misfit(route, request) {
+            return Ok(Outcome::Refused(misfit));
         }
         if !is_let_in(self.rt, self.alloc, self.admission, route, request)? {
-            return told(self.alloc, Status::Closed, b"a key is wanted\n");
+            return Ok(Outcome::Refused(HttpRefusal::KeyWanted));
         }
-        match self.page(route, shelf) {
-            Ok(shown) => Ok(shown),
-            Err(error) => Err(error),
-        }
+        self.page(route, shelf)
     }
 
     /// The page of whoever may see it.
-    fn page(&self, route: Route, shelf: &mut Shelf) -> Result<Shown, AllocError> {
+    fn page(&self, route: Route, shelf: &mut Shelf) -> Result<Outcome, AllocError>
+        requires { IsShelfOf self.now.first_tenant shelf.old }
+        ensures shows { IfOk result (Shows self.now.first_tenant (H.tenants self.now.host) H.cells self.now.bound
+            (E.told self.now.ender.now) route) }
+        ensures shelf { IsShelfOf self.now.first_tenant shelf.new }
+    {
         match route {
             Route::Host => self.host_page(shelf),
             Route::Metrics => self.metrics(shelf),
             Route::Tenant(tenant) => self.tenant_page(tenant, shelf),
             Route::Dump(tenant) => self.script(tenant),
             Route::End(ended) => self.end(ended),
-            Route::Unknown => told(self.alloc, Status::NotFound, b"not found\n"),
+            Route::Unknown => Ok(Outcome::Refused(HttpRefusal::NoPage)),
         }
     }
 
-    fn host_page(&self, shelf: &mut Shelf) -> Result<Shown, AllocError> {
+    fn host_page(&self, shelf: &mut Shelf) -> Result<Outcome, AllocError>
+        ensures page { IfOk result IsHostOutcome }
+        ensures shelf { (first : ℕ) → IsShelfOf first shelf.old → IsShelfOf first shelf.new }
+    {
         let overview = self.overview(shelf)?;
         Ok(found(ContentType::Page, overview.page(self.alloc)?))
     }
 
-    fn metrics(&self, shelf: &mut Shelf) -> Result<Shown, AllocError> {
+    fn metrics(&self, shelf: &mut Shelf) -> Result<Outcome, AllocError>
+        ensures samples { IfOk result AreSamples }
+        ensures shelf { (first : ℕ) → IsShelfOf first shelf.old → IsShelfOf first shelf.new }
+    {
         let overview = self.overview(shelf)?;
         Ok(found(ContentType::Samples, overview.samples(self.alloc)?))
     }
 
     /// The host with its tenants, and what the workers have counted.
-    fn overview(&self, shelf: &mut Shelf) -> Result<Overview, AllocError> {
+    fn overview(&self, shelf: &mut Shelf) -> Result<Overview, AllocError>
+        ensures { (first : ℕ) → IsShelfOf first shelf.old → IsShelfOf first shelf.new }
+    {
         Ok(Overview {
             tenants: self.all_numbers(shelf)?,
             host: self.host_numbers(),
@@ -131,7 +144,9 @@ impl<'k, H: Lending, A: Admission, T: Wait + Clock> Pages<'k, H, A, T> {
 
     /// The numbers of each tenant of which a session was ever opened, one lock after the other. Those of a tenant that is
     /// busy are older.
-    fn all_numbers(&self, shelf: &mut Shelf) -> Result<Vec<TenantNumbers>, AllocError> {
+    fn all_numbers(&self, shelf: &mut Shelf) -> Result<Vec<TenantNumbers>, AllocError>
+        ensures { (first : ℕ) → IsShelfOf first shelf.old → IsShelfOf first shelf.new }
+    {
         let mut all = Vec::new(self.alloc);
         let mut patience = Patience::new(self.rt);
         let now = self.uptime();
@@ -150,7 +165,9 @@ impl<'k, H: Lending, A: Admission, T: Wait + Clock> Pages<'k, H, A, T> {
         patience: &mut Patience<'_, T>,
         shelf: &mut Shelf,
         now: u64,
-    ) -> Option<TenantNumbers> {
+    ) -> Option<TenantNumbers>
+        ensures { (first : ℕ) → IsShelfOf first shelf.old → IsShelfOf first shelf.new }
+    {
         let mut counting = Counting::new(self.first_tenant);
         if let Tried::Held = patience.read(self.host, place, &mut counting) {
             return shelf.numbers(place, now);
@@ -190,36 +207,54 @@ impl<'k, H: Lending, A: Admission, T: Wait + Clock> Pages<'k, H, A, T> {
         }
     }
 
-    fn tenant_page(&self, tenant: u32, shelf: &mut Shelf) -> Result<Shown, AllocError> {
+    fn tenant_page(&self, tenant: u32, shelf: &mut Shelf) -> Result<Outcome, AllocError>
+        requires { IsShelfOf self.now.first_tenant shelf.old }
+        ensures page { IfOk result (IsPageOutcome self.now.first_tenant (H.tenants self.now.host) tenant) }
+        ensures shelf { IsShelfOf self.now.first_tenant shelf.new }
+    {
         let Some(place) = self.place_of(tenant) else {
-            return told(self.alloc, Status::NotFound, b"no such tenant\n");
+            return Ok(Outcome::Refused(HttpRefusal::NoTenant));
         };
         let now = self.uptime();
-        let mut patience = Patience::new(self.rt);
-        match view_at(
-            &mut patience,
-            self.alloc,
-            self.host,
-            self.first_tenant,
-            place,
-        )? {
-            Some(mut view) => {
-                self.tell_ages(tenant, &mut view);
+        let found = self.view(tenant, place)?;
+        match found {
+            Some(view) => {
                 let shown = view_shown(self.alloc, &view)?;
                 shelf.keep_view(place, view, now);
-                Ok(shown)
+                Ok(Outcome::Shown(shown))
             }
             None => self.old_page(place, shelf, now),
         }
     }
 
+    /// What the tenant at this place is, unless it is busy.
+    fn view(&self, tenant: u32, place: u32) -> Result<Option<TenantView>, AllocError>
+        ensures { IfOk result (IsFoundView self.now.first_tenant place) }
+    {
+        let mut patience = Patience::new(self.rt);
+        let found = view_at(
+            &mut patience,
+            self.alloc,
+            self.host,
+            self.first_tenant,
+            place,
+        )?;
+        let Some(mut view) = found else {
+            return Ok(None);
+        };
+        self.tell_ages(tenant, &mut view.sessions);
+        Ok(Some(view))
+    }
+
     /// Tells of each session how long ago its last line was answered.
-    fn tell_ages(&self, tenant: u32, view: &mut TenantView) {
+    fn tell_ages(&self, tenant: u32, sessions: &mut Vec<SessionView>)
+        ensures { OnlyAges sessions.old.items sessions.new.items }
+    {
         let Ok(now) = Instant::now(self.rt) else {
             return;
         };
         for number in 0..SESSION_LIMIT {
-            if let Some(session) = view.sessions.get_mut(number) {
+            if let Some(session) = sessions.get_mut(number) {
                 let named = SessionName {
                     tenant,
                     session: number as u32,
@@ -229,36 +264,52 @@ impl<'k, H: Lending, A: Admission, T: Wait + Clock> Pages<'k, H, A, T> {
         }
     }
 
-    /// What the tenant was that was looked at last, if it is this one, which is busy.
-    fn old_page(&self, place: u32, shelf: &mut Shelf, now: u64) -> Result<Shown, AllocError> {
-        match shelf.view(place, now) {
-            Some(view) => view_shown(self.alloc, view),
-            None => told(self.alloc, Status::Busy, b"the tenant is busy\n"),
+    /// What the tenant was that was looked at last, if it is the one at this place, which is busy.
+    fn old_page(&self, place: u32, shelf: &mut Shelf, now: u64) -> Result<Outcome, AllocError>
+        requires hosted { place < H.tenants self.now.host }
+        requires shelf { IsShelfOf self.now.first_tenant shelf.old }
+        ensures page { IfOk result (IsPageOutcome self.now.first_tenant (H.tenants self.now.host)
+            (self.now.first_tenant + place)) }
+        ensures shelf { IsShelfOf self.now.first_tenant shelf.new }
+    {
+        shelf.tell_age(now);
+        match shelf.view(place) {
+            Some(view) => Ok(Outcome::Shown(view_shown(self.alloc, view)?)),
+            None => Ok(Outcome::Refused(HttpRefusal::TenantBusy)),
         }
     }
 
     /// Has a session end.
-    fn end(&self, ended: Ended) -> Result<Shown, AllocError> {
+    fn end(&self, ended: Ended) -> Result<Outcome, AllocError>
+        ensures { IfOk result (IsEndOutcome self.now.first_tenant (H.tenants self.now.host) H.cells
+            (E.told self.now.ender.now) ended) }
+    {
         let Some(place) = self.place_of(ended.tenant) else {
-            return told(self.alloc, Status::NotFound, b"no such tenant\n");
+            return Ok(Outcome::Refused(HttpRefusal::NoTenant));
         };
         if !self.may_be_open(place, ended.session) {
-            return told(self.alloc, Status::NotFound, b"no such session\n");
+            return Ok(Outcome::Refused(HttpRefusal::NoSession));
         }
         let named = SessionName {
             tenant: ended.tenant,
             session: ended.session,
         };
         let cell = place % self.host.cells();
-        if self.board.end_session(self.rt, cell as usize, named) {
-            told(self.alloc, Status::Accepted, b"told\n")
-        } else {
-            told(self.alloc, Status::Busy, b"the worker is busy\n")
+        if !self.ender.end(self.rt, cell as usize, named) {
+            return Ok(Outcome::Refused(HttpRefusal::WorkerBusy));
         }
+        Ok(Outcome::Shown(Shown {
+            status: Status::Accepted,
+            kind: ContentType::Text,
+            body: b"told\n".to_vec(self.alloc)?,
+        }))
     }
 
     /// Whether a session of the tenant at this place is open, as far as that can be seen in time.
-    fn may_be_open(&self, place: u32, session: u32) -> bool {
+    fn may_be_open(&self, place: u32, session: u32) -> bool
+        requires { place < H.tenants self.now.host }
+        ensures { result ≡ false → LacksSession place session }
+    {
         if session >= SESSION_LIMIT as u32 {
             return false;
         }
@@ -271,28 +322,24 @@ impl<'k, H: Lending, A: Admission, T: Wait + Clock> Pages<'k, H, A, T> {
     }
 
     /// The lines that make the tenant again.
-    fn script(&self, tenant: u32) -> Result<Shown, AllocError> {
+    fn script(&self, tenant: u32) -> Result<Outcome, AllocError>
+        ensures { IfOk result (IsScriptOutcome self.now.first_tenant (H.tenants self.now.host) self.now.bound tenant) }
+    {
         let Some(place) = self.place_of(tenant) else {
-            return told(self.alloc, Status::NotFound, b"no such tenant\n");
+            return Ok(Outcome::Refused(HttpRefusal::NoTenant));
         };
         let mut patience = Patience::new(self.rt);
         let notes = ScriptNotes::new(self.alloc, self.bound);
         match noted_in(&mut patience, self.host, place, notes) {
-            NotedScript::Unused => told(self.alloc, Status::Found, b""),
-            NotedScript::Script(script) => Ok(found(
-                ContentType::Text,
-                text_of(self.alloc, &script)?,
-            )),
-            NotedScript::Lacking(DumpError::Busy) => told(
-                self.alloc,
-                Status::Busy,
-                b"the tenant is busy\n",
-            ),
-            NotedScript::Lacking(DumpError::NotAlike) => told(
-                self.alloc,
-                Status::Failed,
-                b"no script\n",
-            ),
+            NotedScript::Unused => Ok(found(ContentType::Text, Vec::new(self.alloc))),
+            NotedScript::Script(script) => {
+                let text = text_of(self.alloc, &script)?;
+                Ok(found(ContentType::Text, text))
+            }
+            NotedScript::Lacking(DumpError::Busy) => Ok(Outcome::Refused(HttpRefusal::TenantBusy)),
+            NotedScript::Lacking(DumpError::NotAlike) => {
+                Ok(Outcome::Refused(HttpRefusal::NoScript))
+            }
             NotedScript::Lacking(DumpError::NoMemory) => Err(AllocError),
         }
     }
@@ -306,68 +353,31 @@ fn resident_of(memory: &Option<File>) -> Option<u64> {
     }
 }
 
-fn refuse(alloc: Global, status: Status, body: &[u8]) -> Result<Vec<u8>, AllocError> {
-    respond(alloc, status, ContentType::Text, body, true)
-}
-
-fn told(alloc: Global, status: Status, text: &[u8]) -> Result<Shown, AllocError>
-    ensures { IfOk result (λ shown. (shown.status ≡ status) × (shown.kind ≡ ContentType.Text) × (shown.body.items ≡ text.now)) }
+/// The answer to bytes that are no request.
+fn refuse(alloc: Global, why: HttpRefusal) -> Result<Vec<u8>, AllocError>
+    ensures { IfOk result (λ answer. answer.items ≡ outcome_text (Outcome.Refused why) true) }
 {
-    Ok(Shown {
-        status,
-        kind: ContentType::Text,
-        body: text.to_vec(alloc)?,
-    })
+    Outcome::Refused(why).answer(alloc, true)
 }
 
 fn view_shown(alloc: Global, view: &TenantView) -> Result<Shown, AllocError>
-    ensures { IfOk result (λ shown. (shown.status ≡ Status.Found) × (shown.kind ≡ ContentType.Page)) }
+    ensures { IfOk result (λ shown. (shown.status ≡ Status.Found) × (shown.kind ≡ ContentType.Page)
+        × IsPageOf view.now shown.body.items) }
 {
-    Ok(found(ContentType::Page, tenant_page(alloc, view)?))
+    Ok(Shown {
+        status: Status::Found,
+        kind: ContentType::Page,
+        body: tenant_page(alloc, view)?,
+    })
 }
 
 /// What is shown of what there is.
-fn found(kind: ContentType, body: Vec<u8>) -> Shown
-    ensures { (result.status ≡ Status.Found) × (result.kind ≡ kind) × (result.body ≡ body) }
+fn found(kind: ContentType, body: Vec<u8>) -> Outcome
+    ensures { result ≡ Outcome.Shown (record { status = Status.Found; kind = kind; body = body }) }
 {
-    Shown {
+    Outcome::Shown(Shown {
         status: Status::Found,
         kind,
         body,
-    }
-}
-
-/// Why a request isn't answered by what it asks for.
-#[derive(Clone, Copy)]
-struct HttpRefusal {
-    status: Status,
-    text: &'static [u8],
-}
-
-/// Pages are got, and a session's end is posted. A browser names the page that posts, and no page of this server does.
-fn refusal_of(route: Route, request: &Request<'_>) -> Option<HttpRefusal>
-    ensures { IfSome result (λ refusal. IsTurnedAway refusal.status) }
-{
-    let posts = request.method == b"POST".as_slice();
-    let gets = request.method == b"GET".as_slice() || request.method == b"HEAD".as_slice();
-    let ends = matches!(route, Route::End(_));
-    if ends && !posts {
-        return Some(HttpRefusal {
-            status: Status::NotPosted,
-            text: b"only POST\n",
-        });
-    }
-    if !ends && !gets {
-        return Some(HttpRefusal {
-            status: Status::NotAllowed,
-            text: b"only GET and HEAD\n",
-        });
-    }
-    if ends && request.origin.is_some() {
-        return Some(HttpRefusal {
-            status: Status::Foreign,
-            text: b"not from a page\n",
-        });
-    }
-    None
+    })
 }

@@ -1,7 +1,9 @@
 //! The status port of a server: a thread of its own, which answers one connection at a time.
 ghost use Rattle.std.specs.Prelude.{◌≡◌, ◌<◌, ◌≤◌};
 ghost use Rattle.std.specs.Thread.{IsSend, IsSync};
+ghost use Rattle.sb_status.specs.Shelf.{IsShelfOf};
 
+use crate::ending::SessionEnder;
 use crate::hearing::{hear, say};
 use crate::showing::Pages;
 use libc::net as system;
@@ -54,7 +56,8 @@ impl<
     H: Lending,
     A: Admission,
     T: Wait + Net<Listener = TcpListener, Stream = TcpStream> + Clock,
-> Aside for StatusPort<Pages<'k, H, A, T>> {
+    E: SessionEnder,
+> Aside for StatusPort<Pages<'k, H, A, T, E>> {
     /// Answers whoever comes, until the server has ended.
     fn run<R: Wait>(&self, _rt: &R) {
         let Ok(mut shelf) = self.pages.shelf() else {
@@ -83,9 +86,13 @@ impl<
     H: Lending,
     A: Admission,
     T: Wait + Net<Listener = TcpListener, Stream = TcpStream> + Clock,
-> StatusPort<Pages<'k, H, A, T>> {
+    E: SessionEnder,
+> StatusPort<Pages<'k, H, A, T, E>> {
     /// Answers one request.
-    fn attend(&self, stream: &TcpStream, shelf: &mut Shelf) {
+    fn attend(&self, stream: &TcpStream, shelf: &mut Shelf)
+        requires { IsShelfOf self.now.pages.first_tenant shelf.old }
+        ensures { IsShelfOf self.now.pages.first_tenant shelf.new }
+    {
         let Ok(mut buffer) = vec![in self.pages.alloc; 0u8; HEAD_LIMIT + 1] else {
             say(self.pages.rt, stream, NO_MEMORY.as_bytes());
             return;

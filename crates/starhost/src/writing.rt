@@ -13,11 +13,12 @@ use sb_dump::dump;
 use sb_wire::Source;
 use sb_words::{Run, Severity};
 use std::alloc::Global;
+use std::fs::File;
 use std::rt::{Clock, Files};
 
 /// Answers the lines of the input on a fresh cell, throws the replies away, and writes each tenant that was opened to its
 /// file.
-pub(crate) fn dump_all<T: Eprint + Clock + Files, R: Source>(
+pub(crate) fn dump_all<T: Eprint + Clock + Files<File = File>, R: Source>(
     rt: &T,
     alloc: Global,
     asked: Run,
@@ -31,6 +32,9 @@ pub(crate) fn dump_all<T: Eprint + Clock + Files, R: Source>(
 {
     let log = EventLog::new(rt, Severity::Info);
     let Some(folder) = found_folder(rt, into, &log) else {
+        return Err(ProgramFault::NoFolder);
+    };
+    let Some(_lock) = folder.lock(rt, &log) else {
         return Err(ProgramFault::NoFolder);
     };
     let cell = match answered(alloc, asked, reader) {

@@ -34,10 +34,10 @@ pub returns-in-Replay-clause-goes : goal.returns-in-Replay-clause-goes
 returns-in-Replay-clause-goes g c = rw c.in-Replay.is (c.replay-ended.result, c.tell_end-in-Replay.ensures, c.replay-ended.ensures.err)
 
 pub returns-in-Record-clause-succeeds : goal.returns-in-Record-clause-succeeds
-returns-in-Record-clause-succeeds g c = rw c.in-Record.is (λ ok. went_well g.E.Sink.refuses g.E.Write.contents c.args.errors.now.sink c.tell_end-in-Record.new.errors c.run_journaled-ended.result c.tell_end-in-Record.result c.tell_end-in-Record.ensures ok c.run_journaled-ended.ensures)
+returns-in-Record-clause-succeeds g c = rw c.in-Record.is (λ ok. went_well g.E.Sink.refuses g.E.Write.contents c.args.errors.now.sink c.tell_end-in-Record.new.errors c.run_journaled-ended.result c.tell_end-in-Record.result c.tell_end-in-Record.ensures ok c.run_journaled-ended.ensures.ok)
 
 pub returns-in-Record-clause-goes : goal.returns-in-Record-clause-goes
-returns-in-Record-clause-goes g c = rw c.in-Record.is (c.run_journaled-ended.result, c.tell_end-in-Record.ensures)
+returns-in-Record-clause-goes g c = rw c.in-Record.is (c.run_journaled-ended.result, c.tell_end-in-Record.ensures, c.run_journaled-ended.ensures.err)
 
 pub returns-in-Keep-clause-succeeds : goal.returns-in-Keep-clause-succeeds
 returns-in-Keep-clause-succeeds g c = rw c.in-Keep.is (λ ok. went_well g.E.Sink.refuses g.E.Write.contents c.args.errors.now.sink c.tell_end-in-Keep.new.errors c.keep-ended.result c.tell_end-in-Keep.result c.tell_end-in-Keep.ensures ok c.keep-ended.ensures)
