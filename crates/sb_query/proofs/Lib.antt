@@ -1,0 +1,11 @@
+pub mod Scanning
+pub mod Turns
+pub mod Runs
+pub mod Quotes
+pub mod Comments
+pub mod Found
+pub mod Again
+pub mod Grammar
+pub mod Places
+pub mod Fine
+pub mod Marks

@@ -1,0 +1,10 @@
+pub mod Bytes
+pub mod Pieces
+pub mod Scan
+pub mod Lines
+pub mod Drafts
+pub mod Drafting
+pub mod Origins
+pub mod Reading
+pub mod Statements
+pub mod Kinds
