@@ -1,0 +1,14 @@
+mod Torn
+mod Contents
+mod Reading
+mod Chain
+mod Crash
+mod Finding
+mod Walking
+mod Heads
+mod Shortened
+mod Opened
+mod Mending
+mod Places
+mod Begun
+mod CutFiles

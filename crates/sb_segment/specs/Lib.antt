@@ -1,0 +1,5 @@
+pub mod Blocks
+pub mod Head
+pub mod Chain
+pub mod Segment
+pub mod Ends
