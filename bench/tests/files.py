@@ -8,7 +8,8 @@ generated lines over connections to a server that writes them to a folder when i
 that `dump` writes of the same lines. A server that reads the folder answers a tail of generated lines as `run` does behind
 the first ones, and writes the same files. Then what goes wrong: a line that isn't a script's, a file that can't be read,
 folders that aren't there, a file that may have so many bytes and no more, and a server that is killed while it writes:
-there is never a part of a file under its name. The same of `dump --into` and `run --load`: each tenant that the input
+there is never a part of a file under its name. A link under
+that name isn't followed, and a second process is refused on the folder. The same of `dump --into` and `run --load`: each tenant that the input
 opened is written, but one with a transaction, and a run on the files answers as one that goes on. The first thing that isn't as it is to be ends this with status 1.
 """
 
@@ -158,6 +159,38 @@ def writes_fail(program, room):
         fail(f"files on a full disk: {files_in(folder)}")
 
 
+def links_are_not_followed(program, room):
+    """A link under the name of a file that is written goes, and what it leads to stays."""
+    folder, other = os.path.join(room, "linked"), os.path.join(room, "other")
+    os.mkdir(folder)
+    with open(other, "w", encoding="ascii") as file:
+        file.write("left alone\n")
+    os.symlink(other, os.path.join(folder, f"{FIRST}.lines.new"))
+    server = served(program, ["--dump-to", folder])
+    told_to(server, 0, ["create table t (a int)"])
+    ended = server.end()
+    with open(other, encoding="ascii") as file:
+        left = file.read()
+    wanted = {f"{FIRST}.lines": "create table t (a int)\n"}
+    if ended[0] != 0 or files_in(folder) != wanted or left != "left alone\n":
+        fail(f"a link at a file that is written: {ended}, {files_in(folder)}, {left}")
+
+
+def folders_are_locked(program, room):
+    """A folder to which a server writes is no other process's."""
+    folder = os.path.join(room, "locked")
+    os.mkdir(folder)
+    server = served(program, ["--dump-to", folder])
+    others = [served(program, ["--dump-to", folder]).end(), run(program, f"dump --into {folder}", ["0 0 open"])]
+    for ended in others:
+        if fault_of(ended)[:2] != (1, "fault: no folder") or f"no folder {folder}: another process writes to it" not in ended[2]:
+            fail(f"a second process on a folder: {ended}")
+    first = server.end()
+    behind = served(program, ["--dump-to", folder]).end()
+    if (first[0], behind[0]) != (0, 0):
+        fail(f"servers on a folder one after another: {first}, {behind}")
+
+
 def dumps_are_run(program, tenants, seed, room):
     """All tenants of an input are written, and a run on the files answers a tail as one that goes on."""
     folder = os.path.join(room, "into")
@@ -251,6 +284,8 @@ def main():
         count = are_kept(program, min(asked.tenants, 16), asked.seed, room)
         loads_fail(program, room)
         writes_fail(program, room)
+        links_are_not_followed(program, room)
+        folders_are_locked(program, room)
         count += dumps_are_run(program, min(asked.tenants, 16), asked.seed, room)
         dumps_fail(program, room)
         whole = kills_leave_whole_files(program, room, 20)

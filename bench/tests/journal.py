@@ -13,10 +13,12 @@ them (refuse.c, compiled by cc): where a record lacks memory, replies wait. Each
 (refuse_disk.c), with --sync always and second: the server ends with a fault, and what it answered is there. With second
 there is a sync each second under load and one behind the last line, none of it while nothing comes, and one that fails
 ends the server before its next reply; a run makes one before it ends. Then what can't be: two servers on one file,
-another number of tenants, another bound, a full disk. The first thing that isn't as it is to be ends this with status 1.
+another number of tenants, another bound, a full disk, and
+files that are no journals, which stay as they are. The first thing that isn't as it is to be ends this with status 1.
 """
 
 import argparse
+import gzip
 import os
 import random
 import shutil
@@ -187,7 +189,9 @@ def crashed(data, dice):
     places = blocks(data)
     at = dice.randrange(len(places))
     behind = data[places[at] + 1:places[at + 1]] if at + 1 < len(places) else b""
-    part = behind[:dice.randint(0, len(behind))] if dice.random() < 0.7 else dice.randbytes(dice.randrange(40))
+    # before its head is there a file has no more than the head and the gates around it
+    most = 40 if at else HEAD
+    part = behind[:dice.randint(0, len(behind))] if dice.random() < 0.7 else dice.randbytes(dice.randrange(most))
     return data[:places[at]] + dice.choice([b"", b"\x00" + part, b"\x01"])
 
 
@@ -213,7 +217,8 @@ def survives_cuts(program, room, file, cuts, each, seed):
             file.write(part)
         kept = records(cut)
         is_open = len(part) > blocks(part)[-1] and part[blocks(part)[-1]] == 1
-        has = states(program, cut, room, may_refuse=is_open or kept != found[:len(kept)])
+        is_other = not part.startswith(data[:12])
+        has = states(program, cut, room, may_refuse=is_open or is_other or kept != found[:len(kept)])
         refused += has is None
         if has is not None and kept == found[:len(kept)]:
             need(has == states_of(program, kept, room), f"part {at} with other bytes behind it has another state")
@@ -382,6 +387,15 @@ def share_bounds_file(program, room):
     return size
 
 
+def others(data):
+    """Files that are no journals: texts, other programs' files, and a journal whose first byte is another one."""
+    digest = "0" * 64
+    return [
+        b"dear diary\n", b"SQLite format 3\0" + bytes(4080), f"0 {digest}\n".encode(), b"create table t (a int)\n",
+        gzip.compress(data), bytes(4096), b"\0" + data[1:] + bytes(9), b"\x01\0\0\0\x14FILGJRX" + data[12:],
+    ]
+
+
 def fault(ended):
     status, out, log = ended
     need(status == 1 and out == "", f"status {status}, {out}, {log}")
@@ -406,7 +420,11 @@ def cannot_be(program, room):
     refuses("it has another number of tenants", file, tenants=15)
     with open(file, "rb") as whole:
         data = whole.read()
-    for why, begins in (("it is no journal of this version", data[:12] + b"2" + data[13:]), ("it is damaged", b"\x01\xff" + data)):
+    for why, begins in [
+        ("it is no journal of this version", data[:12] + b"2" + data[13:]),
+        ("it is damaged", data[:HEAD] + b"\x01\xff" + data),
+        *(("it is no journal", text) for text in others(data)),
+    ]:
         with open(other, "wb") as written:
             written.write(begins)
         refuses(why, other)

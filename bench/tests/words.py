@@ -10,11 +10,12 @@ with status 1.
 import dataclasses
 import os
 import pathlib
-import re
 import select
 import signal
+import socket
 import subprocess
 import sys
+import tempfile
 import tty
 
 from bench.harness import program_of
@@ -162,6 +163,38 @@ PARSED = [
     (b"begin" + b" " * 4092, b"too long"),
 ]
 
+# Words and an input, and the fault that ends the program. Standard error has its line, and nothing else.
+FAULTS = [
+    ("replay --tenants 1", b"0 0 begin\n1 0 begin\n", b"bad line 2"),
+    ("replay", b"0 0 begin\nx\n", b"bad line 2"),
+    ("replay", b"0 8 begin\n", b"bad line 1"),
+    ("replay", b"0 0 begin\n" + b"x" * 5000 + b"\n", b"bad line 2"),
+    ("dump --tenants 1 --tenant 1", b"", b"no tenant 1"),
+    ("dump --tenant 0", b"0 0 open\n0 0 begin\n", b"busy tenant 0"),
+    ("key", b"two words\n", b"bad key"),
+]
+
+# Files for the faults that the log tells more of.
+FILES = {"0.lines": b"begin\n", "bad.keys": b"x\n", "journal": b"\x01\xff\xff\xff\xff"}
+
+# Words, and the fault that ends the program behind some lines of the log.
+LOGGED_FAULTS = [
+    ("run --load {folder}/none", b"no folder"),
+    ("run --load {folder}", b"cannot load 0"),
+    ("run --journal {folder}", b"cannot open journal"),
+    ("run --journal {folder}/journal", b"cannot open journal"),
+    ("dump --into {folder}/none", b"no folder"),
+    ("serve --port {port}", b"cannot listen"),
+    ("serve --port 0 --status {port}", b"cannot listen"),
+    ("serve --port 0 --load {folder}/none", b"no folder"),
+    ("serve --port 0 --load {folder}", b"cannot load 0"),
+    ("serve --port 0 --dump-to {folder}/none", b"no folder"),
+    ("serve --port 0 --journal {folder}", b"cannot open journal"),
+    ("serve --port 0 --keys {folder}/none", b"no keys"),
+    ("serve --port 0 --keys {folder}/bad.keys", b"bad keys 1"),
+    ("compact {folder}/none {folder}/other", b"cannot open journal"),
+]
+
 
 @dataclasses.dataclass
 class Ended:
@@ -250,10 +283,25 @@ def faults_are_told(program):
         program.expect("write failed", ended, Ended(1, b"", b"lines 1, steps 1\nfault: write failed\n"))
         ended = program.run("replay", SCRIPT, stdout=full)
         program.expect("write failed, of a replay", ended, Ended(1, b"", b"fault: write failed\n"))
-    ended = program.run("replay --tenants 1", b"0 0 begin\n1 0 begin\n")
-    # behind the level and the time of a line of the log
-    ended.errors = re.sub(rb"^\[.*?Z ", b"", ended.errors)
-    program.expect("bad line", ended, Ended(1, b"", b"bad line 2: NoTenant\nfault: bad line 2\n"))
+    for words, text, fault in FAULTS:
+        program.expect(words, program.run(words, text), Ended(1, b"", b"fault: " + fault + b"\n"))
+
+
+def faults_are_told_once(program):
+    """Behind the log's lines of files, of keys and of ports there is one line, which has the fault."""
+    with tempfile.TemporaryDirectory() as folder, socket.create_server(("127.0.0.1", 0)) as taken:
+        paths = {"folder": folder, "port": taken.getsockname()[1]}
+        for name, text in FILES.items():
+            with open(os.path.join(folder, name), "wb") as file:
+                file.write(text)
+        for words, fault in LOGGED_FAULTS:
+            words = words.format(**paths)
+            ended = program.run(words)
+            lines = ended.errors.splitlines(keepends=True)
+            logged = [line for line in lines if line.startswith(b"[")]
+            program.expect(f"the log of {words}", len(logged) > 0, True)
+            told = Ended(ended.status, b"", b"".join(lines[len(logged):]))
+            program.expect(words, told, Ended(1, b"", b"fault: " + fault + b"\n"))
 
 
 def terminals_have_summaries(program):
@@ -288,6 +336,7 @@ PARTS = [
     are_taken,
     are_answered,
     faults_are_told,
+    faults_are_told_once,
     terminals_have_summaries,
     replies_come_at_once,
     replays_are_alike,
