@@ -71,7 +71,7 @@ same_key : (admits : Admits) (a b : History) → SameStreams a b → BringsKey a
 same_key admits a b same brings = record {
   first = brings.first;
   begins = subst (λ (r : List ℕ). Begins r b.at_end brings.first) (sym same.2) (subst (λ (e : Bool). Begins a.received e brings.first) (sym same.1) brings.begins);
-  visitor = brings.visitor;
+  handshake = brings.handshake;
   is = brings.is;
   admitted = brings.admitted;
 }

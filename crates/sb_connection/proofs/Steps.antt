@@ -12,7 +12,7 @@ use Rattle.sb_connection.specs.declared.state.State as stands
 use Rattle.sb_connection.specs.Conversation.{Hosted, named_by, welcome}
 use Rattle.sb_connection.specs.Exchanges.{said_text}
 use Rattle.sb_connection.specs.History.{AreAll, AreComplete, AreFirstLines, History, IsSessionOf, IsSettled, MayReceive, Stands, Tells, Transacts, after_end, after_receiving, after_sending, nothing_yet}
-use Rattle.sb_connection.specs.Machine.{Adds, AddsLast, Answers, Finishes, Holds, IsNamedBy, Steps, Talking, ended, last_state, named_after, named_first, naming}
+use Rattle.sb_connection.specs.ProtocolState.{Adds, AddsLast, Answers, Finishes, Holds, IsNamedBy, Steps, Talking, ended, last_state, named_after, named_first, naming}
 use Rattle.sb_connection.specs.Policies.{Admits}
 use Rattle.sb_connection.specs.Responding.{Opened, Greets, Responds, RespondsBy, State, over}
 use Rattle.sb_connection.specs.declared.greeting.SessionName.{SessionName}
@@ -318,13 +318,13 @@ module _ (admits : Admits) (k : Talking) (holds : Holds admits k) where
           let alone : holds.pieces ≡ [] = none_before admits h.hosted holds.pieces holds.text k.talk holds.answered none standing.2 in
           let greets : Greets admits h.hosted p a.text new.talk.0 new.talk.1 = subst (λ (s : Option Opened). RespondsBy admits h.hosted s p a.text new.talk) none a.responds in
           let one = some_from new.talk.0 (sym a.attached ∙ after) in
-          let visitor = admitted admits h.hosted p a.text one.0 new.talk.1 (ap (λ (n : Hosted). n.keyed) (sym a.streams.0) ∙ keyed)
+          let handshake = admitted admits h.hosted p a.text one.0 new.talk.1 (ap (λ (n : Hosted). n.keyed) (sym a.streams.0) ∙ keyed)
           (subst (λ (s : Option Opened). Greets admits h.hosted p a.text s new.talk.1) one.1 greets) in record {
             first = p;
             begins = inl (taken ++ fed, new.history.waiting, new_split, sym complete ∙ ap (λ (ps : List Piece). ps ++ p ∷ []) alone);
-            visitor = visitor.0;
-            is = visitor.1;
-            admitted = visitor.2;
+            handshake = handshake.0;
+            is = handshake.1;
+            admitted = handshake.2;
           }
 
     -- the line that stands open at the end is answered
@@ -389,13 +389,13 @@ module _ (admits : Admits) (k : Talking) (holds : Holds admits k) where
               let mid = are.2 in
               let now : mid ≡ new.talk = sym are.6.1 in
               let greets : Greets admits h.hosted k.opened are.0 mid.0 mid.1 = subst (λ (s : Option Opened). RespondsBy admits h.hosted s k.opened are.0 mid) closed are.5 in
-              let visitor = admitted admits h.hosted k.opened are.0 one.0 mid.1 (ap (λ (n : Hosted). n.keyed) (sym a.streams.0) ∙ keyed)
+              let handshake = admitted admits h.hosted k.opened are.0 one.0 mid.1 (ap (λ (n : Hosted). n.keyed) (sym a.streams.0) ∙ keyed)
               (subst (λ (s : Option Opened). Greets admits h.hosted k.opened are.0 s mid.1) (ap (λ (x : State). x.0) now ∙ one.1) greets) in record {
                 first = k.opened;
                 begins = inr (a.streams.1 ∙ at_end, ap complete_pieces same_bytes ∙ sym standing.0 ∙ alone, holds.is_open ∙ ap (λ (t : List ℕ). piece_of (open_line t)) (sym same_bytes));
-                visitor = visitor.0;
-                is = visitor.1;
-                admitted = visitor.2;
+                handshake = handshake.0;
+                is = handshake.1;
+                admitted = handshake.2;
               }
 
 -- ---- steps, from the fields of a connection

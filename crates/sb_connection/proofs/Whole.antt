@@ -10,7 +10,7 @@ use Rattle.sb_wire.specs.Seen.{refusal_line}
 use Rattle.sb_wire.specs.declared.refusal.WireRefusal.TheVariants as wire
 use Rattle.sb_desk.specs.Calls.{Attached, Session}
 use Rattle.sb_desk.specs.declared.stub.Stub.{Stub}
-use Rattle.sb_connection.specs.Conversation.{Hosted, IsAdmitted, Talks, TurnsAway, TurnsAwayFrom, TurnsAwayLine, TurnsAwayVisitor, Visitor, attach_lines, named_by, named_in, named_of, tenant_at, visitor_in, visitor_of, welcome}
+use Rattle.sb_connection.specs.Conversation.{Hosted, IsAdmitted, Talks, TurnsAway, TurnsAwayFrom, TurnsAwayLine, TurnsAwayVisitor, KeyHandshake, attach_lines, named_by, named_in, named_of, tenant_at, visitor_in, visitor_of, welcome}
 use Rattle.sb_connection.specs.declared.greeting.SessionName.{SessionName}
 use Rattle.sb_connection.specs.Exchanges.{Exchange, IsClosed, has_ended, line_in, receipts_of, said_text}
 use Rattle.sb_connection.specs.Transactions.{transacts_from}
@@ -26,8 +26,8 @@ module _ (admits : Admits) (hosted : Hosted) where
   turned_by None text away (none, is_away, is) = (is_away, (refusal_line wire.BadLine ∷ [], refl, is))
   turned_by (Some n) text away (is_away, e, attached, is) = (is_away, (attach_lines e, (e, attached, refl), is))
 
-  turned_visitor : (visitor : Option Visitor) (text : List ℕ) (away : Bool) → GreetsVisitor admits hosted visitor text None away
-      → (away ≡ true) × ((said : List (List ℕ)) × TurnsAwayVisitor hosted visitor said × (text ≡ ended_lines said))
+  turned_visitor : (handshake : Option KeyHandshake) (text : List ℕ) (away : Bool) → GreetsVisitor admits hosted handshake text None away
+      → (away ≡ true) × ((said : List (List ℕ)) × TurnsAwayVisitor hosted handshake said × (text ≡ ended_lines said))
   turned_visitor None text away (none, is_away, is) = (is_away, (refusal_line wire.BadKey ∷ [], refl, is))
   turned_visitor (Some v) text away (inl (none, is_away, is)) = (is_away, (refusal_line wire.BadKey ∷ [], inl refl, is))
   turned_visitor (Some v) text away (inr (admitted, greets)) =
@@ -50,7 +50,7 @@ module _ (admits : Admits) (hosted : Hosted) where
   opened_by None text s away (none, is_away, is) = absurd cc
   opened_by (Some n) text s away (attached, is, fresh) = (n, refl, attached, is, fresh)
 
-  opened_visitor : (visitor : Option Visitor) (text : List ℕ) (s : Opened) (away : Bool) → GreetsVisitor admits hosted visitor text (Some s) away → Opens (option_map (λ (v : Visitor). v.named) visitor) text s
+  opened_visitor : (handshake : Option KeyHandshake) (text : List ℕ) (s : Opened) (away : Bool) → GreetsVisitor admits hosted handshake text (Some s) away → Opens (option_map (λ (v : KeyHandshake). v.named) handshake) text s
   opened_visitor None text s away (none, is_away, is) = absurd cc
   opened_visitor (Some v) text s away (inl (none, is_away, is)) = absurd cc
   opened_visitor (Some v) text s away (inr (admitted, greets)) = opened_by (Some v.named) text s away greets
@@ -64,12 +64,12 @@ module _ (admits : Admits) (hosted : Hosted) where
   opened (line bytes) text s away greets = opened_line hosted.keyed bytes text s away greets
 
   -- with keys, only to whom the key admits
-  admitted_visitor : (visitor : Option Visitor) (text : List ℕ) (s : Opened) (away : Bool) → GreetsVisitor admits hosted visitor text (Some s) away → (v : Visitor) × (visitor ≡ Some v) × admits v.named.tenant v.key
+  admitted_visitor : (handshake : Option KeyHandshake) (text : List ℕ) (s : Opened) (away : Bool) → GreetsVisitor admits hosted handshake text (Some s) away → (v : KeyHandshake) × (handshake ≡ Some v) × admits v.named.tenant v.key
   admitted_visitor None text s away (none, is_away, is) = absurd cc
   admitted_visitor (Some v) text s away (inl (none, is_away, is)) = absurd cc
   admitted_visitor (Some v) text s away (inr (admitted, greets)) = (v, refl, admitted)
 
-  pub admitted : (p : Piece) (text : List ℕ) (s : Opened) (away : Bool) → hosted.keyed ≡ true → Greets admits hosted p text (Some s) away → (v : Visitor) × (visitor_in p ≡ Some v) × admits v.named.tenant v.key
+  pub admitted : (p : Piece) (text : List ℕ) (s : Opened) (away : Bool) → hosted.keyed ≡ true → Greets admits hosted p text (Some s) away → (v : KeyHandshake) × (visitor_in p ≡ Some v) × admits v.named.tenant v.key
   admitted too_long text s away keyed (none, is_away, is) = absurd cc
   admitted (line bytes) text s away keyed greets =
       admitted_visitor (visitor_of bytes) text s away (subst (λ (k : Bool). GreetsLine admits k hosted bytes text (Some s) away) keyed greets)
@@ -108,7 +108,7 @@ module _ (admits : Admits) (hosted : Hosted) where
         record {
           named = n;
           is_named = o.1;
-          admitted = λ keyed. let v = admitted p first s away keyed greets in record { visitor = v.0; is = v.1; admitted = v.2 };
+          admitted = λ keyed. let v = admitted p first s away keyed greets in record { handshake = v.0; is = v.1; admitted = v.2 };
           within = (attached.0, attached.1);
           exchanges = r.exchanges;
           are_calls = r.are_calls;

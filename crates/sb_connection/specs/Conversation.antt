@@ -45,36 +45,36 @@ abbrev pub named_of : List ℕ → Option SessionName
 named_of bytes = option_and_then (λ t. option_map (λ s. record { tenant = t.0; session = s }) (number_of t.1)) (number_before bytes)
 
 -- whom a line with a key names
-pub record Visitor : Type 0 where
+pub record KeyHandshake : Type 0 where
   pub named : SessionName
   pub key : List ℕ
 
-abbrev pub visitor_by : Option Addressed → Option Visitor
+abbrev pub visitor_by : Option Addressed → Option KeyHandshake
 visitor_by a = option_map (λ (a : Addressed). record { named = record { tenant = a.tenant; session = a.session }; key = a.command }) a
 
 -- the two numbers, a space, and the key
-abbrev pub visitor_of : List ℕ → Option Visitor
+abbrev pub visitor_of : List ℕ → Option KeyHandshake
 visitor_of bytes = visitor_by (addressed_of bytes)
 
 -- the session that a first line names, with a key where there are keys
 abbrev pub named_in : Bool → List ℕ → Option SessionName
 named_in false bytes = named_of bytes
-named_in true bytes = option_map (λ (v : Visitor). v.named) (visitor_of bytes)
+named_in true bytes = option_map (λ (v : KeyHandshake). v.named) (visitor_of bytes)
 
 abbrev pub named_by : Bool → Piece → Option SessionName
 named_by keyed too_long = None
 named_by keyed (line bytes) = named_in keyed bytes
 
 -- a first line that brings a key
-abbrev pub visitor_in : Piece → Option Visitor
+abbrev pub visitor_in : Piece → Option KeyHandshake
 visitor_in too_long = None
 visitor_in (line bytes) = visitor_of bytes
 
 -- it brings a key that opens the tenant which it names
 pub record IsAdmitted (admits : Admits) (first : Piece) : Type 0 where
-  pub visitor : Visitor
-  pub is : visitor_in first ≡ Some visitor
-  pub admitted : admits visitor.named.tenant visitor.key
+  pub handshake : KeyHandshake
+  pub is : visitor_in first ≡ Some handshake
+  pub admitted : admits handshake.named.tenant handshake.key
 
 -- why no session was opened
 abbrev pub attach_lines : AttachError → List (List ℕ)
@@ -90,7 +90,7 @@ TurnsAwayFrom hosted None said = said ≡ refusal_line wire.BadLine ∷ []
 TurnsAwayFrom hosted (Some n) said = (e : AttachError) × Attached hosted.tenants (tenant_at hosted n.tenant) n.session (Err e) × (said ≡ attach_lines e)
 
 -- with keys: its key is none of the tenant's, or it has none; or the session isn't opened
-abbrev pub TurnsAwayVisitor : Hosted → Option Visitor → List (List ℕ) → Type 0
+abbrev pub TurnsAwayVisitor : Hosted → Option KeyHandshake → List (List ℕ) → Type 0
 TurnsAwayVisitor hosted None said = said ≡ refusal_line wire.BadKey ∷ []
 TurnsAwayVisitor hosted (Some v) said = (said ≡ refusal_line wire.BadKey ∷ []) ⊎ TurnsAwayFrom hosted (Some v.named) said
 

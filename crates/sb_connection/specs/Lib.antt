@@ -9,7 +9,7 @@ pub mod Telling
 pub mod Standing
 pub mod History
 pub mod Admission
-pub mod Machine
+pub mod ProtocolState
 pub mod Routing
 pub mod Traffic
 pub mod Transactions

@@ -11,7 +11,7 @@ use Rattle.sb_tenant.specs.declared.reply.Answer.{Answer}
 use Rattle.sb_desk.specs.Calls.{Attached, Calls, IsNumbered, Session, after_call}
 use Rattle.sb_desk.specs.Stubs.{LeavesStub}
 use Rattle.sb_desk.specs.declared.stub.Stub.{Stub}
-use Rattle.sb_connection.specs.Conversation.{Hosted, Visitor, attach_lines, named_of, tenant_at, visitor_of, welcome}
+use Rattle.sb_connection.specs.Conversation.{Hosted, KeyHandshake, attach_lines, named_of, tenant_at, visitor_of, welcome}
 use Rattle.sb_connection.specs.declared.greeting.SessionName.{SessionName}
 use Rattle.sb_connection.specs.Policies.{Admits}
 use Rattle.sb_connection.specs.Transactions.{transacts_after, transacts_behind}
@@ -68,7 +68,7 @@ GreetsBy hosted None text s away = TurnsAwayBy wire.BadLine text s away
 GreetsBy hosted (Some named) text s away = GreetsNamed hosted named text s away
 
 -- only whoever brings a key of the tenant
-abbrev pub GreetsVisitor : Admits → Hosted → Option Visitor → List ℕ → Option Opened → Bool → Type 0
+abbrev pub GreetsVisitor : Admits → Hosted → Option KeyHandshake → List ℕ → Option Opened → Bool → Type 0
 GreetsVisitor admits hosted None text s away = TurnsAwayBy wire.BadKey text s away
 GreetsVisitor admits hosted (Some v) text s away =
     TurnsAwayBy wire.BadKey text s away ⊎ (admits v.named.tenant v.key × GreetsNamed hosted v.named text s away)

@@ -10,7 +10,7 @@ ghost use Rattle.sb_connection.specs.Traffic.{after_write};
 use crate::admission::Doorkeeper;
 use crate::ending::ConnectionEnd;
 use crate::greeting::SessionName;
-use crate::machine::Machine;
+use crate::protocol_state::ProtocolState;
 use crate::serve::{close, tell_end};
 use crate::state::State;
 use crate::stream::Stream;
@@ -27,24 +27,24 @@ const LINES_A_TURN: usize = 64;
 /// Give it what comes while it `wants_read`, `advance` it, and `send` while it `wants_write`,
 /// until it `is_done`. Then close it, or at any time before.
 pub struct Connection<H: Hosting, D: Doorkeeper> {
-    machine: Machine<H, D>,
+    protocol_state: ProtocolState<H, D>,
 }
 
 impl<H: Hosting, D: Doorkeeper> Drop for Connection<H, D> {
     fn drop(self) {
-        let Self { machine: _ } = self;
+        let Self { protocol_state: _ } = self;
     }
 }
 
 impl<H: Hosting, D: Doorkeeper> Model for Connection<H, D> {
     ghost use Rattle.sb_connection.specs.History.{History};
-    ghost use Rattle.sb_connection.specs.Machine.{Holds};
+    ghost use Rattle.sb_connection.specs.ProtocolState.{Holds};
 
     ghost Value = { History };
 
-    ghost view = { λ c. c.machine.history };
+    ghost view = { λ c. c.protocol_state.history };
 
-    ghost invariant = { λ c. Holds D.policy.admits c.machine };
+    ghost invariant = { λ c. Holds D.policy.admits c.protocol_state };
 }
 
 impl<H: Hosting, D: Doorkeeper> Connection<H, D> {
@@ -55,7 +55,7 @@ impl<H: Hosting, D: Doorkeeper> Connection<H, D> {
         ensures { result ≡ nothing_yet (hosting_by keyed first (H.tenants host)) }
     {
         Connection {
-            machine: Machine::new(alloc, host, first, keyed),
+            protocol_state: ProtocolState::new(alloc, host, first, keyed),
         }
     }
 
@@ -65,7 +65,7 @@ impl<H: Hosting, D: Doorkeeper> Connection<H, D> {
         ensures wants { MayReceive self.now → self.now.pending ≡ [] → IsTrue result }
         ensures few { IsTrue result → length self.now.pending < pending_limit }
     {
-        self.machine.wants_read()
+        self.protocol_state.wants_read()
     }
 
     /// Takes the next bytes of the client.
@@ -74,7 +74,7 @@ impl<H: Hosting, D: Doorkeeper> Connection<H, D> {
         ensures ok { OnOk result (self.new ≡ after_receiving self.old bytes.now) }
         ensures err { OnErr result (self.new ≡ self.old) }
     {
-        self.machine.receive(bytes)
+        self.protocol_state.receive(bytes)
     }
 
     /// The client sends no more.
@@ -82,7 +82,7 @@ impl<H: Hosting, D: Doorkeeper> Connection<H, D> {
         requires { MayReceive self.old }
         ensures { self.new ≡ after_end self.old }
     {
-        self.machine.end();
+        self.protocol_state.end();
     }
 
     /// Answers the lines that came, as many as there are for one turn. Whether there may be more to answer at once.
@@ -96,7 +96,7 @@ impl<H: Hosting, D: Doorkeeper> Connection<H, D> {
         ensures full { pending_limit ≤ length self.old.pending → self.new ≡ self.old }
     {
         for _line in 0..LINES_A_TURN {
-            if !self.machine.step(rt, watch, doorkeeper) {
+            if !self.protocol_state.step(rt, watch, doorkeeper) {
                 return false;
             }
         }
@@ -110,35 +110,35 @@ impl<H: Hosting, D: Doorkeeper> Connection<H, D> {
         ensures unsent { OnErr result (self.new ≡ self.old) }
         ensures traffic { S.traffic stream.new ≡ after_write (S.traffic stream.old) self.old.pending result }
     {
-        self.machine.send(stream)
+        self.protocol_state.send(stream)
     }
 
     /// Whether there is something to send.
     pub fn wants_write(&self) -> bool
         ensures { IsTrue result ↔ (0 < length self.now.pending) }
     {
-        !self.machine.pending().is_empty()
+        !self.protocol_state.pending().is_empty()
     }
 
     /// Whether no line is answered any more, and all replies are sent.
     pub fn is_done(&self) -> bool
         ensures { IsTrue result ↔ ((is_open self.now.state ≡ false) × (self.now.pending ≡ [])) }
     {
-        !self.machine.state().is_open() && self.machine.pending().is_empty()
+        !self.protocol_state.state().is_open() && self.protocol_state.pending().is_empty()
     }
 
     /// Whether there was no memory for a reply.
     pub fn has_failed(&self) -> bool
         ensures { IsTrue result ↔ (self.now.state ≡ State.Failed) }
     {
-        matches!(self.machine.state(), State::Failed)
+        matches!(self.protocol_state.state(), State::Failed)
     }
 
     /// How many bytes that came aren't looked at yet.
     pub fn waiting(&self) -> usize
         ensures { result ≡ length self.now.waiting }
     {
-        self.machine.waiting().len()
+        self.protocol_state.waiting().len()
     }
 
     /// Whether its session has a transaction.
@@ -146,7 +146,7 @@ impl<H: Hosting, D: Doorkeeper> Connection<H, D> {
         ensures session { self.now.attached ≡ true → Transacts self.now result }
         ensures none { self.now.attached ≡ false → result ≡ false }
     {
-        self.machine.transacts()
+        self.protocol_state.transacts()
     }
 
     /// The session that it opened, if it did.
@@ -155,8 +155,8 @@ impl<H: Hosting, D: Doorkeeper> Connection<H, D> {
         ensures none { self.now.attached ≡ false → result ≡ None }
         ensures named { IfSome result (IsSessionOf self.now) }
     {
-        match self.machine.session {
-            Some(_) => self.machine.named,
+        match self.protocol_state.session {
+            Some(_) => self.protocol_state.named,
             None => None,
         }
     }
@@ -168,9 +168,9 @@ impl<H: Hosting, D: Doorkeeper> Connection<H, D> {
         ensures closed { IfSome result (λ stub. IsClosed stub.receipts.items) }
         ensures attached { self.attached ≡ is_some result }
     {
-        let Connection { machine } = self;
-        let first = machine.first;
-        let stub = close(rt, machine.into_session());
+        let Connection { protocol_state } = self;
+        let first = protocol_state.first;
+        let stub = close(rt, protocol_state.into_session());
         tell_end(watch, first, &stub, ended);
         stub
     }

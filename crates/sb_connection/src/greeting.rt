@@ -40,17 +40,17 @@ impl SessionName {
 
 /// Whom a first line names that brings a key.
 #[derive(Clone, Copy)]
-pub(crate) struct Visitor<'a> {
+pub(crate) struct KeyHandshake<'a> {
     pub(crate) named: SessionName,
     pub(crate) key: &'a [u8],
 }
 
-impl<'a> Visitor<'a> {
+impl<'a> KeyHandshake<'a> {
     ghost use Rattle.std.specs.Prelude.{option_map};
     ghost use Rattle.sb_connection.specs.Seen.{visitor_seen};
 
     /// The two numbers of a line and its key, if it is that.
-    fn split(line: &'a [u8]) -> Option<Visitor<'a>>
+    fn split(line: &'a [u8]) -> Option<KeyHandshake<'a>>
         ensures { option_map visitor_seen result ≡ visitor_of line.now }
     {
         let Addressed {
@@ -58,7 +58,7 @@ impl<'a> Visitor<'a> {
             session,
             command,
         } = Addressed::split(line)?;
-        Some(Visitor {
+        Some(KeyHandshake {
             named: SessionName { tenant, session },
             key: command,
         })
@@ -70,8 +70,8 @@ pub(crate) fn named_in(piece: Piece<'_>, keyed: bool) -> Option<SessionName>
     ensures { result ≡ named_by keyed (piece_seen piece.entry) }
 {
     match piece {
-        Piece::Line(line) if keyed => match Visitor::split(line) {
-            Some(visitor) => Some(visitor.named),
+        Piece::Line(line) if keyed => match KeyHandshake::split(line) {
+            Some(handshake) => Some(handshake.named),
             None => None,
         },
         Piece::Line(line) => SessionName::split(line),
@@ -131,10 +131,10 @@ fn greet_visitor<T: Wait, H: Hosting, V: Watch, D: Doorkeeper>(
         (hosting_by talk.now.keyed talk.now.first (H.tenants talk.now.entrance.now)) (visitor_of line.now) text session.new away.new)
         out.old.items result out.new.items }
 {
-    let Some(visitor) = Visitor::split(line) else {
+    let Some(handshake) = KeyHandshake::split(line) else {
         return turn_away(talk.watch, out, away, WireRefusal::BadKey);
     };
-    let Visitor { named, key } = visitor;
+    let KeyHandshake { named, key } = handshake;
     if !talk.doorkeeper.lets_in(talk.rt, named.tenant, key) {
         talk.watch.see(ConnectionEvent::Barred(named));
         *away = true;

@@ -8,7 +8,7 @@ mod connection;
 mod ending;
 mod entrance;
 mod greeting;
-mod machine;
+mod protocol_state;
 mod open_session;
 mod room;
 mod routing;

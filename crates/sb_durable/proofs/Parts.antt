@@ -12,12 +12,12 @@ use Rattle.sb_durable.specs.declared.head.Head.{Head}
 use Rattle.sb_tenant.specs.declared.reply.Entry.{Entry}
 use Rattle.sb_tenant.specs.Tenant.{Tenant, IsLegal}
 use Rattle.sb_tenant.specs.Trail.{is_no_memory}
-use Rattle.sb_durable.specs.declared.book.Book.{Book}
+use Rattle.sb_durable.specs.declared.journal_writer.JournalWriter.{JournalWriter}
 use Rattle.sb_durable.specs.declared.error.JournalError.{JournalError}
-use Rattle.sb_durable.specs.declared.noting.Note.{Note}
-use Rattle.sb_durable.specs.declared.noting.Notes.{Notes}
-use Rattle.sb_durable.specs.declared.noting.NoteReach.{NoteReach}
-use Rattle.sb_durable.specs.declared.noting.NoteReach.TheVariants.{Nowhere, Part as OfPart, End, NoMemory}
+use Rattle.sb_durable.specs.declared.noting.PendingEntry.{PendingEntry}
+use Rattle.sb_durable.specs.declared.noting.EntryReader.{EntryReader}
+use Rattle.sb_durable.specs.declared.noting.ReadReach.{ReadReach}
+use Rattle.sb_durable.specs.declared.noting.ReadReach.TheVariants.{Nowhere, Part as OfPart, End, NoMemory}
 use Rattle.sb_durable.specs.Noting.{note_of, record_of_note, IsFront, IsStaged, NotesBehind, Reads}
 use Rattle.sb_durable.specs.Recording.{Part, entries_of, record_of, records_of, AreAmong, AreOf, Counts, Reaches}
 use Rattle.sb_durable.specs.Keeping.{HasFront, KeepsFront, Stages, StagesBy, StagesFront, StagesNoted, Takes}
@@ -66,7 +66,7 @@ reaches_on tenants i ps qs first then k below = elim (cases_lt k i) [
 -- ---- notes
 
 -- the first of the entries are noted
-pub front_at : (entries : List Entry) (notes : List Note) (k : ℕ) → k ≤ length entries → notes ≡ map note_of (take k entries) → IsFront entries notes
+pub front_at : (entries : List Entry) (notes : List PendingEntry) (k : ℕ) → k ≤ length entries → notes ≡ map note_of (take k entries) → IsFront entries notes
 front_at entries notes k few is =
     let long : length notes ≡ k = ap length is ∙ length-map (take k entries) note_of ∙ length-take-le k entries few in
     (omega (arith, few, long), is ∙ ap (λ n. map note_of (take n entries)) (sym long))
@@ -83,9 +83,9 @@ notes_are t [] = refl
 notes_are t (e ∷ es) = (λ i. note_is t e i ∷ notes_are t es i)
 
 -- so many of the notes are recorded as the entries
-pub front_is : (t n : ℕ) (entries : List Entry) (notes : List Note) → IsFront entries notes → n ≤ length notes → map (record_of_note t) (take n notes) ≡ map (record_of t) (take n entries)
+pub front_is : (t n : ℕ) (entries : List Entry) (notes : List PendingEntry) → IsFront entries notes → n ≤ length notes → map (record_of_note t) (take n notes) ≡ map (record_of t) (take n entries)
 front_is t n entries notes front few =
-    ap (λ (l : List Note). map (record_of_note t) (take n l)) front.1
+    ap (λ (l : List PendingEntry). map (record_of_note t) (take n l)) front.1
     ∙ ap (map (record_of_note t)) (take-map note_of n (take (length notes) entries) ∙ ap (map note_of) (take-take n (length notes) entries few))
     ∙ notes_are t (take n entries)
 
@@ -100,7 +100,7 @@ on_err (Ok x) p = tt
 on_err (Err e) p = p
 
 -- all was staged only where the end was reached
-pub whole_reach : (reach : NoteReach) (whole : Bool) → IsStaged reach whole → IsTrue whole → reach ≡ End
+pub whole_reach : (reach : ReadReach) (whole : Bool) → IsStaged reach whole → IsTrue whole → reach ≡ End
 whole_reach Nowhere whole staged is = absurd staged
 whole_reach NoMemory whole staged is = absurd staged
 whole_reach OfPart whole staged is = absurd (cc (staged, is))
@@ -113,7 +113,7 @@ kept_by head records waiting file (inr after) = record { front = waiting; back =
 
 module _ {D : Type 0} {g : Ghosts D} (seen : D → List ℕ) (may_leave : D → List ℕ → Type 0) where
   -- nothing is recorded yet
-  pub takes_none : (G : Type 0) (old new : Book D g) (head : Head) (records waiting : List Record) → new.recorded.items ≡ old.recorded.items → Has seen may_leave new.journal head records waiting
+  pub takes_none : (G : Type 0) (old new : JournalWriter D g) (head : Head) (records waiting : List Record) → new.recorded.items ≡ old.recorded.items → Has seen may_leave new.journal head records waiting
       → ((file : List ℕ) → may_leave (disk_of new.journal) file → Keeps head records file) → Takes seen may_leave G old new head records waiting []
   takes_none G old new head records waiting same has kept = record {
     counts = same;
@@ -122,7 +122,7 @@ module _ {D : Type 0} {g : Ghosts D} (seen : D → List ℕ) (may_leave : D → 
   }
 
   -- what is known of the journal then
-  pub front_of : (old new : Book D g) (head : Head) (records waiting : List Record) (ps : List Part) → Takes seen may_leave ⊥ old new head records waiting ps
+  pub front_of : (old new : JournalWriter D g) (head : Head) (records waiting : List Record) (ps : List Part) → Takes seen may_leave ⊥ old new head records waiting ps
       → HasFront seen may_leave new.journal head records (waiting ++ records_of ps)
   front_of old new head records waiting ps takes = by takes.has
     where
@@ -131,7 +131,7 @@ module _ {D : Type 0} {g : Ghosts D} (seen : D → List ℕ) (may_leave : D → 
       by (inr has) = has
 
   -- one after the other
-  pub takes_more : (G : Type 0) (old mid new : Book D g) (head : Head) (records waiting : List Record) (ps qs : List Part) (first : Takes seen may_leave ⊥ old mid head records waiting ps)
+  pub takes_more : (G : Type 0) (old mid new : JournalWriter D g) (head : Head) (records waiting : List Record) (ps qs : List Part) (first : Takes seen may_leave ⊥ old mid head records waiting ps)
       (has : HasFront seen may_leave mid.journal head records (waiting ++ records_of ps)) → Takes seen may_leave G mid new head (records ++ has.front) has.back qs → Takes seen may_leave G old new head records waiting (ps ++ qs)
   takes_more G old mid new head records waiting ps qs first has then = record {
     counts = counts-append old.recorded.items mid.recorded.items new.recorded.items ps qs first.counts then.counts;
@@ -153,13 +153,13 @@ module _ {D : Type 0} {g : Ghosts D} (seen : D → List ℕ) (may_leave : D → 
         has = subst (λ (r : List Record). Has seen may_leave new.journal head r h.back) (append_assoc records has.front h.front) h.has;
       })
 
-  pub takes_last : (G : Type 0) (old mid new : Book D g) (head : Head) (records waiting : List Record) (ps : List Part) (first : Takes seen may_leave ⊥ old mid head records waiting ps)
+  pub takes_last : (G : Type 0) (old mid new : JournalWriter D g) (head : Head) (records waiting : List Record) (ps : List Part) (first : Takes seen may_leave ⊥ old mid head records waiting ps)
       (has : HasFront seen may_leave mid.journal head records (waiting ++ records_of ps)) → Takes seen may_leave G mid new head (records ++ has.front) has.back [] → Takes seen may_leave G old new head records waiting ps
   takes_last G old mid new head records waiting ps first has then =
       subst (λ (l : List Part). Takes seen may_leave G old new head records waiting l) (append-nil ps) (takes_more G old mid new head records waiting ps [] first has then)
 
   -- a part of a trail is staged
-  pub takes_part : (G : Type 0) (old new : Book D g) (head : Head) (records waiting : List Record) (t n from : ℕ) (own : Tenant) (notes : List Note)
+  pub takes_part : (G : Type 0) (old new : JournalWriter D g) (head : Head) (records waiting : List Record) (t n from : ℕ) (own : Tenant) (notes : List PendingEntry)
       → t < length old.recorded.items → own.id ≡ t → from ≡ slice_index old.recorded.items t → IsLegal own → from + n ≤ length own.trail
       → IsFront (drop from own.trail) notes → n ≤ length notes → length (take n notes) ≡ n → Stages seen may_leave old new t (take n notes)
       → Has seen may_leave old.journal head records waiting → ((head : Head) (records waiting : List Record) → Has seen may_leave new.journal head records waiting → (file : List ℕ) → may_leave (disk_of new.journal) file → Keeps head records file)
@@ -177,7 +177,7 @@ module _ {D : Type 0} {g : Ghosts D} (seen : D → List ℕ) (may_leave : D → 
       }
 
   -- what waited is on the disk
-  pub takes_all : (old new : Book D g) (head : Head) (records waiting : List Record) → new.recorded.items ≡ old.recorded.items → Has seen may_leave new.journal head (records ++ waiting) []
+  pub takes_all : (old new : JournalWriter D g) (head : Head) (records waiting : List Record) → new.recorded.items ≡ old.recorded.items → Has seen may_leave new.journal head (records ++ waiting) []
       → ((file : List ℕ) → may_leave (disk_of new.journal) file → Keeps head records file ⊎ Keeps head (records ++ waiting) file) → Takes seen may_leave ⊥ old new head records waiting []
   takes_all old new head records waiting same has left = record {
     counts = same;
@@ -186,7 +186,7 @@ module _ {D : Type 0} {g : Ghosts D} (seen : D → List ℕ) (may_leave : D → 
   }
 
   -- or it isn't, and the journal may be spent
-  pub takes_some : (old new : Book D g) (head : Head) (records waiting : List Record) → new.recorded.items ≡ old.recorded.items
+  pub takes_some : (old new : JournalWriter D g) (head : Head) (records waiting : List Record) → new.recorded.items ≡ old.recorded.items
       → ((head : Head) (records waiting : List Record) → Has seen may_leave old.journal head records waiting → Has seen may_leave new.journal head records waiting) ⊎ IsSpent new.journal.log
       → Has seen may_leave old.journal head records waiting
       → ((file : List ℕ) → may_leave (disk_of new.journal) file → Keeps head records file ⊎ Keeps head (records ++ waiting) file) → Takes seen may_leave (IsSpent new.journal.log) old new head records waiting []
@@ -198,14 +198,14 @@ module _ {D : Type 0} {g : Ghosts D} (seen : D → List ℕ) (may_leave : D → 
       by (inr spent) = inl spent
 
   -- what was noted is staged
-  abbrev pub Kept : Book D g → Type 0
+  abbrev pub Kept : JournalWriter D g → Type 0
   Kept new = (head : Head) (records waiting : List Record) → Has seen may_leave new.journal head records waiting → (file : List ℕ) → may_leave (disk_of new.journal) file → Keeps head records file
 
-  abbrev Taken : Type 0 → Book D g → Book D g → ℕ → Type 0 → Type 0
+  abbrev Taken : Type 0 → JournalWriter D g → JournalWriter D g → ℕ → Type 0 → Type 0
   Taken G old new t whole =
       (head : Head) (records waiting : List Record) → Has seen may_leave old.journal head records waiting → (parts : List Part) × Takes seen may_leave G old new head records waiting parts × AreOf t parts × (whole → Reaches parts t)
 
-  taken_front : (G : Type 0) (old new : Book D g) (t from : ℕ) (own : Tenant) (notes : List Note) (all : Bool) (whole : Type 0) → t < length old.recorded.items → own.id ≡ t → from ≡ slice_index old.recorded.items t → IsLegal own
+  taken_front : (G : Type 0) (old new : JournalWriter D g) (t from : ℕ) (own : Tenant) (notes : List PendingEntry) (all : Bool) (whole : Type 0) → t < length old.recorded.items → own.id ≡ t → from ≡ slice_index old.recorded.items t → IsLegal own
       → from ≤ length own.trail → IsFront (drop from own.trail) notes → (whole → (length notes ≡ length (drop from own.trail)) × IsTrue all) → StagesFront seen may_leave old new t notes all → Kept new → Taken G old new t whole
   taken_front G old new t from own notes all whole there lent start legal within front to_end staged kept head records waiting has =
       let part : Part = record { tenant = t; own = own; from = from; count = staged.count } in (
@@ -215,13 +215,13 @@ module _ {D : Type 0} {g : Ghosts D} (seen : D → List ℕ) (may_leave : D → 
         λ w. inl (refl, omega (arith, within, (to_end w).0, staged.whole (to_end w).1, length-drop from own.trail)),
       )
 
-  taken_none : (G : Type 0) (old new : Book D g) (t : ℕ) (whole : Type 0) → new ≡ old → (whole → ⊥) → Kept new → Taken G old new t whole
+  taken_none : (G : Type 0) (old new : JournalWriter D g) (t : ℕ) (whole : Type 0) → new ≡ old → (whole → ⊥) → Kept new → Taken G old new t whole
   taken_none G old new t whole same none kept head records waiting has =
-      let now = subst (λ (b : Book D g). Has seen may_leave b.journal head records waiting) (sym same) has in
-      ([], takes_none G old new head records waiting (ap (λ (b : Book D g). b.recorded.items) same) now (kept head records waiting now), tt, λ w. absurd (none w))
+      let now = subst (λ (b : JournalWriter D g). Has seen may_leave b.journal head records waiting) (sym same) has in
+      ([], takes_none G old new head records waiting (ap (λ (b : JournalWriter D g). b.recorded.items) same) now (kept head records waiting now), tt, λ w. absurd (none w))
 
   -- by how far the notes go, and whether all of them were taken
-  pub taken : (G : Type 0) (old new : Book D g) (t from : ℕ) (own : Tenant) (notes : List Note) (reach : NoteReach) (all : Bool) (whole : Type 0) → t < length old.recorded.items → own.id ≡ t → from ≡ slice_index old.recorded.items t → IsLegal own
+  pub taken : (G : Type 0) (old new : JournalWriter D g) (t from : ℕ) (own : Tenant) (notes : List PendingEntry) (reach : ReadReach) (all : Bool) (whole : Type 0) → t < length old.recorded.items → own.id ≡ t → from ≡ slice_index old.recorded.items t → IsLegal own
       → NotesBehind from own.trail notes reach → (whole → (reach ≡ End) × IsTrue all) → StagesBy seen may_leave old new t notes all reach → Kept new → Taken G old new t whole
   taken G old new t from own notes Nowhere all whole there lent start legal behind to_end staged kept = taken_none G old new t whole staged (λ w. absurd (cc ((to_end w).0))) kept
   taken G old new t from own notes NoMemory all whole there lent start legal behind to_end staged kept = taken_none G old new t whole staged (λ w. absurd (cc ((to_end w).0))) kept
@@ -231,7 +231,7 @@ module _ {D : Type 0} {g : Ghosts D} (seen : D → List ℕ) (may_leave : D → 
       taken_front G old new t from own notes all whole there lent start legal behind.0 behind.1 (λ w. (behind.2, (to_end w).1)) staged kept
 
   -- a reading, and what was staged of it
-  pub taken_ok : (old new : Book D g) (t : ℕ) (blank notes : Notes) (there : Bool) (r : Result Bool JournalError) → t < length old.recorded.items → blank.from ≡ slice_index old.recorded.items t → blank.reach ≡ Nowhere
+  pub taken_ok : (old new : JournalWriter D g) (t : ℕ) (blank notes : EntryReader) (there : Bool) (r : Result Bool JournalError) → t < length old.recorded.items → blank.from ≡ slice_index old.recorded.items t → blank.reach ≡ Nowhere
       → (IsTrue there → Lends (Reads blank) t notes) → (IsFalse there → notes ≡ blank) → IfOk r (λ w. IsStaged notes.reach w) → StagesNoted seen may_leave old new t notes (is_ok r) → Kept new
       → IfOk r (λ w. Taken ⊥ old new t (IsTrue w))
   taken_ok old new t blank notes there (Err e) has start nowhere read none whole staged kept = tt
@@ -239,25 +239,25 @@ module _ {D : Type 0} {g : Ghosts D} (seen : D → List ℕ) (may_leave : D → 
       let own = read refl in
       taken ⊥ old new t blank.from own.0 notes.list.items notes.reach true (IsTrue w) has own.1 start own.2.0 own.2.1 (λ is. (whole_reach notes.reach w whole is, refl)) staged kept
   taken_ok old new t blank notes false (Ok w) has start nowhere read none whole staged kept =
-      let is : notes.reach ≡ Nowhere = ap (λ (n : Notes). n.reach) (none refl) ∙ nowhere in
-      taken_none ⊥ old new t (IsTrue w) (subst (λ (r : NoteReach). StagesBy seen may_leave old new t notes.list.items true r) is staged) (λ _. subst (λ (r : NoteReach). IsStaged r w) is whole) kept
+      let is : notes.reach ≡ Nowhere = ap (λ (n : EntryReader). n.reach) (none refl) ∙ nowhere in
+      taken_none ⊥ old new t (IsTrue w) (subst (λ (r : ReadReach). StagesBy seen may_leave old new t notes.list.items true r) is staged) (λ _. subst (λ (r : ReadReach). IsStaged r w) is whole) kept
 
-  pub taken_err : (G : Type 0) (old new : Book D g) (t : ℕ) (blank notes : Notes) (there : Bool) (r : Result Bool JournalError) → t < length old.recorded.items → blank.from ≡ slice_index old.recorded.items t → blank.reach ≡ Nowhere
+  pub taken_err : (G : Type 0) (old new : JournalWriter D g) (t : ℕ) (blank notes : EntryReader) (there : Bool) (r : Result Bool JournalError) → t < length old.recorded.items → blank.from ≡ slice_index old.recorded.items t → blank.reach ≡ Nowhere
       → (IsTrue there → Lends (Reads blank) t notes) → (IsFalse there → notes ≡ blank) → StagesNoted seen may_leave old new t notes (is_ok r) → Kept new → OnErr r (Taken G old new t ⊥)
   taken_err G old new t blank notes there (Ok w) has start nowhere read none staged kept = tt
   taken_err G old new t blank notes true (Err e) has start nowhere read none staged kept =
       let own = read refl in
       taken G old new t blank.from own.0 notes.list.items notes.reach false ⊥ has own.1 start own.2.0 own.2.1 (λ is. absurd is) staged kept
   taken_err G old new t blank notes false (Err e) has start nowhere read none staged kept =
-      let is : notes.reach ≡ Nowhere = ap (λ (n : Notes). n.reach) (none refl) ∙ nowhere in
-      taken_none G old new t ⊥ (subst (λ (r : NoteReach). StagesBy seen may_leave old new t notes.list.items false r) is staged) (λ is. is) kept
+      let is : notes.reach ≡ Nowhere = ap (λ (n : EntryReader). n.reach) (none refl) ∙ nowhere in
+      taken_none G old new t ⊥ (subst (λ (r : ReadReach). StagesBy seen may_leave old new t notes.list.items false r) is staged) (λ is. is) kept
 
   -- one step after the other, from whatever the journal has
-  abbrev pub TakesWith : Type 0 → (List Part → Type 0) → Book D g → Book D g → Type 0
+  abbrev pub TakesWith : Type 0 → (List Part → Type 0) → JournalWriter D g → JournalWriter D g → Type 0
   TakesWith G P old new =
       (head : Head) (records waiting : List Record) → Has seen may_leave old.journal head records waiting → (ps : List Part) × Takes seen may_leave G old new head records waiting ps × P ps
 
-  pub takes_then : (G : Type 0) (P Q R : List Part → Type 0) (old mid new : Book D g) → TakesWith ⊥ P old mid → TakesWith G Q mid new → ((ps qs : List Part) → P ps → Q qs → R (ps ++ qs)) → TakesWith G R old new
+  pub takes_then : (G : Type 0) (P Q R : List Part → Type 0) (old mid new : JournalWriter D g) → TakesWith ⊥ P old mid → TakesWith G Q mid new → ((ps qs : List Part) → P ps → Q qs → R (ps ++ qs)) → TakesWith G R old new
   takes_then G P Q R old mid new first then both head records waiting has =
       let a = first head records waiting has in
       let h = front_of old mid head records waiting a.0 a.1 in

@@ -7,23 +7,23 @@ use Rattle.sqlite_disk.specs.declared.calls.Calls as calls
 use Rattle.sqlite_disk.specs.declared.start.Start as start
 use Rattle.sqlite_disk.specs.contracts.modelled.Modelled as Modelled
 use Rattle.sqlite_disk.specs.contracts.start.Wary as Wary
-use Rattle.sb_durable.proofs.book.Book.TheSendSync as book
+use Rattle.sb_durable.proofs.journal_writer.JournalWriter.TheSendSync as journal_writer
 use Rattle.sb_durable.proofs.recorder.Callers.TheSendSync as callers
 use Rattle.sb_durable.specs.contracts.recorder.Callers as Callers
-use Rattle.sb_durable.specs.contracts.book.Book as Book
+use Rattle.sb_durable.specs.contracts.journal_writer.JournalWriter as JournalWriter
 use Rattle.sb_durable.proofs.system_file.Syncing.TheSendSync as syncing
-use Rattle.sb_durable.specs.contracts.noted.Noted as Noted
+use Rattle.sb_durable.specs.contracts.noted.PendingEntries as PendingEntries
 use Rattle.sb_durable.specs.contracts.system_file.SystemFile as SystemFile
 
 pub callers_send : IsSend Callers.the_row
 callers_send = search (sendable, crosses, frees, callers.the_send) depth 40
 
 module _ (D : RattleType) (d : disk.Ghosts D.Denot) where
-  pub book_send : IsSend D → IsSend (Book.the_row D d)
-  book_send file = search (sendable, crosses, frees, book.the_send, file) depth 40
+  pub book_send : IsSend D → IsSend (JournalWriter.the_row D d)
+  book_send file = search (sendable, crosses, frees, journal_writer.the_send, file) depth 40
 
 -- the file of a path may be sent
-noted_send : IsSend Noted.the_row
+noted_send : IsSend PendingEntries.the_row
 noted_send = search (sendable, crosses) depth 40
 
 pub file_send : IsSend SystemFile.the_row

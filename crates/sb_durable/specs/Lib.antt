@@ -12,5 +12,5 @@ pub mod Ends
 pub mod Records
 pub mod Journal
 pub mod Opening
-pub mod Noted
+pub mod PendingEntries
 pub mod File

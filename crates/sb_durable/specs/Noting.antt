@@ -4,43 +4,43 @@ use Rattle.sb_durable.specs.Records.{Entry as Record}
 use Rattle.sb_tenant.specs.declared.reply.Entry.{Entry}
 use Rattle.sb_tenant.specs.Trail.{is_no_memory}
 use Rattle.sb_tenant.specs.Tenant.{Tenant, IsLegal}
-use Rattle.sb_durable.specs.declared.noting.Note.{Note}
-use Rattle.sb_durable.specs.declared.noting.Notes.{Notes}
-use Rattle.sb_durable.specs.declared.noting.NoteReach.{NoteReach}
-use Rattle.sb_durable.specs.declared.noting.NoteReach.TheVariants.{Nowhere, Part, End, NoMemory}
+use Rattle.sb_durable.specs.declared.noting.PendingEntry.{PendingEntry}
+use Rattle.sb_durable.specs.declared.noting.EntryReader.{EntryReader}
+use Rattle.sb_durable.specs.declared.noting.ReadReach.{ReadReach}
+use Rattle.sb_durable.specs.declared.noting.ReadReach.TheVariants.{Nowhere, Part, End, NoMemory}
 
-abbrev pub note_of : Entry → Note
+abbrev pub note_of : Entry → PendingEntry
 note_of e = record { session = e.session; line = cond (is_no_memory e.reply) None (Some e.line) }
 
-abbrev pub text_of : Note → List ℕ
+abbrev pub text_of : PendingEntry → List ℕ
 text_of note = unwrap_or note.line (codes "rollback")
 
-abbrev pub record_of_note : ℕ → Note → Record
+abbrev pub record_of_note : ℕ → PendingEntry → Record
 record_of_note tenant note = record { tenant = tenant; session = note.session; line = text_of note }
 
 -- the first of these entries are noted
-abbrev pub IsFront : List Entry → List Note → Type 0
+abbrev pub IsFront : List Entry → List PendingEntry → Type 0
 IsFront entries notes = (length notes ≤ length entries) × (notes ≡ map note_of (take (length notes) entries))
 
 -- as far as was reached
-abbrev pub NotesAll : List Entry → List Note → NoteReach → Type 0
+abbrev pub NotesAll : List Entry → List PendingEntry → ReadReach → Type 0
 NotesAll entries notes Nowhere = Unit {0}
 NotesAll entries notes NoMemory = Unit {0}
 NotesAll entries notes Part = IsFront entries notes
 NotesAll entries notes End = IsFront entries notes × (length notes ≡ length entries)
 
 -- the entries behind so many
-abbrev pub NotesBehind : ℕ → List Entry → List Note → NoteReach → Type 0
+abbrev pub NotesBehind : ℕ → List Entry → List PendingEntry → ReadReach → Type 0
 NotesBehind from trail notes Nowhere = Unit {0}
 NotesBehind from trail notes NoMemory = Unit {0}
 NotesBehind from trail notes Part = (from ≤ length trail) × IsFront (drop from trail) notes
 NotesBehind from trail notes End = (from ≤ length trail) × IsFront (drop from trail) notes × (length notes ≡ length (drop from trail))
 
-abbrev pub Reads : Notes → Tenant → Notes → Type 0
+abbrev pub Reads : EntryReader → Tenant → EntryReader → Type 0
 Reads old own new = IsLegal own × NotesBehind old.from own.trail new.list.items new.reach
 
 -- whether all was staged that there is
-abbrev pub IsStaged : NoteReach → Bool → Type 0
+abbrev pub IsStaged : ReadReach → Bool → Type 0
 IsStaged Part is_whole = is_whole ≡ false
 IsStaged End is_whole = is_whole ≡ true
 IsStaged Nowhere is_whole = ⊥

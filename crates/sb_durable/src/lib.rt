@@ -1,7 +1,7 @@
 //! What was answered is there after a restart: the trails of a host's tenants, recorded in a journal and played from it.
 #![tactic(auto)]
 
-mod book;
+mod journal_writer;
 mod error;
 mod file;
 mod head;

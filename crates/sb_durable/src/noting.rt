@@ -16,21 +16,21 @@ const BESIDE: usize = 9;
 
 /// A step, as it is recorded.
 #[derive(Drop)]
-pub(crate) struct Note {
+pub(crate) struct PendingEntry {
     pub(crate) session: SessionId,
     /// No line is that of an abort.
     pub(crate) line: Option<Line>,
 }
 
-impl Note {
-    fn of(entry: &Entry) -> Result<Note, AllocError>
+impl PendingEntry {
+    fn of(entry: &Entry) -> Result<PendingEntry, AllocError>
         ensures { IfOk result (λ note. note ≡ note_of entry.now) }
     {
         let line = match &entry.reply {
             Reply::No(Refusal::NoMemory) => None,
             _ => Some(entry.line.share()?),
         };
-        Ok(Note {
+        Ok(PendingEntry {
             session: entry.session,
             line,
         })
@@ -49,7 +49,7 @@ impl Note {
 
 /// How far notes go.
 #[derive(Clone, Copy)]
-pub(crate) enum NoteReach {
+pub(crate) enum ReadReach {
     /// There is no tenant, or no such place in its trail.
     Nowhere,
     /// There is no room for more of them.
@@ -59,17 +59,17 @@ pub(crate) enum NoteReach {
     NoMemory,
 }
 
-/// Notes the entries of a tenant from a place on.
+/// EntryReader the entries of a tenant from a place on.
 #[derive(Drop)]
-pub(crate) struct Notes {
+pub(crate) struct EntryReader {
     pub(crate) from: usize,
     /// How many bytes their records may have.
     pub(crate) room: usize,
-    pub(crate) list: Vec<Note>,
-    pub(crate) reach: NoteReach,
+    pub(crate) list: Vec<PendingEntry>,
+    pub(crate) reach: ReadReach,
 }
 
-impl Reading for Notes {
+impl Reading for EntryReader {
     ghost use Rattle.sb_durable.specs.Noting.{Reads};
 
     ghost reads = { Reads };
@@ -77,7 +77,7 @@ impl Reading for Notes {
     fn read(&mut self, tenant: &Tenant) {
         let trail = tenant.trail();
         if self.from > trail.len() {
-            self.reach = NoteReach::Nowhere;
+            self.reach = ReadReach::Nowhere;
             return;
         }
         self.list.clear();
@@ -85,25 +85,25 @@ impl Reading for Notes {
     }
 }
 
-/// Notes the first of these entries, as many as there is room for.
-fn note_all(list: &mut Vec<Note>, entries: &[Entry], room: usize) -> NoteReach
+/// EntryReader the first of these entries, as many as there is room for.
+fn note_all(list: &mut Vec<PendingEntry>, entries: &[Entry], room: usize) -> ReadReach
     requires { list.old.items ≡ [] }
     ensures { NotesAll entries.now list.new.items result }
 {
     let mut left = room;
     for entry in entries {
-        let Ok(note) = Note::of(entry) else {
-            return NoteReach::NoMemory;
+        let Ok(note) = PendingEntry::of(entry) else {
+            return ReadReach::NoMemory;
         };
         // one that is too long is seen when it is staged
         let needs = BESIDE + note.text().len().min(LINE_LIMIT);
         if needs > left {
-            return NoteReach::Part;
+            return ReadReach::Part;
         }
         left -= needs;
         if list.push(note).is_err() {
-            return NoteReach::NoMemory;
+            return ReadReach::NoMemory;
         }
     }
-    NoteReach::End
+    ReadReach::End
 }

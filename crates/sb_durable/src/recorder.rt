@@ -2,7 +2,7 @@
 ghost use Rattle.std.specs.Prelude.{◌≡◌, IsTrue, OnOk};
 ghost use Rattle.sb_durable.specs.Keeping.{AreKept, HasEach};
 
-use crate::book::Book;
+use crate::journal_writer::JournalWriter;
 use crate::{Disk, Journal, JournalError};
 use sb_host::Lending;
 use std::alloc::Global;
@@ -14,7 +14,7 @@ use std::sync::{Mutex, Wait};
 pub struct Recorder<H: Lending, D: Disk> {
     alloc: Global,
     host: H,
-    book: Mutex<Book<D>>,
+    journal_writer: Mutex<JournalWriter<D>>,
     callers: Mutex<Callers>,
 }
 
@@ -30,7 +30,7 @@ impl<H: Lending, D: Disk> Recorder<H, D> {
         Recorder {
             alloc,
             host,
-            book: Mutex::new(Book {
+            journal_writer: Mutex::new(JournalWriter {
                 alloc,
                 journal,
                 recorded,
@@ -47,10 +47,10 @@ impl<H: Lending, D: Disk> Recorder<H, D> {
         ensures { OnOk result (AreKept D.Disk tenants.now) }
     {
         let place = self.join(rt, tenants);
-        let mut book = self.book.lock(rt);
+        let mut journal_writer = self.journal_writer.lock(rt);
         // one commit serves all that wait
         let callers = self.take(rt);
-        bring_up_both(rt, self.host, &mut book, &callers.tenants, place, tenants)
+        catch_up_both(rt, self.host, &mut journal_writer, &callers.tenants, place, tenants)
     }
 
     /// Has these tenants wait behind the others, and says from which place on; `None` where there is no memory for that.
@@ -74,25 +74,25 @@ impl<H: Lending, D: Disk> Recorder<H, D> {
 
     /// Gives the file back.
     pub fn close(self) -> D {
-        let Recorder { book, .. } = self;
-        let Book { journal, .. } = book.into_inner();
+        let Recorder { journal_writer, .. } = self;
+        let JournalWriter { journal, .. } = journal_writer.into_inner();
         journal.close()
     }
 }
 
 /// Brings a book up to the trails of the tenants that wait, and to those of a caller's own, unless they stand at this
 /// place among the others.
-fn bring_up_both<H: Lending, D: Disk, T: Wait>(
+fn catch_up_both<H: Lending, D: Disk, T: Wait>(
     rt: &T,
     host: H,
-    book: &mut Book<D>,
+    journal_writer: &mut JournalWriter<D>,
     waiting: &[u32],
     place: Option<usize>,
     own: &[u32],
 ) -> Result<(), JournalError>
     ensures { OnOk result (AreKept D.Disk own.now) }
 {
-    match book.bring_up(rt, host, waiting) {
+    match journal_writer.catch_up(rt, host, waiting) {
         Ok(()) => {}
         Err(error) => return Err(error),
     }
@@ -100,7 +100,7 @@ fn bring_up_both<H: Lending, D: Disk, T: Wait>(
         return Ok(());
     }
     // another call has taken them, and may have lacked memory
-    book.bring_up(rt, host, own)
+    journal_writer.catch_up(rt, host, own)
 }
 
 /// Whether these tenants stand in a list from a place on.

@@ -2,7 +2,7 @@
 ghost use Rattle.std.specs.Prelude.{◌≡◌, ◌<◌, ◌≤◌, ◌^◌, [], ◌∷◌, length, IfOk};
 ghost use Rattle.sqlite_disk.specs.Events.{settled};
 
-use crate::noted::Noted;
+use crate::noted::PendingEntries;
 use sqlite_disk::{Calls, is_no_room};
 use std::os::fd::AsRawFd;
 use std::os::unix::fs::FileExt;
@@ -37,7 +37,7 @@ pub enum Syncing {
 pub struct SystemFile {
     file: fs::File,
     syncing: Syncing,
-    noted: Noted,
+    noted: PendingEntries,
 }
 
 impl SystemFile {
@@ -51,7 +51,7 @@ impl SystemFile {
         if advised != 0 {
             return Err(io::Error::from_raw_os_error(advised));
         }
-        let mut noted = Noted::new();
+        let mut noted = PendingEntries::new();
         noted.note(&[SETTLED, 0, 0, 1], &[]);
         Ok(SystemFile {
             file,

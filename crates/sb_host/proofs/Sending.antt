@@ -55,8 +55,8 @@ use Rattle.sb_desk.specs.declared.naming.Naming as naming
 use Rattle.sb_desk.specs.contracts.desk.Desk as Desk
 use Rattle.sb_desk.specs.contracts.desk.Desk.TheInside as desk
 use Rattle.sb_desk.proofs.receipts.Receipts.TheSendSync as receipts
-use Rattle.sb_host.specs.contracts.quarter.Quarter as Quarter
-use Rattle.sb_host.specs.contracts.quarter.Quarter.TheInside as quarter
+use Rattle.sb_host.specs.contracts.lock_group.LockGroup as LockGroup
+use Rattle.sb_host.specs.contracts.lock_group.LockGroup.TheInside as lock_group
 use Rattle.sb_host.specs.contracts.host.Host as Host
 use Rattle.sb_host.specs.contracts.host.Host.TheInside as host
 use Rattle.sb_host.specs.contracts.session.Session as Session
@@ -122,11 +122,11 @@ module _ (N : RattleType) (n : naming.Ghosts N.Denot) (l : ledger.Ghosts N.Denot
   held_sync : (F : RattleType) → IsSync (Option.the_field (CachePadded.the_row (Mutex.the_row (Desk.the_row N F n l)))).row
   held_sync F = search (sendable, crosses, padded_sync, option.the_field_sync) depth 40
 
-  quarter_sync : (A B C D : RattleType) → IsSync (Quarter.the_row N A B C D n l)
-  quarter_sync A B C D = view_sync (quarter.the_row N A B C D n l) _ _ _ _ (search (sendable, crosses, frees, held_sync) depth 40)
+  lock_group_sync : (A B C D : RattleType) → IsSync (LockGroup.the_row N A B C D n l)
+  lock_group_sync A B C D = view_sync (lock_group.the_row N A B C D n l) _ _ _ _ (search (sendable, crosses, frees, held_sync) depth 40)
 
   pub host_sync : IsSync (Host.the_row N n l)
-  host_sync = view_sync (host.the_row N n l) _ _ _ _ (search (sendable, crosses, frees, send, sync, quarter_sync, seats.the_field_sync) depth 40)
+  host_sync = view_sync (host.the_row N n l) _ _ _ _ (search (sendable, crosses, frees, send, sync, lock_group_sync, seats.the_field_sync) depth 40)
 
   pub session_send : (κ : NamedLft) → IsSend (Session.the_row κ N n l)
   session_send κ = view_send (session.the_row κ N n l) _ _ _ _ (search (sendable, crosses, host_sync, receipts.the_send) depth 40)

@@ -6,5 +6,5 @@ pub mod Rows
 pub mod Comparing
 pub mod Parts
 pub mod Fields
-pub mod Quarters
+pub mod LockGroups
 pub mod Desk

@@ -6,7 +6,7 @@ ghost use Rattle.sb_host.specs.Lending.{Lends};
 
 use crate::gathering::blank;
 use crate::locks::Reach;
-use crate::quarter::Quarter;
+use crate::lock_group::LockGroup;
 use crate::reading::{Reading, Tried};
 use crate::session::Session;
 use sb_desk::seats::Seats;
@@ -23,10 +23,10 @@ pub struct Host<N: Naming> {
     pub(crate) cells: u32,
     pub(crate) seats: Seats,
     /// The locks of the cells 0 to 3, 4 to 7 and so on.
-    pub(crate) first: Quarter<N, 0, 1, 2, 3>,
-    pub(crate) second: Quarter<N, 4, 5, 6, 7>,
-    pub(crate) third: Quarter<N, 8, 9, 10, 11>,
-    pub(crate) fourth: Quarter<N, 12, 13, 14, 15>,
+    pub(crate) first: LockGroup<N, 0, 1, 2, 3>,
+    pub(crate) second: LockGroup<N, 4, 5, 6, 7>,
+    pub(crate) third: LockGroup<N, 8, 9, 10, 11>,
+    pub(crate) fourth: LockGroup<N, 12, 13, 14, 15>,
 }
 
 impl<N: Naming> Drop for Host<N> {

@@ -11,7 +11,7 @@ pub mod laws;
 mod lending;
 mod locks;
 mod opening;
-mod quarter;
+mod lock_group;
 mod reading;
 mod session;
 

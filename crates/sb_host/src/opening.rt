@@ -6,7 +6,7 @@ ghost use Rattle.sb_host.specs.Opening.{AreNames, IsSeatOf, MayBe, left_at, left
 
 use crate::host::Host;
 use crate::locks::Lock;
-use crate::quarter::Quarter;
+use crate::lock_group::LockGroup;
 use crossbeam_utils::CachePadded;
 use sb_cell::{Cell, ample_buckets};
 use sb_desk::seats::{SeatTable, Seats, SessionSeat, open_seats, split, split_block};
@@ -208,10 +208,10 @@ impl<N: Naming> Host<N> {
         } = opened;
         let (_book, mut rest) = blank.open::<N>();
         let table = &seats.shared;
-        let first = Quarter::<N, 0, 1, 2, 3>::open(alloc, table, &mut all, &mut rest, numbers)?;
-        let second = Quarter::<N, 4, 5, 6, 7>::open(alloc, table, &mut all, &mut rest, numbers)?;
-        let third = Quarter::<N, 8, 9, 10, 11>::open(alloc, table, &mut all, &mut rest, numbers)?;
-        let fourth = Quarter::<N, 12, 13, 14, 15>::open(
+        let first = LockGroup::<N, 0, 1, 2, 3>::open(alloc, table, &mut all, &mut rest, numbers)?;
+        let second = LockGroup::<N, 4, 5, 6, 7>::open(alloc, table, &mut all, &mut rest, numbers)?;
+        let third = LockGroup::<N, 8, 9, 10, 11>::open(alloc, table, &mut all, &mut rest, numbers)?;
+        let fourth = LockGroup::<N, 12, 13, 14, 15>::open(
             alloc, table, &mut all, &mut rest, numbers,
         )?;
         Ok(Host {

@@ -14,5 +14,5 @@ pub mod Join
 pub mod Gathered
 pub mod Compiled
 pub mod Batch
-pub mod Way
+pub mod AccessPath
 pub mod RowFlags

@@ -52,4 +52,4 @@ pub use sources::Sources;
 pub use truth::is_true;
 pub use value_ref::ValueRef;
 pub use value_set::ValueSet;
-pub use way::{Way, choose_way};
+pub use way::{AccessPath, choose_access_path};

@@ -4,7 +4,7 @@ ghost use Rattle.sb_plan.specs.Memo as spec;
 
 use crate::value_ref::ValueRef;
 use crate::value_set::ValueSet;
-use crate::way::Way;
+use crate::way::AccessPath;
 use std::alloc::{AllocError, Global};
 
 /// A memo: what is known of a condition's subqueries, as a tree that lies beside it.
@@ -16,7 +16,7 @@ pub enum Memo<'r> {
     /// Of the condition of the query that stands here.
     Within(Box<Memo<'r>>),
     /// The same, and how the last source of that query is taken.
-    Prepared(Box<Memo<'r>>, Box<Way<'r>>),
+    Prepared(Box<Memo<'r>>, Box<AccessPath<'r>>),
     /// Whether the query that stands here has a row.
     Truth(bool),
     /// The one value of the query that stands here.
@@ -101,7 +101,7 @@ impl<'r> Memo<'r> {
 
     /// How the last source of the query is taken.
     #[inline(always)]
-    pub fn way(&self) -> Option<&Way<'r>>
+    pub fn way(&self) -> Option<&AccessPath<'r>>
         ensures { option_map (λ way. way.now) result ≡ spec.way self.now }
     {
         match self {

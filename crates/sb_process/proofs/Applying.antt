@@ -9,7 +9,7 @@ use Rattle.sb_tables.specs.Stored.{Stored}
 use Rattle.sb_tables.specs.Held.{Held, entries, numbered, has_number, stored_at, with_stored}
 use Rattle.sb_process.specs.Made.{AreNumbered, EachBelow, NumbersBelow, tables_after, without_room}
 use Rattle.sb_process.specs.Make.{Makes}
-use Rattle.sb_process.specs.Ready.{CanApply, HavePlacesFor, made_of}
+use Rattle.sb_process.specs.PreparedChanges.{CanApply, HavePlacesFor, made_of}
 use Rattle.sb_process.proofs.Making.{entries-room, entries-after, room-with_stored, table-stored}
 use Rattle.sb_process.proofs.Makes.{written_on}
 use Rattle.sb_process.proofs.Settling.{number-with, numbered-with}

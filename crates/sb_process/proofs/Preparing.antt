@@ -17,7 +17,7 @@ use Rattle.sb_tables.specs.Stored.{Stored}
 use Rattle.sb_tables.specs.Held.{Held, entries, numbered, has_number, stored_at, with_stored, reserved}
 use Rattle.sb_process.specs.Made.{AreNumbered, AreStored, EachBelow, NumbersBelow, without_room}
 use Rattle.sb_process.specs.Make.{HasPlaceFor, room_after}
-use Rattle.sb_process.specs.Ready.{CanApply, HavePlacesFor, copies_of}
+use Rattle.sb_process.specs.PreparedChanges.{CanApply, HavePlacesFor, copies_of}
 use Rattle.sb_process.specs.declared.database.Database.{Database}
 use Rattle.sb_process.specs.Leaves.{Leaves}
 use Rattle.sb_process.specs.Represents.{Represents, who_in}

@@ -8,14 +8,14 @@ ghost use Rattle.sb_tables.specs.Held.{has_number, stored_at};
 ghost use Rattle.sb_locks.specs.Held.{held};
 ghost use Rattle.sb_process.specs.Leaves.{Leaves};
 ghost use Rattle.sb_process.specs.Make.{HasPlaceFor, Makes};
-ghost use Rattle.sb_process.specs.Ready.{CanApply, copies_of};
+ghost use Rattle.sb_process.specs.PreparedChanges.{CanApply, copies_of};
 ghost use Rattle.sb_process.specs.Represents.{Represents, who_in};
 ghost use Rattle.sb_process.specs.Transactions.{OtherSessionsStay};
 ghost use Rattle.sb_process.specs.Running.{EachRunning};
 
 use crate::database::Database;
 use crate::make::make;
-use crate::ready::Ready;
+use crate::prepared_changes::PreparedChanges;
 use sb_index::RuleIndex;
 use sb_rawlog::ChangeLog;
 use sb_value::{Change, Row, SessionId, TableId, last_change_triggers, proper_lists_have_lives};
@@ -28,24 +28,24 @@ impl Database {
         index: &RuleIndex,
         session: SessionId,
         target: TableId,
-        ready: Ready,
+        prepared_changes: PreparedChanges,
     )
-        requires can { CanApply self.old.tables (who_in self.old session) target ready.changes.items }
-        requires copied { ready.copies.items ≡ copies_of ready.changes.items }
+        requires can { CanApply self.old.tables (who_in self.old session) target prepared_changes.changes.items }
+        requires copied { prepared_changes.copies.items ≡ copies_of prepared_changes.changes.items }
         requires locked { IsTrue (held self.old.locks session target mode.Write) }
-        requires room { length ready.changes.items ≤ L.room log.old }
-        requires clock { L.clock log.old + length ready.changes.items < 2 ^ 64 }
+        requires room { length prepared_changes.changes.items ≤ L.room log.old }
+        requires clock { L.clock log.old + length prepared_changes.changes.items < 2 ^ 64 }
         ensures all { EachRunning self.old session (L.records log.old) (L.clock log.old) index.now
             (λ origin setting progress. Represents origin self.new session (L.records log.new) (L.clock log.new) setting
-            (record progress { changes = progress.changes ++ ready.changes.items })) }
-        ensures leaves { Leaves (length ready.changes.items) self.old self.new session
+            (record progress { changes = progress.changes ++ prepared_changes.changes.items })) }
+        ensures leaves { Leaves (length prepared_changes.changes.items) self.old self.new session
             (L.records log.old) (L.records log.new) (L.clock log.old) (L.clock log.new) }
-        ensures clock { L.clock log.new ≡ L.clock log.old + length ready.changes.items }
+        ensures clock { L.clock log.new ≡ L.clock log.old + length prepared_changes.changes.items }
     {
-        let Ready {
+        let PreparedChanges {
             changes,
             mut copies,
-        } = ready;
+        } = prepared_changes;
         for change in changes {
             let Some(copy) = copies.pop() else {
                 unreachable!()

@@ -10,7 +10,7 @@ ghost use Rattle.sb_locks.specs.Held.{held};
 ghost use Rattle.sb_tables.specs.Held.{entries, has_number};
 ghost use Rattle.sb_process.specs.Made.{AreNumbered, AreStored, NumbersBelow};
 ghost use Rattle.sb_process.specs.Leaves.{HasRoom, Leaves};
-ghost use Rattle.sb_process.specs.Ready.{Changes};
+ghost use Rattle.sb_process.specs.PreparedChanges.{Changes};
 ghost use Rattle.sb_process.specs.Represents.{IsTransaction, who_in};
 ghost use Rattle.sb_process.specs.Request.{AreThere};
 ghost use Rattle.sb_process.specs.Setting.{seen_with};
@@ -19,7 +19,7 @@ ghost use Rattle.sb_process.specs.View.{seen_by};
 ghost use Rattle.sb_process.specs.Running.{EachRunning};
 
 use crate::database::Database;
-use crate::ready::prepare;
+use crate::prepared_changes::prepare;
 use crate::refusal::refusal_for;
 use crate::request::lock;
 use crate::view::{Viewer, no_transition};
@@ -182,8 +182,8 @@ impl Database {
         let TableChanges { target, changes } = effect;
         let count = changes.len();
         match prepare(alloc, &mut self.tables, log, target, changes) {
-            Ok(ready) => {
-                self.apply(log, index, session, target, ready);
+            Ok(prepared_changes) => {
+                self.apply(log, index, session, target, prepared_changes);
                 Ok(count)
             }
             Err(_) => Err(Refusal::NoMemory),

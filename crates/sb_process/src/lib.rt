@@ -14,7 +14,7 @@ mod lock_list;
 mod make;
 mod note;
 mod process;
-mod ready;
+mod prepared_changes;
 mod refusal;
 mod request;
 mod select;

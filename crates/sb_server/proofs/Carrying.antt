@@ -8,7 +8,7 @@ use Rattle.std.specs.declared.io.Error.{Error}
 use Rattle.sb_connection.specs.History.{History, after_sending}
 use Rattle.sb_connection.specs.Traffic.{Traffic, after_read, gave, used, used_by, uses_none}
 use Rattle.sb_server.specs.Carried.{Carries}
-use Rattle.sb_server.specs.Visits.{SendsSome}
+use Rattle.sb_server.specs.ClientConnections.{SendsSome}
 use Rattle.sb_server.proofs.Failing.{any_last}
 
 gave_more : (t : Traffic) (bytes : List ℕ) (answer : Result ℕ Error) → gave (after_read t bytes answer) ≡ gave t ++ used_by bytes answer

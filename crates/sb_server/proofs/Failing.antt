@@ -11,7 +11,7 @@ use Rattle.sb_connection.specs.declared.ending.ConnectionEnd.{ConnectionEnd}
 use Rattle.sb_connection.specs.declared.ending.ConnectionEnd.TheVariants.{Fault}
 use Rattle.sb_connection.specs.History.{History}
 use Rattle.sb_connection.specs.Traffic.{Call, Traffic, after_read, after_write, blocks, fails, passes, reading_failed, uses_none, writing_failed}
-use Rattle.sb_server.specs.Visits.{EndsBy}
+use Rattle.sb_server.specs.ClientConnections.{EndsBy}
 
 or_true : (b : Bool) → (b || true) ≡ true
 or_true true = refl

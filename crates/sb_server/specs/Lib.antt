@@ -1,12 +1,12 @@
-pub mod Boards
+pub mod ServerMetrics
 pub mod Carried
 pub mod Closed
 pub mod Doors
-pub mod Hearings
+pub mod ReplyMetrics
 pub mod Keeping
 pub mod Mailboxes
 pub mod Places
 pub mod Sessions
 pub mod Sockets
-pub mod Visits
+pub mod ClientConnections
 pub use Rattle.sb_connection.specs.Policies

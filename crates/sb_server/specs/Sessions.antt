@@ -9,7 +9,7 @@ has_one (Some x) has = has x
 
 -- how many connections have one
 unfoldable pub session_count : {X : Type 0} → Slab X → (X → Bool) → ℕ
-session_count visits has = count_by (λ slot. has_one slot has) visits.slots
+session_count client_connections has = count_by (λ slot. has_one slot has) client_connections.slots
 
 -- none is lost: a connection has it still, or its receipts are left
 abbrev pub KeepsSessions : {X : Type 0} → Slab X → Slab X → (X → Bool) → List Stub → List Stub → Type 0

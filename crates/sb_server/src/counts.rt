@@ -102,17 +102,17 @@ impl Count {
 
 /// The counts of a worker, which alone adds to them.
 #[derive(Drop)]
-pub(crate) struct Tally {
+pub(crate) struct WorkerCounters {
     counts: Vec<AtomicU64>,
 }
 
-impl Tally {
-    pub(crate) fn new(alloc: Global) -> Result<Tally, AllocError> {
+impl WorkerCounters {
+    pub(crate) fn new(alloc: Global) -> Result<WorkerCounters, AllocError> {
         let mut counts = Vec::with_capacity(alloc, COUNTS)?;
         for _ in 0..COUNTS {
             counts.push(AtomicU64::new(0))?;
         }
-        Ok(Tally { counts })
+        Ok(WorkerCounters { counts })
     }
 
     pub(crate) fn add(&self, what: Count, more: u64) {

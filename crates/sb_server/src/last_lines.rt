@@ -1,6 +1,6 @@
 //! When the last line of each session was answered.
 ghost use Rattle.std.specs.Prelude.{IfSome, IsSome};
-ghost use Rattle.sb_server.specs.Boards.{IsSessionFrom};
+ghost use Rattle.sb_server.specs.ServerMetrics.{IsSessionFrom};
 
 use sb_connection::SessionName;
 use sb_value::SESSION_LIMIT;

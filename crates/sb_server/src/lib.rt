@@ -2,33 +2,33 @@
 //! cells, and wait for many at once.
 #![tactic(auto)]
 
-mod beside;
-mod board;
+mod background_task;
+mod server_metrics;
 mod counts;
 mod door;
 mod guard;
-mod hearing;
+mod reply_metrics;
 mod input;
-mod keeper;
+mod commit_hook;
 mod last_lines;
 mod mailbox;
-mod newcomer;
-mod porter;
+mod pending_connection;
+mod accept_thread;
 mod server;
 mod slow_line;
 mod socket;
-mod station;
+mod poller;
 mod sweeps;
 mod told;
-mod visit;
+mod client_connection;
 mod worker;
 
-pub use beside::{Beside, NoBeside, Over};
-pub use board::Board;
+pub use background_task::{BackgroundTask, NoBackgroundTask, ShutdownSignal};
+pub use server_metrics::ServerMetrics;
 pub use counts::{Cause, Count, LIMITS};
-pub use keeper::{Keeper, Kept, Unkept};
+pub use commit_hook::{CommitHook, CommitStatus, NoJournal};
 pub use sb_connection::{
     Admission, Answered, ConnectionEvent, Open, SessionCaller, SessionName, Slow, Watch,
 };
-pub use server::{Acceptor, ServeError, Terms, serve_all};
+pub use server::{ServerConfig, ServeError, Terms, serve_all};
 pub use slow_line::SlowLine;

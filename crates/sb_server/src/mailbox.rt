@@ -1,7 +1,7 @@
 //! What the door hands to a worker.
 ghost use Rattle.std.specs.Prelude.{◌≡◌};
 
-use crate::newcomer::Newcomer;
+use crate::pending_connection::PendingConnection;
 use mio::Waker;
 use std::alloc::Global;
 use std::mem;
@@ -9,9 +9,9 @@ use std::sync::{Mutex, Wait};
 
 /// A connection whose first line names a session of this tenant.
 #[derive(Drop)]
-pub(crate) struct Letter {
+pub(crate) struct Handoff {
     pub(crate) tenant: u32,
-    pub(crate) newcomer: Box<Newcomer>,
+    pub(crate) pending_connection: Box<PendingConnection>,
 }
 
 /// The connections that a worker hasn't taken over yet, and what wakes it.
@@ -20,7 +20,7 @@ pub(crate) struct Mailbox {
     /// The worker's.
     pub(crate) place: usize,
     waker: Waker,
-    letters: Mutex<Vec<Letter>>,
+    handoffs: Mutex<Vec<Handoff>>,
 }
 
 impl Mailbox {
@@ -30,20 +30,20 @@ impl Mailbox {
         Mailbox {
             place,
             waker,
-            letters: Mutex::new(Vec::new(alloc)),
+            handoffs: Mutex::new(Vec::new(alloc)),
         }
     }
 
     /// Puts a connection in, and wakes the worker. Whether there was a place.
-    pub(crate) fn put<T: Wait>(&self, rt: &T, letter: Letter) -> bool {
-        let is_put = self.letters.lock(rt).push(letter).is_ok();
+    pub(crate) fn put<T: Wait>(&self, rt: &T, handoff: Handoff) -> bool {
+        let is_put = self.handoffs.lock(rt).push(handoff).is_ok();
         self.wake();
         is_put
     }
 
     /// Takes all that are there.
-    pub(crate) fn take<T: Wait>(&self, rt: &T, alloc: Global) -> Vec<Letter> {
-        mem::replace(&mut *self.letters.lock(rt), Vec::new(alloc))
+    pub(crate) fn take<T: Wait>(&self, rt: &T, alloc: Global) -> Vec<Handoff> {
+        mem::replace(&mut *self.handoffs.lock(rt), Vec::new(alloc))
     }
 
     pub(crate) fn wake(&self) {

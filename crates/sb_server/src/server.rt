@@ -8,16 +8,16 @@ ghost use Rattle.sb_server.specs.Closed.{LeaveClosed, LeavesClosed};
 ghost use Rattle.sb_server.specs.Mailboxes.{ArePlaced};
 ghost use Rattle.sb_server.specs.Places.{place_of};
 
-use crate::beside::{Beside, Over, run_beside};
-use crate::board::Board;
+use crate::background_task::{BackgroundTask, ShutdownSignal, run_beside};
+use crate::server_metrics::ServerMetrics;
 use crate::door::Door;
 use crate::guard::{Guard, PolicyName};
-use crate::keeper::{Keeper, Kept};
-use crate::mailbox::{Letter, Mailbox};
-use crate::newcomer::Reception;
-use crate::porter::{FIRST_LINE, Porter};
-use crate::station::Station;
-use crate::visit::Limits;
+use crate::commit_hook::{CommitHook, CommitStatus};
+use crate::mailbox::{Handoff, Mailbox};
+use crate::pending_connection::HandshakeSettings;
+use crate::accept_thread::{FIRST_LINE, AcceptThread};
+use crate::poller::Poller;
+use crate::client_connection::Limits;
 use crate::worker::Worker;
 use mio::{Events, Waker};
 use sb_connection::{Admission, Doorkeeper, Watch};
@@ -54,13 +54,13 @@ pub struct Terms {
 /// Where connections are taken, who is told of them, whom they admit, what is kept and counted, and by which terms they
 /// are served.
 #[derive(Drop)]
-pub struct Acceptor<'s, V, A, K> {
+pub struct ServerConfig<'s, V, A, K> {
     pub listener: &'s TcpListener,
     pub watch: &'s V,
     pub admission: &'s A,
-    pub keeper: &'s K,
+    pub commit_hook: &'s K,
     /// Where its workers count, and are told whose sessions end.
-    pub board: &'s Board,
+    pub server_metrics: &'s ServerMetrics,
     pub terms: Terms,
 }
 
@@ -91,8 +91,8 @@ pub(crate) struct Serving<'s, H: Hosting, V, D, K, C> {
     pub(crate) host: H,
     pub(crate) watch: &'s V,
     pub(crate) doorkeeper: &'s D,
-    pub(crate) keeper: &'s K,
-    pub(crate) board: &'s Board,
+    pub(crate) commit_hook: &'s K,
+    pub(crate) server_metrics: &'s ServerMetrics,
     pub(crate) clock: &'s C,
     pub(crate) first_tenant: u32,
     listener: &'s TcpListener,
@@ -128,12 +128,12 @@ impl<'s, H: Hosting, V, D, K, C> Serving<'s, H, V, D, K, C> {
     }
 
     /// Hands a connection to the worker that has its tenant's cell. Whether there was a place.
-    pub(crate) fn hand_over<T: Wait>(&self, rt: &T, letter: Letter) -> bool {
-        self.mailbox_of(letter.tenant).put(rt, letter)
+    pub(crate) fn hand_over<T: Wait>(&self, rt: &T, handoff: Handoff) -> bool {
+        self.mailbox_of(handoff.tenant).put(rt, handoff)
     }
 
     /// The connections that were handed to the worker at this place.
-    pub(crate) fn letters<T: Wait>(&self, rt: &T, place: usize) -> Vec<Letter> {
+    pub(crate) fn handoffs<T: Wait>(&self, rt: &T, place: usize) -> Vec<Handoff> {
         match self.mailboxes.get(place) {
             Some(mailbox) => mailbox.take(rt, self.alloc),
             None => Vec::new(self.alloc),
@@ -235,38 +235,38 @@ enum Role {
 
 /// A seat, the events that are told there, and who works there.
 #[derive(Drop)]
-pub(crate) struct Post {
+pub(crate) struct WorkerSetup {
     role: Role,
-    seat: Station,
+    seat: Poller,
     events: Events,
 }
 
-impl<'s, H: Hosting, V: Watch, D: Doorkeeper, K: Keeper, C: Clock> Work<Post, Vec<Stub>>
+impl<'s, H: Hosting, V: Watch, D: Doorkeeper, K: CommitHook, C: Clock> Work<WorkerSetup, Vec<Stub>>
     for Serving<'s, H, V, D, K, C> {
     ghost use Rattle.sb_server.specs.Closed.{LeaveClosed};
 
     ghost does = { λ _ stubs. LeaveClosed D.policy stubs };
 
-    fn work<R: Wait>(&self, rt: &R, post: Post) -> Vec<Stub> {
-        let Post {
+    fn work<R: Wait>(&self, rt: &R, setup: WorkerSetup) -> Vec<Stub> {
+        let WorkerSetup {
             role,
             seat,
             mut events,
-        } = post;
+        } = setup;
         match role {
-            Role::Door => self.keep_door(rt, seat, &mut events),
+            Role::Door => self.run_accept_thread(rt, seat, &mut events),
             Role::Worker(place) => self.serve_cells(rt, place, seat, &mut events),
         }
     }
 }
 
-impl<'s, H: Hosting, V: Watch, D: Doorkeeper, K: Keeper, C: Clock> Serving<'s, H, V, D, K, C> {
+impl<'s, H: Hosting, V: Watch, D: Doorkeeper, K: CommitHook, C: Clock> Serving<'s, H, V, D, K, C> {
     /// By what first lines are read.
-    pub(crate) fn reception(&self) -> Reception
+    pub(crate) fn handshake(&self) -> HandshakeSettings
         ensures tenants { (result.first ≡ self.now.first_tenant) × (result.tenants ≡ H.tenants self.now.host) }
         ensures keyed { result.keyed ≡ D.policy.keyed }
     {
-        Reception {
+        HandshakeSettings {
             first: self.first_tenant,
             tenants: self.host.tenants(),
             keyed: self.doorkeeper.asks_for_key(),
@@ -275,12 +275,12 @@ impl<'s, H: Hosting, V: Watch, D: Doorkeeper, K: Keeper, C: Clock> Serving<'s, H
 
     /// Keeps what these tenants were answered. Whether it is kept; where nothing can be kept any more, the service ends.
     pub(crate) fn keep<T: Wait>(&self, rt: &T, tenants: &[u32]) -> bool
-        ensures { IsTrue result → K.keeps self.now.keeper.now tenants.now }
+        ensures { IsTrue result → K.keeps self.now.commit_hook.now tenants.now }
     {
-        match self.keeper.keep(rt, tenants) {
-            Kept::All => !self.has_lost(),
-            Kept::NotYet => false,
-            Kept::Failed => {
+        match self.commit_hook.keep(rt, tenants) {
+            CommitStatus::All => !self.has_lost(),
+            CommitStatus::NotYet => false,
+            CommitStatus::Failed => {
                 self.lose();
                 false
             }
@@ -296,22 +296,22 @@ impl<'s, H: Hosting, V: Watch, D: Doorkeeper, K: Keeper, C: Clock> Serving<'s, H
 
     /// The time, where lines are timed.
     pub(crate) fn time(&self) -> Option<Instant> {
-        if self.terms.slow.is_none() && !self.board.is_set() {
+        if self.terms.slow.is_none() && !self.server_metrics.is_set() {
             return None;
         }
         Instant::now(self.clock).ok()
     }
 
     /// Takes connections at the door, and closes those that open no session.
-    fn keep_door<R: Wait>(&self, rt: &R, seat: Station, events: &mut Events) -> Vec<Stub>
+    fn run_accept_thread<R: Wait>(&self, rt: &R, seat: Poller, events: &mut Events) -> Vec<Stub>
         ensures { LeaveClosed D.policy result }
     {
         let place = self.mailboxes.len();
         let lobby = Worker::new(self, place, self.lobby_limits(), seat);
         let door = Door::new(self.listener, self.terms.connections);
-        let mut porter = Porter::new(lobby, door);
-        porter.run(rt, events, self.terms.until_input_ends);
-        porter.into_stubs()
+        let mut accept_thread = AcceptThread::new(lobby, door);
+        accept_thread.run(rt, events, self.terms.until_input_ends);
+        accept_thread.into_stubs()
     }
 
     /// Serves the connections of the cells of this place.
@@ -319,7 +319,7 @@ impl<'s, H: Hosting, V: Watch, D: Doorkeeper, K: Keeper, C: Clock> Serving<'s, H
         &self,
         rt: &R,
         place: usize,
-        seat: Station,
+        seat: Poller,
         events: &mut Events,
     ) -> Vec<Stub>
         ensures { LeaveClosed D.policy result }
@@ -353,64 +353,64 @@ impl<'s, H: Hosting, V: Watch, D: Doorkeeper, K: Keeper, C: Clock> Serving<'s, H
 pub fn serve_all<H, V, A, K, G, R>(
     rt: &R,
     alloc: Global,
-    acceptor: &Acceptor<'_, V, A, K>,
+    config: &ServerConfig<'_, V, A, K>,
     host: H,
-    beside: &G,
+    background_task: &G,
 ) -> Result<Vec<Stub>, ServeError>
 where
     H: Hosting + Sync,
     V: Watch + Sync,
     A: Admission + Sync,
-    K: Keeper + Sync,
-    G: Beside,
+    K: CommitHook + Sync,
+    G: BackgroundTask,
     R: Threads + Wait + Net + Clock + Sync,
     H::Session: Send,
-    requires workers { (0 < acceptor.now.terms.workers) × (acceptor.now.terms.workers ≤ 16) }
+    requires workers { (0 < config.now.terms.workers) × (config.now.terms.workers ≤ 16) }
     ensures { IfOk result (λ stubs. All
-        (LeavesClosed (policy (A.wants acceptor.now.admission.now) (A.admits acceptor.now.admission.now))) stubs.items) }
+        (LeavesClosed (policy (A.wants config.now.admission.now) (A.admits config.now.admission.now))) stubs.items) }
 {
-    serve_as::<Brand, H, V, A, K, G, R>(rt, alloc, acceptor, host, beside)
+    serve_as::<Brand, H, V, A, K, G, R>(rt, alloc, config, host, background_task)
 }
 
 /// Serves them under a name of the policy.
 fn serve_as<N, H, V, A, K, G, R>(
     rt: &R,
     alloc: Global,
-    acceptor: &Acceptor<'_, V, A, K>,
+    config: &ServerConfig<'_, V, A, K>,
     host: H,
-    beside: &G,
+    background_task: &G,
 ) -> Result<Vec<Stub>, ServeError>
 where
     N: PolicyName + Sync,
     H: Hosting + Sync,
     V: Watch + Sync,
     A: Admission + Sync,
-    K: Keeper + Sync,
-    G: Beside,
+    K: CommitHook + Sync,
+    G: BackgroundTask,
     R: Threads + Wait + Net + Clock + Sync,
     H::Session: Send,
-    requires workers { (0 < acceptor.now.terms.workers) × (acceptor.now.terms.workers ≤ 16) }
-    requires wants { A.wants acceptor.now.admission.now ≡ N.policy.keyed }
-    requires admits { (tenant : ℕ) (key : List ℕ) → A.admits acceptor.now.admission.now tenant key → N.policy.admits tenant key }
+    requires workers { (0 < config.now.terms.workers) × (config.now.terms.workers ≤ 16) }
+    requires wants { A.wants config.now.admission.now ≡ N.policy.keyed }
+    requires admits { (tenant : ℕ) (key : List ℕ) → A.admits config.now.admission.now tenant key → N.policy.admits tenant key }
     ensures { IfOk result (λ stubs. All (LeavesClosed N.policy) stubs.items) }
 {
-    let guard = Guard::<A, N>::new(acceptor.admission);
-    let terms = acceptor.terms;
-    if acceptor.listener.set_nonblocking(true).is_err() {
+    let guard = Guard::<A, N>::new(config.admission);
+    let terms = config.terms;
+    if config.listener.set_nonblocking(true).is_err() {
         return Err(ServeError::NoPlace);
     }
     let mut mailboxes = Vec::new(alloc);
-    let (posts, waker) = all_posts(rt, alloc, acceptor.board, terms.workers, &mut mailboxes)?;
+    let (setups, waker) = all_setups(rt, alloc, config.server_metrics, terms.workers, &mut mailboxes)?;
     let serving = Serving {
         alloc,
         host,
-        watch: acceptor.watch,
+        watch: config.watch,
         doorkeeper: &guard,
-        keeper: acceptor.keeper,
-        board: acceptor.board,
+        commit_hook: config.commit_hook,
+        server_metrics: config.server_metrics,
         clock: rt,
         first_tenant: terms.first_tenant,
-        listener: acceptor.listener,
+        listener: config.listener,
         terms,
         mailboxes,
         door: waker,
@@ -421,66 +421,66 @@ where
         has_failed: AtomicBool::new(false),
         has_lost: AtomicBool::new(false),
     };
-    let over = Over::new(posts.len());
-    let parts = run_beside(rt, alloc, posts, &serving, beside, &over);
+    let over = ShutdownSignal::new(setups.len());
+    let parts = run_beside(rt, alloc, setups, &serving, background_task, &over);
     all_stubs(alloc, serving.failure(), parts)
 }
 
 /// A post for each worker and for the door, with the mailboxes of the workers and what wakes who is at the door.
-fn all_posts<R: Net + Wait>(
+fn all_setups<R: Net + Wait>(
     rt: &R,
     alloc: Global,
-    board: &Board,
+    server_metrics: &ServerMetrics,
     workers: usize,
     mailboxes: &mut Vec<Mailbox>,
-) -> Result<(Vec<Post>, Waker), ServeError>
+) -> Result<(Vec<WorkerSetup>, Waker), ServeError>
     requires { mailboxes.old.items ≡ [] }
     ensures count { OnOk result (vec_len mailboxes.new ≡ workers) }
     ensures placed { OnOk result (ArePlaced mailboxes.new.items) }
 {
-    let (seat, events, waker) = Station::take(rt, alloc)?;
-    let mut posts = posts(rt, alloc, board, workers, mailboxes)?;
-    let door = Post {
+    let (seat, events, waker) = Poller::take(rt, alloc)?;
+    let mut setups = setups(rt, alloc, server_metrics, workers, mailboxes)?;
+    let door = WorkerSetup {
         role: Role::Door,
         seat,
         events,
     };
-    if posts.push(door).is_err() {
+    if setups.push(door).is_err() {
         return Err(ServeError::NoMemory);
     }
-    Ok((posts, waker))
+    Ok((setups, waker))
 }
 
 /// A post for each worker, and its mailbox.
-fn posts<R: Net + Wait>(
+fn setups<R: Net + Wait>(
     rt: &R,
     alloc: Global,
-    board: &Board,
+    server_metrics: &ServerMetrics,
     workers: usize,
     mailboxes: &mut Vec<Mailbox>,
-) -> Result<Vec<Post>, ServeError>
+) -> Result<Vec<WorkerSetup>, ServeError>
     requires { mailboxes.old.items ≡ [] }
     ensures count { OnOk result (vec_len mailboxes.new ≡ workers) }
     ensures placed { OnOk result (ArePlaced mailboxes.new.items) }
 {
-    let mut posts = Vec::new(alloc);
+    let mut setups = Vec::new(alloc);
     for number in 0..workers {
-        let (seat, events, waker) = Station::take(rt, alloc)?;
-        if board.hang_bell(rt, number, &seat.poll).is_err() {
+        let (seat, events, waker) = Poller::take(rt, alloc)?;
+        if server_metrics.hang_bell(rt, number, &seat.poll).is_err() {
             return Err(ServeError::NoPlace);
         }
         if mailboxes.push(Mailbox::new(alloc, number, waker)).is_err()
-            || posts.push(worker_post(number, seat, events)).is_err()
+            || setups.push(worker_setup(number, seat, events)).is_err()
         {
             return Err(ServeError::NoMemory);
         }
     }
-    Ok(posts)
+    Ok(setups)
 }
 
 /// That of the worker at this place.
-fn worker_post(place: usize, seat: Station, events: Events) -> Post {
-    Post {
+fn worker_setup(place: usize, seat: Poller, events: Events) -> WorkerSetup {
+    WorkerSetup {
         role: Role::Worker(place),
         seat,
         events,

@@ -7,19 +7,19 @@ ghost use Rattle.sb_server.specs.Keeping.{IsNoted};
 ghost use Rattle.sb_server.specs.Places.{place_of};
 ghost use Rattle.sb_server.specs.Sessions.{KeepsSessions, has_one, session_count};
 ghost use Rattle.sb_server.specs.Sockets.{traffic};
-ghost use Rattle.sb_server.specs.Visits.{HasSession};
+ghost use Rattle.sb_server.specs.ClientConnections.{HasSession};
 
 use crate::counts::{Cause, Count};
-use crate::hearing::Ears;
+use crate::reply_metrics::MetricsContext;
 use crate::input::{has_ended, watch_input};
-use crate::keeper::Keeper;
-use crate::mailbox::Letter;
-use crate::newcomer::{Heard, Newcomer};
+use crate::commit_hook::CommitHook;
+use crate::mailbox::Handoff;
+use crate::pending_connection::{HandshakeRead, PendingConnection};
 use crate::server::Serving;
 use crate::socket::Socket;
-use crate::station::{Station, WAKER};
+use crate::poller::{Poller, WAKER};
 use crate::sweeps::{SWEEP, Sweeps};
-use crate::visit::{Limits, Next, Visit};
+use crate::client_connection::{Limits, Next, ClientConnection};
 use mio::event::Event as Ready;
 use mio::unix::SourceFd;
 use mio::{Events, Interest, Poll, Token};
@@ -51,14 +51,14 @@ enum TurnPart {
 
 /// A worker with its connections, by their tokens.
 #[derive(Drop)]
-pub(crate) struct Worker<'s, H: Hosting, V, D: Doorkeeper, K: Keeper, C> {
+pub(crate) struct Worker<'s, H: Hosting, V, D: Doorkeeper, K: CommitHook, C> {
     pub(crate) serving: &'s Serving<'s, H, V, D, K, C>,
     /// Where it counts.
     place: usize,
     limits: Limits,
     pub(crate) poll: Poll,
     pub(crate) buffer: Vec<u8>,
-    visits: Slab<Box<Visit<H, Socket, D>>>,
+    client_connections: Slab<Box<ClientConnection<H, Socket, D>>>,
     /// Those that are served next.
     due: Vec<usize>,
     /// There was no place for one of them: all connections are served next.
@@ -73,29 +73,29 @@ pub(crate) struct Worker<'s, H: Hosting, V, D: Doorkeeper, K: Keeper, C> {
     /// When silent connections were looked for.
     sweeps: Sweeps,
     /// Each connection has a place for its receipts.
-    ghost room: { vec_len stubs + slab_len visits ≤ vec_capacity stubs },
+    ghost room: { vec_len stubs + slab_len client_connections ≤ vec_capacity stubs },
     /// Where nothing is kept, nothing waits for it.
-    ghost unkept: { K.is_set serving.now.keeper.now ≡ false → answered.items ≡ [] },
+    ghost unkept: { K.is_set serving.now.commit_hook.now ≡ false → answered.items ≡ [] },
 }
 
-impl<'s, H: Hosting, V: Watch, D: Doorkeeper, K: Keeper, C: Clock> Worker<'s, H, V, D, K, C> {
+impl<'s, H: Hosting, V: Watch, D: Doorkeeper, K: CommitHook, C: Clock> Worker<'s, H, V, D, K, C> {
     /// A worker at its seat, which has no connection yet.
     pub(crate) fn new(
         serving: &'s Serving<'s, H, V, D, K, C>,
         place: usize,
         limits: Limits,
-        seat: Station,
+        seat: Poller,
     ) -> Self
         ensures { result.stubs.items ≡ [] }
     {
-        let Station { poll, buffer } = seat;
+        let Poller { poll, buffer } = seat;
         Worker {
             serving,
             place,
             limits,
             poll,
             buffer,
-            visits: Slab::new(serving.alloc),
+            client_connections: Slab::new(serving.alloc),
             due: Vec::new(serving.alloc),
             all_due: false,
             answered: Vec::new(serving.alloc),
@@ -116,7 +116,7 @@ impl<'s, H: Hosting, V: Watch, D: Doorkeeper, K: Keeper, C: Clock> Worker<'s, H,
 
     /// Waits until all threads run. Whether they do.
     pub(crate) fn meet(&mut self, events: &mut Events) -> bool
-        ensures { (self.new.stubs.items ≡ self.old.stubs.items) × (self.new.visits ≡ self.old.visits) }
+        ensures { (self.new.stubs.items ≡ self.old.stubs.items) × (self.new.client_connections ≡ self.old.client_connections) }
     {
         self.serving.arrive();
         for _look in 0..LOOKS {
@@ -135,7 +135,7 @@ impl<'s, H: Hosting, V: Watch, D: Doorkeeper, K: Keeper, C: Clock> Worker<'s, H,
     /// Serves the connections of its place, once all threads run, and closes those that are left.
     pub(crate) fn run<T: Wait>(&mut self, rt: &T, events: &mut Events)
         ensures gains { GainsClosed D.policy self.old.stubs.items self.new.stubs.items }
-        ensures sessions { KeepsSessions self.old.visits self.new.visits (λ v. v.value.connection.attached) self.old.stubs.items self.new.stubs.items }
+        ensures sessions { KeepsSessions self.old.client_connections self.new.client_connections (λ v. v.value.connection.attached) self.old.stubs.items self.new.stubs.items }
     {
         if !self.meet(events) {
             return;
@@ -147,14 +147,14 @@ impl<'s, H: Hosting, V: Watch, D: Doorkeeper, K: Keeper, C: Clock> Worker<'s, H,
     /// Serves the connections of its place until none comes and none is left, or the server stops.
     fn serve<T: Wait>(&mut self, rt: &T, events: &mut Events)
         ensures gains { GainsClosed D.policy self.old.stubs.items self.new.stubs.items }
-        ensures sessions { KeepsSessions self.old.visits self.new.visits (λ v. v.value.connection.attached) self.old.stubs.items self.new.stubs.items }
+        ensures sessions { KeepsSessions self.old.client_connections self.new.client_connections (λ v. v.value.connection.attached) self.old.stubs.items self.new.stubs.items }
     {
         for _turn in 0..u64::MAX {
             // what was handed over before the door closed is there, told or not
             let is_last = self.serving.is_door_closed();
             self.is_called |= is_last;
             self.take_over(rt);
-            if self.serving.is_stopping() || (is_last && self.visits.is_empty()) {
+            if self.serving.is_stopping() || (is_last && self.client_connections.is_empty()) {
                 return;
             }
             if !self.wait(events, self.patience()) {
@@ -170,7 +170,7 @@ impl<'s, H: Hosting, V: Watch, D: Doorkeeper, K: Keeper, C: Clock> Worker<'s, H,
 
     /// Waits for events. Whether it could.
     pub(crate) fn wait(&mut self, events: &mut Events, patience: Option<Duration>) -> bool
-        ensures { (self.new.stubs ≡ self.old.stubs) × (self.new.visits ≡ self.old.visits) }
+        ensures { (self.new.stubs ≡ self.old.stubs) × (self.new.client_connections ≡ self.old.client_connections) }
     {
         self.note_busy();
         if self.poll.poll(events, patience).is_err() {
@@ -184,7 +184,7 @@ impl<'s, H: Hosting, V: Watch, D: Doorkeeper, K: Keeper, C: Clock> Worker<'s, H,
     /// Counts the time since it was told of events.
     fn note_busy(&self) {
         let serving = self.serving;
-        if !serving.board.is_set() {
+        if !serving.server_metrics.is_set() {
             return;
         }
         let Some(woke) = self.woke else {
@@ -194,7 +194,7 @@ impl<'s, H: Hosting, V: Watch, D: Doorkeeper, K: Keeper, C: Clock> Worker<'s, H,
             return;
         };
         if let Ok(nanos) = u64::try_from(now.duration_since(woke).as_nanos()) {
-            serving.board.add(self.place, Count::Busy, nanos);
+            serving.server_metrics.add(self.place, Count::Busy, nanos);
         }
     }
 
@@ -219,18 +219,18 @@ impl<'s, H: Hosting, V: Watch, D: Doorkeeper, K: Keeper, C: Clock> Worker<'s, H,
     }
 
     /// Reads what has come of a newcomer.
-    pub(crate) fn hear(&mut self, newcomer: &mut Newcomer) -> Heard
+    pub(crate) fn hear(&mut self, pending_connection: &mut PendingConnection) -> HandshakeRead
         ensures { self.new.stubs ≡ self.old.stubs }
     {
         let serving = self.serving;
-        newcomer.hear(&mut self.buffer, serving.reception())
+        pending_connection.hear(&mut self.buffer, serving.handshake())
     }
 
     /// Whether it has no connection.
     pub(crate) fn is_empty(&self) -> bool
-        ensures { result ≡ (slab_len self.now.visits == 0) }
+        ensures { result ≡ (slab_len self.now.client_connections == 0) }
     {
-        self.visits.is_empty()
+        self.client_connections.is_empty()
     }
 
     /// How long it may wait for events.
@@ -243,7 +243,7 @@ impl<'s, H: Hosting, V: Watch, D: Doorkeeper, K: Keeper, C: Clock> Worker<'s, H,
         if self.all_due || !self.due.is_empty() {
             return Some(Duration::ZERO);
         }
-        if self.limits.are_set() && !self.visits.is_empty() {
+        if self.limits.are_set() && !self.client_connections.is_empty() {
             return Some(Duration::from_millis(SWEEP));
         }
         None
@@ -260,7 +260,7 @@ impl<'s, H: Hosting, V: Watch, D: Doorkeeper, K: Keeper, C: Clock> Worker<'s, H,
     /// One event.
     pub(crate) fn note(&mut self, event: &Ready)
         ensures stubs { self.new.stubs ≡ self.old.stubs }
-        ensures sessions { session_count self.old.visits (λ v. v.value.connection.attached) ≤ session_count self.new.visits (λ v. v.value.connection.attached) }
+        ensures sessions { session_count self.old.client_connections (λ v. v.value.connection.attached) ≤ session_count self.new.client_connections (λ v. v.value.connection.attached) }
     {
         let token = event.token();
         if token == WAKER {
@@ -273,55 +273,55 @@ impl<'s, H: Hosting, V: Watch, D: Doorkeeper, K: Keeper, C: Clock> Worker<'s, H,
     /// Something came of a client, or goes again.
     fn note_client(&mut self, key: usize, hung_up: bool)
         ensures stubs { self.new.stubs ≡ self.old.stubs }
-        ensures sessions { session_count self.old.visits (λ v. v.value.connection.attached) ≤ session_count self.new.visits (λ v. v.value.connection.attached) }
+        ensures sessions { session_count self.old.client_connections (λ v. v.value.connection.attached) ≤ session_count self.new.client_connections (λ v. v.value.connection.attached) }
     {
-        let Some(mut visit) = self.take_out(key) else {
+        let Some(mut client_connection) = self.take_out(key) else {
             return;
         };
-        visit.hung_up |= hung_up;
-        self.put_due(visit);
+        client_connection.hung_up |= hung_up;
+        self.put_due(client_connection);
     }
 
     /// Takes a connection out, if there is one, which is put back or settled.
-    fn take_out(&mut self, key: usize) -> Option<Box<Visit<H, Socket, D>>>
-        ensures visit { result ≡ get self.old.visits key }
-        ensures updates { Updates self.old.visits self.new.visits key None }
-        ensures sessions { session_count self.old.visits (λ v. v.value.connection.attached) ≡ session_count self.new.visits (λ v. v.value.connection.attached) + cond (has_one result (λ v. v.value.connection.attached)) 1 0 }
-        ensures next { OnSome result (self.new.visits.vacant_key ≡ key) }
-        ensures place { OnSome result (slab_len self.new.visits + 1 ≤ self.new.visits.capacity) }
-        ensures room { OnSome result (vec_len self.new.stubs + (slab_len self.new.visits + 1) ≤ vec_capacity self.new.stubs) }
+    fn take_out(&mut self, key: usize) -> Option<Box<ClientConnection<H, Socket, D>>>
+        ensures client_connection { result ≡ get self.old.client_connections key }
+        ensures updates { Updates self.old.client_connections self.new.client_connections key None }
+        ensures sessions { session_count self.old.client_connections (λ v. v.value.connection.attached) ≡ session_count self.new.client_connections (λ v. v.value.connection.attached) + cond (has_one result (λ v. v.value.connection.attached)) 1 0 }
+        ensures next { OnSome result (self.new.client_connections.vacant_key ≡ key) }
+        ensures place { OnSome result (slab_len self.new.client_connections + 1 ≤ self.new.client_connections.capacity) }
+        ensures room { OnSome result (vec_len self.new.stubs + (slab_len self.new.client_connections + 1) ≤ vec_capacity self.new.stubs) }
         ensures stubs { self.new.stubs ≡ self.old.stubs }
         ensures answered { self.new.answered ≡ self.old.answered }
     {
-        self.visits.try_remove(key)
+        self.client_connections.try_remove(key)
     }
 
     /// Puts a connection into the vacant place, and tells which that is.
-    fn put_back(&mut self, visit: Box<Visit<H, Socket, D>>) -> usize
-        requires stub { vec_len self.old.stubs + (slab_len self.old.visits + 1) ≤ vec_capacity self.old.stubs }
-        requires place { slab_len self.old.visits + 1 ≤ self.old.visits.capacity }
-        ensures key { result ≡ self.old.visits.vacant_key }
-        ensures updates { Updates self.old.visits self.new.visits self.old.visits.vacant_key (Some visit) }
-        ensures sessions { session_count self.new.visits (λ v. v.value.connection.attached) ≡ session_count self.old.visits (λ v. v.value.connection.attached) + cond visit.value.connection.attached 1 0 }
+    fn put_back(&mut self, client_connection: Box<ClientConnection<H, Socket, D>>) -> usize
+        requires stub { vec_len self.old.stubs + (slab_len self.old.client_connections + 1) ≤ vec_capacity self.old.stubs }
+        requires place { slab_len self.old.client_connections + 1 ≤ self.old.client_connections.capacity }
+        ensures key { result ≡ self.old.client_connections.vacant_key }
+        ensures updates { Updates self.old.client_connections self.new.client_connections self.old.client_connections.vacant_key (Some client_connection) }
+        ensures sessions { session_count self.new.client_connections (λ v. v.value.connection.attached) ≡ session_count self.old.client_connections (λ v. v.value.connection.attached) + cond client_connection.value.connection.attached 1 0 }
         ensures stubs { self.new.stubs ≡ self.old.stubs }
         ensures due { (self.new.due ≡ self.old.due) × (self.new.all_due ≡ self.old.all_due) }
         ensures answered { self.new.answered ≡ self.old.answered }
     {
-        self.visits.insert_reserved(visit)
+        self.client_connections.insert_reserved(client_connection)
     }
 
     /// Puts a connection back, and serves it next.
-    fn put_due(&mut self, mut visit: Box<Visit<H, Socket, D>>)
-        requires stub { vec_len self.old.stubs + (slab_len self.old.visits + 1) ≤ vec_capacity self.old.stubs }
-        requires place { slab_len self.old.visits + 1 ≤ self.old.visits.capacity }
-        ensures sessions { session_count self.new.visits (λ v. v.value.connection.attached) ≡ session_count self.old.visits (λ v. v.value.connection.attached) + cond visit.value.connection.attached 1 0 }
-        ensures visit { IfSome (get self.new.visits self.old.visits.vacant_key) (λ v.
-            (v.value.connection ≡ visit.value.connection) × (v.value.is_ended ≡ visit.value.is_ended)) }
+    fn put_due(&mut self, mut client_connection: Box<ClientConnection<H, Socket, D>>)
+        requires stub { vec_len self.old.stubs + (slab_len self.old.client_connections + 1) ≤ vec_capacity self.old.stubs }
+        requires place { slab_len self.old.client_connections + 1 ≤ self.old.client_connections.capacity }
+        ensures sessions { session_count self.new.client_connections (λ v. v.value.connection.attached) ≡ session_count self.old.client_connections (λ v. v.value.connection.attached) + cond client_connection.value.connection.attached 1 0 }
+        ensures client_connection { IfSome (get self.new.client_connections self.old.client_connections.vacant_key) (λ v.
+            (v.value.connection ≡ client_connection.value.connection) × (v.value.is_ended ≡ client_connection.value.is_ended)) }
         ensures others { (self.new.stubs ≡ self.old.stubs) × (self.new.answered ≡ self.old.answered) }
     {
-        let was_due = visit.is_due;
-        visit.is_due = true;
-        let key = self.put_back(visit);
+        let was_due = client_connection.is_due;
+        client_connection.is_due = true;
+        let key = self.put_back(client_connection);
         if !was_due && self.due.push(key).is_err() {
             self.all_due = true;
         }
@@ -330,17 +330,17 @@ impl<'s, H: Hosting, V: Watch, D: Doorkeeper, K: Keeper, C: Clock> Worker<'s, H,
     /// Takes over the connections that were handed to its place.
     fn take_over<T: Wait>(&mut self, rt: &T)
         ensures stubs { self.new.stubs.items ≡ self.old.stubs.items }
-        ensures sessions { session_count self.old.visits (λ v. v.value.connection.attached) ≤ session_count self.new.visits (λ v. v.value.connection.attached) }
+        ensures sessions { session_count self.old.client_connections (λ v. v.value.connection.attached) ≤ session_count self.new.client_connections (λ v. v.value.connection.attached) }
     {
         if !self.is_called {
             return;
         }
         self.is_called = false;
-        for letter in self.serving.letters(rt, self.place) {
-            if self.serving.place_of(letter.tenant) == self.place {
-                self.settle_in(letter);
+        for handoff in self.serving.handoffs(rt, self.place) {
+            if self.serving.place_of(handoff.tenant) == self.place {
+                self.settle_in(handoff);
             } else {
-                self.refuse(letter.newcomer.port, ConnectionEvent::NoPlace);
+                self.refuse(handoff.pending_connection.port, ConnectionEvent::NoPlace);
             }
         }
         self.obey(rt);
@@ -349,11 +349,11 @@ impl<'s, H: Hosting, V: Watch, D: Doorkeeper, K: Keeper, C: Clock> Worker<'s, H,
     /// Has the sessions end that it is told to end.
     fn obey<T: Wait>(&mut self, rt: &T)
         ensures stubs { self.new.stubs.items ≡ self.old.stubs.items }
-        ensures sessions { session_count self.old.visits (λ v. v.value.connection.attached) ≤ session_count self.new.visits (λ v. v.value.connection.attached) }
+        ensures sessions { session_count self.old.client_connections (λ v. v.value.connection.attached) ≤ session_count self.new.client_connections (λ v. v.value.connection.attached) }
     {
         for named in self
             .serving
-            .board
+            .server_metrics
             .take_ends(rt, self.serving.alloc, self.place)
         {
             self.end_session(named);
@@ -363,40 +363,40 @@ impl<'s, H: Hosting, V: Watch, D: Doorkeeper, K: Keeper, C: Clock> Worker<'s, H,
     /// Has a session end in its next turn, if one of its connections has it.
     fn end_session(&mut self, named: SessionName)
         ensures stubs { self.new.stubs.items ≡ self.old.stubs.items }
-        ensures sessions { session_count self.old.visits (λ v. v.value.connection.attached) ≤ session_count self.new.visits (λ v. v.value.connection.attached) }
+        ensures sessions { session_count self.old.client_connections (λ v. v.value.connection.attached) ≤ session_count self.new.client_connections (λ v. v.value.connection.attached) }
     {
-        for key in 0..self.visits.capacity() {
+        for key in 0..self.client_connections.capacity() {
             self.end_if(key, named);
         }
     }
 
     /// Has a connection end in its next turn, if it has this session.
     fn end_if(&mut self, key: usize, named: SessionName)
-        ensures ended { IfSome (get self.new.visits key) (λ v. v.value.is_ended ≡ true
-            → (HasSession v.value.connection named) ⊎ IfSome (get self.old.visits key) (λ v. v.value.is_ended ≡ true)) }
-        ensures has { IfSome (get self.new.visits key) (λ v. HasSession v.value.connection named → v.value.is_ended ≡ true) }
+        ensures ended { IfSome (get self.new.client_connections key) (λ v. v.value.is_ended ≡ true
+            → (HasSession v.value.connection named) ⊎ IfSome (get self.old.client_connections key) (λ v. v.value.is_ended ≡ true)) }
+        ensures has { IfSome (get self.new.client_connections key) (λ v. HasSession v.value.connection named → v.value.is_ended ≡ true) }
         ensures stubs { self.new.stubs ≡ self.old.stubs }
-        ensures sessions { session_count self.old.visits (λ v. v.value.connection.attached) ≤ session_count self.new.visits (λ v. v.value.connection.attached) }
+        ensures sessions { session_count self.old.client_connections (λ v. v.value.connection.attached) ≤ session_count self.new.client_connections (λ v. v.value.connection.attached) }
     {
-        let Some(mut visit) = self.take_out(key) else {
+        let Some(mut client_connection) = self.take_out(key) else {
             return;
         };
-        if visit.has_session(named) {
-            visit.is_ended = true;
-            self.put_due(visit);
+        if client_connection.has_session(named) {
+            client_connection.is_ended = true;
+            self.put_due(client_connection);
         } else {
-            self.put_back(visit);
+            self.put_back(client_connection);
         }
     }
 
     /// Takes over a connection of this place.
-    fn settle_in(&mut self, letter: Letter)
-        requires { self.old.place ≡ place_of H.cells (vec_len self.old.serving.now.mailboxes) letter.tenant }
+    fn settle_in(&mut self, handoff: Handoff)
+        requires { self.old.place ≡ place_of H.cells (vec_len self.old.serving.now.mailboxes) handoff.tenant }
         ensures stubs { self.new.stubs.items ≡ self.old.stubs.items }
-        ensures sessions { session_count self.old.visits (λ v. v.value.connection.attached) ≤ session_count self.new.visits (λ v. v.value.connection.attached) }
+        ensures sessions { session_count self.old.client_connections (λ v. v.value.connection.attached) ≤ session_count self.new.client_connections (λ v. v.value.connection.attached) }
     {
-        let Letter { tenant, newcomer } = letter;
-        self.admit(Box::into_inner(newcomer), Some(tenant));
+        let Handoff { tenant, pending_connection } = handoff;
+        self.admit(Box::into_inner(pending_connection), Some(tenant));
     }
 
     /// Tells a client that isn't served.
@@ -405,79 +405,79 @@ impl<'s, H: Hosting, V: Watch, D: Doorkeeper, K: Keeper, C: Clock> Worker<'s, H,
     }
 
     /// Takes a connection, whose first line names this tenant if it opens a session. One that has no place isn't served.
-    pub(crate) fn admit(&mut self, newcomer: Newcomer, tenant: Option<u32>)
+    pub(crate) fn admit(&mut self, pending_connection: PendingConnection, tenant: Option<u32>)
         requires { IfSome tenant (λ tenant. self.old.place ≡ place_of H.cells (vec_len self.old.serving.now.mailboxes) tenant) }
         ensures stubs { self.new.stubs.items ≡ self.old.stubs.items }
-        ensures sessions { session_count self.old.visits (λ v. v.value.connection.attached) ≤ session_count self.new.visits (λ v. v.value.connection.attached) }
+        ensures sessions { session_count self.old.client_connections (λ v. v.value.connection.attached) ≤ session_count self.new.client_connections (λ v. v.value.connection.attached) }
     {
-        let port = newcomer.port;
+        let port = pending_connection.port;
         if self.make_room().is_err() {
             self.refuse(port, ConnectionEvent::NoPlace);
             return;
         }
-        match self.visit_of(newcomer, tenant) {
-            Ok(visit) => self.begin(visit),
+        match self.client_connection_of(pending_connection, tenant) {
+            Ok(client_connection) => self.begin(client_connection),
             Err(_) => self.refuse(port, ConnectionEvent::NoPlace),
         }
     }
 
     /// The visit of a newcomer, whose first line names this tenant if it opens a session. One for which there is no memory
     /// is given back.
-    fn visit_of(
+    fn client_connection_of(
         &self,
-        newcomer: Newcomer,
+        pending_connection: PendingConnection,
         tenant: Option<u32>,
-    ) -> Result<Box<Visit<H, Socket, D>>, AllocFailed<Visit<H, Socket, D>>>
-        ensures { IfOk result (λ visit. (visit.value.tenant ≡ tenant) × (visit.value.port ≡ newcomer.port)) }
+    ) -> Result<Box<ClientConnection<H, Socket, D>>, AllocFailed<ClientConnection<H, Socket, D>>>
+        ensures { IfOk result (λ client_connection. (client_connection.value.tenant ≡ tenant) × (client_connection.value.port ≡ pending_connection.port)) }
     {
         let serving = self.serving;
         let heard = self.now();
-        let visit = Visit::begin(
+        let client_connection = ClientConnection::begin(
             serving.alloc,
             serving.host,
-            serving.reception(),
-            newcomer,
+            serving.handshake(),
+            pending_connection,
             tenant,
             heard,
         );
-        Box::new(serving.alloc, visit)
+        Box::new(serving.alloc, client_connection)
     }
 
     /// Makes room for one connection more, and its receipts.
     fn make_room(&mut self) -> Result<(), AllocError>
-        ensures stub { OnOk result (vec_len self.new.stubs + (slab_len self.new.visits + 1) ≤ vec_capacity self.new.stubs) }
-        ensures place { OnOk result (slab_len self.new.visits + 1 ≤ self.new.visits.capacity) }
-        ensures sessions { session_count self.new.visits (λ v. v.value.connection.attached) ≡ session_count self.old.visits (λ v. v.value.connection.attached) }
+        ensures stub { OnOk result (vec_len self.new.stubs + (slab_len self.new.client_connections + 1) ≤ vec_capacity self.new.stubs) }
+        ensures place { OnOk result (slab_len self.new.client_connections + 1 ≤ self.new.client_connections.capacity) }
+        ensures sessions { session_count self.new.client_connections (λ v. v.value.connection.attached) ≡ session_count self.old.client_connections (λ v. v.value.connection.attached) }
         ensures stubs { self.new.stubs.items ≡ self.old.stubs.items }
     {
-        self.stubs.reserve(self.visits.len() + 1)?;
+        self.stubs.reserve(self.client_connections.len() + 1)?;
         self.make_place()
     }
 
     /// Makes a place for one connection more.
     fn make_place(&mut self) -> Result<(), AllocError>
-        ensures place { OnOk result (slab_len self.new.visits + 1 ≤ self.new.visits.capacity) }
-        ensures visits { slab_len self.new.visits ≡ slab_len self.old.visits }
-        ensures sessions { session_count self.new.visits (λ v. v.value.connection.attached) ≡ session_count self.old.visits (λ v. v.value.connection.attached) }
+        ensures place { OnOk result (slab_len self.new.client_connections + 1 ≤ self.new.client_connections.capacity) }
+        ensures client_connections { slab_len self.new.client_connections ≡ slab_len self.old.client_connections }
+        ensures sessions { session_count self.new.client_connections (λ v. v.value.connection.attached) ≡ session_count self.old.client_connections (λ v. v.value.connection.attached) }
         ensures stubs { self.new.stubs ≡ self.old.stubs }
     {
-        self.visits.reserve(1)
+        self.client_connections.reserve(1)
     }
 
     /// Has a connection reported from now on, and serves it next.
-    fn begin(&mut self, mut visit: Box<Visit<H, Socket, D>>)
-        requires stub { vec_len self.old.stubs + (slab_len self.old.visits + 1) ≤ vec_capacity self.old.stubs }
-        requires visit { slab_len self.old.visits + 1 ≤ self.old.visits.capacity }
+    fn begin(&mut self, mut client_connection: Box<ClientConnection<H, Socket, D>>)
+        requires stub { vec_len self.old.stubs + (slab_len self.old.client_connections + 1) ≤ vec_capacity self.old.stubs }
+        requires client_connection { slab_len self.old.client_connections + 1 ≤ self.old.client_connections.capacity }
         ensures stubs { self.new.stubs ≡ self.old.stubs }
-        ensures sessions { session_count self.old.visits (λ v. v.value.connection.attached) ≤ session_count self.new.visits (λ v. v.value.connection.attached) }
+        ensures sessions { session_count self.old.client_connections (λ v. v.value.connection.attached) ≤ session_count self.new.client_connections (λ v. v.value.connection.attached) }
     {
-        let token = Token(self.visits.vacant_key());
-        match visit.register(self.poll.registry(), token) {
+        let token = Token(self.client_connections.vacant_key());
+        match client_connection.register(self.poll.registry(), token) {
             Ok(()) => {
-                self.serving.board.add(self.place, Count::Connections, 1);
-                self.put_due(visit);
+                self.serving.server_metrics.add(self.place, Count::Connections, 1);
+                self.put_due(client_connection);
             }
-            Err(error) => self.refuse(visit.port, ConnectionEvent::NotAccepted(error.kind())),
+            Err(error) => self.refuse(client_connection.port, ConnectionEvent::NotAccepted(error.kind())),
         }
     }
 
@@ -485,7 +485,7 @@ impl<'s, H: Hosting, V: Watch, D: Doorkeeper, K: Keeper, C: Clock> Worker<'s, H,
     /// answered, all answers are kept at once, and then they are sent.
     pub(crate) fn serve_due<T: Wait>(&mut self, rt: &T)
         ensures gains { GainsClosed D.policy self.old.stubs.items self.new.stubs.items }
-        ensures sessions { KeepsSessions self.old.visits self.new.visits (λ v. v.value.connection.attached) self.old.stubs.items self.new.stubs.items }
+        ensures sessions { KeepsSessions self.old.client_connections self.new.client_connections (λ v. v.value.connection.attached) self.old.stubs.items self.new.stubs.items }
     {
         if !self.keep(rt) {
             return;
@@ -498,7 +498,7 @@ impl<'s, H: Hosting, V: Watch, D: Doorkeeper, K: Keeper, C: Clock> Worker<'s, H,
     /// Gives a connection its turn apart from those of others.
     fn serve_apart<T: Wait>(&mut self, rt: &T, key: usize)
         ensures gains { GainsClosed D.policy self.old.stubs.items self.new.stubs.items }
-        ensures sessions { KeepsSessions self.old.visits self.new.visits (λ v. v.value.connection.attached) self.old.stubs.items self.new.stubs.items }
+        ensures sessions { KeepsSessions self.old.client_connections self.new.client_connections (λ v. v.value.connection.attached) self.old.stubs.items self.new.stubs.items }
     {
         if self.keep(rt) {
             self.give_turn(rt, &[key], false);
@@ -509,7 +509,7 @@ impl<'s, H: Hosting, V: Watch, D: Doorkeeper, K: Keeper, C: Clock> Worker<'s, H,
     fn give_turn<T: Wait>(&mut self, rt: &T, keys: &[usize], all: bool)
         requires { self.old.answered.items ≡ [] }
         ensures gains { GainsClosed D.policy self.old.stubs.items self.new.stubs.items }
-        ensures sessions { KeepsSessions self.old.visits self.new.visits (λ v. v.value.connection.attached) self.old.stubs.items self.new.stubs.items }
+        ensures sessions { KeepsSessions self.old.client_connections self.new.client_connections (λ v. v.value.connection.attached) self.old.stubs.items self.new.stubs.items }
     {
         self.do_part(rt, TurnPart::First, keys, all);
         self.finish(rt, keys, all);
@@ -518,9 +518,9 @@ impl<'s, H: Hosting, V: Watch, D: Doorkeeper, K: Keeper, C: Clock> Worker<'s, H,
     /// What is left of their turn behind its first part.
     fn finish<T: Wait>(&mut self, rt: &T, keys: &[usize], all: bool)
         ensures gains { GainsClosed D.policy self.old.stubs.items self.new.stubs.items }
-        ensures sessions { KeepsSessions self.old.visits self.new.visits (λ v. v.value.connection.attached) self.old.stubs.items self.new.stubs.items }
+        ensures sessions { KeepsSessions self.old.client_connections self.new.client_connections (λ v. v.value.connection.attached) self.old.stubs.items self.new.stubs.items }
     {
-        if !self.serving.keeper.is_set() {
+        if !self.serving.commit_hook.is_set() {
             return;
         }
         if self.keep(rt) {
@@ -534,7 +534,7 @@ impl<'s, H: Hosting, V: Watch, D: Doorkeeper, K: Keeper, C: Clock> Worker<'s, H,
     fn do_part<T: Wait>(&mut self, rt: &T, part: TurnPart, keys: &[usize], all: bool)
         requires { part ≡ TurnPart.Last → self.old.answered.items ≡ [] }
         ensures gains { GainsClosed D.policy self.old.stubs.items self.new.stubs.items }
-        ensures sessions { KeepsSessions self.old.visits self.new.visits (λ v. v.value.connection.attached) self.old.stubs.items self.new.stubs.items }
+        ensures sessions { KeepsSessions self.old.client_connections self.new.client_connections (λ v. v.value.connection.attached) self.old.stubs.items self.new.stubs.items }
     {
         for key in keys {
             self.do_part_of(rt, part, *key);
@@ -547,9 +547,9 @@ impl<'s, H: Hosting, V: Watch, D: Doorkeeper, K: Keeper, C: Clock> Worker<'s, H,
     fn do_part_of_all<T: Wait>(&mut self, rt: &T, part: TurnPart)
         requires { part ≡ TurnPart.Last → self.old.answered.items ≡ [] }
         ensures gains { GainsClosed D.policy self.old.stubs.items self.new.stubs.items }
-        ensures sessions { KeepsSessions self.old.visits self.new.visits (λ v. v.value.connection.attached) self.old.stubs.items self.new.stubs.items }
+        ensures sessions { KeepsSessions self.old.client_connections self.new.client_connections (λ v. v.value.connection.attached) self.old.stubs.items self.new.stubs.items }
     {
-        for key in 0..self.visits.capacity() {
+        for key in 0..self.client_connections.capacity() {
             self.do_part_of(rt, part, key);
         }
     }
@@ -558,7 +558,7 @@ impl<'s, H: Hosting, V: Watch, D: Doorkeeper, K: Keeper, C: Clock> Worker<'s, H,
         requires { part ≡ TurnPart.Last → self.old.answered.items ≡ [] }
         ensures answered { part ≡ TurnPart.Last → self.new.answered.items ≡ [] }
         ensures gains { GainsClosed D.policy self.old.stubs.items self.new.stubs.items }
-        ensures sessions { KeepsSessions self.old.visits self.new.visits (λ v. v.value.connection.attached) self.old.stubs.items self.new.stubs.items }
+        ensures sessions { KeepsSessions self.old.client_connections self.new.client_connections (λ v. v.value.connection.attached) self.old.stubs.items self.new.stubs.items }
     {
         match part {
             TurnPart::First => self.begin_turn(rt, key),
@@ -569,10 +569,10 @@ impl<'s, H: Hosting, V: Watch, D: Doorkeeper, K: Keeper, C: Clock> Worker<'s, H,
     /// The first part of a connection's turn. Where nothing is kept, it is the whole turn.
     fn begin_turn<T: Wait>(&mut self, rt: &T, key: usize)
         ensures gains { GainsClosed D.policy self.old.stubs.items self.new.stubs.items }
-        ensures sessions { KeepsSessions self.old.visits self.new.visits (λ v. v.value.connection.attached) self.old.stubs.items self.new.stubs.items }
+        ensures sessions { KeepsSessions self.old.client_connections self.new.client_connections (λ v. v.value.connection.attached) self.old.stubs.items self.new.stubs.items }
     {
         self.take_in(rt, key);
-        if !self.serving.keeper.is_set() {
+        if !self.serving.commit_hook.is_set() {
             self.give_out(rt, key);
         }
     }
@@ -580,52 +580,52 @@ impl<'s, H: Hosting, V: Watch, D: Doorkeeper, K: Keeper, C: Clock> Worker<'s, H,
     /// Reads and answers what came of a connection.
     #[tactic(auto, using(crate::proofs::Counting::keeps_bit))]
     fn take_in<T: Wait>(&mut self, rt: &T, key: usize)
-        ensures noted { IfSome (get self.new.visits key) (λ v. (get self.old.visits key ≡ Some v)
-            ⊎ IsNoted (K.is_set self.new.serving.now.keeper.now) self.new.answered.items v.value.tenant v.value.connection) }
-        ensures unsent { IfSome (get self.new.visits key) (λ v. IfSome (get self.old.visits key)
+        ensures noted { IfSome (get self.new.client_connections key) (λ v. (get self.old.client_connections key ≡ Some v)
+            ⊎ IsNoted (K.is_set self.new.serving.now.commit_hook.now) self.new.answered.items v.value.tenant v.value.connection) }
+        ensures unsent { IfSome (get self.new.client_connections key) (λ v. IfSome (get self.old.client_connections key)
             (λ w. v.value.connection.handed ≡ w.value.connection.handed)) }
         ensures gains { GainsClosed D.policy self.old.stubs.items self.new.stubs.items }
-        ensures sessions { KeepsSessions self.old.visits self.new.visits (λ v. v.value.connection.attached) self.old.stubs.items self.new.stubs.items }
+        ensures sessions { KeepsSessions self.old.client_connections self.new.client_connections (λ v. v.value.connection.attached) self.old.stubs.items self.new.stubs.items }
     {
         // where there is no memory to note what is answered, nothing is
         if self.answered.reserve(1).is_err() {
             self.all_due = true;
             return;
         }
-        let Some(mut visit) = self.take_out(key) else {
+        let Some(mut client_connection) = self.take_out(key) else {
             return;
         };
-        visit.is_due = false;
-        match self.listen(rt, &mut visit) {
-            Some(fault) => self.settle(rt, Box::into_inner(visit), fault),
+        client_connection.is_due = false;
+        match self.listen(rt, &mut client_connection) {
+            Some(fault) => self.settle(rt, Box::into_inner(client_connection), fault),
             None => {
-                let answered = visit.answered();
-                self.put_back(visit);
+                let answered = client_connection.answered();
+                self.put_back(client_connection);
                 self.note_answered(answered);
             }
         }
     }
 
     /// The first part of the turn of a connection that is taken out. It gives the fault, if there is one.
-    fn listen<T: Wait>(&mut self, rt: &T, visit: &mut Visit<H, Socket, D>) -> Option<ConnectionEnd>
-        ensures stays { visit.old.connection.attached ≡ true → visit.new.connection.attached ≡ true }
-        ensures unsent { visit.new.connection.handed ≡ visit.old.connection.handed }
-        ensures tenant { visit.new.tenant ≡ visit.old.tenant }
-        ensures others { (self.new.stubs ≡ self.old.stubs) × (self.new.visits ≡ self.old.visits)
+    fn listen<T: Wait>(&mut self, rt: &T, client_connection: &mut ClientConnection<H, Socket, D>) -> Option<ConnectionEnd>
+        ensures stays { client_connection.old.connection.attached ≡ true → client_connection.new.connection.attached ≡ true }
+        ensures unsent { client_connection.new.connection.handed ≡ client_connection.old.connection.handed }
+        ensures tenant { client_connection.new.tenant ≡ client_connection.old.tenant }
+        ensures others { (self.new.stubs ≡ self.old.stubs) × (self.new.client_connections ≡ self.old.client_connections)
             × (self.new.answered ≡ self.old.answered) }
     {
         let serving = self.serving;
-        let ears = self.ears();
-        visit.take_in(rt, &ears, serving.doorkeeper, &mut self.buffer)
+        let metrics_context = self.metrics_context();
+        client_connection.take_in(rt, &metrics_context, serving.doorkeeper, &mut self.buffer)
     }
 
     /// Where it counts, and who is told of slow lines.
-    fn ears(&self) -> Ears<'s, V, C> {
+    fn metrics_context(&self) -> MetricsContext<'s, V, C> {
         let serving = self.serving;
-        Ears {
+        MetricsContext {
             watch: serving.watch,
             clock: serving.clock,
-            board: serving.board,
+            server_metrics: serving.server_metrics,
             place: self.place,
             slow: serving.slow(),
             woke: self.woke,
@@ -637,32 +637,32 @@ impl<'s, H: Hosting, V: Watch, D: Doorkeeper, K: Keeper, C: Clock> Worker<'s, H,
         requires { self.old.answered.items ≡ [] }
         ensures answered { self.new.answered.items ≡ [] }
         ensures gains { GainsClosed D.policy self.old.stubs.items self.new.stubs.items }
-        ensures sessions { KeepsSessions self.old.visits self.new.visits (λ v. v.value.connection.attached) self.old.stubs.items self.new.stubs.items }
+        ensures sessions { KeepsSessions self.old.client_connections self.new.client_connections (λ v. v.value.connection.attached) self.old.stubs.items self.new.stubs.items }
     {
-        let Some(mut visit) = self.take_out(key) else {
+        let Some(mut client_connection) = self.take_out(key) else {
             return;
         };
-        let next = visit.give_out();
-        visit.note_turn(self.now());
+        let next = client_connection.give_out();
+        client_connection.note_turn(self.now());
         match next {
             Next::Waits => {
-                self.put_back(visit);
+                self.put_back(client_connection);
             }
-            Next::GoesOn => self.put_due(visit),
-            Next::Ends(ending) => self.settle(rt, Box::into_inner(visit), ending),
+            Next::GoesOn => self.put_due(client_connection),
+            Next::Ends(ending) => self.settle(rt, Box::into_inner(client_connection), ending),
         }
     }
 
     /// Has what this tenant was answered kept behind the turn.
     fn note_answered(&mut self, tenant: Option<u32>)
         requires { vec_len self.old.answered + 1 ≤ vec_capacity self.old.answered }
-        ensures noted { K.is_set self.new.serving.now.keeper.now ≡ true → IfSome tenant (Contains self.new.answered.items) }
-        ensures others { (self.new.stubs ≡ self.old.stubs) × (self.new.visits ≡ self.old.visits) }
+        ensures noted { K.is_set self.new.serving.now.commit_hook.now ≡ true → IfSome tenant (Contains self.new.answered.items) }
+        ensures others { (self.new.stubs ≡ self.old.stubs) × (self.new.client_connections ≡ self.old.client_connections) }
     {
         let Some(tenant) = tenant else {
             return;
         };
-        if !self.serving.keeper.is_set() {
+        if !self.serving.commit_hook.is_set() {
             return;
         }
         self.note_tenant(tenant);
@@ -670,10 +670,10 @@ impl<'s, H: Hosting, V: Watch, D: Doorkeeper, K: Keeper, C: Clock> Worker<'s, H,
 
     /// Notes a tenant once.
     fn note_tenant(&mut self, tenant: u32)
-        requires set { K.is_set self.old.serving.now.keeper.now ≡ true }
+        requires set { K.is_set self.old.serving.now.commit_hook.now ≡ true }
         requires room { vec_len self.old.answered + 1 ≤ vec_capacity self.old.answered }
         ensures noted { Contains self.new.answered.items tenant }
-        ensures others { (self.new.stubs ≡ self.old.stubs) × (self.new.visits ≡ self.old.visits) }
+        ensures others { (self.new.stubs ≡ self.old.stubs) × (self.new.client_connections ≡ self.old.client_connections) }
     {
         if self.answered.contains(&tenant) {
             return;
@@ -685,9 +685,9 @@ impl<'s, H: Hosting, V: Watch, D: Doorkeeper, K: Keeper, C: Clock> Worker<'s, H,
     fn keep<T: Wait>(&mut self, rt: &T) -> bool
         ensures all { IsTrue result → self.new.answered.items ≡ [] }
         ensures kept { IsTrue result → (self.old.answered.items ≡ [])
-            ⊎ K.keeps self.old.serving.now.keeper.now self.old.answered.items }
+            ⊎ K.keeps self.old.serving.now.commit_hook.now self.old.answered.items }
         ensures not_yet { IsFalse result → self.new.answered.items ≡ self.old.answered.items }
-        ensures others { (self.new.stubs.items ≡ self.old.stubs.items) × (self.new.visits ≡ self.old.visits) }
+        ensures others { (self.new.stubs.items ≡ self.old.stubs.items) × (self.new.client_connections ≡ self.old.client_connections) }
     {
         if self.answered.is_empty() {
             return !self.serving.has_lost();
@@ -702,13 +702,13 @@ impl<'s, H: Hosting, V: Watch, D: Doorkeeper, K: Keeper, C: Clock> Worker<'s, H,
     /// Closes the connections that have been silent for too long.
     pub(crate) fn sweep<T: Wait>(&mut self, rt: &T)
         ensures gains { GainsClosed D.policy self.old.stubs.items self.new.stubs.items }
-        ensures sessions { KeepsSessions self.old.visits self.new.visits (λ v. v.value.connection.attached) self.old.stubs.items self.new.stubs.items }
+        ensures sessions { KeepsSessions self.old.client_connections self.new.client_connections (λ v. v.value.connection.attached) self.old.stubs.items self.new.stubs.items }
     {
         let now = self.now();
         let Some(now) = self.sweeps.next(now) else {
             return;
         };
-        for key in 0..self.visits.capacity() {
+        for key in 0..self.client_connections.capacity() {
             self.judge(rt, key, now);
         }
     }
@@ -716,7 +716,7 @@ impl<'s, H: Hosting, V: Watch, D: Doorkeeper, K: Keeper, C: Clock> Worker<'s, H,
     /// Closes a connection that has been silent for too long. What has come is read first.
     fn judge<T: Wait>(&mut self, rt: &T, key: usize, now: Instant)
         ensures gains { GainsClosed D.policy self.old.stubs.items self.new.stubs.items }
-        ensures sessions { KeepsSessions self.old.visits self.new.visits (λ v. v.value.connection.attached) self.old.stubs.items self.new.stubs.items }
+        ensures sessions { KeepsSessions self.old.client_connections self.new.client_connections (λ v. v.value.connection.attached) self.old.stubs.items self.new.stubs.items }
     {
         if self.silence(key, now).is_none() {
             return;
@@ -729,54 +729,54 @@ impl<'s, H: Hosting, V: Watch, D: Doorkeeper, K: Keeper, C: Clock> Worker<'s, H,
 
     /// How a connection ends that has been silent for too long, if it has.
     fn silence(&self, key: usize, now: Instant) -> Option<ConnectionEnd> {
-        match self.visits.get(key) {
-            Some(visit) => visit.silence(now, &self.limits),
+        match self.client_connections.get(key) {
+            Some(client_connection) => client_connection.silence(now, &self.limits),
             None => None,
         }
     }
 
     /// Closes all connections that are left.
     pub(crate) fn close_all<T: Wait>(&mut self, rt: &T)
-        ensures none_left { (key : ℕ) → get self.new.visits key ≡ None }
+        ensures none_left { (key : ℕ) → get self.new.client_connections key ≡ None }
         ensures gains { GainsClosed D.policy self.old.stubs.items self.new.stubs.items }
-        ensures sessions { KeepsSessions self.old.visits self.new.visits (λ v. v.value.connection.attached) self.old.stubs.items self.new.stubs.items }
+        ensures sessions { KeepsSessions self.old.client_connections self.new.client_connections (λ v. v.value.connection.attached) self.old.stubs.items self.new.stubs.items }
     {
-        for key in 0..self.visits.capacity() {
+        for key in 0..self.client_connections.capacity() {
             self.end(rt, key, ConnectionEnd::Well);
         }
     }
 
     /// Closes a connection, if there is one.
     fn end<T: Wait>(&mut self, rt: &T, key: usize, ending: ConnectionEnd)
-        ensures ends { Updates self.old.visits self.new.visits key None }
+        ensures ends { Updates self.old.client_connections self.new.client_connections key None }
         ensures gains { GainsClosed D.policy self.old.stubs.items self.new.stubs.items }
-        ensures sessions { KeepsSessions self.old.visits self.new.visits (λ v. v.value.connection.attached) self.old.stubs.items self.new.stubs.items }
+        ensures sessions { KeepsSessions self.old.client_connections self.new.client_connections (λ v. v.value.connection.attached) self.old.stubs.items self.new.stubs.items }
     {
-        if let Some(visit) = self.take_out(key) {
-            self.settle(rt, Box::into_inner(visit), ending);
+        if let Some(client_connection) = self.take_out(key) {
+            self.settle(rt, Box::into_inner(client_connection), ending);
         }
     }
 
     /// Counts the end of a connection, and that of its transaction, if it has one.
     fn note_end(&self, has_transaction: bool) {
-        let board = self.serving.board;
-        board.add(self.place, Count::Closed, 1);
+        let server_metrics = self.serving.server_metrics;
+        server_metrics.add(self.place, Count::Closed, 1);
         if has_transaction {
-            board.add(self.place, Count::Rollback(Cause::End), 1);
+            server_metrics.add(self.place, Count::Rollback(Cause::End), 1);
         }
     }
 
     /// Closes a connection, and keeps the receipts of its session.
-    fn settle<T: Wait>(&mut self, rt: &T, visit: Visit<H, Socket, D>, ending: ConnectionEnd)
-        requires { vec_len self.old.stubs + (slab_len self.old.visits + 1) ≤ vec_capacity self.old.stubs }
-        ensures left { (stub : Option ItsStub) × Leaves D.policy (traffic visit.stream) visit.connection visit.is_cut stub
+    fn settle<T: Wait>(&mut self, rt: &T, client_connection: ClientConnection<H, Socket, D>, ending: ConnectionEnd)
+        requires { vec_len self.old.stubs + (slab_len self.old.client_connections + 1) ≤ vec_capacity self.old.stubs }
+        ensures left { (stub : Option ItsStub) × Leaves D.policy (traffic client_connection.stream) client_connection.connection client_connection.is_cut stub
             × (self.new.stubs.items ≡ self.old.stubs.items ++ option_to_list stub) }
-        ensures others { (self.new.visits ≡ self.old.visits) × (self.new.answered ≡ self.old.answered) }
-        ensures session { length self.new.stubs.items ≡ length self.old.stubs.items + cond visit.connection.attached 1 0 }
+        ensures others { (self.new.client_connections ≡ self.old.client_connections) × (self.new.answered ≡ self.old.answered) }
+        ensures session { length self.new.stubs.items ≡ length self.old.stubs.items + cond client_connection.connection.attached 1 0 }
         ensures gains { GainsClosed D.policy self.old.stubs.items self.new.stubs.items }
     {
-        self.note_end(visit.has_transaction());
-        if let Some(stub) = visit.leave(rt, self.serving.watch, ending) {
+        self.note_end(client_connection.has_transaction());
+        if let Some(stub) = client_connection.leave(rt, self.serving.watch, ending) {
             self.stubs.push_reserved(stub);
         }
     }

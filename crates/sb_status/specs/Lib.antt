@@ -9,4 +9,4 @@ pub mod Responses
 pub mod Counting
 pub mod Tracing
 pub mod Viewing
-pub mod Shelf
+pub mod StatisticsCache

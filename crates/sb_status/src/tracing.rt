@@ -3,7 +3,7 @@ ghost use Rattle.std.specs.Prelude.{Contains, IfOk, ℕ};
 ghost use Rattle.sb_status.specs.Tracing.{AreFoundOf, AreLinesOf, IsLineOf, Traces};
 ghost use Rattle.sb_tenant.specs.Tenant.{Tenant as ItsTenant};
 
-use crate::patience::Patience;
+use crate::lock_budget::LockBudget;
 use memchr::memchr;
 use sb_catalog::Catalog;
 use sb_host::{Lending, Reading, Tried};
@@ -77,7 +77,7 @@ impl RuleLines {
     /// Looks at all entries. Whether it could, since the cell wasn't busy for too long.
     pub(crate) fn trace<T: Clock, H: Lending>(
         &mut self,
-        patience: &mut Patience<'_, T>,
+        lock_budget: &mut LockBudget<'_, T>,
         host: H,
         tenant: u32,
     ) -> Result<bool, AllocError>
@@ -87,7 +87,7 @@ impl RuleLines {
             if self.left == 0 || self.lacks_memory {
                 break;
             }
-            if !self.trace_piece(patience, host, tenant) {
+            if !self.trace_piece(lock_budget, host, tenant) {
                 return Ok(false);
             }
         }
@@ -100,13 +100,13 @@ impl RuleLines {
     /// Looks at the next entries. False if the cell was busy for too long.
     fn trace_piece<T: Clock, H: Lending>(
         &mut self,
-        patience: &mut Patience<'_, T>,
+        lock_budget: &mut LockBudget<'_, T>,
         host: H,
         tenant: u32,
     ) -> bool
         ensures { AreFoundOf tenant self.old → AreFoundOf tenant self.new }
     {
-        match patience.read(host, tenant, self) {
+        match lock_budget.read(host, tenant, self) {
             Tried::Held => false,
             Tried::Read | Tried::NoTenant => true,
         }

@@ -8,7 +8,7 @@ ghost use Rattle.sb_status.specs.Viewing.{AreSessionsOf, IsCopyOf, IsFoundView, 
 
 use crate::counting::numbers_of;
 use crate::graphing::graph_of;
-use crate::patience::Patience;
+use crate::lock_budget::LockBudget;
 use crate::tracing::RuleLines;
 use crate::view::{
     ColumnView, RuleView, RulesetView, SessionState, SessionView, TableView, TenantView,
@@ -42,7 +42,7 @@ impl Reading for Viewing {
 
 /// What a tenant is, with the lines that made its rules, unless its cell is busy for too long.
 pub fn view_at<T: Clock, H: Lending>(
-    patience: &mut Patience<'_, T>,
+    lock_budget: &mut LockBudget<'_, T>,
     alloc: Global,
     host: H,
     first_tenant: u32,
@@ -50,11 +50,11 @@ pub fn view_at<T: Clock, H: Lending>(
 ) -> Result<Option<TenantView>, AllocError>
     ensures { IfOk result (IsFoundView first_tenant tenant) }
 {
-    let Some(mut view) = copy_at(patience, alloc, host, first_tenant, tenant)? else {
+    let Some(mut view) = copy_at(lock_budget, alloc, host, first_tenant, tenant)? else {
         return Ok(None);
     };
     let mut lines = RuleLines::new(alloc, view.numbers.steps as usize)?;
-    if !lines.trace(patience, host, tenant)? {
+    if !lines.trace(lock_budget, host, tenant)? {
         return Ok(None);
     }
     fill_in_lines(&mut view.rules, &mut lines);
@@ -63,7 +63,7 @@ pub fn view_at<T: Clock, H: Lending>(
 
 /// What a tenant is, without the lines that made its rules, unless its cell is busy for too long.
 fn copy_at<T: Clock, H: Lending>(
-    patience: &mut Patience<'_, T>,
+    lock_budget: &mut LockBudget<'_, T>,
     alloc: Global,
     host: H,
     first_tenant: u32,
@@ -76,7 +76,7 @@ fn copy_at<T: Clock, H: Lending>(
         first_tenant,
         view: Ok(None),
     };
-    let _unless_it_is_busy = patience.read(host, tenant, &mut viewing);
+    let _unless_it_is_busy = lock_budget.read(host, tenant, &mut viewing);
     let Viewing { view, .. } = viewing;
     view
 }

@@ -3,7 +3,7 @@ ghost use Rattle.std.specs.Prelude.{IfOk};
 ghost use Rattle.sb_status.specs.Pages.{IsPage};
 ghost use Rattle.sb_status.specs.declared.text.Escaping.TheVariants as escaping;
 
-use sb_server::{Board, Cause, Count, LIMITS, SlowLine};
+use sb_server::{ServerMetrics, Cause, Count, LIMITS, SlowLine};
 use sb_status::{
     Activity, Bucket, Histogram, HostNumbers, HostView, Refused, Rollbacks, SlowView,
     TenantNumbers, WorkerNumbers, host_page, metrics,
@@ -65,29 +65,29 @@ impl Counted {
     pub(crate) fn read<T: Wait>(
         rt: &T,
         alloc: Global,
-        board: &Board,
+        server_metrics: &ServerMetrics,
     ) -> Result<Counted, AllocError> {
         let mut counted = Counted {
             workers: Vec::new(alloc),
-            considerations: board.count(Count::Considerations),
-            rollbacks: rollbacks_of(board),
+            considerations: server_metrics.count(Count::Considerations),
+            rollbacks: rollbacks_of(server_metrics),
             refusals: Vec::new(alloc),
             buckets: Vec::new(alloc),
-            others: board.count(Count::Step(LIMITS.len())),
-            micros: board.count(Count::Steps) / MICROSECOND,
-            slowest: board.slowest(rt, alloc)?,
+            others: server_metrics.count(Count::Step(LIMITS.len())),
+            micros: server_metrics.count(Count::Steps) / MICROSECOND,
+            slowest: server_metrics.slowest(rt, alloc)?,
         };
-        match counted.fill(board) {
+        match counted.fill(server_metrics) {
             Ok(()) => Ok(counted),
             Err(error) => Err(error),
         }
     }
 
     /// Adds what there may be more of.
-    fn fill(&mut self, board: &Board) -> Result<(), AllocError> {
-        add_workers(&mut self.workers, board)?;
-        add_refusals(&mut self.refusals, board)?;
-        add_buckets(&mut self.buckets, board)
+    fn fill(&mut self, server_metrics: &ServerMetrics) -> Result<(), AllocError> {
+        add_workers(&mut self.workers, server_metrics)?;
+        add_refusals(&mut self.refusals, server_metrics)?;
+        add_buckets(&mut self.buckets, server_metrics)
     }
 
     /// The lines that took longest.
@@ -121,34 +121,34 @@ impl Counted {
     }
 }
 
-fn add_workers(workers: &mut Vec<WorkerNumbers>, board: &Board) -> Result<(), AllocError> {
-    for place in 0..board.places() {
+fn add_workers(workers: &mut Vec<WorkerNumbers>, server_metrics: &ServerMetrics) -> Result<(), AllocError> {
+    for place in 0..server_metrics.places() {
         // what has ended is read first, so that it is never more than what began
-        let closed = board.count_at(place, Count::Closed);
+        let closed = server_metrics.count_at(place, Count::Closed);
         workers.push(WorkerNumbers {
-            taken: board.count_at(place, Count::Connections),
+            taken: server_metrics.count_at(place, Count::Connections),
             closed,
-            lines: board.count_at(place, Count::Lines),
-            busy: board.count_at(place, Count::Busy) / MICROSECOND,
+            lines: server_metrics.count_at(place, Count::Lines),
+            busy: server_metrics.count_at(place, Count::Busy) / MICROSECOND,
         })?;
     }
     Ok(())
 }
 
-fn rollbacks_of(board: &Board) -> Rollbacks {
+fn rollbacks_of(server_metrics: &ServerMetrics) -> Rollbacks {
     Rollbacks {
-        command: board.count(Count::Rollback(Cause::Command)),
-        rule: board.count(Count::Rollback(Cause::Rule)),
-        error: board.count(Count::Rollback(Cause::Error)),
-        limit: board.count(Count::Rollback(Cause::Limit)),
-        end: board.count(Count::Rollback(Cause::End)),
+        command: server_metrics.count(Count::Rollback(Cause::Command)),
+        rule: server_metrics.count(Count::Rollback(Cause::Rule)),
+        error: server_metrics.count(Count::Rollback(Cause::Error)),
+        limit: server_metrics.count(Count::Rollback(Cause::Limit)),
+        end: server_metrics.count(Count::Rollback(Cause::End)),
     }
 }
 
 /// Those that were given.
-fn add_refusals(refusals: &mut Vec<Refused>, board: &Board) -> Result<(), AllocError> {
+fn add_refusals(refusals: &mut Vec<Refused>, server_metrics: &ServerMetrics) -> Result<(), AllocError> {
     for number in 0..=u8::MAX {
-        let count = board.count(Count::Refusal(number));
+        let count = server_metrics.count(Count::Refusal(number));
         if count > 0 {
             refusals.push(Refused {
                 number: u64::from(number),
@@ -159,11 +159,11 @@ fn add_refusals(refusals: &mut Vec<Refused>, board: &Board) -> Result<(), AllocE
     Ok(())
 }
 
-fn add_buckets(buckets: &mut Vec<Bucket>, board: &Board) -> Result<(), AllocError> {
+fn add_buckets(buckets: &mut Vec<Bucket>, server_metrics: &ServerMetrics) -> Result<(), AllocError> {
     for (place, limit) in LIMITS.iter().enumerate() {
         buckets.push(Bucket {
             micros: *limit / MICROSECOND,
-            count: board.count(Count::Step(place)),
+            count: server_metrics.count(Count::Step(place)),
         })?;
     }
     Ok(())

@@ -2,7 +2,7 @@
 ghost use Rattle.std.specs.Prelude.{IsTrue, ℕ};
 ghost use Rattle.sb_connection.specs.declared.greeting.SessionName.{SessionName as ItsSessionName};
 
-use sb_server::{Board, SessionName};
+use sb_server::{ServerMetrics, SessionName};
 use std::sync::Wait;
 
 /// What tells workers that sessions are to end.
@@ -15,7 +15,7 @@ pub(crate) trait SessionEnder {
         ensures { IsTrue result → told self.now cell named };
 }
 
-impl SessionEnder for Board {
+impl SessionEnder for ServerMetrics {
     ghost use Rattle.std.specs.Prelude.{⊤};
 
     ghost told = { λ _ _ _. ⊤ };

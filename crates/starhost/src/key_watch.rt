@@ -3,7 +3,7 @@
 use crate::event_log::EventLog;
 use crate::key_list::KeyList;
 use crate::key_source::{KeyFiles, KeySource, Stamp, keys_at};
-use sb_server::{Beside, Over};
+use sb_server::{BackgroundTask, ShutdownSignal};
 use std::alloc::Global;
 use std::rt::Clock;
 use std::sync::Wait;
@@ -80,9 +80,9 @@ impl<'p, 'l, 'k, L: KeyFiles, S: KeySource<L>, T: Eprint + Clock> KeyWatch<'p, '
     }
 }
 
-impl<'p, 'l, 'k, L: KeyFiles, S: KeySource<L>, T: Eprint + Clock> Beside
+impl<'p, 'l, 'k, L: KeyFiles, S: KeySource<L>, T: Eprint + Clock> BackgroundTask
     for KeyWatch<'p, 'l, 'k, L, S, T> {
-    fn run<R: Wait>(&self, rt: &R, over: &Over) {
+    fn run<R: Wait>(&self, rt: &R, over: &ShutdownSignal) {
         let mut last = self.first;
         for _ in rt.forever() {
             if !over.lasts(rt) {

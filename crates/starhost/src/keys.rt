@@ -3,7 +3,7 @@ ghost use Rattle.std.specs.Prelude.{◌≡◌, OnOk};
 ghost use Rattle.starhost.specs.Totals.{TellsPort};
 
 use crate::fault::ProgramFault;
-use crate::keeping::{Entrance, Keeping, ServerEnd};
+use crate::server_context::{Entrance, ServerContext, ServerEnd};
 use crate::key_list::KeyList;
 use crate::key_source::{KeyFiles, KeySource, Stamp, keys_at};
 use crate::key_watch::KeyWatch;
@@ -51,7 +51,7 @@ impl<'k, 'p, T: Files<File = File>> KeySource<AnyFiles> for KeyFile<'k, 'p, T> {
     }
 }
 
-impl<'k, H: Lending + Sync, T: System + Sync> Keeping<'k, H, T>
+impl<'k, H: Lending + Sync, T: System + Sync> ServerContext<'k, H, T>
 where
     H::Session: Send,
 {

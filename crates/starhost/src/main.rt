@@ -15,7 +15,7 @@ mod folder;
 mod guarding;
 mod hearing;
 mod journaled;
-mod keeping;
+mod server_context;
 mod key_list;
 mod key_source;
 mod key_watch;

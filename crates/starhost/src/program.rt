@@ -30,7 +30,7 @@ use crate::digesting::tell_digest;
 use crate::dumping::dump_tenant;
 use crate::fault::{ProgramFault, tell_fault};
 use crate::journaled::run_journaled;
-use crate::keeping::keep;
+use crate::server_context::keep;
 use crate::parsing::parse_lines;
 use crate::refusing::{refuse, refuse_part};
 use crate::replaying::replay;

@@ -1,13 +1,13 @@
 //! A server with a journal: it begins as the journal leaves it, and what is answered is recorded before it is sent.
 ghost use Rattle.std.specs.Prelude.{◌≡◌, ◌↔◌, OnOk, true};
 ghost use Rattle.std.specs.Thread.{IsSend, IsSync};
-ghost use Rattle.sb_durable.specs.Keeping.{AreKept};
+ghost use Rattle.sb_durable.specs.ServerContext.{AreKept};
 ghost use Rattle.starhost.specs.Totals.{TellsPort};
 
 use crate::event_log::EventLog;
 use crate::fault::ProgramFault;
 use crate::flushing::Flusher;
-use crate::keeping::{Entrance, Keeping, ServerEnd};
+use crate::server_context::{Entrance, ServerContext, ServerEnd};
 use crate::showing::Pages;
 use crate::system::System;
 use crate::watching::StatusPort;
@@ -16,7 +16,7 @@ use sb_durable::{
     Wary, open_path, play,
 };
 use sb_host::{Lending, Stub};
-use sb_server::{Admission, Beside, Keeper, Kept};
+use sb_server::{Admission, BackgroundTask, CommitHook, CommitStatus};
 use sb_wire::Sink;
 use sb_words::Syncs;
 use std::alloc::Global;
@@ -33,7 +33,7 @@ const TOLD: u64 = 1;
 
 /// Records what tenants are answered.
 #[derive(Drop)]
-struct JournalKeeper<'k, R, T> {
+struct JournalHook<'k, R, T> {
     recorder: R,
     log: &'k EventLog<'k, T>,
     /// There was no memory the last time.
@@ -43,13 +43,13 @@ struct JournalKeeper<'k, R, T> {
     flusher: Option<&'k Flusher<'k, T>>,
 }
 
-impl<'k, R, T: Eprint + Clock> JournalKeeper<'k, R, T> {
+impl<'k, R, T: Eprint + Clock> JournalHook<'k, R, T> {
     fn new(
         recorder: R,
         log: &'k EventLog<'k, T>,
         flusher: Option<&'k Flusher<'k, T>>,
-    ) -> JournalKeeper<'k, R, T> {
-        JournalKeeper {
+    ) -> JournalHook<'k, R, T> {
+        JournalHook {
             recorder,
             log,
             lacks_memory: AtomicBool::new(false),
@@ -59,14 +59,14 @@ impl<'k, R, T: Eprint + Clock> JournalKeeper<'k, R, T> {
     }
 
     /// Notes that something was written, unless an earlier sync has failed.
-    fn written(&self) -> Kept {
+    fn written(&self) -> CommitStatus {
         match self.flusher {
-            Some(flusher) if flusher.has_failed() => Kept::Failed,
+            Some(flusher) if flusher.has_failed() => CommitStatus::Failed,
             Some(flusher) => {
                 flusher.note();
-                Kept::All
+                CommitStatus::All
             }
-            None => Kept::All,
+            None => CommitStatus::All,
         }
     }
 
@@ -82,7 +82,7 @@ impl<'k, R, T: Eprint + Clock> JournalKeeper<'k, R, T> {
     }
 }
 
-impl<'k, H: Lending, D: Disk, T: Eprint + Clock> Keeper for JournalKeeper<'k, Recorder<H, D>, T> {
+impl<'k, H: Lending, D: Disk, T: Eprint + Clock> CommitHook for JournalHook<'k, Recorder<H, D>, T> {
     ghost is_set = { λ _. true };
 
     ghost keeps = { λ _ tenants. AreKept D.Disk tenants };
@@ -91,7 +91,7 @@ impl<'k, H: Lending, D: Disk, T: Eprint + Clock> Keeper for JournalKeeper<'k, Re
         true
     }
 
-    fn keep<W: Wait>(&self, rt: &W, tenants: &[u32]) -> Kept {
+    fn keep<W: Wait>(&self, rt: &W, tenants: &[u32]) -> CommitStatus {
         match self.recorder.keep(rt, tenants) {
             Ok(()) => {
                 self.lacks_memory.store(false, Ordering::SeqCst);
@@ -99,11 +99,11 @@ impl<'k, H: Lending, D: Disk, T: Eprint + Clock> Keeper for JournalKeeper<'k, Re
             }
             Err(JournalError::Memory) => {
                 self.tell(&JournalError::Memory);
-                Kept::NotYet
+                CommitStatus::NotYet
             }
             Err(error) => {
                 self.tell(&error);
-                Kept::Failed
+                CommitStatus::Failed
             }
         }
     }
@@ -180,12 +180,12 @@ impl<'k, T: Eprint + Clock> Progress for Playing<'k, T> {
     }
 }
 
-impl<'k, H: Lending + Sync, T: System + Sync> Keeping<'k, H, T>
+impl<'k, H: Lending + Sync, T: System + Sync> ServerContext<'k, H, T>
 where
     H::Session: Send,
 {
     /// Has the tenants as the journal at this path leaves them, and serves connections with it.
-    pub(crate) fn record<A: Admission + Sync, G: Beside, W: Sink>(
+    pub(crate) fn record<A: Admission + Sync, G: BackgroundTask, W: Sink>(
         &self,
         path: &str,
         gate: Entrance<'_, '_, A, G>,
@@ -200,12 +200,12 @@ where
         if let Syncs::Second = self.paths.syncs {
             return self.record_by_seconds(path, gate, recorder, stubs, writer);
         }
-        let recording = JournalKeeper::new(recorder, self.log, None);
+        let recording = JournalHook::new(recorder, self.log, None);
         self.serve_with(gate, &recording, stubs, writer)
     }
 
     /// The same, where a thread of its own syncs what is recorded.
-    fn record_by_seconds<A: Admission + Sync, G: Beside, W: Sink>(
+    fn record_by_seconds<A: Admission + Sync, G: BackgroundTask, W: Sink>(
         &self,
         path: &str,
         gate: Entrance<'_, '_, A, G>,
@@ -222,7 +222,7 @@ where
                 return Err(ProgramFault::CannotOpenJournal);
             }
         };
-        let recording = JournalKeeper::new(recorder, self.log, Some(&flusher));
+        let recording = JournalHook::new(recorder, self.log, Some(&flusher));
         let (listener, port) = match self.ports(gate.admission, writer) {
             Ok(ports) => ports,
             Err(why) => return Err(why),
@@ -235,12 +235,12 @@ where
     }
 
     /// Serves the connections of this port, and syncs beside them.
-    fn serve_beside<A: Admission + Sync, G: Beside, K: Keeper + Sync>(
+    fn serve_beside<A: Admission + Sync, G: BackgroundTask, K: CommitHook + Sync>(
         &self,
         flusher: &Flusher<'k, T>,
         ports: (&TcpListener, &Option<StatusPort<Pages<'_, H, A, T>>>),
         gate: Entrance<'_, '_, A, G>,
-        keeper: &K,
+        commit_hook: &K,
         stubs: Vec<Stub>,
     ) -> Result<ServerEnd, ProgramFault> {
         let rt = self.rt;
@@ -254,7 +254,7 @@ where
                     return Err(ProgramFault::CannotStart);
                 }
                 let (listener, port) = ports;
-                let served = self.serve_at(listener, port, gate, keeper, stubs);
+                let served = self.serve_at(listener, port, gate, commit_hook, stubs);
                 flusher.end();
                 served
             },

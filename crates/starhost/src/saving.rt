@@ -7,7 +7,7 @@ use crate::fault::ProgramFault;
 use crate::script_files::ScriptFiles;
 use sb_dump::{DumpError, Script, dump};
 use sb_host::{Lending, Reading, Tried};
-use sb_status::Patience;
+use sb_status::LockBudget;
 use sb_tenant::Tenant;
 use std::alloc::Global;
 use std::rt::{Clock, Files};
@@ -121,7 +121,7 @@ pub(crate) fn noted_of<T: Wait, H: Lending>(
 
 /// The script of a tenant, unless its cell is busy for too long.
 pub(crate) fn noted_in<T: Clock, H: Lending>(
-    patience: &mut Patience<'_, T>,
+    patience: &mut LockBudget<'_, T>,
     host: H,
     tenant: u32,
     mut notes: ScriptNotes,

@@ -15,7 +15,7 @@ use crate::listening::listen;
 use crate::terms::{Plan, plan_of};
 use sb_host::{Host, Naming, Opened};
 use sb_server::{
-    Acceptor, Admission, Board, Keeper, NoBeside, Open, ServeError, Unkept, Watch, serve_all,
+    ServerConfig, Admission, ServerMetrics, CommitHook, NoBackgroundTask, Open, ServeError, NoJournal, Watch, serve_all,
 };
 use sb_wire::{Sink, StreamError};
 use sb_words::ServerOptions;
@@ -81,16 +81,16 @@ fn serve_host<
         Ok(listener) => listener,
         Err(why) => return Err(why),
     };
-    let board = Board::blank(alloc);
-    let acceptor = Acceptor {
+    let server_metrics = ServerMetrics::blank(alloc);
+    let config = ServerConfig {
         listener: &listener,
         watch: &log,
         admission: &Open,
-        keeper: &Unkept,
-        board: &board,
+        commit_hook: &NoJournal,
+        server_metrics: &server_metrics,
         terms: plan.terms,
     };
-    serve_by(rt, alloc, &acceptor, host, writer)
+    serve_by(rt, alloc, &config, host, writer)
 }
 
 /// Serves the connections that are taken, and tells the host's trails behind the last one.
@@ -98,24 +98,24 @@ pub fn serve_by<
     N: Naming + Send + Sync,
     V: Watch + Sync,
     A: Admission + Sync,
-    K: Keeper + Sync,
+    K: CommitHook + Sync,
     T: Threads + Wait + Net + Clock + Sync,
     W: Sink,
 >(
     rt: &T,
     alloc: Global,
-    acceptor: &Acceptor<'_, V, A, K>,
+    config: &ServerConfig<'_, V, A, K>,
     host: Host<N>,
     writer: &mut W,
 ) -> Result<(), ProgramFault>
-    requires { (0 < acceptor.now.terms.workers) × (acceptor.now.terms.workers ≤ 16) }
+    requires { (0 < config.now.terms.workers) × (config.now.terms.workers ≤ 16) }
     ensures ok { OnOk result (Writes W.contents writer.old writer.new (TellsTrails N.bound host)) }
     ensures err { IfErr result (FailsToServe W.refuses W.contents
-        (policy (A.wants acceptor.now.admission.now) (A.admits acceptor.now.admission.now)) N.bound host acceptor.now.terms.first_tenant
+        (policy (A.wants config.now.admission.now) (A.admits config.now.admission.now)) N.bound host config.now.terms.first_tenant
         writer.old writer.new) }
 {
-    let first_tenant = acceptor.terms.first_tenant;
-    match serve_all(rt, alloc, acceptor, &host, &NoBeside) {
+    let first_tenant = config.terms.first_tenant;
+    match serve_all(rt, alloc, config, &host, &NoBackgroundTask) {
         Ok(stubs) => finish(alloc, host, first_tenant, stubs, writer),
         Err(error) => Err(unserved(error)),
     }

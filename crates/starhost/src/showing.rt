@@ -1,6 +1,6 @@
 //! What the status port answers.
 ghost use Rattle.std.specs.Prelude.{◌≡◌, ◌⊎◌, ◌+◌, ◌<◌, ◌≤◌, IfOk, MatchOption, ℕ, false, true};
-ghost use Rattle.sb_status.specs.Shelf.{IsShelfOf};
+ghost use Rattle.sb_status.specs.StatisticsCache.{IsCacheOf};
 ghost use Rattle.sb_status.specs.TenantPages.{IsPageOf};
 ghost use Rattle.sb_status.specs.Routes.{Names};
 ghost use Rattle.sb_status.specs.Viewing.{IsFoundView, OnlyAges};
@@ -17,10 +17,10 @@ use crate::outcome::{HttpRefusal, Outcome, Shown, has_body};
 use crate::saving::{NotedScript, ScriptNotes, noted_in};
 use sb_dump::DumpError;
 use sb_host::{Lending, SESSION_LIMIT, SessionId, Tried};
-use sb_server::{Admission, Board, SessionName};
+use sb_server::{Admission, ServerMetrics, SessionName};
 use sb_status::{
-    ContentType, Counting, Ended, HostNumbers, Incoming, Patience, Request, Route, SessionReading,
-    SessionView, Shelf, Status, TenantNumbers, TenantView, read_request, route_of, tenant_page,
+    ContentType, Counting, Ended, HostNumbers, Incoming, LockBudget, Request, Route, SessionReading,
+    SessionView, StatisticsCache, Status, TenantNumbers, TenantView, read_request, route_of, tenant_page,
     view_at,
 };
 use std::alloc::{AllocError, Global};
@@ -34,7 +34,7 @@ const VERSION: &str = "0.1";
 
 /// What is shown, and whom.
 #[derive(Drop)]
-pub(crate) struct Pages<'k, H, A, T, E = Board> {
+pub(crate) struct Pages<'k, H, A, T, E = ServerMetrics> {
     pub(crate) rt: &'k T,
     pub(crate) alloc: Global,
     pub(crate) host: H,
@@ -47,7 +47,7 @@ pub(crate) struct Pages<'k, H, A, T, E = Board> {
     /// Where the system tells how much memory the process has.
     pub(crate) memory: Option<File>,
     /// What the workers have counted.
-    pub(crate) board: &'k Board,
+    pub(crate) server_metrics: &'k ServerMetrics,
     /// What tells them that sessions are to end.
     pub(crate) ender: &'k E,
     ghost few: { bound ≤ 1000 },
@@ -55,23 +55,23 @@ pub(crate) struct Pages<'k, H, A, T, E = Board> {
 
 impl<'k, H: Lending, A: Admission, T: Wait + Clock, E: SessionEnder> Pages<'k, H, A, T, E> {
     /// For what pages showed last.
-    pub(crate) fn shelf(&self) -> Result<Shelf, AllocError>
-        ensures { IfOk result (IsShelfOf self.now.first_tenant) }
+    pub(crate) fn cache(&self) -> Result<StatisticsCache, AllocError>
+        ensures { IfOk result (IsCacheOf self.now.first_tenant) }
     {
-        Shelf::new(self.alloc, self.host.tenants())
+        StatisticsCache::new(self.alloc, self.host.tenants())
     }
 
     /// The answer to the bytes of a request.
-    pub(crate) fn answer(&self, bytes: &[u8], shelf: &mut Shelf) -> Result<Vec<u8>, AllocError>
-        requires { IsShelfOf self.now.first_tenant shelf.old }
+    pub(crate) fn answer(&self, bytes: &[u8], cache: &mut StatisticsCache) -> Result<Vec<u8>, AllocError>
+        requires { IsCacheOf self.now.first_tenant cache.old }
         ensures answers { IfOk result (λ answer. Answers (A.wants self.now.admission.now) (A.admits self.now.admission.now)
             self.now.first_tenant (H.tenants self.now.host) H.cells self.now.bound (E.told self.now.ender.now)
             bytes.now answer.items) }
-        ensures shelf { IsShelfOf self.now.first_tenant shelf.new }
+        ensures cache { IsCacheOf self.now.first_tenant cache.new }
     {
         match read_request(bytes) {
             Incoming::Whole(request) => {
-                let outcome = self.outcome(&request, shelf)?;
+                let outcome = self.outcome(&request, cache)?;
                 outcome.answer(self.alloc, has_body(&request))
             }
             Incoming::TooLong => refuse(self.alloc, HttpRefusal::TooLong),
@@ -80,13 +80,13 @@ impl<'k, H: Lending, A: Admission, T: Wait + Clock, E: SessionEnder> Pages<'k, H
     }
 
     /// What a request comes to at the page that its target names.
-    fn outcome(&self, request: &Request<'_>, shelf: &mut Shelf) -> Result<Outcome, AllocError>
-        requires { IsShelfOf self.now.first_tenant shelf.old }
+    fn outcome(&self, request: &Request<'_>, cache: &mut StatisticsCache) -> Result<Outcome, AllocError>
+        requires { IsCacheOf self.now.first_tenant cache.old }
         ensures comes { IfOk result (λ outcome. (route : ItsRoute) × Names request.now.target.now route
             × ComesTo (A.wants self.now.admission.now) (A.admits self.now.admission.now)
             self.now.first_tenant (H.tenants self.now.host) H.cells self.now.bound (E.told self.now.ender.now)
             request.now route outcome) }
-        ensures shelf { IsShelfOf self.now.first_tenant shelf.new }
+        ensures cache { IsCacheOf self.now.first_tenant cache.new }
     {
         let route = route_of(request.target);
         if let Some(misfit) = HttpRefusal::of_misfit(route, request) {
@@ -95,63 +95,63 @@ impl<'k, H: Lending, A: Admission, T: Wait + Clock, E: SessionEnder> Pages<'k, H
         if !is_let_in(self.rt, self.alloc, self.admission, route, request)? {
             return Ok(Outcome::Refused(HttpRefusal::KeyWanted));
         }
-        self.page(route, shelf)
+        self.page(route, cache)
     }
 
     /// The page of whoever may see it.
-    fn page(&self, route: Route, shelf: &mut Shelf) -> Result<Outcome, AllocError>
-        requires { IsShelfOf self.now.first_tenant shelf.old }
+    fn page(&self, route: Route, cache: &mut StatisticsCache) -> Result<Outcome, AllocError>
+        requires { IsCacheOf self.now.first_tenant cache.old }
         ensures shows { IfOk result (Shows self.now.first_tenant (H.tenants self.now.host) H.cells self.now.bound
             (E.told self.now.ender.now) route) }
-        ensures shelf { IsShelfOf self.now.first_tenant shelf.new }
+        ensures cache { IsCacheOf self.now.first_tenant cache.new }
     {
         match route {
-            Route::Host => self.host_page(shelf),
-            Route::Metrics => self.metrics(shelf),
-            Route::Tenant(tenant) => self.tenant_page(tenant, shelf),
+            Route::Host => self.host_page(cache),
+            Route::Metrics => self.metrics(cache),
+            Route::Tenant(tenant) => self.tenant_page(tenant, cache),
             Route::Dump(tenant) => self.script(tenant),
             Route::End(ended) => self.end(ended),
             Route::Unknown => Ok(Outcome::Refused(HttpRefusal::NoPage)),
         }
     }
 
-    fn host_page(&self, shelf: &mut Shelf) -> Result<Outcome, AllocError>
+    fn host_page(&self, cache: &mut StatisticsCache) -> Result<Outcome, AllocError>
         ensures page { IfOk result IsHostOutcome }
-        ensures shelf { (first : ℕ) → IsShelfOf first shelf.old → IsShelfOf first shelf.new }
+        ensures cache { (first : ℕ) → IsCacheOf first cache.old → IsCacheOf first cache.new }
     {
-        let overview = self.overview(shelf)?;
+        let overview = self.overview(cache)?;
         Ok(found(ContentType::Page, overview.page(self.alloc)?))
     }
 
-    fn metrics(&self, shelf: &mut Shelf) -> Result<Outcome, AllocError>
+    fn metrics(&self, cache: &mut StatisticsCache) -> Result<Outcome, AllocError>
         ensures samples { IfOk result AreSamples }
-        ensures shelf { (first : ℕ) → IsShelfOf first shelf.old → IsShelfOf first shelf.new }
+        ensures cache { (first : ℕ) → IsCacheOf first cache.old → IsCacheOf first cache.new }
     {
-        let overview = self.overview(shelf)?;
+        let overview = self.overview(cache)?;
         Ok(found(ContentType::Samples, overview.samples(self.alloc)?))
     }
 
     /// The host with its tenants, and what the workers have counted.
-    fn overview(&self, shelf: &mut Shelf) -> Result<Overview, AllocError>
-        ensures { (first : ℕ) → IsShelfOf first shelf.old → IsShelfOf first shelf.new }
+    fn overview(&self, cache: &mut StatisticsCache) -> Result<Overview, AllocError>
+        ensures { (first : ℕ) → IsCacheOf first cache.old → IsCacheOf first cache.new }
     {
         Ok(Overview {
-            tenants: self.all_numbers(shelf)?,
+            tenants: self.all_numbers(cache)?,
             host: self.host_numbers(),
-            counted: Counted::read(self.rt, self.alloc, self.board)?,
+            counted: Counted::read(self.rt, self.alloc, self.server_metrics)?,
         })
     }
 
     /// The numbers of each tenant of which a session was ever opened, one lock after the other. Those of a tenant that is
     /// busy are older.
-    fn all_numbers(&self, shelf: &mut Shelf) -> Result<Vec<TenantNumbers>, AllocError>
-        ensures { (first : ℕ) → IsShelfOf first shelf.old → IsShelfOf first shelf.new }
+    fn all_numbers(&self, cache: &mut StatisticsCache) -> Result<Vec<TenantNumbers>, AllocError>
+        ensures { (first : ℕ) → IsCacheOf first cache.old → IsCacheOf first cache.new }
     {
         let mut all = Vec::new(self.alloc);
-        let mut patience = Patience::new(self.rt);
+        let mut patience = LockBudget::new(self.rt);
         let now = self.uptime();
         for place in 0..self.host.tenants() {
-            if let Some(numbers) = self.numbers_of(place, &mut patience, shelf, now) {
+            if let Some(numbers) = self.numbers_of(place, &mut patience, cache, now) {
                 all.push(numbers)?;
             }
         }
@@ -162,18 +162,18 @@ impl<'k, H: Lending, A: Admission, T: Wait + Clock, E: SessionEnder> Pages<'k, H
     fn numbers_of(
         &self,
         place: u32,
-        patience: &mut Patience<'_, T>,
-        shelf: &mut Shelf,
+        patience: &mut LockBudget<'_, T>,
+        cache: &mut StatisticsCache,
         now: u64,
     ) -> Option<TenantNumbers>
-        ensures { (first : ℕ) → IsShelfOf first shelf.old → IsShelfOf first shelf.new }
+        ensures { (first : ℕ) → IsCacheOf first cache.old → IsCacheOf first cache.new }
     {
         let mut counting = Counting::new(self.first_tenant);
         if let Tried::Held = patience.read(self.host, place, &mut counting) {
-            return shelf.numbers(place, now);
+            return cache.numbers(place, now);
         }
         let numbers = counting.numbers?;
-        shelf.keep(place, numbers, now);
+        cache.keep(place, numbers, now);
         Some(numbers)
     }
 
@@ -207,10 +207,10 @@ impl<'k, H: Lending, A: Admission, T: Wait + Clock, E: SessionEnder> Pages<'k, H
         }
     }
 
-    fn tenant_page(&self, tenant: u32, shelf: &mut Shelf) -> Result<Outcome, AllocError>
-        requires { IsShelfOf self.now.first_tenant shelf.old }
+    fn tenant_page(&self, tenant: u32, cache: &mut StatisticsCache) -> Result<Outcome, AllocError>
+        requires { IsCacheOf self.now.first_tenant cache.old }
         ensures page { IfOk result (IsPageOutcome self.now.first_tenant (H.tenants self.now.host) tenant) }
-        ensures shelf { IsShelfOf self.now.first_tenant shelf.new }
+        ensures cache { IsCacheOf self.now.first_tenant cache.new }
     {
         let Some(place) = self.place_of(tenant) else {
             return Ok(Outcome::Refused(HttpRefusal::NoTenant));
@@ -220,10 +220,10 @@ impl<'k, H: Lending, A: Admission, T: Wait + Clock, E: SessionEnder> Pages<'k, H
         match found {
             Some(view) => {
                 let shown = view_shown(self.alloc, &view)?;
-                shelf.keep_view(place, view, now);
+                cache.keep_view(place, view, now);
                 Ok(Outcome::Shown(shown))
             }
-            None => self.old_page(place, shelf, now),
+            None => self.old_page(place, cache, now),
         }
     }
 
@@ -231,7 +231,7 @@ impl<'k, H: Lending, A: Admission, T: Wait + Clock, E: SessionEnder> Pages<'k, H
     fn view(&self, tenant: u32, place: u32) -> Result<Option<TenantView>, AllocError>
         ensures { IfOk result (IsFoundView self.now.first_tenant place) }
     {
-        let mut patience = Patience::new(self.rt);
+        let mut patience = LockBudget::new(self.rt);
         let found = view_at(
             &mut patience,
             self.alloc,
@@ -259,21 +259,21 @@ impl<'k, H: Lending, A: Admission, T: Wait + Clock, E: SessionEnder> Pages<'k, H
                     tenant,
                     session: number as u32,
                 };
-                session.age = self.board.age(named, now);
+                session.age = self.server_metrics.age(named, now);
             }
         }
     }
 
     /// What the tenant was that was looked at last, if it is the one at this place, which is busy.
-    fn old_page(&self, place: u32, shelf: &mut Shelf, now: u64) -> Result<Outcome, AllocError>
+    fn old_page(&self, place: u32, cache: &mut StatisticsCache, now: u64) -> Result<Outcome, AllocError>
         requires hosted { place < H.tenants self.now.host }
-        requires shelf { IsShelfOf self.now.first_tenant shelf.old }
+        requires cache { IsCacheOf self.now.first_tenant cache.old }
         ensures page { IfOk result (IsPageOutcome self.now.first_tenant (H.tenants self.now.host)
             (self.now.first_tenant + place)) }
-        ensures shelf { IsShelfOf self.now.first_tenant shelf.new }
+        ensures cache { IsCacheOf self.now.first_tenant cache.new }
     {
-        shelf.tell_age(now);
-        match shelf.view(place) {
+        cache.tell_age(now);
+        match cache.view(place) {
             Some(view) => Ok(Outcome::Shown(view_shown(self.alloc, view)?)),
             None => Ok(Outcome::Refused(HttpRefusal::TenantBusy)),
         }
@@ -314,7 +314,7 @@ impl<'k, H: Lending, A: Admission, T: Wait + Clock, E: SessionEnder> Pages<'k, H
             return false;
         }
         let mut opening = SessionReading::new(SessionId::new(session as u8));
-        let mut patience = Patience::new(self.rt);
+        let mut patience = LockBudget::new(self.rt);
         match patience.read(self.host, place, &mut opening) {
             Tried::Held => true,
             _ => opening.is_open,
@@ -328,7 +328,7 @@ impl<'k, H: Lending, A: Admission, T: Wait + Clock, E: SessionEnder> Pages<'k, H
         let Some(place) = self.place_of(tenant) else {
             return Ok(Outcome::Refused(HttpRefusal::NoTenant));
         };
-        let mut patience = Patience::new(self.rt);
+        let mut patience = LockBudget::new(self.rt);
         let notes = ScriptNotes::new(self.alloc, self.bound);
         match noted_in(&mut patience, self.host, place, notes) {
             NotedScript::Unused => Ok(found(ContentType::Text, Vec::new(self.alloc))),

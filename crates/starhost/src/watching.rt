@@ -1,15 +1,15 @@
 //! The status port of a server: a thread of its own, which answers one connection at a time.
 ghost use Rattle.std.specs.Prelude.{◌≡◌, ◌<◌, ◌≤◌};
 ghost use Rattle.std.specs.Thread.{IsSend, IsSync};
-ghost use Rattle.sb_status.specs.Shelf.{IsShelfOf};
+ghost use Rattle.sb_status.specs.StatisticsCache.{IsCacheOf};
 
 use crate::ending::SessionEnder;
 use crate::hearing::{hear, say};
 use crate::showing::Pages;
 use libc::net as system;
 use sb_host::{Hosting, Lending, Stub};
-use sb_server::{Acceptor, Admission, Beside, Keeper, ServeError, Watch, serve_all};
-use sb_status::{HEAD_LIMIT, NO_MEMORY, Shelf};
+use sb_server::{ServerConfig, Admission, BackgroundTask, CommitHook, ServeError, Watch, serve_all};
+use sb_status::{HEAD_LIMIT, NO_MEMORY, StatisticsCache};
 use std::alloc::Global;
 use std::io;
 use std::net::{Net, SocketAddr, TcpListener, TcpStream};
@@ -57,10 +57,10 @@ impl<
     A: Admission,
     T: Wait + Net<Listener = TcpListener, Stream = TcpStream> + Clock,
     E: SessionEnder,
-> Aside for StatusPort<Pages<'k, H, A, T, E>> {
+> SideTask for StatusPort<Pages<'k, H, A, T, E>> {
     /// Answers whoever comes, until the server has ended.
     fn run<R: Wait>(&self, _rt: &R) {
-        let Ok(mut shelf) = self.pages.shelf() else {
+        let Ok(mut cache) = self.pages.cache() else {
             return;
         };
         for stream in self.listener.incoming() {
@@ -68,7 +68,7 @@ impl<
                 return;
             }
             match stream {
-                Ok(stream) => self.attend(&stream, &mut shelf),
+                Ok(stream) => self.attend(&stream, &mut cache),
                 Err(_) => thread::sleep(self.pages.rt, Duration::from_millis(PAUSE)),
             }
         }
@@ -89,9 +89,9 @@ impl<
     E: SessionEnder,
 > StatusPort<Pages<'k, H, A, T, E>> {
     /// Answers one request.
-    fn attend(&self, stream: &TcpStream, shelf: &mut Shelf)
-        requires { IsShelfOf self.now.pages.first_tenant shelf.old }
-        ensures { IsShelfOf self.now.pages.first_tenant shelf.new }
+    fn attend(&self, stream: &TcpStream, cache: &mut StatisticsCache)
+        requires { IsCacheOf self.now.pages.first_tenant cache.old }
+        ensures { IsCacheOf self.now.pages.first_tenant cache.new }
     {
         let Ok(mut buffer) = vec![in self.pages.alloc; 0u8; HEAD_LIMIT + 1] else {
             say(self.pages.rt, stream, NO_MEMORY.as_bytes());
@@ -100,7 +100,7 @@ impl<
         let Some(len) = hear(self.pages.rt, stream, buffer.as_mut_slice()) else {
             return;
         };
-        match self.pages.answer(&buffer.as_slice()[..len], shelf) {
+        match self.pages.answer(&buffer.as_slice()[..len], cache) {
             Ok(answer) => say(self.pages.rt, stream, answer.as_slice()),
             Err(_) => say(self.pages.rt, stream, NO_MEMORY.as_bytes()),
         }
@@ -108,7 +108,7 @@ impl<
 }
 
 /// What a thread does beside a server, until it is told that the server has ended.
-pub(crate) trait Aside {
+pub(crate) trait SideTask {
     fn run<R: Wait>(&self, rt: &R);
 
     fn end(&self);
@@ -120,33 +120,33 @@ pub(crate) fn serve_beside<
     H: Hosting + Sync,
     V: Watch + Sync,
     A: Admission + Sync,
-    K: Keeper + Sync,
-    W: Aside + Sync,
-    G: Beside,
+    K: CommitHook + Sync,
+    W: SideTask + Sync,
+    G: BackgroundTask,
     T: Threads + Wait + Net + Clock + Sync,
 >(
     rt: &T,
     alloc: Global,
-    acceptor: &Acceptor<'_, V, A, K>,
+    config: &ServerConfig<'_, V, A, K>,
     host: H,
-    aside: &W,
+    side_task: &W,
     beside: &G,
 ) -> Result<Vec<Stub>, ServeError>
 where
     H::Session: Send,
-    requires { (0 < acceptor.now.terms.workers) × (acceptor.now.terms.workers ≤ 16) }
+    requires { (0 < config.now.terms.workers) × (config.now.terms.workers ≤ 16) }
 {
     let (_ran, served) = thread::join(
         rt,
         move || -> ()
             requires { IsSync T.row × IsSync W.row }
-        { aside.run(rt) },
+        { side_task.run(rt) },
         move || -> Result<Vec<Stub>, ServeError>
             requires { IsSync T.row × IsSync V.row × IsSync A.row × IsSync K.row × IsSync H.row × IsSend H.Session.row
-                × (0 < acceptor.now.terms.workers) × (acceptor.now.terms.workers ≤ 16) }
+                × (0 < config.now.terms.workers) × (config.now.terms.workers ≤ 16) }
         {
-            let served = serve_all(rt, alloc, acceptor, host, beside);
-            aside.end();
+            let served = serve_all(rt, alloc, config, host, beside);
+            side_task.end();
             served
         },
     );

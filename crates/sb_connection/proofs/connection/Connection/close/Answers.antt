@@ -6,7 +6,7 @@ use Rattle.sb_connection.proofs.connection.Connection.close.Goals as goal
 
 pub returns-clause-conversation : goal.returns-clause-conversation
 returns-clause-conversation g c =
-    let k = c.self.inside.machine in
+    let k = c.self.inside.protocol_state in
     let holds = c.self.invariant in
     let leaves = subst (λ s. LeavesSome s c.close-stub.result) c.into_session.ensures.session c.close-stub.ensures in
     let all = whole g.D.Doorkeeper.policy.admits k.history.hosted holds.pieces holds.text k.talk c.close-stub.result holds.answered leaves in
@@ -14,7 +14,7 @@ returns-clause-conversation g c =
 
 pub returns-clause-closed : goal.returns-clause-closed
 returns-clause-closed g c =
-    let k = c.self.inside.machine in
+    let k = c.self.inside.protocol_state in
     let holds = c.self.invariant in
     let leaves = subst (λ s. LeavesSome s c.close-stub.result) c.into_session.ensures.session c.close-stub.ensures in
     (whole g.D.Doorkeeper.policy.admits k.history.hosted holds.pieces holds.text k.talk c.close-stub.result holds.answered leaves).1

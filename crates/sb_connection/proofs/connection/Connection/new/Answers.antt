@@ -1,6 +1,6 @@
 use Rattle.std.proofs.Common.{sym, subst}
 use Rattle.sb_connection.specs.Conversation.{hosting_by}
-use Rattle.sb_connection.specs.Machine.{Holds}
+use Rattle.sb_connection.specs.ProtocolState.{Holds}
 use Rattle.sb_connection.proofs.Steps.{nothing_holds}
 use Rattle.sb_connection.proofs.connection.Connection.new.Goals as goal
 

@@ -1,6 +1,6 @@
 use Rattle.std.proofs.Common.{◌≡◌, ◌∙◌, ap, sym, subst, true}
 use Rattle.std.specs.Prelude.{OnErr, OnOk, Ok, Err, Result}
-use Rattle.sb_connection.specs.Machine.{Holds, Talking}
+use Rattle.sb_connection.specs.ProtocolState.{Holds, Talking}
 use Rattle.sb_connection.specs.Policies.{Admits}
 use Rattle.sb_connection.specs.Standing.{is_open}
 use Rattle.sb_connection.proofs.Steps.{holds_received}
@@ -13,5 +13,5 @@ by_result admits (Err e) old new more so then is same = subst (Holds admits) (sy
 
 pub invariant_of-self : goal.invariant_of-self
 invariant_of-self g c =
-    let going : is_open c.self.inside.machine.history.state ≡ true = ap (λ h. is_open h.state) c.self.view_is ∙ c.requires.0 in
-    by_result g.D.Doorkeeper.policy.admits c.receive.result c.self.inside.machine c.receive.new.self _ c.self.invariant (holds_received g.D.Doorkeeper.policy.admits c.self.inside.machine c.self.invariant going c.args.bytes.now) c.receive.ensures.ok c.receive.ensures.err
+    let going : is_open c.self.inside.protocol_state.history.state ≡ true = ap (λ h. is_open h.state) c.self.view_is ∙ c.requires.0 in
+    by_result g.D.Doorkeeper.policy.admits c.receive.result c.self.inside.protocol_state c.receive.new.self _ c.self.invariant (holds_received g.D.Doorkeeper.policy.admits c.self.inside.protocol_state c.self.invariant going c.args.bytes.now) c.receive.ensures.ok c.receive.ensures.err

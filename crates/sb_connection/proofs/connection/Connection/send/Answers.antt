@@ -2,7 +2,7 @@ use Rattle.std.proofs.Common.{◌≡◌, ℕ, sym, subst}
 use Rattle.std.specs.Prelude.{IfOk, OnErr, Ok, Err, Result}
 use Rattle.std.specs.declared.io.Error.{Error}
 use Rattle.sb_connection.specs.History.{after_sending}
-use Rattle.sb_connection.specs.Machine.{Holds, Talking}
+use Rattle.sb_connection.specs.ProtocolState.{Holds, Talking}
 use Rattle.sb_connection.specs.Policies.{Admits}
 use Rattle.sb_connection.proofs.Steps.{holds_sent}
 use Rattle.sb_connection.proofs.connection.Connection.send.Goals as goal
@@ -13,4 +13,4 @@ by_result admits (Ok n) old new so is same = subst (Holds admits) (sym is) (hold
 by_result admits (Err e) old new so is same = subst (Holds admits) (sym same) so
 
 pub invariant_of-self : goal.invariant_of-self
-invariant_of-self g c = by_result g.D.Doorkeeper.policy.admits c.send.result c.self.inside.machine c.send.new.self c.self.invariant c.send.ensures.sent c.send.ensures.unsent
+invariant_of-self g c = by_result g.D.Doorkeeper.policy.admits c.send.result c.self.inside.protocol_state c.send.new.self c.self.invariant c.send.ensures.sent c.send.ensures.unsent

@@ -12,7 +12,7 @@ by_name h (Some named) names = names named refl
 
 pub returns-in-Some-clause-named : goal.returns-in-Some-clause-named
 returns-in-Some-clause-named g c =
-    let k = c.self.inside.machine in
-    let same = ap (λ inside. inside.machine.history.named) c.self-inside.view_is in
+    let k = c.self.inside.protocol_state in
+    let same = ap (λ inside. inside.protocol_state.history.named) c.self-inside.view_is in
     subst (λ (h : History). IfSome c.self-inside.inside.0.0.named (IsSessionOf h)) c.self.view_is
     (by_name k.history c.self-inside.inside.0.0.named (λ named is. session_named g.D.Doorkeeper.policy.admits k c.self.invariant named (sym same ∙ is)))

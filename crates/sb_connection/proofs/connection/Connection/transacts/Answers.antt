@@ -9,6 +9,6 @@ use Rattle.sb_connection.proofs.connection.Connection.transacts.Goals as goal
 
 pub returns-clause-session : goal.returns-clause-session
 returns-clause-session g c = λ attached.
-    let k = c.self.inside.machine in
+    let k = c.self.inside.protocol_state in
     subst (λ (h : History). Transacts h c.transacts.result) c.self.view_is
     (transacting_now g.D.Doorkeeper.policy.admits k c.self.invariant (ap (λ (h : History). h.attached) c.self.view_is ∙ attached) c.transacts.result c.transacts.ensures)

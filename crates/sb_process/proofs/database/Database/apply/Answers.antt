@@ -6,7 +6,7 @@ use Rattle.sb_value.specs.declared.id.Who.{Who}
 use Rattle.sb_value.specs.declared.lock.LockMode.TheVariants.{Write}
 use Rattle.sb_locks.specs.Held.{Holders, held}
 use Rattle.sb_process.specs.Made.{NumbersBelow}
-use Rattle.sb_process.specs.Ready.{CanApply, copies_of}
+use Rattle.sb_process.specs.PreparedChanges.{CanApply, copies_of}
 use Rattle.sb_catalog.specs.Definitions.{AreIndexed}
 use Rattle.sb_process.specs.Represents.{Represents, who_in}
 use Rattle.sb_process.proofs.Applying.{first_fits, others_can, below_one, none_left}
@@ -15,10 +15,10 @@ use Rattle.sb_process.proofs.database.Database.apply.Goals as goal
 
 pub loop-change-init : goal.loop-change-init
 loop-change-init g c =
-    let same : into_iter_items c.into_iter-change-iterator.result ≡ c.args.ready.changes.items = c.into_iter-change-iterator.ensures.into_iter_gives.0 in
+    let same : into_iter_items c.into_iter-change-iterator.result ≡ c.args.prepared_changes.changes.items = c.into_iter-change-iterator.ensures.into_iter_gives.0 in
     record {
       can = subst (λ (l : List Change). CanApply c.args.self.now.tables (who_in c.args.self.now c.args.session) c.args.target l) (sym same) c.requires.can;
-      len = c.into_iter-change-iterator.ensures.into_iter_gives.1 ∙ c.args.ready.changes.ok.0 ∙ ap (λ (l : List Change). length l) (sym same);
+      len = c.into_iter-change-iterator.ensures.into_iter_gives.1 ∙ c.args.prepared_changes.changes.ok.0 ∙ ap (λ (l : List Change). length l) (sym same);
       copied = c.requires.copied ∙ ap copies_of (sym same);
       locked = c.requires.locked;
       room = omega (arith, ap length same, c.requires.room);
@@ -93,7 +93,7 @@ pub returns-clause-all : goal.returns-clause-all
 returns-clause-all g c = λ origin setting progress w.
     let v = c.loop-change.invariant in
     let none : into_iter_items c.loop-change.change-iterator ≡ [] = none_left (into_iter_items c.loop-change.change-iterator) (sym v.len ∙ c.in-None.ensures.steps.0) in
-    let whole : v.made.0 ≡ c.args.ready.changes.items = sym (append-nil v.made.0) ∙ ap (λ (l : List Change). v.made.0 ++ l) (sym none) ∙ v.made.1 in
+    let whole : v.made.0 ≡ c.args.prepared_changes.changes.items = sym (append-nil v.made.0) ∙ ap (λ (l : List Change). v.made.0 ++ l) (sym none) ∙ v.made.1 in
     subst
     (λ (cs : List Change). Represents origin c.loop-change.self c.args.session (g.L.ChangeLog.records c.loop-change.log) (g.L.ChangeLog.clock c.loop-change.log) setting (record progress { changes = progress.changes ++ cs }))
     whole (v.made.2 origin setting progress w)
@@ -109,6 +109,6 @@ returns-clause-leaves g c =
       times = (omega (arith, v.clock, none), omega (arith, v.clock, none));
       numbers = λ n b.
           let q = v.numbers n b in
-          let end : q.0 ≡ n + length c.args.ready.changes.items = omega (arith, q.1, none) in
+          let end : q.0 ≡ n + length c.args.prepared_changes.changes.items = omega (arith, q.1, none) in
           subst (λ (m : ℕ). NumbersBelow m c.loop-change.self.tables) end q.2;
     }

@@ -5,7 +5,7 @@ use Rattle.sb_value.specs.declared.lock.LockMode.TheVariants.{Write}
 use Rattle.sb_rawlog.specs.Sessions.{OthersStay}
 use Rattle.sb_locks.specs.Held.{held}
 use Rattle.sb_process.specs.Made.{NumbersBelow}
-use Rattle.sb_process.specs.Ready.{CanApply, copies_of}
+use Rattle.sb_process.specs.PreparedChanges.{CanApply, copies_of}
 use Rattle.sb_process.specs.Represents.{Represents, who_in}
 use Rattle.sb_process.specs.Running.{EachRunning}
 use Rattle.sb_process.specs.Transactions.{OtherSessionsStay}
@@ -21,12 +21,12 @@ invariant-loop-change g l =
       copied : l.copies.items ≡ copies_of left;
       locked : held l.self.locks l.session l.fn.target Write ≡ true;
       room : length left ≤ g.L.ChangeLog.room l.log;
-      clock : g.L.ChangeLog.clock l.log + length left ≡ g.L.ChangeLog.clock l.initial.log + length l.fn.ready.changes.items;
-      made : (done : List Change) × (done ++ left ≡ l.fn.ready.changes.items) ×
+      clock : g.L.ChangeLog.clock l.log + length left ≡ g.L.ChangeLog.clock l.initial.log + length l.fn.prepared_changes.changes.items;
+      made : (done : List Change) × (done ++ left ≡ l.fn.prepared_changes.changes.items) ×
           EachRunning l.initial.self l.session (g.L.ChangeLog.records l.initial.log) (g.L.ChangeLog.clock l.initial.log) l.index (λ origin setting progress.
           Represents origin l.self l.session (g.L.ChangeLog.records l.log) (g.L.ChangeLog.clock l.log) setting (record progress { changes = progress.changes ++ done }));
       id : l.self.id ≡ l.initial.self.id;
       sessions : OtherSessionsStay l.initial.self.transactions l.self.transactions l.session;
       others : OthersStay (who_in l.initial.self l.session) (g.L.ChangeLog.records l.initial.log) (g.L.ChangeLog.records l.log);
-      numbers : (n : ℕ) → NumbersBelow n l.initial.self.tables → (m : ℕ) × (m + length left ≡ n + length l.fn.ready.changes.items) × NumbersBelow m l.self.tables;
+      numbers : (n : ℕ) → NumbersBelow n l.initial.self.tables → (m : ℕ) × (m + length left ≡ n + length l.fn.prepared_changes.changes.items) × NumbersBelow m l.self.tables;
     }

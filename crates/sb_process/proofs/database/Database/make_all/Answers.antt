@@ -2,7 +2,7 @@ use Rattle.std.proofs.Common.{◌≡◌, ◌∙◌, List, ◌++◌, Ok, length, 
 use Rattle.sb_value.specs.declared.change.Change.{Change}
 use Rattle.sb_process.specs.declared.database.Database.{Database}
 use Rattle.sb_process.specs.Leaves.{Leaves}
-use Rattle.sb_process.specs.Ready.{CanApply}
+use Rattle.sb_process.specs.PreparedChanges.{CanApply}
 use Rattle.sb_process.specs.Represents.{Represents, who_in}
 use Rattle.sb_process.proofs.Leaving.{leaves-on, leaves-more, room-below}
 use Rattle.sb_process.proofs.Preparing.{can_apply, with_room, leaves-prepared}
@@ -19,9 +19,9 @@ apply-requires-clause-can g c =
 pub returns-in-Ok-clause-made : goal.returns-in-Ok-clause-made
 returns-in-Ok-clause-made g c = λ origin setting progress w.
     let d : Database = record c.args.self.now { tables = c.prepare.new.tables } in
-    let ready = with_room c.args.self.now c.prepare.new.tables c.args.session (g.L.ChangeLog.records c.args.log.now) (g.L.ChangeLog.records c.prepare.new.log) (g.L.ChangeLog.clock c.args.log.now)
+    let prepared_changes = with_room c.args.self.now c.prepare.new.tables c.args.session (g.L.ChangeLog.records c.args.log.now) (g.L.ChangeLog.records c.prepare.new.log) (g.L.ChangeLog.clock c.args.log.now)
     (g.L.ChangeLog.clock c.prepare.new.log) setting progress origin w.transaction c.prepare.ensures.same c.prepare.ensures.records c.prepare.ensures.clock in
-    let all = c.apply.ensures.all origin setting progress (record { transaction = ready; indexed = w.indexed }) in
+    let all = c.apply.ensures.all origin setting progress (record { transaction = prepared_changes; indexed = w.indexed }) in
     inl (
       ap Ok (c.len-count.ensures ∙ c.args.effect.changes.ok.0),
       subst
@@ -31,8 +31,8 @@ returns-in-Ok-clause-made g c = λ origin setting progress w.
 
 pub returns-in-Ok-clause-leaves : goal.returns-in-Ok-clause-leaves
 returns-in-Ok-clause-leaves g c =
-    let all : length c.args.effect.changes.items ≡ length c.in-Ok.ready.changes.items = sym (ap (λ (l : List Change). length l) c.in-Ok.ensures.changes) in
-    let ran : Leaves (length c.in-Ok.ready.changes.items) (record c.args.self.now { tables = c.prepare.new.tables }) c.apply.new.self c.args.session (g.L.ChangeLog.records c.prepare.new.log)
+    let all : length c.args.effect.changes.items ≡ length c.in-Ok.prepared_changes.changes.items = sym (ap (λ (l : List Change). length l) c.in-Ok.ensures.changes) in
+    let ran : Leaves (length c.in-Ok.prepared_changes.changes.items) (record c.args.self.now { tables = c.prepare.new.tables }) c.apply.new.self c.args.session (g.L.ChangeLog.records c.prepare.new.log)
     (g.L.ChangeLog.records c.apply.new.log) (g.L.ChangeLog.clock c.prepare.new.log) (g.L.ChangeLog.clock c.apply.new.log) = c.apply.ensures.leaves in
     leaves-more 4096 (leaves-on (leaves-prepared c.args.self.now c.prepare.ensures.same c.prepare.ensures.records c.prepare.ensures.clock) ran) (omega (arith, all, c.in-Ok.ensures.few))
 

@@ -5,7 +5,7 @@ use Rattle.sb_eval.specs.Laws.{AreMakeable}
 use Rattle.sb_eval.specs.Statement.{statement_changes}
 use Rattle.sb_eval.specs.Target.{target}
 use Rattle.sb_tables.specs.Held.{entries}
-use Rattle.sb_process.specs.Ready.{Changes}
+use Rattle.sb_process.specs.PreparedChanges.{Changes}
 use Rattle.sb_process.specs.Represents.{who_in}
 use Rattle.sb_process.specs.View.{seen_by}
 use Rattle.sb_process.proofs.Growing.{tables_are}

@@ -6,8 +6,8 @@ use Rattle.sb_server.proofs.worker.Worker.close_all.Goals as goal
 -- the one that is closed is vacant, and so are those that were
 pub loop-key-preserved : goal.loop-key-preserved
 loop-key-preserved g c =
-    let old = c.loop-key.self.visits in
-    let new = c.end.new.self.visits in
+    let old = c.loop-key.self.client_connections in
+    let new = c.end.new.self.client_connections in
     let was = c.loop-key.invariant.2 in (
       gains_then g.D.Doorkeeper.policy c.args.self.now.stubs.items c.loop-key.self.stubs.items c.end.new.self.stubs.items c.loop-key.invariant.0 c.end.ensures.gains,
       omega arith,

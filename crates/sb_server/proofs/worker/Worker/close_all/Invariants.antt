@@ -8,5 +8,5 @@ use Rattle.sb_server.proofs.worker.Worker.close_all.Given as goal
 abbrev pub invariant-loop-key : goal.invariant-loop-key
 invariant-loop-key g l =
     GainsClosed g.D.Doorkeeper.policy l.fn.self.stubs.items l.self.stubs.items
-    × KeepsSessions l.fn.self.visits l.self.visits (λ v. v.value.connection.attached) l.fn.self.stubs.items l.self.stubs.items
-    × ((k : ℕ) → (k < l.key → get l.self.visits k ≡ None) × (get l.fn.self.visits k ≡ None → get l.self.visits k ≡ None))
+    × KeepsSessions l.fn.self.client_connections l.self.client_connections (λ v. v.value.connection.attached) l.fn.self.stubs.items l.self.stubs.items
+    × ((k : ℕ) → (k < l.key → get l.self.client_connections k ≡ None) × (get l.fn.self.client_connections k ≡ None → get l.self.client_connections k ≡ None))

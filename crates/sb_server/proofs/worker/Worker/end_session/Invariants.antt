@@ -3,4 +3,4 @@ use Rattle.sb_server.specs.Sessions.{session_count}
 use Rattle.sb_server.proofs.worker.Worker.end_session.Given as goal
 
 abbrev pub invariant-loop-key : goal.invariant-loop-key
-invariant-loop-key g l = (l.self.stubs.items ≡ l.fn.self.stubs.items) × (session_count l.fn.self.visits (λ v. v.value.connection.attached) ≤ session_count l.self.visits (λ v. v.value.connection.attached))
+invariant-loop-key g l = (l.self.stubs.items ≡ l.fn.self.stubs.items) × (session_count l.fn.self.client_connections (λ v. v.value.connection.attached) ≤ session_count l.self.client_connections (λ v. v.value.connection.attached))

@@ -9,8 +9,8 @@ returns-in-Some-clause-left g c = (Some c.in-Some.stub, c.in-Some.ensures.leaves
 
 pub returns-in-Some-clause-gains : goal.returns-in-Some-clause-gains
 returns-in-Some-clause-gains g c =
-    let visit = c.args.visit in
-    gains_left g.D.Doorkeeper.policy c.args.self.now.stubs.items c.push_reserved.new.self.items (traffic visit.stream) visit.connection visit.is_cut c.in-Some.stub c.in-Some.ensures.leaves c.push_reserved.ensures.items
+    let client_connection = c.args.client_connection in
+    gains_left g.D.Doorkeeper.policy c.args.self.now.stubs.items c.push_reserved.new.self.items (traffic client_connection.stream) client_connection.connection client_connection.is_cut c.in-Some.stub c.in-Some.ensures.leaves c.push_reserved.ensures.items
 
 -- it had none
 pub returns-in_default-clause-left : goal.returns-in_default-clause-left

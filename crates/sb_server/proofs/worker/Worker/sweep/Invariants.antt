@@ -5,4 +5,4 @@ use Rattle.sb_server.proofs.worker.Worker.sweep.Given as goal
 abbrev pub invariant-loop-key : goal.invariant-loop-key
 invariant-loop-key g l =
     GainsClosed g.D.Doorkeeper.policy l.fn.self.stubs.items l.self.stubs.items
-    × KeepsSessions l.fn.self.visits l.self.visits (λ v. v.value.connection.attached) l.fn.self.stubs.items l.self.stubs.items
+    × KeepsSessions l.fn.self.client_connections l.self.client_connections (λ v. v.value.connection.attached) l.fn.self.stubs.items l.self.stubs.items

@@ -10,7 +10,7 @@ returns-in_ok-view_shown-in-Some-clause-page g c = (
     c.args.place,
     refl,
     c.in-Some.view.now,
-    c.in-Some.ensures.own c.args.self.now.first_tenant (c.tell_age.ensures.own c.args.self.now.first_tenant c.requires.shelf),
+    c.in-Some.ensures.own c.args.self.now.first_tenant (c.tell_age.ensures.own c.args.self.now.first_tenant c.requires.cache),
     c.in_ok-view_shown-in-Some.ensures.2,
   ),
 )

@@ -1,6 +1,0 @@
-use Rattle.std.proofs.Common.{◌≡◌, length}
-use Rattle.sb_server.proofs.board.Board.new.Given as goal
-
--- one of each for each worker so far
-abbrev pub invariant-loop-worker : goal.invariant-loop-worker
-invariant-loop-worker l = (length l.tallies.items ≡ l._worker) × (length l.desks.items ≡ l._worker)

@@ -1,7 +1,0 @@
-use Rattle.std.proofs.Common.{rules}
-use Rattle.std.proofs.lemmas.List.Sorted.{IsNonDecreasingBy-from_sort_by_key}
-use Rattle.sb_server.specs.Boards.{quickness}
-use Rattle.sb_server.proofs.board.Board.slowest.Goals as goal
-
-pub returns : goal.returns
-returns g c = IsNonDecreasingBy-from_sort_by_key quickness _ c.sort_unstable_by_key.ensures.sorted (λ a r q k. search rules)

@@ -1,0 +1,311 @@
+//! The thread at the door: it takes connections, reads their first lines and hands them on.
+ghost use Rattle.std.specs.Prelude.{◌≡◌, [], false, None};
+ghost use Rattle.slab.specs.Slab.{slab_len};
+ghost use Rattle.sb_server.specs.Closed.{GainsClosed};
+
+use crate::door::{Client, Door};
+use crate::commit_hook::CommitHook;
+use crate::mailbox::Handoff;
+use crate::pending_connection::{HandshakeRead, PendingConnection};
+use crate::server::Serving;
+use crate::sweeps::{SWEEP, Sweeps};
+use crate::worker::Worker;
+use mio::event::Event as Ready;
+use mio::{Events, Token};
+use sb_connection::{ConnectionEvent, Destination, Doorkeeper, Watch};
+use sb_desk::{Hosting, Stub};
+use sb_wire::StreamError;
+use slab::Slab;
+use std::io::ErrorKind;
+use std::rt::Clock;
+use std::sync::Wait;
+use std::time::{Duration, Instant};
+
+const LISTENER: Token = Token(usize::MAX - 1);
+
+const INPUT: Token = Token(usize::MAX - 2);
+
+/// The token of the newcomer with the key 0. Those of connections are below it.
+const MOST_PENDING: usize = 1 << 48;
+
+/// How many connections are taken at most before those that are there have their turn.
+const TAKEN_A_TURN: usize = 16;
+
+/// How long a first line may take, in seconds.
+pub(crate) const FIRST_LINE: u32 = 10;
+
+/// The door with the newcomers, and a worker of its own for those that open no session.
+#[derive(Drop)]
+pub(crate) struct AcceptThread<'s, H: Hosting, V, D: Doorkeeper, K: CommitHook, C> {
+    lobby: Worker<'s, H, V, D, K, C>,
+    door: Door<'s>,
+    pending_connections: Slab<Box<PendingConnection>>,
+    /// When late newcomers were looked for.
+    sweeps: Sweeps,
+    /// The workers know that no more connections come.
+    has_told: bool,
+}
+
+impl<'s, H: Hosting, V: Watch, D: Doorkeeper, K: CommitHook, C: Clock> AcceptThread<'s, H, V, D, K, C> {
+    pub(crate) fn new(lobby: Worker<'s, H, V, D, K, C>, door: Door<'s>) -> AcceptThread<'s, H, V, D, K, C>
+        ensures { result.lobby.stubs.items ≡ lobby.entry.stubs.items }
+    {
+        let pending_connections = Slab::new(lobby.serving.alloc);
+        AcceptThread {
+            lobby,
+            door,
+            pending_connections,
+            sweeps: Sweeps::none_yet(),
+            has_told: false,
+        }
+    }
+
+    /// The receipts of all sessions.
+    pub(crate) fn into_stubs(self) -> Vec<Stub>
+        ensures { result.items ≡ self.entry.lobby.stubs.items }
+    {
+        let AcceptThread { lobby, .. } = self;
+        lobby.into_stubs()
+    }
+
+    /// Takes connections, once all threads run, and closes those that are left.
+    pub(crate) fn run<T: Wait>(&mut self, rt: &T, events: &mut Events, watches_input: bool)
+        ensures { GainsClosed D.policy self.old.lobby.stubs.items self.new.lobby.stubs.items }
+    {
+        if !self.lobby.meet(events) {
+            return;
+        }
+        self.serve(rt, events, watches_input);
+        self.lobby.close_all(rt);
+    }
+
+    /// Takes connections until none is to be taken and none is left, or the server stops. Then the port is closed.
+    fn serve<T: Wait>(&mut self, rt: &T, events: &mut Events, watches_input: bool)
+        ensures { GainsClosed D.policy self.old.lobby.stubs.items self.new.lobby.stubs.items }
+    {
+        self.begin(watches_input);
+        self.turns(rt, events);
+        self.door.close();
+    }
+
+    /// Has connections at the listener reported, and the end of the input where that is asked for.
+    fn begin(&mut self, watches_input: bool)
+        ensures { self.new.lobby ≡ self.old.lobby }
+    {
+        let listener = self.door.descriptor();
+        self.lobby.report(listener, LISTENER);
+        if watches_input && !self.lobby.report_input(INPUT) {
+            self.lobby.serving.stop();
+        }
+    }
+
+    fn turns<T: Wait>(&mut self, rt: &T, events: &mut Events)
+        ensures { GainsClosed D.policy self.old.lobby.stubs.items self.new.lobby.stubs.items }
+    {
+        for _turn in 0..u64::MAX {
+            self.tell_last();
+            if self.lobby.serving.is_stopping() || (self.has_told && self.lobby.is_empty()) {
+                return;
+            }
+            let patience = self.patience();
+            if !self.lobby.wait(events, patience) {
+                return;
+            }
+            for event in events.iter() {
+                self.note(rt, event);
+            }
+            self.take_some(rt);
+            self.lobby.serve_due(rt);
+            self.lobby.sweep(rt);
+            self.sweep(rt);
+        }
+    }
+
+    /// Tells the workers that no more connections come, once that is so.
+    fn tell_last(&mut self)
+        ensures { self.new.lobby ≡ self.old.lobby }
+    {
+        if !self.has_told && !self.door.is_open() && self.pending_connections.is_empty() {
+            self.has_told = true;
+            self.lobby.serving.close_door();
+        }
+    }
+
+    /// How long it may wait for events.
+    fn patience(&self) -> Option<Duration>
+        ensures { result ≡ None → (slab_len self.now.pending_connections ≡ 0) × (self.now.lobby.due.items ≡ []) × (self.now.lobby.all_due ≡ false) }
+    {
+        let mut patience = shorter(self.lobby.patience(), self.door.patience());
+        if !self.pending_connections.is_empty() {
+            patience = shorter(patience, Some(Duration::from_millis(SWEEP)));
+        }
+        patience
+    }
+
+    /// The time, where it matters.
+    fn now(&self) -> Option<Instant> {
+        Instant::now(self.lobby.serving.clock).ok()
+    }
+
+    /// One event.
+    fn note<T: Wait>(&mut self, rt: &T, event: &Ready)
+        ensures { self.new.lobby.stubs.items ≡ self.old.lobby.stubs.items }
+    {
+        let token = event.token();
+        if token == LISTENER {
+            self.door.note();
+        } else if token == INPUT {
+            if self.lobby.has_input_ended(INPUT) {
+                self.lobby.serving.stop();
+            }
+        } else if token.0 < MOST_PENDING || token.0 > MOST_PENDING + MOST_PENDING {
+            self.lobby.note(event);
+        } else if let Some(pending_connection) = self.pending_connections.try_remove(token.0 - MOST_PENDING) {
+            self.hear(rt, pending_connection);
+        }
+    }
+
+    /// Takes some of the connections that wait at the listener.
+    fn take_some<T: Wait>(&mut self, rt: &T)
+        ensures { self.new.lobby.stubs.items ≡ self.old.lobby.stubs.items }
+    {
+        let now = self.now();
+        for _taken in 0..TAKEN_A_TURN {
+            match self.door.take(self.lobby.serving.watch, now) {
+                Some(client) => self.welcome(rt, client),
+                None => return,
+            }
+        }
+    }
+
+    /// Takes a connection. One that has no place isn't served.
+    fn welcome<T: Wait>(&mut self, rt: &T, client: Client)
+        ensures { self.new.lobby.stubs.items ≡ self.old.lobby.stubs.items }
+    {
+        let port = client.port;
+        match PendingConnection::of(self.lobby.serving.alloc, client) {
+            Ok(pending_connection) => {
+                self.tell(port, ConnectionEvent::Came);
+                self.hear(rt, pending_connection);
+            }
+            Err(_) => self.tell(port, ConnectionEvent::NoPlace),
+        }
+    }
+
+    fn tell(&self, port: u16, event: ConnectionEvent) {
+        self.lobby.serving.watch.see_client(port, event);
+    }
+
+    /// Reads what has come of a newcomer, and sends it on where its first line is known.
+    fn hear<T: Wait>(&mut self, rt: &T, mut pending_connection: Box<PendingConnection>)
+        ensures { self.new.lobby.stubs.items ≡ self.old.lobby.stubs.items }
+    {
+        let port = pending_connection.port;
+        match self.lobby.hear(&mut pending_connection) {
+            HandshakeRead::Destination(Destination::Unknown) => self.keep(pending_connection),
+            HandshakeRead::Destination(Destination::To(tenant)) => self.hand_over(rt, tenant, pending_connection),
+            HandshakeRead::Destination(Destination::Away) => {
+                pending_connection.unwatch(self.lobby.poll.registry());
+                self.lobby.admit(Box::into_inner(pending_connection), None);
+            }
+            HandshakeRead::Left => self.tell(port, ConnectionEvent::Left),
+            HandshakeRead::Fault(reason) => {
+                self.tell(port, read_failed(reason));
+                self.tell(port, ConnectionEvent::Left);
+            }
+            HandshakeRead::NoMemory => self.tell(port, ConnectionEvent::NoPlace),
+        }
+    }
+
+    /// Keeps a newcomer until more comes of it. One that was there before has its key again.
+    fn keep(&mut self, mut pending_connection: Box<PendingConnection>)
+        ensures { self.new.lobby ≡ self.old.lobby }
+    {
+        if self.pending_connections.reserve(1).is_err() {
+            self.tell(pending_connection.port, ConnectionEvent::NoPlace);
+            return;
+        }
+        let token = Token(MOST_PENDING.saturating_add(self.pending_connections.vacant_key()));
+        if !pending_connection.is_watched {
+            if let Err(error) = pending_connection.watch(self.lobby.poll.registry(), token) {
+                self.tell(pending_connection.port, ConnectionEvent::NotAccepted(error.kind()));
+                return;
+            }
+        }
+        self.pending_connections.insert_reserved(pending_connection);
+    }
+
+    /// Hands a connection to the worker of its tenant's cell.
+    fn hand_over<T: Wait>(&mut self, rt: &T, tenant: u32, mut pending_connection: Box<PendingConnection>)
+        ensures { self.new.lobby ≡ self.old.lobby }
+    {
+        pending_connection.unwatch(self.lobby.poll.registry());
+        let port = pending_connection.port;
+        if !self
+            .lobby
+            .serving
+            .hand_over(rt, Handoff { tenant, pending_connection })
+        {
+            self.tell(port, ConnectionEvent::NoPlace);
+        }
+    }
+
+    /// Closes the newcomers whose first line doesn't come in time.
+    fn sweep<T: Wait>(&mut self, rt: &T)
+        ensures { self.new.lobby.stubs.items ≡ self.old.lobby.stubs.items }
+    {
+        if self.pending_connections.is_empty() {
+            return;
+        }
+        let now = self.now();
+        if self.sweeps.next(now).is_none() {
+            return;
+        }
+        for key in 0..self.pending_connections.capacity() {
+            self.judge(rt, key);
+        }
+    }
+
+    /// Closes a newcomer that is late. What has come is read first.
+    fn judge<T: Wait>(&mut self, rt: &T, key: usize)
+        ensures { self.new.lobby.stubs.items ≡ self.old.lobby.stubs.items }
+    {
+        let Some(mut pending_connection) = self.pending_connections.try_remove(key) else {
+            return;
+        };
+        pending_connection.grow_older();
+        self.hear(rt, pending_connection);
+        if self.is_late(key) {
+            if let Some(pending_connection) = self.pending_connections.try_remove(key) {
+                self.tell(pending_connection.port, ConnectionEvent::Late);
+            }
+        }
+    }
+
+    /// Whether a newcomer is late.
+    fn is_late(&self, key: usize) -> bool {
+        match self.pending_connections.get(key) {
+            Some(pending_connection) => pending_connection.age > FIRST_LINE,
+            None => false,
+        }
+    }
+}
+
+/// The shorter time, where none is any.
+fn shorter(one: Option<Duration>, other: Option<Duration>) -> Option<Duration>
+    ensures { result ≡ None → (one ≡ None) × (other ≡ None) }
+{
+    match (one, other) {
+        (Some(one), Some(other)) => Some(one.min(other)),
+        (None, other) => other,
+        (one, None) => one,
+    }
+}
+
+fn read_failed(reason: ErrorKind) -> ConnectionEvent {
+    ConnectionEvent::Failed {
+        named: None,
+        why: StreamError::ReadFault,
+        reason: Some(reason),
+    }
+}

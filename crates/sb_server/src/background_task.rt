@@ -1,0 +1,110 @@
+//! Jobs in threads of their own, and what the thread that began them does meanwhile.
+ghost use Rattle.std.specs.Prelude.{◌≡◌, ◌++◌, ◌∷◌, [], IfOk, Ok, Vec};
+ghost use Rattle.std.specs.Global.{Global as ItsGlobal};
+ghost use Rattle.std.specs.List.{AllZip};
+ghost use Rattle.std.specs.Thread.{IsSend, IsSync};
+
+use sb_workers::Work;
+use std::alloc::{AllocError, Global};
+use std::sync::Wait;
+use std::sync::atomic::{AtomicUsize, Ordering};
+use std::thread::{self, Parker, Threads};
+use std::time::Duration;
+
+/// How many milliseconds pass between two looks of who watches beside a server.
+const PERIOD: u64 = 1_000;
+
+/// How many jobs last, and who waits for their end.
+#[derive(Drop)]
+pub struct ShutdownSignal {
+    left: AtomicUsize,
+    parker: Parker,
+}
+
+impl ShutdownSignal {
+    /// So many jobs.
+    pub(crate) fn new(jobs: usize) -> ShutdownSignal {
+        ShutdownSignal {
+            left: AtomicUsize::new(jobs),
+            parker: Parker::new(),
+        }
+    }
+
+    /// One job less.
+    fn leave(&self) {
+        if self.left.fetch_sub(1, Ordering::SeqCst) <= 1 {
+            self.parker.unpark();
+        }
+    }
+
+    /// Waits for a while. Whether a job lasts.
+    pub fn lasts<R: Wait>(&self, rt: &R) -> bool {
+        if self.left.load(Ordering::SeqCst) > 0 {
+            self.parker.park_timeout(rt, Duration::from_millis(PERIOD));
+        }
+        self.left.load(Ordering::SeqCst) > 0
+    }
+}
+
+/// What the thread that began a server does while others serve.
+pub trait BackgroundTask {
+    /// Runs until the server has ended.
+    fn run<R: Wait>(&self, rt: &R, over: &ShutdownSignal);
+}
+
+/// Nothing is done beside.
+pub struct NoBackgroundTask;
+
+impl BackgroundTask for NoBackgroundTask {
+    fn run<R: Wait>(&self, _rt: &R, _over: &ShutdownSignal) {}
+}
+
+/// Does each job in a thread of its own, and something beside in this one. Each thread is sent one job: one that starts
+/// others for what it was sent gets no proof.
+pub(crate) fn run_beside<
+    J: Drop + Send,
+    D: Drop + Send,
+    W: Work<J, D> + Sync,
+    G: BackgroundTask,
+    R: Threads + Wait + Sync,
+>(
+    rt: &R,
+    alloc: Global,
+    mut jobs: Vec<J>,
+    work: &W,
+    background_task: &G,
+    over: &ShutdownSignal,
+) -> Result<Vec<D>, AllocError>
+    ensures { IfOk result (λ results. AllZip W.does jobs.items results.items) }
+{
+    let Some(job) = jobs.pop() else {
+        background_task.run(rt, over);
+        return Ok(Vec::new(alloc));
+    };
+    let (last, others) = thread::join(
+        rt,
+        move || -> D
+            requires { IsSync R.row × IsSync W.row }
+            ensures { W.does job result }
+        {
+            let done = work.work(rt, job);
+            over.leave();
+            done
+        },
+        move || -> Result<Vec<D>, AllocError>
+            requires { IsSync R.row × IsSync W.row × IsSend J.row × IsSend D.row }
+            ensures { IfOk result (λ results. AllZip W.does jobs.items results.items) }
+        { run_beside(rt, alloc, jobs, work, background_task, over) },
+    );
+    with_last(others, last)
+}
+
+/// These results and a last one.
+fn with_last<D: Drop>(others: Result<Vec<D>, AllocError>, last: D) -> Result<Vec<D>, AllocError>
+    ensures { IfOk result (λ all. (front : Vec D ItsGlobal)
+        × (others ≡ Ok front) × (all.items ≡ front.items ++ last ∷ [])) }
+{
+    let mut all = others?;
+    all.push(last)?;
+    Ok(all)
+}

@@ -1,0 +1,457 @@
+//! A connection and its stream.
+ghost use Rattle.std.specs.Prelude.{◌≡◌, ◌<◌, ◌≤◌, ◌⊎◌, ◌↔◌, [], false, true, length, IfNone, IfOk, IfSome, IsSome, IsSomeAnd, IsTrue, MatchResult, None, Ok, Some, is_some};
+ghost use Rattle.sb_connection.specs.Conversation.{hosting_by};
+ghost use Rattle.std.specs.Duration.{as_nanos};
+ghost use Rattle.sb_connection.specs.History.{MayReceive, SameStreams, Transacts, after_sending};
+ghost use Rattle.sb_connection.specs.Traffic.{Traffic, after_read, after_write};
+ghost use Rattle.sb_server.specs.Carried.{Carries};
+ghost use Rattle.sb_server.specs.Closed.{Leaves};
+ghost use Rattle.sb_server.specs.ClientConnections.{EndsBy, EndsSilent, HasSession, IsBlocked, ReadsOnce, SendsSome, TellsEnd, ends};
+
+use crate::reply_metrics::{MetricsContext, ReplyMetrics};
+use crate::pending_connection::{PendingConnection, HandshakeSettings};
+use crate::socket::Socket;
+use crate::told::Told;
+use mio::{Interest, Registry, Token};
+use sb_connection::{Connection, ConnectionEnd, Doorkeeper, SessionName, Stream, Watch};
+use sb_desk::{Hosting, Stub};
+use sb_wire::StreamError;
+use std::alloc::{AllocError, Global};
+use std::io::{self, ErrorKind};
+use std::rt::Clock;
+use std::sync::Wait;
+use std::time::{Duration, Instant};
+
+/// A client that has a connection.
+pub(crate) struct ClientConnection<H: Hosting, S: Stream + Drop, D: Doorkeeper> {
+    pub(crate) stream: S,
+    /// The client's.
+    pub(crate) port: u16,
+    /// The one that its first line names, if it opens a session.
+    pub(crate) tenant: Option<u32>,
+    pub(crate) connection: Connection<H, D>,
+    /// When its last whole line came, or was answered.
+    pub(crate) heard: Option<Instant>,
+    /// What the newest read found.
+    came: Came,
+    /// A whole line came or was answered in the newest turn.
+    is_active: bool,
+    /// It has a place among those that are served next.
+    pub(crate) is_due: bool,
+    /// The client has told that it sends no more.
+    pub(crate) hung_up: bool,
+    /// Memory ran out for what was read last.
+    pub(crate) is_cut: bool,
+    /// An operator ends its session.
+    pub(crate) is_ended: bool,
+    ghost carries: { Carries (S.traffic stream) connection is_cut },
+}
+
+impl<H: Hosting, S: Stream + Drop, D: Doorkeeper> Drop for ClientConnection<H, S, D> {
+    fn drop(self) {
+        let Self {
+            stream: _,
+            port: _,
+            tenant: _,
+            connection: _,
+            heard: _,
+            came: _,
+            is_active: _,
+            is_due: _,
+            hung_up: _,
+            is_cut: _,
+            is_ended: _,
+        } = self;
+    }
+}
+
+/// What becomes of a connection after its turn.
+#[derive(Clone, Copy)]
+pub(crate) enum Next {
+    /// It waits for its client.
+    Waits,
+    /// There is more to do at once.
+    GoesOn,
+    Ends(ConnectionEnd),
+}
+
+/// What a read found.
+#[derive(Clone, Copy)]
+pub(crate) enum Came {
+    /// None was made, or it is to be made again.
+    Unread,
+    Nothing,
+    /// Bytes: whether a newline was among them, and whether those were all.
+    Bytes { has_line: bool, all: bool },
+}
+
+/// How often a client that has hung up is read in one turn, so that its session is soon closed.
+const LAST_READS: usize = 4;
+
+impl<H: Hosting, S: Stream + Drop, D: Doorkeeper> ClientConnection<H, S, D> {
+    /// The first part of a turn: what comes is read and answered, and nothing is sent. It gives the fault, if there is one.
+    pub(crate) fn take_in<T: Wait, V: Watch, C: Clock>(
+        &mut self,
+        rt: &T,
+        metrics_context: &MetricsContext<'_, V, C>,
+        doorkeeper: &D,
+        buffer: &mut Vec<u8>,
+    ) -> Option<ConnectionEnd>
+        ensures fault { IfSome result (EndsBy (S.traffic self.new.stream) self.new.connection self.new.is_cut) }
+        ensures stays { self.old.connection.attached ≡ true → self.new.connection.attached ≡ true }
+        ensures unsent { self.new.connection.handed ≡ self.old.connection.handed }
+        ensures others { (self.new.tenant ≡ self.old.tenant) × (self.new.is_ended ≡ self.old.is_ended) }
+    {
+        self.is_active = false;
+        if self.is_ended {
+            return None;
+        }
+        for _read in 0..LAST_READS {
+            if let Some(fault) = self.hear(buffer) {
+                return Some(fault);
+            }
+            self.answer(rt, metrics_context, doorkeeper);
+            if !self.has_more() {
+                return None;
+            }
+        }
+        None
+    }
+
+    /// The second part: the replies are sent. What follows.
+    pub(crate) fn give_out(&mut self) -> Next
+        ensures tells { TellsEnd (S.traffic self.new.stream) self.new.connection self.new.is_cut result }
+        ensures ended { self.old.is_ended ≡ true → ends result ≡ true }
+        ensures stays { self.new.connection.attached ≡ self.old.connection.attached }
+        ensures others { self.new.tenant ≡ self.old.tenant }
+    {
+        match self.send() {
+            Some(fault) => Next::Ends(fault),
+            None => self.next(),
+        }
+    }
+
+    /// Whether the client has hung up, and there may be more of it.
+    fn has_more(&self) -> bool {
+        self.hung_up && matches!(self.came, Came::Bytes { .. }) && self.connection.wants_read()
+    }
+
+    /// The tenant whose steps its replies tell of, if there are any to send.
+    pub(crate) fn answered(&self) -> Option<u32>
+        ensures some { 0 < length self.now.connection.pending → result ≡ self.now.tenant }
+        ensures none { self.now.connection.pending ≡ [] → result ≡ None }
+    {
+        if self.connection.wants_write() {
+            self.tenant
+        } else {
+            None
+        }
+    }
+
+    /// Answers what came.
+    fn answer<T: Wait, V: Watch, C: Clock>(&mut self, rt: &T, metrics_context: &MetricsContext<'_, V, C>, doorkeeper: &D)
+        ensures streams { SameStreams self.old.connection self.new.connection }
+        ensures stays { self.old.connection.attached ≡ true → self.new.connection.attached ≡ true }
+        ensures stream { (self.new.stream ≡ self.old.stream) × (self.new.is_cut ≡ self.old.is_cut) }
+        ensures others { (self.new.tenant ≡ self.old.tenant) × (self.new.is_ended ≡ self.old.is_ended) }
+    {
+        let before = self.connection.waiting();
+        let reply_metrics = ReplyMetrics::new(metrics_context, self.port);
+        self.connection.advance(rt, &reply_metrics, doorkeeper);
+        self.is_active |= match self.came {
+            Came::Bytes { has_line, .. } => has_line,
+            _ => self.connection.waiting() < before,
+        };
+    }
+
+    /// What follows on a turn.
+    fn next(&self) -> Next
+        ensures tells { TellsEnd (S.traffic self.now.stream) self.now.connection self.now.is_cut result }
+        ensures ended { self.now.is_ended ≡ true → ends result ≡ true }
+    {
+        if self.connection.has_failed() {
+            return Next::Ends(out_of_memory());
+        }
+        if self.connection.is_done() {
+            return Next::Ends(ConnectionEnd::Well);
+        }
+        if self.is_ended {
+            return Next::Ends(ConnectionEnd::ByOperator);
+        }
+        if self.connection.wants_write() {
+            return Next::Waits;
+        }
+        match self.came {
+            Came::Nothing | Came::Bytes { all: true, .. } if self.connection.wants_read() => {
+                Next::Waits
+            }
+            _ => Next::GoesOn,
+        }
+    }
+
+    /// Reads once, if the connection wants it. It gives the fault, if there is one.
+    fn hear(&mut self, buffer: &mut Vec<u8>) -> Option<ConnectionEnd>
+        ensures fault { IfSome result (EndsBy (S.traffic self.new.stream) self.new.connection self.new.is_cut) }
+        ensures reads { MayReceive self.old.connection → self.old.connection.pending ≡ [] → self.old.is_cut ≡ false
+            → ReadsOnce (S.traffic self.old.stream) (S.traffic self.new.stream) }
+        ensures stays { self.new.connection.attached ≡ self.old.connection.attached }
+        ensures unsent { self.new.connection.handed ≡ self.old.connection.handed }
+        ensures others { (self.new.tenant ≡ self.old.tenant) × (self.new.is_ended ≡ self.old.is_ended) }
+    {
+        if self.is_cut {
+            return Some(out_of_memory());
+        }
+        self.came = Came::Unread;
+        if !self.connection.wants_read() {
+            return None;
+        }
+        match self.stream.read(buffer) {
+            Ok(count) => match take_bytes(&mut self.connection, buffer, count, self.hung_up) {
+                Ok(came) => {
+                    self.came = came;
+                    None
+                }
+                Err(_) => {
+                    self.is_cut = true;
+                    Some(out_of_memory())
+                }
+            },
+            Err(error) => match error.kind() {
+                ErrorKind::WouldBlock => {
+                    self.came = Came::Nothing;
+                    None
+                }
+                ErrorKind::Interrupted => None,
+                why => Some(fault(StreamError::ReadFault, why)),
+            },
+        }
+    }
+
+    /// Sends what waits, as far as the client takes it. It gives the fault, if there is one.
+    fn send(&mut self) -> Option<ConnectionEnd>
+        ensures sends { SendsSome self.old.connection self.new.connection }
+        ensures all { IfNone result ((self.new.connection.pending ≡ []) ⊎ IsBlocked (S.traffic self.new.stream)) }
+        ensures fault { IfSome result (EndsBy (S.traffic self.new.stream) self.new.connection self.new.is_cut) }
+        ensures others { (self.new.is_cut ≡ self.old.is_cut) × (self.new.is_ended ≡ self.old.is_ended) × (self.new.tenant ≡ self.old.tenant) }
+    {
+        while self.connection.wants_write() {
+            match self.send_once() {
+                Ok(0) => return Some(fault(StreamError::WriteFault, ErrorKind::WriteZero)),
+                Ok(_) => {}
+                Err(error) => {
+                    return match error.kind() {
+                        ErrorKind::WouldBlock => None,
+                        why => Some(fault(StreamError::WriteFault, why)),
+                    };
+                }
+            }
+        }
+        None
+    }
+
+    /// Sends once.
+    fn send_once(&mut self) -> io::Result<usize>
+        ensures count { IfOk result (λ count. count ≤ length self.old.connection.pending) }
+        ensures sent { MatchResult result
+            (λ count. self.new.connection ≡ after_sending self.old.connection count)
+            (λ _. self.new.connection ≡ self.old.connection) }
+        ensures traffic { S.traffic self.new.stream
+            ≡ after_write (S.traffic self.old.stream) self.old.connection.pending result }
+        ensures others { (self.new.is_cut ≡ self.old.is_cut) × (self.new.is_ended ≡ self.old.is_ended) × (self.new.tenant ≡ self.old.tenant) }
+    {
+        self.connection.send(&mut self.stream)
+    }
+
+    /// Takes note of its newest turn at this time.
+    pub(crate) fn note_turn(&mut self, now: Option<Instant>)
+        ensures { (self.new.connection ≡ self.old.connection) × (self.new.tenant ≡ self.old.tenant) }
+    {
+        if self.is_active {
+            self.heard = now;
+        }
+    }
+
+    /// How a connection ends that has been silent for too long, if it has.
+    pub(crate) fn silence(&self, now: Instant, limits: &Limits) -> Option<ConnectionEnd>
+        ensures ending { IfSome result (EndsSilent limits.now self.now.heard now) }
+        ensures transaction { result ≡ Some ConnectionEnd.IdleTransaction → Transacts self.now.connection true }
+        ensures due { self.now.is_due ≡ true → result ≡ None }
+        ensures limits { limits.now.idle ≡ None → limits.now.idle_transaction ≡ None → result ≡ None }
+    {
+        if self.is_due {
+            return None;
+        }
+        let silent = now.duration_since(self.heard?);
+        if is_over(silent, limits.idle_transaction) && self.has_transaction() {
+            return Some(ConnectionEnd::IdleTransaction);
+        }
+        if is_over(silent, limits.idle) {
+            return Some(ConnectionEnd::Idle);
+        }
+        None
+    }
+
+    /// Whether it has this session.
+    pub(crate) fn has_session(&self, named: SessionName) -> bool
+        ensures { IsTrue result ↔ HasSession self.now.connection named }
+    {
+        match self.connection.session() {
+            Some(own) => own.tenant == named.tenant && own.session == named.session,
+            None => false,
+        }
+    }
+
+    /// Whether its session has a transaction.
+    pub(crate) fn has_transaction(&self) -> bool
+        ensures attached { IsTrue result → self.now.connection.attached ≡ true }
+        ensures session { self.now.connection.attached ≡ true → Transacts self.now.connection result }
+    {
+        self.connection.transacts()
+    }
+
+    /// Closes the connection with its session, whose receipts are left.
+    pub(crate) fn leave<T: Wait, V: Watch>(
+        self,
+        rt: &T,
+        watch: &V,
+        ending: ConnectionEnd,
+    ) -> Option<Stub>
+        ensures leaves { Leaves D.policy (S.traffic self.stream) self.connection self.is_cut result }
+        ensures session { self.connection.attached ≡ is_some result }
+    {
+        let Self {
+            stream: _closed_last,
+            port,
+            tenant: _,
+            connection,
+            heard: _,
+            came: _,
+            is_active: _,
+            is_due: _,
+            hung_up: _,
+            is_cut: _,
+            is_ended: _,
+        } = self;
+        connection.close(rt, &Told { watch, port }, ending)
+    }
+}
+
+impl<H: Hosting, D: Doorkeeper> ClientConnection<H, Socket, D> {
+    /// That of a newcomer. Where memory runs out for its bytes, its first turn ends it.
+    pub(crate) fn begin(
+        alloc: Global,
+        host: H,
+        by: HandshakeSettings,
+        pending_connection: PendingConnection,
+        tenant: Option<u32>,
+        heard: Option<Instant>,
+    ) -> ClientConnection<H, Socket, D>
+        requires { by.keyed ≡ D.policy.keyed }
+        ensures host { result.connection.hosted ≡ hosting_by by.keyed by.first (H.tenants host) }
+        ensures of { (result.tenant ≡ tenant) × (result.port ≡ pending_connection.port) × (result.is_ended ≡ false) }
+    {
+        let port = pending_connection.port;
+        let is_cut = pending_connection.is_cut;
+        let (socket, bytes) = pending_connection.into_parts();
+        let mut connection = Connection::new(alloc, host, by.first, by.keyed);
+        let is_lost = connection.receive(bytes.as_slice()).is_err();
+        ClientConnection {
+            stream: socket,
+            port,
+            tenant,
+            connection,
+            heard,
+            came: Came::Unread,
+            is_active: false,
+            is_due: false,
+            hung_up: false,
+            is_cut: is_cut || is_lost,
+            is_ended: false,
+        }
+    }
+
+    /// Has it reported from now on, under this token.
+    pub(crate) fn register(&mut self, registry: &Registry, token: Token) -> io::Result<()> {
+        self.stream
+            .register(registry, token, Interest::READABLE | Interest::WRITABLE)
+    }
+}
+
+/// How long a connection may be silent.
+#[derive(Clone, Copy)]
+pub(crate) struct Limits {
+    pub(crate) idle: Option<Duration>,
+    /// In a transaction.
+    pub(crate) idle_transaction: Option<Duration>,
+}
+
+impl Limits {
+    /// Whether there are any.
+    pub(crate) fn are_set(&self) -> bool
+        ensures { IsTrue result ↔ (IsSome self.now.idle ⊎ IsSome self.now.idle_transaction) }
+    {
+        self.idle.is_some() || self.idle_transaction.is_some()
+    }
+}
+
+/// Whether a limit is reached.
+fn is_over(silent: Duration, limit: Option<Duration>) -> bool
+    ensures { IsTrue result ↔ IsSomeAnd limit (λ limit. as_nanos limit ≤ as_nanos silent) }
+{
+    match limit {
+        Some(limit) => silent.as_nanos() >= limit.as_nanos(),
+        None => false,
+    }
+}
+
+/// Has a connection take what a read found, and tells what that was. There may be no memory for it.
+fn take_bytes<H: Hosting, D: Doorkeeper>(
+    connection: &mut Connection<H, D>,
+    buffer: &[u8],
+    count: usize,
+    hung_up: bool,
+) -> Result<Came, AllocError>
+    requires bound { count ≤ length buffer.now }
+    requires may { MayReceive connection.old }
+    ensures carries { (t : Traffic) → Carries t connection.old false → MatchResult result
+        (λ _. Carries (after_read t buffer.now (Ok count)) connection.new false)
+        (λ _. Carries (after_read t buffer.now (Ok count)) connection.new true) }
+    ensures stays { connection.new.attached ≡ connection.old.attached }
+    ensures unsent { connection.new.handed ≡ connection.old.handed }
+{
+    if count > 0 {
+        let bytes = &buffer[..count];
+        connection.receive(bytes)?;
+        return Ok(Came::Bytes {
+            has_line: bytes.contains(&b'\n'),
+            all: count < buffer.len() && !hung_up,
+        });
+    }
+    // a read into no room says nothing
+    if buffer.is_empty() {
+        return Ok(Came::Unread);
+    }
+    connection.receive_end();
+    Ok(Came::Bytes {
+        has_line: false,
+        all: true,
+    })
+}
+
+fn out_of_memory() -> ConnectionEnd
+    ensures { result ≡ ConnectionEnd.Fault StreamError.NoMemory None }
+{
+    ConnectionEnd::Fault {
+        why: StreamError::NoMemory,
+        reason: None,
+    }
+}
+
+fn fault(why: StreamError, reason: ErrorKind) -> ConnectionEnd
+    ensures { result ≡ ConnectionEnd.Fault why (Some reason) }
+{
+    ConnectionEnd::Fault {
+        why,
+        reason: Some(reason),
+    }
+}

@@ -1,0 +1,184 @@
+//! A connection whose first line isn't known yet.
+ghost use Rattle.std.specs.Prelude.{◌≡◌, [], false, IfOk, IfSome};
+ghost use Rattle.sb_connection.specs.Conversation.{hosting_by};
+ghost use Rattle.sb_connection.specs.Routing.{Routes};
+ghost use Rattle.sb_connection.specs.Traffic.{gave, no_traffic, took};
+ghost use Rattle.sb_server.specs.Carried.{Hears};
+ghost use Rattle.sb_server.specs.ReplyMetrics.{HeardBy};
+ghost use Rattle.sb_server.specs.Sockets.{traffic};
+
+use crate::door::Client;
+use crate::socket::Socket;
+use mio::{Interest, Registry, Token};
+use sb_connection::{Destination, Stream, route_of};
+use std::alloc::{AllocFailed, Global};
+use std::io::{self, ErrorKind};
+
+/// A connection before its first line is answered.
+pub(crate) struct PendingConnection {
+    pub(crate) socket: Socket,
+    /// The client's.
+    pub(crate) port: u16,
+    /// All that came.
+    pub(crate) bytes: Vec<u8>,
+    /// How often it was seen that its first line hasn't come, about once a second.
+    pub(crate) age: u32,
+    /// It has been handed to the system to be reported.
+    pub(crate) is_watched: bool,
+    /// Memory ran out for what was read last.
+    pub(crate) is_cut: bool,
+    ghost whole: { Hears is_cut (gave (traffic socket)) bytes.items },
+    ghost fresh: { took (traffic socket) ≡ [] },
+}
+
+impl Drop for PendingConnection {
+    fn drop(self) {
+        let Self {
+            socket: _,
+            port: _,
+            bytes: _,
+            age: _,
+            is_watched: _,
+            is_cut: _,
+        } = self;
+    }
+}
+
+/// What is known of a newcomer.
+#[derive(Clone, Copy)]
+pub(crate) enum HandshakeRead {
+    Destination(Destination),
+    /// It went without a byte.
+    Left,
+    Fault(ErrorKind),
+    NoMemory,
+}
+
+/// By what first lines are read.
+#[derive(Clone, Copy)]
+pub(crate) struct HandshakeSettings {
+    /// The number of the host's first tenant, as lines name it.
+    pub(crate) first: u32,
+    pub(crate) tenants: u32,
+    /// A first line brings a key.
+    pub(crate) keyed: bool,
+}
+
+/// How often a newcomer is read at most in one turn.
+const MOST_READS: usize = 16;
+
+impl PendingConnection {
+    /// That of a client who has just come in. One for which there is no memory is given back.
+    pub(crate) fn of(alloc: Global, client: Client) -> Result<Box<PendingConnection>, AllocFailed<PendingConnection>>
+        ensures { IfOk result (λ pending_connection. pending_connection.value.port ≡ client.port) }
+    {
+        let Client { stream, port } = client;
+        let pending_connection = PendingConnection::new(alloc, Socket::new(stream), port);
+        Box::new(alloc, pending_connection)
+    }
+
+    fn new(alloc: Global, socket: Socket, port: u16) -> PendingConnection
+        requires { traffic socket ≡ no_traffic }
+        ensures { result.port ≡ port }
+    {
+        PendingConnection {
+            socket,
+            port,
+            bytes: Vec::new(alloc),
+            age: 0,
+            is_watched: false,
+            is_cut: false,
+        }
+    }
+
+    /// Its socket, and what came.
+    pub(crate) fn into_parts(self) -> (Socket, Vec<u8>)
+        ensures { (result.0 ≡ self.socket) × (result.1 ≡ self.bytes) }
+    {
+        let Self {
+            socket,
+            port: _,
+            bytes,
+            age: _,
+            is_watched: _,
+            is_cut: _,
+        } = self;
+        (socket, bytes)
+    }
+
+    /// Reads until its first line is known, or nothing more is there.
+    pub(crate) fn hear(&mut self, buffer: &mut Vec<u8>, by: HandshakeSettings) -> HandshakeRead
+        ensures { HeardBy (hosting_by by.keyed by.first by.tenants) self.new.bytes.items self.new.is_cut result }
+    {
+        for _read in 0..MOST_READS {
+            if let Some(heard) = self.hear_once(buffer, by) {
+                return heard;
+            }
+        }
+        HandshakeRead::Destination(Destination::Unknown)
+    }
+
+    /// Reads once. None where it is to be read again.
+    fn hear_once(&mut self, buffer: &mut Vec<u8>, by: HandshakeSettings) -> Option<HandshakeRead>
+        ensures { IfSome result (HeardBy (hosting_by by.keyed by.first by.tenants) self.new.bytes.items self.new.is_cut) }
+    {
+        if self.is_cut {
+            return Some(HandshakeRead::NoMemory);
+        }
+        match self.read(buffer) {
+            Ok(_) if self.is_cut => Some(HandshakeRead::NoMemory),
+            Ok(0) if self.bytes.is_empty() => Some(HandshakeRead::Left),
+            Ok(count) => match self.route(count == 0, by) {
+                Destination::Unknown => None,
+                known => Some(HandshakeRead::Destination(known)),
+            },
+            Err(error) => match error.kind() {
+                ErrorKind::WouldBlock => Some(HandshakeRead::Destination(Destination::Unknown)),
+                ErrorKind::Interrupted => None,
+                why => Some(HandshakeRead::Fault(why)),
+            },
+        }
+    }
+
+    /// Where it goes by what has come of it, and whether no more comes.
+    fn route(&self, has_ended: bool, by: HandshakeSettings) -> Destination
+        ensures { Routes (hosting_by by.keyed by.first by.tenants) self.now.bytes.items has_ended result }
+    {
+        route_of(
+            self.bytes.as_slice(),
+            has_ended,
+            by.first,
+            by.tenants,
+            by.keyed,
+        )
+    }
+
+    /// Reads once, and keeps what came.
+    fn read(&mut self, buffer: &mut Vec<u8>) -> io::Result<usize>
+        requires { self.old.is_cut ≡ false }
+    {
+        let answer = self.socket.read(buffer);
+        if let Ok(count) = answer {
+            self.is_cut = self.bytes.extend_from_slice(&buffer[..count]).is_err();
+        }
+        answer
+    }
+
+    /// One look more.
+    pub(crate) fn grow_older(&mut self) {
+        self.age = self.age.saturating_add(1);
+    }
+
+    /// Has it reported under this token.
+    pub(crate) fn watch(&mut self, registry: &Registry, token: Token) -> io::Result<()> {
+        self.is_watched = true;
+        self.socket.register(registry, token, Interest::READABLE)
+    }
+
+    /// Has it reported no more.
+    pub(crate) fn unwatch(&mut self, registry: &Registry) {
+        if self.is_watched {
+            self.socket.deregister(registry);
+        }
+    }
+}

@@ -1,0 +1,12 @@
+use denote.Param.Send.{arg_sync, param_sync, sendable}
+use Rattle.std.proofs.Crossing.{crosses}
+use Rattle.sb_durable.proofs.Sending.{opened_send}
+use Rattle.starhost.proofs.Sending.{recorder_sync}
+use Rattle.starhost.proofs.flushing.Flusher.TheSendSync as flusher
+use Rattle.starhost.proofs.event_log.EventLog.TheSendSync as log
+use Rattle.starhost.proofs.recording.JournalHook.TheSendSync as recording
+use Rattle.starhost.proofs.server_context.ServerContext.record.Goals as goal
+
+-- the threads share the recorder, the log and what syncs
+pub serve_with-requires-sync-K : goal.serve_with-requires-sync-K
+serve_with-requires-sync-K g c = λ κs bounds. search (param_sync, arg_sync, sendable, crosses, recording.the_sync, recorder_sync, opened_send, log.the_sync, flusher.the_sync) depth 60
