@@ -13,7 +13,7 @@ import sys
 from bench.harness import TOP
 
 ALERTS, DASHBOARD = TOP / "examples/alerts.yml", TOP / "examples/dashboard.json"
-SOURCE = TOP / "crates/sb_status/src/marks.rt"
+SOURCE = TOP / "crates/sb_status/src/markup_texts.rt"
 METRIC = re.compile(r"\b((?:filgwesha|process)_[a-z_]+)")
 SELECTED = re.compile(r"\b((?:filgwesha|process)_[a-z_]+)\{([^}]*)\}")
 # those that Prometheus adds, and that a histogram has

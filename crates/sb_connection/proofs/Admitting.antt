@@ -8,8 +8,8 @@ use Rattle.sb_connection.specs.Admission.{BringsKey, LetsIn}
 use Rattle.sb_connection.specs.Conversation.{Hosted}
 use Rattle.sb_connection.specs.History.{History, SameStreams}
 use Rattle.sb_connection.specs.Policies.{Admits}
-use Rattle.sb_connection.specs.Responding.{Opened, Greets, Responds, RespondsBy, State, over}
-use Rattle.sb_connection.specs.Routing.{Begins}
+use Rattle.sb_connection.specs.Responses.{Opened, Greets, Responds, RespondsBy, State, over}
+use Rattle.sb_connection.specs.Routes.{Begins}
 use Rattle.sb_connection.proofs.Whole.{turned}
 
 pub none_from : {X : Type 0} (o : Option X) → is_some o ≡ false → o ≡ None

@@ -2,9 +2,9 @@
 use Rattle.std.proofs.Common.{◌≡◌, inl, inr, ℕ, Bool, true, List, [], ◌∷◌, ◌++◌}
 use Rattle.sb_wire.specs.Lines.{Completes, Piece, line}
 use Rattle.sb_connection.specs.Conversation.{Hosted, named_by}
-use Rattle.sb_connection.specs.Routing.{Begins, Routes, RoutesBy}
-use Rattle.sb_connection.specs.declared.routing.Destination.{Destination}
-use Rattle.sb_connection.specs.declared.routing.Destination.TheVariants.{Unknown, To, Away}
+use Rattle.sb_connection.specs.Routes.{Begins, Routes, RoutesBy}
+use Rattle.sb_connection.specs.declared.route.Destination.{Destination}
+use Rattle.sb_connection.specs.declared.route.Destination.TheVariants.{Unknown, To, Away}
 
 -- bytes that complete a line begin with it
 pub begins_line : (bytes taken rest : List ℕ) (has_ended : Bool) (old new : Piece) → old ≡ line [] → bytes ≡ taken ++ rest → Completes old taken (new ∷ []) (line []) → Begins bytes has_ended new

@@ -14,8 +14,8 @@ use Rattle.sb_connection.specs.Exchanges.{said_text}
 use Rattle.sb_connection.specs.History.{AreAll, AreComplete, AreFirstLines, History, IsSessionOf, IsSettled, MayReceive, Stands, Tells, Transacts, after_end, after_receiving, after_sending, nothing_yet}
 use Rattle.sb_connection.specs.ProtocolState.{Adds, AddsLast, Answers, Finishes, Holds, IsNamedBy, Steps, Talking, ended, last_state, named_after, named_first, naming}
 use Rattle.sb_connection.specs.Policies.{Admits}
-use Rattle.sb_connection.specs.Responding.{Opened, Greets, Responds, RespondsBy, State, over}
-use Rattle.sb_connection.specs.declared.greeting.SessionName.{SessionName}
+use Rattle.sb_connection.specs.Responses.{Opened, Greets, Responds, RespondsBy, State, over}
+use Rattle.sb_connection.specs.declared.first_line.SessionName.{SessionName}
 use Rattle.sb_connection.specs.Admission.{BringsKey}
 use Rattle.sb_connection.specs.Standing.{is_open}
 use Rattle.sb_connection.proofs.Admitting.{all_keep_session, keeps_session, last_cases, none_before, none_from, some_from}

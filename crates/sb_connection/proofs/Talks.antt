@@ -12,7 +12,7 @@ use Rattle.sb_connection.specs.Conversation.{Hosted}
 use Rattle.sb_connection.specs.Exchanges.{AreCalls, Exchange, IsCall, answered, ends, has_ended, line_in, overlong, receipt_of, receipts_of, said_text, unbegun}
 use Rattle.sb_connection.specs.Transactions.{transacts_behind, transacts_from}
 use Rattle.sb_connection.specs.Policies.{Admits}
-use Rattle.sb_connection.specs.Responding.{Exchanges, Moves, Opened, Responds, State, over}
+use Rattle.sb_connection.specs.Responses.{Exchanges, Moves, Opened, Responds, State, over}
 
 pub by_cases : {A : Type 0} (b : Bool) → (b ≡ true → A) → (b ≡ false → A) → A
 by_cases true f g = f refl

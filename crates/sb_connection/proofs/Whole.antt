@@ -11,11 +11,11 @@ use Rattle.sb_wire.specs.declared.refusal.WireRefusal.TheVariants as wire
 use Rattle.sb_desk.specs.Calls.{Attached, Session}
 use Rattle.sb_desk.specs.declared.stub.Stub.{Stub}
 use Rattle.sb_connection.specs.Conversation.{Hosted, IsAdmitted, Talks, TurnsAway, TurnsAwayFrom, TurnsAwayLine, TurnsAwayVisitor, KeyHandshake, attach_lines, named_by, named_in, named_of, tenant_at, visitor_in, visitor_of, welcome}
-use Rattle.sb_connection.specs.declared.greeting.SessionName.{SessionName}
+use Rattle.sb_connection.specs.declared.first_line.SessionName.{SessionName}
 use Rattle.sb_connection.specs.Exchanges.{Exchange, IsClosed, has_ended, line_in, receipts_of, said_text}
 use Rattle.sb_connection.specs.Transactions.{transacts_from}
 use Rattle.sb_connection.specs.Policies.{Admits}
-use Rattle.sb_connection.specs.Responding.{Opened, Greets, GreetsBy, GreetsLine, GreetsVisitor, LeavesSome, Responds, State, is_over, over}
+use Rattle.sb_connection.specs.Responses.{Opened, Greets, GreetsBy, GreetsLine, GreetsVisitor, LeavesSome, Responds, State, is_over, over}
 use Rattle.sb_connection.proofs.Closing.{left_receipts}
 use Rattle.sb_connection.proofs.Talks.{MovesBy, calls}
 

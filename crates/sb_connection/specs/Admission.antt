@@ -4,7 +4,7 @@ use Rattle.sb_wire.specs.Lines.{Piece}
 use Rattle.sb_connection.specs.Conversation.{KeyHandshake, visitor_in}
 use Rattle.sb_connection.specs.History.{History}
 use Rattle.sb_connection.specs.Policies.{Admits}
-use Rattle.sb_connection.specs.Routing.{Begins}
+use Rattle.sb_connection.specs.Routes.{Begins}
 
 -- the first line of what came names the tenant, and brings a key that opens it
 pub record BringsKey (admits : Admits) (h : History) : Type 0 where

@@ -14,7 +14,7 @@ use Rattle.sb_desk.specs.declared.desk.AttachError.{AttachError}
 use Rattle.sb_desk.specs.declared.desk.AttachError.TheVariants as attach
 use Rattle.sb_desk.specs.Calls.{Attached}
 use Rattle.sb_desk.specs.declared.stub.Stub.{Stub}
-use Rattle.sb_connection.specs.declared.greeting.SessionName.{SessionName}
+use Rattle.sb_connection.specs.declared.first_line.SessionName.{SessionName}
 use Rattle.sb_connection.specs.declared.serve.Served.{Served}
 use Rattle.sb_connection.specs.Policies.{Admits, anyone}
 use Rattle.sb_connection.specs.Exchanges.{AreCalls, AreReceipts, Exchange, has_ended, line_in, said_text}

@@ -8,7 +8,7 @@ use Rattle.sb_connection.specs.Conversation.{Hosted, Talks, named_by, welcome}
 use Rattle.sb_connection.specs.Exchanges.{Exchange, line_in, said_text}
 use Rattle.sb_connection.specs.Transactions.{transacts_from}
 use Rattle.sb_connection.specs.Policies.{Admits}
-use Rattle.sb_connection.specs.declared.greeting.SessionName.{SessionName}
+use Rattle.sb_connection.specs.declared.first_line.SessionName.{SessionName}
 use Rattle.sb_connection.specs.Standing.{is_open}
 
 pub record History : Type 0 where

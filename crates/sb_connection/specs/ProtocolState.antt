@@ -7,8 +7,8 @@ use Rattle.sb_connection.specs.declared.state.State as stands
 use Rattle.sb_connection.specs.History.{History, IsSettled, SameStreams, Tells}
 use Rattle.sb_connection.specs.Conversation.{named_by}
 use Rattle.sb_connection.specs.Policies.{Admits}
-use Rattle.sb_connection.specs.Responding.{Opened, Responds, State, over}
-use Rattle.sb_connection.specs.declared.greeting.SessionName.{SessionName}
+use Rattle.sb_connection.specs.Responses.{Opened, Responds, State, over}
+use Rattle.sb_connection.specs.declared.first_line.SessionName.{SessionName}
 use Rattle.sb_connection.specs.Admission.{LetsIn}
 
 -- its history, the line that stands open, and the session

@@ -8,8 +8,8 @@ ghost use Rattle.sb_connection.specs.Standing.{is_open};
 ghost use Rattle.sb_connection.specs.Traffic.{after_write};
 
 use crate::admission::Doorkeeper;
-use crate::ending::ConnectionEnd;
-use crate::greeting::SessionName;
+use crate::connection_end::ConnectionEnd;
+use crate::first_line::SessionName;
 use crate::protocol_state::ProtocolState;
 use crate::serve::{close, tell_end};
 use crate::state::State;

@@ -4,7 +4,7 @@ ghost use Rattle.sb_connection.specs.Conversation.{hosting, tenant_at};
 ghost use Rattle.sb_desk.specs.Calls.{Attached};
 
 use crate::admission::Doorkeeper;
-use crate::greeting::{SessionName, tenant_at};
+use crate::first_line::{SessionName, tenant_at};
 use sb_desk::{AttachError, Hosting};
 use std::alloc::Global;
 use std::marker::{Model, PhantomData};
@@ -19,7 +19,7 @@ pub(crate) struct Pass<D: Doorkeeper> {
 
 impl<D: Doorkeeper> Model for Pass<D> {
     ghost use Rattle.sb_connection.specs.Passes.{IsAdmissible};
-    ghost use Rattle.sb_connection.specs.declared.greeting.SessionName.{SessionName};
+    ghost use Rattle.sb_connection.specs.declared.first_line.SessionName.{SessionName};
 
     ghost Value = { SessionName };
 

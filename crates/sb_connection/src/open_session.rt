@@ -2,7 +2,7 @@
 ghost use Rattle.std.specs.Prelude.{◌≡◌, None, Some, IfErr, MatchOption, OnOk};
 ghost use Rattle.sb_desk.specs.Calls.{AnswersOnce, is_ended};
 ghost use Rattle.sb_desk.specs.Stubs.{LeavesStub};
-ghost use Rattle.sb_connection.specs.Responding.{AnswersLine, opened};
+ghost use Rattle.sb_connection.specs.Responses.{AnswersLine, opened};
 
 use crate::caller::SessionCaller;
 use crate::transactions::transacts_after;
@@ -20,7 +20,7 @@ pub(crate) struct OpenSession<S: Calling> {
 }
 
 impl<S: Calling> Model for OpenSession<S> {
-    ghost use Rattle.sb_connection.specs.Responding.{Opened};
+    ghost use Rattle.sb_connection.specs.Responses.{Opened};
 
     ghost Value = { Opened };
 

@@ -2,16 +2,16 @@
 ghost use Rattle.std.specs.Prelude.{IfSome};
 ghost use Rattle.sb_connection.specs.Conversation.{ServesOne};
 ghost use Rattle.sb_connection.specs.Exchanges.{IsClosed};
-ghost use Rattle.sb_connection.specs.Responding.{LeavesSome};
+ghost use Rattle.sb_connection.specs.Responses.{LeavesSome};
 ghost use Rattle.sb_wire.specs.Stream.{MayFail, OnWriteFault};
 
 use crate::admission::Open;
-use crate::ending::ConnectionEnd;
+use crate::connection_end::ConnectionEnd;
 use crate::entrance::Entrance;
-use crate::greeting::{SessionName, number_of};
+use crate::first_line::{SessionName, number_of};
 use crate::open_session::OpenSession;
-use crate::room::steps_left;
-use crate::talking::Talk;
+use crate::trail_room::steps_left;
+use crate::conversation::Talk;
 use crate::watch::{ConnectionEvent, NoWatch, Watch};
 use sb_desk::{Calling, Hosting, Stub};
 use sb_wire::{Sink, Source, StreamError, answer_stream};

@@ -1,9 +1,9 @@
 //! What is told of connections while they are served.
 ghost use Rattle.std.specs.Prelude.{◌≡◌};
 ghost use Rattle.sb_wire.specs.Seen.{piece_seen};
-ghost use Rattle.sb_connection.specs.Watching.{is_warning, told_line};
+ghost use Rattle.sb_connection.specs.Events.{is_warning, told_line};
 
-use crate::greeting::SessionName;
+use crate::first_line::SessionName;
 use sb_desk::AttachError;
 use sb_tenant::{OPEN, Reply};
 use sb_wire::{Piece, StreamError, WireRefusal};
@@ -148,7 +148,7 @@ pub struct Answered<'a> {
 }
 
 impl<'a> Answered<'a> {
-    ghost use Rattle.sb_connection.specs.Telling.{line_of};
+    ghost use Rattle.sb_connection.specs.ToldAnswers.{line_of};
 
     /// What a line was answered, which may be the first one of a connection.
     pub(crate) fn new(

@@ -4,7 +4,7 @@ use Rattle.std.proofs.lemmas.List.{append-nil}
 use Rattle.sb_durable.specs.Blocks.{Stands, IsBeforeOrAfter}
 use Rattle.sb_durable.specs.Records.{Entry, entry_bytes, bytes_of}
 use Rattle.sb_durable.specs.Journal.{head_bytes, contents_of, all_of, Keeps}
-use Rattle.sb_durable.specs.declared.head.Head.{Head}
+use Rattle.sb_durable.specs.declared.journal_header.Head.{Head}
 
 pub bytes-push : (entries : List Entry) (entry : Entry) → bytes_of (entries ++ entry ∷ []) ≡ bytes_of entries ++ entry_bytes entry
 bytes-push [] entry = append-nil (entry_bytes entry)

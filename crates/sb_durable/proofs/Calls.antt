@@ -7,8 +7,8 @@ use Rattle.std.proofs.lemmas.Option.{get_or_from_slice_get, slice_get-map}
 use Rattle.sb_desk.specs.Calls.{Session}
 use Rattle.sb_desk.specs.declared.stub.Stub.{Stub}
 use Rattle.sb_durable.specs.Records.{Entry as Record}
-use Rattle.sb_durable.specs.Playing.{AreClosed, Becomes, Begins, IsClosed, LeavesPlayed, MakesStep, Playing, PlaysAll, PlaysLine, Stays, none_open, playing_of}
-use Rattle.sb_durable.specs.Keeping.{HasEach}
+use Rattle.sb_durable.specs.Replays.{AreClosed, Becomes, Begins, IsClosed, LeavesPlayed, MakesStep, Playing, PlaysAll, PlaysLine, Stays, none_open, playing_of}
+use Rattle.sb_durable.specs.RecordedTrails.{HasEach}
 
 -- ---- sessions at their places
 

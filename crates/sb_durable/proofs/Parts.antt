@@ -8,19 +8,19 @@ use Rattle.sb_host.specs.Lending.{Lends}
 use Rattle.sb_durable.specs.Log.{IsSpent}
 use Rattle.sb_durable.specs.Records.{Entry as Record}
 use Rattle.sb_durable.specs.Journal.{Has, Keeps, disk_of}
-use Rattle.sb_durable.specs.declared.head.Head.{Head}
+use Rattle.sb_durable.specs.declared.journal_header.Head.{Head}
 use Rattle.sb_tenant.specs.declared.reply.Entry.{Entry}
 use Rattle.sb_tenant.specs.Tenant.{Tenant, IsLegal}
 use Rattle.sb_tenant.specs.Trail.{is_no_memory}
 use Rattle.sb_durable.specs.declared.journal_writer.JournalWriter.{JournalWriter}
 use Rattle.sb_durable.specs.declared.error.JournalError.{JournalError}
-use Rattle.sb_durable.specs.declared.noting.PendingEntry.{PendingEntry}
-use Rattle.sb_durable.specs.declared.noting.EntryReader.{EntryReader}
-use Rattle.sb_durable.specs.declared.noting.ReadReach.{ReadReach}
-use Rattle.sb_durable.specs.declared.noting.ReadReach.TheVariants.{Nowhere, Part as OfPart, End, NoMemory}
-use Rattle.sb_durable.specs.Noting.{note_of, record_of_note, IsFront, IsStaged, NotesBehind, Reads}
+use Rattle.sb_durable.specs.declared.entry_reader.PendingEntry.{PendingEntry}
+use Rattle.sb_durable.specs.declared.entry_reader.EntryReader.{EntryReader}
+use Rattle.sb_durable.specs.declared.entry_reader.ReadReach.{ReadReach}
+use Rattle.sb_durable.specs.declared.entry_reader.ReadReach.TheVariants.{Nowhere, Part as OfPart, End, NoMemory}
+use Rattle.sb_durable.specs.EntryReaders.{note_of, record_of_note, IsFront, IsStaged, NotesBehind, Reads}
 use Rattle.sb_durable.specs.Recording.{Part, entries_of, record_of, records_of, AreAmong, AreOf, Counts, Reaches}
-use Rattle.sb_durable.specs.Keeping.{HasFront, KeepsFront, Stages, StagesBy, StagesFront, StagesNoted, Takes}
+use Rattle.sb_durable.specs.RecordedTrails.{HasFront, KeepsFront, Stages, StagesBy, StagesFront, StagesNoted, Takes}
 
 -- ---- lists of parts
 

@@ -5,7 +5,7 @@ use Rattle.sb_durable.specs.Blocks.{blocks}
 use Rattle.sb_durable.specs.Log.{HasAll, Reads}
 use Rattle.sb_durable.specs.Records.{Entry, bytes_of}
 use Rattle.sb_durable.specs.Journal.{head_bytes, contents_of, all_of, IsAt, Gives}
-use Rattle.sb_durable.specs.declared.head.Head.{Head}
+use Rattle.sb_durable.specs.declared.journal_header.Head.{Head}
 use Rattle.sb_durable.specs.declared.journal.Journal.{Journal}
 use Rattle.sb_durable.proofs.Batches.{contents-push}
 

@@ -9,13 +9,13 @@ use Rattle.sb_durable.specs.Journal.{Gives}
 use Rattle.sb_durable.specs.Records.{Entry as Record, IsEntry, Takes, bytes_of, entry_bytes, entry_of}
 use Rattle.sb_durable.specs.declared.record.Record.{Record as TheRecord}
 use Rattle.std.specs.Borrow.{Bor}
-use Rattle.sb_durable.specs.declared.head.Head.{Head}
+use Rattle.sb_durable.specs.declared.journal_header.Head.{Head}
 use Rattle.sb_tenant.specs.State.{State}
 use Rattle.sb_tenant.specs.Trail.{state_after, state_of}
 use Rattle.sb_cell.specs.Tenants.{Cell, IsSame, hosts, states, trails}
 use Rattle.sb_value.specs.Locks.{sessions}
-use Rattle.sb_durable.specs.Played.{EndsSessions, KeepsUp, PlaysRecord}
-use Rattle.sb_durable.specs.Playing.{PlaysAll}
+use Rattle.sb_durable.specs.ReplayedRecords.{EndsSessions, KeepsUp, PlaysRecord}
+use Rattle.sb_durable.specs.Replays.{PlaysAll}
 use Rattle.sb_durable.specs.Restart.{AreRecords, IsRestarted, Remembers, ended, made_of, own_records, restarted}
 use Rattle.sb_durable.specs.declared.run.Recording.{Recording}
 use Rattle.sb_durable.proofs.Steps.{after-append, hosts_same, leads, remembers_more, same_then}

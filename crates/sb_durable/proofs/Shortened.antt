@@ -7,7 +7,7 @@ use Rattle.std.proofs.lemmas.List.{length-take}
 use Rattle.sb_durable.specs.Blocks.{body, block, blocks, IsContent, IsCutShort, IsEnd, Stands}
 use Rattle.sb_durable.specs.Records.{Entry, bytes_of}
 use Rattle.sb_durable.specs.Journal.{head_bytes, contents_of, all_of, Keeps}
-use Rattle.sb_durable.specs.declared.head.Head.{Head}
+use Rattle.sb_durable.specs.declared.journal_header.Head.{Head}
 
 take_behind : (front rest : List ℕ) (n count : ℕ) → count ≡ length front + n → take count (front ++ rest) ≡ front ++ take n rest
 take_behind [] rest n count is =

@@ -5,7 +5,7 @@ use Rattle.sqlite_disk.specs.declared.Disk.{Ghosts}
 use Rattle.sb_durable.specs.Blocks.{blocks, Stands}
 use Rattle.sb_durable.specs.Log.{HasAll, device_of}
 use Rattle.sb_durable.specs.Records.{Entry, bytes_of}
-use Rattle.sb_durable.specs.declared.head.Head.{Head}
+use Rattle.sb_durable.specs.declared.journal_header.Head.{Head}
 use Rattle.sb_durable.specs.declared.journal.Journal.{Journal}
 
 -- the word FILGJRN1, whose last letter is the version of what lines mean

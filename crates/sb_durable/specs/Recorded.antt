@@ -4,7 +4,7 @@ use Rattle.std.specs.Borrow.{Bor}
 use Rattle.sqlite_disk.specs.declared.Disk.{Ghosts}
 use Rattle.sb_durable.specs.Journal.{Has, Keeps, disk_of}
 use Rattle.sb_durable.specs.Records.{Entry as Record}
-use Rattle.sb_durable.specs.declared.head.Head.{Head}
+use Rattle.sb_durable.specs.declared.journal_header.Head.{Head}
 use Rattle.sb_durable.specs.declared.journal.Journal.{Journal}
 use Rattle.sb_tenant.specs.declared.reply.Answer.{Answer}
 use Rattle.sb_cell.specs.declared.Event.{Event}

@@ -5,7 +5,7 @@ use Rattle.sb_value.specs.Locks.{sessions}
 use Rattle.sqlite_disk.specs.declared.Disk.{Ghosts}
 use Rattle.sb_durable.specs.Journal.{Has}
 use Rattle.sb_durable.specs.Records.{Entry as Record, IsEntry}
-use Rattle.sb_durable.specs.declared.head.Head.{Head}
+use Rattle.sb_durable.specs.declared.journal_header.Head.{Head}
 use Rattle.sb_durable.specs.declared.journal.Journal.{Journal}
 use Rattle.sb_tenant.specs.State.{State, opening, session_at, is_open}
 use Rattle.sb_tenant.specs.Trail.{state_after}

@@ -4,7 +4,7 @@ ghost use Rattle.sb_durable.specs.Log.{HasAll, IsSpent, device_of};
 ghost use Rattle.sb_durable.specs.Records.{Entry, entry_of};
 
 use crate::record::record_bytes;
-use crate::recover::MAX_CONTENT;
+use crate::recovery::MAX_CONTENT;
 use crate::{JournalError, Record, RecordLog};
 use sqlite_disk::Disk;
 use std::alloc::Global;
@@ -27,7 +27,7 @@ impl<D: Disk + Drop> Drop for Journal<D> {
 }
 
 impl<D: Disk> Journal<D> {
-    ghost use Rattle.sb_durable.specs.declared.head.Head.{Head as TheHead};
+    ghost use Rattle.sb_durable.specs.declared.journal_header.Head.{Head as TheHead};
     ghost use Rattle.sb_durable.specs.Journal.{head_bytes, contents_of, all_of, Keeps, Has, IsAt, Gives, disk_of};
 
     /// A journal over a log that has its head already. Nothing waits yet.

@@ -3,11 +3,11 @@ ghost use Rattle.std.specs.Prelude.{◌≡◌, ◌⊎◌, ◌+◌, ◌<◌, ◌�
 ghost use Rattle.sb_durable.specs.Log.{IsSpent};
 ghost use Rattle.sb_durable.specs.Records.{Entry};
 ghost use Rattle.sb_durable.specs.Journal.{Has};
-ghost use Rattle.sb_durable.specs.declared.head.Head.{Head};
-ghost use Rattle.sb_durable.specs.Noting.{record_of_note};
+ghost use Rattle.sb_durable.specs.declared.journal_header.Head.{Head};
+ghost use Rattle.sb_durable.specs.EntryReaders.{record_of_note};
 ghost use Rattle.sb_durable.specs.Recording.{Part, records_of, AreAmong, AreOf, Reaches};
 
-use crate::noting::{PendingEntry, ReadReach, EntryReader};
+use crate::entry_reader::{PendingEntry, ReadReach, EntryReader};
 use crate::{Disk, Journal, JournalError, Record};
 use sb_host::Lending;
 use sb_wire::LINE_LIMIT;
@@ -23,8 +23,8 @@ pub(crate) struct JournalWriter<D: Disk> {
 }
 
 impl<D: Disk> JournalWriter<D> {
-    ghost use Rattle.sb_durable.specs.Noting.{IsStaged};
-    ghost use Rattle.sb_durable.specs.Keeping.{BringsUp, StagesFront, StagesNoted, Takes};
+    ghost use Rattle.sb_durable.specs.EntryReaders.{IsStaged};
+    ghost use Rattle.sb_durable.specs.RecordedTrails.{BringsUp, StagesFront, StagesNoted, Takes};
 
     /// Brings the file up to the trails of these tenants. After want of memory it may be called again.
     pub(crate) fn catch_up<H: Lending, T: Wait>(

@@ -6,7 +6,7 @@ ghost use Rattle.sb_durable.specs.Blocks.{body, blocks, IsContent, IsBeforeOrAft
 ghost use Rattle.sb_durable.specs.Log.{HasAll, IsSpent, device_of, Reads};
 
 use crate::JournalError;
-use crate::recover::{block_at, recover};
+use crate::recovery::{block_at, recover};
 use sqlite_disk::Disk;
 use std::alloc::{AllocError, Global};
 

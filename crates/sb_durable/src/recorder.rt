@@ -1,6 +1,6 @@
 //! What threads share to record what they are about to answer.
 ghost use Rattle.std.specs.Prelude.{◌≡◌, IsTrue, OnOk};
-ghost use Rattle.sb_durable.specs.Keeping.{AreKept, HasEach};
+ghost use Rattle.sb_durable.specs.RecordedTrails.{AreKept, HasEach};
 
 use crate::journal_writer::JournalWriter;
 use crate::{Disk, Journal, JournalError};

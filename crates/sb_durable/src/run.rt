@@ -11,7 +11,7 @@ ghost use Rattle.sb_durable.specs.Recorded.{Adds, IsRecordedAs, MayAdd, Responds
 ghost use Rattle.sb_durable.specs.Restart.{Tells};
 ghost use Rattle.sb_durable.specs.Runs.{AnswersRecorded, RunsRecorded, event_of, records_of};
 
-use crate::noting::ROLLBACK;
+use crate::entry_reader::ROLLBACK;
 use crate::{Disk, Journal, JournalError, Record};
 use sb_cell::{Cell, StepError};
 use sb_tenant::{Answer, Reply};

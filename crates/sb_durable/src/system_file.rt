@@ -2,7 +2,7 @@
 ghost use Rattle.std.specs.Prelude.{◌≡◌, ◌<◌, ◌≤◌, ◌^◌, [], ◌∷◌, length, IfOk};
 ghost use Rattle.sqlite_disk.specs.Events.{settled};
 
-use crate::noted::PendingEntries;
+use crate::pending_entries::PendingEntries;
 use sqlite_disk::{Calls, is_no_room};
 use std::os::fd::AsRawFd;
 use std::os::unix::fs::FileExt;

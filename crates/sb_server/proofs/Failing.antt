@@ -7,8 +7,8 @@ use Rattle.std.specs.declared.io.Error.{Error}
 use Rattle.std.specs.declared.io.ErrorKind.{ErrorKind}
 use Rattle.std.specs.declared.io.ErrorKind.TheVariants.{Interrupted, WouldBlock}
 use Rattle.sb_wire.specs.declared.fault.StreamError.TheVariants.{ReadFault, WriteFault}
-use Rattle.sb_connection.specs.declared.ending.ConnectionEnd.{ConnectionEnd}
-use Rattle.sb_connection.specs.declared.ending.ConnectionEnd.TheVariants.{Fault}
+use Rattle.sb_connection.specs.declared.connection_end.ConnectionEnd.{ConnectionEnd}
+use Rattle.sb_connection.specs.declared.connection_end.ConnectionEnd.TheVariants.{Fault}
 use Rattle.sb_connection.specs.History.{History}
 use Rattle.sb_connection.specs.Traffic.{Call, Traffic, after_read, after_write, blocks, fails, passes, reading_failed, uses_none, writing_failed}
 use Rattle.sb_server.specs.ClientConnections.{EndsBy}

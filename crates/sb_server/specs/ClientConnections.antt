@@ -7,9 +7,9 @@ use Rattle.std.specs.Time.{instant_nanos}
 use Rattle.std.specs.declared.time.Instant.{Instant}
 use Rattle.std.specs.declared.io.Error.{Error}
 use Rattle.sb_wire.specs.declared.fault.StreamError.TheVariants.{ReadFault, WriteFault, NoMemory}
-use Rattle.sb_connection.specs.declared.ending.ConnectionEnd.{ConnectionEnd}
-use Rattle.sb_connection.specs.declared.greeting.SessionName.{SessionName}
-use Rattle.sb_connection.specs.declared.ending.ConnectionEnd.TheVariants.{Well, Fault, Idle, IdleTransaction, ByOperator}
+use Rattle.sb_connection.specs.declared.connection_end.ConnectionEnd.{ConnectionEnd}
+use Rattle.sb_connection.specs.declared.first_line.SessionName.{SessionName}
+use Rattle.sb_connection.specs.declared.connection_end.ConnectionEnd.TheVariants.{Well, Fault, Idle, IdleTransaction, ByOperator}
 use Rattle.sb_connection.specs.declared.state.State.TheVariants.{Failed}
 use Rattle.sb_connection.specs.History.{History, MayReceive}
 use Rattle.sb_connection.specs.Standing.{is_open}

@@ -1,9 +1,9 @@
 -- Machine: what is known of a newcomer by the bytes that came.
 use Rattle.std.specs.Prelude.{◌≡◌, ⊤, ℕ, Bool, true, List, []}
 use Rattle.sb_connection.specs.Conversation.{Hosted}
-use Rattle.sb_connection.specs.Routing.{Routes}
-use Rattle.sb_connection.specs.declared.routing.Destination.{Destination}
-use Rattle.sb_connection.specs.declared.routing.Destination.TheVariants.{Unknown, To, Away}
+use Rattle.sb_connection.specs.Routes.{Routes}
+use Rattle.sb_connection.specs.declared.route.Destination.{Destination}
+use Rattle.sb_connection.specs.declared.route.Destination.TheVariants.{Unknown, To, Away}
 use Rattle.sb_server.specs.declared.pending_connection.HandshakeRead.{HandshakeRead}
 use Rattle.sb_server.specs.declared.pending_connection.HandshakeRead.TheVariants as heard
 

@@ -1,7 +1,7 @@
 -- Promise: the places of a board, and what it shows of lines and sessions.
 use Rattle.std.specs.Prelude.{◌≤◌, ◌<◌, ◌-◌, ◌^◌, ℕ, List, length}
 use Rattle.std.specs.List.Sorted.{IsNonDecreasingBy}
-use Rattle.sb_connection.specs.declared.greeting.SessionName.{SessionName}
+use Rattle.sb_connection.specs.declared.first_line.SessionName.{SessionName}
 use Rattle.sb_server.specs.declared.server_metrics.ServerMetrics.{ServerMetrics}
 use Rattle.sb_server.specs.declared.slow_line.SlowLine.{SlowLine}
 

@@ -1,7 +1,7 @@
 //! A connection whose first line isn't known yet.
 ghost use Rattle.std.specs.Prelude.{◌≡◌, [], false, IfOk, IfSome};
 ghost use Rattle.sb_connection.specs.Conversation.{hosting_by};
-ghost use Rattle.sb_connection.specs.Routing.{Routes};
+ghost use Rattle.sb_connection.specs.Routes.{Routes};
 ghost use Rattle.sb_connection.specs.Traffic.{gave, no_traffic, took};
 ghost use Rattle.sb_server.specs.Carried.{Hears};
 ghost use Rattle.sb_server.specs.ReplyMetrics.{HeardBy};

@@ -6,9 +6,9 @@ use Rattle.std.proofs.lemmas.List.Elements.{All-get_or, All-nil, All-push, All-s
 use Rattle.sb_host.specs.Lending.{Lends}
 use Rattle.sb_host.specs.declared.reading.Tried.{Tried}
 use Rattle.sb_host.specs.declared.reading.Tried.TheVariants.{Held, NoTenant, Read}
-use Rattle.sb_status.specs.Tracing.{AreFoundOf, AreLinesOf, IsLineOf, Traces}
-use Rattle.sb_status.specs.declared.tracing.FoundLines.{FoundLines}
-use Rattle.sb_status.specs.declared.tracing.RuleLines.{RuleLines}
+use Rattle.sb_status.specs.RuleLines.{AreFoundOf, AreLinesOf, IsLineOf, Traces}
+use Rattle.sb_status.specs.declared.rule_lines.FoundLines.{FoundLines}
+use Rattle.sb_status.specs.declared.rule_lines.RuleLines.{RuleLines}
 
 abbrev IsOwn : ℕ → Vec ℕ Global → Type 0
 IsOwn t line = IsLineOf t line.items

@@ -2,11 +2,11 @@
 use Rattle.std.specs.Prelude.{◌≡◌, ℕ, List, ◌∷◌, ◌++◌, true, not}
 use Rattle.std.specs.List.{list_all}
 use Rattle.sb_status.specs.Escape.{escaped, is_markup}
-use Rattle.sb_status.specs.Marks.{mark_text}
+use Rattle.sb_status.specs.MarkupTexts.{mark_text}
 use Rattle.sb_status.specs.Pages.{rendered}
 use Rattle.sb_status.specs.declared.fragment.Fragment.{Fragment}
 use Rattle.sb_status.specs.declared.fragment.Fragment.TheVariants as piece
-use Rattle.sb_status.specs.declared.mark.Mark.{Mark}
+use Rattle.sb_status.specs.declared.markup.Mark.{Mark}
 use Rattle.sb_status.specs.declared.text.Escaping.TheVariants.{Html}
 
 -- no byte of an escaped text is markup

@@ -1,12 +1,12 @@
 pub mod Escape
-pub mod Marks
+pub mod MarkupTexts
 pub mod Pages
 pub mod TenantPages
 pub mod Laws
 pub mod Requests
 pub mod Routes
 pub mod Responses
-pub mod Counting
-pub mod Tracing
-pub mod Viewing
+pub mod TenantCounts
+pub mod RuleLines
+pub mod TenantViews
 pub mod StatisticsCache

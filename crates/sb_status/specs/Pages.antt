@@ -2,7 +2,7 @@
 use Rattle.std.specs.Prelude.{◌≡◌, ℕ, List, decimal}
 use Rattle.std.specs.List.{flat_map}
 use Rattle.sb_status.specs.Escape.{escaped}
-use Rattle.sb_status.specs.Marks.{mark_text}
+use Rattle.sb_status.specs.MarkupTexts.{mark_text}
 use Rattle.sb_status.specs.declared.fragment.Fragment.{Fragment}
 use Rattle.sb_status.specs.declared.fragment.Fragment.TheVariants.{Mark, Text, Number}
 use Rattle.sb_status.specs.declared.text.Escaping.{Escaping}

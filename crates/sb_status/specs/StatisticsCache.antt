@@ -3,10 +3,10 @@ use Rattle.std.specs.Prelude.{◌≡◌, ◌+◌, ◌-◌, ◌^◌, min, ℕ, Op
 use Rattle.std.specs.Option.{option_flatten}
 use Rattle.sb_status.specs.declared.view.TenantNumbers.{TenantNumbers}
 use Rattle.sb_status.specs.declared.view.TenantView.{TenantView}
-use Rattle.sb_status.specs.declared.cache.TakenNumbers.{TakenNumbers}
-use Rattle.sb_status.specs.declared.cache.TakenView.{TakenView}
-use Rattle.sb_status.specs.declared.cache.StatisticsCache.{StatisticsCache}
-use Rattle.sb_status.specs.Viewing.{IsViewAt}
+use Rattle.sb_status.specs.declared.statistics_cache.TakenNumbers.{TakenNumbers}
+use Rattle.sb_status.specs.declared.statistics_cache.TakenView.{TakenView}
+use Rattle.sb_status.specs.declared.statistics_cache.StatisticsCache.{StatisticsCache}
+use Rattle.sb_status.specs.TenantViews.{IsViewAt}
 
 -- what is kept of the numbers of the tenant at a place
 abbrev pub kept_at : StatisticsCache → ℕ → Option TakenNumbers

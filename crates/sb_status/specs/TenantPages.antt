@@ -4,8 +4,8 @@ use Rattle.std.specs.List.{flat_map}
 use Rattle.sb_status.specs.Pages.{rendered}
 use Rattle.sb_status.specs.declared.fragment.Fragment.{Fragment}
 use Rattle.sb_status.specs.declared.fragment.Fragment.TheVariants as piece
-use Rattle.sb_status.specs.declared.mark.Mark.{Mark}
-use Rattle.sb_status.specs.declared.mark.Mark.TheVariants.{FactActive, FactBytes, FactChanges, FactOpen, FactRoom, FactRows, FactSteps, FactsEnd, Head, OldPage, OldPageEnd, TenantTitle}
+use Rattle.sb_status.specs.declared.markup.Mark.{Mark}
+use Rattle.sb_status.specs.declared.markup.Mark.TheVariants.{FactActive, FactBytes, FactChanges, FactOpen, FactRoom, FactRows, FactSteps, FactsEnd, Head, OldPage, OldPageEnd, TenantTitle}
 use Rattle.sb_status.specs.declared.text.Escaping.TheVariants.{Html}
 use Rattle.sb_status.specs.declared.view.TenantNumbers.{TenantNumbers}
 use Rattle.sb_status.specs.declared.view.TenantView.{TenantView}

@@ -1,7 +1,7 @@
 //! What a server has counted, on its page.
 
 use crate::fragment::Fragment;
-use crate::mark::Mark;
+use crate::markup::Mark;
 use crate::page::Page;
 use crate::view::{Activity, Refused, Rollbacks, SlowView, WorkerNumbers};
 use std::alloc::AllocError;

@@ -2,7 +2,7 @@
 
 use crate::activity::{causes, write_refused, write_seconds};
 use crate::fragment::Fragment;
-use crate::mark::Mark;
+use crate::markup::Mark;
 use crate::page::Page;
 use crate::view::{Activity, Histogram, Refused, Rollbacks, WorkerNumbers};
 use std::alloc::AllocError;

@@ -2,7 +2,7 @@
 ghost use Rattle.std.specs.Prelude.{◌≡◌, ◌++◌, IfOk, OnOk, decimal};
 ghost use Rattle.sb_status.specs.Pages.{piece_text, rendered};
 
-use crate::mark::Mark;
+use crate::markup::Mark;
 use crate::text::{Escaping, push_text};
 use itoa::Buffer;
 use std::alloc::{AllocError, Global};

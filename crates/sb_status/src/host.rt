@@ -4,7 +4,7 @@ ghost use Rattle.sb_status.specs.Pages.{IsPage};
 ghost use Rattle.sb_status.specs.declared.text.Escaping.TheVariants as escaping;
 
 use crate::activity::{write_refusals, write_rollbacks, write_slowest, write_sums, write_workers};
-use crate::mark::Mark;
+use crate::markup::Mark;
 use crate::page::Page;
 use crate::text::Escaping;
 use crate::view::{Activity, HostNumbers, HostView, TenantNumbers};

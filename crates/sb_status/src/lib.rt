@@ -4,16 +4,16 @@
 
 mod activity;
 mod counters;
-mod counting;
+mod tenant_counts;
 mod credentials;
 mod fragment;
 mod graph;
-mod graphing;
+mod graph_builder;
 mod host;
 mod laws;
 mod layers;
-mod mark;
-mod marks;
+mod markup;
+mod markup_texts;
 mod node_box;
 mod nodes;
 mod page;
@@ -24,27 +24,27 @@ mod response;
 mod route;
 mod rule_rows;
 mod samples;
-mod cache;
+mod statistics_cache;
 mod tenant;
 mod text;
-mod tracing;
+mod rule_lines;
 mod view;
-mod viewing;
+mod tenant_copy;
 
-pub use counting::{Counting, SessionReading};
+pub use tenant_counts::{Counting, SessionReading};
 pub use credentials::Credentials;
 pub use fragment::Fragment;
 pub use graph::Graph;
 pub use host::host_page;
 pub use laws::{markup_stands_in_marks, texts_are_no_markup};
-pub use mark::Mark;
+pub use markup::Mark;
 pub use nodes::Nodes;
 pub use lock_budget::LockBudget;
 pub use request::{HEAD_LIMIT, Incoming, Request, read_request};
 pub use response::{ContentType, NO_MEMORY, Status, respond};
 pub use route::{Ended, Route, number, route_of};
 pub use samples::metrics;
-pub use cache::StatisticsCache;
+pub use statistics_cache::StatisticsCache;
 pub use tenant::tenant_page;
 pub use text::Escaping;
 pub use view::{
@@ -52,4 +52,4 @@ pub use view::{
     RulesetView, SessionState, SessionView, SlowView, TableView, TenantNumbers, TenantView,
     TriggersView, WorkerNumbers,
 };
-pub use viewing::view_at;
+pub use tenant_copy::view_at;

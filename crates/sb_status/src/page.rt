@@ -5,7 +5,7 @@ ghost use Rattle.sb_status.specs.TenantPages.{counted};
 ghost use Rattle.sb_status.specs.declared.fragment.Fragment.TheVariants as piece;
 
 use crate::fragment::{Fragment, render};
-use crate::mark::Mark;
+use crate::markup::Mark;
 use crate::text::Escaping;
 use std::alloc::{AllocError, Global};
 

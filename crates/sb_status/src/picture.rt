@@ -1,7 +1,7 @@
 //! The picture of a tenant's rules.
 
 use crate::layers::Layout;
-use crate::mark::Mark;
+use crate::markup::Mark;
 use crate::node_box::{Curve, HEIGHT, LETTER, NodeBox};
 use crate::nodes::Nodes;
 use crate::page::Page;

@@ -1,6 +1,6 @@
 //! The rules of a tenant, as the rows of a table.
 
-use crate::mark::Mark;
+use crate::markup::Mark;
 use crate::nodes::Nodes;
 use crate::page::Page;
 use crate::view::{RuleView, TenantView, TriggersView};

@@ -4,7 +4,7 @@ ghost use Rattle.sb_status.specs.Pages.{IsPage};
 ghost use Rattle.sb_status.specs.declared.text.Escaping.TheVariants as escaping;
 
 use crate::counters::write_activity;
-use crate::mark::Mark;
+use crate::markup::Mark;
 use crate::page::Page;
 use crate::text::Escaping;
 use crate::view::{HostNumbers, HostView, TenantNumbers};

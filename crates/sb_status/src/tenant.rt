@@ -3,7 +3,7 @@ ghost use Rattle.std.specs.Prelude.{◌≡◌, ◌++◌, ◌∷◌, [], IfOk, On
 ghost use Rattle.sb_status.specs.TenantPages.{IsPageOf, age_pieces, beginning_of, counted, numbered};
 ghost use Rattle.sb_status.specs.declared.fragment.Fragment.TheVariants as piece;
 
-use crate::mark::Mark;
+use crate::markup::Mark;
 use crate::page::Page;
 use crate::picture::draw;
 use crate::rule_rows::{write_names, write_rules};

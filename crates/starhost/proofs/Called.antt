@@ -6,8 +6,8 @@ use Rattle.std.specs.Prelude.{IfSome, ⊤, option_to_list}
 use Rattle.sb_tenant.specs.declared.reply.Answer.{Answer}
 use Rattle.sb_tenant.specs.declared.reply.Reply.TheVariants as told
 use Rattle.sb_host.specs.Desk.{AnswersOnce, Calls, IsNumbered, LeavesStub, Receipt, Session, Stub, list_by, pending_connection, numbered, receipt, shown}
-use Rattle.starhost.specs.Calling.{AreTakenBy, IsPlayedIn, LeaveAll, LeavesFor, TakesCall, TakesCalls}
-use Rattle.starhost.specs.Playing.{IsTaken, TakesEach}
+use Rattle.starhost.specs.Calls.{AreTakenBy, IsPlayedIn, LeaveAll, LeavesFor, TakesCall, TakesCalls}
+use Rattle.starhost.specs.LoadedCells.{IsTaken, TakesEach}
 
 -- ---- one line
 

@@ -8,7 +8,7 @@ use Rattle.sb_syntax.specs.Tree.{Command}
 use Rattle.sb_wire.specs.Lines.{Piece, pieces_of}
 use Rattle.sb_wire.specs.Responses.{AreAnswered}
 use Rattle.sb_wire.specs.declared.fault.StreamError.{StreamError}
-use Rattle.starhost.specs.Parsing.{Nothing, Parses, ParsesStream, TellsBy, TellsBytes, TellsIfAny, TellsLines, TellsPieces, is_over, long_text}
+use Rattle.starhost.specs.Parses.{Nothing, Parses, ParsesStream, TellsBy, TellsBytes, TellsIfAny, TellsLines, TellsPieces, is_over, long_text}
 
 -- ---- a line
 

@@ -7,9 +7,9 @@ use Rattle.sb_words.specs.Keys.{is_key}
 use Rattle.sb_wire.specs.Lines.{Piece, line, pieces_of, too_long}
 use Rattle.sb_wire.specs.Responses.{AnswersStream, AreAnswered}
 use Rattle.sb_wire.specs.Stream.{AreFirst}
-use Rattle.starhost.specs.Digesting.{Digests, DigestsBy, State, TellsDigest, digest_text, over}
-use Rattle.starhost.specs.declared.digesting.Digested.{Digested}
-use Rattle.starhost.specs.declared.digesting.Digested.TheVariants.{Awaits, Told, NoKey}
+use Rattle.starhost.specs.KeyDigests.{Digests, DigestsBy, State, TellsDigest, digest_text, over}
+use Rattle.starhost.specs.declared.key_digest.Digested.{Digested}
+use Rattle.starhost.specs.declared.key_digest.Digested.TheVariants.{Awaits, Told, NoKey}
 
 -- a key, and its digest
 record IsTold (pieces : List Piece) (text : List ℕ) : Type 0 where

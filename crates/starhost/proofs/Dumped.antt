@@ -8,7 +8,7 @@ use Rattle.sb_dump.specs.declared.dumps.DumpError.{DumpError}
 use Rattle.sb_dump.specs.declared.dumps.DumpError.TheVariants.{Busy, NotAlike, NoMemory}
 use Rattle.sb_tenant.specs.Tenant.{Tenant, state}
 use Rattle.sb_wire.specs.Stream.{AnswersInput}
-use Rattle.starhost.specs.Dumping.{DumpsInput, IsUndumped, LeavesTenants, RefusesDump, script_text, undumped_as}
+use Rattle.starhost.specs.Dumps.{DumpsInput, IsUndumped, LeavesTenants, RefusesDump, script_text, undumped_as}
 use Rattle.starhost.specs.declared.fault.ProgramFault.{ProgramFault}
 use Rattle.starhost.specs.declared.fault.ProgramFault.TheVariants.{Stream}
 use Rattle.sb_wire.specs.declared.fault.StreamError.{StreamError}

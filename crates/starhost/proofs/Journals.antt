@@ -12,9 +12,9 @@ use Rattle.sb_wire.specs.declared.fault.StreamError.{StreamError}
 use Rattle.sb_durable.specs.Records.{Entry as Record}
 use Rattle.sb_durable.specs.Restart.{IsRestarted, restarted}
 use Rattle.sb_durable.specs.Runs.{AnswersRecorded, RunsRecorded}
-use Rattle.sb_durable.specs.declared.head.Head.{Head}
+use Rattle.sb_durable.specs.declared.journal_header.Head.{Head}
 use Rattle.sb_durable.specs.declared.run.Recording.{Recording}
-use Rattle.starhost.specs.Journaled.{AnswersJournaled, EndsJournaled, IsBegun, RunsJournaled, StopsOn}
+use Rattle.starhost.specs.JournaledRuns.{AnswersJournaled, EndsJournaled, IsBegun, RunsJournaled, StopsOn}
 use Rattle.starhost.specs.declared.fault.ProgramFault.{ProgramFault}
 use Rattle.starhost.specs.declared.fault.ProgramFault.TheVariants.{JournalFailed, Stream}
 

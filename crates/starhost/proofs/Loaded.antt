@@ -14,8 +14,8 @@ use Rattle.sb_cell.specs.Events.{IsTurn}
 use Rattle.sb_cell.specs.Tenants.{AnswersBy, AnswersEvent, Cell, IsNew, IsSame, hosts, states, trail_of, trails}
 use Rattle.sb_dump.specs.Dumps.{as_session, played, whole_session}
 use Rattle.sb_wire.specs.Stream.{AnswersInput}
-use Rattle.starhost.specs.Loading.{AnswersLoaded, IsLoaded, IsLoadedFrom, IsScripted, IsScriptedBy}
-use Rattle.starhost.specs.Playing.{AreTaken, IsStarted, IsTaken, Sends, TakesEach, TakesLine}
+use Rattle.starhost.specs.Loads.{AnswersLoaded, IsLoaded, IsLoadedFrom, IsScripted, IsScriptedBy}
+use Rattle.starhost.specs.LoadedCells.{AreTaken, IsStarted, IsTaken, Sends, TakesEach, TakesLine}
 
 -- ---- one line
 

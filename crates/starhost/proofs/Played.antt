@@ -5,8 +5,8 @@ use Rattle.std.specs.Io.KnownBytes.{Consumes, IsAtEnd}
 use Rattle.sb_wire.specs.Lines.{Piece, line, too_long, pieces_of}
 use Rattle.sb_wire.specs.Responses.{AreAnswered}
 use Rattle.sb_wire.specs.Stream.{AreFirst}
-use Rattle.starhost.specs.Playing.{HasLines, Plays, PlaysBy, TakesEach}
-use Rattle.starhost.specs.declared.player.LoadProgress.{LoadProgress}
+use Rattle.starhost.specs.LoadedCells.{HasLines, Plays, PlaysBy, TakesEach}
+use Rattle.starhost.specs.declared.line_player.LoadProgress.{LoadProgress}
 
 -- a file that was read to its end has the lines that were answered
 read_whole : (file rest : Option (List ℕ)) (seen : List ℕ) (pieces : List Piece) (lines : List (List ℕ)) → Consumes file rest seen → IsAtEnd rest

@@ -4,10 +4,10 @@ use Rattle.std.specs.Prelude.{slice_index_or, slice_set}
 use Rattle.std.proofs.Math.ListN.{length-set}
 use Rattle.std.proofs.lemmas.Bool.Decides.{eqb_tells}
 use Rattle.std.proofs.lemmas.List.{get_or-set_other, get_or-set_same, get_or_default}
-use Rattle.sb_status.specs.Viewing.{AreSessionsOf, OnlyAges}
+use Rattle.sb_status.specs.TenantViews.{AreSessionsOf, OnlyAges}
 use Rattle.sb_status.specs.declared.view.SessionView.{SessionView}
 use Rattle.sb_tenant.specs.Tenant.{Tenant}
-use Rattle.starhost.specs.Showing.{IsHosted}
+use Rattle.starhost.specs.Pages.{IsHosted}
 
 -- ---- numbers of tenants
 

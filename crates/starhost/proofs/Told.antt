@@ -10,7 +10,7 @@ use Rattle.sb_wire.specs.Stream.{EndsBy, MayFail, OnWriteFault, Streams}
 use Rattle.sb_wire.specs.declared.fault.StreamError.{StreamError}
 use Rattle.sb_wire.specs.declared.fault.StreamError.TheVariants.{NoMemory}
 use Rattle.sb_wire.specs.declared.summary.Summary.{Summary}
-use Rattle.starhost.specs.Does.{GoesFresh, Tells, status_of}
+use Rattle.starhost.specs.Commands.{GoesFresh, Tells, status_of}
 
 module _ {W : Type 0} (refuses : W → Type 0) (contents : W → Option (List ℕ)) where
   -- the line is written, and the other is told

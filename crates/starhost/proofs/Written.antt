@@ -3,7 +3,7 @@ use Rattle.std.proofs.Common.{◌≡◌, ◌≢◌, ◌∙◌, ◌<◌, ◌+◌,
 use Rattle.std.proofs.Math.Nat.{eq-or-lt_of_le}
 use Rattle.std.specs.Prelude.{IfSome}
 use Rattle.sb_cell.specs.Tenants.{Cell}
-use Rattle.starhost.specs.Dumping.{FirstUnwritten, HasScript, HaveScripts, RefusesDumps}
+use Rattle.starhost.specs.Dumps.{FirstUnwritten, HasScript, HaveScripts, RefusesDumps}
 use Rattle.starhost.specs.declared.fault.ProgramFault.{ProgramFault}
 use Rattle.starhost.specs.declared.fault.ProgramFault.TheVariants.{Stream}
 use Rattle.sb_wire.specs.declared.fault.StreamError.{StreamError}

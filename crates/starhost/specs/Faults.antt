@@ -10,7 +10,7 @@ use Rattle.sb_server.specs.declared.server.ServeError.{ServeError}
 use Rattle.sb_server.specs.declared.server.ServeError.TheVariants as serve
 use Rattle.sb_replay.specs.declared.error.ReplayError.{ReplayError}
 use Rattle.sb_replay.specs.declared.error.ReplayError.TheVariants as replay
-use Rattle.starhost.specs.Does.{Tells}
+use Rattle.starhost.specs.Commands.{Tells}
 use Rattle.starhost.specs.declared.fault.ProgramFault.{ProgramFault}
 use Rattle.starhost.specs.declared.key_source.Unread.{Unread}
 use Rattle.starhost.specs.declared.key_source.Unread.TheVariants.{File, TooLong, Keys}

@@ -5,8 +5,8 @@ use Rattle.sb_status.specs.declared.response.Status.{Status}
 use Rattle.sb_status.specs.declared.response.Status.TheVariants as status
 use Rattle.sb_status.specs.declared.route.Route.{Route}
 use Rattle.sb_status.specs.declared.route.Route.TheVariants as route
-use Rattle.starhost.specs.declared.outcome.HttpRefusal.{HttpRefusal}
-use Rattle.starhost.specs.declared.outcome.HttpRefusal.TheVariants.{BadRequest, Foreign, KeyWanted, NoPage, NoScript, NoSession, NoTenant, NotGot, NotPosted, TenantBusy, TooLong, WorkerBusy}
+use Rattle.starhost.specs.declared.http_outcome.HttpRefusal.{HttpRefusal}
+use Rattle.starhost.specs.declared.http_outcome.HttpRefusal.TheVariants.{BadRequest, Foreign, KeyWanted, NoPage, NoScript, NoSession, NoTenant, NotGot, NotPosted, TenantBusy, TooLong, WorkerBusy}
 
 abbrev pub status_of : HttpRefusal → Status
 status_of BadRequest = status.Malformed

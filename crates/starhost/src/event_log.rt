@@ -1,7 +1,7 @@
 //! What an operator reads on standard error.
 
 use crate::key_source::Unread;
-use crate::playing::Unplayed;
+use crate::cell_loader::Unplayed;
 use jiff::Timestamp;
 use libc::net as system;
 use libc::types::pollfd;

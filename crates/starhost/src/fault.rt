@@ -2,7 +2,7 @@
 ghost use Rattle.std.specs.Prelude.{◌≡◌, ◌++◌, decimal, IfOk, OnOk};
 ghost use Rattle.starhost.specs.Faults.{TellsFault, fault_text, numbered_text, one_number_text};
 
-use crate::telling::fault;
+use crate::run_report::fault;
 use sb_wire::{Sink, StreamError, push_labelled, write_bytes};
 use std::alloc::{AllocError, Global};
 use thiserror::Error;

@@ -1,6 +1,6 @@
 //! Files of tenants in a folder: one file for each, named by the tenant's number.
 ghost use Rattle.std.specs.Prelude.{◌≡◌, ◌+◌, IfOk, IfSome, Some, codes, option_copied, string_bytes};
-ghost use Rattle.starhost.specs.Saving.{file_name};
+ghost use Rattle.starhost.specs.HostDumps.{file_name};
 
 use crate::event_log::EventLog;
 use crate::fault::ProgramFault;

@@ -3,7 +3,7 @@ ghost use Rattle.std.specs.Prelude.{◌≡◌, ◌⊎◌, ◌≤◌, IfErr};
 ghost use Rattle.starhost.specs.declared.fault.ProgramFault.TheVariants as fault;
 ghost use Rattle.sb_wire.specs.declared.fault.StreamError.TheVariants as stream;
 
-use crate::dumping::text_of;
+use crate::dump::text_of;
 use crate::event_log::EventLog;
 use crate::fault::ProgramFault;
 use crate::folder::Folder;

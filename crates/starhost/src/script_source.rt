@@ -1,10 +1,10 @@
 //! Where the scripts of tenants stand.
 ghost use Rattle.std.specs.Prelude.{List, ℕ, Option, option_map, IfOk};
-ghost use Rattle.starhost.specs.Playing.{IsFound};
+ghost use Rattle.starhost.specs.LoadedCells.{IsFound};
 
 use crate::event_log::EventLog;
 use crate::folder::Folder;
-use crate::playing::Unplayed;
+use crate::cell_loader::Unplayed;
 use std::alloc::Global;
 use std::fs;
 use std::io::{self, ErrorKind, Read};

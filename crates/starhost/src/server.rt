@@ -5,13 +5,13 @@ ghost use Rattle.sb_server.specs.Policies.{policy};
 ghost use Rattle.starhost.specs.Ends.{EndsEarly, FailsToServe};
 ghost use Rattle.starhost.specs.Faults.{unserved_as};
 ghost use Rattle.starhost.specs.Totals.{TellsServer, TellsTrails};
-ghost use Rattle.starhost.specs.Writing.{Writes};
+ghost use Rattle.starhost.specs.Outputs.{Writes};
 ghost use Rattle.sb_words.specs.Within.{AreServer};
 
-use crate::closing::finish;
+use crate::host_end::finish;
 use crate::event_log::EventLog;
 use crate::fault::ProgramFault;
-use crate::listening::listen;
+use crate::listener::listen;
 use crate::terms::{Plan, plan_of};
 use sb_host::{Host, Naming, Opened};
 use sb_server::{

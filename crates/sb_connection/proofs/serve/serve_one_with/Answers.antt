@@ -1,6 +1,6 @@
 use Rattle.sb_connection.specs.Conversation.{hosting}
 use Rattle.sb_connection.specs.Policies.{anyone}
-use Rattle.sb_connection.specs.Responding.{is_over}
+use Rattle.sb_connection.specs.Responses.{is_over}
 use Rattle.sb_connection.proofs.Whole.{whole}
 use Rattle.sb_connection.proofs.serve.serve_one_with.Goals as goal
 

@@ -4,7 +4,7 @@ use Rattle.clap.specs.declared.error.kind.ErrorKind.TheVariants.{DisplayHelp, Di
 use Rattle.sb_words.specs.Words.{AskFor, IsAsked}
 use Rattle.sb_words.specs.declared.invocation.Invocation.{Invocation}
 use Rattle.sb_words.specs.declared.invocation.Invocation.TheVariants.{Run, Load, Serve, Keep, Replay, Parse, Dump, DumpAll, Key, Record}
-use Rattle.starhost.specs.Going.{Succeeds}
+use Rattle.starhost.specs.Reads.{Succeeds}
 use Rattle.starhost.proofs.Runs.{as_asked, asked_for, few_texts}
 use Rattle.starhost.proofs.program.command.Goals as goal
 

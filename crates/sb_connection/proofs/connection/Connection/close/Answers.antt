@@ -1,6 +1,6 @@
 use Rattle.std.proofs.Common.{subst}
 use Rattle.sb_connection.specs.History.{Converses, History}
-use Rattle.sb_connection.specs.Responding.{LeavesSome, over}
+use Rattle.sb_connection.specs.Responses.{LeavesSome, over}
 use Rattle.sb_connection.proofs.Whole.{whole}
 use Rattle.sb_connection.proofs.connection.Connection.close.Goals as goal
 

@@ -1,7 +1,7 @@
 use Rattle.std.proofs.Common.{◌≡◌, ◌∙◌, ap, refl, subst, sym}
 use Rattle.std.specs.Prelude.{IfSome, Option, Some, None}
 use Rattle.sb_connection.specs.History.{History, IsSessionOf}
-use Rattle.sb_connection.specs.declared.greeting.SessionName.{SessionName}
+use Rattle.sb_connection.specs.declared.first_line.SessionName.{SessionName}
 use Rattle.sb_connection.proofs.Steps.{session_named}
 use Rattle.sb_connection.proofs.connection.Connection.session.Goals as goal
 

@@ -2,7 +2,7 @@ use Rattle.std.proofs.Common.{◌≡◌, ◌∙◌, ap, refl, subst, sym, true, 
 use Rattle.std.specs.Option.{option_map_or}
 use Rattle.std.specs.Prelude.{is_some}
 use Rattle.sb_connection.specs.History.{History, Transacts}
-use Rattle.sb_connection.specs.Responding.{Opened}
+use Rattle.sb_connection.specs.Responses.{Opened}
 use Rattle.sb_connection.proofs.Admitting.{some_from}
 use Rattle.sb_connection.proofs.Steps.{transacting_now}
 use Rattle.sb_connection.proofs.connection.Connection.transacts.Goals as goal

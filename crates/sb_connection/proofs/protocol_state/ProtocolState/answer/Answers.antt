@@ -1,6 +1,6 @@
 use Rattle.std.proofs.Common.{◌∙◌, ap, subst, sym}
 use Rattle.sb_connection.specs.ProtocolState.{Answers, Talking}
-use Rattle.sb_connection.specs.Responding.{over}
+use Rattle.sb_connection.specs.Responses.{over}
 use Rattle.sb_connection.proofs.Steps.{answers_named}
 use Rattle.sb_connection.proofs.protocol_state.ProtocolState.answer.Goals as goal
 

@@ -2,8 +2,8 @@ use Rattle.std.proofs.Common.{◌≡◌, ◌+◌, ◌<◌, ◌++◌, ◌∷◌, 
 use Rattle.std.proofs.lemmas.List.{append-nil, get_or_default, map_more, set-get_or, set-set}
 use Rattle.sb_durable.specs.Records.{Entry}
 use Rattle.sb_durable.specs.Journal.{Has}
-use Rattle.sb_durable.specs.Noting.{record_of_note}
-use Rattle.sb_durable.specs.declared.noting.PendingEntry.{PendingEntry}
+use Rattle.sb_durable.specs.EntryReaders.{record_of_note}
+use Rattle.sb_durable.specs.declared.entry_reader.PendingEntry.{PendingEntry}
 use Rattle.sb_durable.proofs.journal_writer.JournalWriter.stage.Goals as goal
 
 pub loop-note-init : goal.loop-note-init

@@ -1,8 +1,8 @@
 use Rattle.std.proofs.Common.{◌≡◌, ◌+◌, ◌++◌, List, length, map, take, slice_set, slice_index}
 use Rattle.sb_durable.specs.Records.{Entry}
 use Rattle.sb_durable.specs.Journal.{Has}
-use Rattle.sb_durable.specs.declared.head.Head.{Head}
-use Rattle.sb_durable.specs.Noting.{record_of_note}
+use Rattle.sb_durable.specs.declared.journal_header.Head.{Head}
+use Rattle.sb_durable.specs.EntryReaders.{record_of_note}
 use Rattle.sb_durable.proofs.journal_writer.JournalWriter.stage.Given as goal
 
 abbrev pub invariant-loop-note : goal.invariant-loop-note

@@ -1,9 +1,9 @@
 use Rattle.std.proofs.Common.{List}
 use Rattle.sb_durable.specs.Records.{Entry}
 use Rattle.sb_durable.specs.Journal.{Has}
-use Rattle.sb_durable.specs.declared.head.Head.{Head}
+use Rattle.sb_durable.specs.declared.journal_header.Head.{Head}
 use Rattle.sb_durable.specs.Recording.{Part, AreOf}
-use Rattle.sb_durable.specs.Keeping.{Takes}
+use Rattle.sb_durable.specs.RecordedTrails.{Takes}
 use Rattle.sb_durable.proofs.journal_writer.JournalWriter.take.Given as goal
 
 abbrev pub invariant-loop : goal.invariant-loop

@@ -1,0 +1,97 @@
+//! What is told of the answers of a session, and of the room of its tenant's trail.
+
+use crate::first_line::SessionName;
+use crate::open_session::OpenSession;
+use crate::watch::{Answered, ConnectionEvent, Said, Watch};
+use sb_desk::Calling;
+use sb_tenant::TRAIL_LIMIT;
+use sb_wire::{Piece, WireRefusal};
+use std::sync::Wait;
+
+/// The most steps of a trail.
+const MOST_STEPS: u32 = TRAIL_LIMIT as u32;
+
+/// Where a trail has room for so few steps more, it is told.
+const FEW_STEPS: u32 = MOST_STEPS / 10;
+
+/// Which step of its tenant the newest answer of a session is, if it is one.
+pub(crate) fn newest_step<S: Calling>(session: &Option<OpenSession<S>>) -> Option<u32> {
+    let Some(session) = session else {
+        return None;
+    };
+    match session.last() {
+        Some(answer) => answer.number,
+        None => None,
+    }
+}
+
+/// Whether the newest line wasn't begun, where it was no step and this is the newest one: an answer that is no step says
+/// that the trail is full.
+pub(crate) fn was_unbegun<S: Calling>(
+    session: &Option<OpenSession<S>>,
+    newest: Option<u32>,
+) -> bool {
+    let Some(session) = session else {
+        return false;
+    };
+    session.last().is_none() || newest.is_some()
+}
+
+/// For how many steps a trail has room behind this one.
+pub(crate) fn steps_left(step: Option<u32>) -> u32 {
+    match step {
+        Some(step) => MOST_STEPS.saturating_sub(step),
+        None => 0,
+    }
+}
+
+/// Tells of a trail that fills up with this step. The `end` of a session may stand behind the last one.
+pub(crate) fn tell_room<V: Watch>(watch: &V, tenant: u32, step: u32) {
+    let left = steps_left(Some(step));
+    if step == MOST_STEPS || left == FEW_STEPS {
+        watch.see(ConnectionEvent::Fills { tenant, left });
+    }
+}
+
+/// Tells the newest answer of a session, to this line, which may be the first one.
+pub(crate) fn tell_reply<T: Wait, V: Watch, S: Calling>(
+    rt: &T,
+    watch: &V,
+    session: &Option<OpenSession<S>>,
+    named: SessionName,
+    piece: Piece<'_>,
+    is_first: bool,
+    transacted: bool,
+) {
+    let Some(session) = session else {
+        return;
+    };
+    let Some(answer) = session.last() else {
+        return;
+    };
+    watch.hear(
+        rt,
+        Answered::new(
+            named,
+            piece,
+            is_first,
+            Said::Reply(&answer.reply),
+            transacted,
+        ),
+    );
+}
+
+/// Tells that this line of a session was no step.
+pub(crate) fn tell_refusal<T: Wait, V: Watch>(
+    rt: &T,
+    watch: &V,
+    named: SessionName,
+    piece: Piece<'_>,
+    why: WireRefusal,
+    transacted: bool,
+) {
+    watch.hear(
+        rt,
+        Answered::new(named, piece, false, Said::Refusal(why), transacted),
+    );
+}

@@ -1,6 +1,0 @@
-use Rattle.std.proofs.Common.{◌≡◌, map, take}
-use Rattle.sb_durable.specs.Noting.{note_of}
-use Rattle.sb_durable.proofs.noting.note_all.Given as goal
-
-abbrev pub invariant-loop-entry : goal.invariant-loop-entry
-invariant-loop-entry l = l.list.items ≡ map note_of (take l.entry-index l.entries)

@@ -1,0 +1,47 @@
+-- Machine: what is noted of a trail while its cell's lock is held.
+use Rattle.std.specs.Prelude.{◌≡◌, ℕ, ◌≤◌, Bool, true, false, List, length, map, take, drop, codes, cond, Option, Some, None, unwrap_or}
+use Rattle.sb_durable.specs.Records.{Entry as Record}
+use Rattle.sb_tenant.specs.declared.reply.Entry.{Entry}
+use Rattle.sb_tenant.specs.Trail.{is_no_memory}
+use Rattle.sb_tenant.specs.Tenant.{Tenant, IsLegal}
+use Rattle.sb_durable.specs.declared.entry_reader.PendingEntry.{PendingEntry}
+use Rattle.sb_durable.specs.declared.entry_reader.EntryReader.{EntryReader}
+use Rattle.sb_durable.specs.declared.entry_reader.ReadReach.{ReadReach}
+use Rattle.sb_durable.specs.declared.entry_reader.ReadReach.TheVariants.{Nowhere, Part, End, NoMemory}
+
+abbrev pub note_of : Entry → PendingEntry
+note_of e = record { session = e.session; line = cond (is_no_memory e.reply) None (Some e.line) }
+
+abbrev pub text_of : PendingEntry → List ℕ
+text_of note = unwrap_or note.line (codes "rollback")
+
+abbrev pub record_of_note : ℕ → PendingEntry → Record
+record_of_note tenant note = record { tenant = tenant; session = note.session; line = text_of note }
+
+-- the first of these entries are noted
+abbrev pub IsFront : List Entry → List PendingEntry → Type 0
+IsFront entries notes = (length notes ≤ length entries) × (notes ≡ map note_of (take (length notes) entries))
+
+-- as far as was reached
+abbrev pub NotesAll : List Entry → List PendingEntry → ReadReach → Type 0
+NotesAll entries notes Nowhere = Unit {0}
+NotesAll entries notes NoMemory = Unit {0}
+NotesAll entries notes Part = IsFront entries notes
+NotesAll entries notes End = IsFront entries notes × (length notes ≡ length entries)
+
+-- the entries behind so many
+abbrev pub NotesBehind : ℕ → List Entry → List PendingEntry → ReadReach → Type 0
+NotesBehind from trail notes Nowhere = Unit {0}
+NotesBehind from trail notes NoMemory = Unit {0}
+NotesBehind from trail notes Part = (from ≤ length trail) × IsFront (drop from trail) notes
+NotesBehind from trail notes End = (from ≤ length trail) × IsFront (drop from trail) notes × (length notes ≡ length (drop from trail))
+
+abbrev pub Reads : EntryReader → Tenant → EntryReader → Type 0
+Reads old own new = IsLegal own × NotesBehind old.from own.trail new.list.items new.reach
+
+-- whether all was staged that there is
+abbrev pub IsStaged : ReadReach → Bool → Type 0
+IsStaged Part is_whole = is_whole ≡ false
+IsStaged End is_whole = is_whole ≡ true
+IsStaged Nowhere is_whole = ⊥
+IsStaged NoMemory is_whole = ⊥

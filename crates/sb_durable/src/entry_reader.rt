@@ -1,0 +1,109 @@
+//! What a trail has beyond what is recorded, noted while the cell's lock is held.
+ghost use Rattle.std.specs.Prelude.{◌≡◌, [], IfOk};
+ghost use Rattle.sb_durable.specs.EntryReaders.{NotesAll, note_of, text_of};
+
+use sb_host::Reading;
+use sb_tenant::{Entry, Line, Reply, Tenant};
+use sb_value::{Refusal, SessionId};
+use sb_wire::LINE_LIMIT;
+use std::alloc::AllocError;
+
+/// What an abort is recorded as.
+pub(crate) const ROLLBACK: &[u8] = b"rollback";
+
+/// How many bytes a record has beside its line.
+const BESIDE: usize = 9;
+
+/// A step, as it is recorded.
+#[derive(Drop)]
+pub(crate) struct PendingEntry {
+    pub(crate) session: SessionId,
+    /// No line is that of an abort.
+    pub(crate) line: Option<Line>,
+}
+
+impl PendingEntry {
+    fn of(entry: &Entry) -> Result<PendingEntry, AllocError>
+        ensures { IfOk result (λ note. note ≡ note_of entry.now) }
+    {
+        let line = match &entry.reply {
+            Reply::No(Refusal::NoMemory) => None,
+            _ => Some(entry.line.share()?),
+        };
+        Ok(PendingEntry {
+            session: entry.session,
+            line,
+        })
+    }
+
+    /// Its line.
+    pub(crate) fn text(&self) -> &[u8]
+        ensures { result.now ≡ text_of self.now }
+    {
+        match &self.line {
+            Some(line) => line.as_slice(),
+            None => ROLLBACK,
+        }
+    }
+}
+
+/// How far notes go.
+#[derive(Clone, Copy)]
+pub(crate) enum ReadReach {
+    /// There is no tenant, or no such place in its trail.
+    Nowhere,
+    /// There is no room for more of them.
+    Part,
+    /// To the end of the trail.
+    End,
+    NoMemory,
+}
+
+/// EntryReader the entries of a tenant from a place on.
+#[derive(Drop)]
+pub(crate) struct EntryReader {
+    pub(crate) from: usize,
+    /// How many bytes their records may have.
+    pub(crate) room: usize,
+    pub(crate) list: Vec<PendingEntry>,
+    pub(crate) reach: ReadReach,
+}
+
+impl Reading for EntryReader {
+    ghost use Rattle.sb_durable.specs.EntryReaders.{Reads};
+
+    ghost reads = { Reads };
+
+    fn read(&mut self, tenant: &Tenant) {
+        let trail = tenant.trail();
+        if self.from > trail.len() {
+            self.reach = ReadReach::Nowhere;
+            return;
+        }
+        self.list.clear();
+        self.reach = note_all(&mut self.list, &trail[self.from..], self.room);
+    }
+}
+
+/// EntryReader the first of these entries, as many as there is room for.
+fn note_all(list: &mut Vec<PendingEntry>, entries: &[Entry], room: usize) -> ReadReach
+    requires { list.old.items ≡ [] }
+    ensures { NotesAll entries.now list.new.items result }
+{
+    let mut left = room;
+    for entry in entries {
+        let Ok(note) = PendingEntry::of(entry) else {
+            return ReadReach::NoMemory;
+        };
+        // one that is too long is seen when it is staged
+        let needs = BESIDE + note.text().len().min(LINE_LIMIT);
+        if needs > left {
+            return ReadReach::Part;
+        }
+        left -= needs;
+        if list.push(note).is_err() {
+            return ReadReach::NoMemory;
+        }
+    }
+    ReadReach::End
+}

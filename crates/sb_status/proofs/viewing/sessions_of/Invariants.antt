@@ -1,6 +1,0 @@
-use Rattle.sb_status.specs.Viewing.{AreSessionsOf}
-use Rattle.sb_status.proofs.viewing.sessions_of.Given as goal
-
--- the sessions so far
-abbrev pub invariant-loop-number : goal.invariant-loop-number
-invariant-loop-number l = AreSessionsOf l.tenant l.number l.views.items

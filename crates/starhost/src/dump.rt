@@ -1,0 +1,156 @@
+//! A dump: the lines of an input, and the script of one tenant as they leave it.
+ghost use Rattle.std.specs.Prelude.{◌≡◌, None, Ok, Some, IfErr, IfOk, IfSome, IsOk, OnOk, length};
+ghost use Rattle.std.specs.Io.{WritesAtMost};
+ghost use Rattle.std.specs.Io.KnownBytes.{Appends, Keeps, WriteAppends};
+ghost use Rattle.sb_cell.specs.Tenants.{tenant_at};
+ghost use Rattle.sb_dump.specs.Dumps.{Dumps};
+ghost use Rattle.sb_tenant.specs.Tenant.{Tenant as ItsTenant};
+ghost use Rattle.starhost.specs.Dumps.{DumpsInput, IsUndumped, LeavesTenants, RefusesDump, script_text, undumped_as};
+ghost use Rattle.starhost.specs.Outputs.{WritesOf};
+ghost use Rattle.sb_words.specs.Within.{AreDump, AreRun};
+
+use crate::fault::ProgramFault;
+use sb_cell::{Cell, ample_buckets};
+use sb_dump::{DumpError, Script, dump};
+use sb_wire::{Sink, Source, StreamError, Summary, run_stream, write_and_flush};
+use sb_words::{Dumping, Run};
+use std::alloc::{AllocError, Global};
+use std::io::{self, Write};
+
+/// A writer that takes all bytes and keeps none.
+#[derive(Drop)]
+pub(crate) struct Nowhere;
+
+impl Write for Nowhere {
+    ghost contents = { λ _. None };
+
+    fn write(&mut self, buf: &[u8]) -> io::Result<usize>
+        ensures bound { WritesAtMost result buf.now }
+        ensures bytes { WriteAppends None None result buf.now }
+        ensures all { result ≡ Ok (length buf.now) }
+    {
+        Ok(buf.len())
+    }
+
+    fn flush(&mut self) -> io::Result<()>
+        ensures bytes { Keeps None None }
+        ensures ok { IsOk result }
+    {
+        Ok(())
+    }
+}
+
+impl Sink for Nowhere {
+    ghost refuses = { λ _. ⊥ };
+
+    fn write_some(&mut self, buf: &[u8]) -> io::Result<usize> {
+        self.write(buf)
+    }
+
+    fn flush_all(&mut self) -> io::Result<()> {
+        self.flush()
+    }
+}
+
+/// Answers the lines of the input on a fresh cell, throws the replies away, and writes the script of one tenant.
+pub(crate) fn dump_tenant<R: Source, W: Sink>(
+    alloc: Global,
+    asked: Dumping,
+    reader: &mut R,
+    writer: &mut W,
+) -> Result<(), ProgramFault>
+    requires { AreDump asked }
+    ensures ok { OnOk result (WritesOf R.remaining W.contents reader.old writer.old writer.new
+        (DumpsInput asked.run.tenants asked.run.bound asked.tenant)) }
+    ensures err { IfErr result (λ why. IfSome (R.remaining reader.old)
+        (λ input. RefusesDump asked.run.tenants asked.run.bound asked.tenant input why)) }
+{
+    let cell = match answered(alloc, asked.run, reader) {
+        Ok(cell) => cell,
+        Err(error) => return Err(ProgramFault::Stream(error)),
+    };
+    let script = match script_of(alloc, &cell, asked) {
+        Ok(script) => script,
+        Err(why) => return Err(why),
+    };
+    match write_script(alloc, &script, writer) {
+        Ok(()) => Ok(()),
+        Err(error) => Err(ProgramFault::Stream(error)),
+    }
+}
+
+/// The cell that the lines of the input leave, whose replies are thrown away.
+pub(crate) fn answered<R: Source>(
+    alloc: Global,
+    run: Run,
+    reader: &mut R,
+) -> Result<Cell, StreamError>
+    requires { AreRun run }
+    ensures { IfOk result (λ cell. IfSome (R.remaining reader.old) (λ input.
+        (leaves : LeavesTenants run.tenants run.bound input) × (leaves.cell ≡ cell))) }
+{
+    let buckets = ample_buckets(run.tenants);
+    let Ok(mut cell) = Cell::with_buckets(alloc, 0, 1, run.tenants, run.bound, buckets) else {
+        return Err(StreamError::NoMemory);
+    };
+    let mut summary = Summary::new();
+    match run_stream(alloc, reader, &mut Nowhere, &mut cell, &mut summary) {
+        Ok(()) => Ok(cell),
+        Err(error) => Err(error),
+    }
+}
+
+/// The script of a tenant of the cell.
+fn script_of(alloc: Global, cell: &Cell, asked: Dumping) -> Result<Script, ProgramFault>
+    requires { AreDump asked }
+    ensures ok { IfOk result (λ script. (own : ItsTenant) × (tenant_at cell.now asked.tenant ≡ Some own)
+        × Dumps asked.run.bound own script) }
+    ensures err { IfErr result (IsUndumped cell.now asked.tenant) }
+{
+    let tenant = match cell.tenant(asked.tenant) {
+        Some(tenant) => tenant,
+        None => {
+            return Err(ProgramFault::NoTenant {
+                tenant: u64::from(asked.tenant),
+            });
+        }
+    };
+    match dump(alloc, tenant, asked.run.bound) {
+        Ok(script) => Ok(script),
+        Err(error) => Err(undumped(u64::from(asked.tenant), error)),
+    }
+}
+
+/// What a tenant without a script is told as.
+pub(crate) fn undumped(tenant: u64, error: DumpError) -> ProgramFault
+    ensures { result ≡ undumped_as tenant error }
+{
+    match error {
+        DumpError::Busy => ProgramFault::TenantBusy { tenant },
+        DumpError::NotAlike => ProgramFault::CannotDump { tenant },
+        DumpError::NoMemory => ProgramFault::Stream(StreamError::NoMemory),
+    }
+}
+
+/// Writes a script, each line with its end, and flushes it.
+fn write_script<W: Sink>(alloc: Global, script: &Script, writer: &mut W) -> Result<(), StreamError>
+    ensures { OnOk result (Appends (W.contents writer.old) (W.contents writer.new) (script_text script.now)) }
+{
+    match text_of(alloc, script) {
+        Ok(text) => write_and_flush(writer, text.as_slice()),
+        Err(_) => Err(StreamError::NoMemory),
+    }
+}
+
+/// The text of a script.
+pub(crate) fn text_of(alloc: Global, script: &Script) -> Result<Vec<u8>, AllocError>
+    ensures { IfOk result (λ text. text.items ≡ script_text script.now) }
+{
+    let mut text = Vec::new(alloc);
+    let lines = script.lines();
+    for line in lines {
+        text.extend_from_slice(line.as_slice())?;
+        text.push(b'\n')?;
+    }
+    Ok(text)
+}

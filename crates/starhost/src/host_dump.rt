@@ -1,0 +1,137 @@
+//! The tenants of a host, written to the files of a folder.
+ghost use Rattle.std.specs.Prelude.{◌≡◌, ◌⊎◌, ◌≤◌, ◌+◌, IfErr};
+ghost use Rattle.starhost.specs.HostDumps.{IsNotedOf, IsNotedOfSome, IsUnsaved};
+
+use crate::dump::undumped;
+use crate::fault::ProgramFault;
+use crate::script_files::ScriptFiles;
+use sb_dump::{DumpError, Script, dump};
+use sb_host::{Lending, Reading, Tried};
+use sb_status::LockBudget;
+use sb_tenant::Tenant;
+use std::alloc::Global;
+use std::rt::{Clock, Files};
+use std::sync::Wait;
+
+/// What is noted of a tenant.
+#[derive(Drop)]
+pub(crate) enum NotedScript {
+    /// No session of it was ever opened.
+    Unused,
+    Script(Script),
+    /// It has no script.
+    Lacking(DumpError),
+}
+
+/// Notes the script of a tenant.
+#[derive(Drop)]
+pub(crate) struct ScriptNotes {
+    alloc: Global,
+    bound: u32,
+    noted: NotedScript,
+    ghost few: { bound ≤ 1000 },
+}
+
+impl ScriptNotes {
+    pub(crate) fn new(alloc: Global, bound: u32) -> ScriptNotes
+        requires { bound ≤ 1000 }
+        ensures { (result.bound ≡ bound) × (result.noted ≡ NotedScript.Unused) }
+    {
+        ScriptNotes {
+            alloc,
+            bound,
+            noted: NotedScript::Unused,
+        }
+    }
+}
+
+impl Reading for ScriptNotes {
+    ghost use Rattle.starhost.specs.declared.host_dump.NotedScript.TheVariants as found;
+
+    ghost reads = { λ old own new. old.noted ≡ found.Unused → IsNotedOf old.bound own new.noted };
+
+    fn read(&mut self, tenant: &Tenant) {
+        if tenant.trail().is_empty() {
+            return;
+        }
+        self.noted = script_of(self.alloc, tenant, self.bound);
+    }
+}
+
+/// What a tenant has that was opened.
+fn script_of(alloc: Global, tenant: &Tenant, bound: u32) -> NotedScript
+    requires { bound ≤ 1000 }
+    ensures { IsNotedOf bound tenant.now result }
+{
+    match dump(alloc, tenant, bound) {
+        Ok(script) => NotedScript::Script(script),
+        Err(error) => NotedScript::Lacking(error),
+    }
+}
+
+/// Writes the file of each tenant that was ever opened. Where one isn't written the others are all the same, and the
+/// first fault is given.
+pub(crate) fn save_all<T: Wait + Eprint + Clock + Files, H: Lending>(
+    files: &ScriptFiles<'_, '_, T>,
+    host: H,
+) -> Result<(), ProgramFault> {
+    let mut ended = Ok(());
+    for tenant in 0..host.tenants() {
+        if let Err(why) = save_one(files, host, tenant) {
+            files.tell_unsaved(tenant);
+            if ended.is_ok() {
+                ended = Err(why);
+            }
+        }
+    }
+    ended
+}
+
+/// Writes the file of a tenant, if it was ever opened.
+fn save_one<T: Wait + Eprint + Clock + Files, H: Lending>(
+    files: &ScriptFiles<'_, '_, T>,
+    host: H,
+    tenant: u32,
+) -> Result<(), ProgramFault>
+    ensures { IfErr result (IsUnsaved (files.now.folder.first + tenant)) }
+{
+    let number = files.folder.number_of(tenant);
+    let notes = ScriptNotes::new(files.alloc, files.bound);
+    match noted_of(files.rt, host, tenant, notes) {
+        NotedScript::Unused => Ok(()),
+        NotedScript::Lacking(error) => Err(undumped(number, error)),
+        NotedScript::Script(script) => files.write(number, &script),
+    }
+}
+
+/// The script of a tenant.
+pub(crate) fn noted_of<T: Wait, H: Lending>(
+    rt: &T,
+    host: H,
+    tenant: u32,
+    mut notes: ScriptNotes,
+) -> NotedScript
+    requires { notes.noted ≡ NotedScript.Unused }
+    ensures { IsNotedOfSome notes.bound (H.tenants host) tenant result }
+{
+    let _is_there = host.read(rt, tenant, &mut notes);
+    let ScriptNotes { noted, .. } = notes;
+    noted
+}
+
+/// The script of a tenant, unless its cell is busy for too long.
+pub(crate) fn noted_in<T: Clock, H: Lending>(
+    patience: &mut LockBudget<'_, T>,
+    host: H,
+    tenant: u32,
+    mut notes: ScriptNotes,
+) -> NotedScript
+    requires { notes.noted ≡ NotedScript.Unused }
+    ensures { (result ≡ NotedScript.Lacking DumpError.Busy) ⊎ IsNotedOfSome notes.bound (H.tenants host) tenant result }
+{
+    if let Tried::Held = patience.read(host, tenant, &mut notes) {
+        return NotedScript::Lacking(DumpError::Busy);
+    }
+    let ScriptNotes { noted, .. } = notes;
+    noted
+}
