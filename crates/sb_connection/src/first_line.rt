@@ -136,7 +136,7 @@ fn greet_visitor<T: Wait, H: Hosting, V: Watch, D: Doorkeeper>(
     };
     let KeyHandshake { named, key } = handshake;
     if !talk.doorkeeper.lets_in(talk.rt, named.tenant, key) {
-        talk.watch.see(ConnectionEvent::Barred(named));
+        talk.watch.on_event(ConnectionEvent::Barred(named));
         *away = true;
         return write_bare_refusal(out, WireRefusal::BadKey);
     }
@@ -155,7 +155,7 @@ fn turn_away<V: Watch>(
     ensures err { OnErr result (out.new.items ≡ out.old.items) }
 {
     *away = true;
-    watch.see(ConnectionEvent::Unnamed(why));
+    watch.on_event(ConnectionEvent::Unnamed(why));
     write_bare_refusal(out, why)
 }
 
@@ -175,13 +175,13 @@ fn open<T: Wait, H: Hosting, V: Watch, D: Doorkeeper>(
     let named = pass.named();
     match talk.entrance.open(talk.rt, alloc, talk.first, pass) {
         Ok(opened) => {
-            talk.watch.see(ConnectionEvent::Attached(named));
+            talk.watch.on_event(ConnectionEvent::Attached(named));
             *session = Some(OpenSession::new(opened));
             write_bare_reply(out, &Reply::Ok)
         }
         Err(error) => {
             talk.watch
-                .see(ConnectionEvent::TurnedAway { named, why: error });
+                .on_event(ConnectionEvent::TurnedAway { named, why: error });
             *away = true;
             refuse(out, error)
         }

@@ -273,7 +273,7 @@ impl<H: Hosting, D: Doorkeeper> ProtocolState<H, D> {
         );
         if !self.tells_unbegun {
             self.tells_unbegun = true;
-            watch.see(ConnectionEvent::NotBegun(named));
+            watch.on_event(ConnectionEvent::NotBegun(named));
         }
     }
 

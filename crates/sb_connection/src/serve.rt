@@ -89,22 +89,22 @@ pub(crate) fn tell_end<V: Watch>(watch: &V, first: u32, stub: &Option<Stub>, end
     };
     match (ended, named) {
         (ConnectionEnd::Well, _) | (ConnectionEnd::ByOperator, None) => {}
-        (ConnectionEnd::Fault { why, reason }, _) => watch.see(ConnectionEvent::Failed {
+        (ConnectionEnd::Fault { why, reason }, _) => watch.on_event(ConnectionEvent::Failed {
             named,
             why,
             reason,
         }),
-        (ConnectionEnd::IdleTransaction, Some(named)) => watch.see(ConnectionEvent::IdleTransaction(
+        (ConnectionEnd::IdleTransaction, Some(named)) => watch.on_event(ConnectionEvent::IdleTransaction(
             named,
         )),
-        (ConnectionEnd::ByOperator, Some(named)) => watch.see(ConnectionEvent::Ended(named)),
-        (ConnectionEnd::Idle | ConnectionEnd::IdleTransaction, _) => watch.see(
+        (ConnectionEnd::ByOperator, Some(named)) => watch.on_event(ConnectionEvent::Ended(named)),
+        (ConnectionEnd::Idle | ConnectionEnd::IdleTransaction, _) => watch.on_event(
             ConnectionEvent::Idle(named),
         ),
     }
     match stub {
-        Some(stub) => watch.see(closed(first, stub)),
-        None => watch.see(ConnectionEvent::Left),
+        Some(stub) => watch.on_event(closed(first, stub)),
+        None => watch.on_event(ConnectionEvent::Left),
     }
 }
 

@@ -49,7 +49,7 @@ pub(crate) fn steps_left(step: Option<u32>) -> u32 {
 pub(crate) fn tell_room<V: Watch>(watch: &V, tenant: u32, step: u32) {
     let left = steps_left(Some(step));
     if step == MOST_STEPS || left == FEW_STEPS {
-        watch.see(ConnectionEvent::Fills { tenant, left });
+        watch.on_event(ConnectionEvent::Fills { tenant, left });
     }
 }
 
@@ -69,7 +69,7 @@ pub(crate) fn tell_reply<T: Wait, V: Watch, S: Calling>(
     let Some(answer) = session.last() else {
         return;
     };
-    watch.hear(
+    watch.on_reply(
         rt,
         Answered::new(
             named,
@@ -90,7 +90,7 @@ pub(crate) fn tell_refusal<T: Wait, V: Watch>(
     why: WireRefusal,
     transacted: bool,
 ) {
-    watch.hear(
+    watch.on_reply(
         rt,
         Answered::new(named, piece, false, Said::Refusal(why), transacted),
     );

@@ -199,27 +199,27 @@ pub struct Slow<'a> {
 
 /// Is told what happens to connections.
 pub trait Watch {
-    fn see(&self, event: ConnectionEvent);
+    fn on_event(&self, event: ConnectionEvent);
 
     /// What happens to the connection of the client at this port.
-    fn see_client(&self, port: u16, event: ConnectionEvent);
+    fn on_client_event(&self, port: u16, event: ConnectionEvent);
 
     /// What a line was answered.
-    fn hear<T: Wait>(&self, rt: &T, answered: Answered<'_>);
+    fn on_reply<T: Wait>(&self, rt: &T, answered: Answered<'_>);
 
     /// A line of the client at this port took long.
-    fn see_slow(&self, port: u16, slow: Slow<'_>);
+    fn on_slow_line(&self, port: u16, slow: Slow<'_>);
 }
 
 /// Nobody is told.
 pub struct NoWatch;
 
 impl Watch for NoWatch {
-    fn see(&self, _event: ConnectionEvent) {}
+    fn on_event(&self, _event: ConnectionEvent) {}
 
-    fn see_client(&self, _port: u16, _event: ConnectionEvent) {}
+    fn on_client_event(&self, _port: u16, _event: ConnectionEvent) {}
 
-    fn hear<T: Wait>(&self, _rt: &T, _answered: Answered<'_>) {}
+    fn on_reply<T: Wait>(&self, _rt: &T, _answered: Answered<'_>) {}
 
-    fn see_slow(&self, _port: u16, _slow: Slow<'_>) {}
+    fn on_slow_line(&self, _port: u16, _slow: Slow<'_>) {}
 }

@@ -161,7 +161,7 @@ impl<'s, H: Hosting, V: Watch, D: Doorkeeper, K: CommitHook, C: Clock> AcceptThr
         } else if token.0 < MOST_PENDING || token.0 > MOST_PENDING + MOST_PENDING {
             self.lobby.note(event);
         } else if let Some(pending_connection) = self.pending_connections.try_remove(token.0 - MOST_PENDING) {
-            self.hear(rt, pending_connection);
+            self.serve_pending(rt, pending_connection);
         }
     }
 
@@ -186,22 +186,22 @@ impl<'s, H: Hosting, V: Watch, D: Doorkeeper, K: CommitHook, C: Clock> AcceptThr
         match PendingConnection::of(self.lobby.serving.alloc, client) {
             Ok(pending_connection) => {
                 self.tell(port, ConnectionEvent::Came);
-                self.hear(rt, pending_connection);
+                self.serve_pending(rt, pending_connection);
             }
             Err(_) => self.tell(port, ConnectionEvent::NoPlace),
         }
     }
 
     fn tell(&self, port: u16, event: ConnectionEvent) {
-        self.lobby.serving.watch.see_client(port, event);
+        self.lobby.serving.watch.on_client_event(port, event);
     }
 
     /// Reads what has come of a newcomer, and sends it on where its first line is known.
-    fn hear<T: Wait>(&mut self, rt: &T, mut pending_connection: Box<PendingConnection>)
+    fn serve_pending<T: Wait>(&mut self, rt: &T, mut pending_connection: Box<PendingConnection>)
         ensures { self.new.lobby.stubs.items ≡ self.old.lobby.stubs.items }
     {
         let port = pending_connection.port;
-        match self.lobby.hear(&mut pending_connection) {
+        match self.lobby.read_first_line(&mut pending_connection) {
             HandshakeRead::Destination(Destination::Unknown) => self.keep(pending_connection),
             HandshakeRead::Destination(Destination::To(tenant)) => self.hand_over(rt, tenant, pending_connection),
             HandshakeRead::Destination(Destination::Away) => {
@@ -274,7 +274,7 @@ impl<'s, H: Hosting, V: Watch, D: Doorkeeper, K: CommitHook, C: Clock> AcceptThr
             return;
         };
         pending_connection.grow_older();
-        self.hear(rt, pending_connection);
+        self.serve_pending(rt, pending_connection);
         if self.is_late(key) {
             if let Some(pending_connection) = self.pending_connections.try_remove(key) {
                 self.tell(pending_connection.port, ConnectionEvent::Late);

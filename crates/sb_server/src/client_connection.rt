@@ -107,7 +107,7 @@ impl<H: Hosting, S: Stream + Drop, D: Doorkeeper> ClientConnection<H, S, D> {
             return None;
         }
         for _read in 0..LAST_READS {
-            if let Some(fault) = self.hear(buffer) {
+            if let Some(fault) = self.read_stream(buffer) {
                 return Some(fault);
             }
             self.answer(rt, metrics_context, doorkeeper);
@@ -190,7 +190,7 @@ impl<H: Hosting, S: Stream + Drop, D: Doorkeeper> ClientConnection<H, S, D> {
     }
 
     /// Reads once, if the connection wants it. It gives the fault, if there is one.
-    fn hear(&mut self, buffer: &mut Vec<u8>) -> Option<ConnectionEnd>
+    fn read_stream(&mut self, buffer: &mut Vec<u8>) -> Option<ConnectionEnd>
         ensures fault { IfSome result (EndsBy (S.traffic self.new.stream) self.new.connection self.new.is_cut) }
         ensures reads { MayReceive self.old.connection → self.old.connection.pending ≡ [] → self.old.is_cut ≡ false
             → ReadsOnce (S.traffic self.old.stream) (S.traffic self.new.stream) }

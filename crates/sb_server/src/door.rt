@@ -172,7 +172,7 @@ impl<'s> Door<'s> {
         let millis = match self.fault {
             Some(pause) => LONGEST_PAUSE.min(pause.millis.saturating_mul(2)),
             None => {
-                watch.see(ConnectionEvent::NotAccepted(why));
+                watch.on_event(ConnectionEvent::NotAccepted(why));
                 FIRST_PAUSE
             }
         };

@@ -107,11 +107,11 @@ impl PendingConnection {
     }
 
     /// Reads until its first line is known, or nothing more is there.
-    pub(crate) fn hear(&mut self, buffer: &mut Vec<u8>, by: HandshakeSettings) -> HandshakeRead
+    pub(crate) fn read_first_line(&mut self, buffer: &mut Vec<u8>, by: HandshakeSettings) -> HandshakeRead
         ensures { HeardBy (hosting_by by.keyed by.first by.tenants) self.new.bytes.items self.new.is_cut result }
     {
         for _read in 0..MOST_READS {
-            if let Some(heard) = self.hear_once(buffer, by) {
+            if let Some(heard) = self.read_once(buffer, by) {
                 return heard;
             }
         }
@@ -119,7 +119,7 @@ impl PendingConnection {
     }
 
     /// Reads once. None where it is to be read again.
-    fn hear_once(&mut self, buffer: &mut Vec<u8>, by: HandshakeSettings) -> Option<HandshakeRead>
+    fn read_once(&mut self, buffer: &mut Vec<u8>, by: HandshakeSettings) -> Option<HandshakeRead>
         ensures { IfSome result (HeardBy (hosting_by by.keyed by.first by.tenants) self.new.bytes.items self.new.is_cut) }
     {
         if self.is_cut {

@@ -121,7 +121,7 @@ impl<'e, 'w, V: Watch, C: Clock> ReplyMetrics<'e, 'w, V, C> {
                 line: answered.line(),
                 millis: nanos / NANOS,
             };
-            self.metrics_context.watch.see_slow(self.port, slow);
+            self.metrics_context.watch.on_slow_line(self.port, slow);
         }
     }
 }
@@ -151,21 +151,21 @@ fn refusal_of(event: &ConnectionEvent) -> Option<u8> {
 }
 
 impl<'e, 'w, V: Watch, C: Clock> Watch for ReplyMetrics<'e, 'w, V, C> {
-    fn see(&self, event: ConnectionEvent) {
+    fn on_event(&self, event: ConnectionEvent) {
         if let Some(number) = refusal_of(&event) {
             self.add(Count::Refusal(number), 1);
         }
         if let ConnectionEvent::Attached(named) = event {
             self.note_last(named);
         }
-        self.metrics_context.watch.see_client(self.port, event);
+        self.metrics_context.watch.on_client_event(self.port, event);
     }
 
-    fn see_client(&self, port: u16, event: ConnectionEvent) {
-        self.metrics_context.watch.see_client(port, event);
+    fn on_client_event(&self, port: u16, event: ConnectionEvent) {
+        self.metrics_context.watch.on_client_event(port, event);
     }
 
-    fn hear<T: Wait>(&self, rt: &T, answered: Answered<'_>) {
+    fn on_reply<T: Wait>(&self, rt: &T, answered: Answered<'_>) {
         if self.metrics_context.server_metrics.is_set() {
             self.count(answered);
         }
@@ -174,7 +174,7 @@ impl<'e, 'w, V: Watch, C: Clock> Watch for ReplyMetrics<'e, 'w, V, C> {
         }
     }
 
-    fn see_slow(&self, port: u16, slow: Slow<'_>) {
-        self.metrics_context.watch.see_slow(port, slow);
+    fn on_slow_line(&self, port: u16, slow: Slow<'_>) {
+        self.metrics_context.watch.on_slow_line(port, slow);
     }
 }

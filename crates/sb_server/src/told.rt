@@ -11,19 +11,19 @@ pub(crate) struct Told<'w, V> {
 }
 
 impl<'w, V: Watch> Watch for Told<'w, V> {
-    fn see(&self, event: ConnectionEvent) {
-        self.watch.see_client(self.port, event);
+    fn on_event(&self, event: ConnectionEvent) {
+        self.watch.on_client_event(self.port, event);
     }
 
-    fn see_client(&self, port: u16, event: ConnectionEvent) {
-        self.watch.see_client(port, event);
+    fn on_client_event(&self, port: u16, event: ConnectionEvent) {
+        self.watch.on_client_event(port, event);
     }
 
-    fn hear<T: Wait>(&self, rt: &T, answered: Answered<'_>) {
-        self.watch.hear(rt, answered);
+    fn on_reply<T: Wait>(&self, rt: &T, answered: Answered<'_>) {
+        self.watch.on_reply(rt, answered);
     }
 
-    fn see_slow(&self, port: u16, slow: Slow<'_>) {
-        self.watch.see_slow(port, slow);
+    fn on_slow_line(&self, port: u16, slow: Slow<'_>) {
+        self.watch.on_slow_line(port, slow);
     }
 }

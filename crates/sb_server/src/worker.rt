@@ -219,11 +219,11 @@ impl<'s, H: Hosting, V: Watch, D: Doorkeeper, K: CommitHook, C: Clock> Worker<'s
     }
 
     /// Reads what has come of a newcomer.
-    pub(crate) fn hear(&mut self, pending_connection: &mut PendingConnection) -> HandshakeRead
+    pub(crate) fn read_first_line(&mut self, pending_connection: &mut PendingConnection) -> HandshakeRead
         ensures { self.new.stubs ≡ self.old.stubs }
     {
         let serving = self.serving;
-        pending_connection.hear(&mut self.buffer, serving.handshake())
+        pending_connection.read_first_line(&mut self.buffer, serving.handshake())
     }
 
     /// Whether it has no connection.
@@ -401,7 +401,7 @@ impl<'s, H: Hosting, V: Watch, D: Doorkeeper, K: CommitHook, C: Clock> Worker<'s
 
     /// Tells a client that isn't served.
     fn refuse(&self, port: u16, why: ConnectionEvent) {
-        self.serving.watch.see_client(port, why);
+        self.serving.watch.on_client_event(port, why);
     }
 
     /// Takes a connection, whose first line names this tenant if it opens a session. One that has no place isn't served.

@@ -6,10 +6,10 @@ use Rattle.std.specs.List.{list_all}
 use Rattle.std.proofs.lemmas.List.Folds.{list_all-append}
 use Rattle.std.proofs.lemmas.Bool.Decides.{nat_tests}
 use Rattle.sb_status.specs.Escape.{escaped, html_byte, is_markup}
-use Rattle.sb_status.specs.Laws.{StandsInMark}
+use Rattle.sb_status.specs.Laws.{StandsInMarkup}
 use Rattle.sb_status.specs.Pages.{piece_text, rendered}
 use Rattle.sb_status.specs.declared.fragment.Fragment.{Fragment}
-use Rattle.sb_status.specs.declared.fragment.Fragment.TheVariants.{Mark, Number, Text}
+use Rattle.sb_status.specs.declared.fragment.Fragment.TheVariants.{Markup, Number, Text}
 use Rattle.sb_status.specs.declared.text.Escaping.TheVariants.{Html}
 
 abbrev plain : ℕ → Bool
@@ -79,8 +79,8 @@ first_or_second (x ∷ xs) ys (b ∷ before) byte behind e =
 -- ---- the pieces of a page
 
 in_piece : (p : Fragment) (ps : List Fragment) (before : List ℕ) (byte : ℕ) (behind : List ℕ) → is_markup byte ≡ true
-    → StandsFirst (piece_text Html p) (rendered Html ps) before byte behind → StandsInMark (p ∷ ps) before byte behind
-in_piece (Mark m) ps before byte behind markup (right, is, at_end) = record {
+    → StandsFirst (piece_text Html p) (rendered Html ps) before byte behind → StandsInMarkup (p ∷ ps) before byte behind
+in_piece (Markup m) ps before byte behind markup (right, is, at_end) = record {
   mark = m;
   first = [];
   last = ps;
@@ -95,7 +95,7 @@ in_piece (Text t) ps before byte behind markup (right, is, at_end) = absurd (non
 in_piece (Number n) ps before byte behind markup (right, is, at_end) = absurd (none_within (decimal n) before right byte (number-plain n) is markup)
 
 behind_piece : (p : Fragment) (ps : List Fragment) (before left : List ℕ) (byte : ℕ) (behind : List ℕ)
-    → before ≡ piece_text Html p ++ left → StandsInMark ps left byte behind → StandsInMark (p ∷ ps) before byte behind
+    → before ≡ piece_text Html p ++ left → StandsInMarkup ps left byte behind → StandsInMarkup (p ∷ ps) before byte behind
 behind_piece p ps before left byte behind is s = record {
   mark = s.mark;
   first = p ∷ s.first;
@@ -109,7 +109,7 @@ behind_piece p ps before left byte behind is s = record {
 }
 
 pub markup_stands : (pieces : List Fragment) (before : List ℕ) (byte : ℕ) (behind : List ℕ) → rendered Html pieces ≡ before ++ byte ∷ behind → is_markup byte ≡ true
-    → StandsInMark pieces before byte behind
+    → StandsInMarkup pieces before byte behind
 markup_stands [] before byte behind e markup = absurd (nowhere before byte behind e)
 markup_stands (p ∷ ps) before byte behind e markup =
     elim (first_or_second (piece_text Html p) (rendered Html ps) before byte behind e) [

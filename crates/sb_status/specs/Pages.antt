@@ -2,13 +2,13 @@
 use Rattle.std.specs.Prelude.{◌≡◌, ℕ, List, decimal}
 use Rattle.std.specs.List.{flat_map}
 use Rattle.sb_status.specs.Escape.{escaped}
-use Rattle.sb_status.specs.MarkupTexts.{mark_text}
+use Rattle.sb_status.specs.MarkupTexts.{markup_text}
 use Rattle.sb_status.specs.declared.fragment.Fragment.{Fragment}
-use Rattle.sb_status.specs.declared.fragment.Fragment.TheVariants.{Mark, Text, Number}
+use Rattle.sb_status.specs.declared.fragment.Fragment.TheVariants.{Markup, Text, Number}
 use Rattle.sb_status.specs.declared.text.Escaping.{Escaping}
 
 abbrev pub piece_text : Escaping → Fragment → List ℕ
-piece_text e (Mark m) = mark_text m
+piece_text e (Markup m) = markup_text m
 piece_text e (Text t) = escaped e t.now
 piece_text e (Number n) = decimal n
 

@@ -4,29 +4,29 @@ use Rattle.std.specs.List.{flat_map}
 use Rattle.sb_status.specs.Pages.{rendered}
 use Rattle.sb_status.specs.declared.fragment.Fragment.{Fragment}
 use Rattle.sb_status.specs.declared.fragment.Fragment.TheVariants as piece
-use Rattle.sb_status.specs.declared.markup.Mark.{Mark}
-use Rattle.sb_status.specs.declared.markup.Mark.TheVariants.{FactActive, FactBytes, FactChanges, FactOpen, FactRoom, FactRows, FactSteps, FactsEnd, Head, OldPage, OldPageEnd, TenantTitle}
+use Rattle.sb_status.specs.declared.markup.Markup.{Markup}
+use Rattle.sb_status.specs.declared.markup.Markup.TheVariants.{FactActive, FactBytes, FactChanges, FactOpen, FactRoom, FactRows, FactSteps, FactsEnd, Head, OldPage, OldPageEnd, TenantTitle}
 use Rattle.sb_status.specs.declared.text.Escaping.TheVariants.{Html}
 use Rattle.sb_status.specs.declared.view.TenantNumbers.{TenantNumbers}
 use Rattle.sb_status.specs.declared.view.TenantView.{TenantView}
 
 -- marks, each with a number behind it
-abbrev pub counted : List (Mark × ℕ) → List Fragment
-counted counts = flat_map (λ c. piece.Mark c.0 ∷ piece.Number c.1 ∷ []) counts
+abbrev pub counted : List (Markup × ℕ) → List Fragment
+counted counts = flat_map (λ c. piece.Markup c.0 ∷ piece.Number c.1 ∷ []) counts
 
 -- how old the numbers are, if they aren't new
 abbrev pub age_pieces : Option ℕ → List Fragment
 age_pieces None = []
-age_pieces (Some seconds) = piece.Mark OldPage ∷ piece.Number seconds ∷ piece.Mark OldPageEnd ∷ []
+age_pieces (Some seconds) = piece.Markup OldPage ∷ piece.Number seconds ∷ piece.Markup OldPageEnd ∷ []
 
 -- the tenant's number in the title, and its others
-abbrev pub numbered : TenantNumbers → List (Mark × ℕ)
+abbrev pub numbered : TenantNumbers → List (Markup × ℕ)
 numbered n =
     (TenantTitle, n.tenant) ∷ (FactSteps, n.steps) ∷ (FactRoom, n.room) ∷ (FactBytes, n.bytes)
     ∷ (FactRows, n.rows) ∷ (FactOpen, n.open) ∷ (FactActive, n.active) ∷ (FactChanges, n.changes) ∷ []
 
 abbrev pub beginning_of : TenantNumbers → List Fragment
-beginning_of n = piece.Mark Head ∷ (age_pieces n.age ++ (counted (numbered n) ++ piece.Mark FactsEnd ∷ []))
+beginning_of n = piece.Markup Head ∷ (age_pieces n.age ++ (counted (numbered n) ++ piece.Markup FactsEnd ∷ []))
 
 -- these bytes are a page of this tenant: its numbers stand in front
 abbrev pub IsPageOf : TenantView → List ℕ → Type 0

@@ -1,13 +1,13 @@
 //! What a server has counted, on its page.
 
 use crate::fragment::Fragment;
-use crate::markup::Mark;
+use crate::markup::Markup;
 use crate::page::Page;
 use crate::view::{Activity, Refused, Rollbacks, SlowView, WorkerNumbers};
 use std::alloc::AllocError;
 
 /// The marks of a row of two cells.
-const ROW: [Mark; 3] = [Mark::Row, Mark::NumberCell, Mark::RowEnd];
+const ROW: [Markup; 3] = [Markup::Row, Markup::NumberCell, Markup::RowEnd];
 
 /// Microseconds.
 const SECOND: u64 = 1_000_000;
@@ -15,10 +15,10 @@ const SECOND: u64 = 1_000_000;
 /// Writes the sums of what all workers have counted.
 pub(crate) fn write_sums(page: &mut Page<'_>, activity: Activity<'_>) -> Result<(), AllocError> {
     page.counts(&[
-        (Mark::FactLines, lines_of(activity.workers)),
-        (Mark::FactConsiderations, activity.considerations),
-        (Mark::FactRollbacks, rollbacks_of(activity.rollbacks)),
-        (Mark::FactRefusals, refusals_of(activity.refusals)),
+        (Markup::FactLines, lines_of(activity.workers)),
+        (Markup::FactConsiderations, activity.considerations),
+        (Markup::FactRollbacks, rollbacks_of(activity.rollbacks)),
+        (Markup::FactRefusals, refusals_of(activity.refusals)),
     ])
 }
 
@@ -50,7 +50,7 @@ fn refusals_of(refusals: &[Refused]) -> u64 {
 /// Writes seconds with six places behind the point.
 pub(crate) fn write_seconds(page: &mut Page<'_>, micros: u64) -> Result<(), AllocError> {
     page.number(micros / SECOND)?;
-    page.mark(Mark::Point)?;
+    page.mark(Markup::Point)?;
     page.number(micros / 100_000 % 10)?;
     page.number(micros / 10_000 % 10)?;
     page.number(micros / 1_000 % 10)?;
@@ -64,11 +64,11 @@ pub(crate) fn write_workers(
     page: &mut Page<'_>,
     workers: &[WorkerNumbers],
 ) -> Result<(), AllocError> {
-    page.mark(Mark::WorkersHead)?;
+    page.mark(Markup::WorkersHead)?;
     for (place, worker) in workers.iter().enumerate() {
         write_worker(page, place, place + 1 == workers.len(), *worker)?;
     }
-    page.mark(Mark::TableEnd)
+    page.mark(Markup::TableEnd)
 }
 
 fn write_worker(
@@ -78,27 +78,27 @@ fn write_worker(
     worker: WorkerNumbers,
 ) -> Result<(), AllocError> {
     if is_door {
-        page.mark(Mark::DoorCell)?;
+        page.mark(Markup::DoorCell)?;
     } else {
-        page.count(Mark::Row, place as u64)?;
+        page.count(Markup::Row, place as u64)?;
     }
     page.cells(&[
         worker.taken.saturating_sub(worker.closed),
         worker.taken,
         worker.lines,
     ])?;
-    page.mark(Mark::NumberCell)?;
+    page.mark(Markup::NumberCell)?;
     write_seconds(page, worker.busy)?;
-    page.mark(Mark::RowEnd)
+    page.mark(Markup::RowEnd)
 }
 
 /// Writes rollbacks by what did them.
 pub(crate) fn write_rollbacks(page: &mut Page<'_>, rollbacks: Rollbacks) -> Result<(), AllocError> {
-    page.mark(Mark::CausesHead)?;
+    page.mark(Markup::CausesHead)?;
     for (cause, count) in causes(rollbacks).as_slice() {
         page.pair(ROW, Fragment::Text(cause.as_bytes()), *count)?;
     }
-    page.mark(Mark::TableEnd)
+    page.mark(Markup::TableEnd)
 }
 
 /// What rolls back, and how often it did.
@@ -117,15 +117,15 @@ pub(crate) fn write_refusals(page: &mut Page<'_>, refusals: &[Refused]) -> Resul
     if refusals.is_empty() {
         return Ok(());
     }
-    page.mark(Mark::RefusalsHead)?;
+    page.mark(Markup::RefusalsHead)?;
     write_refused(page, ROW, refusals)?;
-    page.mark(Mark::TableEnd)
+    page.mark(Markup::TableEnd)
 }
 
 /// Writes the number of each refusal, and how often it was given.
 pub(crate) fn write_refused(
     page: &mut Page<'_>,
-    marks: [Mark; 3],
+    marks: [Markup; 3],
     refusals: &[Refused],
 ) -> Result<(), AllocError> {
     for refused in refusals {
@@ -142,15 +142,15 @@ pub(crate) fn write_slowest<'v>(
     if lines.is_empty() {
         return Ok(());
     }
-    page.mark(Mark::SlowestHead)?;
+    page.mark(Markup::SlowestHead)?;
     for line in lines {
-        page.count(Mark::Row, line.tenant)?;
-        page.count(Mark::Cell, line.session)?;
-        page.mark(Mark::NumberCell)?;
+        page.count(Markup::Row, line.tenant)?;
+        page.count(Markup::Cell, line.session)?;
+        page.mark(Markup::NumberCell)?;
         write_seconds(page, line.micros)?;
-        page.mark(Mark::PreCell)?;
+        page.mark(Markup::PreCell)?;
         page.text(line.line)?;
-        page.mark(Mark::PreRowEnd)?;
+        page.mark(Markup::PreRowEnd)?;
     }
-    page.mark(Mark::TableEnd)
+    page.mark(Markup::TableEnd)
 }

@@ -2,7 +2,7 @@
 ghost use Rattle.std.specs.Prelude.{◌≡◌, ◌++◌, IfOk, OnOk, decimal};
 ghost use Rattle.sb_status.specs.Pages.{piece_text, rendered};
 
-use crate::markup::Mark;
+use crate::markup::Markup;
 use crate::text::{Escaping, push_text};
 use itoa::Buffer;
 use std::alloc::{AllocError, Global};
@@ -10,7 +10,7 @@ use std::alloc::{AllocError, Global};
 /// A piece of a page: its own markup, a text of others, or a number.
 #[derive(Clone, Copy)]
 pub enum Fragment<'a> {
-    Mark(Mark),
+    Markup(Markup),
     Text(&'a [u8]),
     Number(u64),
 }
@@ -34,7 +34,7 @@ fn push_piece(out: &mut Vec<u8>, escaping: Escaping, piece: Fragment<'_>) -> Res
     ensures { OnOk result (out.new.items ≡ out.old.items ++ piece_text escaping piece.entry) }
 {
     match piece {
-        Fragment::Mark(mark) => out.extend_from_slice(mark.text().as_bytes()),
+        Fragment::Markup(mark) => out.extend_from_slice(mark.text().as_bytes()),
         Fragment::Text(text) => push_text(out, escaping, text),
         Fragment::Number(number) => push_number(out, number),
     }

@@ -4,7 +4,7 @@ ghost use Rattle.sb_status.specs.Pages.{IsPage};
 ghost use Rattle.sb_status.specs.declared.text.Escaping.TheVariants as escaping;
 
 use crate::activity::{write_refusals, write_rollbacks, write_slowest, write_sums, write_workers};
-use crate::markup::Mark;
+use crate::markup::Markup;
 use crate::page::Page;
 use crate::text::Escaping;
 use crate::view::{Activity, HostNumbers, HostView, TenantNumbers};
@@ -28,14 +28,14 @@ pub fn host_page(alloc: Global, view: HostView<'_>) -> Result<Vec<u8>, AllocErro
         tenants,
     } = view;
     let mut page = Page::new(alloc);
-    page.mark(Mark::Head)?;
+    page.mark(Markup::Head)?;
     write_facts(&mut page, host, activity)?;
     write_tenants(&mut page, tenants)?;
     write_workers(&mut page, activity.workers)?;
     write_rollbacks(&mut page, activity.rollbacks)?;
     write_refusals(&mut page, activity.refusals)?;
     write_slowest(&mut page, activity.slowest)?;
-    page.mark(Mark::Foot)?;
+    page.mark(Markup::Foot)?;
     page.render(alloc, Escaping::Html)
 }
 
@@ -44,44 +44,44 @@ fn write_facts<'v>(
     host: HostNumbers<'v>,
     activity: Activity<'_>,
 ) -> Result<(), AllocError> {
-    page.mark(Mark::HostTitle)?;
+    page.mark(Markup::HostTitle)?;
     page.text(host.version.as_bytes())?;
     write_uptime(page, host.uptime)?;
     if let Some(bytes) = host.memory {
-        page.count(Mark::FactMemory, bytes / KILOBYTE)?;
-        page.mark(Mark::Kilobytes)?;
+        page.count(Markup::FactMemory, bytes / KILOBYTE)?;
+        page.mark(Markup::Kilobytes)?;
     }
     page.counts(&[
-        (Mark::FactTenants, host.tenants),
-        (Mark::FactCells, host.cells),
-        (Mark::FactBound, host.bound),
+        (Markup::FactTenants, host.tenants),
+        (Markup::FactCells, host.cells),
+        (Markup::FactBound, host.bound),
     ])?;
     write_sums(page, activity)?;
-    page.mark(Mark::FactsEnd)
+    page.mark(Markup::FactsEnd)
 }
 
 fn write_uptime(page: &mut Page<'_>, seconds: u64) -> Result<(), AllocError> {
     page.counts(&[
-        (Mark::FactUptime, seconds / DAY),
-        (Mark::Days, seconds % DAY / HOUR),
-        (Mark::Hours, seconds % HOUR / MINUTE),
-        (Mark::Minutes, seconds % MINUTE),
+        (Markup::FactUptime, seconds / DAY),
+        (Markup::Days, seconds % DAY / HOUR),
+        (Markup::Hours, seconds % HOUR / MINUTE),
+        (Markup::Minutes, seconds % MINUTE),
     ])?;
-    page.mark(Mark::Seconds)
+    page.mark(Markup::Seconds)
 }
 
 fn write_tenants(page: &mut Page<'_>, tenants: &[TenantNumbers]) -> Result<(), AllocError> {
-    page.mark(Mark::TenantsHead)?;
+    page.mark(Markup::TenantsHead)?;
     for tenant in tenants {
         write_tenant(page, *tenant)?;
     }
-    page.mark(Mark::TableEnd)
+    page.mark(Markup::TableEnd)
 }
 
 fn write_tenant(page: &mut Page<'_>, tenant: TenantNumbers) -> Result<(), AllocError> {
-    page.count(Mark::TenantLink, tenant.tenant)?;
-    page.count(Mark::LinkText, tenant.tenant)?;
-    page.mark(Mark::LinkEnd)?;
+    page.count(Markup::TenantLink, tenant.tenant)?;
+    page.count(Markup::LinkText, tenant.tenant)?;
+    page.mark(Markup::LinkEnd)?;
     page.cells(&[
         tenant.steps,
         tenant.room,
@@ -95,10 +95,10 @@ fn write_tenant(page: &mut Page<'_>, tenant: TenantNumbers) -> Result<(), AllocE
     ])?;
     match tenant.age {
         Some(seconds) => {
-            page.count(Mark::OldAge, seconds)?;
-            page.mark(Mark::OldAgeEnd)?;
+            page.count(Markup::OldAge, seconds)?;
+            page.mark(Markup::OldAgeEnd)?;
         }
-        None => page.mark(Mark::Cell)?,
+        None => page.mark(Markup::Cell)?,
     }
-    page.mark(Mark::RowEnd)
+    page.mark(Markup::RowEnd)
 }

@@ -37,7 +37,7 @@ pub use fragment::Fragment;
 pub use graph::Graph;
 pub use host::host_page;
 pub use laws::{markup_stands_in_marks, texts_are_no_markup};
-pub use markup::Mark;
+pub use markup::Markup;
 pub use nodes::Nodes;
 pub use lock_budget::LockBudget;
 pub use request::{HEAD_LIMIT, Incoming, Request, read_request};

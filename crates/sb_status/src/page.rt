@@ -5,7 +5,7 @@ ghost use Rattle.sb_status.specs.TenantPages.{counted};
 ghost use Rattle.sb_status.specs.declared.fragment.Fragment.TheVariants as piece;
 
 use crate::fragment::{Fragment, render};
-use crate::markup::Mark;
+use crate::markup::Markup;
 use crate::text::Escaping;
 use std::alloc::{AllocError, Global};
 
@@ -29,10 +29,10 @@ impl<'a> Page<'a> {
         }
     }
 
-    pub(crate) fn mark(&mut self, mark: Mark) -> Result<(), AllocError>
-        ensures { OnOk result (self.new.pieces.items ≡ self.old.pieces.items ++ piece.Mark mark ∷ []) }
+    pub(crate) fn mark(&mut self, mark: Markup) -> Result<(), AllocError>
+        ensures { OnOk result (self.new.pieces.items ≡ self.old.pieces.items ++ piece.Markup mark ∷ []) }
     {
-        self.pieces.push(Fragment::Mark(mark))?;
+        self.pieces.push(Fragment::Markup(mark))?;
         Ok(())
     }
 
@@ -49,15 +49,15 @@ impl<'a> Page<'a> {
     }
 
     /// A mark and a number behind it.
-    pub(crate) fn count(&mut self, mark: Mark, number: u64) -> Result<(), AllocError>
-        ensures { OnOk result (self.new.pieces.items ≡ self.old.pieces.items ++ piece.Mark mark ∷ piece.Number number ∷ []) }
+    pub(crate) fn count(&mut self, mark: Markup, number: u64) -> Result<(), AllocError>
+        ensures { OnOk result (self.new.pieces.items ≡ self.old.pieces.items ++ piece.Markup mark ∷ piece.Number number ∷ []) }
     {
         self.mark(mark)?;
         self.number(number)
     }
 
     /// Marks, each with a number behind it.
-    pub(crate) fn counts(&mut self, counts: &[(Mark, u64)]) -> Result<(), AllocError>
+    pub(crate) fn counts(&mut self, counts: &[(Markup, u64)]) -> Result<(), AllocError>
         ensures { OnOk result (self.new.pieces.items ≡ self.old.pieces.items ++ counted counts.now) }
     {
         for (mark, number) in counts {
@@ -69,7 +69,7 @@ impl<'a> Page<'a> {
     /// A text or a number, and a count of it, with marks before, between and behind the two.
     pub(crate) fn pair(
         &mut self,
-        marks: [Mark; 3],
+        marks: [Markup; 3],
         counted: Fragment<'a>,
         count: u64,
     ) -> Result<(), AllocError> {
@@ -83,7 +83,7 @@ impl<'a> Page<'a> {
     /// Cells of a row, each with a number.
     pub(crate) fn cells(&mut self, numbers: &[u64]) -> Result<(), AllocError> {
         for number in numbers {
-            self.count(Mark::NumberCell, *number)?;
+            self.count(Markup::NumberCell, *number)?;
         }
         Ok(())
     }

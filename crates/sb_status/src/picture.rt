@@ -1,7 +1,7 @@
 //! The picture of a tenant's rules.
 
 use crate::layers::Layout;
-use crate::markup::Mark;
+use crate::markup::Markup;
 use crate::node_box::{Curve, HEIGHT, LETTER, NodeBox};
 use crate::nodes::Nodes;
 use crate::page::Page;
@@ -28,7 +28,7 @@ pub(crate) fn draw<'v>(
 ) -> Result<(), AllocError> {
     let layout = Layout::of(alloc, view.graph.triggers.as_slice())?;
     let width = width_of(view.rules.as_slice());
-    page.mark(Mark::PictureHead)?;
+    page.mark(Markup::PictureHead)?;
     begin(page, &layout, width)?;
     let mut drawing = Drawing {
         page,
@@ -61,12 +61,12 @@ fn begin(page: &mut Page<'_>, layout: &Layout, width: u64) -> Result<(), AllocEr
         bottom = bottom.max(end.1);
     }
     page.counts(&[
-        (Mark::SvgWidth, right),
-        (Mark::SvgHeight, bottom),
-        (Mark::SvgBox, right),
-        (Mark::Blank, bottom),
+        (Markup::SvgWidth, right),
+        (Markup::SvgHeight, bottom),
+        (Markup::SvgBox, right),
+        (Markup::Blank, bottom),
     ])?;
-    page.mark(Mark::SvgHead)
+    page.mark(Markup::SvgHead)
 }
 
 impl<'d, 'v> Drawing<'d, 'v> {
@@ -106,26 +106,26 @@ impl<'d, 'v> Drawing<'d, 'v> {
             NodeBox::of(*end, self.width),
         );
         let mark = if is_order {
-            Mark::OrderArrow
+            Markup::OrderArrow
         } else if self.layout.reaches(to, from) {
-            Mark::CycleArrow
+            Markup::CycleArrow
         } else {
-            Mark::Arrow
+            Markup::Arrow
         };
         self.curve(mark, curve)
     }
 
-    fn curve(&mut self, mark: Mark, curve: Curve) -> Result<(), AllocError> {
+    fn curve(&mut self, mark: Markup, curve: Curve) -> Result<(), AllocError> {
         self.point(mark, curve.from)?;
-        self.point(Mark::CurveBy, curve.first)?;
-        self.point(Mark::Blank, curve.second)?;
-        self.point(Mark::Blank, curve.to)?;
-        self.page.mark(Mark::ArrowEnd)
+        self.point(Markup::CurveBy, curve.first)?;
+        self.point(Markup::Blank, curve.second)?;
+        self.point(Markup::Blank, curve.to)?;
+        self.page.mark(Markup::ArrowEnd)
     }
 
-    fn point(&mut self, mark: Mark, point: (u64, u64)) -> Result<(), AllocError> {
+    fn point(&mut self, mark: Markup, point: (u64, u64)) -> Result<(), AllocError> {
         self.page.count(mark, point.0)?;
-        self.page.count(Mark::Blank, point.1)
+        self.page.count(Markup::Blank, point.1)
     }
 
     fn all_rules(&mut self, rules: &'v [RuleView]) -> Result<(), AllocError> {
@@ -140,29 +140,29 @@ impl<'d, 'v> Drawing<'d, 'v> {
     /// The box of a rule with its name, and a word where it is on a cycle.
     fn rule(&mut self, spot: NodeBox, rule: &'v RuleView) -> Result<(), AllocError> {
         let mark = match (spot.is_on_cycle(), rule.is_active) {
-            (true, true) => Mark::CycleBox,
-            (true, false) => Mark::InactiveCycleBox,
-            (false, true) => Mark::RuleBox,
-            (false, false) => Mark::InactiveBox,
+            (true, true) => Markup::CycleBox,
+            (true, false) => Markup::InactiveCycleBox,
+            (false, true) => Markup::RuleBox,
+            (false, false) => Markup::InactiveBox,
         };
         let (left, top) = spot.corner();
         let name = spot.name();
         self.page.counts(&[
             (mark, left),
-            (Mark::BoxTop, top),
-            (Mark::BoxWidth, self.width),
-            (Mark::BoxHeight, HEIGHT),
-            (Mark::NameAt, name.0),
-            (Mark::TextTop, name.1),
+            (Markup::BoxTop, top),
+            (Markup::BoxWidth, self.width),
+            (Markup::BoxHeight, HEIGHT),
+            (Markup::NameAt, name.0),
+            (Markup::TextTop, name.1),
         ])?;
-        self.page.mark(Mark::TextBegin)?;
+        self.page.mark(Markup::TextBegin)?;
         self.page.text(rule.name.as_slice())?;
-        self.page.mark(Mark::TextEnd)?;
+        self.page.mark(Markup::TextEnd)?;
         if spot.is_on_cycle() {
             let word = spot.word();
-            self.page.count(Mark::WordAt, word.0)?;
-            self.page.count(Mark::TextTop, word.1)?;
-            self.page.mark(Mark::CycleWord)?;
+            self.page.count(Markup::WordAt, word.0)?;
+            self.page.count(Markup::TextTop, word.1)?;
+            self.page.mark(Markup::CycleWord)?;
         }
         Ok(())
     }
@@ -170,10 +170,10 @@ impl<'d, 'v> Drawing<'d, 'v> {
     /// Ends the drawing, and tells of arrows that it lacks.
     fn end(self) -> Result<(), AllocError> {
         let Drawing { page, arrows, .. } = self;
-        page.mark(Mark::SvgEnd)?;
+        page.mark(Markup::SvgEnd)?;
         if arrows > MOST_ARROWS {
-            page.count(Mark::LeftOut, arrows.saturating_sub(MOST_ARROWS))?;
-            page.mark(Mark::LeftOutEnd)?;
+            page.count(Markup::LeftOut, arrows.saturating_sub(MOST_ARROWS))?;
+            page.mark(Markup::LeftOutEnd)?;
         }
         Ok(())
     }

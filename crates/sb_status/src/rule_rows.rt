@@ -1,6 +1,6 @@
 //! The rules of a tenant, as the rows of a table.
 
-use crate::markup::Mark;
+use crate::markup::Markup;
 use crate::nodes::Nodes;
 use crate::page::Page;
 use crate::view::{RuleView, TenantView, TriggersView};
@@ -8,30 +8,30 @@ use std::alloc::AllocError;
 
 /// Writes the rules in order of creation.
 pub(crate) fn write_rules<'v>(page: &mut Page<'v>, view: &'v TenantView) -> Result<(), AllocError> {
-    page.mark(Mark::RulesHead)?;
+    page.mark(Markup::RulesHead)?;
     for (place, rule) in view.rules.as_slice().iter().enumerate() {
         write_rule(page, rule)?;
-        page.mark(Mark::Cell)?;
+        page.mark(Markup::Cell)?;
         write_others(page, view, view.graph.triggers.as_slice().get(place))?;
-        page.mark(Mark::Cell)?;
+        page.mark(Markup::Cell)?;
         write_others(page, view, view.graph.precedes.as_slice().get(place))?;
         write_lines(page, rule.lines.as_slice())?;
     }
-    page.mark(Mark::TableEnd)
+    page.mark(Markup::TableEnd)
 }
 
 /// What a rule is called, what it is on, what triggers it, and whether it is active.
 fn write_rule<'v>(page: &mut Page<'v>, rule: &'v RuleView) -> Result<(), AllocError> {
-    page.mark(Mark::Row)?;
+    page.mark(Markup::Row)?;
     page.text(rule.name.as_slice())?;
-    page.mark(Mark::Cell)?;
+    page.mark(Markup::Cell)?;
     page.text(rule.table.as_slice())?;
-    page.mark(Mark::Cell)?;
+    page.mark(Markup::Cell)?;
     write_triggers(page, &rule.triggers)?;
     page.mark(if rule.is_active {
-        Mark::ActiveCell
+        Markup::ActiveCell
     } else {
-        Mark::InactiveCell
+        Markup::InactiveCell
     })
 }
 
@@ -39,26 +39,26 @@ fn write_rule<'v>(page: &mut Page<'v>, rule: &'v RuleView) -> Result<(), AllocEr
 fn write_triggers<'v>(page: &mut Page<'v>, triggers: &'v TriggersView) -> Result<(), AllocError> {
     let mut is_first = true;
     if triggers.inserted {
-        write_next(page, &mut is_first, Mark::Inserted)?;
+        write_next(page, &mut is_first, Markup::Inserted)?;
     }
     if triggers.deleted {
-        write_next(page, &mut is_first, Mark::Deleted)?;
+        write_next(page, &mut is_first, Markup::Deleted)?;
     }
     if triggers.updated {
-        write_next(page, &mut is_first, Mark::Updated)?;
+        write_next(page, &mut is_first, Markup::Updated)?;
     }
     if triggers.columns.is_empty() {
         return Ok(());
     }
-    write_next(page, &mut is_first, Mark::UpdatedOf)?;
+    write_next(page, &mut is_first, Markup::UpdatedOf)?;
     write_names(page, triggers.columns.as_slice())?;
-    page.mark(Mark::UpdatedEnd)
+    page.mark(Markup::UpdatedEnd)
 }
 
 /// Writes a mark, with a comma in front of it unless it is the first.
-fn write_next(page: &mut Page<'_>, is_first: &mut bool, mark: Mark) -> Result<(), AllocError> {
+fn write_next(page: &mut Page<'_>, is_first: &mut bool, mark: Markup) -> Result<(), AllocError> {
     if !*is_first {
-        page.mark(Mark::Comma)?;
+        page.mark(Markup::Comma)?;
     }
     *is_first = false;
     page.mark(mark)
@@ -68,7 +68,7 @@ fn write_next(page: &mut Page<'_>, is_first: &mut bool, mark: Mark) -> Result<()
 pub(crate) fn write_names<'v>(page: &mut Page<'v>, names: &'v [Vec<u8>]) -> Result<(), AllocError> {
     for (place, name) in names.iter().enumerate() {
         if place > 0 {
-            page.mark(Mark::Comma)?;
+            page.mark(Markup::Comma)?;
         }
         page.text(name.as_slice())?;
     }
@@ -88,7 +88,7 @@ fn write_others<'v>(
     for (place, rule) in view.rules.as_slice().iter().enumerate() {
         if nodes.has(place) {
             if !is_first {
-                page.mark(Mark::Comma)?;
+                page.mark(Markup::Comma)?;
             }
             is_first = false;
             page.text(rule.name.as_slice())?;
@@ -99,10 +99,10 @@ fn write_others<'v>(
 
 /// Writes the lines that made a rule, the oldest first.
 fn write_lines<'v>(page: &mut Page<'v>, lines: &'v [Vec<u8>]) -> Result<(), AllocError> {
-    page.mark(Mark::LinesBegin)?;
+    page.mark(Markup::LinesBegin)?;
     for line in lines.iter().rev() {
         page.text(line.as_slice())?;
-        page.mark(Mark::NewLine)?;
+        page.mark(Markup::NewLine)?;
     }
-    page.mark(Mark::LinesEnd)
+    page.mark(Markup::LinesEnd)
 }

@@ -4,7 +4,7 @@ ghost use Rattle.sb_status.specs.Pages.{IsPage};
 ghost use Rattle.sb_status.specs.declared.text.Escaping.TheVariants as escaping;
 
 use crate::counters::write_activity;
-use crate::markup::Mark;
+use crate::markup::Markup;
 use crate::page::Page;
 use crate::text::Escaping;
 use crate::view::{HostNumbers, HostView, TenantNumbers};
@@ -13,8 +13,8 @@ use std::alloc::{AllocError, Global};
 /// A number that each tenant has.
 #[derive(Clone, Copy)]
 struct Family {
-    head: Mark,
-    sample: Mark,
+    head: Markup,
+    sample: Markup,
     number: u64,
 }
 
@@ -35,17 +35,17 @@ pub fn metrics(alloc: Global, view: HostView<'_>) -> Result<Vec<u8>, AllocError>
 }
 
 fn write_host<'v>(page: &mut Page<'v>, host: HostNumbers<'v>) -> Result<(), AllocError> {
-    page.mark(Mark::VersionSample)?;
+    page.mark(Markup::VersionSample)?;
     page.text(host.version.as_bytes())?;
-    page.mark(Mark::VersionEnd)?;
-    page.count(Mark::UptimeSample, host.uptime)?;
+    page.mark(Markup::VersionEnd)?;
+    page.count(Markup::UptimeSample, host.uptime)?;
     if let Some(bytes) = host.memory {
-        page.count(Mark::MemorySample, bytes)?;
+        page.count(Markup::MemorySample, bytes)?;
     }
     page.counts(&[
-        (Mark::TenantsSample, host.tenants),
-        (Mark::CellsSample, host.cells),
-        (Mark::BoundSample, host.bound),
+        (Markup::TenantsSample, host.tenants),
+        (Markup::CellsSample, host.cells),
+        (Markup::BoundSample, host.bound),
     ])
 }
 
@@ -61,8 +61,8 @@ fn write_family(
             page.mark(family.head)?;
         }
         page.count(family.sample, tenant.tenant)?;
-        page.count(Mark::SampleEnd, family.number)?;
-        page.mark(Mark::NewLine)?;
+        page.count(Markup::SampleEnd, family.number)?;
+        page.mark(Markup::NewLine)?;
     }
     Ok(())
 }
@@ -70,20 +70,20 @@ fn write_family(
 /// The number of a tenant at this place.
 fn family_at(place: usize, tenant: &TenantNumbers) -> Family {
     match place {
-        0 => made(Mark::StepsFamily, Mark::StepsSample, tenant.steps),
-        1 => made(Mark::RoomFamily, Mark::RoomSample, tenant.room),
-        2 => made(Mark::BytesFamily, Mark::BytesSample, tenant.bytes),
-        3 => made(Mark::TablesFamily, Mark::TablesSample, tenant.tables),
-        4 => made(Mark::RowsFamily, Mark::RowsSample, tenant.rows),
-        5 => made(Mark::RulesFamily, Mark::RulesSample, tenant.rules),
-        6 => made(Mark::OpenFamily, Mark::OpenSample, tenant.open),
-        7 => made(Mark::ActiveFamily, Mark::ActiveSample, tenant.active),
-        8 => made(Mark::ChangesFamily, Mark::ChangesSample, tenant.changes),
-        _ => made(Mark::OldFamily, Mark::OldSample, tenant.age.unwrap_or(0)),
+        0 => made(Markup::StepsFamily, Markup::StepsSample, tenant.steps),
+        1 => made(Markup::RoomFamily, Markup::RoomSample, tenant.room),
+        2 => made(Markup::BytesFamily, Markup::BytesSample, tenant.bytes),
+        3 => made(Markup::TablesFamily, Markup::TablesSample, tenant.tables),
+        4 => made(Markup::RowsFamily, Markup::RowsSample, tenant.rows),
+        5 => made(Markup::RulesFamily, Markup::RulesSample, tenant.rules),
+        6 => made(Markup::OpenFamily, Markup::OpenSample, tenant.open),
+        7 => made(Markup::ActiveFamily, Markup::ActiveSample, tenant.active),
+        8 => made(Markup::ChangesFamily, Markup::ChangesSample, tenant.changes),
+        _ => made(Markup::OldFamily, Markup::OldSample, tenant.age.unwrap_or(0)),
     }
 }
 
-fn made(head: Mark, sample: Mark, number: u64) -> Family {
+fn made(head: Markup, sample: Markup, number: u64) -> Family {
     Family {
         head,
         sample,

@@ -3,7 +3,7 @@ ghost use Rattle.std.specs.Prelude.{◌≡◌, ◌++◌, ◌∷◌, [], IfOk, On
 ghost use Rattle.sb_status.specs.TenantPages.{IsPageOf, age_pieces, beginning_of, counted, numbered};
 ghost use Rattle.sb_status.specs.declared.fragment.Fragment.TheVariants as piece;
 
-use crate::markup::Mark;
+use crate::markup::Markup;
 use crate::page::Page;
 use crate::picture::draw;
 use crate::rule_rows::{write_names, write_rules};
@@ -26,7 +26,7 @@ pub fn tenant_page(alloc: Global, view: &TenantView) -> Result<Vec<u8>, AllocErr
 fn write_beginning(page: &mut Page<'_>, numbers: TenantNumbers) -> Result<(), AllocError>
     ensures { OnOk result (page.new.pieces.items ≡ page.old.pieces.items ++ beginning_of numbers) }
 {
-    page.mark(Mark::Head)?;
+    page.mark(Markup::Head)?;
     write_age(page, numbers.age)?;
     write_numbers(page, numbers)
 }
@@ -36,8 +36,8 @@ fn write_age(page: &mut Page<'_>, age: Option<u64>) -> Result<(), AllocError>
 {
     match age {
         Some(seconds) => {
-            page.count(Mark::OldPage, seconds)?;
-            page.mark(Mark::OldPageEnd)
+            page.count(Markup::OldPage, seconds)?;
+            page.mark(Markup::OldPageEnd)
         }
         None => Ok(()),
     }
@@ -45,19 +45,19 @@ fn write_age(page: &mut Page<'_>, age: Option<u64>) -> Result<(), AllocError>
 
 fn write_numbers(page: &mut Page<'_>, numbers: TenantNumbers) -> Result<(), AllocError>
     ensures { OnOk result (page.new.pieces.items
-        ≡ page.old.pieces.items ++ (counted (numbered numbers) ++ piece.Mark Mark.FactsEnd ∷ [])) }
+        ≡ page.old.pieces.items ++ (counted (numbered numbers) ++ piece.Markup Markup.FactsEnd ∷ [])) }
 {
     page.counts(&[
-        (Mark::TenantTitle, numbers.tenant),
-        (Mark::FactSteps, numbers.steps),
-        (Mark::FactRoom, numbers.room),
-        (Mark::FactBytes, numbers.bytes),
-        (Mark::FactRows, numbers.rows),
-        (Mark::FactOpen, numbers.open),
-        (Mark::FactActive, numbers.active),
-        (Mark::FactChanges, numbers.changes),
+        (Markup::TenantTitle, numbers.tenant),
+        (Markup::FactSteps, numbers.steps),
+        (Markup::FactRoom, numbers.room),
+        (Markup::FactBytes, numbers.bytes),
+        (Markup::FactRows, numbers.rows),
+        (Markup::FactOpen, numbers.open),
+        (Markup::FactActive, numbers.active),
+        (Markup::FactChanges, numbers.changes),
     ])?;
-    page.mark(Mark::FactsEnd)
+    page.mark(Markup::FactsEnd)
 }
 
 /// Writes what stands behind the numbers.
@@ -73,29 +73,29 @@ fn write_rest<'v>(
     }
     write_rulesets(page, view.rulesets.as_slice())?;
     write_sessions(page, view.sessions.as_slice())?;
-    page.mark(Mark::Foot)
+    page.mark(Markup::Foot)
 }
 
 fn write_tables<'v>(page: &mut Page<'v>, tables: &'v [TableView]) -> Result<(), AllocError> {
-    page.mark(Mark::TablesHead)?;
+    page.mark(Markup::TablesHead)?;
     for table in tables {
-        page.mark(Mark::Row)?;
+        page.mark(Markup::Row)?;
         page.text(table.name.as_slice())?;
-        page.mark(Mark::Cell)?;
+        page.mark(Markup::Cell)?;
         write_columns(page, table)?;
-        page.count(Mark::NumberCell, table.rows)?;
-        page.mark(Mark::RowEnd)?;
+        page.count(Markup::NumberCell, table.rows)?;
+        page.mark(Markup::RowEnd)?;
     }
-    page.mark(Mark::TableEnd)
+    page.mark(Markup::TableEnd)
 }
 
 fn write_columns<'v>(page: &mut Page<'v>, table: &'v TableView) -> Result<(), AllocError> {
     for column in table.columns.as_slice() {
         page.text(column.name.as_slice())?;
         page.mark(if column.is_text {
-            Mark::TextType
+            Markup::TextType
         } else {
-            Mark::IntType
+            Markup::IntType
         })?;
     }
     Ok(())
@@ -105,39 +105,39 @@ fn write_rulesets<'v>(page: &mut Page<'v>, rulesets: &'v [RulesetView]) -> Resul
     if rulesets.is_empty() {
         return Ok(());
     }
-    page.mark(Mark::RulesetsHead)?;
+    page.mark(Markup::RulesetsHead)?;
     for ruleset in rulesets {
-        page.mark(Mark::Row)?;
+        page.mark(Markup::Row)?;
         page.text(ruleset.name.as_slice())?;
-        page.mark(Mark::Cell)?;
+        page.mark(Markup::Cell)?;
         write_names(page, ruleset.rules.as_slice())?;
-        page.mark(Mark::RowEnd)?;
+        page.mark(Markup::RowEnd)?;
     }
-    page.mark(Mark::TableEnd)
+    page.mark(Markup::TableEnd)
 }
 
 fn write_sessions(page: &mut Page<'_>, sessions: &[SessionView]) -> Result<(), AllocError> {
-    page.mark(Mark::SessionsHead)?;
+    page.mark(Markup::SessionsHead)?;
     for (number, session) in sessions.iter().enumerate() {
-        page.count(Mark::Row, number as u64)?;
+        page.count(Markup::Row, number as u64)?;
         write_session(page, *session)?;
-        page.mark(Mark::RowEnd)?;
+        page.mark(Markup::RowEnd)?;
     }
-    page.mark(Mark::TableEnd)
+    page.mark(Markup::TableEnd)
 }
 
 /// Writes the state of a session, and how old its last line is.
 fn write_session(page: &mut Page<'_>, session: SessionView) -> Result<(), AllocError> {
     page.mark(match session.state {
-        SessionState::Closed => Mark::ClosedCell,
-        SessionState::Idle => Mark::OpenCell,
-        SessionState::Active => Mark::TransactionCell,
+        SessionState::Closed => Markup::ClosedCell,
+        SessionState::Idle => Markup::OpenCell,
+        SessionState::Active => Markup::TransactionCell,
     })?;
     match session.age {
         Some(seconds) => {
-            page.count(Mark::NumberCell, seconds)?;
-            page.mark(Mark::Ago)
+            page.count(Markup::NumberCell, seconds)?;
+            page.mark(Markup::Ago)
         }
-        None => page.mark(Mark::Cell),
+        None => page.mark(Markup::Cell),
     }
 }

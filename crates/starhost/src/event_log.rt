@@ -180,18 +180,18 @@ impl<'r, T: Eprint + Clock> EventLog<'r, T> {
 }
 
 impl<'r, T: Eprint + Clock> Watch for EventLog<'r, T> {
-    fn see(&self, event: ConnectionEvent) {
+    fn on_event(&self, event: ConnectionEvent) {
         self.write(severity_of(&event), &event);
     }
 
-    fn see_client(&self, port: u16, event: ConnectionEvent) {
+    fn on_client_event(&self, port: u16, event: ConnectionEvent) {
         self.write(severity_of(&event), &format_args!("port {port}: {event}"));
     }
 
-    fn hear<R: Wait>(&self, _rt: &R, _answered: Answered<'_>) {}
+    fn on_reply<R: Wait>(&self, _rt: &R, _answered: Answered<'_>) {}
 
     /// One of a second is told, with how many others there were since the one before.
-    fn see_slow(&self, port: u16, slow: Slow<'_>) {
+    fn on_slow_line(&self, port: u16, slow: Slow<'_>) {
         if !self.may_tell_slow() {
             self.untold.fetch_add(1, Ordering::SeqCst);
             return;

@@ -47,7 +47,7 @@ impl<'k, T: Clock> Deadline<'k, T> {
 
 /// Reads until there is a whole request, or none can come. How many bytes there are, or none where the client is silent
 /// or gone.
-pub(crate) fn hear<T: Clock>(rt: &T, stream: &TcpStream, buffer: &mut [u8]) -> Option<usize>
+pub(crate) fn receive_request<T: Clock>(rt: &T, stream: &TcpStream, buffer: &mut [u8]) -> Option<usize>
     ensures { IfSome result (λ len. len ≤ length buffer.new) }
 {
     let deadline = Deadline::begin(rt)?;
@@ -85,7 +85,7 @@ fn read_some(mut stream: &TcpStream, buffer: &mut [u8]) -> Option<usize>
 }
 
 /// Sends an answer, as far as the client takes it in time, and hears the client out, so that it gets the answer.
-pub(crate) fn say<T: Clock>(rt: &T, stream: &TcpStream, answer: &[u8]) {
+pub(crate) fn send_response<T: Clock>(rt: &T, stream: &TcpStream, answer: &[u8]) {
     let Some(deadline) = Deadline::begin(rt) else {
         return;
     };
@@ -97,7 +97,7 @@ pub(crate) fn say<T: Clock>(rt: &T, stream: &TcpStream, answer: &[u8]) {
         }
     }
     let _told = stream.shutdown(Shutdown::Write);
-    hear_out(&deadline, stream);
+    drain(&deadline, stream);
 }
 
 /// How many bytes went, if some did.
@@ -119,7 +119,7 @@ fn write_some<T: Clock>(
 }
 
 /// Throws away what still comes, until the client closes.
-fn hear_out<T: Clock>(deadline: &Deadline<'_, T>, stream: &TcpStream) {
+fn drain<T: Clock>(deadline: &Deadline<'_, T>, stream: &TcpStream) {
     let mut piece = [0u8; PIECE];
     for _ in 0..PIECES {
         let Some(left) = deadline.left() else {

@@ -4,7 +4,7 @@ ghost use Rattle.std.specs.Thread.{IsSend, IsSync};
 ghost use Rattle.sb_status.specs.StatisticsCache.{IsCacheOf};
 
 use crate::session_ender::SessionEnder;
-use crate::http_connection::{hear, say};
+use crate::http_connection::{receive_request, send_response};
 use crate::pages::Pages;
 use libc::net as system;
 use sb_host::{Hosting, Lending, Stub};
@@ -94,15 +94,15 @@ impl<
         ensures { IsCacheOf self.now.pages.first_tenant cache.new }
     {
         let Ok(mut buffer) = vec![in self.pages.alloc; 0u8; HEAD_LIMIT + 1] else {
-            say(self.pages.rt, stream, NO_MEMORY.as_bytes());
+            send_response(self.pages.rt, stream, NO_MEMORY.as_bytes());
             return;
         };
-        let Some(len) = hear(self.pages.rt, stream, buffer.as_mut_slice()) else {
+        let Some(len) = receive_request(self.pages.rt, stream, buffer.as_mut_slice()) else {
             return;
         };
         match self.pages.answer(&buffer.as_slice()[..len], cache) {
-            Ok(answer) => say(self.pages.rt, stream, answer.as_slice()),
-            Err(_) => say(self.pages.rt, stream, NO_MEMORY.as_bytes()),
+            Ok(answer) => send_response(self.pages.rt, stream, answer.as_slice()),
+            Err(_) => send_response(self.pages.rt, stream, NO_MEMORY.as_bytes()),
         }
     }
 }

@@ -1,7 +1,7 @@
 use Rattle.std.proofs.Common.{false, true, refl, Ok}
 use Rattle.sb_server.proofs.Carrying.{carries_error, carries_taken}
 use Rattle.sb_server.proofs.Failing.{ends_by_read}
-use Rattle.sb_server.proofs.client_connection.ClientConnection.hear.Goals as goal
+use Rattle.sb_server.proofs.client_connection.ClientConnection.read_stream.Goals as goal
 
 -- a read that gave nothing
 pub invariant_of-self-in-Interrupted : goal.invariant_of-self-in-Interrupted

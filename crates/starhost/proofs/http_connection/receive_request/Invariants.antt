@@ -1,5 +1,5 @@
 use Rattle.std.proofs.Common.{◌≤◌, ◌-◌, length}
-use Rattle.starhost.proofs.http_connection.hear.Given as goal
+use Rattle.starhost.proofs.http_connection.receive_request.Given as goal
 
 abbrev pub invariant-loop-len : goal.invariant-loop-len
 invariant-loop-len g l = l.len ≤ length l.buffer

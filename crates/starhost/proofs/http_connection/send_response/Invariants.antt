@@ -1,5 +1,5 @@
 use Rattle.std.proofs.Common.{◌≤◌, ◌-◌, length}
-use Rattle.starhost.proofs.http_connection.say.Given as goal
+use Rattle.starhost.proofs.http_connection.send_response.Given as goal
 
 abbrev pub invariant-loop-gone : goal.invariant-loop-gone
 invariant-loop-gone g l = l.gone ≤ length l.answer
