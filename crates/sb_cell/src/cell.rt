@@ -92,7 +92,7 @@ impl Cell {
         Cell::with_buckets(alloc, first, stride, tenants, bound, BUCKETS)
     }
 
-    /// The same, with so many buckets of the log: one is as right as many, and slower.
+    /// Makes a new cell whose log has this number of hash buckets. The number changes speed alone.
     pub fn with_buckets(
         alloc: Global,
         first: u32,
@@ -174,7 +174,7 @@ impl Cell {
         self.step_with(alloc, tenant, session, line, None)
     }
 
-    /// The same, where the line is in memory already: its entry shares its bytes.
+    /// Makes the step of a line that is in memory already. The trail's entry shares its bytes.
     pub fn step_line(
         &mut self,
         alloc: Global,

@@ -115,7 +115,7 @@ fn plain_column(depth: usize, scope: &Scope<'_, '_>, name: &Name) -> Result<Foun
     }
 }
 
-/// The same from the innermost place on.
+/// Finds an unqualified column, beginning at the innermost query.
 #[inline(always)]
 fn near_column(scope: &Scope<'_, '_>, name: &Name) -> Result<FoundColumn, CheckFault>
     ensures { Gives found (spec.plain_column 0 (scope_of scope.now) name.now) result }
@@ -204,7 +204,7 @@ fn qualified_column(
     }
 }
 
-/// The same from the innermost place on.
+/// Finds a qualified column, beginning at the innermost query.
 #[inline(always)]
 fn near_qualified(
     scope: &Scope<'_, '_>,

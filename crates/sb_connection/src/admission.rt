@@ -20,7 +20,7 @@ pub trait Admission {
         ensures { IsTrue result → admits self.now tenant key.now };
 }
 
-/// Lets in by one policy, which its type names.
+/// Decides by one policy, which its type names, who may open a session.
 pub trait Doorkeeper {
     ghost use Rattle.sb_connection.specs.Policies.{Policy};
 

@@ -9,7 +9,7 @@ use std::alloc::Global;
 use std::marker::Model;
 use std::sync::Wait;
 
-/// A session that is called with lines, one after another, until it is closed. To a contract it is what is seen of it.
+/// A session that is called with lines, one after another, until it is closed.
 #[derive(Drop)]
 pub struct SessionCaller<S: Calling> {
     session: S,
@@ -24,7 +24,7 @@ impl<S: Calling> Model for SessionCaller<S> {
 }
 
 impl<S: Calling> SessionCaller<S> {
-    /// A caller of a session that was opened.
+    /// Takes a session that was just opened.
     pub fn new(session: S) -> SessionCaller<S>
         ensures { result ≡ S.seen session }
     {

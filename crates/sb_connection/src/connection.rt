@@ -21,11 +21,11 @@ use std::io;
 use std::marker::Model;
 use std::sync::Wait;
 
-/// How many lines are answered at most before other connections have their turn.
+/// The most lines that are answered before other connections have their turn.
 const LINES_A_TURN: usize = 64;
 
-/// Give it what comes while it `wants_read`, `advance` it, and `send` while it `wants_write`,
-/// until it `is_done`. Then close it, or at any time before.
+/// A connection as a value: give it received bytes while it `wants_read`, `advance` it, and `send` while it
+/// `wants_write`, until it `is_done`. It can be closed at any time.
 pub struct Connection<H: Hosting, D: Doorkeeper> {
     protocol_state: ProtocolState<H, D>,
 }
@@ -48,8 +48,7 @@ impl<H: Hosting, D: Doorkeeper> Model for Connection<H, D> {
 }
 
 impl<H: Hosting, D: Doorkeeper> Connection<H, D> {
-    /// Before its first byte; the host's first tenant has this number, and its first line brings a key or doesn't. It
-    /// allocates nothing.
+    /// A connection before its first byte. `first` is the number of the host's first tenant. It allocates nothing.
     pub fn new(alloc: Global, host: H, first: u32, keyed: bool) -> Connection<H, D>
         requires { keyed ≡ D.policy.keyed }
         ensures { result ≡ nothing_yet (hosting_by keyed first (H.tenants host)) }
@@ -68,7 +67,7 @@ impl<H: Hosting, D: Doorkeeper> Connection<H, D> {
         self.protocol_state.wants_read()
     }
 
-    /// Takes the next bytes of the client.
+    /// Takes the next bytes of the client. Error: out of memory; then nothing is taken.
     pub fn receive(&mut self, bytes: &[u8]) -> Result<(), AllocError>
         requires { MayReceive self.old }
         ensures ok { OnOk result (self.new ≡ after_receiving self.old bytes.now) }
@@ -85,7 +84,7 @@ impl<H: Hosting, D: Doorkeeper> Connection<H, D> {
         self.protocol_state.end();
     }
 
-    /// Answers the lines that came, as many as there are for one turn. Whether there may be more to answer at once.
+    /// Answers complete lines, at most 64. True if more may be answered at once.
     pub fn advance<T: Wait, V: Watch>(&mut self, rt: &T, watch: &V, doorkeeper: &D) -> bool
         ensures streams { SameStreams self.old self.new }
         ensures settles { IsFalse result → IsSettled self.new }
@@ -103,7 +102,7 @@ impl<H: Hosting, D: Doorkeeper> Connection<H, D> {
         true
     }
 
-    /// Sends once, as much as the stream takes: so many bytes, or why none.
+    /// Makes one write. Returns how many bytes were sent, or why none.
     pub fn send<S: Stream>(&mut self, stream: &mut S) -> io::Result<usize>
         ensures count { IfOk result (λ count. count ≤ length self.old.pending) }
         ensures sent { IfOk result (λ count. self.new ≡ after_sending self.old count) }
@@ -134,7 +133,7 @@ impl<H: Hosting, D: Doorkeeper> Connection<H, D> {
         matches!(self.protocol_state.state(), State::Failed)
     }
 
-    /// How many bytes that came aren't looked at yet.
+    /// How many received bytes are not answered yet.
     pub fn waiting(&self) -> usize
         ensures { result ≡ length self.now.waiting }
     {
@@ -161,7 +160,7 @@ impl<H: Hosting, D: Doorkeeper> Connection<H, D> {
         }
     }
 
-    /// Closes the session, if one was opened, and tells of it.
+    /// Closes the session, if one was opened, and reports it. Leaves the session's receipts.
     pub fn close<T: Wait, V: Watch>(self, rt: &T, watch: &V, ended: ConnectionEnd) -> Option<Stub>
         ensures conversation { Converses D.policy.admits self result }
         ensures keyed { self.hosted.keyed ≡ D.policy.keyed }

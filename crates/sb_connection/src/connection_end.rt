@@ -22,7 +22,7 @@ pub enum ConnectionEnd {
 }
 
 impl ConnectionEnd {
-    /// As a stream's end is told.
+    /// The end of a connection over a stream that ended so.
     pub(crate) fn of(ended: &Result<(), StreamError>) -> ConnectionEnd {
         match ended {
             Ok(()) => ConnectionEnd::Well,

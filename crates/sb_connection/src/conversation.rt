@@ -16,7 +16,7 @@ use sb_wire::{Piece, Responder, WireRefusal, write_bare_refusal, write_bare_repl
 use std::alloc::{AllocError, Global};
 use std::sync::Wait;
 
-/// Answers the lines of a connection: the first one on the host, the others by the session that it opened.
+/// Answers the lines of a connection: the first one opens a session of the host, the others are calls of it.
 #[derive(Drop)]
 pub(crate) struct Talk<'r, T, H: Hosting, V, D: Doorkeeper> {
     pub(crate) rt: &'r T,

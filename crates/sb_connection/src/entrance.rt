@@ -10,7 +10,7 @@ use std::alloc::Global;
 use std::marker::{Model, PhantomData};
 use std::sync::Wait;
 
-/// A leave to have a session opened: no key is asked for, or one of its tenant's was brought.
+/// Permission to open a session: no key is asked for, or a key of the tenant was brought.
 #[derive(Drop)]
 pub(crate) struct Pass<D: Doorkeeper> {
     named: SessionName,
@@ -29,7 +29,7 @@ impl<D: Doorkeeper> Model for Pass<D> {
 }
 
 impl<D: Doorkeeper> Pass<D> {
-    /// That of anybody, where no key is asked for.
+    /// The permission of anybody, if no key is asked for.
     pub(crate) fn of_anybody(named: SessionName) -> Pass<D>
         requires { D.policy.keyed ≡ false }
         ensures { result ≡ named }
@@ -47,7 +47,7 @@ impl<D: Doorkeeper> Pass<D> {
         self.named
     }
 
-    /// That of whoever has brought this key.
+    /// The permission of a client that has brought this key.
     pub(crate) fn by_key(named: SessionName, _key: &[u8]) -> Pass<D>
         requires { D.policy.admits named.tenant _key.now }
         ensures { result ≡ named }

@@ -6,9 +6,9 @@ ghost use Rattle.sb_connection.specs.Conversation.{attach_lines, hosting, hostin
 ghost use Rattle.sb_connection.specs.Responses.{Greets, GreetsNamed, GreetsVisitor, WritesText};
 
 use crate::admission::Doorkeeper;
+use crate::conversation::Talk;
 use crate::entrance::Pass;
 use crate::open_session::OpenSession;
-use crate::conversation::Talk;
 use crate::watch::{ConnectionEvent, Watch};
 use sb_desk::{AttachError, Hosting};
 use sb_tenant::Reply;
@@ -28,7 +28,7 @@ pub struct SessionName {
 }
 
 impl SessionName {
-    /// The two numbers of a line, if it is that.
+    /// Reads a line of two numbers.
     pub(crate) fn split(line: &[u8]) -> Option<SessionName>
         ensures { result ≡ named_of line.now }
     {
@@ -38,7 +38,7 @@ impl SessionName {
     }
 }
 
-/// Whom a first line names that brings a key.
+/// A first line with a key: a tenant, a session and the key.
 #[derive(Clone, Copy)]
 pub(crate) struct KeyHandshake<'a> {
     pub(crate) named: SessionName,
@@ -49,7 +49,7 @@ impl<'a> KeyHandshake<'a> {
     ghost use Rattle.std.specs.Prelude.{option_map};
     ghost use Rattle.sb_connection.specs.Seen.{visitor_seen};
 
-    /// The two numbers of a line and its key, if it is that.
+    /// Reads a line of two numbers and a key.
     fn split(line: &'a [u8]) -> Option<KeyHandshake<'a>>
         ensures { option_map visitor_seen result ≡ visitor_of line.now }
     {
@@ -65,7 +65,7 @@ impl<'a> KeyHandshake<'a> {
     }
 }
 
-/// What a first line names, with a key where there are keys.
+/// The session that a first line names. With `keyed` the line has a key, too.
 pub(crate) fn named_in(piece: Piece<'_>, keyed: bool) -> Option<SessionName>
     ensures { result ≡ named_by keyed (piece_seen piece.entry) }
 {
@@ -79,7 +79,7 @@ pub(crate) fn named_in(piece: Piece<'_>, keyed: bool) -> Option<SessionName>
     }
 }
 
-/// Which tenant of a host this number names, where so many have numbers from the first one on.
+/// The place of the tenant with this number, if the host's tenants have numbers from `first` on.
 pub(crate) fn tenant_at(first: u32, tenants: u32, number: u32) -> u32
     ensures { result ≡ tenant_at (hosting first tenants) number }
 {
@@ -89,7 +89,7 @@ pub(crate) fn tenant_at(first: u32, tenants: u32, number: u32) -> u32
     number - first
 }
 
-/// The number of a tenant of a host.
+/// The number of the tenant at this place.
 pub(crate) fn number_of(first: u32, tenant: u32) -> u32 {
     first.saturating_add(tenant)
 }
@@ -188,7 +188,7 @@ fn open<T: Wait, H: Hosting, V: Watch, D: Doorkeeper>(
     }
 }
 
-/// Says why no session was opened.
+/// Writes why no session was opened.
 fn refuse(out: &mut Vec<u8>, error: AttachError) -> Result<(), AllocError>
     ensures ok { OnOk result (out.new.items ≡ out.old.items ++ ended_lines (attach_lines error)) }
     ensures err { OnErr result (out.new.items ≡ out.old.items) }

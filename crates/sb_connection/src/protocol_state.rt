@@ -10,13 +10,13 @@ ghost use Rattle.sb_connection.specs.Standing.{is_open};
 ghost use Rattle.sb_connection.specs.Traffic.{after_write};
 
 use crate::admission::Doorkeeper;
+use crate::conversation::Talk;
 use crate::entrance::Entrance;
 use crate::first_line::{SessionName, named_in};
 use crate::open_session::OpenSession;
-use crate::trail_room::{newest_step, tell_refusal, tell_reply, tell_room, was_unbegun};
 use crate::state::State;
 use crate::stream::Stream;
-use crate::conversation::Talk;
+use crate::trail_room::{newest_step, tell_refusal, tell_reply, tell_room, was_unbegun};
 use crate::watch::{ConnectionEvent, Watch};
 use http_server::Log;
 use sb_desk::Hosting;
@@ -26,10 +26,10 @@ use std::io;
 use std::marker::{Model, PhantomData};
 use std::sync::Wait;
 
-/// While so many bytes or more wait to be sent, no line is answered.
+/// No line is answered while so many bytes or more wait to be sent.
 const MOST_PENDING: usize = 65_536;
 
-/// What a connection is: its session, the bytes that came and the bytes that go.
+/// The state of a connection: its session, received bytes and bytes to send.
 #[derive(Drop)]
 pub(crate) struct ProtocolState<H: Hosting, D: Doorkeeper> {
     pub(crate) alloc: Global,
@@ -43,25 +43,25 @@ pub(crate) struct ProtocolState<H: Hosting, D: Doorkeeper> {
     /// The client sends no more.
     pub(crate) at_end: bool,
     pub(crate) session: Option<OpenSession<H::Session>>,
-    /// None was opened, and none will be.
+    /// No session was opened, and none will be.
     pub(crate) away: bool,
     /// What the first line names.
     pub(crate) named: Option<SessionName>,
-    /// It is told that a line wasn't begun.
+    /// It was reported that a line was not begun.
     pub(crate) tells_unbegun: bool,
-    /// The line that stands open behind what is taken of the input.
+    /// The line that is not complete yet.
     pub(crate) lines: Lines,
     pub(crate) input: Vec<u8>,
     pub(crate) taken: usize,
     pub(crate) output: Vec<u8>,
     pub(crate) sent: usize,
-    /// What each read gave.
+    /// The bytes of each read.
     pub(crate) reads: Log<Vec<u8>, ()>,
-    /// The output at each write, how much of it had gone, and how much went.
+    /// Each write: the output, how much of it was sent before, and how much was sent.
     pub(crate) writes: Log<Vec<u8>, (usize, usize)>,
 }
 
-/// How a session stood before a line.
+/// The session before a line.
 #[derive(Clone, Copy)]
 struct Before {
     /// The newest answer that is a step.
@@ -144,7 +144,7 @@ impl<H: Hosting, D: Doorkeeper> ProtocolState<H, D> {
         session
     }
 
-    /// Answers the next line, if one is complete and there is room for its reply. Whether there may be another one.
+    /// Answers the next line, if it is complete and there is room for its reply. True if there may be another one.
     pub(crate) fn step<T: Wait, V: Watch>(&mut self, rt: &T, watch: &V, doorkeeper: &D) -> bool
         requires { is_open self.old.history.state ≡ true → over self.old.talk ≡ false }
         ensures steps { Steps D.policy.admits self.old result self.new }
@@ -174,7 +174,7 @@ impl<H: Hosting, D: Doorkeeper> ProtocolState<H, D> {
         }
     }
 
-    /// Answers the line that is complete. A trail that fills up is told.
+    /// Answers the complete line, and reports a trail that fills up.
     fn answer<T: Wait, V: Watch>(&mut self, rt: &T, watch: &V, doorkeeper: &D)
         requires { over self.old.talk ≡ false }
         ensures answers { Answers D.policy.admits self.old self.new }
@@ -190,7 +190,7 @@ impl<H: Hosting, D: Doorkeeper> ProtocolState<H, D> {
         self.tell_answer(rt, watch, before);
     }
 
-    /// Tells what the line was answered.
+    /// Reports the reply to the line.
     fn tell_answer<T: Wait, V: Watch>(&mut self, rt: &T, watch: &V, before: Before)
         ensures { self.new ≡ self.old }
     {
@@ -210,7 +210,7 @@ impl<H: Hosting, D: Doorkeeper> ProtocolState<H, D> {
         }
     }
 
-    /// The line was answered by this step.
+    /// Reports a line that was answered by this step.
     fn tell_step<T: Wait, V: Watch>(&self, rt: &T, watch: &V, step: u32, before: Before) {
         let Some(named) = self.named else {
             return;
@@ -227,7 +227,7 @@ impl<H: Hosting, D: Doorkeeper> ProtocolState<H, D> {
         );
     }
 
-    /// The line was answered by no step, and the newest one is still this. Where it wasn't begun, that is told once.
+    /// Reports a line that was no step. That a line was not begun is reported once.
     fn tell_none<T: Wait, V: Watch>(
         &mut self,
         rt: &T,
@@ -311,7 +311,7 @@ impl<H: Hosting, D: Doorkeeper> ProtocolState<H, D> {
         self.state = state_after(answered, is_over);
     }
 
-    /// Answers the line that stands open at the end, if it has a byte.
+    /// Answers the incomplete line at the end, if it has a byte.
     fn answer_last<T: Wait, V: Watch>(&mut self, rt: &T, watch: &V, doorkeeper: &D)
         requires { over self.old.talk ≡ false }
         ensures finishes { Finishes D.policy.admits self.old self.new }
@@ -421,7 +421,7 @@ impl<H: Hosting, D: Doorkeeper> ProtocolState<H, D> {
         answer
     }
 
-    /// So many of the bytes to send were sent. The memory is given back when all are.
+    /// Notes that so many bytes were sent. The buffer is freed when all are.
     fn note_sent(&mut self, count: usize)
         requires { count ≤ length self.old.history.pending }
         ensures { self.new ≡ record self.old { history = after_sending self.old.history count } }
@@ -435,7 +435,7 @@ impl<H: Hosting, D: Doorkeeper> ProtocolState<H, D> {
     }
 }
 
-/// Where a connection stands behind a reply, which may have found no memory.
+/// The state behind a reply, which may have lacked memory.
 fn state_after(answered: Result<(), AllocError>, is_over: bool) -> State
     ensures failed { OnErr answered (result ≡ State.Failed) }
     ensures done { OnOk answered (MatchBool is_over (result ≡ State.Over) (result ≡ State.Open)) }

@@ -7,26 +7,26 @@ ghost use Rattle.sb_wire.specs.Stream.{MayFail, OnWriteFault};
 
 use crate::admission::Open;
 use crate::connection_end::ConnectionEnd;
+use crate::conversation::Talk;
 use crate::entrance::Entrance;
 use crate::first_line::{SessionName, number_of};
 use crate::open_session::OpenSession;
 use crate::trail_room::steps_left;
-use crate::conversation::Talk;
 use crate::watch::{ConnectionEvent, NoWatch, Watch};
 use sb_desk::{Calling, Hosting, Stub};
 use sb_wire::{Sink, Source, StreamError, answer_stream};
 use std::alloc::Global;
 use std::sync::Wait;
 
-/// What is left of a connection: its session's receipts, if it had one, and how it ended.
+/// The result of a connection: its session's receipts, if it had one, and how it ended.
 #[derive(Drop)]
 pub struct Served {
     pub stub: Option<Stub>,
     pub ended: Result<(), StreamError>,
 }
 
-/// Opens the session that the first line names, calls it with each further line and writes the
-/// answer, and closes it however the connection ends.
+/// Serves one connection over a reader and a writer: the first line opens a session, each further line is a call of it,
+/// and the session is closed however the connection ends.
 pub fn serve_one<T: Wait, H: Hosting, R: Source, W: Sink>(
     rt: &T,
     alloc: Global,
@@ -41,7 +41,7 @@ pub fn serve_one<T: Wait, H: Hosting, R: Source, W: Sink>(
     serve_one_with(rt, alloc, reader, writer, host, &NoWatch)
 }
 
-/// As `serve_one` does; the watch is told of the session and of a fault.
+/// Serves one connection as `serve_one` does, and reports its session and a fault to `watch`.
 pub fn serve_one_with<T: Wait, H: Hosting, R: Source, W: Sink, V: Watch>(
     rt: &T,
     alloc: Global,
@@ -81,7 +81,7 @@ pub(crate) fn close<T: Wait, S: Calling>(rt: &T, session: Option<OpenSession<S>>
     }
 }
 
-/// Tells how a connection ended.
+/// Reports how a connection ended.
 pub(crate) fn tell_end<V: Watch>(watch: &V, first: u32, stub: &Option<Stub>, ended: ConnectionEnd) {
     let named = match stub {
         Some(stub) => Some(session_of(first, stub)),
@@ -94,9 +94,9 @@ pub(crate) fn tell_end<V: Watch>(watch: &V, first: u32, stub: &Option<Stub>, end
             why,
             reason,
         }),
-        (ConnectionEnd::IdleTransaction, Some(named)) => watch.on_event(ConnectionEvent::IdleTransaction(
-            named,
-        )),
+        (ConnectionEnd::IdleTransaction, Some(named)) => watch.on_event(
+            ConnectionEvent::IdleTransaction(named),
+        ),
         (ConnectionEnd::ByOperator, Some(named)) => watch.on_event(ConnectionEvent::Ended(named)),
         (ConnectionEnd::Idle | ConnectionEnd::IdleTransaction, _) => watch.on_event(
             ConnectionEvent::Idle(named),
@@ -108,7 +108,7 @@ pub(crate) fn tell_end<V: Watch>(watch: &V, first: u32, stub: &Option<Stub>, end
     }
 }
 
-/// What is told of a session that is closed.
+/// The event of a session that is closed.
 fn closed(first: u32, stub: &Stub) -> ConnectionEvent {
     let receipts = stub.list();
     let newest = match receipts.last() {
@@ -122,7 +122,7 @@ fn closed(first: u32, stub: &Stub) -> ConnectionEvent {
     }
 }
 
-/// Whose receipts these are.
+/// The session of these receipts.
 fn session_of(first: u32, stub: &Stub) -> SessionName {
     SessionName {
         tenant: number_of(first, stub.tenant),

@@ -11,10 +11,10 @@ use std::sync::Wait;
 /// The most steps of a trail.
 const MOST_STEPS: u32 = TRAIL_LIMIT as u32;
 
-/// Where a trail has room for so few steps more, it is told.
+/// It is reported when a trail has room for no more than so many steps.
 const FEW_STEPS: u32 = MOST_STEPS / 10;
 
-/// Which step of its tenant the newest answer of a session is, if it is one.
+/// The step number of a session's newest answer, if it was a step.
 pub(crate) fn newest_step<S: Calling>(session: &Option<OpenSession<S>>) -> Option<u32> {
     let Some(session) = session else {
         return None;
@@ -37,7 +37,7 @@ pub(crate) fn was_unbegun<S: Calling>(
     session.last().is_none() || newest.is_some()
 }
 
-/// For how many steps a trail has room behind this one.
+/// How many steps a trail has room for behind this one.
 pub(crate) fn steps_left(step: Option<u32>) -> u32 {
     match step {
         Some(step) => MOST_STEPS.saturating_sub(step),
@@ -45,7 +45,7 @@ pub(crate) fn steps_left(step: Option<u32>) -> u32 {
     }
 }
 
-/// Tells of a trail that fills up with this step. The `end` of a session may stand behind the last one.
+/// Reports a trail that fills up with this step. The `end` of a session may follow the last step of a full trail.
 pub(crate) fn tell_room<V: Watch>(watch: &V, tenant: u32, step: u32) {
     let left = steps_left(Some(step));
     if step == MOST_STEPS || left == FEW_STEPS {
@@ -53,7 +53,7 @@ pub(crate) fn tell_room<V: Watch>(watch: &V, tenant: u32, step: u32) {
     }
 }
 
-/// Tells the newest answer of a session, to this line, which may be the first one.
+/// Reports the newest answer of a session. The line may be the first one.
 pub(crate) fn tell_reply<T: Wait, V: Watch, S: Calling>(
     rt: &T,
     watch: &V,
@@ -81,7 +81,7 @@ pub(crate) fn tell_reply<T: Wait, V: Watch, S: Calling>(
     );
 }
 
-/// Tells that this line of a session was no step.
+/// Reports a line that was no step.
 pub(crate) fn tell_refusal<T: Wait, V: Watch>(
     rt: &T,
     watch: &V,

@@ -189,7 +189,7 @@ pub enum Said<'a> {
     Refusal(WireRefusal),
 }
 
-/// A line that took long.
+/// A slow line.
 #[derive(Clone, Copy)]
 pub struct Slow<'a> {
     pub named: SessionName,
@@ -197,7 +197,7 @@ pub struct Slow<'a> {
     pub millis: u64,
 }
 
-/// Is told what happens to connections.
+/// Observes connections.
 pub trait Watch {
     fn on_event(&self, event: ConnectionEvent);
 
@@ -207,11 +207,11 @@ pub trait Watch {
     /// What a line was answered.
     fn on_reply<T: Wait>(&self, rt: &T, answered: Answered<'_>);
 
-    /// A line of the client at this port took long.
+    /// A line of the client at this port was slow.
     fn on_slow_line(&self, port: u16, slow: Slow<'_>);
 }
 
-/// Nobody is told.
+/// Observes nothing.
 pub struct NoWatch;
 
 impl Watch for NoWatch {

@@ -8,17 +8,17 @@ use sb_value::{Refusal, SessionId};
 use sb_wire::LINE_LIMIT;
 use std::alloc::AllocError;
 
-/// What an abort is recorded as.
+/// The record of an abort.
 pub(crate) const ROLLBACK: &[u8] = b"rollback";
 
-/// How many bytes a record has beside its line.
+/// The bytes of a record without its line.
 const BESIDE: usize = 9;
 
-/// A step, as it is recorded.
+/// A step of a trail that waits to be recorded.
 #[derive(Drop)]
 pub(crate) struct PendingEntry {
     pub(crate) session: SessionId,
-    /// No line is that of an abort.
+    /// None: an abort.
     pub(crate) line: Option<Line>,
 }
 
@@ -36,7 +36,7 @@ impl PendingEntry {
         })
     }
 
-    /// Its line.
+    /// The recorded text of the step.
     pub(crate) fn text(&self) -> &[u8]
         ensures { result.now ≡ text_of self.now }
     {
@@ -47,23 +47,23 @@ impl PendingEntry {
     }
 }
 
-/// How far notes go.
+/// How far the entries were read.
 #[derive(Clone, Copy)]
 pub(crate) enum ReadReach {
     /// There is no tenant, or no such place in its trail.
     Nowhere,
-    /// There is no room for more of them.
+    /// The buffer is full. More entries follow.
     Part,
     /// To the end of the trail.
     End,
     NoMemory,
 }
 
-/// EntryReader the entries of a tenant from a place on.
+/// Reads the entries of a tenant from a place on.
 #[derive(Drop)]
 pub(crate) struct EntryReader {
     pub(crate) from: usize,
-    /// How many bytes their records may have.
+    /// The most bytes of their records.
     pub(crate) room: usize,
     pub(crate) list: Vec<PendingEntry>,
     pub(crate) reach: ReadReach,
@@ -85,7 +85,7 @@ impl Reading for EntryReader {
     }
 }
 
-/// EntryReader the first of these entries, as many as there is room for.
+/// Stages the first of these entries, as many as there is room for.
 fn note_all(list: &mut Vec<PendingEntry>, entries: &[Entry], room: usize) -> ReadReach
     requires { list.old.items ≡ [] }
     ensures { NotesAll entries.now list.new.items result }

@@ -13,13 +13,13 @@ pub enum JournalError {
     Device(io::Error),
     #[error("there is no memory")]
     Memory,
-    /// The file stands for no list: it was changed by something else.
+    /// The file is damaged: it has no list of records.
     #[error("it is damaged")]
     Damaged,
     /// An earlier write or sync has failed in this run.
     #[error("a write of it has failed before")]
     Spent,
-    /// There is no room: in what waits, or in a file of any length.
+    /// There is no room in the buffer, or the file has its greatest length.
     #[error("there is no room in it")]
     Full,
 }

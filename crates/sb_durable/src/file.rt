@@ -13,7 +13,7 @@ use std::path::Path;
 use std::{fs, io};
 use thiserror::Error;
 
-/// A file that held what `S` says as it was opened.
+/// A file whose content at its opening is what `S` says.
 pub type File<S> = Modelled<SystemFile, S>;
 
 /// Why a file isn't opened.
@@ -24,10 +24,10 @@ pub enum OpenError {
     /// Another server has it.
     #[error("another server has it open")]
     Locked,
-    /// A folder, a device or the like has its name.
+    /// The name belongs to a folder, a device or the like.
     #[error("it is no file")]
     NotAFile,
-    /// Something else stands in it.
+    /// The file has other content.
     #[error("it is no journal")]
     NotAJournal,
 }
@@ -93,7 +93,7 @@ pub enum StartError {
     Begin(BeginError),
 }
 
-/// The journal of a path.
+/// Opens the journal at a path. An empty or missing file becomes a new journal with this header.
 pub fn open_path<R: Files<File = fs::File>>(
     rt: &R,
     alloc: Global,
@@ -110,7 +110,7 @@ pub fn open_path<R: Files<File = fs::File>>(
     }
 }
 
-/// The file, and whether this call made it.
+/// Opens or makes the file. True if this call made it.
 fn open_or_make<R: Files<File = fs::File>>(rt: &R, path: &str) -> io::Result<(fs::File, bool)> {
     let (file, is_new) = match made(rt, path) {
         Ok(file) => (file, true),
@@ -129,7 +129,7 @@ fn open_or_make<R: Files<File = fs::File>>(rt: &R, path: &str) -> io::Result<(fs
     Ok((file, is_new))
 }
 
-/// The file, if nothing has its name.
+/// Makes the file. None if the name is taken.
 fn made<R: Files<File = fs::File>>(rt: &R, path: &str) -> io::Result<fs::File> {
     OpenOptions::new()
         .read(true)
@@ -138,7 +138,7 @@ fn made<R: Files<File = fs::File>>(rt: &R, path: &str) -> io::Result<fs::File> {
         .open(rt, path)
 }
 
-/// Brings the name of a file that was made to the disk.
+/// Syncs the folder of a file, so that its name is durable.
 pub fn sync_folder<R: Files<File = fs::File>>(rt: &R, path: &str) -> io::Result<()> {
     let folder = match Path::new(path).parent() {
         Some(folder) if !folder.as_str().is_empty() => folder,

@@ -30,7 +30,7 @@ impl<D: Disk> Journal<D> {
     ghost use Rattle.sb_durable.specs.declared.journal_header.Head.{Head as TheHead};
     ghost use Rattle.sb_durable.specs.Journal.{head_bytes, contents_of, all_of, Keeps, Has, IsAt, Gives, disk_of};
 
-    /// A journal over a log that has its head already. Nothing waits yet.
+    /// A journal over a log that has its header already. Nothing is staged.
     pub fn over(alloc: Global, log: RecordLog<D>) -> Journal<D>
         ensures has { (head : TheHead) (batches : List (List Entry)) → HasAll D.Disk.seen D.Disk.may_leave log (head_bytes head ∷ contents_of batches)
             → Has D.Disk.seen D.Disk.may_leave result head (all_of batches) [] }
@@ -43,7 +43,7 @@ impl<D: Disk> Journal<D> {
         }
     }
 
-    /// Gives the file back. What waits isn't in it.
+    /// Returns the file. Staged records are dropped.
     pub fn close(self) -> D
         ensures { result ≡ disk_of self }
     {
@@ -75,7 +75,7 @@ impl<D: Disk> Journal<D> {
         self.log.read(place, batch)
     }
 
-    /// Has a record wait for the next commit.
+    /// Stages a record for the next commit. Errors: the buffer is full, or out of memory.
     pub fn stage(&mut self, line: Record) -> Result<(), JournalError>
         requires { length line.text.now ≤ 4096 }
         ensures ok { OnOk result ((head : TheHead) (entries waiting : List Entry) → Has D.Disk.seen D.Disk.may_leave self.old head entries waiting
@@ -98,21 +98,21 @@ impl<D: Disk> Journal<D> {
             → (file : List ℕ) → D.Disk.may_leave (disk_of self.now) file → Keeps head entries file }
     {}
 
-    /// Whether a write or a sync of it has failed, so that it isn't written to any more.
+    /// Whether a write or a sync has failed. Then nothing more is written.
     pub fn is_spent(&self) -> bool
         ensures { IsTrue result ↔ IsSpent self.now.log }
     {
         self.log.is_spent()
     }
 
-    /// How many bytes more may wait.
+    /// How many more bytes can be staged.
     pub fn room(&self) -> usize
         ensures { result ≤ 2 ^ 20 }
     {
         MAX_CONTENT - self.waiting.len()
     }
 
-    /// Brings what waits to the disk, as one batch.
+    /// Writes all staged records as one batch, and syncs it. After an error nothing more is written.
     pub fn commit(&mut self) -> Result<(), JournalError>
         ensures ok { OnOk result ((head : TheHead) (entries waiting : List Entry) → Has D.Disk.seen D.Disk.may_leave self.old head entries waiting
             → Has D.Disk.seen D.Disk.may_leave self.new head (entries ++ waiting) []) }

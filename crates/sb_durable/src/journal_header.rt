@@ -1,9 +1,9 @@
 //! What a journal begins with.
 
-/// What the lines of a journal rest on beside themselves.
+/// Journal header: the settings that a replay must share.
 #[derive(Clone, Copy, Debug)]
 pub struct Head {
     pub tenants: u32,
-    /// How many considerations a line may take.
+    /// The most rules that are considered at one assertion point.
     pub bound: u64,
 }

@@ -7,7 +7,7 @@ ghost use Rattle.sb_durable.specs.declared.journal_header.Head.{Head};
 ghost use Rattle.sb_durable.specs.EntryReaders.{record_of_note};
 ghost use Rattle.sb_durable.specs.Recording.{Part, records_of, AreAmong, AreOf, Reaches};
 
-use crate::entry_reader::{PendingEntry, ReadReach, EntryReader};
+use crate::entry_reader::{EntryReader, PendingEntry, ReadReach};
 use crate::{Disk, Journal, JournalError, Record};
 use sb_host::Lending;
 use sb_wire::LINE_LIMIT;
@@ -18,7 +18,7 @@ use std::sync::Wait;
 pub(crate) struct JournalWriter<D: Disk> {
     pub(crate) alloc: Global,
     pub(crate) journal: Journal<D>,
-    /// How many entries of each tenant's trail are recorded.
+    /// The number of recorded entries of each tenant's trail.
     pub(crate) recorded: Vec<u32>,
 }
 
@@ -26,7 +26,8 @@ impl<D: Disk> JournalWriter<D> {
     ghost use Rattle.sb_durable.specs.EntryReaders.{IsStaged};
     ghost use Rattle.sb_durable.specs.RecordedTrails.{BringsUp, StagesFront, StagesNoted, Takes};
 
-    /// Brings the file up to the trails of these tenants. After want of memory it may be called again.
+    /// Records what the trails of these tenants have beyond the journal, and commits it. It may be called again after a
+    /// lack of memory.
     pub(crate) fn catch_up<H: Lending, T: Wait>(
         &mut self,
         rt: &T,
@@ -48,8 +49,7 @@ impl<D: Disk> JournalWriter<D> {
         self.commit()
     }
 
-    /// Has what a tenant's trail has beyond what is recorded wait for the commit. Where there is no room, what waits is
-    /// committed.
+    /// Stages what a tenant's trail has beyond the journal. If the buffer is full, what is staged is committed first.
     fn take<H: Lending, T: Wait>(
         &mut self,
         rt: &T,
@@ -72,7 +72,7 @@ impl<D: Disk> JournalWriter<D> {
         unreachable!()
     }
 
-    /// The same, as far as there is room. Whether that is all.
+    /// Stages entries until the buffer is full. True if none is left.
     fn take_some<H: Lending, T: Wait>(
         &mut self,
         rt: &T,
@@ -102,7 +102,7 @@ impl<D: Disk> JournalWriter<D> {
         staged
     }
 
-    /// Has the steps that were noted wait. Whether they are all.
+    /// Stages the steps that were read. True if none is left.
     fn stage_noted(&mut self, tenant: u32, notes: &EntryReader) -> Result<bool, JournalError>
         requires { tenant < length self.old.recorded.items }
         ensures whole { IfOk result (λ is_whole. IsStaged notes.now.reach is_whole) }
@@ -116,8 +116,13 @@ impl<D: Disk> JournalWriter<D> {
         }
     }
 
-    /// Has these steps of a tenant wait. It gives back whether they are all.
-    fn stage(&mut self, tenant: u32, notes: &[PendingEntry], is_all: bool) -> Result<bool, JournalError>
+    /// Stages these steps of a tenant. True if none is left.
+    fn stage(
+        &mut self,
+        tenant: u32,
+        notes: &[PendingEntry],
+        is_all: bool,
+    ) -> Result<bool, JournalError>
         requires { tenant < length self.old.recorded.items }
         ensures all { IfOk result (λ gives. gives ≡ is_all) }
         ensures staged { StagesFront D.Disk.seen D.Disk.may_leave self.old self.new tenant notes.now (is_ok result) }
@@ -133,7 +138,7 @@ impl<D: Disk> JournalWriter<D> {
         Ok(is_all)
     }
 
-    /// Brings what waits to the disk.
+    /// Commits what is staged.
     fn commit(&mut self) -> Result<(), JournalError>
         ensures ok { OnOk result ((head : Head) (records waiting : List Entry) → Has D.Disk.seen D.Disk.may_leave self.old.journal head records waiting
             → Takes D.Disk.seen D.Disk.may_leave ⊥ self.old self.new head records waiting []
@@ -145,7 +150,7 @@ impl<D: Disk> JournalWriter<D> {
     }
 }
 
-/// Has a step of a tenant wait.
+/// Stages one step of a tenant.
 fn stage_one<D: Disk>(
     journal: &mut Journal<D>,
     tenant: u32,

@@ -12,12 +12,12 @@ use sqlite_disk::Disk;
 use std::alloc::{AllocError, Global};
 use thiserror::Error;
 
-/// Why a log doesn't begin with a head.
+/// Why a log does not begin with this header.
 #[derive(Clone, Copy, Debug, Error)]
 pub enum BeginError {
     #[error("{0}")]
     Journal(JournalError),
-    /// It begins as the log of another program, or with lines of another meaning.
+    /// The log belongs to another program or another version of the language.
     #[error("it is no journal of this version")]
     OtherMeaning,
     #[error("it has another number of tenants")]
@@ -26,7 +26,8 @@ pub enum BeginError {
     OtherBound,
 }
 
-/// Opens the journal of a file that a crash may have left, or begins one in an empty file. It may crash too.
+/// Opens the journal of a file that a crash may have left, or begins one in an empty file. A crash during the call is
+/// covered, too.
 pub fn open_journal<D: Disk + Drop>(
     alloc: Global,
     disk: D,
@@ -53,7 +54,7 @@ pub fn open_journal<D: Disk + Drop>(
     }
 }
 
-/// Finds the head in a log, or writes it into an empty one. It may crash too.
+/// Compares the header of a log, or writes it into an empty one. A crash during the call is covered, too.
 pub fn begin<D: Disk>(alloc: Global, log: &mut RecordLog<D>, head: Head) -> Result<(), BeginError>
     // A log that has something begins with this head, and keeps all.
     ensures found { OnOk result (IsTrue (D.Disk.is_clean (device_of log.new)) → (first : List ℕ) (others : List (List ℕ))
@@ -87,7 +88,7 @@ pub fn begin<D: Disk>(alloc: Global, log: &mut RecordLog<D>, head: Head) -> Resu
     }
 }
 
-/// Whether two heads are the same, and else in which field they differ.
+/// Compares two headers. Error: the first field in which they differ.
 fn compare(first: &[u8], ours: &[u8]) -> Result<(), BeginError>
     requires { length ours.now ≡ 20 }
     ensures same { OnOk result (first.now ≡ ours.now) }

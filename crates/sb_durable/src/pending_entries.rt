@@ -25,7 +25,7 @@ impl PendingEntries {
         }
     }
 
-    /// EntryReader a call: its number, an offset or a length, a count, and 1 where it succeeded.
+    /// Notes a call: its number, an offset or a length, a count, and 1 where it succeeded.
     pub(crate) fn note(&mut self, _numbers: &[u64], _bytes: &[u8])
         ensures { self.new.events ≡ event_of _numbers.now _bytes.now ∷ self.old.events }
     {}

@@ -5,7 +5,7 @@ ghost use Rattle.sb_durable.specs.Records.{Entry, IsEntry, entry_bytes, entry_of
 
 use std::alloc::{AllocError, Global};
 
-/// A line that a session of a tenant gave.
+/// A recorded line: tenant, session and text.
 #[derive(Clone, Copy, Debug)]
 pub struct Record<'a> {
     pub tenant: u32,

@@ -16,13 +16,13 @@ const MAX_LEN: usize = 1 << 62;
 #[derive(Drop)]
 pub struct RecordLog<D: Disk> {
     device: D,
-    /// Where the shut gate is.
+    /// The place of the shut gate behind the last block.
     gate: usize,
     is_spent: bool,
 }
 
 impl<D: Disk> RecordLog<D> {
-    /// Opens a file that a crash may have left, or an empty one. It may crash too.
+    /// Opens a file that a crash may have left, or an empty one. A crash during the call is covered, too.
     pub fn open(device: D) -> Result<RecordLog<D>, (JournalError, D)>
         requires { IsTrue (D.Disk.is_usable device) }
         ensures ok { IfOk result (λ log. IsTrue (D.Disk.is_clean (device_of log)) → (contents : List (List ℕ)) → Stands contents (D.Disk.seen device)
@@ -51,7 +51,7 @@ impl<D: Disk> RecordLog<D> {
         }
     }
 
-    /// Gives the file back.
+    /// Returns the file.
     pub fn close(self) -> D
         ensures { result ≡ device_of self }
     {
@@ -65,7 +65,7 @@ impl<D: Disk> RecordLog<D> {
         self.is_spent
     }
 
-    /// Reads the content whose block begins at `at`, and says where the next block begins.
+    /// Reads the block at `at`. Returns the place of the next block.
     pub fn read(&mut self, at: usize, content: &mut Vec<u8>) -> Result<Option<usize>, JournalError>
         ensures found { IfOk result (λ next. IsTrue (D.Disk.is_clean (device_of self.new)) → (front back : List (List ℕ))
             → HasAll D.Disk.seen D.Disk.may_leave self.old (front ++ back) → at ≡ length (blocks front) → Reads front back content.new.items next) }
@@ -95,7 +95,7 @@ impl<D: Disk> RecordLog<D> {
         }
     }
 
-    /// Adds a content. At `Ok` each crash leaves a file that has it.
+    /// Appends a block and syncs it. Behind `Ok` no crash loses it.
     pub fn append(&mut self, alloc: Global, content: &[u8]) -> Result<(), JournalError>
         requires { IsContent content.now }
         ensures ok { OnOk result ((contents : List (List ℕ)) → HasAll D.Disk.seen D.Disk.may_leave self.old contents
@@ -129,7 +129,7 @@ impl<D: Disk> RecordLog<D> {
     }
 }
 
-/// A body and the shut gate behind it.
+/// The bytes of a block behind its gate, and the shut gate of the next one.
 fn behind_gate(alloc: Global, content: &[u8]) -> Result<Vec<u8>, AllocError>
     requires { IsContent content.now }
     ensures { IfOk result (λ bytes. bytes.items ≡ body content.now ++ 0 ∷ []) }
@@ -141,7 +141,7 @@ fn behind_gate(alloc: Global, content: &[u8]) -> Result<Vec<u8>, AllocError>
     Ok(bytes)
 }
 
-/// Reads so many bytes at a place in the place of those that are there.
+/// Replaces the buffer by so many bytes at a place of the file.
 fn fill<D: Disk>(
     disk: &mut D,
     at: usize,

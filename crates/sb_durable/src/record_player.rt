@@ -29,12 +29,12 @@ pub(crate) struct Player<H: Hosting> {
     ghost eight: { length sessions.items ≡ 8 * length steps.items },
 }
 
-/// A session behind a call.
+/// A session after a call.
 #[derive(Drop)]
 struct Called<S> {
-    /// It is still open.
+    /// The session, if it is still open.
     session: Option<S>,
-    /// What it left, if it has ended.
+    /// Its receipts, if it has ended.
     stub: Option<Stub>,
     /// The number of the step that was made.
     number: u32,
@@ -61,7 +61,7 @@ impl<H: Hosting> Player<H> {
         })
     }
 
-    /// Makes the call of a record.
+    /// Calls the session of a record with its line.
     fn play_record<T: Wait>(&mut self, rt: &T, line: Record) -> Result<(), PlayFault>
         ensures { OnOk result (PlaysLine
             (playing_of H.Session.seen self.old.sessions.items self.old.stubs.items self.old.steps.items) (entry_of line.entry)
@@ -84,7 +84,7 @@ impl<H: Hosting> Player<H> {
         }
     }
 
-    /// Opens the session, which the line has to do. An abort of a session that isn't open did nothing.
+    /// Opens a session: the line has to be `open`. An abort of a session that is not open does nothing.
     fn begin<T: Wait>(&mut self, rt: &T, line: Record, place: usize) -> Result<(), PlayFault>
         requires within { (line.tenant < length self.old.steps.items) × (place < length self.old.sessions.items) }
         requires place { place ≡ 8 * line.tenant + line.session }
@@ -123,7 +123,7 @@ impl<H: Hosting> Player<H> {
         }
     }
 
-    /// Has what a call left of a record's session at its place, or among what other sessions left.
+    /// Puts the session back after a call, or keeps its receipts if it has ended.
     fn settle(
         &mut self,
         line: Record,
@@ -150,7 +150,7 @@ impl<H: Hosting> Player<H> {
         }
     }
 
-    /// Ends the sessions that are open. What all sessions leave, and the number of each tenant's newest step before.
+    /// Ends the open sessions. Returns the receipts of all sessions, and each tenant's newest step before.
     pub(crate) fn end_all<T: Wait>(self, rt: &T) -> Result<(Vec<Stub>, Vec<u32>), AllocError>
         ensures { IfOk result (λ left. (closed : List ItsStub)
             × AreClosed (map (option_map H.Session.seen) self.sessions.items) closed
@@ -191,7 +191,7 @@ fn take_at<S>(sessions: &mut Vec<Option<S>>, place: usize) -> Option<S>
     sessions[place].take()
 }
 
-/// Has a stub behind the others, if there is one.
+/// Adds receipts to the list, if there are some.
 fn add(stubs: &mut Vec<Stub>, own: Option<Stub>) -> Result<(), AllocError>
     ensures { OnOk result (stubs.new.items ≡ stubs.old.items ++ option_to_list own) }
 {
@@ -252,7 +252,7 @@ fn call<S: Calling, T: Wait>(
     })
 }
 
-/// Makes the step of a line, and gives its number.
+/// Makes the step of a line. Returns its number.
 fn step<S: Calling, T: Wait>(
     rt: &T,
     alloc: Global,

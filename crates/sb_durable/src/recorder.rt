@@ -18,14 +18,14 @@ pub struct Recorder<H: Lending, D: Disk> {
     callers: Mutex<Callers>,
 }
 
-/// The tenants of all calls that wait for the book.
+/// The tenants of all calls that wait for the journal.
 #[derive(Drop)]
 struct Callers {
     tenants: Vec<u32>,
 }
 
 impl<H: Lending, D: Disk> Recorder<H, D> {
-    /// Of each tenant's trail so many entries are recorded.
+    /// A recorder of this host in this journal, which has so many entries of each tenant's trail.
     pub fn new(alloc: Global, host: H, journal: Journal<D>, recorded: Vec<u32>) -> Recorder<H, D> {
         Recorder {
             alloc,
@@ -41,8 +41,8 @@ impl<H: Lending, D: Disk> Recorder<H, D> {
         }
     }
 
-    /// Brings the file up to the trails of these tenants, and to the disk. After an error each further call is one, and
-    /// writes nothing.
+    /// Records all entries of these tenants' trails, and syncs the journal. After an error other than want of memory
+    /// each further call fails and writes nothing.
     pub fn keep<T: Wait>(&self, rt: &T, tenants: &[u32]) -> Result<(), JournalError>
         ensures { OnOk result (AreKept D.Disk tenants.now) }
     {
@@ -50,10 +50,17 @@ impl<H: Lending, D: Disk> Recorder<H, D> {
         let mut journal_writer = self.journal_writer.lock(rt);
         // one commit serves all that wait
         let callers = self.take(rt);
-        catch_up_both(rt, self.host, &mut journal_writer, &callers.tenants, place, tenants)
+        catch_up_both(
+            rt,
+            self.host,
+            &mut journal_writer,
+            &callers.tenants,
+            place,
+            tenants,
+        )
     }
 
-    /// Has these tenants wait behind the others, and says from which place on; `None` where there is no memory for that.
+    /// Adds these tenants to those that wait. Returns their place in the list, or None without memory.
     fn join<T: Wait>(&self, rt: &T, tenants: &[u32]) -> Option<usize> {
         let mut callers = self.callers.lock(rt);
         let place = callers.tenants.len();
@@ -72,7 +79,7 @@ impl<H: Lending, D: Disk> Recorder<H, D> {
         mem::replace(&mut *callers, none)
     }
 
-    /// Gives the file back.
+    /// Returns the file.
     pub fn close(self) -> D {
         let Recorder { journal_writer, .. } = self;
         let JournalWriter { journal, .. } = journal_writer.into_inner();
@@ -80,8 +87,7 @@ impl<H: Lending, D: Disk> Recorder<H, D> {
     }
 }
 
-/// Brings a book up to the trails of the tenants that wait, and to those of a caller's own, unless they stand at this
-/// place among the others.
+/// Records the trails of the tenants that wait, and those of the caller unless they are in that list at this place.
 fn catch_up_both<H: Lending, D: Disk, T: Wait>(
     rt: &T,
     host: H,

@@ -13,23 +13,23 @@ use std::alloc::Global;
 use std::sync::Wait;
 use thiserror::Error;
 
-/// Who is told how far the playing is.
+/// Receives the progress of a replay.
 pub trait Progress {
-    /// So many records were played, and so many bytes of the file were read.
+    /// So many records were replayed, and so many bytes of the file were read.
     fn tell(&mut self, records: u64, bytes: u64);
 }
 
-/// What playing leaves.
+/// The result of a replay.
 #[derive(Drop)]
 pub struct Played {
-    /// What the sessions left, which are all closed.
+    /// The receipts of all sessions, which are closed.
     pub stubs: Vec<Stub>,
     pub records: u64,
-    /// How many entries of each tenant's trail are recorded: all but those of the sessions that were closed at the end.
+    /// The number of recorded entries of each tenant's trail: all but the `end` of sessions that the replay closed.
     pub recorded: Vec<u32>,
 }
 
-/// Why a record isn't played.
+/// Why a record can't be replayed.
 #[derive(Clone, Copy, Debug, Error)]
 pub enum PlayFault {
     #[error("{0}")]
@@ -52,7 +52,7 @@ pub enum PlayFault {
     TrailFull,
 }
 
-/// Why a journal isn't played, and the number of the record, from 1.
+/// Why a journal can't be replayed, and the number of the record, from 1.
 #[derive(Clone, Copy, Debug, Error)]
 #[error("record {record}: {why}")]
 pub struct PlayError {
@@ -60,7 +60,7 @@ pub struct PlayError {
     pub why: PlayFault,
 }
 
-/// Plays the records of a journal to a host without steps, and ends the sessions that are open then.
+/// Replays the records of a journal on a new host, and ends the sessions that are open then.
 pub fn play<T: Wait, H: Hosting, D: Disk, P: Progress>(
     rt: &T,
     alloc: Global,
@@ -97,17 +97,17 @@ pub fn play<T: Wait, H: Hosting, D: Disk, P: Progress>(
     }
 }
 
-/// What records are played to.
+/// A target of a replay.
 pub(crate) trait Plays {
     // what one record makes of it
     ghost plays: { Self → Entry → Self → Type 0 };
 
-    /// Makes the call of a record.
+    /// Replays a record.
     fn play<T: Wait>(&mut self, rt: &T, alloc: Global, line: Record) -> Result<(), PlayFault>
         ensures { OnOk result (plays self.old (entry_of line.entry) self.new) };
 }
 
-/// Plays all records of a journal, one after another. How many there were.
+/// Replays all records of a journal, in order. Returns their number.
 pub(crate) fn play_all<T: Wait, S: Plays, D: Disk, P: Progress>(
     rt: &T,
     alloc: Global,
@@ -147,7 +147,7 @@ pub(crate) fn play_all<T: Wait, S: Plays, D: Disk, P: Progress>(
     unreachable!()
 }
 
-/// Plays a batch of records, and counts them.
+/// Replays a batch of records, and counts them.
 fn play_batch<T: Wait, S: Plays>(
     rt: &T,
     alloc: Global,

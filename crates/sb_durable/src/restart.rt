@@ -20,8 +20,8 @@ use sb_wire::Addressed;
 use std::alloc::{AllocError, Global};
 use std::sync::Wait;
 
-/// Plays the records of a journal to a cell without steps, and ends the sessions that are open then, which is recorded.
-/// How many records there were.
+/// Replays the records of a journal on a new cell, and ends and records the sessions that are open then. Returns the
+/// number of records.
 pub fn restart<T: Wait, D: Disk, P: Progress>(
     rt: &T,
     alloc: Global,

@@ -49,7 +49,7 @@ impl<D: Disk> Recording<D> {
         }
     }
 
-    /// Brings what a line's step is recorded as to the disk.
+    /// Records a line's step, and commits it.
     pub(crate) fn record(
         &mut self,
         line: Addressed<'_>,
@@ -83,7 +83,7 @@ impl<D: Disk> Recording<D> {
     }
 }
 
-/// What a line's step is recorded as, if it was one.
+/// The recorded text of a line's step. None if it was no step.
 fn recorded_text<'l>(line: &'l [u8], given: &Result<Answer, StepError>) -> Option<&'l [u8]>
     ensures { (tenant session : ℕ) → IsRecordedAs (record { tenant = tenant; session = session; line = line.now }) given.now result }
 {
@@ -99,7 +99,7 @@ fn recorded_text<'l>(line: &'l [u8], given: &Result<Answer, StepError>) -> Optio
     }
 }
 
-/// Makes the step of a line, and has it on the disk.
+/// Makes the step of a line, and records it.
 pub(crate) fn step<D: Disk>(
     alloc: Global,
     cell: &mut Cell,
@@ -123,7 +123,7 @@ pub(crate) fn step<D: Disk>(
     }
 }
 
-/// Answers the lines of the input, each once its step is on the disk. A run that can't record a step stops there.
+/// Answers the lines of the input, each after its step is durable. A run that can't record a step stops there.
 pub fn run_recorded<R: Source, W: Sink, D: Disk>(
     alloc: Global,
     reader: &mut R,
@@ -149,7 +149,7 @@ pub fn run_recorded<R: Source, W: Sink, D: Disk>(
     ended
 }
 
-/// Lines are steps of a cell, recorded before they are answered. Where a step can't be recorded the stream is over.
+/// A responder whose lines are steps of a cell, recorded before they are answered.
 struct RecordedLines;
 
 impl<D: Disk> Responder<Cell, Recording<D>> for RecordedLines {
@@ -182,7 +182,7 @@ impl<D: Disk> Responder<Cell, Recording<D>> for RecordedLines {
     }
 }
 
-/// Makes the step of a line, and writes its answer once it is on the disk.
+/// Makes the step of a line, and writes its answer after the step is durable.
 fn answer_line<D: Disk>(
     alloc: Global,
     line: Addressed<'_>,

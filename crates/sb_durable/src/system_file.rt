@@ -24,8 +24,8 @@ const TESTED: u64 = 6;
 
 const MAX_OFFSET: usize = (1 << 63) - 1;
 
-/// Whether a sync is made. Where none is, what was written survives the death of the process and not that of the
-/// machine: a sync is noted that wasn't made, so that what is proved of a crash isn't true of the file.
+/// Whether syncs are made. Without them, written data survives the death of the process, but not of the machine: what
+/// is proved of a crash does not hold of the file.
 #[derive(Clone, Copy, Debug)]
 pub enum Syncing {
     Always,

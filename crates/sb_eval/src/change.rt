@@ -286,7 +286,7 @@ pub(crate) fn add_change<'r, S: Sources>(
     Ok(())
 }
 
-/// The same, where the condition is true of the row.
+/// Makes the change of a row for which the condition is true.
 pub(crate) fn change_row<'r, S: Sources>(
     alloc: Global,
     walk: &TableWalk<'_, 'r, S>,

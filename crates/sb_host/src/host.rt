@@ -5,8 +5,8 @@ ghost use Rattle.sb_host.specs.Finish.{AreTrails};
 ghost use Rattle.sb_host.specs.Lending.{Lends};
 
 use crate::gathering::blank;
-use crate::locks::Reach;
 use crate::lock_group::LockGroup;
+use crate::locks::Reach;
 use crate::reading::{Reading, Tried};
 use crate::session::Session;
 use sb_desk::seats::Seats;

@@ -9,9 +9,9 @@ mod host;
 mod hosting;
 pub mod laws;
 mod lending;
+mod lock_group;
 mod locks;
 mod opening;
-mod lock_group;
 mod reading;
 mod session;
 

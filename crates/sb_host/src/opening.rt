@@ -5,8 +5,8 @@ ghost use Rattle.sb_desk.specs.Kept.{AreDealt};
 ghost use Rattle.sb_host.specs.Opening.{AreNames, IsSeatOf, MayBe, left_at, left_in};
 
 use crate::host::Host;
-use crate::locks::Lock;
 use crate::lock_group::LockGroup;
+use crate::locks::Lock;
 use crossbeam_utils::CachePadded;
 use sb_cell::{Cell, ample_buckets};
 use sb_desk::seats::{SeatTable, Seats, SessionSeat, open_seats, split, split_block};

@@ -19,7 +19,7 @@ fn expression_within(queries: u8, e: &Expression) -> bool
     }
 }
 
-/// The same of each expression.
+/// Whether all columns of each expression belong to so many innermost queries.
 fn expressions_within(queries: u8, list: &[Expression]) -> bool
     ensures { result ≡ spec.expressions_within queries list.now }
 {
@@ -31,7 +31,7 @@ fn expressions_within(queries: u8, list: &[Expression]) -> bool
     }
 }
 
-/// The same of items.
+/// Whether all columns of the items belong to so many innermost queries.
 fn items_within(queries: u8, items: &Items) -> bool
     ensures { result ≡ spec.items_within queries items.now }
 {
@@ -43,7 +43,7 @@ fn items_within(queries: u8, items: &Items) -> bool
     }
 }
 
-/// The same of a condition, where it is easily seen.
+/// True only if all columns of a condition belong to so many innermost queries. False also where it takes a longer look.
 #[cycle(within)]
 fn condition_within(queries: u8, c: &Condition) -> bool
     ensures { result ≡ true → spec.condition_within queries c.now ≡ true }
@@ -63,7 +63,7 @@ fn condition_within(queries: u8, c: &Condition) -> bool
     }
 }
 
-/// The same of an operand.
+/// Whether all columns of an operand belong to so many innermost queries.
 #[cycle(within)]
 fn operand_within(queries: u8, o: &Operand) -> bool
     ensures { result ≡ true → spec.operand_within queries o.now ≡ true }
@@ -74,7 +74,7 @@ fn operand_within(queries: u8, o: &Operand) -> bool
     }
 }
 
-/// The same of a query around which so many stand.
+/// Whether all columns of a query belong to it or to so many queries around it.
 #[cycle(within)]
 fn query_within(queries: u8, q: &Query) -> bool
     ensures { result ≡ true → spec.query_within queries q.now ≡ true }

@@ -15,7 +15,7 @@ pub enum Memo<'r> {
     Both(Box<Memo<'r>>, Box<Memo<'r>>),
     /// Of the condition of the query that stands here.
     Within(Box<Memo<'r>>),
-    /// The same, and how the last source of that query is taken.
+    /// Of the condition of the query that stands here, with the access path of its last source.
     Prepared(Box<Memo<'r>>, Box<AccessPath<'r>>),
     /// Whether the query that stands here has a row.
     Truth(bool),

@@ -25,7 +25,7 @@ fn plain_value<'r>(e: &'r Expression, scope: &Scope<'_, 'r>) -> ValueRef<'r>
     }
 }
 
-/// The same, where it is called.
+/// The value of a literal or a column, in a function that is not inlined.
 #[inline(never)]
 fn called_value<'r>(e: &'r Expression, scope: &Scope<'_, 'r>) -> ValueRef<'r>
     requires { spec.is_plain e.now ≡ true }

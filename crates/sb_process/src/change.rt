@@ -99,7 +99,7 @@ impl Database {
         }
     }
 
-    /// The same, once all locks are taken.
+    /// Runs a statement whose locks are all taken.
     fn run_granted<L: ChangeLog>(
         &mut self,
         alloc: Global,

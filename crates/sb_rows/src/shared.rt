@@ -70,7 +70,7 @@ impl SharedRows {
         }
     }
 
-    /// The same rows, once more.
+    /// Another reference to the same rows.
     pub fn share(&self) -> Result<SharedRows, AllocError>
         ensures { IfOk result (λ shared. shared ≡ self.now) }
     {

@@ -3,8 +3,8 @@ ghost use Rattle.std.specs.Prelude.{◌≡◌, [], false, None};
 ghost use Rattle.slab.specs.Slab.{slab_len};
 ghost use Rattle.sb_server.specs.Closed.{GainsClosed};
 
-use crate::door::{Client, Door};
 use crate::commit_hook::CommitHook;
+use crate::door::{Client, Door};
 use crate::mailbox::Handoff;
 use crate::pending_connection::{HandshakeRead, PendingConnection};
 use crate::server::Serving;
@@ -25,29 +25,39 @@ const LISTENER: Token = Token(usize::MAX - 1);
 
 const INPUT: Token = Token(usize::MAX - 2);
 
-/// The token of the newcomer with the key 0. Those of connections are below it.
+/// The token of the pending connection with key 0. Tokens of client connections are below it.
 const MOST_PENDING: usize = 1 << 48;
 
-/// How many connections are taken at most before those that are there have their turn.
+/// The most connections that are accepted before pending ones are read.
 const TAKEN_A_TURN: usize = 16;
 
-/// How long a first line may take, in seconds.
+/// How long a client may take to send its first line, in seconds.
 pub(crate) const FIRST_LINE: u32 = 10;
 
-/// The door with the newcomers, and a worker of its own for those that open no session.
+/// Accepts connections and reads their first lines. A worker of its own closes those that open no session.
 #[derive(Drop)]
 pub(crate) struct AcceptThread<'s, H: Hosting, V, D: Doorkeeper, K: CommitHook, C> {
     lobby: Worker<'s, H, V, D, K, C>,
     door: Door<'s>,
     pending_connections: Slab<Box<PendingConnection>>,
-    /// When late newcomers were looked for.
+    /// When late pending connections were looked for.
     sweeps: Sweeps,
-    /// The workers know that no more connections come.
+    /// The workers were told that no more connections come.
     has_told: bool,
 }
 
-impl<'s, H: Hosting, V: Watch, D: Doorkeeper, K: CommitHook, C: Clock> AcceptThread<'s, H, V, D, K, C> {
-    pub(crate) fn new(lobby: Worker<'s, H, V, D, K, C>, door: Door<'s>) -> AcceptThread<'s, H, V, D, K, C>
+impl<'s, H: Hosting, V: Watch, D: Doorkeeper, K: CommitHook, C: Clock> AcceptThread<
+    's,
+    H,
+    V,
+    D,
+    K,
+    C,
+> {
+    pub(crate) fn new(
+        lobby: Worker<'s, H, V, D, K, C>,
+        door: Door<'s>,
+    ) -> AcceptThread<'s, H, V, D, K, C>
         ensures { result.lobby.stubs.items ≡ lobby.entry.stubs.items }
     {
         let pending_connections = Slab::new(lobby.serving.alloc);
@@ -68,7 +78,7 @@ impl<'s, H: Hosting, V: Watch, D: Doorkeeper, K: CommitHook, C: Clock> AcceptThr
         lobby.into_stubs()
     }
 
-    /// Takes connections, once all threads run, and closes those that are left.
+    /// Waits until all threads run, accepts connections, and closes the ones that are left at the end.
     pub(crate) fn run<T: Wait>(&mut self, rt: &T, events: &mut Events, watches_input: bool)
         ensures { GainsClosed D.policy self.old.lobby.stubs.items self.new.lobby.stubs.items }
     {
@@ -79,7 +89,8 @@ impl<'s, H: Hosting, V: Watch, D: Doorkeeper, K: CommitHook, C: Clock> AcceptThr
         self.lobby.close_all(rt);
     }
 
-    /// Takes connections until none is to be taken and none is left, or the server stops. Then the port is closed.
+    /// Accepts connections until the count is reached and none is pending, or the server stops. Then it closes the
+    /// port.
     fn serve<T: Wait>(&mut self, rt: &T, events: &mut Events, watches_input: bool)
         ensures { GainsClosed D.policy self.old.lobby.stubs.items self.new.lobby.stubs.items }
     {
@@ -88,7 +99,7 @@ impl<'s, H: Hosting, V: Watch, D: Doorkeeper, K: CommitHook, C: Clock> AcceptThr
         self.door.close();
     }
 
-    /// Has connections at the listener reported, and the end of the input where that is asked for.
+    /// Registers the listener for events, and the standard input if its end stops the server.
     fn begin(&mut self, watches_input: bool)
         ensures { self.new.lobby ≡ self.old.lobby }
     {
@@ -121,7 +132,7 @@ impl<'s, H: Hosting, V: Watch, D: Doorkeeper, K: CommitHook, C: Clock> AcceptThr
         }
     }
 
-    /// Tells the workers that no more connections come, once that is so.
+    /// Tells the workers once that no more connections come.
     fn tell_last(&mut self)
         ensures { self.new.lobby ≡ self.old.lobby }
     {
@@ -131,7 +142,7 @@ impl<'s, H: Hosting, V: Watch, D: Doorkeeper, K: CommitHook, C: Clock> AcceptThr
         }
     }
 
-    /// How long it may wait for events.
+    /// How long the thread may wait for events.
     fn patience(&self) -> Option<Duration>
         ensures { result ≡ None → (slab_len self.now.pending_connections ≡ 0) × (self.now.lobby.due.items ≡ []) × (self.now.lobby.all_due ≡ false) }
     {
@@ -142,12 +153,12 @@ impl<'s, H: Hosting, V: Watch, D: Doorkeeper, K: CommitHook, C: Clock> AcceptThr
         patience
     }
 
-    /// The time, where it matters.
+    /// The time, if anything depends on it.
     fn now(&self) -> Option<Instant> {
         Instant::now(self.lobby.serving.clock).ok()
     }
 
-    /// One event.
+    /// Handles one event.
     fn note<T: Wait>(&mut self, rt: &T, event: &Ready)
         ensures { self.new.lobby.stubs.items ≡ self.old.lobby.stubs.items }
     {
@@ -160,12 +171,15 @@ impl<'s, H: Hosting, V: Watch, D: Doorkeeper, K: CommitHook, C: Clock> AcceptThr
             }
         } else if token.0 < MOST_PENDING || token.0 > MOST_PENDING + MOST_PENDING {
             self.lobby.note(event);
-        } else if let Some(pending_connection) = self.pending_connections.try_remove(token.0 - MOST_PENDING) {
+        } else if let Some(pending_connection) = self
+            .pending_connections
+            .try_remove(token.0 - MOST_PENDING)
+        {
             self.serve_pending(rt, pending_connection);
         }
     }
 
-    /// Takes some of the connections that wait at the listener.
+    /// Accepts some of the connections that wait at the listener.
     fn take_some<T: Wait>(&mut self, rt: &T)
         ensures { self.new.lobby.stubs.items ≡ self.old.lobby.stubs.items }
     {
@@ -178,7 +192,7 @@ impl<'s, H: Hosting, V: Watch, D: Doorkeeper, K: CommitHook, C: Clock> AcceptThr
         }
     }
 
-    /// Takes a connection. One that has no place isn't served.
+    /// Reads the first line of an accepted connection. Without memory for it, the connection is closed.
     fn welcome<T: Wait>(&mut self, rt: &T, client: Client)
         ensures { self.new.lobby.stubs.items ≡ self.old.lobby.stubs.items }
     {
@@ -196,14 +210,18 @@ impl<'s, H: Hosting, V: Watch, D: Doorkeeper, K: CommitHook, C: Clock> AcceptThr
         self.lobby.serving.watch.on_client_event(port, event);
     }
 
-    /// Reads what has come of a newcomer, and sends it on where its first line is known.
+    /// Reads what a pending connection has sent, and hands it over when its first line is complete.
     fn serve_pending<T: Wait>(&mut self, rt: &T, mut pending_connection: Box<PendingConnection>)
         ensures { self.new.lobby.stubs.items ≡ self.old.lobby.stubs.items }
     {
         let port = pending_connection.port;
         match self.lobby.read_first_line(&mut pending_connection) {
             HandshakeRead::Destination(Destination::Unknown) => self.keep(pending_connection),
-            HandshakeRead::Destination(Destination::To(tenant)) => self.hand_over(rt, tenant, pending_connection),
+            HandshakeRead::Destination(Destination::To(tenant)) => self.hand_over(
+                rt,
+                tenant,
+                pending_connection,
+            ),
             HandshakeRead::Destination(Destination::Away) => {
                 pending_connection.unwatch(self.lobby.poll.registry());
                 self.lobby.admit(Box::into_inner(pending_connection), None);
@@ -217,7 +235,7 @@ impl<'s, H: Hosting, V: Watch, D: Doorkeeper, K: CommitHook, C: Clock> AcceptThr
         }
     }
 
-    /// Keeps a newcomer until more comes of it. One that was there before has its key again.
+    /// Keeps a connection pending until it sends more. A connection that was pending before keeps its key.
     fn keep(&mut self, mut pending_connection: Box<PendingConnection>)
         ensures { self.new.lobby ≡ self.old.lobby }
     {
@@ -228,7 +246,10 @@ impl<'s, H: Hosting, V: Watch, D: Doorkeeper, K: CommitHook, C: Clock> AcceptThr
         let token = Token(MOST_PENDING.saturating_add(self.pending_connections.vacant_key()));
         if !pending_connection.is_watched {
             if let Err(error) = pending_connection.watch(self.lobby.poll.registry(), token) {
-                self.tell(pending_connection.port, ConnectionEvent::NotAccepted(error.kind()));
+                self.tell(
+                    pending_connection.port,
+                    ConnectionEvent::NotAccepted(error.kind()),
+                );
                 return;
             }
         }
@@ -236,21 +257,28 @@ impl<'s, H: Hosting, V: Watch, D: Doorkeeper, K: CommitHook, C: Clock> AcceptThr
     }
 
     /// Hands a connection to the worker of its tenant's cell.
-    fn hand_over<T: Wait>(&mut self, rt: &T, tenant: u32, mut pending_connection: Box<PendingConnection>)
+    fn hand_over<T: Wait>(
+        &mut self,
+        rt: &T,
+        tenant: u32,
+        mut pending_connection: Box<PendingConnection>,
+    )
         ensures { self.new.lobby ≡ self.old.lobby }
     {
         pending_connection.unwatch(self.lobby.poll.registry());
         let port = pending_connection.port;
-        if !self
-            .lobby
-            .serving
-            .hand_over(rt, Handoff { tenant, pending_connection })
-        {
+        if !self.lobby.serving.hand_over(
+            rt,
+            Handoff {
+                tenant,
+                pending_connection,
+            },
+        ) {
             self.tell(port, ConnectionEvent::NoPlace);
         }
     }
 
-    /// Closes the newcomers whose first line doesn't come in time.
+    /// Closes pending connections whose first line is late.
     fn sweep<T: Wait>(&mut self, rt: &T)
         ensures { self.new.lobby.stubs.items ≡ self.old.lobby.stubs.items }
     {
@@ -266,7 +294,7 @@ impl<'s, H: Hosting, V: Watch, D: Doorkeeper, K: CommitHook, C: Clock> AcceptThr
         }
     }
 
-    /// Closes a newcomer that is late. What has come is read first.
+    /// Closes a pending connection if it is late. What it has sent is read first.
     fn judge<T: Wait>(&mut self, rt: &T, key: usize)
         ensures { self.new.lobby.stubs.items ≡ self.old.lobby.stubs.items }
     {
@@ -282,7 +310,7 @@ impl<'s, H: Hosting, V: Watch, D: Doorkeeper, K: CommitHook, C: Clock> AcceptThr
         }
     }
 
-    /// Whether a newcomer is late.
+    /// Whether a pending connection is late.
     fn is_late(&self, key: usize) -> bool {
         match self.pending_connections.get(key) {
             Some(pending_connection) => pending_connection.age > FIRST_LINE,
@@ -291,7 +319,7 @@ impl<'s, H: Hosting, V: Watch, D: Doorkeeper, K: CommitHook, C: Clock> AcceptThr
     }
 }
 
-/// The shorter time, where none is any.
+/// The shorter of two times. None means no limit.
 fn shorter(one: Option<Duration>, other: Option<Duration>) -> Option<Duration>
     ensures { result ≡ None → (one ≡ None) × (other ≡ None) }
 {

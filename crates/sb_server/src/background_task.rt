@@ -11,10 +11,10 @@ use std::sync::atomic::{AtomicUsize, Ordering};
 use std::thread::{self, Parker, Threads};
 use std::time::Duration;
 
-/// How many milliseconds pass between two looks of who watches beside a server.
+/// The period of a background task, in milliseconds.
 const PERIOD: u64 = 1_000;
 
-/// How many jobs last, and who waits for their end.
+/// How many jobs still run. A background task waits for their end.
 #[derive(Drop)]
 pub struct ShutdownSignal {
     left: AtomicUsize,
@@ -22,7 +22,7 @@ pub struct ShutdownSignal {
 }
 
 impl ShutdownSignal {
-    /// So many jobs.
+    /// A signal for this number of jobs.
     pub(crate) fn new(jobs: usize) -> ShutdownSignal {
         ShutdownSignal {
             left: AtomicUsize::new(jobs),
@@ -30,14 +30,14 @@ impl ShutdownSignal {
         }
     }
 
-    /// One job less.
+    /// Notes that a job has ended.
     fn leave(&self) {
         if self.left.fetch_sub(1, Ordering::SeqCst) <= 1 {
             self.parker.unpark();
         }
     }
 
-    /// Waits for a while. Whether a job lasts.
+    /// Waits at most a period. True if a job still runs.
     pub fn lasts<R: Wait>(&self, rt: &R) -> bool {
         if self.left.load(Ordering::SeqCst) > 0 {
             self.parker.park_timeout(rt, Duration::from_millis(PERIOD));
@@ -46,21 +46,21 @@ impl ShutdownSignal {
     }
 }
 
-/// What the thread that began a server does while others serve.
+/// What the thread that started a server does while other threads serve.
 pub trait BackgroundTask {
     /// Runs until the server has ended.
     fn run<R: Wait>(&self, rt: &R, over: &ShutdownSignal);
 }
 
-/// Nothing is done beside.
+/// No background task.
 pub struct NoBackgroundTask;
 
 impl BackgroundTask for NoBackgroundTask {
     fn run<R: Wait>(&self, _rt: &R, _over: &ShutdownSignal) {}
 }
 
-/// Does each job in a thread of its own, and something beside in this one. Each thread is sent one job: one that starts
-/// others for what it was sent gets no proof.
+/// Runs each job in a thread of its own, and a background task in this one. Each thread is sent one job, since nothing
+/// can be proved of a thread that starts others for what it was sent.
 pub(crate) fn run_beside<
     J: Drop + Send,
     D: Drop + Send,
@@ -99,7 +99,7 @@ pub(crate) fn run_beside<
     with_last(others, last)
 }
 
-/// These results and a last one.
+/// These results with one more behind them.
 fn with_last<D: Drop>(others: Result<Vec<D>, AllocError>, last: D) -> Result<Vec<D>, AllocError>
     ensures { IfOk result (λ all. (front : Vec D ItsGlobal)
         × (others ≡ Ok front) × (all.items ≡ front.items ++ last ∷ [])) }

@@ -8,8 +8,8 @@ ghost use Rattle.sb_server.specs.Carried.{Carries};
 ghost use Rattle.sb_server.specs.Closed.{Leaves};
 ghost use Rattle.sb_server.specs.ClientConnections.{EndsBy, EndsSilent, HasSession, IsBlocked, ReadsOnce, SendsSome, TellsEnd, ends};
 
+use crate::pending_connection::{HandshakeSettings, PendingConnection};
 use crate::reply_metrics::{MetricsContext, ReplyMetrics};
-use crate::pending_connection::{PendingConnection, HandshakeSettings};
 use crate::socket::Socket;
 use crate::told::Told;
 use mio::{Interest, Registry, Token};
@@ -22,27 +22,27 @@ use std::rt::Clock;
 use std::sync::Wait;
 use std::time::{Duration, Instant};
 
-/// A client that has a connection.
+/// A connection of a client, with its socket and its protocol state.
 pub(crate) struct ClientConnection<H: Hosting, S: Stream + Drop, D: Doorkeeper> {
     pub(crate) stream: S,
-    /// The client's.
+    /// The client's port.
     pub(crate) port: u16,
-    /// The one that its first line names, if it opens a session.
+    /// The tenant that the first line names, if it opens a session.
     pub(crate) tenant: Option<u32>,
     pub(crate) connection: Connection<H, D>,
     /// When its last whole line came, or was answered.
     pub(crate) heard: Option<Instant>,
-    /// What the newest read found.
+    /// The result of the newest read.
     came: Came,
-    /// A whole line came or was answered in the newest turn.
+    /// The newest turn received or answered a whole line.
     is_active: bool,
-    /// It has a place among those that are served next.
+    /// The connection is in the queue of its worker.
     pub(crate) is_due: bool,
-    /// The client has told that it sends no more.
+    /// The client has shut down its sending side.
     pub(crate) hung_up: bool,
-    /// Memory ran out for what was read last.
+    /// The last bytes that were read are lost for want of memory.
     pub(crate) is_cut: bool,
-    /// An operator ends its session.
+    /// An operator has asked to end the session.
     pub(crate) is_ended: bool,
     ghost carries: { Carries (S.traffic stream) connection is_cut },
 }
@@ -65,31 +65,32 @@ impl<H: Hosting, S: Stream + Drop, D: Doorkeeper> Drop for ClientConnection<H, S
     }
 }
 
-/// What becomes of a connection after its turn.
+/// What a connection does after its turn.
 #[derive(Clone, Copy)]
 pub(crate) enum Next {
     /// It waits for its client.
     Waits,
-    /// There is more to do at once.
+    /// It has more to do at once.
     GoesOn,
     Ends(ConnectionEnd),
 }
 
-/// What a read found.
+/// The result of a read.
 #[derive(Clone, Copy)]
 pub(crate) enum Came {
-    /// None was made, or it is to be made again.
+    /// No read was made, or it has to be made again.
     Unread,
     Nothing,
-    /// Bytes: whether a newline was among them, and whether those were all.
+    /// Bytes. `has_line`: a newline was among them. `all`: the socket had no more.
     Bytes { has_line: bool, all: bool },
 }
 
-/// How often a client that has hung up is read in one turn, so that its session is soon closed.
+/// The most reads in one turn of a client that has shut down its sending side, so that its session is closed soon.
 const LAST_READS: usize = 4;
 
 impl<H: Hosting, S: Stream + Drop, D: Doorkeeper> ClientConnection<H, S, D> {
-    /// The first part of a turn: what comes is read and answered, and nothing is sent. It gives the fault, if there is one.
+    /// The first part of a turn: reads and answers what has come, and sends nothing. Returns the fault, if there is
+    /// one.
     pub(crate) fn take_in<T: Wait, V: Watch, C: Clock>(
         &mut self,
         rt: &T,
@@ -118,7 +119,7 @@ impl<H: Hosting, S: Stream + Drop, D: Doorkeeper> ClientConnection<H, S, D> {
         None
     }
 
-    /// The second part: the replies are sent. What follows.
+    /// The second part of a turn: sends the replies. Returns what the connection does next.
     pub(crate) fn give_out(&mut self) -> Next
         ensures tells { TellsEnd (S.traffic self.new.stream) self.new.connection self.new.is_cut result }
         ensures ended { self.old.is_ended ≡ true → ends result ≡ true }
@@ -131,12 +132,12 @@ impl<H: Hosting, S: Stream + Drop, D: Doorkeeper> ClientConnection<H, S, D> {
         }
     }
 
-    /// Whether the client has hung up, and there may be more of it.
+    /// Whether the client has shut down its sending side and unread bytes may be left.
     fn has_more(&self) -> bool {
         self.hung_up && matches!(self.came, Came::Bytes { .. }) && self.connection.wants_read()
     }
 
-    /// The tenant whose steps its replies tell of, if there are any to send.
+    /// The tenant whose replies wait to be sent, if there are any.
     pub(crate) fn answered(&self) -> Option<u32>
         ensures some { 0 < length self.now.connection.pending → result ≡ self.now.tenant }
         ensures none { self.now.connection.pending ≡ [] → result ≡ None }
@@ -149,7 +150,12 @@ impl<H: Hosting, S: Stream + Drop, D: Doorkeeper> ClientConnection<H, S, D> {
     }
 
     /// Answers what came.
-    fn answer<T: Wait, V: Watch, C: Clock>(&mut self, rt: &T, metrics_context: &MetricsContext<'_, V, C>, doorkeeper: &D)
+    fn answer<T: Wait, V: Watch, C: Clock>(
+        &mut self,
+        rt: &T,
+        metrics_context: &MetricsContext<'_, V, C>,
+        doorkeeper: &D,
+    )
         ensures streams { SameStreams self.old.connection self.new.connection }
         ensures stays { self.old.connection.attached ≡ true → self.new.connection.attached ≡ true }
         ensures stream { (self.new.stream ≡ self.old.stream) × (self.new.is_cut ≡ self.old.is_cut) }
@@ -164,7 +170,7 @@ impl<H: Hosting, S: Stream + Drop, D: Doorkeeper> ClientConnection<H, S, D> {
         };
     }
 
-    /// What follows on a turn.
+    /// What the connection does after its turn.
     fn next(&self) -> Next
         ensures tells { TellsEnd (S.traffic self.now.stream) self.now.connection self.now.is_cut result }
         ensures ended { self.now.is_ended ≡ true → ends result ≡ true }
@@ -189,7 +195,7 @@ impl<H: Hosting, S: Stream + Drop, D: Doorkeeper> ClientConnection<H, S, D> {
         }
     }
 
-    /// Reads once, if the connection wants it. It gives the fault, if there is one.
+    /// Reads once, if the connection wants to read. Returns the fault, if there is one.
     fn read_stream(&mut self, buffer: &mut Vec<u8>) -> Option<ConnectionEnd>
         ensures fault { IfSome result (EndsBy (S.traffic self.new.stream) self.new.connection self.new.is_cut) }
         ensures reads { MayReceive self.old.connection → self.old.connection.pending ≡ [] → self.old.is_cut ≡ false
@@ -227,7 +233,7 @@ impl<H: Hosting, S: Stream + Drop, D: Doorkeeper> ClientConnection<H, S, D> {
         }
     }
 
-    /// Sends what waits, as far as the client takes it. It gives the fault, if there is one.
+    /// Sends waiting replies until the socket takes no more. Returns the fault, if there is one.
     fn send(&mut self) -> Option<ConnectionEnd>
         ensures sends { SendsSome self.old.connection self.new.connection }
         ensures all { IfNone result ((self.new.connection.pending ≡ []) ⊎ IsBlocked (S.traffic self.new.stream)) }
@@ -249,7 +255,7 @@ impl<H: Hosting, S: Stream + Drop, D: Doorkeeper> ClientConnection<H, S, D> {
         None
     }
 
-    /// Sends once.
+    /// Makes one write.
     fn send_once(&mut self) -> io::Result<usize>
         ensures count { IfOk result (λ count. count ≤ length self.old.connection.pending) }
         ensures sent { MatchResult result
@@ -262,7 +268,7 @@ impl<H: Hosting, S: Stream + Drop, D: Doorkeeper> ClientConnection<H, S, D> {
         self.connection.send(&mut self.stream)
     }
 
-    /// Takes note of its newest turn at this time.
+    /// Notes the time of the newest turn.
     pub(crate) fn note_turn(&mut self, now: Option<Instant>)
         ensures { (self.new.connection ≡ self.old.connection) × (self.new.tenant ≡ self.old.tenant) }
     {
@@ -271,7 +277,7 @@ impl<H: Hosting, S: Stream + Drop, D: Doorkeeper> ClientConnection<H, S, D> {
         }
     }
 
-    /// How a connection ends that has been silent for too long, if it has.
+    /// How the connection ends if it has been silent for too long.
     pub(crate) fn silence(&self, now: Instant, limits: &Limits) -> Option<ConnectionEnd>
         ensures ending { IfSome result (EndsSilent limits.now self.now.heard now) }
         ensures transaction { result ≡ Some ConnectionEnd.IdleTransaction → Transacts self.now.connection true }
@@ -309,7 +315,7 @@ impl<H: Hosting, S: Stream + Drop, D: Doorkeeper> ClientConnection<H, S, D> {
         self.connection.transacts()
     }
 
-    /// Closes the connection with its session, whose receipts are left.
+    /// Closes the connection and its session. The receipts of the session are left.
     pub(crate) fn leave<T: Wait, V: Watch>(
         self,
         rt: &T,
@@ -337,7 +343,7 @@ impl<H: Hosting, S: Stream + Drop, D: Doorkeeper> ClientConnection<H, S, D> {
 }
 
 impl<H: Hosting, D: Doorkeeper> ClientConnection<H, Socket, D> {
-    /// That of a newcomer. Where memory runs out for its bytes, its first turn ends it.
+    /// The connection of a client whose first line is known. Without memory for its bytes it ends in its first turn.
     pub(crate) fn begin(
         alloc: Global,
         host: H,
@@ -370,23 +376,23 @@ impl<H: Hosting, D: Doorkeeper> ClientConnection<H, Socket, D> {
         }
     }
 
-    /// Has it reported from now on, under this token.
+    /// Registers the socket for events under this token.
     pub(crate) fn register(&mut self, registry: &Registry, token: Token) -> io::Result<()> {
         self.stream
             .register(registry, token, Interest::READABLE | Interest::WRITABLE)
     }
 }
 
-/// How long a connection may be silent.
+/// How long a connection may send nothing.
 #[derive(Clone, Copy)]
 pub(crate) struct Limits {
     pub(crate) idle: Option<Duration>,
-    /// In a transaction.
+    /// While its session has a transaction.
     pub(crate) idle_transaction: Option<Duration>,
 }
 
 impl Limits {
-    /// Whether there are any.
+    /// Whether any limit is set.
     pub(crate) fn are_set(&self) -> bool
         ensures { IsTrue result ↔ (IsSome self.now.idle ⊎ IsSome self.now.idle_transaction) }
     {
@@ -404,7 +410,7 @@ fn is_over(silent: Duration, limit: Option<Duration>) -> bool
     }
 }
 
-/// Has a connection take what a read found, and tells what that was. There may be no memory for it.
+/// Gives the bytes of a read to the connection. The bytes may be lost for want of memory.
 fn take_bytes<H: Hosting, D: Doorkeeper>(
     connection: &mut Connection<H, D>,
     buffer: &[u8],

@@ -3,17 +3,17 @@ ghost use Rattle.std.specs.Prelude.{◌≡◌, ℕ, Bool, List};
 
 use std::sync::Wait;
 
-/// How it went to keep something.
+/// The result of a commit.
 #[derive(Clone, Copy, Debug, PartialEq, Eq)]
 pub enum CommitStatus {
     All,
-    /// There was no memory for it. The replies wait, and it is tried again.
+    /// Out of memory. The replies wait, and the commit is tried again.
     NotYet,
-    /// Nothing can be kept any more. The server ends, and the replies aren't sent.
+    /// No commit is possible any more. The server ends without sending the replies.
     Failed,
 }
 
-/// Keeps what tenants were answered, before their clients are told.
+/// Makes answers durable before the replies are sent.
 pub trait CommitHook {
     // anything is kept
     ghost is_set: { Self → Bool };
@@ -21,16 +21,16 @@ pub trait CommitHook {
     // all that these tenants were answered so far is kept
     ghost keeps: { Self → List ℕ → Type 0 };
 
-    /// Whether anything is kept. Where nothing is, each connection is served by itself.
+    /// Whether anything is committed. If not, each connection is served by itself.
     fn is_set(&self) -> bool
         ensures { result ≡ is_set self.now };
 
-    /// Keeps all that these tenants were answered so far.
+    /// Commits all that these tenants were answered so far.
     fn keep<T: Wait>(&self, rt: &T, tenants: &[u32]) -> CommitStatus
         ensures { result ≡ CommitStatus.All → keeps self.now tenants.now };
 }
 
-/// Nothing is kept.
+/// A server without a journal: there is nothing to commit.
 #[derive(Clone, Copy, Debug)]
 pub struct NoJournal;
 

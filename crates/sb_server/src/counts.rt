@@ -29,7 +29,7 @@ impl Cause {
     }
 }
 
-/// Something that is counted.
+/// A counter.
 #[derive(Clone, Copy, Debug)]
 pub enum Count {
     Connections,
@@ -37,11 +37,12 @@ pub enum Count {
     Closed,
     /// Lines of sessions that were answered.
     Lines,
-    /// Nanoseconds in which a worker didn't wait.
+    /// Nanoseconds in which a worker did not wait for events.
     Busy,
     Considerations,
     Rollback(Cause),
-    /// Steps that took at most the limit at this place, and more than the one before; behind the last limit any others.
+    /// Steps that took at most this limit of `LIMITS`, and more than the limit before. The last one counts all longer
+    /// steps.
     Step(usize),
     /// Nanoseconds of all steps.
     Steps,
@@ -71,11 +72,11 @@ const STEPS: usize = 16;
 
 const REFUSALS: usize = 32;
 
-/// How many things are counted.
+/// The number of counters.
 const COUNTS: usize = REFUSALS + 256;
 
 impl Count {
-    /// That of a step that took so many nanoseconds.
+    /// The counter of a step that took so many nanoseconds.
     pub(crate) fn of_step(nanos: u64) -> Count {
         for (place, limit) in LIMITS.iter().enumerate() {
             if nanos <= *limit {
@@ -100,7 +101,7 @@ impl Count {
     }
 }
 
-/// The counts of a worker, which alone adds to them.
+/// The counters of one worker. No other thread adds to them.
 #[derive(Drop)]
 pub(crate) struct WorkerCounters {
     counts: Vec<AtomicU64>,

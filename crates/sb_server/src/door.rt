@@ -14,7 +14,7 @@ const FIRST_PAUSE: u64 = 10;
 
 const LONGEST_PAUSE: u64 = 1_000;
 
-/// Who comes in.
+/// An accepted client.
 #[derive(Drop)]
 pub(crate) struct Client {
     pub(crate) stream: TcpStream,
@@ -25,15 +25,15 @@ pub(crate) struct Client {
 #[derive(Drop)]
 pub(crate) struct Door<'s> {
     listener: &'s TcpListener,
-    /// How many connections are taken still, if there is an end.
+    /// How many more connections are accepted. None: any number.
     left: Option<u64>,
-    /// A connection may be there.
+    /// A connection may wait.
     is_due: bool,
-    /// The last one couldn't be taken.
+    /// The last accept failed.
     fault: Option<Pause>,
 }
 
-/// How long the listener is let alone.
+/// The pause after a failed accept.
 #[derive(Clone, Copy)]
 struct Pause {
     since: Option<Instant>,
@@ -41,7 +41,7 @@ struct Pause {
 }
 
 impl<'s> Door<'s> {
-    /// So many connections are taken in all, or any number where that is 0.
+    /// A listener that accepts so many connections, or any number if `count` is 0.
     pub(crate) fn new(listener: &'s TcpListener, count: u64) -> Door<'s>
         ensures { result.left ≡ (if count == 0 then None else Some count) }
     {
@@ -68,7 +68,7 @@ impl<'s> Door<'s> {
         }
     }
 
-    /// Takes no more connections: the port is closed.
+    /// Accepts no more connections. The port is closed.
     pub(crate) fn close(&mut self)
         ensures { self.new.left ≡ Some 0 }
     {
@@ -76,21 +76,21 @@ impl<'s> Door<'s> {
         let _closed = system::shutdown(self.descriptor(), system::SHUT_RD);
     }
 
-    /// A connection may be there.
+    /// A connection may wait.
     pub(crate) fn note(&mut self)
         ensures { self.new.left ≡ self.old.left }
     {
         self.is_due = true;
     }
 
-    /// Whether the last one couldn't be taken.
+    /// Whether the last accept failed.
     pub(crate) fn has_fault(&self) -> bool
         ensures { result ≡ is_some self.now.fault }
     {
         self.fault.is_some()
     }
 
-    /// How long one may wait for events before the listener is tried again: no time, some time, or any.
+    /// How long the thread may wait for events before the listener is tried again. None: any time.
     pub(crate) fn patience(&self) -> Option<Duration>
         ensures { result ≡ None → StandsOpen self.now.left → (self.now.fault ≡ None) × (self.now.is_due ≡ false) }
     {
@@ -122,7 +122,7 @@ impl<'s> Door<'s> {
         }
     }
 
-    /// The next connection, if one is there and is to be taken.
+    /// Accepts the next connection, if one waits and more are wanted.
     pub(crate) fn take<V: Watch>(&mut self, watch: &V, now: Option<Instant>) -> Option<Client>
         ensures taken { IsSome result → StandsOpen self.old.left × (self.new.left ≡ one_less self.old.left) }
         ensures others { (self.new.left ≡ self.old.left) ⊎ (self.new.left ≡ one_less self.old.left) }
@@ -150,7 +150,7 @@ impl<'s> Door<'s> {
         }
     }
 
-    /// One was taken, or couldn't be. Behind the last one the port is closed.
+    /// Counts an accepted or failed connection. The port is closed behind the last one.
     fn use_up(&mut self)
         ensures { self.new.left ≡ one_less self.old.left }
     {
@@ -164,7 +164,7 @@ impl<'s> Door<'s> {
         }
     }
 
-    /// Lets the listener alone for a while. It is told once, until a connection can be taken again.
+    /// Leaves the listener alone for a while. The fault is logged once, until an accept succeeds.
     fn pause<V: Watch>(&mut self, watch: &V, why: ErrorKind, now: Option<Instant>)
         ensures fault { IsSome self.new.fault }
         ensures others { self.new.left ≡ self.old.left }
@@ -180,7 +180,7 @@ impl<'s> Door<'s> {
     }
 }
 
-/// A connection whose reads and writes don't wait.
+/// Accepts a connection whose reads and writes do not block.
 fn accept(listener: &TcpListener) -> Result<Client, ErrorKind> {
     let (stream, peer) = match listener.accept() {
         Ok(accepted) => accepted,

@@ -8,7 +8,7 @@ use std::alloc::{AllocError, Global};
 use std::sync::atomic::{AtomicU64, Ordering};
 use std::time::Instant;
 
-/// That of a session that was never answered.
+/// Stands for a session that was never answered.
 const NEVER: u64 = u64::MAX;
 
 /// When the last line of each session was answered, in seconds since a server began.
@@ -21,7 +21,7 @@ pub(crate) struct LastLines {
 }
 
 impl LastLines {
-    /// Those of no session.
+    /// A table of no session.
     pub(crate) fn none(alloc: Global) -> LastLines {
         LastLines {
             began: None,
@@ -30,7 +30,7 @@ impl LastLines {
         }
     }
 
-    /// Those of so many tenants, from a server's first one on, which began at this time.
+    /// A table of so many tenants from this first number on. The server began at this time.
     pub(crate) fn new(
         alloc: Global,
         began: Option<Instant>,

@@ -7,17 +7,17 @@ use std::alloc::Global;
 use std::mem;
 use std::sync::{Mutex, Wait};
 
-/// A connection whose first line names a session of this tenant.
+/// A connection that is handed to a worker. Its first line names a session of this tenant.
 #[derive(Drop)]
 pub(crate) struct Handoff {
     pub(crate) tenant: u32,
     pub(crate) pending_connection: Box<PendingConnection>,
 }
 
-/// The connections that a worker hasn't taken over yet, and what wakes it.
+/// The connections that a worker has not taken over yet, and the waker of the worker.
 #[derive(Drop)]
 pub(crate) struct Mailbox {
-    /// The worker's.
+    /// The worker's place.
     pub(crate) place: usize,
     waker: Waker,
     handoffs: Mutex<Vec<Handoff>>,
@@ -34,14 +34,14 @@ impl Mailbox {
         }
     }
 
-    /// Puts a connection in, and wakes the worker. Whether there was a place.
+    /// Adds a connection and wakes the worker. False without memory; then the connection is dropped.
     pub(crate) fn put<T: Wait>(&self, rt: &T, handoff: Handoff) -> bool {
         let is_put = self.handoffs.lock(rt).push(handoff).is_ok();
         self.wake();
         is_put
     }
 
-    /// Takes all that are there.
+    /// Removes all connections.
     pub(crate) fn take<T: Wait>(&self, rt: &T, alloc: Global) -> Vec<Handoff> {
         mem::replace(&mut *self.handoffs.lock(rt), Vec::new(alloc))
     }

@@ -14,18 +14,18 @@ use sb_connection::{Destination, Stream, route_of};
 use std::alloc::{AllocFailed, Global};
 use std::io::{self, ErrorKind};
 
-/// A connection before its first line is answered.
+/// A connection whose first line is not complete yet.
 pub(crate) struct PendingConnection {
     pub(crate) socket: Socket,
-    /// The client's.
+    /// The client's port.
     pub(crate) port: u16,
-    /// All that came.
+    /// All bytes so far.
     pub(crate) bytes: Vec<u8>,
-    /// How often it was seen that its first line hasn't come, about once a second.
+    /// For how many seconds the first line has been missing, about.
     pub(crate) age: u32,
-    /// It has been handed to the system to be reported.
+    /// The socket is registered for events.
     pub(crate) is_watched: bool,
-    /// Memory ran out for what was read last.
+    /// The last bytes that were read are lost for want of memory.
     pub(crate) is_cut: bool,
     ghost whole: { Hears is_cut (gave (traffic socket)) bytes.items },
     ghost fresh: { took (traffic socket) ≡ [] },
@@ -44,17 +44,17 @@ impl Drop for PendingConnection {
     }
 }
 
-/// What is known of a newcomer.
+/// What is known of a pending connection.
 #[derive(Clone, Copy)]
 pub(crate) enum HandshakeRead {
     Destination(Destination),
-    /// It went without a byte.
+    /// The client closed it without sending a byte.
     Left,
     Fault(ErrorKind),
     NoMemory,
 }
 
-/// By what first lines are read.
+/// The settings by which first lines are read.
 #[derive(Clone, Copy)]
 pub(crate) struct HandshakeSettings {
     /// The number of the host's first tenant, as lines name it.
@@ -64,12 +64,15 @@ pub(crate) struct HandshakeSettings {
     pub(crate) keyed: bool,
 }
 
-/// How often a newcomer is read at most in one turn.
+/// The most reads of a pending connection in one turn.
 const MOST_READS: usize = 16;
 
 impl PendingConnection {
-    /// That of a client who has just come in. One for which there is no memory is given back.
-    pub(crate) fn of(alloc: Global, client: Client) -> Result<Box<PendingConnection>, AllocFailed<PendingConnection>>
+    /// The connection of a client that was just accepted. Without memory the client is given back.
+    pub(crate) fn of(
+        alloc: Global,
+        client: Client,
+    ) -> Result<Box<PendingConnection>, AllocFailed<PendingConnection>>
         ensures { IfOk result (λ pending_connection. pending_connection.value.port ≡ client.port) }
     {
         let Client { stream, port } = client;
@@ -106,8 +109,12 @@ impl PendingConnection {
         (socket, bytes)
     }
 
-    /// Reads until its first line is known, or nothing more is there.
-    pub(crate) fn read_first_line(&mut self, buffer: &mut Vec<u8>, by: HandshakeSettings) -> HandshakeRead
+    /// Reads until the first line is complete or the socket has no more.
+    pub(crate) fn read_first_line(
+        &mut self,
+        buffer: &mut Vec<u8>,
+        by: HandshakeSettings,
+    ) -> HandshakeRead
         ensures { HeardBy (hosting_by by.keyed by.first by.tenants) self.new.bytes.items self.new.is_cut result }
     {
         for _read in 0..MOST_READS {
@@ -118,7 +125,7 @@ impl PendingConnection {
         HandshakeRead::Destination(Destination::Unknown)
     }
 
-    /// Reads once. None where it is to be read again.
+    /// Reads once. None: read again.
     fn read_once(&mut self, buffer: &mut Vec<u8>, by: HandshakeSettings) -> Option<HandshakeRead>
         ensures { IfSome result (HeardBy (hosting_by by.keyed by.first by.tenants) self.new.bytes.items self.new.is_cut) }
     {
@@ -140,7 +147,7 @@ impl PendingConnection {
         }
     }
 
-    /// Where it goes by what has come of it, and whether no more comes.
+    /// Where the connection goes, by its bytes so far and whether more may come.
     fn route(&self, has_ended: bool, by: HandshakeSettings) -> Destination
         ensures { Routes (hosting_by by.keyed by.first by.tenants) self.now.bytes.items has_ended result }
     {

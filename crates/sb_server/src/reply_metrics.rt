@@ -1,7 +1,7 @@
 //! What is counted and timed of the lines of a connection.
 
-use crate::server_metrics::ServerMetrics;
 use crate::counts::{Cause, Count};
+use crate::server_metrics::ServerMetrics;
 use sb_connection::{Answered, ConnectionEvent, Said, SessionName, Slow, Watch};
 use sb_desk::AttachError;
 use sb_tenant::Reply;
@@ -36,10 +36,15 @@ pub(crate) struct ReplyMetrics<'e, 'w, V, C> {
 }
 
 impl<'e, 'w, V: Watch, C: Clock> ReplyMetrics<'e, 'w, V, C> {
-    pub(crate) fn new(metrics_context: &'e MetricsContext<'w, V, C>, port: u16) -> ReplyMetrics<'e, 'w, V, C> {
+    pub(crate) fn new(
+        metrics_context: &'e MetricsContext<'w, V, C>,
+        port: u16,
+    ) -> ReplyMetrics<'e, 'w, V, C> {
         let since = match metrics_context.woke {
             // where steps are counted by their times, what was done before isn't theirs
-            Some(_) if metrics_context.server_metrics.is_set() => Instant::now(metrics_context.clock).ok(),
+            Some(_) if metrics_context.server_metrics.is_set() => Instant::now(
+                metrics_context.clock,
+            ).ok(),
             woke => woke,
         };
         ReplyMetrics {
@@ -60,7 +65,9 @@ impl<'e, 'w, V: Watch, C: Clock> ReplyMetrics<'e, 'w, V, C> {
     }
 
     fn add(&self, what: Count, more: u64) {
-        self.metrics_context.server_metrics.add(self.metrics_context.place, what, more);
+        self.metrics_context
+            .server_metrics
+            .add(self.metrics_context.place, what, more);
     }
 
     /// Counts what a line was answered.

@@ -8,16 +8,16 @@ ghost use Rattle.sb_server.specs.Closed.{LeaveClosed, LeavesClosed};
 ghost use Rattle.sb_server.specs.Mailboxes.{ArePlaced};
 ghost use Rattle.sb_server.specs.Places.{place_of};
 
+use crate::accept_thread::{AcceptThread, FIRST_LINE};
 use crate::background_task::{BackgroundTask, ShutdownSignal, run_beside};
-use crate::server_metrics::ServerMetrics;
+use crate::client_connection::Limits;
+use crate::commit_hook::{CommitHook, CommitStatus};
 use crate::door::Door;
 use crate::guard::{Guard, PolicyName};
-use crate::commit_hook::{CommitHook, CommitStatus};
 use crate::mailbox::{Handoff, Mailbox};
 use crate::pending_connection::HandshakeSettings;
-use crate::accept_thread::{FIRST_LINE, AcceptThread};
 use crate::poller::Poller;
-use crate::client_connection::Limits;
+use crate::server_metrics::ServerMetrics;
 use crate::worker::Worker;
 use mio::{Events, Waker};
 use sb_connection::{Admission, Doorkeeper, Watch};
@@ -84,7 +84,7 @@ impl From<AllocError> for ServeError {
     }
 }
 
-/// What all threads share.
+/// What all threads of a server share.
 #[derive(Drop)]
 pub(crate) struct Serving<'s, H: Hosting, V, D, K, C> {
     pub(crate) alloc: Global,
@@ -97,9 +97,9 @@ pub(crate) struct Serving<'s, H: Hosting, V, D, K, C> {
     pub(crate) first_tenant: u32,
     listener: &'s TcpListener,
     terms: Terms,
-    /// That of each worker, by its place.
+    /// The mailbox of each worker, by its place.
     pub(crate) mailboxes: Vec<Mailbox>,
-    /// What wakes the thread at the door.
+    /// The waker of the accept thread.
     door: Waker,
     /// How many threads run.
     here: AtomicUsize,
@@ -127,12 +127,12 @@ impl<'s, H: Hosting, V, D, K, C> Serving<'s, H, V, D, K, C> {
         &self.mailboxes[self.place_of(tenant)]
     }
 
-    /// Hands a connection to the worker that has its tenant's cell. Whether there was a place.
+    /// Hands a connection to the worker of its tenant's cell. False without memory.
     pub(crate) fn hand_over<T: Wait>(&self, rt: &T, handoff: Handoff) -> bool {
         self.mailbox_of(handoff.tenant).put(rt, handoff)
     }
 
-    /// The connections that were handed to the worker at this place.
+    /// Removes the connections that were handed to the worker at this place.
     pub(crate) fn handoffs<T: Wait>(&self, rt: &T, place: usize) -> Vec<Handoff> {
         match self.mailboxes.get(place) {
             Some(mailbox) => mailbox.take(rt, self.alloc),
@@ -147,7 +147,7 @@ impl<'s, H: Hosting, V, D, K, C> Serving<'s, H, V, D, K, C> {
         }
     }
 
-    /// Whether all threads run: those of the workers and the one at the door.
+    /// Whether all threads run: the workers and the accept thread.
     pub(crate) fn are_all_here(&self) -> bool {
         self.here.load(Ordering::SeqCst) > self.mailboxes.len()
     }
@@ -156,7 +156,7 @@ impl<'s, H: Hosting, V, D, K, C> Serving<'s, H, V, D, K, C> {
         self.is_door_closed.load(Ordering::SeqCst)
     }
 
-    /// No more connections are handed over.
+    /// Notes that no more connections are handed over.
     pub(crate) fn close_door(&self) {
         self.raise(&self.is_door_closed);
     }
@@ -170,33 +170,33 @@ impl<'s, H: Hosting, V, D, K, C> Serving<'s, H, V, D, K, C> {
         self.raise(&self.stopping);
     }
 
-    /// Ends it since a thread is missing.
+    /// Ends the service: a thread could not be started.
     pub(crate) fn lack_thread(&self) {
         self.stop_by(&self.lacks_thread);
     }
 
-    /// Ends it since a thread can't wait for events.
+    /// Ends the service: a thread can't wait for events.
     pub(crate) fn fail_poll(&self) {
         self.stop_by(&self.has_failed);
     }
 
-    /// Ends it since something wasn't kept.
+    /// Ends the service: answers could not be committed.
     pub(crate) fn lose(&self) {
         self.stop_by(&self.has_lost);
     }
 
-    /// Whether something wasn't kept.
+    /// Whether answers could not be committed.
     pub(crate) fn has_lost(&self) -> bool {
         self.has_lost.load(Ordering::SeqCst)
     }
 
-    /// Ends it for what this flag tells.
+    /// Sets a flag, and ends the service.
     fn stop_by(&self, flag: &AtomicBool) {
         flag.store(true, Ordering::SeqCst);
         self.stop();
     }
 
-    /// Sets a flag that each thread looks at.
+    /// Sets a flag, and wakes all threads.
     fn raise(&self, flag: &AtomicBool) {
         flag.store(true, Ordering::SeqCst);
         self.wake_all();
@@ -209,7 +209,7 @@ impl<'s, H: Hosting, V, D, K, C> Serving<'s, H, V, D, K, C> {
         }
     }
 
-    /// Why it ended early, if it did.
+    /// Why the service ended early, if it did.
     fn failure(&self) -> Option<ServeError> {
         if self.lacks_thread.load(Ordering::SeqCst) {
             return Some(ServeError::NoThread);
@@ -224,16 +224,16 @@ impl<'s, H: Hosting, V, D, K, C> Serving<'s, H, V, D, K, C> {
     }
 }
 
-/// Who works at a seat.
+/// The work of a thread.
 #[derive(Clone, Copy)]
 enum Role {
-    /// It takes connections.
+    /// Accepts connections.
     Door,
-    /// The worker at this place.
+    /// Serves the cells of this place.
     Worker(usize),
 }
 
-/// A seat, the events that are told there, and who works there.
+/// The poller of a thread, its events, and its work.
 #[derive(Drop)]
 pub(crate) struct WorkerSetup {
     role: Role,
@@ -261,7 +261,7 @@ impl<'s, H: Hosting, V: Watch, D: Doorkeeper, K: CommitHook, C: Clock> Work<Work
 }
 
 impl<'s, H: Hosting, V: Watch, D: Doorkeeper, K: CommitHook, C: Clock> Serving<'s, H, V, D, K, C> {
-    /// By what first lines are read.
+    /// The settings by which first lines are read.
     pub(crate) fn handshake(&self) -> HandshakeSettings
         ensures tenants { (result.first ≡ self.now.first_tenant) × (result.tenants ≡ H.tenants self.now.host) }
         ensures keyed { result.keyed ≡ D.policy.keyed }
@@ -273,7 +273,8 @@ impl<'s, H: Hosting, V: Watch, D: Doorkeeper, K: CommitHook, C: Clock> Serving<'
         }
     }
 
-    /// Keeps what these tenants were answered. Whether it is kept; where nothing can be kept any more, the service ends.
+    /// Commits what these tenants were answered. True if it is durable. If no commit is possible any more, the service
+    /// ends.
     pub(crate) fn keep<T: Wait>(&self, rt: &T, tenants: &[u32]) -> bool
         ensures { IsTrue result → K.keeps self.now.commit_hook.now tenants.now }
     {
@@ -287,14 +288,14 @@ impl<'s, H: Hosting, V: Watch, D: Doorkeeper, K: CommitHook, C: Clock> Serving<'
         }
     }
 
-    /// How long a line takes that is told.
+    /// A line that takes at least so long is logged as slow.
     pub(crate) fn slow(&self) -> Option<Duration>
         ensures { result ≡ self.now.terms.slow }
     {
         self.terms.slow
     }
 
-    /// The time, where lines are timed.
+    /// The time, if lines are timed.
     pub(crate) fn time(&self) -> Option<Instant> {
         if self.terms.slow.is_none() && !self.server_metrics.is_set() {
             return None;
@@ -302,7 +303,7 @@ impl<'s, H: Hosting, V: Watch, D: Doorkeeper, K: CommitHook, C: Clock> Serving<'
         Instant::now(self.clock).ok()
     }
 
-    /// Takes connections at the door, and closes those that open no session.
+    /// Accepts connections, and closes those that open no session.
     fn run_accept_thread<R: Wait>(&self, rt: &R, seat: Poller, events: &mut Events) -> Vec<Stub>
         ensures { LeaveClosed D.policy result }
     {
@@ -314,7 +315,7 @@ impl<'s, H: Hosting, V: Watch, D: Doorkeeper, K: CommitHook, C: Clock> Serving<'
         accept_thread.into_stubs()
     }
 
-    /// Serves the connections of the cells of this place.
+    /// Serves the connections of this worker's cells.
     fn serve_cells<R: Wait>(
         &self,
         rt: &R,
@@ -329,7 +330,7 @@ impl<'s, H: Hosting, V: Watch, D: Doorkeeper, K: CommitHook, C: Clock> Serving<'
         worker.into_stubs()
     }
 
-    /// How long a connection may be silent.
+    /// How long a connection may send nothing.
     fn limits(&self) -> Limits
         ensures { (result.idle ≡ self.now.terms.idle) × (result.idle_transaction ≡ self.now.terms.idle_transaction) }
     {
@@ -339,7 +340,7 @@ impl<'s, H: Hosting, V: Watch, D: Doorkeeper, K: CommitHook, C: Clock> Serving<'
         }
     }
 
-    /// How long one may be silent that opens no session.
+    /// How long a connection without a session may send nothing.
     fn lobby_limits(&self) -> Limits {
         Limits {
             idle: Some(Duration::from_secs(u64::from(FIRST_LINE))),
@@ -348,8 +349,8 @@ impl<'s, H: Hosting, V: Watch, D: Doorkeeper, K: CommitHook, C: Clock> Serving<'
     }
 }
 
-/// Serves the connections that are taken, each worker and the door in a thread of its own, and leaves the receipts of all
-/// sessions. What is done beside is done in this thread.
+/// Serves all connections: each worker and the accept thread run in threads of their own, the background task in this
+/// one. Leaves the receipts of all sessions.
 pub fn serve_all<H, V, A, K, G, R>(
     rt: &R,
     alloc: Global,
@@ -372,7 +373,7 @@ where
     serve_as::<Brand, H, V, A, K, G, R>(rt, alloc, config, host, background_task)
 }
 
-/// Serves them under a name of the policy.
+/// Serves all connections under a name of the policy.
 fn serve_as<N, H, V, A, K, G, R>(
     rt: &R,
     alloc: Global,
@@ -400,7 +401,13 @@ where
         return Err(ServeError::NoPlace);
     }
     let mut mailboxes = Vec::new(alloc);
-    let (setups, waker) = all_setups(rt, alloc, config.server_metrics, terms.workers, &mut mailboxes)?;
+    let (setups, waker) = all_setups(
+        rt,
+        alloc,
+        config.server_metrics,
+        terms.workers,
+        &mut mailboxes,
+    )?;
     let serving = Serving {
         alloc,
         host,
@@ -426,7 +433,7 @@ where
     all_stubs(alloc, serving.failure(), parts)
 }
 
-/// A post for each worker and for the door, with the mailboxes of the workers and what wakes who is at the door.
+/// Sets up each worker and the accept thread, with the mailboxes of the workers and the waker of the accept thread.
 fn all_setups<R: Net + Wait>(
     rt: &R,
     alloc: Global,
@@ -451,7 +458,7 @@ fn all_setups<R: Net + Wait>(
     Ok((setups, waker))
 }
 
-/// A post for each worker, and its mailbox.
+/// Sets up each worker and its mailbox.
 fn setups<R: Net + Wait>(
     rt: &R,
     alloc: Global,
@@ -478,7 +485,7 @@ fn setups<R: Net + Wait>(
     Ok(setups)
 }
 
-/// That of the worker at this place.
+/// The setup of the worker at this place.
 fn worker_setup(place: usize, seat: Poller, events: Events) -> WorkerSetup {
     WorkerSetup {
         role: Role::Worker(place),
@@ -487,7 +494,7 @@ fn worker_setup(place: usize, seat: Poller, events: Events) -> WorkerSetup {
     }
 }
 
-/// The receipts of all sessions, where each thread has left its own and the service didn't end early.
+/// The receipts of all sessions, if each thread has left its own and the service did not end early.
 fn all_stubs(
     alloc: Global,
     failure: Option<ServeError>,

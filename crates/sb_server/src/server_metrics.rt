@@ -5,8 +5,8 @@ ghost use Rattle.sb_server.specs.ServerMetrics.{AreSlowestFirst, IsSessionFrom, 
 
 use crate::counts::{Count, WorkerCounters};
 use crate::last_lines::LastLines;
-use crate::slow_line::SlowLine;
 use crate::poller::WAKER;
+use crate::slow_line::SlowLine;
 use mio::{Poll, Waker};
 use sb_connection::SessionName;
 use std::alloc::{AllocError, Global};
@@ -18,25 +18,26 @@ use std::{io, mem};
 /// How many of the slowest lines are kept.
 const MOST_LINES: usize = 10;
 
-/// How many sessions may be told to a worker before it looks.
+/// The most requests to end a session that wait for one worker.
 const MOST_ORDERS: usize = 64;
 
-/// What a worker is told.
+/// Requests to a worker.
 #[derive(Drop)]
 struct Orders {
-    /// What wakes it, once it works.
+    /// The waker of the worker, once it runs.
     waker: Option<Waker>,
-    /// Sessions that are to end.
+    /// Sessions to end.
     ends: Vec<SessionName>,
 }
 
-/// What is known of a server, and what its workers are told. Each worker has a place, and the door the last one.
+/// Counters and slow lines of a server, and requests to its workers. Each worker has a place; the accept thread has the
+/// last one.
 pub struct ServerMetrics {
     tallies: Vec<WorkerCounters>,
     desks: Vec<Mutex<Orders>>,
     /// The slowest lines so far.
     slowest: Mutex<Vec<SlowLine>>,
-    /// A line that took no more than so many nanoseconds isn't one of them.
+    /// A line that took no more than so many nanoseconds is not among the slowest.
     floor: AtomicU64,
     last_lines: LastLines,
 }
@@ -54,7 +55,7 @@ impl Drop for ServerMetrics {
 }
 
 impl ServerMetrics {
-    /// One on which nothing is counted.
+    /// Metrics that count nothing.
     pub fn blank(alloc: Global) -> ServerMetrics
         ensures { (place_count result ≡ 0) × (desk_count result ≡ 0) }
     {
@@ -67,7 +68,8 @@ impl ServerMetrics {
         }
     }
 
-    /// That of so many workers and the door, and of so many tenants from the first one on. Its server begins at this time.
+    /// The metrics of so many workers and the accept thread, and of so many tenants from this first number on. The
+    /// server begins at this time.
     pub fn new(
         alloc: Global,
         workers: usize,
@@ -96,21 +98,21 @@ impl ServerMetrics {
         })
     }
 
-    /// Whether something is counted.
+    /// Whether anything is counted.
     pub(crate) fn is_set(&self) -> bool
         ensures { IsTrue result ↔ (0 < place_count self.now) }
     {
         !self.tallies.is_empty()
     }
 
-    /// How many places there are: those of the workers and the door's.
+    /// The number of places: one for each worker, and the accept thread's.
     pub fn places(&self) -> usize
         ensures { result ≡ place_count self.now }
     {
         self.tallies.len()
     }
 
-    /// How often it was counted at a place.
+    /// The counter of one place.
     pub fn count_at(&self, place: usize, what: Count) -> u64
         ensures { place_count self.now ≤ place → result ≡ 0 }
     {
@@ -120,7 +122,7 @@ impl ServerMetrics {
         }
     }
 
-    /// How often it was counted.
+    /// The sum of a counter over all places.
     pub fn count(&self, what: Count) -> u64
         ensures { place_count self.now ≡ 0 → result ≡ 0 }
     {
@@ -137,7 +139,7 @@ impl ServerMetrics {
         }
     }
 
-    /// Keeps a line if it is one of the slowest.
+    /// Records a line if it is among the slowest.
     pub(crate) fn note_line<T: Wait>(&self, rt: &T, named: SessionName, line: &[u8], nanos: u64) {
         if nanos <= self.floor.load(Ordering::SeqCst) {
             return;
@@ -151,12 +153,12 @@ impl ServerMetrics {
         }
     }
 
-    /// Notes that a session is answered at this time.
+    /// Notes that a session was answered at this time.
     pub(crate) fn note_last(&self, named: SessionName, now: Instant) {
         self.last_lines.note(named, now);
     }
 
-    /// How many seconds ago the last line of a session was answered, if it was and that is known.
+    /// How many seconds ago the last line of a session was answered. None: never, or not known.
     pub fn age(&self, named: SessionName, now: Instant) -> Option<u64>
         ensures { IfSome result (λ _. IsSessionFrom self.now.last_lines.first_tenant named) }
     {
@@ -178,7 +180,8 @@ impl ServerMetrics {
         Ok(lines)
     }
 
-    /// Has the worker that has this cell, of so many, end a session. Whether it is told.
+    /// Asks the worker of `cell` to end the session. False if the worker does not run, 64 requests wait already, or
+    /// memory is short.
     pub fn end_session<T: Wait>(&self, rt: &T, cell: usize, named: SessionName) -> bool
         ensures { desk_count self.now ≡ 0 → IsFalse result }
     {
@@ -197,7 +200,7 @@ impl ServerMetrics {
         waker.wake().is_ok()
     }
 
-    /// Has the worker at this place woken where it is told something.
+    /// Sets the waker of the worker at this place.
     pub(crate) fn hang_bell<T: Wait>(&self, rt: &T, place: usize, poll: &Poll) -> io::Result<()> {
         if let Some(desk) = self.desks.get(place) {
             let waker = Waker::new(poll.registry(), WAKER)?;
@@ -206,7 +209,7 @@ impl ServerMetrics {
         Ok(())
     }
 
-    /// The sessions that the worker at this place is told to end.
+    /// Removes and returns the sessions that the worker at this place has to end.
     pub(crate) fn take_ends<T: Wait>(
         &self,
         rt: &T,
@@ -220,7 +223,7 @@ impl ServerMetrics {
     }
 }
 
-/// Keeps a line among so many slowest.
+/// Records a line in a full list of the slowest.
 fn keep_slowest(lines: &mut Vec<SlowLine>, line: SlowLine) {
     if lines.len() < MOST_LINES {
         let _where_there_is_memory = lines.push(line);
@@ -234,7 +237,7 @@ fn keep_slowest(lines: &mut Vec<SlowLine>, line: SlowLine) {
     }
 }
 
-/// The place of the line that took least.
+/// The place of the fastest line.
 fn fastest_of(lines: &[SlowLine]) -> usize {
     let mut fastest = 0;
     let mut least = u64::MAX;
@@ -247,7 +250,7 @@ fn fastest_of(lines: &[SlowLine]) -> usize {
     fastest
 }
 
-/// How many nanoseconds that line took.
+/// The nanoseconds of the fastest line.
 fn least_of(lines: &[SlowLine]) -> u64 {
     match lines.get(fastest_of(lines)) {
         Some(line) => line.nanos,

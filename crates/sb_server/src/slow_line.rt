@@ -3,7 +3,7 @@ ghost use Rattle.std.specs.Prelude.{◌≡◌, ◌≤◌, take};
 
 use sb_connection::SessionName;
 
-/// How many bytes are kept of one.
+/// The most bytes of a line that are recorded.
 const MOST_BYTES: usize = 200;
 
 /// A line that took long.

@@ -10,12 +10,12 @@ use sb_connection::Stream;
 use std::io::{self, Read, Write};
 use std::net;
 
-/// A socket whose calls don't wait.
+/// A socket whose calls do not block.
 pub(crate) struct Socket {
     stream: TcpStream,
-    /// The buffer behind each read, and its answer.
+    /// Each read: the buffer behind it, and its result.
     reads: Log<Vec<u8>, io::Result<usize>>,
-    /// The output at each write, how much of it had gone, and the answer.
+    /// Each write: the output, how much of it was sent before, and the result.
     writes: Log<Vec<u8>, (usize, io::Result<usize>)>,
 }
 
@@ -30,7 +30,7 @@ impl Drop for Socket {
 }
 
 impl Socket {
-    /// A socket before its first call, whose calls are made not to wait.
+    /// A socket before its first call. It is set not to block.
     pub(crate) fn new(stream: net::TcpStream) -> Socket
         ensures { traffic result ≡ no_traffic }
     {
@@ -41,7 +41,7 @@ impl Socket {
         }
     }
 
-    /// Has it reported under this token.
+    /// Registers the socket for events under this token.
     pub(crate) fn register(
         &mut self,
         registry: &Registry,
@@ -53,7 +53,7 @@ impl Socket {
         registry.register(&mut self.stream, token, interest)
     }
 
-    /// Has it reported no more.
+    /// Ends the registration.
     pub(crate) fn deregister(&mut self, registry: &Registry)
         ensures { traffic self.new ≡ traffic self.old }
     {

@@ -2,10 +2,10 @@
 
 use std::time::{Duration, Instant};
 
-/// How often they are looked at, in milliseconds.
+/// How often silent connections are looked for, in milliseconds.
 pub(crate) const SWEEP: u64 = 1_000;
 
-/// When they were looked at last.
+/// When silent connections were looked for last.
 #[derive(Clone, Copy)]
 pub(crate) struct Sweeps {
     last: Option<Instant>,
@@ -16,7 +16,7 @@ impl Sweeps {
         Sweeps { last: None }
     }
 
-    /// The time, if they are to be looked at again. Then they are.
+    /// The time, if a sweep is due. It counts as made.
     pub(crate) fn next(&mut self, now: Option<Instant>) -> Option<Instant> {
         let now = now?;
         if let Some(last) = self.last {

@@ -3,7 +3,7 @@
 use sb_connection::{Answered, ConnectionEvent, Slow, Watch};
 use std::sync::Wait;
 
-/// Who is told what happens to the connection of the client at this port.
+/// An observer of the connection of the client at this port.
 #[derive(Drop)]
 pub(crate) struct Told<'w, V> {
     pub(crate) watch: &'w V,

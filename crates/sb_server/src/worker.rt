@@ -9,17 +9,17 @@ ghost use Rattle.sb_server.specs.Sessions.{KeepsSessions, has_one, session_count
 ghost use Rattle.sb_server.specs.Sockets.{traffic};
 ghost use Rattle.sb_server.specs.ClientConnections.{HasSession};
 
-use crate::counts::{Cause, Count};
-use crate::reply_metrics::MetricsContext;
-use crate::input::{has_ended, watch_input};
+use crate::client_connection::{ClientConnection, Limits, Next};
 use crate::commit_hook::CommitHook;
+use crate::counts::{Cause, Count};
+use crate::input::{has_ended, watch_input};
 use crate::mailbox::Handoff;
 use crate::pending_connection::{HandshakeRead, PendingConnection};
+use crate::poller::{Poller, WAKER};
+use crate::reply_metrics::MetricsContext;
 use crate::server::Serving;
 use crate::socket::Socket;
-use crate::poller::{Poller, WAKER};
 use crate::sweeps::{SWEEP, Sweeps};
-use crate::client_connection::{Limits, Next, ClientConnection};
 use mio::event::Event as Ready;
 use mio::unix::SourceFd;
 use mio::{Events, Interest, Poll, Token};
@@ -32,20 +32,20 @@ use std::rt::Clock;
 use std::sync::Wait;
 use std::time::{Duration, Instant};
 
-/// How often it is looked whether all threads run, and for so many milliseconds.
+/// How often, and for how many milliseconds each time, a worker waits for the other threads to start.
 const LOOKS: usize = 100;
 
 const LOOK: u64 = 100;
 
-/// Where there was no memory to keep answers, it is tried again after so many milliseconds.
+/// The pause before a commit that lacked memory is tried again, in milliseconds.
 const PAUSE: u64 = 100;
 
 /// A part of a turn.
 #[derive(Clone, Copy)]
 enum TurnPart {
-    /// What came is answered. Where nothing is kept, it is the whole turn.
+    /// Reads and answers. Without a commit hook this is the whole turn.
     First,
-    /// Replies are sent.
+    /// Sends the replies.
     Last,
 }
 
@@ -53,33 +53,33 @@ enum TurnPart {
 #[derive(Drop)]
 pub(crate) struct Worker<'s, H: Hosting, V, D: Doorkeeper, K: CommitHook, C> {
     pub(crate) serving: &'s Serving<'s, H, V, D, K, C>,
-    /// Where it counts.
+    /// The place of its counters.
     place: usize,
     limits: Limits,
     pub(crate) poll: Poll,
     pub(crate) buffer: Vec<u8>,
     client_connections: Slab<Box<ClientConnection<H, Socket, D>>>,
-    /// Those that are served next.
+    /// The connections that are served next, by key.
     due: Vec<usize>,
-    /// There was no place for one of them: all connections are served next.
+    /// The queue lacked memory for a key, so all connections are served next.
     all_due: bool,
-    /// The tenants that were answered something which isn't kept yet. None is asked for more meanwhile.
+    /// The tenants with answers that are not committed yet. Their connections are not read meanwhile.
     answered: Vec<u32>,
     stubs: Vec<Stub>,
-    /// It was woken.
+    /// The waker was used.
     is_called: bool,
-    /// When it was told of events, where lines are timed.
+    /// When events came, if lines are timed.
     woke: Option<Instant>,
     /// When silent connections were looked for.
     sweeps: Sweeps,
     /// Each connection has a place for its receipts.
     ghost room: { vec_len stubs + slab_len client_connections ≤ vec_capacity stubs },
-    /// Where nothing is kept, nothing waits for it.
+    /// Without a commit hook nothing waits for a commit.
     ghost unkept: { K.is_set serving.now.commit_hook.now ≡ false → answered.items ≡ [] },
 }
 
 impl<'s, H: Hosting, V: Watch, D: Doorkeeper, K: CommitHook, C: Clock> Worker<'s, H, V, D, K, C> {
-    /// A worker at its seat, which has no connection yet.
+    /// A worker without connections.
     pub(crate) fn new(
         serving: &'s Serving<'s, H, V, D, K, C>,
         place: usize,
@@ -114,7 +114,7 @@ impl<'s, H: Hosting, V: Watch, D: Doorkeeper, K: CommitHook, C: Clock> Worker<'s
         stubs
     }
 
-    /// Waits until all threads run. Whether they do.
+    /// Waits until all threads run. False if they don't.
     pub(crate) fn meet(&mut self, events: &mut Events) -> bool
         ensures { (self.new.stubs.items ≡ self.old.stubs.items) × (self.new.client_connections ≡ self.old.client_connections) }
     {
@@ -132,7 +132,7 @@ impl<'s, H: Hosting, V: Watch, D: Doorkeeper, K: CommitHook, C: Clock> Worker<'s
         false
     }
 
-    /// Serves the connections of its place, once all threads run, and closes those that are left.
+    /// Waits until all threads run, serves the connections of its cells, and closes the ones that are left at the end.
     pub(crate) fn run<T: Wait>(&mut self, rt: &T, events: &mut Events)
         ensures gains { GainsClosed D.policy self.old.stubs.items self.new.stubs.items }
         ensures sessions { KeepsSessions self.old.client_connections self.new.client_connections (λ v. v.value.connection.attached) self.old.stubs.items self.new.stubs.items }
@@ -144,7 +144,7 @@ impl<'s, H: Hosting, V: Watch, D: Doorkeeper, K: CommitHook, C: Clock> Worker<'s
         self.close_all(rt);
     }
 
-    /// Serves the connections of its place until none comes and none is left, or the server stops.
+    /// Serves the connections of its cells until none is left and none comes, or the server stops.
     fn serve<T: Wait>(&mut self, rt: &T, events: &mut Events)
         ensures gains { GainsClosed D.policy self.old.stubs.items self.new.stubs.items }
         ensures sessions { KeepsSessions self.old.client_connections self.new.client_connections (λ v. v.value.connection.attached) self.old.stubs.items self.new.stubs.items }
@@ -168,7 +168,7 @@ impl<'s, H: Hosting, V: Watch, D: Doorkeeper, K: CommitHook, C: Clock> Worker<'s
         }
     }
 
-    /// Waits for events. Whether it could.
+    /// Waits for events. False if the system refuses to wait.
     pub(crate) fn wait(&mut self, events: &mut Events, patience: Option<Duration>) -> bool
         ensures { (self.new.stubs ≡ self.old.stubs) × (self.new.client_connections ≡ self.old.client_connections) }
     {
@@ -198,7 +198,7 @@ impl<'s, H: Hosting, V: Watch, D: Doorkeeper, K: CommitHook, C: Clock> Worker<'s
         }
     }
 
-    /// Has what comes at a descriptor reported under this token.
+    /// Registers a descriptor for events under this token.
     pub(crate) fn report(&self, descriptor: i32, token: Token) {
         let registry = self.poll.registry();
         let _told_by_a_turn = registry.register(
@@ -208,7 +208,7 @@ impl<'s, H: Hosting, V: Watch, D: Doorkeeper, K: CommitHook, C: Clock> Worker<'s
         );
     }
 
-    /// Has the program's input reported under this token, if it can be waited for.
+    /// Registers the standard input for events under this token. False if it can't be waited for.
     pub(crate) fn report_input(&self, token: Token) -> bool {
         !watch_input(self.poll.registry(), token)
     }
@@ -218,22 +218,25 @@ impl<'s, H: Hosting, V: Watch, D: Doorkeeper, K: CommitHook, C: Clock> Worker<'s
         has_ended(self.poll.registry(), token)
     }
 
-    /// Reads what has come of a newcomer.
-    pub(crate) fn read_first_line(&mut self, pending_connection: &mut PendingConnection) -> HandshakeRead
+    /// Reads what a pending connection has sent.
+    pub(crate) fn read_first_line(
+        &mut self,
+        pending_connection: &mut PendingConnection,
+    ) -> HandshakeRead
         ensures { self.new.stubs ≡ self.old.stubs }
     {
         let serving = self.serving;
         pending_connection.read_first_line(&mut self.buffer, serving.handshake())
     }
 
-    /// Whether it has no connection.
+    /// Whether the worker has no connection.
     pub(crate) fn is_empty(&self) -> bool
         ensures { result ≡ (slab_len self.now.client_connections == 0) }
     {
         self.client_connections.is_empty()
     }
 
-    /// How long it may wait for events.
+    /// How long the worker may wait for events.
     pub(crate) fn patience(&self) -> Option<Duration>
         ensures { result ≡ None → (self.now.due.items ≡ []) × (self.now.all_due ≡ false) × (self.now.answered.items ≡ []) }
     {
@@ -249,7 +252,7 @@ impl<'s, H: Hosting, V: Watch, D: Doorkeeper, K: CommitHook, C: Clock> Worker<'s
         None
     }
 
-    /// The time, where silence matters.
+    /// The time, if idle connections are closed.
     fn now(&self) -> Option<Instant> {
         if !self.limits.are_set() {
             return None;
@@ -257,7 +260,7 @@ impl<'s, H: Hosting, V: Watch, D: Doorkeeper, K: CommitHook, C: Clock> Worker<'s
         Instant::now(self.serving.clock).ok()
     }
 
-    /// One event.
+    /// Handles one event.
     pub(crate) fn note(&mut self, event: &Ready)
         ensures stubs { self.new.stubs ≡ self.old.stubs }
         ensures sessions { session_count self.old.client_connections (λ v. v.value.connection.attached) ≤ session_count self.new.client_connections (λ v. v.value.connection.attached) }
@@ -270,7 +273,7 @@ impl<'s, H: Hosting, V: Watch, D: Doorkeeper, K: CommitHook, C: Clock> Worker<'s
         }
     }
 
-    /// Something came of a client, or goes again.
+    /// A client's socket can be read or written.
     fn note_client(&mut self, key: usize, hung_up: bool)
         ensures stubs { self.new.stubs ≡ self.old.stubs }
         ensures sessions { session_count self.old.client_connections (λ v. v.value.connection.attached) ≤ session_count self.new.client_connections (λ v. v.value.connection.attached) }
@@ -282,7 +285,7 @@ impl<'s, H: Hosting, V: Watch, D: Doorkeeper, K: CommitHook, C: Clock> Worker<'s
         self.put_due(client_connection);
     }
 
-    /// Takes a connection out, if there is one, which is put back or settled.
+    /// Takes a connection out. It is put back or settled next.
     fn take_out(&mut self, key: usize) -> Option<Box<ClientConnection<H, Socket, D>>>
         ensures client_connection { result ≡ get self.old.client_connections key }
         ensures updates { Updates self.old.client_connections self.new.client_connections key None }
@@ -327,7 +330,7 @@ impl<'s, H: Hosting, V: Watch, D: Doorkeeper, K: CommitHook, C: Clock> Worker<'s
         }
     }
 
-    /// Takes over the connections that were handed to its place.
+    /// Takes over the connections that were handed to this worker.
     fn take_over<T: Wait>(&mut self, rt: &T)
         ensures stubs { self.new.stubs.items ≡ self.old.stubs.items }
         ensures sessions { session_count self.old.client_connections (λ v. v.value.connection.attached) ≤ session_count self.new.client_connections (λ v. v.value.connection.attached) }
@@ -346,7 +349,7 @@ impl<'s, H: Hosting, V: Watch, D: Doorkeeper, K: CommitHook, C: Clock> Worker<'s
         self.obey(rt);
     }
 
-    /// Has the sessions end that it is told to end.
+    /// Ends the sessions that operators have asked to end.
     fn obey<T: Wait>(&mut self, rt: &T)
         ensures stubs { self.new.stubs.items ≡ self.old.stubs.items }
         ensures sessions { session_count self.old.client_connections (λ v. v.value.connection.attached) ≤ session_count self.new.client_connections (λ v. v.value.connection.attached) }
@@ -360,7 +363,7 @@ impl<'s, H: Hosting, V: Watch, D: Doorkeeper, K: CommitHook, C: Clock> Worker<'s
         }
     }
 
-    /// Has a session end in its next turn, if one of its connections has it.
+    /// Marks the connection of a session to end in its next turn.
     fn end_session(&mut self, named: SessionName)
         ensures stubs { self.new.stubs.items ≡ self.old.stubs.items }
         ensures sessions { session_count self.old.client_connections (λ v. v.value.connection.attached) ≤ session_count self.new.client_connections (λ v. v.value.connection.attached) }
@@ -370,7 +373,7 @@ impl<'s, H: Hosting, V: Watch, D: Doorkeeper, K: CommitHook, C: Clock> Worker<'s
         }
     }
 
-    /// Has a connection end in its next turn, if it has this session.
+    /// Marks a connection to end in its next turn, if it has this session.
     fn end_if(&mut self, key: usize, named: SessionName)
         ensures ended { IfSome (get self.new.client_connections key) (λ v. v.value.is_ended ≡ true
             → (HasSession v.value.connection named) ⊎ IfSome (get self.old.client_connections key) (λ v. v.value.is_ended ≡ true)) }
@@ -389,22 +392,26 @@ impl<'s, H: Hosting, V: Watch, D: Doorkeeper, K: CommitHook, C: Clock> Worker<'s
         }
     }
 
-    /// Takes over a connection of this place.
+    /// Takes over a connection of one of this worker's cells.
     fn settle_in(&mut self, handoff: Handoff)
         requires { self.old.place ≡ place_of H.cells (vec_len self.old.serving.now.mailboxes) handoff.tenant }
         ensures stubs { self.new.stubs.items ≡ self.old.stubs.items }
         ensures sessions { session_count self.old.client_connections (λ v. v.value.connection.attached) ≤ session_count self.new.client_connections (λ v. v.value.connection.attached) }
     {
-        let Handoff { tenant, pending_connection } = handoff;
+        let Handoff {
+            tenant,
+            pending_connection,
+        } = handoff;
         self.admit(Box::into_inner(pending_connection), Some(tenant));
     }
 
-    /// Tells a client that isn't served.
+    /// Logs that a client is not served.
     fn refuse(&self, port: u16, why: ConnectionEvent) {
         self.serving.watch.on_client_event(port, why);
     }
 
-    /// Takes a connection, whose first line names this tenant if it opens a session. One that has no place isn't served.
+    /// Takes over a connection. Its first line names this tenant, if it opens a session. Without memory the connection
+    /// is closed.
     pub(crate) fn admit(&mut self, pending_connection: PendingConnection, tenant: Option<u32>)
         requires { IfSome tenant (λ tenant. self.old.place ≡ place_of H.cells (vec_len self.old.serving.now.mailboxes) tenant) }
         ensures stubs { self.new.stubs.items ≡ self.old.stubs.items }
@@ -421,8 +428,7 @@ impl<'s, H: Hosting, V: Watch, D: Doorkeeper, K: CommitHook, C: Clock> Worker<'s
         }
     }
 
-    /// The visit of a newcomer, whose first line names this tenant if it opens a session. One for which there is no memory
-    /// is given back.
+    /// Makes a client connection of a pending one. Without memory the pending connection is given back.
     fn client_connection_of(
         &self,
         pending_connection: PendingConnection,
@@ -443,7 +449,7 @@ impl<'s, H: Hosting, V: Watch, D: Doorkeeper, K: CommitHook, C: Clock> Worker<'s
         Box::new(serving.alloc, client_connection)
     }
 
-    /// Makes room for one connection more, and its receipts.
+    /// Reserves memory for one more connection and its receipts.
     fn make_room(&mut self) -> Result<(), AllocError>
         ensures stub { OnOk result (vec_len self.new.stubs + (slab_len self.new.client_connections + 1) ≤ vec_capacity self.new.stubs) }
         ensures place { OnOk result (slab_len self.new.client_connections + 1 ≤ self.new.client_connections.capacity) }
@@ -454,7 +460,7 @@ impl<'s, H: Hosting, V: Watch, D: Doorkeeper, K: CommitHook, C: Clock> Worker<'s
         self.make_place()
     }
 
-    /// Makes a place for one connection more.
+    /// Reserves memory for one more connection.
     fn make_place(&mut self) -> Result<(), AllocError>
         ensures place { OnOk result (slab_len self.new.client_connections + 1 ≤ self.new.client_connections.capacity) }
         ensures client_connections { slab_len self.new.client_connections ≡ slab_len self.old.client_connections }
@@ -464,7 +470,7 @@ impl<'s, H: Hosting, V: Watch, D: Doorkeeper, K: CommitHook, C: Clock> Worker<'s
         self.client_connections.reserve(1)
     }
 
-    /// Has a connection reported from now on, and serves it next.
+    /// Registers a connection for events, and serves it next.
     fn begin(&mut self, mut client_connection: Box<ClientConnection<H, Socket, D>>)
         requires stub { vec_len self.old.stubs + (slab_len self.old.client_connections + 1) ≤ vec_capacity self.old.stubs }
         requires client_connection { slab_len self.old.client_connections + 1 ≤ self.old.client_connections.capacity }
@@ -474,15 +480,20 @@ impl<'s, H: Hosting, V: Watch, D: Doorkeeper, K: CommitHook, C: Clock> Worker<'s
         let token = Token(self.client_connections.vacant_key());
         match client_connection.register(self.poll.registry(), token) {
             Ok(()) => {
-                self.serving.server_metrics.add(self.place, Count::Connections, 1);
+                self.serving
+                    .server_metrics
+                    .add(self.place, Count::Connections, 1);
                 self.put_due(client_connection);
             }
-            Err(error) => self.refuse(client_connection.port, ConnectionEvent::NotAccepted(error.kind())),
+            Err(error) => self.refuse(
+                client_connection.port,
+                ConnectionEvent::NotAccepted(error.kind()),
+            ),
         }
     }
 
-    /// Gives each connection that is due its turn. Where something is kept, a turn has three parts: all that came is
-    /// answered, all answers are kept at once, and then they are sent.
+    /// Gives each queued connection its turn. With a commit hook a turn has three parts: all lines are answered, all
+    /// answers are committed at once, and then the replies are sent.
     pub(crate) fn serve_due<T: Wait>(&mut self, rt: &T)
         ensures gains { GainsClosed D.policy self.old.stubs.items self.new.stubs.items }
         ensures sessions { KeepsSessions self.old.client_connections self.new.client_connections (λ v. v.value.connection.attached) self.old.stubs.items self.new.stubs.items }
@@ -495,7 +506,7 @@ impl<'s, H: Hosting, V: Watch, D: Doorkeeper, K: CommitHook, C: Clock> Worker<'s
         self.give_turn(rt, &due, all_due);
     }
 
-    /// Gives a connection its turn apart from those of others.
+    /// Gives one connection a turn of its own.
     fn serve_apart<T: Wait>(&mut self, rt: &T, key: usize)
         ensures gains { GainsClosed D.policy self.old.stubs.items self.new.stubs.items }
         ensures sessions { KeepsSessions self.old.client_connections self.new.client_connections (λ v. v.value.connection.attached) self.old.stubs.items self.new.stubs.items }
@@ -505,7 +516,7 @@ impl<'s, H: Hosting, V: Watch, D: Doorkeeper, K: CommitHook, C: Clock> Worker<'s
         }
     }
 
-    /// The turn of these connections, or of all.
+    /// Gives these connections, or all, a turn.
     fn give_turn<T: Wait>(&mut self, rt: &T, keys: &[usize], all: bool)
         requires { self.old.answered.items ≡ [] }
         ensures gains { GainsClosed D.policy self.old.stubs.items self.new.stubs.items }
@@ -515,7 +526,7 @@ impl<'s, H: Hosting, V: Watch, D: Doorkeeper, K: CommitHook, C: Clock> Worker<'s
         self.finish(rt, keys, all);
     }
 
-    /// What is left of their turn behind its first part.
+    /// Commits the answers of a turn, and sends the replies.
     fn finish<T: Wait>(&mut self, rt: &T, keys: &[usize], all: bool)
         ensures gains { GainsClosed D.policy self.old.stubs.items self.new.stubs.items }
         ensures sessions { KeepsSessions self.old.client_connections self.new.client_connections (λ v. v.value.connection.attached) self.old.stubs.items self.new.stubs.items }
@@ -530,7 +541,7 @@ impl<'s, H: Hosting, V: Watch, D: Doorkeeper, K: CommitHook, C: Clock> Worker<'s
         }
     }
 
-    /// A part of the turn of these connections, or of all.
+    /// Does one part of the turn of these connections, or of all.
     fn do_part<T: Wait>(&mut self, rt: &T, part: TurnPart, keys: &[usize], all: bool)
         requires { part ≡ TurnPart.Last → self.old.answered.items ≡ [] }
         ensures gains { GainsClosed D.policy self.old.stubs.items self.new.stubs.items }
@@ -566,7 +577,7 @@ impl<'s, H: Hosting, V: Watch, D: Doorkeeper, K: CommitHook, C: Clock> Worker<'s
         }
     }
 
-    /// The first part of a connection's turn. Where nothing is kept, it is the whole turn.
+    /// The first part of a connection's turn. Without a commit hook it is the whole turn.
     fn begin_turn<T: Wait>(&mut self, rt: &T, key: usize)
         ensures gains { GainsClosed D.policy self.old.stubs.items self.new.stubs.items }
         ensures sessions { KeepsSessions self.old.client_connections self.new.client_connections (λ v. v.value.connection.attached) self.old.stubs.items self.new.stubs.items }
@@ -577,7 +588,7 @@ impl<'s, H: Hosting, V: Watch, D: Doorkeeper, K: CommitHook, C: Clock> Worker<'s
         }
     }
 
-    /// Reads and answers what came of a connection.
+    /// Reads and answers what a connection has received.
     #[tactic(auto, using(crate::proofs::Counting::keeps_bit))]
     fn take_in<T: Wait>(&mut self, rt: &T, key: usize)
         ensures noted { IfSome (get self.new.client_connections key) (λ v. (get self.old.client_connections key ≡ Some v)
@@ -606,8 +617,12 @@ impl<'s, H: Hosting, V: Watch, D: Doorkeeper, K: CommitHook, C: Clock> Worker<'s
         }
     }
 
-    /// The first part of the turn of a connection that is taken out. It gives the fault, if there is one.
-    fn listen<T: Wait>(&mut self, rt: &T, client_connection: &mut ClientConnection<H, Socket, D>) -> Option<ConnectionEnd>
+    /// The first part of the turn of a connection that is taken out. Returns the fault, if there is one.
+    fn listen<T: Wait>(
+        &mut self,
+        rt: &T,
+        client_connection: &mut ClientConnection<H, Socket, D>,
+    ) -> Option<ConnectionEnd>
         ensures stays { client_connection.old.connection.attached ≡ true → client_connection.new.connection.attached ≡ true }
         ensures unsent { client_connection.new.connection.handed ≡ client_connection.old.connection.handed }
         ensures tenant { client_connection.new.tenant ≡ client_connection.old.tenant }
@@ -619,7 +634,7 @@ impl<'s, H: Hosting, V: Watch, D: Doorkeeper, K: CommitHook, C: Clock> Worker<'s
         client_connection.take_in(rt, &metrics_context, serving.doorkeeper, &mut self.buffer)
     }
 
-    /// Where it counts, and who is told of slow lines.
+    /// Where lines are counted, and who is told of slow ones.
     fn metrics_context(&self) -> MetricsContext<'s, V, C> {
         let serving = self.serving;
         MetricsContext {
@@ -632,7 +647,7 @@ impl<'s, H: Hosting, V: Watch, D: Doorkeeper, K: CommitHook, C: Clock> Worker<'s
         }
     }
 
-    /// Sends the replies of a connection, all of which are kept.
+    /// Sends the replies of a connection, all of which are committed.
     fn give_out<T: Wait>(&mut self, rt: &T, key: usize)
         requires { self.old.answered.items ≡ [] }
         ensures answered { self.new.answered.items ≡ [] }
@@ -653,7 +668,7 @@ impl<'s, H: Hosting, V: Watch, D: Doorkeeper, K: CommitHook, C: Clock> Worker<'s
         }
     }
 
-    /// Has what this tenant was answered kept behind the turn.
+    /// Marks a tenant to be committed at the end of the turn.
     fn note_answered(&mut self, tenant: Option<u32>)
         requires { vec_len self.old.answered + 1 ≤ vec_capacity self.old.answered }
         ensures noted { K.is_set self.new.serving.now.commit_hook.now ≡ true → IfSome tenant (Contains self.new.answered.items) }
@@ -668,7 +683,7 @@ impl<'s, H: Hosting, V: Watch, D: Doorkeeper, K: CommitHook, C: Clock> Worker<'s
         self.note_tenant(tenant);
     }
 
-    /// Notes a tenant once.
+    /// Marks a tenant to be committed, once.
     fn note_tenant(&mut self, tenant: u32)
         requires set { K.is_set self.old.serving.now.commit_hook.now ≡ true }
         requires room { vec_len self.old.answered + 1 ≤ vec_capacity self.old.answered }
@@ -681,7 +696,7 @@ impl<'s, H: Hosting, V: Watch, D: Doorkeeper, K: CommitHook, C: Clock> Worker<'s
         self.answered.push_reserved(tenant);
     }
 
-    /// Keeps what tenants were answered. Whether all is kept, and replies may be sent.
+    /// Commits what tenants were answered. True if all is durable and replies may be sent.
     fn keep<T: Wait>(&mut self, rt: &T) -> bool
         ensures all { IsTrue result → self.new.answered.items ≡ [] }
         ensures kept { IsTrue result → (self.old.answered.items ≡ [])
@@ -713,7 +728,7 @@ impl<'s, H: Hosting, V: Watch, D: Doorkeeper, K: CommitHook, C: Clock> Worker<'s
         }
     }
 
-    /// Closes a connection that has been silent for too long. What has come is read first.
+    /// Closes a connection if it has been silent for too long. What it has sent is read first.
     fn judge<T: Wait>(&mut self, rt: &T, key: usize, now: Instant)
         ensures gains { GainsClosed D.policy self.old.stubs.items self.new.stubs.items }
         ensures sessions { KeepsSessions self.old.client_connections self.new.client_connections (λ v. v.value.connection.attached) self.old.stubs.items self.new.stubs.items }
@@ -727,7 +742,7 @@ impl<'s, H: Hosting, V: Watch, D: Doorkeeper, K: CommitHook, C: Clock> Worker<'s
         }
     }
 
-    /// How a connection ends that has been silent for too long, if it has.
+    /// How a connection ends if it has been silent for too long.
     fn silence(&self, key: usize, now: Instant) -> Option<ConnectionEnd> {
         match self.client_connections.get(key) {
             Some(client_connection) => client_connection.silence(now, &self.limits),
@@ -767,7 +782,12 @@ impl<'s, H: Hosting, V: Watch, D: Doorkeeper, K: CommitHook, C: Clock> Worker<'s
     }
 
     /// Closes a connection, and keeps the receipts of its session.
-    fn settle<T: Wait>(&mut self, rt: &T, client_connection: ClientConnection<H, Socket, D>, ending: ConnectionEnd)
+    fn settle<T: Wait>(
+        &mut self,
+        rt: &T,
+        client_connection: ClientConnection<H, Socket, D>,
+        ending: ConnectionEnd,
+    )
         requires { vec_len self.old.stubs + (slab_len self.old.client_connections + 1) ≤ vec_capacity self.old.stubs }
         ensures left { (stub : Option ItsStub) × Leaves D.policy (traffic client_connection.stream) client_connection.connection client_connection.is_cut stub
             × (self.new.stubs.items ≡ self.old.stubs.items ++ option_to_list stub) }

@@ -4,7 +4,6 @@
 
 mod activity;
 mod counters;
-mod tenant_counts;
 mod credentials;
 mod fragment;
 mod graph;
@@ -12,44 +11,45 @@ mod graph_builder;
 mod host;
 mod laws;
 mod layers;
+mod lock_budget;
 mod markup;
 mod markup_texts;
 mod node_box;
 mod nodes;
 mod page;
-mod lock_budget;
 mod picture;
 mod request;
 mod response;
 mod route;
+mod rule_lines;
 mod rule_rows;
 mod samples;
 mod statistics_cache;
 mod tenant;
-mod text;
-mod rule_lines;
-mod view;
 mod tenant_copy;
+mod tenant_counts;
+mod text;
+mod view;
 
-pub use tenant_counts::{Counting, SessionReading};
 pub use credentials::Credentials;
 pub use fragment::Fragment;
 pub use graph::Graph;
 pub use host::host_page;
 pub use laws::{markup_stands_in_marks, texts_are_no_markup};
+pub use lock_budget::LockBudget;
 pub use markup::Markup;
 pub use nodes::Nodes;
-pub use lock_budget::LockBudget;
 pub use request::{HEAD_LIMIT, Incoming, Request, read_request};
 pub use response::{ContentType, NO_MEMORY, Status, respond};
 pub use route::{Ended, Route, number, route_of};
 pub use samples::metrics;
 pub use statistics_cache::StatisticsCache;
 pub use tenant::tenant_page;
+pub use tenant_copy::view_at;
+pub use tenant_counts::{Counting, SessionReading};
 pub use text::Escaping;
 pub use view::{
     Activity, Bucket, ColumnView, Histogram, HostNumbers, HostView, Refused, Rollbacks, RuleView,
     RulesetView, SessionState, SessionView, SlowView, TableView, TenantNumbers, TenantView,
     TriggersView, WorkerNumbers,
 };
-pub use tenant_copy::view_at;

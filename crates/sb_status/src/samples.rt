@@ -79,7 +79,11 @@ fn family_at(place: usize, tenant: &TenantNumbers) -> Family {
         6 => made(Markup::OpenFamily, Markup::OpenSample, tenant.open),
         7 => made(Markup::ActiveFamily, Markup::ActiveSample, tenant.active),
         8 => made(Markup::ChangesFamily, Markup::ChangesSample, tenant.changes),
-        _ => made(Markup::OldFamily, Markup::OldSample, tenant.age.unwrap_or(0)),
+        _ => made(
+            Markup::OldFamily,
+            Markup::OldSample,
+            tenant.age.unwrap_or(0),
+        ),
     }
 }
 

@@ -6,10 +6,10 @@ ghost use Rattle.sb_tenant.specs.Tenant.{Tenant as ItsTenant, state};
 ghost use Rattle.sb_status.specs.RuleLines.{AreFoundOf, HaveLinesOf};
 ghost use Rattle.sb_status.specs.TenantViews.{AreSessionsOf, IsCopyOf, IsFoundView, IsViewOf, shown_as};
 
-use crate::tenant_counts::numbers_of;
 use crate::graph_builder::graph_of;
 use crate::lock_budget::LockBudget;
 use crate::rule_lines::RuleLines;
+use crate::tenant_counts::numbers_of;
 use crate::view::{
     ColumnView, RuleView, RulesetView, SessionState, SessionView, TableView, TenantView,
     TriggersView,

@@ -1,4 +1,4 @@
--- The same of conditions and queries.
+-- Completeness of conditions and queries.
 use Rattle.std.proofs.Common.{◌≡◌, ◌<◌, ℕ, suc, Bool, true, false, List, length, Option, Some, None, ap, sym, ◌∙◌, refl, arith}
 use Rattle.sb_syntax.specs.declared.kind.TokenKind.{TokenKind}
 use Rattle.sb_syntax.specs.declared.kind.TokenKind.TheVariants as k

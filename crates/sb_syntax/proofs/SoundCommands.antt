@@ -1,4 +1,4 @@
--- The same of changes, rules and commands.
+-- Soundness of changes, rules and commands.
 use Rattle.std.proofs.Common.{◌≡◌, ◌≤◌, inl, inr, List, [], ◌∷◌, length, Option, Some, None, ap, subst}
 use Rattle.std.proofs.lemmas.Option.{same_Some}
 use Rattle.sb_value.specs.declared.value.ColumnType.{ColumnType}

@@ -1,4 +1,4 @@
--- The same of conditions and queries.
+-- Soundness of conditions and queries.
 use Rattle.std.proofs.Common.{◌≡◌, inl, inr, ℕ, zero, suc, Bool, true, false, cond, Option, Some, None, sym, refl, subst}
 use Rattle.std.proofs.lemmas.Option.{same_Some}
 use Rattle.sb_syntax.specs.declared.kind.TokenKind.{TokenKind}

@@ -10,7 +10,7 @@ pub record GoesOn {A B : Type 0} (joins : Joins B A) (item : Reader A) (whole : 
   pub same : whole ≡ chain joins item turns acc ts
   pub shorter : length ts ≤ limit
 
--- The same where at most so many more items are read.
+-- A list of items, where at most so many more are read.
 pub record GoesUpTo {A B : Type 0} (joins : Joins B A) (item : Reader A) (whole : Option (B × Input)) (limit turns : ℕ) (acc : B) (ts : Input) : Type 0 where
   pub same : whole ≡ chain joins item turns acc ts
   pub shorter : length ts ≤ limit

@@ -51,7 +51,7 @@ impl Slots {
         }
     }
 
-    /// The same, to be changed.
+    /// The table of this number, to be changed.
     pub(crate) fn get_mut(&mut self, id: TableId) -> &mut Table
         requires { IsSome (slot_at self.old id) }
         ensures* lends { sem 𝓛 (Lends the_row table.the_row self.entry result (λ t. slice_set self.old id (Some t))) }

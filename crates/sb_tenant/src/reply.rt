@@ -47,7 +47,7 @@ impl Line {
         bytes.as_slice()
     }
 
-    /// The same line, once more.
+    /// Another reference to the same line.
     pub fn share(&self) -> Result<Line, AllocError>
         ensures { IfOk result (λ shared. shared ≡ self.now) }
     {
@@ -113,7 +113,7 @@ impl NamedTrace {
         }
     }
 
-    /// The same considerations, once more.
+    /// Another reference to the same considerations.
     pub fn share(&self) -> Result<NamedTrace, AllocError>
         ensures { IfOk result (λ shared. shared ≡ self.now) }
     {

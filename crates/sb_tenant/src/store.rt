@@ -49,7 +49,7 @@ pub(crate) enum Ending {
     TakeBack,
 }
 
-/// The same reply twice, for the trail and for the answer.
+/// Two copies of a reply: one for the trail, one for the answer.
 pub(crate) type Replies = (Reply, Reply);
 
 impl Store {

@@ -139,7 +139,7 @@ fn run<N: Naming + Send + Sync, G: Gate + Sync, R: Threads + Wait + Sync + Abort
     }
 }
 
-/// The same on a host that is finished then.
+/// Runs all jobs on a host, and finishes it.
 pub fn run_alone<N: Naming + Send + Sync, G: Gate + Sync, R: Threads + Wait + Sync + Abort>(
     rt: &R,
     alloc: Global,

@@ -60,7 +60,7 @@ impl Tuples {
         }
     }
 
-    /// The same tuples.
+    /// A copy of the tuples.
     pub fn clone(&self) -> Result<Tuples, AllocError>
         ensures { IfOk result (λ copy. copy ≡ self.now) }
     {

@@ -39,7 +39,7 @@ pub record AnswersInput (old : Cell) (input text : List ℕ) (new : Cell) : Type
   pub apart : RunsApart (hosts old) old.bound (states old) (pieces_of input) text (states new)
   pub same : IsSame old new
 
--- The same on a fresh cell of the tenants below a number: all begin without tables and rules, and no session is open.
+-- A stream is answered on a fresh cell of the tenants below a number: all begin without tables and rules, and no session is open.
 pub record AnswersFresh (tenants bound : ℕ) (input text : List ℕ) : Type 0 where
   pub after : ℕ → State
   pub answers : IsOutput (λ t. nat_lt t tenants) bound (λ t. opening) input text after

@@ -47,7 +47,7 @@ pub fn number_before_space(bytes: &[u8]) -> Option<(u32, &[u8])>
     }
 }
 
-/// The same where the number is one digit, as most are.
+/// Reads a number of one digit and the space behind it, which is the common case.
 fn digit_before_space(bytes: &[u8]) -> Option<(u32, &[u8])>
     ensures { IfSome result (λ p. number_before bytes.now ≡ Some (p.0, p.1.now)) }
 {

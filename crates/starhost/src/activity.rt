@@ -3,7 +3,7 @@ ghost use Rattle.std.specs.Prelude.{IfOk};
 ghost use Rattle.sb_status.specs.Pages.{IsPage};
 ghost use Rattle.sb_status.specs.declared.text.Escaping.TheVariants as escaping;
 
-use sb_server::{ServerMetrics, Cause, Count, LIMITS, SlowLine};
+use sb_server::{Cause, Count, LIMITS, ServerMetrics, SlowLine};
 use sb_status::{
     Activity, Bucket, Histogram, HostNumbers, HostView, Refused, Rollbacks, SlowView,
     TenantNumbers, WorkerNumbers, host_page, metrics,
@@ -121,7 +121,10 @@ impl Counted {
     }
 }
 
-fn add_workers(workers: &mut Vec<WorkerNumbers>, server_metrics: &ServerMetrics) -> Result<(), AllocError> {
+fn add_workers(
+    workers: &mut Vec<WorkerNumbers>,
+    server_metrics: &ServerMetrics,
+) -> Result<(), AllocError> {
     for place in 0..server_metrics.places() {
         // what has ended is read first, so that it is never more than what began
         let closed = server_metrics.count_at(place, Count::Closed);
@@ -146,7 +149,10 @@ fn rollbacks_of(server_metrics: &ServerMetrics) -> Rollbacks {
 }
 
 /// Those that were given.
-fn add_refusals(refusals: &mut Vec<Refused>, server_metrics: &ServerMetrics) -> Result<(), AllocError> {
+fn add_refusals(
+    refusals: &mut Vec<Refused>,
+    server_metrics: &ServerMetrics,
+) -> Result<(), AllocError> {
     for number in 0..=u8::MAX {
         let count = server_metrics.count(Count::Refusal(number));
         if count > 0 {
@@ -159,7 +165,10 @@ fn add_refusals(refusals: &mut Vec<Refused>, server_metrics: &ServerMetrics) -> 
     Ok(())
 }
 
-fn add_buckets(buckets: &mut Vec<Bucket>, server_metrics: &ServerMetrics) -> Result<(), AllocError> {
+fn add_buckets(
+    buckets: &mut Vec<Bucket>,
+    server_metrics: &ServerMetrics,
+) -> Result<(), AllocError> {
     for (place, limit) in LIMITS.iter().enumerate() {
         buckets.push(Bucket {
             micros: *limit / MICROSECOND,

@@ -16,8 +16,8 @@ use std::alloc::Global;
 use std::fs::File;
 use std::rt::{Clock, Files};
 
-/// Answers the lines of the input on a fresh cell, throws the replies away, and writes each tenant that was opened to its
-/// file.
+/// Runs the lines of the input on a new cell without writing replies, and writes a script for each tenant that was
+/// opened.
 pub(crate) fn dump_all<T: Eprint + Clock + Files<File = File>, R: Source>(
     rt: &T,
     alloc: Global,
@@ -54,8 +54,8 @@ pub(crate) fn dump_all<T: Eprint + Clock + Files<File = File>, R: Source>(
     }
 }
 
-/// Writes the file of each tenant that was opened. Where one isn't written the others are all the same, and the first
-/// fault is given.
+/// Writes the file of each tenant that was opened. After a fault the others are still written, and the first fault is
+/// returned.
 fn write_each<T: Eprint + Clock + Files>(
     files: &ScriptFiles<'_, '_, T>,
     cell: &Cell,
@@ -78,7 +78,7 @@ fn write_each<T: Eprint + Clock + Files>(
     first
 }
 
-/// The fault that came first.
+/// The earlier of two faults.
 fn earlier(first: Option<ProgramFault>, next: ProgramFault) -> Option<ProgramFault>
     ensures { ((first ≢ None) × (result ≡ first)) ⊎ ((first ≡ None) × (result ≡ Some next)) }
 {

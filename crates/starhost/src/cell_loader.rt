@@ -23,22 +23,22 @@ use std::alloc::Global;
 use std::io::Read;
 use std::rt::{Clock, Files};
 
-/// Why a file wasn't played to its end.
+/// Why a script was not run to its end.
 #[derive(Drop)]
 pub(crate) enum Unplayed {
-    /// There is no session for it.
+    /// No session could be opened.
     NoSession,
     /// The file can't be read, or memory ran out.
     Stream(StreamError),
-    /// A line, counted from 1, was answered so.
+    /// A line was refused. Lines are counted from 1.
     Line { line: u64, told: Vec<u8> },
-    /// It stops inside a transaction.
+    /// The script stops inside a transaction.
     InTransaction,
-    /// It ends its session.
+    /// The script ends its session.
     Ended,
 }
 
-/// Whether a line of a script is answered so.
+/// Whether this is a reply to a line of a valid script.
 pub(crate) fn is_taken(reply: &Reply) -> bool
     ensures { IsTrue result ↔ IsTaken reply.now }
 {
@@ -49,7 +49,7 @@ pub(crate) fn is_taken(reply: &Reply) -> bool
     }
 }
 
-/// Why a script may not end where a tenant's first session stands so.
+/// Why a script may not end here, by the state of the tenant's first session.
 pub(crate) fn unsettled(tenant: &Tenant) -> Option<Unplayed>
     ensures { MayEnd (session_at (state tenant.now) 0) result }
 {
@@ -63,7 +63,7 @@ pub(crate) fn unsettled(tenant: &Tenant) -> Option<Unplayed>
     None
 }
 
-/// A cell of fresh tenants, each of which was sent the lines of its file.
+/// Makes a cell whose tenants have run the scripts of their files.
 pub(crate) fn loaded_cell<T: Eprint + Clock + Files>(
     rt: &T,
     alloc: Global,
@@ -93,7 +93,7 @@ pub(crate) fn loaded_cell<T: Eprint + Clock + Files>(
     }
 }
 
-/// Plays the file of each tenant that has one.
+/// Runs the script of each tenant that has a file.
 fn load_each<F: Read + Drop, S: ScriptSource<F>>(
     alloc: Global,
     cell: &mut Cell,
@@ -113,7 +113,7 @@ fn load_each<F: Read + Drop, S: ScriptSource<F>>(
     Ok(())
 }
 
-/// Plays the file of a tenant, if there is one.
+/// Runs the script of a tenant, if it has a file.
 fn load_one<F: Read + Drop, S: ScriptSource<F>>(
     alloc: Global,
     cell: &mut Cell,
@@ -141,7 +141,7 @@ fn load_one<F: Read + Drop, S: ScriptSource<F>>(
     }
 }
 
-/// Plays a file in the first session of a tenant, which is opened before and ended behind.
+/// Runs a script in the first session of a tenant, which is opened before and ended after.
 fn play<F: Read + Drop>(
     alloc: Global,
     cell: &mut Cell,
@@ -174,7 +174,7 @@ fn send_own(alloc: Global, cell: &mut Cell, tenant: u32, line: &[u8]) -> Result<
     }
 }
 
-/// Sends the lines of a file, behind which the tenant's session stands between two transactions.
+/// Sends the lines of a file. The session must have no transaction at the end.
 fn send_lines<F: Read + Drop>(
     alloc: Global,
     cell: &mut Cell,
@@ -190,7 +190,7 @@ fn send_lines<F: Read + Drop>(
     }
 }
 
-/// Whether a script may end where the tenant's session stands so.
+/// Whether a script may end here, by the state of the tenant's session.
 fn check_end(cell: &Cell, tenant: u32) -> Result<(), Unplayed>
     ensures ok { OnOk result (IsSettled tenant cell.now) }
     ensures err { IfErr result (IsUnsettled tenant cell.now) }
@@ -220,7 +220,7 @@ impl Sender<Cell> for ToTenant {
     }
 }
 
-/// Sends a line to a tenant in its first session, or gives what it was answered where it isn't taken.
+/// Sends a line to a tenant's first session. Error: the reply that refuses it.
 fn send(alloc: Global, cell: &mut Cell, tenant: u32, line: &[u8]) -> Result<(), Vec<u8>>
     ensures ok { OnOk result (TakesLine tenant cell.old line.now cell.new) }
     ensures err { OnErr result (RefusesLine tenant cell.old line.now cell.new) }
@@ -234,7 +234,7 @@ fn send(alloc: Global, cell: &mut Cell, tenant: u32, line: &[u8]) -> Result<(), 
     }
 }
 
-/// The text of a reply. Where there is no memory for it, there is none.
+/// The text of a reply. It is empty without memory.
 pub(crate) fn told(alloc: Global, reply: &Reply) -> Vec<u8> {
     let mut text = Vec::new(alloc);
     let _told = write_bare_reply(&mut text, reply);

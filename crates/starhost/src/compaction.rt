@@ -6,8 +6,8 @@ ghost use Rattle.sb_words.specs.Within.{AreRun};
 use crate::dump::undumped;
 use crate::event_log::EventLog;
 use crate::fault::ProgramFault;
-use crate::journaled_server::played_journal;
 use crate::host_dump::{NotedScript, ScriptNotes, noted_of};
+use crate::journaled_server::played_journal;
 use sb_dump::Script;
 use sb_durable::{
     File as JournalFile, Head, Journal, JournalError, Record, Syncing, Wary, open_path, sync_folder,
@@ -24,7 +24,8 @@ use std::sync::Wait;
 
 const OUT_OF_MEMORY: ProgramFault = ProgramFault::Stream(StreamError::NoMemory);
 
-/// Writes the journal `old` anew as `new`, which isn't there yet and has its name once all of it is on the disk.
+/// Writes the tenants of the journal `old` as a new journal `new`. The name must be free; it appears when the whole
+/// file is durable.
 pub(crate) fn compact<T: Wait + Eprint + Clock + Files<File = File>>(
     rt: &T,
     alloc: Global,
@@ -50,7 +51,7 @@ struct Renewal<'p> {
     new: &'p str,
 }
 
-/// Plays the old journal to a host of these parts, and writes the new one.
+/// Replays the old journal on a host of these parts, and writes the new one.
 fn compact_host<N: Naming, T: Wait + Eprint + Clock + Files<File = File>>(
     rt: &T,
     alloc: Global,
@@ -82,7 +83,7 @@ fn compact_host<N: Naming, T: Wait + Eprint + Clock + Files<File = File>>(
     }
 }
 
-/// What is at hand while a journal is written anew.
+/// What a compaction works with.
 #[derive(Drop)]
 struct Compaction<'c, H, T> {
     rt: &'c T,
@@ -95,7 +96,7 @@ struct Compaction<'c, H, T> {
 }
 
 impl<'c, H: Lending, T: Wait + Eprint + Clock + Files<File = File>> Compaction<'c, H, T> {
-    /// Has the tenants as the journal at this path leaves them.
+    /// Replays the journal at this path.
     fn play(&self, path: &str) -> Result<(), ProgramFault> {
         if let Err(error) = fs::metadata(self.rt, path) {
             self.log.tell_no_journal(path, &error);
@@ -115,7 +116,7 @@ impl<'c, H: Lending, T: Wait + Eprint + Clock + Files<File = File>> Compaction<'
         }
     }
 
-    /// Writes a journal beside this path, and then gives it the name.
+    /// Writes a journal to a temporary name, and renames it.
     fn write(&self, path: &str) -> Result<(), ProgramFault> {
         if fs::metadata(self.rt, path).is_ok() {
             self.log.tell_no_journal(path, &"it is there already");
@@ -132,7 +133,7 @@ impl<'c, H: Lending, T: Wait + Eprint + Clock + Files<File = File>> Compaction<'
         written
     }
 
-    /// Writes a journal as `beside`, and then gives it the name.
+    /// Writes a journal as `beside`, and renames it.
     fn write_beside(&self, beside: &str, path: &str) -> Result<(), ProgramFault> {
         // nor is what an earlier try left
         let _removed = fs::remove_file(self.rt, beside);
@@ -156,7 +157,7 @@ impl<'c, H: Lending, T: Wait + Eprint + Clock + Files<File = File>> Compaction<'
         }
     }
 
-    /// Gives a file another name, unless a file has come to that name meanwhile, and brings it to the disk.
+    /// Renames a file unless the new name is taken, and syncs the folder.
     fn give_name(&self, from: &str, to: &str) -> io::Result<()> {
         fs::hard_link(self.rt, from, to)?;
         let _removed = fs::remove_file(self.rt, from);
@@ -202,7 +203,7 @@ fn write_script(
     write_line(journal, tenant, b"end")
 }
 
-/// Writes a line. Where there is no room for it, what waits is committed first.
+/// Stages a line. If the buffer is full, it is committed first.
 fn write_line(
     journal: &mut Journal<JournalFile<Wary>>,
     tenant: u32,

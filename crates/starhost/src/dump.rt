@@ -17,7 +17,7 @@ use sb_words::{Dumping, Run};
 use std::alloc::{AllocError, Global};
 use std::io::{self, Write};
 
-/// A writer that takes all bytes and keeps none.
+/// A writer that drops all bytes.
 #[derive(Drop)]
 pub(crate) struct Nowhere;
 
@@ -52,7 +52,7 @@ impl Sink for Nowhere {
     }
 }
 
-/// Answers the lines of the input on a fresh cell, throws the replies away, and writes the script of one tenant.
+/// Runs the lines of the input on a new cell without writing replies, and writes the script of one tenant.
 pub(crate) fn dump_tenant<R: Source, W: Sink>(
     alloc: Global,
     asked: Dumping,
@@ -79,7 +79,7 @@ pub(crate) fn dump_tenant<R: Source, W: Sink>(
     }
 }
 
-/// The cell that the lines of the input leave, whose replies are thrown away.
+/// Runs the lines of the input on a new cell, and drops the replies.
 pub(crate) fn answered<R: Source>(
     alloc: Global,
     run: Run,
@@ -121,7 +121,7 @@ fn script_of(alloc: Global, cell: &Cell, asked: Dumping) -> Result<Script, Progr
     }
 }
 
-/// What a tenant without a script is told as.
+/// The fault of a tenant without a script.
 pub(crate) fn undumped(tenant: u64, error: DumpError) -> ProgramFault
     ensures { result ≡ undumped_as tenant error }
 {

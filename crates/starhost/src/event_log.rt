@@ -1,7 +1,7 @@
 //! What an operator reads on standard error.
 
-use crate::key_source::Unread;
 use crate::cell_loader::Unplayed;
+use crate::key_source::Unread;
 use jiff::Timestamp;
 use libc::net as system;
 use libc::types::pollfd;
@@ -18,19 +18,19 @@ use std::time::Instant;
 
 const STANDARD_ERROR: i32 = 2;
 
-/// How many bytes of a slow line are told.
+/// The most bytes of a slow line that are logged.
 const MOST_TOLD: usize = 200;
 
-/// Writes a line on standard error for each event that is severe enough, with its time. A line for which there is no
-/// room is dropped and counted, so that nobody waits for who reads them.
+/// Writes a line with its time to standard error for each event that is severe enough. If standard error would block,
+/// the line is dropped and counted, so that no thread waits for a reader.
 #[derive(Drop)]
 pub(crate) struct EventLog<'r, T> {
     rt: &'r T,
     least: Severity,
     dropped: AtomicU64,
-    /// In which second a slow line was told last, counted from the first.
+    /// The second in which a slow line was logged last, counted from the start.
     slow: AtomicU64,
-    /// How many slow lines weren't told since.
+    /// How many slow lines were left out since.
     untold: AtomicU64,
     began: Option<Instant>,
 }
@@ -47,7 +47,7 @@ impl<'r, T: Eprint + Clock> EventLog<'r, T> {
         }
     }
 
-    /// Whether no slow line was told in this second.
+    /// Whether no slow line was logged in this second yet.
     fn may_tell_slow(&self) -> bool {
         let second = match (self.began, Instant::now(self.rt)) {
             (Some(began), Ok(now)) => now.duration_since(began).as_secs().saturating_add(1),
@@ -56,12 +56,12 @@ impl<'r, T: Eprint + Clock> EventLog<'r, T> {
         self.slow.swap(second, Ordering::SeqCst) != second
     }
 
-    /// Tells that the keys of the file at this path are read again.
+    /// Logs that the file of keys was read again.
     pub(crate) fn tell_keys(&self, path: &str) {
         self.write(Severity::Info, &format_args!("keys {path}: read again"));
     }
 
-    /// Tells why nothing listens at this port.
+    /// Logs why the server can't listen at this port.
     pub(crate) fn tell_cannot_listen(&self, port: u16, why: &io::Error) {
         self.write(
             Severity::Error,
@@ -69,17 +69,17 @@ impl<'r, T: Eprint + Clock> EventLog<'r, T> {
         );
     }
 
-    /// Tells at which port the status pages are.
+    /// Logs the port of the status pages.
     pub(crate) fn tell_status(&self, port: u16) {
         self.write(Severity::Info, &format_args!("status pages at port {port}"));
     }
 
-    /// Tells why a folder isn't used.
+    /// Logs why a folder can't be used.
     pub(crate) fn tell_no_folder<D: Display>(&self, folder: &str, why: &D) {
         self.write(Severity::Error, &format_args!("no folder {folder}: {why}"));
     }
 
-    /// Tells why the file of the tenant with this number isn't read.
+    /// Logs why a tenant's file can't be read.
     pub(crate) fn tell_cannot_read(&self, number: u64, why: &io::Error) {
         self.write(
             Severity::Error,
@@ -87,7 +87,7 @@ impl<'r, T: Eprint + Clock> EventLog<'r, T> {
         );
     }
 
-    /// Tells why it isn't written.
+    /// Logs why a tenant's file can't be written.
     pub(crate) fn tell_cannot_write(&self, number: u64, why: &io::Error) {
         self.write(
             Severity::Error,
@@ -95,7 +95,7 @@ impl<'r, T: Eprint + Clock> EventLog<'r, T> {
         );
     }
 
-    /// Tells that a tenant isn't in its file.
+    /// Logs that a tenant was not written to its file.
     pub(crate) fn tell_unsaved(&self, number: u64) {
         self.write(
             Severity::Error,
@@ -103,17 +103,17 @@ impl<'r, T: Eprint + Clock> EventLog<'r, T> {
         );
     }
 
-    /// Tells why the keys of the file at this path aren't read.
+    /// Logs why the file of keys can't be read.
     pub(crate) fn tell_no_keys(&self, path: &str, why: &Unread) {
         self.write(Severity::Error, &format_args!("keys {path}: {why}"));
     }
 
-    /// Tells why the journal at this path isn't opened, played or written.
+    /// Logs why a journal can't be opened, replayed or written.
     pub(crate) fn tell_no_journal<D: Display>(&self, path: &str, why: &D) {
         self.write(Severity::Error, &format_args!("journal {path}: {why}"));
     }
 
-    /// Tells how far a journal is played.
+    /// Logs the progress of a replay.
     pub(crate) fn tell_played(&self, records: u64, bytes: u64) {
         self.write(
             Severity::Info,
@@ -121,12 +121,12 @@ impl<'r, T: Eprint + Clock> EventLog<'r, T> {
         );
     }
 
-    /// Tells why nothing is recorded any more, or what was recorded isn't on the disk.
+    /// Logs why nothing is recorded any more, or why the journal is not durable.
     pub(crate) fn tell_not_recorded<D: Display>(&self, why: &D) {
         self.write(Severity::Error, &format_args!("journal: {why}"));
     }
 
-    /// Tells why a file isn't played.
+    /// Logs why a script was not run to its end.
     pub(crate) fn tell_unplayed(&self, number: u64, why: &Unplayed) {
         match why {
             Unplayed::NoSession => self.write(
@@ -154,7 +154,8 @@ impl<'r, T: Eprint + Clock> EventLog<'r, T> {
         }
     }
 
-    /// Writes a line, if it is told and there is room, and before it how many were dropped.
+    /// Writes a line if it is severe enough and standard error takes it. The number of dropped lines is written before
+    /// it.
     fn write<D: Display>(&self, severity: Severity, text: &D) {
         if !severity.is_told_at(self.least) {
             return;
@@ -190,7 +191,7 @@ impl<'r, T: Eprint + Clock> Watch for EventLog<'r, T> {
 
     fn on_reply<R: Wait>(&self, _rt: &R, _answered: Answered<'_>) {}
 
-    /// One of a second is told, with how many others there were since the one before.
+    /// Logs at most one slow line a second, with the number of those left out since.
     fn on_slow_line(&self, port: u16, slow: Slow<'_>) {
         if !self.may_tell_slow() {
             self.untold.fetch_add(1, Ordering::SeqCst);
@@ -240,7 +241,7 @@ fn first_line(reply: &[u8]) -> &str {
     }
 }
 
-/// Whether standard error takes a line at once. A pipe that has room has it for a line of each worker.
+/// Whether standard error takes a line without blocking. A pipe with room has enough for a line of each worker.
 fn has_room() -> bool {
     let mut waits = [pollfd {
         fd: STANDARD_ERROR,

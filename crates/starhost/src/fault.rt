@@ -12,28 +12,28 @@ const FAULT: u8 = 1;
 /// Why a server, a replay or a dump ended early.
 #[derive(Clone, Copy, Debug, Error)]
 pub enum ProgramFault {
-    /// Of the streams, or want of memory.
+    /// A stream failed, or memory ran out.
     #[error("{0}")]
     Stream(StreamError),
-    /// Nothing can listen at the port.
+    /// The server can't listen at its port.
     #[error("cannot listen")]
     CannotListen,
-    /// The system has no place where a server may wait.
+    /// The system refuses a poll.
     #[error("cannot wait")]
     CannotWait,
-    /// It starts no thread.
+    /// The system starts no thread.
     #[error("cannot start a thread")]
     CannotStart,
-    /// It doesn't tell any more what comes.
+    /// A poll failed while the server ran.
     #[error("waiting failed")]
     WaitingFailed,
     /// The journal can't be opened, is another server's, or can't be played.
     #[error("cannot open journal")]
     CannotOpenJournal,
-    /// What was answered couldn't be written to the journal.
+    /// Answers could not be recorded in the journal.
     #[error("journal failed")]
     JournalFailed,
-    /// A journal can't be written anew.
+    /// The new journal of a compaction can't be written.
     #[error("cannot write journal")]
     CannotWriteJournal,
     /// This line of the input, counted from 1, is no command for a session of the host.
@@ -45,7 +45,7 @@ pub enum ProgramFault {
     /// A session of the tenant has a transaction.
     #[error("busy tenant {tenant}")]
     TenantBusy { tenant: u64 },
-    /// The tenant that its script makes isn't alike.
+    /// The script of the tenant does not make an equal tenant.
     #[error("cannot dump {tenant}")]
     CannotDump { tenant: u64 },
     /// A folder that is asked for isn't there.
@@ -77,7 +77,7 @@ pub enum ProgramFault {
     TrailMismatch { tenant: u64, session: u32 },
 }
 
-/// Tells a fault by its line, or want of memory where there is none for the line.
+/// Writes the line of a fault, or the line of a lack of memory if there is none for it.
 pub fn tell_fault<E: Sink>(alloc: Global, why: ProgramFault, errors: &mut E) -> u8
     ensures status { result ≡ 1 }
     ensures tells { TellsFault E.refuses E.contents errors.old errors.new why }

@@ -9,10 +9,10 @@ use std::sync::atomic::{AtomicBool, Ordering};
 use std::thread::Parker;
 use std::time::Duration;
 
-/// How many seconds lie between two syncs.
+/// The time between two syncs, in seconds.
 const PERIOD: u64 = 1;
 
-/// Brings what was written to a file to the disk, once a second.
+/// Syncs a file once a second.
 #[derive(Drop)]
 pub(crate) struct Flusher<'k, T> {
     file: File,
@@ -26,7 +26,7 @@ pub(crate) struct Flusher<'k, T> {
 }
 
 impl<'k, T: Eprint + Clock> Flusher<'k, T> {
-    /// One for the file of this path, to which something was written.
+    /// A flusher of the file at this path.
     pub(crate) fn open<R: Files<File = File>>(
         rt: &R,
         path: &str,
@@ -52,13 +52,13 @@ impl<'k, T: Eprint + Clock> Flusher<'k, T> {
         self.has_failed.load(Ordering::SeqCst)
     }
 
-    /// Has the syncs end behind a last one.
+    /// Ends the flusher after a last sync.
     pub(crate) fn end(&self) {
         self.is_over.store(true, Ordering::SeqCst);
         self.parker.unpark();
     }
 
-    /// Syncs once a second what was written, until it is to end, or a sync fails.
+    /// Syncs the file once a second until it is ended or a sync fails.
     pub(crate) fn run<R: Wait>(&self, rt: &R) {
         for _ in rt.forever() {
             self.parker.park_timeout(rt, Duration::from_secs(PERIOD));
@@ -69,7 +69,7 @@ impl<'k, T: Eprint + Clock> Flusher<'k, T> {
         }
     }
 
-    /// Whether what was written is on the disk. Why not is told.
+    /// Syncs the file. False if that fails, which is logged.
     pub(crate) fn flush(&self) -> bool {
         if !self.is_behind.swap(false, Ordering::SeqCst) {
             return true;

@@ -42,7 +42,7 @@ impl<'a> Folder<'a> {
         format!(in alloc; "{folder}/{number}.lines.new")
     }
 
-    /// Whether there is a folder. Why there is none is written in the log.
+    /// Whether the folder is there. If not, the reason is logged.
     pub(crate) fn is_found<R: Eprint + Clock + Files>(self, rt: &R, log: &EventLog<'_, R>) -> bool {
         match fs::metadata(rt, self.path) {
             Ok(found) if found.is_dir() => true,
@@ -57,7 +57,7 @@ impl<'a> Folder<'a> {
         }
     }
 
-    /// Locks the folder for this process until the lock is dropped. Why it can't be is written in the log.
+    /// Locks the folder for this process until the lock is dropped. If it can't be locked, the reason is logged.
     pub(crate) fn lock<R: Eprint + Clock + Files<File = File>>(
         self,
         rt: &R,
@@ -76,7 +76,7 @@ impl<'a> Folder<'a> {
         }
     }
 
-    /// Writes the file of the tenant with this number. There is never a part of it under its name.
+    /// Writes the file of the tenant with this number. The name never has a part of a file.
     pub(crate) fn write<R: Files>(
         self,
         rt: &R,
@@ -112,7 +112,7 @@ fn locked<R: Files<File = File>>(rt: &R, path: &str) -> Result<FolderLock, TryLo
     }
 }
 
-/// The folder at this path, if there is one, for tenants from 0 on. Why there is none is written in the log.
+/// The folder at this path, for tenants from 0 on. If there is none, the reason is logged.
 pub(crate) fn found_folder<'a, R: Eprint + Clock + Files>(
     rt: &R,
     path: Option<&'a str>,
@@ -130,7 +130,7 @@ pub(crate) fn found_folder<'a, R: Eprint + Clock + Files>(
     }
 }
 
-/// Writes a file of a folder beside its name, and then gives it the name.
+/// Writes a file to a temporary name, and renames it.
 fn write_beside<R: Files>(
     rt: &R,
     folder: &str,
@@ -151,12 +151,12 @@ fn write_beside<R: Files>(
     }
 }
 
-/// Brings the names of a folder to the disk.
+/// Syncs a folder, so that its names are durable.
 fn sync_folder<R: Files>(rt: &R, folder: &str) -> io::Result<()> {
     fs::open(rt, folder)?.sync_all()
 }
 
-/// Writes a file, to the disk. What an earlier try left under its name goes first; of a link it is the link alone.
+/// Writes and syncs a new file. What an earlier try left under the name is removed first; of a link, the link alone.
 fn write_new<R: Files>(rt: &R, path: &str, text: &[u8]) -> io::Result<()> {
     let _removed = fs::remove_file(rt, path);
     let mut file = File::create_new(rt, path)?;

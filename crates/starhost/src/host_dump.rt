@@ -13,7 +13,7 @@ use std::alloc::Global;
 use std::rt::{Clock, Files};
 use std::sync::Wait;
 
-/// What is noted of a tenant.
+/// The script of a tenant, or why there is none.
 #[derive(Drop)]
 pub(crate) enum NotedScript {
     /// No session of it was ever opened.
@@ -23,7 +23,7 @@ pub(crate) enum NotedScript {
     Lacking(DumpError),
 }
 
-/// Notes the script of a tenant.
+/// Makes the script of a tenant under the lock of its cell.
 #[derive(Drop)]
 pub(crate) struct ScriptNotes {
     alloc: Global,
@@ -69,8 +69,8 @@ fn script_of(alloc: Global, tenant: &Tenant, bound: u32) -> NotedScript
     }
 }
 
-/// Writes the file of each tenant that was ever opened. Where one isn't written the others are all the same, and the
-/// first fault is given.
+/// Writes the file of each tenant that was ever opened. After a fault the others are still written, and the first fault
+/// is returned.
 pub(crate) fn save_all<T: Wait + Eprint + Clock + Files, H: Lending>(
     files: &ScriptFiles<'_, '_, T>,
     host: H,

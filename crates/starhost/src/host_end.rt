@@ -10,7 +10,7 @@ use sb_host::{FinishError, Host, Naming, Report, Stub};
 use sb_wire::{Sink, StreamError, write_and_flush, write_totals};
 use std::alloc::{AllocError, Global};
 
-/// The line that tells of the trails.
+/// The line with the numbers of trails and steps.
 fn totals(alloc: Global, report: &Report) -> Result<Vec<u8>, AllocError>
     ensures { IfOk result (λ line. line.items ≡ trails_line report.now.trails.items) }
 {
@@ -22,7 +22,7 @@ fn totals(alloc: Global, report: &Report) -> Result<Vec<u8>, AllocError>
     Ok(line)
 }
 
-/// What a finish that didn't go well is told as, of a host whose tenants have this first number.
+/// The fault of a finish that failed. The host's tenants have numbers from this one on.
 pub(crate) fn fault_of(first_tenant: u32, error: FinishError) -> ProgramFault
     ensures { result ≡ unfinished_as first_tenant error }
 {
@@ -39,7 +39,7 @@ pub(crate) fn fault_of(first_tenant: u32, error: FinishError) -> ProgramFault
     }
 }
 
-/// Finishes a host with what its sessions left, and writes how many trails and steps there are.
+/// Finishes a host with the receipts of its sessions, and writes the numbers of trails and steps.
 pub(crate) fn finish<N: Naming, W: Sink>(
     alloc: Global,
     host: Host<N>,

@@ -5,9 +5,9 @@ ghost use Rattle.starhost.specs.LoadedCells.{HasLines};
 ghost use Rattle.starhost.specs.declared.fault.ProgramFault.TheVariants as fault;
 ghost use Rattle.sb_wire.specs.declared.fault.StreamError.TheVariants as stream;
 
+use crate::cell_loader::{Unplayed, is_taken, told, unsettled};
 use crate::fault::ProgramFault;
 use crate::line_player::{Sender, play_lines};
-use crate::cell_loader::{Unplayed, is_taken, told, unsettled};
 use crate::script_source::{ScriptSource, Unopened};
 use sb_host::{Calling, Lending, Reading, Stub};
 use sb_server::SessionCaller;
@@ -35,7 +35,7 @@ impl<'r, T: Wait, S: Calling> Sender<SessionCaller<S>> for ToSession<'r, T> {
     }
 }
 
-/// Calls the session with a line, or gives what it was answered where it isn't taken.
+/// Calls the session with a line. Error: the reply that refuses it.
 fn call<T: Wait, S: Calling>(
     rt: &T,
     alloc: Global,
@@ -57,8 +57,8 @@ fn call<T: Wait, S: Calling>(
     }
 }
 
-/// Plays the file of each tenant that has one, and leaves the receipts of the sessions. Tenants are told by their
-/// numbers, of which this is the first one.
+/// Runs the script of each tenant that has a file, and leaves the receipts of the sessions. Tenants have numbers from
+/// `first` on.
 pub(crate) fn load_all<T: Wait, H: Lending, F: Read + Drop, S: ScriptSource<F>>(
     rt: &T,
     alloc: Global,
@@ -96,7 +96,7 @@ fn add(stubs: &mut Vec<Stub>, own: Option<Stub>) -> Result<(), ProgramFault>
     }
 }
 
-/// Plays the file of a tenant, if there is one.
+/// Runs the script of a tenant, if it has a file.
 fn load_one<T: Wait, H: Lending, F: Read + Drop, S: ScriptSource<F>>(
     rt: &T,
     alloc: Global,
@@ -154,7 +154,7 @@ fn ending_of<T: Wait, H: Lending>(rt: &T, host: H, tenant: u32) -> Option<Unplay
     why
 }
 
-/// Plays a file in the first session of a tenant.
+/// Runs a script in the first session of a tenant.
 fn play<T: Wait, H: Lending, F: Read + Drop>(
     rt: &T,
     alloc: Global,

@@ -7,10 +7,10 @@ use std::net::{Shutdown, TcpStream};
 use std::rt::Clock;
 use std::time::{Duration, Instant};
 
-/// How many milliseconds the first bytes may take.
+/// How long the first bytes may take, in milliseconds.
 const FIRST: u64 = 500;
 
-/// How many milliseconds a request may take, and how many its answer.
+/// How long a request may take, and its answer, in milliseconds each.
 const ALL: u64 = 2_000;
 
 /// The most pieces that are thrown away behind a request.
@@ -45,9 +45,12 @@ impl<'k, T: Clock> Deadline<'k, T> {
     }
 }
 
-/// Reads until there is a whole request, or none can come. How many bytes there are, or none where the client is silent
-/// or gone.
-pub(crate) fn receive_request<T: Clock>(rt: &T, stream: &TcpStream, buffer: &mut [u8]) -> Option<usize>
+/// Reads until the request is complete or can't be. Returns the number of bytes. None: the client is silent or gone.
+pub(crate) fn receive_request<T: Clock>(
+    rt: &T,
+    stream: &TcpStream,
+    buffer: &mut [u8],
+) -> Option<usize>
     ensures { IfSome result (λ len. len ≤ length buffer.new) }
 {
     let deadline = Deadline::begin(rt)?;
@@ -74,7 +77,7 @@ pub(crate) fn receive_request<T: Clock>(rt: &T, stream: &TcpStream, buffer: &mut
     Some(len)
 }
 
-/// How many bytes came, if the client is there.
+/// Makes one read. None: the client is gone.
 fn read_some(mut stream: &TcpStream, buffer: &mut [u8]) -> Option<usize>
     ensures { IfSome result (λ count. count ≤ length buffer.new) }
 {
@@ -84,7 +87,8 @@ fn read_some(mut stream: &TcpStream, buffer: &mut [u8]) -> Option<usize>
     }
 }
 
-/// Sends an answer, as far as the client takes it in time, and hears the client out, so that it gets the answer.
+/// Sends a response as far as the client takes it in time. Then reads until the client closes, so that the client gets
+/// the response.
 pub(crate) fn send_response<T: Clock>(rt: &T, stream: &TcpStream, answer: &[u8]) {
     let Some(deadline) = Deadline::begin(rt) else {
         return;
@@ -100,7 +104,7 @@ pub(crate) fn send_response<T: Clock>(rt: &T, stream: &TcpStream, answer: &[u8])
     drain(&deadline, stream);
 }
 
-/// How many bytes went, if some did.
+/// Makes one write. None: no byte was sent.
 fn write_some<T: Clock>(
     deadline: &Deadline<'_, T>,
     mut stream: &TcpStream,
@@ -118,7 +122,7 @@ fn write_some<T: Clock>(
     }
 }
 
-/// Throws away what still comes, until the client closes.
+/// Drops received bytes until the client closes.
 fn drain<T: Clock>(deadline: &Deadline<'_, T>, stream: &TcpStream) {
     let mut piece = [0u8; PIECE];
     for _ in 0..PIECES {

@@ -40,8 +40,8 @@ pub(crate) enum Outcome {
 }
 
 impl HttpRefusal {
-    /// Why a request doesn't fit its page. Pages are got, and a session's end is posted. A browser names the page that
-    /// posts, and no page of this server does.
+    /// Why a request does not fit its page. Pages are requested by GET, the end of a session by POST. A browser names
+    /// the page that posts, and no page of this server does.
     pub(crate) fn of_misfit(route: Route, request: &Request<'_>) -> Option<HttpRefusal>
         ensures { result ≡ misfit_of route request.now }
     {

@@ -23,7 +23,7 @@ use std::fs::File;
 use std::rt::{Clock, Files};
 use std::sync::Wait;
 
-/// Has the tenants as a journal leaves them, and answers the lines of the input on them.
+/// Replays a journal, and answers the lines of the input on its tenants.
 pub(crate) fn run_journaled<T: Wait + Eprint + Clock + Files<File = File>, R: Source, W: Sink>(
     rt: &T,
     alloc: Global,
@@ -76,8 +76,7 @@ pub(crate) fn run_journaled<T: Wait + Eprint + Clock + Files<File = File>, R: So
     }
 }
 
-/// Has the tenants as the records of a journal make them, and answers the lines of the input on them. How the stream of
-/// lines ended.
+/// Replays a journal, and answers the lines of the input on its tenants. Returns how the stream of lines ended.
 fn run_on<T: Wait + Eprint + Clock, D: Disk, R: Source, W: Sink>(
     rt: &T,
     alloc: Global,
@@ -131,7 +130,7 @@ fn restarted_cell<T: Wait + Eprint + Clock, D: Disk>(
     }
 }
 
-/// Whether the file is on the disk at the end, where it has to be. Why not is told.
+/// Syncs the journal at the end, if it has to be. False if that fails, which is logged.
 fn is_settled<T: Eprint + Clock + Files<File = File>>(
     rt: &T,
     path: &str,

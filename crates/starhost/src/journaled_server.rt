@@ -7,10 +7,10 @@ ghost use Rattle.starhost.specs.Totals.{TellsPort};
 use crate::event_log::EventLog;
 use crate::fault::ProgramFault;
 use crate::flusher::Flusher;
-use crate::server_context::{Entrance, ServerContext, ServerEnd};
 use crate::pages::Pages;
-use crate::system::System;
+use crate::server_context::{Entrance, ServerContext, ServerEnd};
 use crate::status_port::StatusPort;
+use crate::system::System;
 use sb_durable::{
     Disk, File as JournalFile, Head, Journal, JournalError, Played, Progress, Recorder, Syncing,
     Wary, open_path, play,
@@ -28,7 +28,7 @@ use std::sync::atomic::{AtomicBool, Ordering};
 use std::thread;
 use std::time::{Duration, Instant};
 
-/// How far a journal is played is told once in so many seconds.
+/// The progress of a replay is logged once in so many seconds.
 const TOLD: u64 = 1;
 
 /// Records what tenants are answered.
@@ -36,10 +36,10 @@ const TOLD: u64 = 1;
 struct JournalHook<'k, R, T> {
     recorder: R,
     log: &'k EventLog<'k, T>,
-    /// There was no memory the last time.
+    /// The last commit lacked memory.
     lacks_memory: AtomicBool,
     has_failed: AtomicBool,
-    /// It syncs what is written, where that isn't done with each record.
+    /// Syncs what is written, if commits don't.
     flusher: Option<&'k Flusher<'k, T>>,
 }
 
@@ -70,7 +70,7 @@ impl<'k, R, T: Eprint + Clock> JournalHook<'k, R, T> {
         }
     }
 
-    /// Tells why nothing was recorded: want of memory until there is some again, and all else once.
+    /// Logs why nothing was recorded. A lack of memory is logged again after a success, any other reason once.
     fn tell(&self, error: &JournalError) {
         let was_told = match error {
             JournalError::Memory => self.lacks_memory.swap(true, Ordering::SeqCst),
@@ -109,7 +109,7 @@ impl<'k, H: Lending, D: Disk, T: Eprint + Clock> CommitHook for JournalHook<'k, 
     }
 }
 
-/// Whether what is written is synced at once.
+/// Whether commits are synced.
 pub(crate) fn syncing_of(syncs: Syncs) -> Syncing
     ensures { result ≡ Syncing.Always ↔ syncs ≡ Syncs.Always }
 {
@@ -119,7 +119,7 @@ pub(crate) fn syncing_of(syncs: Syncs) -> Syncing
     }
 }
 
-/// The journal at this path, which is played to a host, and what that leaves. Why it can't be is told.
+/// Opens the journal at this path and replays it on a host. If that fails, the reason is logged.
 pub(crate) fn played_journal<H: Lending, T: Wait + Eprint + Clock + Files<File = File>>(
     rt: &T,
     alloc: Global,
@@ -184,7 +184,7 @@ impl<'k, H: Lending + Sync, T: System + Sync> ServerContext<'k, H, T>
 where
     H::Session: Send,
 {
-    /// Has the tenants as the journal at this path leaves them, and serves connections with it.
+    /// Makes the tenants of the journal at this path, and serves connections that are recorded in it.
     pub(crate) fn record<A: Admission + Sync, G: BackgroundTask, W: Sink>(
         &self,
         path: &str,
@@ -204,7 +204,7 @@ where
         self.serve_with(gate, &recording, stubs, writer)
     }
 
-    /// The same, where a thread of its own syncs what is recorded.
+    /// Serves connections, and has a thread of its own sync the journal once a second.
     fn record_by_seconds<A: Admission + Sync, G: BackgroundTask, W: Sink>(
         &self,
         path: &str,
@@ -234,7 +234,7 @@ where
         served
     }
 
-    /// Serves the connections of this port, and syncs beside them.
+    /// Serves the connections of this port while a thread syncs the journal.
     fn serve_beside<A: Admission + Sync, G: BackgroundTask, K: CommitHook + Sync>(
         &self,
         flusher: &Flusher<'k, T>,
@@ -261,7 +261,7 @@ where
         )
     }
 
-    /// Has the tenants as the journal at this path leaves them: what records, and what the sessions of the file left.
+    /// Replays the journal at this path. Returns the recorder and the receipts of the replayed sessions.
     fn restart(
         &self,
         path: &str,

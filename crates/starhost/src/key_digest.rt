@@ -7,7 +7,7 @@ use sb_wire::{Piece, Responder, Sink, Source, answer_stream};
 use sb_words::{digest_line, is_key};
 use std::alloc::{AllocError, Global};
 
-/// What became of a key.
+/// The result for a key.
 #[derive(Clone, Copy, Debug)]
 pub(crate) enum Digested {
     /// No line has come.
@@ -17,7 +17,7 @@ pub(crate) enum Digested {
     NoKey,
 }
 
-/// Tells the digest of the key that the first line of the input is.
+/// Writes the digest of the key in the first line of the input.
 pub(crate) fn tell_digest<R: Source, W: Sink>(
     alloc: Global,
     reader: &mut R,
@@ -37,7 +37,7 @@ pub(crate) fn tell_digest<R: Source, W: Sink>(
     }
 }
 
-/// Tells the digest of the first line.
+/// A responder that writes the digest of the first line.
 struct Digester;
 
 impl Responder<(), Digested> for Digester {

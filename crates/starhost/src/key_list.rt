@@ -35,7 +35,7 @@ impl<L: KeyFiles> KeyList<L> {
         }
     }
 
-    /// Has this list in place of the one before, which goes behind the lock.
+    /// Replaces the list. The old one is dropped outside the lock.
     pub(crate) fn renew<R: Wait>(&self, rt: &R, keys: Keys)
         requires { AreReadKeys L.is_opened (table_of keys) }
     {

@@ -35,7 +35,7 @@ impl Display for Unread {
 }
 
 impl Unread {
-    /// What a server ends with that can't begin.
+    /// The fault of a server that can't begin.
     pub(crate) fn fault(&self) -> ProgramFault
         ensures { result ≡ unread_as self.now }
     {
@@ -60,7 +60,7 @@ pub(crate) trait KeyFiles {
     ghost is_opened: { Option (List ℕ) → Bool };
 }
 
-/// By what it is seen that a list has changed.
+/// Time and length of a file, by which a change is seen.
 #[derive(Clone, Copy, PartialEq, Eq)]
 pub(crate) struct Stamp {
     pub(crate) changed: SystemTime,
@@ -71,7 +71,7 @@ pub(crate) struct Stamp {
 pub(crate) trait KeySource<L: KeyFiles> {
     type File: Read + Drop;
 
-    /// That of the list that is read now, if there is one.
+    /// The stamp of the current file, if there is one.
     fn stamp(&self) -> Option<Stamp>;
 
     /// Opens the file that it stands in.

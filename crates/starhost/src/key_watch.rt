@@ -12,11 +12,11 @@ use std::sync::Wait;
 #[derive(Clone, Copy)]
 struct Look {
     stamp: Option<Stamp>,
-    /// It needn't be read again while it stays so.
+    /// The file needn't be read again while its stamp stays.
     is_done: bool,
 }
 
-/// Has a list of keys read again where its file changes.
+/// Reads the list of keys again when its file changes.
 #[derive(Drop)]
 pub(crate) struct KeyWatch<'p, 'l, 'k, L: KeyFiles, S, T> {
     alloc: Global,
@@ -29,7 +29,7 @@ pub(crate) struct KeyWatch<'p, 'l, 'k, L: KeyFiles, S, T> {
 }
 
 impl<'p, 'l, 'k, L: KeyFiles, S: KeySource<L>, T: Eprint + Clock> KeyWatch<'p, 'l, 'k, L, S, T> {
-    /// For a list that was read when this was its stamp.
+    /// A watch of a list that was read when its file had this stamp.
     pub(crate) fn new(
         alloc: Global,
         source: S,
@@ -51,7 +51,7 @@ impl<'p, 'l, 'k, L: KeyFiles, S: KeySource<L>, T: Eprint + Clock> KeyWatch<'p, '
         }
     }
 
-    /// Reads the file if it isn't as it was. Where it can't be read, the keys stay and that is told once.
+    /// Reads the file if it has changed. If it can't be read, the keys stay, and the reason is logged once.
     fn look<R: Wait>(&self, rt: &R, last: Look) -> Look {
         let stamp = self.source.stamp();
         let is_new = stamp != last.stamp;

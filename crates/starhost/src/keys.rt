@@ -3,10 +3,10 @@ ghost use Rattle.std.specs.Prelude.{◌≡◌, OnOk};
 ghost use Rattle.starhost.specs.Totals.{TellsPort};
 
 use crate::fault::ProgramFault;
-use crate::server_context::{Entrance, ServerContext, ServerEnd};
 use crate::key_list::KeyList;
 use crate::key_source::{KeyFiles, KeySource, Stamp, keys_at};
 use crate::key_watch::KeyWatch;
+use crate::server_context::{Entrance, ServerContext, ServerEnd};
 use crate::system::System;
 use sb_host::{Lending, Stub};
 use sb_wire::Sink;
@@ -55,7 +55,7 @@ impl<'k, H: Lending + Sync, T: System + Sync> ServerContext<'k, H, T>
 where
     H::Session: Send,
 {
-    /// Serves whom the keys of the file at this path admit.
+    /// Serves clients that bring a key of the file at this path.
     pub(crate) fn with_keys<W: Sink>(
         &self,
         path: &str,
@@ -68,7 +68,7 @@ where
         self.with_lists::<AnyFiles, KeyFile<'_, '_, T>, W>(file, path, loaded, writer)
     }
 
-    /// Serves whom the lists admit that are read there.
+    /// Serves clients that bring a key of the newest list of this source.
     fn with_lists<L: KeyFiles + Send + Sync, S: KeySource<L> + Drop, W: Sink>(
         &self,
         source: S,

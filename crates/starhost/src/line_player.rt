@@ -3,13 +3,13 @@ ghost use Rattle.std.specs.Prelude.{◌≡◌, List, ℕ, false, OnErr, OnOk};
 ghost use Rattle.starhost.specs.LoadedCells.{HasLines, PlaysBy, TakesEach};
 ghost use Rattle.sb_wire.specs.Seen.{piece_seen};
 
-use crate::dump::Nowhere;
 use crate::cell_loader::Unplayed;
+use crate::dump::Nowhere;
 use sb_wire::{Fallible, Piece, Responder, answer_stream};
 use std::alloc::{AllocError, Global};
 use std::io::Read;
 
-/// What sends lines to something.
+/// Sends lines to a session.
 pub(crate) trait Sender<S> {
     // what a line leaves that is taken
     ghost takes: { Self → S → List ℕ → S → Type 0 };
@@ -17,20 +17,20 @@ pub(crate) trait Sender<S> {
     // and one that isn't
     ghost refuses: { Self → S → List ℕ → S → Type 0 };
 
-    /// Sends a line, or gives what it was answered where it isn't taken.
+    /// Sends a line. Error: the reply that refuses it.
     fn send(&self, alloc: Global, line: &[u8], to: &mut S) -> Result<(), Vec<u8>>
         ensures ok { OnOk result (takes self.now to.old line.now to.new) }
         ensures err { OnErr result (refuses self.now to.old line.now to.new) };
 }
 
-/// How far a file is played.
+/// The progress of a script.
 #[derive(Drop)]
 pub(crate) struct LoadProgress {
     /// The newest line, counted from 1.
     pub(crate) line: u64,
-    /// It wasn't answered as a line of a script is.
+    /// The line was refused.
     pub(crate) is_bad: bool,
-    /// What it was answered then.
+    /// The reply that refused it.
     pub(crate) told: Vec<u8>,
 }
 
@@ -70,7 +70,7 @@ pub(crate) fn play_lines<S, P: Sender<S> + Drop, F: Read + Drop>(
     }
 }
 
-/// Sends each line, until one isn't taken.
+/// A responder that sends each line until one is refused.
 #[derive(Drop)]
 struct LinePlayer<P> {
     sender: P,

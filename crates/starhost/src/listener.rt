@@ -14,10 +14,10 @@ use std::net::{Net, SocketAddr, TcpListener, TcpStream};
 use std::os::fd::AsRawFd as _;
 use std::rt::Clock;
 
-/// How many connections may wait at the port until they are taken, if the system allows so many.
+/// The most connections that wait to be accepted, if the system allows so many.
 const QUEUE: i32 = 4096;
 
-/// Listens at this address, or at any free port of it, and tells which port it is.
+/// Listens at this address, or at any free port of it. Writes the port.
 pub(crate) fn listen<T: Net<Listener = TcpListener, Stream = TcpStream> + Eprint + Clock, W: Sink>(
     rt: &T,
     alloc: Global,

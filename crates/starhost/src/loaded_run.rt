@@ -9,9 +9,9 @@ ghost use Rattle.starhost.specs.declared.fault.ProgramFault.{ProgramFault as Its
 ghost use Rattle.starhost.specs.Outputs.{WritesOf};
 ghost use Rattle.sb_words.specs.Within.{AreRun};
 
+use crate::cell_loader::loaded_cell;
 use crate::console::Console;
 use crate::fault::tell_fault;
-use crate::cell_loader::loaded_cell;
 use crate::run_report::tell_run;
 use sb_cell::Cell;
 use sb_wire::{Sink, Source, Summary, run_stream};
@@ -19,7 +19,7 @@ use sb_words::Run;
 use std::alloc::Global;
 use std::rt::{Clock, Files};
 
-/// Makes the tenants from the files of a folder, answers the lines of the input on them, and tells how that went.
+/// Runs the scripts of a folder, answers the lines of the input on their tenants, and reports how the run went.
 pub(crate) fn run_loaded<T: Eprint + Clock + Files, R: Source, W: Sink, E: Sink>(
     rt: &T,
     alloc: Global,
@@ -46,7 +46,7 @@ pub(crate) fn run_loaded<T: Eprint + Clock + Files, R: Source, W: Sink, E: Sink>
     }
 }
 
-/// Answers the lines of the input on a cell, and tells how that went.
+/// Answers the lines of the input on a cell, and reports how the run went.
 fn run_on<R: Source, W: Sink, E: Sink>(
     alloc: Global,
     cell: &mut Cell,

@@ -14,7 +14,7 @@ const PAGE: u64 = 4096;
 /// The most bytes that are read of it.
 const MOST_BYTES: usize = 1024;
 
-/// The file in which the system tells it, if there is one.
+/// The system's file with the memory of the process, if there is one.
 pub(crate) fn memory_file<T: Files<File = File>>(rt: &T) -> Option<File> {
     fs::open(rt, PATH).ok()
 }

@@ -8,7 +8,7 @@ use sb_words::STATUS;
 use std::alloc::{AllocError, Global};
 use std::sync::Wait;
 
-/// Whether no key is wanted, or a request brings one that opens the page.
+/// Whether no key is wanted, or the request has a key that opens the page.
 pub(crate) fn is_let_in<A: Admission, T: Wait>(
     rt: &T,
     alloc: Global,

@@ -10,18 +10,18 @@ ghost use Rattle.starhost.specs.Pages.{AreSamples, IsEndOutcome, IsHostOutcome, 
 
 use crate::activity::{Counted, Overview};
 use crate::dump::text_of;
-use crate::session_ender::SessionEnder;
-use crate::page_access::is_let_in;
-use crate::memory::resident;
-use crate::http_outcome::{HttpRefusal, Outcome, Shown, has_body};
 use crate::host_dump::{NotedScript, ScriptNotes, noted_in};
+use crate::http_outcome::{HttpRefusal, Outcome, Shown, has_body};
+use crate::memory::resident;
+use crate::page_access::is_let_in;
+use crate::session_ender::SessionEnder;
 use sb_dump::DumpError;
 use sb_host::{Lending, SESSION_LIMIT, SessionId, Tried};
 use sb_server::{Admission, ServerMetrics, SessionName};
 use sb_status::{
-    ContentType, Counting, Ended, HostNumbers, Incoming, LockBudget, Request, Route, SessionReading,
-    SessionView, StatisticsCache, Status, TenantNumbers, TenantView, read_request, route_of, tenant_page,
-    view_at,
+    ContentType, Counting, Ended, HostNumbers, Incoming, LockBudget, Request, Route,
+    SessionReading, SessionView, StatisticsCache, Status, TenantNumbers, TenantView, read_request,
+    route_of, tenant_page, view_at,
 };
 use std::alloc::{AllocError, Global};
 use std::fs::File;
@@ -29,10 +29,10 @@ use std::rt::Clock;
 use std::sync::Wait;
 use std::time::Instant;
 
-/// What the program calls its version.
+/// The version of the program.
 const VERSION: &str = "0.1";
 
-/// What is shown, and whom.
+/// The status pages of a server.
 #[derive(Drop)]
 pub(crate) struct Pages<'k, H, A, T, E = ServerMetrics> {
     pub(crate) rt: &'k T,
@@ -62,7 +62,11 @@ impl<'k, H: Lending, A: Admission, T: Wait + Clock, E: SessionEnder> Pages<'k, H
     }
 
     /// The answer to the bytes of a request.
-    pub(crate) fn answer(&self, bytes: &[u8], cache: &mut StatisticsCache) -> Result<Vec<u8>, AllocError>
+    pub(crate) fn answer(
+        &self,
+        bytes: &[u8],
+        cache: &mut StatisticsCache,
+    ) -> Result<Vec<u8>, AllocError>
         requires { IsCacheOf self.now.first_tenant cache.old }
         ensures answers { IfOk result (λ answer. Answers (A.wants self.now.admission.now) (A.admits self.now.admission.now)
             self.now.first_tenant (H.tenants self.now.host) H.cells self.now.bound (E.told self.now.ender.now)
@@ -79,8 +83,12 @@ impl<'k, H: Lending, A: Admission, T: Wait + Clock, E: SessionEnder> Pages<'k, H
         }
     }
 
-    /// What a request comes to at the page that its target names.
-    fn outcome(&self, request: &Request<'_>, cache: &mut StatisticsCache) -> Result<Outcome, AllocError>
+    /// The outcome of a request for the page that its target names.
+    fn outcome(
+        &self,
+        request: &Request<'_>,
+        cache: &mut StatisticsCache,
+    ) -> Result<Outcome, AllocError>
         requires { IsCacheOf self.now.first_tenant cache.old }
         ensures comes { IfOk result (λ outcome. (route : ItsRoute) × Names request.now.target.now route
             × ComesTo (A.wants self.now.admission.now) (A.admits self.now.admission.now)
@@ -98,7 +106,7 @@ impl<'k, H: Lending, A: Admission, T: Wait + Clock, E: SessionEnder> Pages<'k, H
         self.page(route, cache)
     }
 
-    /// The page of whoever may see it.
+    /// The page at a route, for a client that may see it.
     fn page(&self, route: Route, cache: &mut StatisticsCache) -> Result<Outcome, AllocError>
         requires { IsCacheOf self.now.first_tenant cache.old }
         ensures shows { IfOk result (Shows self.now.first_tenant (H.tenants self.now.host) H.cells self.now.bound
@@ -158,7 +166,7 @@ impl<'k, H: Lending, A: Admission, T: Wait + Clock, E: SessionEnder> Pages<'k, H
         Ok(all)
     }
 
-    /// The numbers of a tenant at this time, or as they were.
+    /// The numbers of a tenant: current, or cached if its cell is busy.
     fn numbers_of(
         &self,
         place: u32,
@@ -227,7 +235,7 @@ impl<'k, H: Lending, A: Admission, T: Wait + Clock, E: SessionEnder> Pages<'k, H
         }
     }
 
-    /// What the tenant at this place is, unless it is busy.
+    /// The view of the tenant at this place, unless its cell is busy.
     fn view(&self, tenant: u32, place: u32) -> Result<Option<TenantView>, AllocError>
         ensures { IfOk result (IsFoundView self.now.first_tenant place) }
     {
@@ -246,7 +254,7 @@ impl<'k, H: Lending, A: Admission, T: Wait + Clock, E: SessionEnder> Pages<'k, H
         Ok(Some(view))
     }
 
-    /// Tells of each session how long ago its last line was answered.
+    /// Adds to each session how long ago its last line was answered.
     fn tell_ages(&self, tenant: u32, sessions: &mut Vec<SessionView>)
         ensures { OnlyAges sessions.old.items sessions.new.items }
     {
@@ -264,8 +272,13 @@ impl<'k, H: Lending, A: Admission, T: Wait + Clock, E: SessionEnder> Pages<'k, H
         }
     }
 
-    /// What the tenant was that was looked at last, if it is the one at this place, which is busy.
-    fn old_page(&self, place: u32, cache: &mut StatisticsCache, now: u64) -> Result<Outcome, AllocError>
+    /// The page of the cached view, if it belongs to the tenant at this place. Its cell is busy.
+    fn old_page(
+        &self,
+        place: u32,
+        cache: &mut StatisticsCache,
+        now: u64,
+    ) -> Result<Outcome, AllocError>
         requires hosted { place < H.tenants self.now.host }
         requires cache { IsCacheOf self.now.first_tenant cache.old }
         ensures page { IfOk result (IsPageOutcome self.now.first_tenant (H.tenants self.now.host)
@@ -279,7 +292,7 @@ impl<'k, H: Lending, A: Admission, T: Wait + Clock, E: SessionEnder> Pages<'k, H
         }
     }
 
-    /// Has a session end.
+    /// Asks a worker to end a session.
     fn end(&self, ended: Ended) -> Result<Outcome, AllocError>
         ensures { IfOk result (IsEndOutcome self.now.first_tenant (H.tenants self.now.host) H.cells
             (E.told self.now.ender.now) ended) }
@@ -371,7 +384,7 @@ fn view_shown(alloc: Global, view: &TenantView) -> Result<Shown, AllocError>
     })
 }
 
-/// What is shown of what there is.
+/// The outcome of a page that was found.
 fn found(kind: ContentType, body: Vec<u8>) -> Outcome
     ensures { result ≡ Outcome.Shown (record { status = Status.Found; kind = kind; body = body }) }
 {

@@ -8,7 +8,7 @@ use sb_syntax::{COMMAND_LIMIT, ParseError, parse};
 use sb_wire::{Piece, Responder, Sink, Source, StreamError, answer_stream, push_labelled};
 use std::alloc::{AllocError, Global};
 
-/// Tells of each line of the input whether it is a command, and where it stops being one.
+/// Writes for each line of the input whether it is a command, and where it stops being one.
 pub(crate) fn parse_lines<R: Source, W: Sink>(
     alloc: Global,
     reader: &mut R,
@@ -22,7 +22,7 @@ pub(crate) fn parse_lines<R: Source, W: Sink>(
     answer_stream(alloc, reader, writer, &CommandLines, &mut (), &mut ())
 }
 
-/// A line is told as a command or not, and nothing is remembered of it.
+/// A responder that checks each line by itself.
 struct CommandLines;
 
 impl Responder<(), ()> for CommandLines {

@@ -24,21 +24,21 @@ ghost use Rattle.sb_words.specs.Words.{AskFor, AskForHelp, AskForVersion, HasFau
 ghost use Rattle.sb_words.specs.declared.argument.Unfit.{Unfit as ItsUnfit};
 ghost use Rattle.sb_words.specs.Refusals.{refusal_text};
 
+use crate::cell_dump::dump_all;
 use crate::compaction::compact;
 use crate::console::Console;
-use crate::key_digest::tell_digest;
 use crate::dump::dump_tenant;
 use crate::fault::{ProgramFault, tell_fault};
 use crate::journaled_run::run_journaled;
-use crate::server_context::keep;
+use crate::key_digest::tell_digest;
+use crate::loaded_run::run_loaded;
 use crate::parse::parse_lines;
 use crate::refusal_lines::{refuse, refuse_part};
 use crate::replay::replay;
-use crate::loaded_run::run_loaded;
-use crate::server::serve;
-use crate::system::System;
 use crate::run_report::{SUCCESS, fault, tell_run, tell_stream_end};
-use crate::cell_dump::dump_all;
+use crate::server::serve;
+use crate::server_context::keep;
+use crate::system::System;
 use sb_wire::{Sink, Source, StreamError, Summary, run_fresh, write_bytes};
 use sb_words::{ALLOWED, Asked, HELP, Invocation, Paths, Run, VERSION, read_words, words_ask_once};
 use std::alloc::Global;
@@ -215,7 +215,7 @@ fn run<R: Source, W: Sink, E: Sink>(
     tell_run(alloc, &summary, ended, errors)
 }
 
-/// Tells of the fault that ended a server, a replay or a dump, if one did.
+/// Reports the fault that ended a server, a replay or a dump, if one did.
 fn tell_end<E: Sink>(alloc: Global, ended: Result<(), ProgramFault>, errors: &mut E) -> u8
     ensures { TellsEnd E.refuses E.contents errors.old errors.new ended result }
 {

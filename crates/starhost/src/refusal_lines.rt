@@ -26,7 +26,7 @@ pub(crate) fn refuse<E: Sink>(alloc: Global, error: &Error, errors: &mut E) -> u
     BAD_WORDS
 }
 
-/// Tells which part of the words isn't allowed, and what is.
+/// Writes which part of the words is not allowed, and what is.
 pub(crate) fn refuse_part<E: Sink>(alloc: Global, unfit: Unfit<'_>, errors: &mut E) -> u8
     ensures { ((result ≡ 2) × Tells E.refuses E.contents errors.old errors.new (refusal_text ALLOWED.now unfit.entry))
         ⊎ ((result ≡ 1)

@@ -6,8 +6,8 @@ ghost use Rattle.starhost.specs.Faults.{unplayed_as};
 ghost use Rattle.starhost.specs.Outputs.{WritesOf};
 ghost use Rattle.sb_words.specs.Within.{AreHost};
 
-use crate::host_end::fault_of;
 use crate::fault::ProgramFault;
+use crate::host_end::fault_of;
 use sb_replay::{ReplayError, Size, replay_fresh};
 use sb_wire::{Sink, Source, StreamError};
 use sb_words::HostOptions;
@@ -42,7 +42,7 @@ pub(crate) fn replay<T: Threads + Wait + Sync, R: Source, W: Sink>(
     }
 }
 
-/// What a replay that didn't go well is told as.
+/// The fault of a replay that failed.
 pub fn unplayed(error: ReplayError) -> ProgramFault
     ensures { result ≡ unplayed_as error }
 {

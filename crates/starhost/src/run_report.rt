@@ -13,10 +13,10 @@ pub(crate) const SUCCESS: u8 = 0;
 
 const FAULT: u8 = 1;
 
-/// Stands for the summary's line where there is no memory for it.
+/// Written in place of the summary without memory for it.
 const NO_SUMMARY: &str = "no memory for a summary\n";
 
-/// Tells of a run that has ended, and gives its status.
+/// Reports a run that has ended. Returns its status.
 pub(crate) fn tell_run<E: Sink>(
     alloc: Global,
     summary: &Summary,
@@ -43,7 +43,7 @@ fn status(ended: Result<(), StreamError>) -> u8
     }
 }
 
-/// Tells of the fault that ended a stream, if one did.
+/// Reports the fault that ended a stream, if one did.
 pub(crate) fn tell_stream_end<E: Sink>(ended: Result<(), StreamError>, errors: &mut E) -> u8
     ensures status { result ≡ status_of ended }
     ensures tells { Tells E.refuses E.contents errors.old errors.new (line_of ended) }
@@ -76,7 +76,7 @@ fn tell_summary<E: Sink>(
     }
 }
 
-/// Writes the line of a fault. Where it can't be written, nobody can be told.
+/// Writes the line of a fault. A failure to write it is ignored: there is nowhere to report it.
 pub(crate) fn fault<E: Sink>(error: StreamError, errors: &mut E) -> u8
     ensures status { result ≡ 1 }
     ensures tells { Tells E.refuses E.contents errors.old errors.new (fault_line error) }

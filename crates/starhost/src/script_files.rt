@@ -44,7 +44,7 @@ impl<'r, 'j, T: Eprint + Clock + Files> ScriptFiles<'r, 'j, T> {
         }
     }
 
-    /// Tells that the script of a tenant isn't written.
+    /// Logs that the script of a tenant is not written.
     pub(crate) fn tell_unsaved(&self, tenant: u32) {
         self.log.tell_unsaved(self.folder.number_of(tenant));
     }

@@ -2,9 +2,9 @@
 ghost use Rattle.std.specs.Prelude.{List, ℕ, Option, option_map, IfOk};
 ghost use Rattle.starhost.specs.LoadedCells.{IsFound};
 
+use crate::cell_loader::Unplayed;
 use crate::event_log::EventLog;
 use crate::folder::Folder;
-use crate::cell_loader::Unplayed;
 use std::alloc::Global;
 use std::fs;
 use std::io::{self, ErrorKind, Read};
@@ -17,7 +17,7 @@ pub(crate) enum Unopened {
     NoMemory,
 }
 
-/// What has the scripts of tenants, a file for each.
+/// A source of scripts, one for each tenant.
 pub(crate) trait ScriptSource<F: Read> {
     // by the number of a tenant: what is known of its file
     ghost files: { Self → ℕ → Option (Option (List ℕ)) };
@@ -26,7 +26,7 @@ pub(crate) trait ScriptSource<F: Read> {
     fn open(&self, alloc: Global, tenant: u32) -> Result<Option<F>, Unopened>
         ensures { IfOk result (λ found. IsFound (files self.now tenant) (option_map F.remaining found)) };
 
-    /// Notes why a file wasn't played to its end.
+    /// Notes why a script was not run to its end.
     fn note(&self, tenant: u32, why: &Unplayed);
 }
 

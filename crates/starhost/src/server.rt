@@ -8,14 +8,15 @@ ghost use Rattle.starhost.specs.Totals.{TellsServer, TellsTrails};
 ghost use Rattle.starhost.specs.Outputs.{Writes};
 ghost use Rattle.sb_words.specs.Within.{AreServer};
 
-use crate::host_end::finish;
 use crate::event_log::EventLog;
 use crate::fault::ProgramFault;
+use crate::host_end::finish;
 use crate::listener::listen;
 use crate::terms::{Plan, plan_of};
 use sb_host::{Host, Naming, Opened};
 use sb_server::{
-    ServerConfig, Admission, ServerMetrics, CommitHook, NoBackgroundTask, Open, ServeError, NoJournal, Watch, serve_all,
+    Admission, CommitHook, NoBackgroundTask, NoJournal, Open, ServeError, ServerConfig,
+    ServerMetrics, Watch, serve_all,
 };
 use sb_wire::{Sink, StreamError};
 use sb_words::ServerOptions;
@@ -93,7 +94,7 @@ fn serve_host<
     serve_by(rt, alloc, &config, host, writer)
 }
 
-/// Serves the connections that are taken, and tells the host's trails behind the last one.
+/// Serves all connections, and writes the numbers of trails and steps after the last one.
 pub fn serve_by<
     N: Naming + Send + Sync,
     V: Watch + Sync,
@@ -121,7 +122,7 @@ pub fn serve_by<
     }
 }
 
-/// What connections that aren't served are told as.
+/// The fault of a server that could not serve.
 pub(crate) fn unserved(error: ServeError) -> ProgramFault
     ensures { result ≡ unserved_as error }
 {

@@ -5,23 +5,26 @@ ghost use Rattle.starhost.specs.Totals.{TellsPort, TellsServer, TellsTrails};
 ghost use Rattle.starhost.specs.Outputs.{Writes};
 ghost use Rattle.sb_words.specs.Within.{AreServer};
 
-use crate::host_end::finish;
 use crate::event_log::EventLog;
 use crate::fault::ProgramFault;
 use crate::folder::{Folder, FolderLock};
-use crate::listener::listen;
-use crate::host_loader::load_all;
-use crate::memory::memory_file;
 use crate::host_dump::save_all;
+use crate::host_end::finish;
+use crate::host_loader::load_all;
+use crate::listener::listen;
+use crate::memory::memory_file;
+use crate::pages::Pages;
 use crate::script_files::ScriptFiles;
 use crate::script_source::FolderScripts;
 use crate::server::{OUT_OF_MEMORY, opened_by, unserved};
-use crate::pages::Pages;
+use crate::status_port::{StatusPort, bound_to, serve_beside};
 use crate::system::System;
 use crate::terms::{Plan, plan_of};
-use crate::status_port::{StatusPort, bound_to, serve_beside};
 use sb_host::{Host, Lending, Naming, Opened, Stub};
-use sb_server::{ServerConfig, Admission, BackgroundTask, ServerMetrics, CommitHook, NoBackgroundTask, Open, NoJournal, serve_all};
+use sb_server::{
+    Admission, BackgroundTask, CommitHook, NoBackgroundTask, NoJournal, Open, ServerConfig,
+    ServerMetrics, serve_all,
+};
 use sb_wire::Sink;
 use sb_words::{Paths, ServerOptions};
 use std::alloc::{AllocError, Global};
@@ -87,7 +90,7 @@ fn keep_host<N: Naming + Send + Sync, T: System + Sync, W: Sink>(
     finish_served(alloc, host, plan.terms.first_tenant, served, writer)
 }
 
-/// Where the workers count, if somebody may look. None where there is no memory for it.
+/// The metrics of the workers. None without memory.
 fn server_metrics_of<T: Clock>(rt: &T, alloc: Global, plan: Plan) -> Option<ServerMetrics> {
     if plan.status.is_none() {
         return Some(ServerMetrics::blank(alloc));
@@ -104,7 +107,7 @@ fn server_metrics_of<T: Clock>(rt: &T, alloc: Global, plan: Plan) -> Option<Serv
     .ok()
 }
 
-/// Finishes the host with what its sessions left. Where that goes well and the files weren't written, that is the fault.
+/// Finishes the host with the receipts of its sessions. If that succeeds and a file was not written, that is the fault.
 fn finish_served<N: Naming, W: Sink>(
     alloc: Global,
     host: Host<N>,
@@ -121,7 +124,7 @@ fn finish_served<N: Naming, W: Sink>(
     }
 }
 
-/// What is at hand while a server keeps its tenants.
+/// What a server with files or a journal works with.
 #[derive(Drop)]
 pub(crate) struct ServerContext<'k, H, T> {
     pub(crate) rt: &'k T,
@@ -135,14 +138,14 @@ pub(crate) struct ServerContext<'k, H, T> {
     ghost workers: { (0 < plan.terms.workers) × (plan.terms.workers ≤ 16) },
 }
 
-/// Whom a server admits, and what is done beside it for that.
+/// The admission of a server, and its background task.
 #[derive(Drop)]
 pub(crate) struct Entrance<'a, 'g, A, G> {
     pub(crate) admission: &'a A,
     pub(crate) beside: &'g G,
 }
 
-/// What is left where no connection comes any more.
+/// The result of serving.
 #[derive(Drop)]
 pub(crate) struct ServerEnd {
     /// The receipts of all sessions.
@@ -155,7 +158,7 @@ impl<'k, H: Lending + Sync, T: System + Sync> ServerContext<'k, H, T>
 where
     H::Session: Send,
 {
-    /// Has the tenants as they were kept, and serves connections until none comes any more.
+    /// Makes the tenants from files or a journal, and serves connections until the server stops.
     fn serve<W: Sink>(&self, writer: &mut W) -> Result<ServerEnd, ProgramFault>
         ensures { OnOk result (TellsPort (W.contents writer.old) (W.contents writer.new)) }
     {
@@ -179,7 +182,7 @@ where
         }
     }
 
-    /// Serves whom this admits, with the journal that is asked for.
+    /// Serves the clients of this admission, with a journal if one is asked for.
     pub(crate) fn admit<A: Admission + Sync, G: BackgroundTask, W: Sink>(
         &self,
         gate: Entrance<'_, '_, A, G>,
@@ -194,7 +197,8 @@ where
         }
     }
 
-    /// Serves whom this admits, with this keeper. Behind the last connection the tenants are written to their files.
+    /// Serves the clients of this admission with this commit hook. After the last connection the tenants are written to
+    /// their files.
     pub(crate) fn serve_with<A: Admission + Sync, G: BackgroundTask, K: CommitHook + Sync, W: Sink>(
         &self,
         gate: Entrance<'_, '_, A, G>,
@@ -210,7 +214,7 @@ where
         }
     }
 
-    /// Listens at the status port, if there is to be one, and at the server's, which is told.
+    /// Listens at the status port, if one is asked for, and at the server's. Writes the port.
     pub(crate) fn ports<'a, A: Admission, W: Sink>(
         &'a self,
         admission: &'a A,
@@ -229,7 +233,7 @@ where
         }
     }
 
-    /// Serves the connections of this port, and shows what there is at the other one.
+    /// Serves the connections of this port, and status pages at the other one.
     pub(crate) fn serve_at<A: Admission + Sync, G: BackgroundTask, K: CommitHook + Sync>(
         &self,
         listener: &TcpListener,
@@ -285,7 +289,7 @@ where
         }
     }
 
-    /// What is shown at the status port.
+    /// The status pages of this server.
     fn pages<'a, A: Admission>(&'a self, admission: &'a A) -> Pages<'a, H, A, T> {
         Pages {
             rt: self.rt,

@@ -5,12 +5,12 @@ ghost use Rattle.sb_connection.specs.declared.first_line.SessionName.{SessionNam
 use sb_server::{ServerMetrics, SessionName};
 use std::sync::Wait;
 
-/// What tells workers that sessions are to end.
+/// Asks workers to end sessions.
 pub(crate) trait SessionEnder {
     // the worker that has this cell was told it of this session
     ghost told: { Self → ℕ → ItsSessionName → Type 0 };
 
-    /// Tells the worker that has this cell to end a session. False if it can't be told.
+    /// Asks the worker of this cell to end a session. False if it can't be asked.
     fn end<T: Wait>(&self, rt: &T, cell: usize, named: SessionName) -> bool
         ensures { IsTrue result → told self.now cell named };
 }

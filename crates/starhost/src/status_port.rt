@@ -3,12 +3,14 @@ ghost use Rattle.std.specs.Prelude.{◌≡◌, ◌<◌, ◌≤◌};
 ghost use Rattle.std.specs.Thread.{IsSend, IsSync};
 ghost use Rattle.sb_status.specs.StatisticsCache.{IsCacheOf};
 
-use crate::session_ender::SessionEnder;
 use crate::http_connection::{receive_request, send_response};
 use crate::pages::Pages;
+use crate::session_ender::SessionEnder;
 use libc::net as system;
 use sb_host::{Hosting, Lending, Stub};
-use sb_server::{ServerConfig, Admission, BackgroundTask, CommitHook, ServeError, Watch, serve_all};
+use sb_server::{
+    Admission, BackgroundTask, CommitHook, ServeError, ServerConfig, Watch, serve_all,
+};
 use sb_status::{HEAD_LIMIT, NO_MEMORY, StatisticsCache};
 use std::alloc::Global;
 use std::io;
@@ -20,7 +22,7 @@ use std::sync::atomic::{AtomicBool, Ordering};
 use std::thread::{self, Threads};
 use std::time::Duration;
 
-/// For how many milliseconds the listener is let alone behind a fault.
+/// The pause after a failed accept, in milliseconds.
 const PAUSE: u64 = 100;
 
 /// Listens at this address, or at any free port of it: the listener and its port.
@@ -33,7 +35,7 @@ pub(crate) fn bound_to<T: Net<Listener = TcpListener, Stream = TcpStream>>(
     Ok((listener, port))
 }
 
-/// A status port, and what is shown there.
+/// A status port with its pages.
 #[derive(Drop)]
 pub(crate) struct StatusPort<P> {
     pages: P,
@@ -58,7 +60,7 @@ impl<
     T: Wait + Net<Listener = TcpListener, Stream = TcpStream> + Clock,
     E: SessionEnder,
 > SideTask for StatusPort<Pages<'k, H, A, T, E>> {
-    /// Answers whoever comes, until the server has ended.
+    /// Answers requests until the server has ended.
     fn run<R: Wait>(&self, _rt: &R) {
         let Ok(mut cache) = self.pages.cache() else {
             return;
@@ -74,7 +76,7 @@ impl<
         }
     }
 
-    /// Ends it: nobody is waited for any more.
+    /// Ends the port: no more requests are accepted.
     fn end(&self) {
         self.has_ended.store(true, Ordering::SeqCst);
         let _closed = system::shutdown(self.listener.as_raw_fd(), system::SHUT_RD);
@@ -107,15 +109,15 @@ impl<
     }
 }
 
-/// What a thread does beside a server, until it is told that the server has ended.
+/// A task of a thread of its own that runs until the server has ended.
 pub(crate) trait SideTask {
     fn run<R: Wait>(&self, rt: &R);
 
     fn end(&self);
 }
 
-/// Serves the connections that are taken, with this thread beside it. Where there is no thread for it, it is run last,
-/// when nothing is left of it to do.
+/// Serves all connections while a thread runs this task. If no thread can be started, the task runs last, when it has
+/// nothing left to do.
 pub(crate) fn serve_beside<
     H: Hosting + Sync,
     V: Watch + Sync,

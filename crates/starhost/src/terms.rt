@@ -10,7 +10,7 @@ use std::time::Duration;
 
 const MEGABYTE: u64 = 1_048_576;
 
-/// Where a server listens, the numbers of its host, by which terms it serves, and what it logs.
+/// A server's settings: where it listens, the numbers of its host, its terms, and what it logs.
 #[derive(Clone, Copy)]
 pub(crate) struct Plan {
     pub(crate) address: SocketAddr,
@@ -25,7 +25,7 @@ pub(crate) struct Plan {
     pub(crate) status: Option<SocketAddr>,
 }
 
-/// The plan that these words are for.
+/// The settings that the words ask for.
 pub(crate) fn plan_of(serving: ServerOptions) -> Plan
     requires { AreServer serving }
     ensures { IsPlanOf serving result }
@@ -74,7 +74,7 @@ fn here(port: u16) -> SocketAddr
     SocketAddr::new(IpAddr::V4(Ipv4Addr::new(127, 0, 0, 1)), port)
 }
 
-/// So many megabytes in bytes, or any number where that is 0.
+/// Megabytes in bytes. 0: no limit.
 fn megabytes(count: u32) -> Option<u64>
     ensures { AreMegabytes count result }
 {
@@ -84,7 +84,7 @@ fn megabytes(count: u32) -> Option<u64>
     Some(u64::from(count) * MEGABYTE)
 }
 
-/// So many seconds, or no end where that is 0.
+/// A number of seconds. 0: no limit.
 fn seconds(count: u32) -> Option<Duration>
     ensures { IsSeconds count result }
 {
@@ -94,7 +94,7 @@ fn seconds(count: u32) -> Option<Duration>
     Some(Duration::from_secs(u64::from(count)))
 }
 
-/// So many milliseconds, or none where that is 0.
+/// A number of milliseconds. 0: none.
 fn milliseconds(count: u32) -> Option<Duration>
     ensures { AreMillis count result }
 {
