@@ -13,7 +13,7 @@ use crate::rule::RuleParts;
 use crate::schema::Schema;
 use crate::scope::is_named;
 use crate::tree::{Query, Statement};
-use sb_syntax::Command;
+use sb_syntax::{Command, Definition, TransactionCommand};
 use sb_value::{ColumnDefinition, Name, Refusal, TableId};
 use std::alloc::Global;
 
@@ -51,36 +51,59 @@ fn command<'s, S: Schema>(alloc: Global, text: &Command, schema: &'s S) -> Resul
     ensures { Answers resolved (walk_names (S.names schema.now) (view.command text.now)) result }
 {
     match text {
-        Command::CreateTable(name, columns) => new_table(name, columns.as_slice(), schema),
-        Command::DropTable(name) => old_table(name, schema),
-        Command::CreateRule(rule) => match resolve_rule(alloc, rule, schema) {
+        Command::OpenSession | Command::EndSession | Command::Begin => Ok(Resolved::Plain),
+        Command::Definition(text) => definition(alloc, text, schema),
+        Command::InTransaction(text) => transaction_command(alloc, text, schema),
+    }
+}
+
+fn definition<'s, S: Schema>(
+    alloc: Global,
+    text: &Definition,
+    schema: &'s S,
+) -> Result<Resolved, Refusal>
+    ensures { Answers resolved (walk_names (S.names schema.now) (view.definition text.now)) result }
+{
+    match text {
+        Definition::CreateTable(name, columns) => new_table(name, columns.as_slice(), schema),
+        Definition::DropTable(name) => old_table(name, schema),
+        Definition::CreateRule(rule) => match resolve_rule(alloc, rule, schema) {
             Ok(parts) => Ok(Resolved::Rule(parts)),
             Err(refusal) => Err(refusal),
         },
-        Command::Query(query) => match resolve_query(alloc, query, schema) {
+        Definition::AlterRule(_)
+        | Definition::DropRule(_)
+        | Definition::ActivateRule(_)
+        | Definition::DeactivateRule(_)
+        | Definition::CreateRuleset(_)
+        | Definition::DropRuleset(_)
+        | Definition::AddRules(_, _)
+        | Definition::DelRules(_, _) => Ok(Resolved::Plain),
+    }
+}
+
+fn transaction_command<'s, S: Schema>(
+    alloc: Global,
+    text: &TransactionCommand,
+    schema: &'s S,
+) -> Result<Resolved, Refusal>
+    ensures { Answers resolved
+        (walk_names (S.names schema.now) (view.transaction_command text.now)) result }
+{
+    match text {
+        TransactionCommand::Query(query) => match resolve_query(alloc, query, schema) {
             Ok(query) => Ok(Resolved::Query(query)),
             Err(refusal) => Err(refusal),
         },
-        Command::Change(change) => match resolve_statement(alloc, change, schema) {
+        TransactionCommand::Change(change) => match resolve_statement(alloc, change, schema) {
             Ok(statement) => Ok(Resolved::Change(statement)),
             Err(refusal) => Err(refusal),
         },
-        Command::OpenSession
-        | Command::EndSession
-        | Command::Begin
-        | Command::Commit
-        | Command::Rollback
-        | Command::ProcessRules
-        | Command::ProcessRuleset(_)
-        | Command::ProcessRule(_)
-        | Command::AlterRule(_)
-        | Command::DropRule(_)
-        | Command::ActivateRule(_)
-        | Command::DeactivateRule(_)
-        | Command::CreateRuleset(_)
-        | Command::DropRuleset(_)
-        | Command::AddRules(_, _)
-        | Command::DelRules(_, _) => Ok(Resolved::Plain),
+        TransactionCommand::Commit
+        | TransactionCommand::Rollback
+        | TransactionCommand::ProcessRules
+        | TransactionCommand::ProcessRuleset(_)
+        | TransactionCommand::ProcessRule(_) => Ok(Resolved::Plain),
     }
 }
 

@@ -17,6 +17,10 @@ use Rattle.sb_syntax.specs.declared.tree.RuleText.{RuleText}
 use Rattle.sb_syntax.specs.declared.tree.AlterationText.{AlterationText}
 use Rattle.sb_syntax.specs.declared.tree.Command.{Command}
 use Rattle.sb_syntax.specs.declared.tree.Command.TheVariants as commands
+use Rattle.sb_syntax.specs.declared.tree.Definition.{Definition}
+use Rattle.sb_syntax.specs.declared.tree.Definition.TheVariants as definitions
+use Rattle.sb_syntax.specs.declared.tree.TransactionCommand.{TransactionCommand}
+use Rattle.sb_syntax.specs.declared.tree.TransactionCommand.TheVariants as transactions
 use Rattle.sb_syntax.specs.Tree as tree
 
 abbrev pub expression : Stored → tree.Expression
@@ -94,25 +98,31 @@ alteration r = record {
   nopriority = r.nopriority.items;
 }
 
+abbrev pub definition : Definition → tree.Command
+definition (definitions.CreateTable n columns) = tree.create_table n columns.items
+definition (definitions.DropTable n) = tree.drop_table n
+definition (definitions.CreateRule r) = tree.create_rule (rule r.value)
+definition (definitions.AlterRule r) = tree.alter_rule (alteration r.value)
+definition (definitions.DropRule n) = tree.drop_rule n
+definition (definitions.ActivateRule n) = tree.activate_rule n
+definition (definitions.DeactivateRule n) = tree.deactivate_rule n
+definition (definitions.CreateRuleset n) = tree.create_ruleset n
+definition (definitions.DropRuleset n) = tree.drop_ruleset n
+definition (definitions.AddRules n rules) = tree.add_rules n rules.items
+definition (definitions.DelRules n rules) = tree.del_rules n rules.items
+
+abbrev pub transaction_command : TransactionCommand → tree.Command
+transaction_command transactions.Commit = tree.commit
+transaction_command transactions.Rollback = tree.rollback
+transaction_command transactions.ProcessRules = tree.process_rules
+transaction_command (transactions.ProcessRuleset n) = tree.process_ruleset n
+transaction_command (transactions.ProcessRule n) = tree.process_rule n
+transaction_command (transactions.Query q) = tree.query (query q.value)
+transaction_command (transactions.Change c) = tree.change (statement c)
+
 abbrev pub command : Command → tree.Command
 command commands.OpenSession = tree.open_session
 command commands.EndSession = tree.end_session
 command commands.Begin = tree.begin
-command commands.Commit = tree.commit
-command commands.Rollback = tree.rollback
-command commands.ProcessRules = tree.process_rules
-command (commands.ProcessRuleset n) = tree.process_ruleset n
-command (commands.ProcessRule n) = tree.process_rule n
-command (commands.CreateTable n columns) = tree.create_table n columns.items
-command (commands.DropTable n) = tree.drop_table n
-command (commands.CreateRule r) = tree.create_rule (rule r.value)
-command (commands.AlterRule r) = tree.alter_rule (alteration r.value)
-command (commands.DropRule n) = tree.drop_rule n
-command (commands.ActivateRule n) = tree.activate_rule n
-command (commands.DeactivateRule n) = tree.deactivate_rule n
-command (commands.CreateRuleset n) = tree.create_ruleset n
-command (commands.DropRuleset n) = tree.drop_ruleset n
-command (commands.AddRules n rules) = tree.add_rules n rules.items
-command (commands.DelRules n rules) = tree.del_rules n rules.items
-command (commands.Query q) = tree.query (query q.value)
-command (commands.Change c) = tree.change (statement c)
+command (commands.Definition d) = definition d
+command (commands.InTransaction c) = transaction_command c

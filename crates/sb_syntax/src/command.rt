@@ -12,7 +12,7 @@ use crate::list::{Item, list};
 use crate::literal::{name, name_after, names};
 use crate::rule::{alteration, rule};
 use crate::statement::{change, whole_query};
-use crate::tree::Command;
+use crate::tree::{Command, Definition, TransactionCommand};
 use sb_value::{COLUMN_LIMIT, ColumnDefinition, ColumnType, Name};
 use std::alloc::Global;
 
@@ -45,81 +45,84 @@ fn columns(alloc: Global, tokens: &mut Cursor<'_>) -> Result<Vec<ColumnDefinitio
 }
 
 #[tactic(auto, unfolding(crate::specs::Reading::creates_table))]
-fn create_table(alloc: Global, tokens: &mut Cursor<'_>) -> Result<Command, Fault>
-    ensures { Gives view.command (spec.creates_table tokens.old) result tokens.old tokens.new }
+fn create_table(alloc: Global, tokens: &mut Cursor<'_>) -> Result<Definition, Fault>
+    ensures { Gives view.definition (spec.creates_table tokens.old) result tokens.old tokens.new }
 {
     tokens.expect(TokenKind::Table)?;
     let table = name(tokens)?;
     tokens.expect(TokenKind::LeftParen)?;
     let columns = columns(alloc, tokens)?;
     tokens.expect(TokenKind::RightParen)?;
-    Ok(Command::CreateTable(table, columns))
+    Ok(Definition::CreateTable(table, columns))
 }
 
 #[tactic(auto, unfolding(crate::specs::Reading::creates))]
-fn create(alloc: Global, tokens: &mut Cursor<'_>) -> Result<Command, Fault>
-    ensures { Gives view.command (spec.creates tokens.old) result tokens.old tokens.new }
+fn create(alloc: Global, tokens: &mut Cursor<'_>) -> Result<Definition, Fault>
+    ensures { Gives view.definition (spec.creates tokens.old) result tokens.old tokens.new }
 {
     tokens.expect(TokenKind::Create)?;
     match tokens.peek() {
         Some(TokenKind::Table) => create_table(alloc, tokens),
-        Some(TokenKind::Ruleset) => Ok(Command::CreateRuleset(name_after(
+        Some(TokenKind::Ruleset) => Ok(Definition::CreateRuleset(name_after(
             tokens,
             TokenKind::Ruleset,
         )?)),
-        _ => Ok(Command::CreateRule(Box::new(alloc, rule(alloc, tokens)?)?)),
+        _ => Ok(Definition::CreateRule(Box::new(alloc, rule(alloc, tokens)?)?)),
     }
 }
 
 #[tactic(auto, unfolding(crate::specs::Reading::drops))]
-fn drop_named(tokens: &mut Cursor<'_>) -> Result<Command, Fault>
-    ensures { Gives view.command (spec.drops tokens.old) result tokens.old tokens.new }
+fn drop_named(tokens: &mut Cursor<'_>) -> Result<Definition, Fault>
+    ensures { Gives view.definition (spec.drops tokens.old) result tokens.old tokens.new }
 {
     tokens.expect(TokenKind::Drop)?;
     match tokens.peek() {
-        Some(TokenKind::Table) => Ok(Command::DropTable(name_after(tokens, TokenKind::Table)?)),
-        Some(TokenKind::Rule) => Ok(Command::DropRule(name_after(tokens, TokenKind::Rule)?)),
-        _ => Ok(Command::DropRuleset(name_after(tokens, TokenKind::Ruleset)?)),
+        Some(TokenKind::Table) => Ok(Definition::DropTable(name_after(tokens, TokenKind::Table)?)),
+        Some(TokenKind::Rule) => Ok(Definition::DropRule(name_after(tokens, TokenKind::Rule)?)),
+        _ => Ok(Definition::DropRuleset(name_after(tokens, TokenKind::Ruleset)?)),
     }
 }
 
 #[tactic(auto, unfolding(crate::specs::Reading::processes, crate::specs::Reading::word))]
-fn process(tokens: &mut Cursor<'_>) -> Result<Command, Fault>
-    ensures { Gives view.command (spec.processes tokens.old) result tokens.old tokens.new }
+fn process(tokens: &mut Cursor<'_>) -> Result<TransactionCommand, Fault>
+    ensures { Gives view.transaction_command (spec.processes tokens.old) result tokens.old tokens.new }
 {
     tokens.expect(TokenKind::Process)?;
     match tokens.peek() {
         Some(TokenKind::Rules) => {
             tokens.expect(TokenKind::Rules)?;
-            Ok(Command::ProcessRules)
+            Ok(TransactionCommand::ProcessRules)
         }
-        Some(TokenKind::Rule) => Ok(Command::ProcessRule(name_after(tokens, TokenKind::Rule)?)),
-        _ => Ok(Command::ProcessRuleset(name_after(tokens, TokenKind::Ruleset)?)),
+        Some(TokenKind::Rule) => Ok(TransactionCommand::ProcessRule(name_after(
+            tokens,
+            TokenKind::Rule,
+        )?)),
+        _ => Ok(TransactionCommand::ProcessRuleset(name_after(tokens, TokenKind::Ruleset)?)),
     }
 }
 
 #[tactic(auto, unfolding(crate::specs::Reading::adds_rules))]
-fn add_rules(alloc: Global, tokens: &mut Cursor<'_>, target: Name) -> Result<Command, Fault>
-    ensures { Gives view.command (spec.adds_rules target tokens.old) result tokens.old tokens.new }
+fn add_rules(alloc: Global, tokens: &mut Cursor<'_>, target: Name) -> Result<Definition, Fault>
+    ensures { Gives view.definition (spec.adds_rules target tokens.old) result tokens.old tokens.new }
 {
     tokens.expect(TokenKind::AddRules)?;
     let rules = names(alloc, tokens)?;
-    Ok(Command::AddRules(target, rules))
+    Ok(Definition::AddRules(target, rules))
 }
 
 #[tactic(auto, unfolding(crate::specs::Reading::removes_rules))]
-fn remove_rules(alloc: Global, tokens: &mut Cursor<'_>, target: Name) -> Result<Command, Fault>
-    ensures { Gives view.command
+fn remove_rules(alloc: Global, tokens: &mut Cursor<'_>, target: Name) -> Result<Definition, Fault>
+    ensures { Gives view.definition
         (spec.removes_rules target tokens.old) result tokens.old tokens.new }
 {
     tokens.expect(TokenKind::DelRules)?;
     let rules = names(alloc, tokens)?;
-    Ok(Command::DelRules(target, rules))
+    Ok(Definition::DelRules(target, rules))
 }
 
 #[tactic(auto, unfolding(crate::specs::Reading::alters_ruleset, crate::specs::Reading::alters_from))]
-fn alter_ruleset(alloc: Global, tokens: &mut Cursor<'_>) -> Result<Command, Fault>
-    ensures { Gives view.command (spec.alters_ruleset tokens.old) result tokens.old tokens.new }
+fn alter_ruleset(alloc: Global, tokens: &mut Cursor<'_>) -> Result<Definition, Fault>
+    ensures { Gives view.definition (spec.alters_ruleset tokens.old) result tokens.old tokens.new }
 {
     let ruleset = name_after(tokens, TokenKind::Ruleset)?;
     if tokens.sees(TokenKind::AddRules) {
@@ -130,12 +133,12 @@ fn alter_ruleset(alloc: Global, tokens: &mut Cursor<'_>) -> Result<Command, Faul
 }
 
 #[tactic(auto, unfolding(crate::specs::Reading::alters))]
-fn alter(alloc: Global, tokens: &mut Cursor<'_>) -> Result<Command, Fault>
-    ensures { Gives view.command (spec.alters tokens.old) result tokens.old tokens.new }
+fn alter(alloc: Global, tokens: &mut Cursor<'_>) -> Result<Definition, Fault>
+    ensures { Gives view.definition (spec.alters tokens.old) result tokens.old tokens.new }
 {
     tokens.expect(TokenKind::Alter)?;
     match tokens.peek() {
-        Some(TokenKind::Rule) => Ok(Command::AlterRule(Box::new(
+        Some(TokenKind::Rule) => Ok(Definition::AlterRule(Box::new(
             alloc,
             alteration(alloc, tokens)?,
         )?)),
@@ -171,22 +174,31 @@ fn leading_command(alloc: Global, tokens: &mut Cursor<'_>) -> Result<Command, Fa
         Some(TokenKind::Open) => word(tokens, TokenKind::Open, Command::OpenSession),
         Some(TokenKind::End) => word(tokens, TokenKind::End, Command::EndSession),
         Some(TokenKind::Begin) => word(tokens, TokenKind::Begin, Command::Begin),
-        Some(TokenKind::Commit) => word(tokens, TokenKind::Commit, Command::Commit),
-        Some(TokenKind::Rollback) => word(tokens, TokenKind::Rollback, Command::Rollback),
-        Some(TokenKind::Create) => create(alloc, tokens),
-        Some(TokenKind::Drop) => drop_named(tokens),
-        Some(TokenKind::Alter) => alter(alloc, tokens),
-        Some(TokenKind::Activate) => Ok(Command::ActivateRule(rule_behind(
+        Some(TokenKind::Commit) => word(
+            tokens,
+            TokenKind::Commit,
+            Command::InTransaction(TransactionCommand::Commit),
+        ),
+        Some(TokenKind::Rollback) => word(
+            tokens,
+            TokenKind::Rollback,
+            Command::InTransaction(TransactionCommand::Rollback),
+        ),
+        Some(TokenKind::Create) => Ok(Command::Definition(create(alloc, tokens)?)),
+        Some(TokenKind::Drop) => Ok(Command::Definition(drop_named(tokens)?)),
+        Some(TokenKind::Alter) => Ok(Command::Definition(alter(alloc, tokens)?)),
+        Some(TokenKind::Activate) => Ok(Command::Definition(Definition::ActivateRule(rule_behind(
             tokens,
             TokenKind::Activate,
-        )?)),
-        Some(TokenKind::Deactivate) => Ok(Command::DeactivateRule(rule_behind(
-            tokens,
-            TokenKind::Deactivate,
-        )?)),
-        Some(TokenKind::Process) => process(tokens),
-        Some(TokenKind::Select) => Ok(Command::Query(whole_query(alloc, tokens)?)),
-        _ => Ok(Command::Change(change(alloc, tokens)?)),
+        )?))),
+        Some(TokenKind::Deactivate) => Ok(Command::Definition(Definition::DeactivateRule(
+            rule_behind(tokens, TokenKind::Deactivate)?,
+        ))),
+        Some(TokenKind::Process) => Ok(Command::InTransaction(process(tokens)?)),
+        Some(TokenKind::Select) => Ok(Command::InTransaction(TransactionCommand::Query(whole_query(
+            alloc, tokens,
+        )?))),
+        _ => Ok(Command::InTransaction(TransactionCommand::Change(change(alloc, tokens)?))),
     }
 }
 

@@ -24,6 +24,6 @@ pub use token::{
 };
 pub use tree::{
     Action, AlterationText, Arithmetic, Assignment, ColumnReference, Command, Comparison,
-    Condition, Expression, Items, Operand, Query, RuleText, SourceReference, Statement,
-    TableReference, Trigger,
+    Condition, Definition, Expression, Items, Operand, Query, RuleText, SourceReference, Statement,
+    TableReference, TransactionCommand, Trigger,
 };

@@ -13,7 +13,7 @@ use crate::command::command;
 use crate::cursor::{Cursor, Token};
 use crate::error::{Fault, ParseError};
 use crate::lexer::token;
-use crate::tree::Command;
+use crate::tree::{Command, TransactionCommand};
 use std::alloc::Global;
 
 /// Cuts the text into tokens.
@@ -69,7 +69,9 @@ fn one_word(text: &[u8]) -> Option<Command>
 {
     match text {
         [b'b', b'e', b'g', b'i', b'n'] => Some(Command::Begin),
-        [b'c', b'o', b'm', b'm', b'i', b't'] => Some(Command::Commit),
+        [b'c', b'o', b'm', b'm', b'i', b't'] => Some(Command::InTransaction(
+            TransactionCommand::Commit,
+        )),
         _ => None,
     }
 }

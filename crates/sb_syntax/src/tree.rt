@@ -288,14 +288,15 @@ pub enum Command {
     OpenSession,
     EndSession,
     Begin,
-    Commit,
-    Rollback,
-    /// An assertion point: all rules are processed.
-    ProcessRules,
-    /// An assertion point of a ruleset's rules.
-    ProcessRuleset(Name),
-    /// An assertion point of one rule.
-    ProcessRule(Name),
+    /// It defines what has a name, while no transaction is under way.
+    Definition(Definition),
+    /// It works in its session's transaction.
+    InTransaction(TransactionCommand),
+}
+
+/// A command that defines a table, a rule or a ruleset.
+#[derive(Drop)]
+pub enum Definition {
     CreateTable(Name, Vec<ColumnDefinition>),
     DropTable(Name),
     CreateRule(Box<RuleText>),
@@ -309,6 +310,19 @@ pub enum Command {
     AddRules(Name, Vec<Name>),
     /// Rules out of a ruleset.
     DelRules(Name, Vec<Name>),
+}
+
+/// A command of a transaction.
+#[derive(Drop)]
+pub enum TransactionCommand {
+    Commit,
+    Rollback,
+    /// An assertion point: all rules are processed.
+    ProcessRules,
+    /// An assertion point of a ruleset's rules.
+    ProcessRuleset(Name),
+    /// An assertion point of one rule.
+    ProcessRule(Name),
     Query(Box<Query>),
     Change(Statement),
 }

@@ -32,18 +32,6 @@ use Rattle.sb_tenant.proofs.Leaving.{below_more}
 
 -- ---- commands
 
-pub only_opens : (c : Command) → class_of c ≡ opens → c ≡ text.open_session
-only_opens text.open_session h = refl
-only_opens c h = absurd (cc h)
-
-pub only_ends : (c : Command) → class_of c ≡ ends → c ≡ text.end_session
-only_ends text.end_session h = refl
-only_ends c h = absurd (cc h)
-
-pub only_begins : (c : Command) → class_of c ≡ begins → c ≡ text.begin
-only_begins text.begin h = refl
-only_begins c h = absurd (cc h)
-
 -- the grammar gives a rule 8 actions at most
 few_in_body : {q : Option text.Query} {actions : List text.Action} {before after : List text.Name} {ts rest : Input} → grammar.IsRuleBody q actions before after ts rest → length actions ≤ 8
 few_in_body (grammar.rule_body i t s few b a) = few

@@ -14,7 +14,7 @@ ghost use Rattle.sb_tenant.specs.Step.{reply_to, reply_to_command};
 ghost use Rattle.sb_tenant.specs.Trail.{aborted};
 
 use crate::asker::Asker;
-use crate::class::{Class, class_of};
+use crate::class::class_of;
 use crate::reply::Reply;
 use crate::store::{Replies, Store};
 use sb_index::RuleIndex;
@@ -157,21 +157,21 @@ impl Store {
             Some(refusal) => return refused(refusal),
             None => {}
         }
-        match class {
-            Class::Opens => {
+        match command {
+            Command::OpenSession => {
                 self.open(asker.session);
                 done()
             }
-            Class::Ends => {
+            Command::EndSession => {
                 self.end(log, asker.session);
                 done()
             }
-            Class::Begins => {
+            Command::Begin => {
                 self.begin(asker.session);
                 done()
             }
-            Class::Defines => replied(self.define(alloc, index, command)),
-            Class::Works => self.work(alloc, log, index, asker, command),
+            Command::Definition(definition) => replied(self.define(alloc, index, definition)),
+            Command::InTransaction(command) => self.work(alloc, log, index, asker, command),
         }
     }
 }

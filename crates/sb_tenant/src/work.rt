@@ -6,10 +6,9 @@ ghost use Rattle.sb_syntax.specs.Tree as text;
 ghost use Rattle.sb_syntax.specs.Views as view;
 ghost use Rattle.sb_tenant.specs.declared.phase.Phase.TheVariants as phase;
 ghost use Rattle.sb_tenant.specs.Represents.{EachState, StandForSome, Leaves, Performs, StandFor, phase_at};
-ghost use Rattle.sb_tenant.specs.Resolved.{works};
 ghost use Rattle.sb_tenant.specs.State.{State};
 ghost use Rattle.sb_tenant.specs.Step.{outcome_of};
-ghost use Rattle.sb_tenant.specs.Walk.{class_of, walk};
+ghost use Rattle.sb_tenant.specs.Walk.{walk};
 
 use crate::answer::{done, refused};
 use crate::asker::Asker;
@@ -19,7 +18,7 @@ use crate::store::{Ending, Replies, Store};
 use sb_check::{resolve_query, resolve_statement, resolved_tables_are_there, walks_see_columns};
 use sb_index::RuleIndex;
 use sb_rawlog::ChangeLog;
-use sb_syntax::{Command, Query, Statement};
+use sb_syntax::{Query, Statement, TransactionCommand};
 use sb_value::{Refusal, SessionId};
 use std::alloc::Global;
 
@@ -32,9 +31,8 @@ impl Store {
         log: &mut L,
         index: &RuleIndex,
         asker: &Asker,
-        command: Command,
+        command: TransactionCommand,
     ) -> Replies
-        requires class { class_of (view.command command) ≡ works }
         requires stand { (state : State) × StandFor self.old (L.records log.old) (L.clock log.old) index.now state }
         requires active { phase_at self.old.phases asker.now.session ≡ phase.Active }
         requires bound { asker.now.bound ≤ 1000 }
@@ -43,48 +41,43 @@ impl Store {
         ensures performed { EachState self.old (L.records log.old) (L.clock log.old) index.now
             (λ state. Performs self.new (L.records log.new) (L.clock log.new) index.now state asker.now.session
             (outcome_of self.old.database.id asker.now.bound state asker.now.session None
-            (walk state.catalog (view.command command))) result.0) }
+            (walk state.catalog (view.transaction_command command))) result.0) }
         ensures twice { result.1 ≡ result.0 }
         ensures leaves { Leaves 32768000 self.old self.new asker.now.session
             (L.records log.old) (L.records log.new) (L.clock log.old) (L.clock log.new) }
     {
         match command {
-            Command::Commit => {
+            TransactionCommand::Commit => {
                 let eligible = self.definitions.active();
                 self.process(alloc, log, index, asker, eligible, Finish::Commit)
             }
-            Command::Rollback => {
+            TransactionCommand::Rollback => {
                 self.conclude(log, asker.session, Ending::TakeBack);
                 done()
             }
-            Command::ProcessRules => {
+            TransactionCommand::ProcessRules => {
                 let eligible = self.definitions.active();
                 self.process(alloc, log, index, asker, eligible, Finish::GoOn)
             }
-            Command::ProcessRuleset(name) => match self.definitions.active_members(&name) {
+            TransactionCommand::ProcessRuleset(name) => match self
+                .definitions
+                .active_members(&name)
+            {
                 Some(eligible) => self.process(alloc, log, index, asker, eligible, Finish::GoOn),
                 None => refused(Refusal::NoRuleset),
             },
-            Command::ProcessRule(name) => match self.definitions.active_rule(&name) {
+            TransactionCommand::ProcessRule(name) => match self.definitions.active_rule(&name) {
                 Some(eligible) => self.process(alloc, log, index, asker, eligible, Finish::GoOn),
                 None => refused(Refusal::NoRule),
             },
-            Command::Query(query) => self.query(alloc, log, asker.session, &query),
-            Command::Change(change) => self.write(alloc, log, index, asker.session, &change),
-            Command::OpenSession
-            | Command::EndSession
-            | Command::Begin
-            | Command::CreateTable(_, _)
-            | Command::DropTable(_)
-            | Command::CreateRule(_)
-            | Command::AlterRule(_)
-            | Command::DropRule(_)
-            | Command::ActivateRule(_)
-            | Command::DeactivateRule(_)
-            | Command::CreateRuleset(_)
-            | Command::DropRuleset(_)
-            | Command::AddRules(_, _)
-            | Command::DelRules(_, _) => unreachable!(),
+            TransactionCommand::Query(query) => self.query(alloc, log, asker.session, &query),
+            TransactionCommand::Change(change) => self.write(
+                alloc,
+                log,
+                index,
+                asker.session,
+                &change,
+            ),
         }
     }
 

@@ -1,16 +1,16 @@
 use Rattle.std.proofs.Common.{◌≡◌, List, ℕ, Result, sym, subst}
 use Rattle.sb_index.specs.TableSets.{TableSets}
 use Rattle.sb_syntax.specs.Tree as text
-use Rattle.sb_syntax.specs.Views.{alteration, command as tree_of}
+use Rattle.sb_syntax.specs.Views.{alteration, definition as tree_of}
 use Rattle.sb_syntax.specs.declared.tree.AlterationText.{AlterationText}
-use Rattle.sb_syntax.specs.declared.tree.Command.{Command}
+use Rattle.sb_syntax.specs.declared.tree.Definition.{Definition}
 use Rattle.sb_value.specs.declared.refusal.Refusal.{Refusal}
 use Rattle.sb_tenant.specs.declared.store.Store.{Store}
 use Rattle.sb_tenant.specs.Defining.{Defines}
 use Rattle.sb_tenant.proofs.store.Store.define.Goals as goal
 
 -- the command is this one
-defines-as : {old new : Store} {before after : List (List TableSets)} {command form : Command} {result : Result (Unit {0}) Refusal} → command ≡ form → Defines old new before after (tree_of form) result → Defines old new before after (tree_of command) result
+defines-as : {old new : Store} {before after : List (List TableSets)} {command form : Definition} {result : Result (Unit {0}) Refusal} → command ≡ form → Defines old new before after (tree_of form) result → Defines old new before after (tree_of command) result
 defines-as {old} {new} {before} {after} {command} {form} {result} is done = subst (λ x. Defines old new before after (tree_of x) result) (sym is) done
 
 pub returns-in-CreateTable : goal.returns-in-CreateTable

@@ -23,12 +23,12 @@ use Rattle.sb_tenant.proofs.store.Store.work.Goals as goal
 
 pub returns-in-Commit-clause-performed : goal.returns-in-Commit-clause-performed
 returns-in-Commit-clause-performed g c = λ state h.
-    performs_command state c.args.self.now.database.id c.args.asker.now.bound c.args.asker.now.session (ap view.command c.in-Commit.is)
+    performs_command state c.args.self.now.database.id c.args.asker.now.bound c.args.asker.now.session (ap view.transaction_command c.in-Commit.is)
     (c.process.ensures.performed state h (is_active state.catalog.rules) (λ id. c.active-eligible.ensures id ∙ ap (λ (rs : List Rule). is_active rs id) h.0.1.rules))
 
 pub returns-in-Rollback-clause-performed : goal.returns-in-Rollback-clause-performed
 returns-in-Rollback-clause-performed g c = λ state h.
-    performs_command state c.args.self.now.database.id c.args.asker.now.bound c.args.asker.now.session (ap view.command c.in-Rollback.is)
+    performs_command state c.args.self.now.database.id c.args.asker.now.bound c.args.asker.now.session (ap view.transaction_command c.in-Rollback.is)
     (inl (ap (λ (r : Reply × Reply). r.0) c.done.ensures, c.conclude.ensures.concluded c.args.index.now state h))
 
 pub returns-in-Rollback-clause-leaves : goal.returns-in-Rollback-clause-leaves
@@ -36,12 +36,12 @@ returns-in-Rollback-clause-leaves g c = leaves_more c.conclude.ensures.leaves (o
 
 pub returns-in-ProcessRules-clause-performed : goal.returns-in-ProcessRules-clause-performed
 returns-in-ProcessRules-clause-performed g c = λ state h.
-    performs_command state c.args.self.now.database.id c.args.asker.now.bound c.args.asker.now.session (ap view.command c.in-ProcessRules.is)
+    performs_command state c.args.self.now.database.id c.args.asker.now.bound c.args.asker.now.session (ap view.transaction_command c.in-ProcessRules.is)
     (c.process-in-ProcessRules.ensures.performed state h (is_active state.catalog.rules) (λ id. c.active-eligible-in-ProcessRules.ensures id ∙ ap (λ (rs : List Rule). is_active rs id) h.0.1.rules))
 
 pub returns-in-Query-clause-performed : goal.returns-in-Query-clause-performed
 returns-in-Query-clause-performed g c = λ state h.
-    performs_command state c.args.self.now.database.id c.args.asker.now.bound c.args.asker.now.session (ap view.command c.in-Query.is)
+    performs_command state c.args.self.now.database.id c.args.asker.now.bound c.args.asker.now.session (ap view.transaction_command c.in-Query.is)
     (subst (λ q. Performs c.query.new.self (g.L.ChangeLog.records c.query.new.log) (g.L.ChangeLog.clock c.query.new.log) c.args.index.now state c.args.asker.now.session (outcome_of c.args.self.now.database.id c.args.asker.now.bound state c.args.asker.now.session None (walk state.catalog (text.query (view.query q)))) c.query.result.0) c.deref.ensures (c.query.ensures.performed c.args.index.now state h c.args.asker.now.bound))
 
 pub returns-in-Query-clause-leaves : goal.returns-in-Query-clause-leaves
@@ -49,7 +49,7 @@ returns-in-Query-clause-leaves g c = leaves_more c.query.ensures.leaves (omega a
 
 pub returns-in-Change-clause-performed : goal.returns-in-Change-clause-performed
 returns-in-Change-clause-performed g c = λ state h.
-    performs_command state c.args.self.now.database.id c.args.asker.now.bound c.args.asker.now.session (ap view.command c.in-Change.is)
+    performs_command state c.args.self.now.database.id c.args.asker.now.bound c.args.asker.now.session (ap view.transaction_command c.in-Change.is)
     (c.write.ensures.performed state h c.args.asker.now.bound)
 
 pub returns-in-Change-clause-leaves : goal.returns-in-Change-clause-leaves
@@ -61,7 +61,7 @@ returns-in-None-clause-leaves g c = leaves_same 32768000 refl refl
 pub returns-in-Some-clause-performed : goal.returns-in-Some-clause-performed
 returns-in-Some-clause-performed g c = λ state h.
     let name = c.in-ProcessRuleset.name in
-    performs_command state c.args.self.now.database.id c.args.asker.now.bound c.args.asker.now.session (ap view.command c.in-ProcessRuleset.is)
+    performs_command state c.args.self.now.database.id c.args.asker.now.bound c.args.asker.now.session (ap view.transaction_command c.in-ProcessRuleset.is)
     (performs_as c.process-in-Some.new.self (g.L.ChangeLog.records c.process-in-Some.new.log) (g.L.ChangeLog.clock c.process-in-Some.new.log) c.args.index.now state c.args.self.now.database.id c.args.asker.now.bound c.args.asker.now.session (walk state.catalog (text.process_ruleset name)) (Ok (process_ruleset name)) c.process-in-Some.result.0
     (ap (λ b. required b refusal.NoRuleset (Ok (process_ruleset name))) (ap (λ (sets : List Ruleset). has_name sets name) (sym h.0.1.rulesets) ∙ c.in-Some.ensures.known))
     (c.process-in-Some.ensures.performed state h (λ id. is_active state.catalog.rules id && is_member state.catalog.rulesets name id)
@@ -71,7 +71,7 @@ pub returns-in-Some-active_rule-clause-performed : goal.returns-in-Some-active_r
 returns-in-Some-active_rule-clause-performed g c = λ state h.
     let name = c.in-ProcessRule.name in
     let found : (r : ℕ) × (rule_named c.args.self.now.definitions.rules name ≡ Ok r) × ((id : ℕ) → flag_at c.in-Some-active_rule.eligible id ≡ (nat_eq id r && is_active c.args.self.now.definitions.rules id)) = c.in-Some-active_rule.ensures in
-    performs_command state c.args.self.now.database.id c.args.asker.now.bound c.args.asker.now.session (ap view.command c.in-ProcessRule.is)
+    performs_command state c.args.self.now.database.id c.args.asker.now.bound c.args.asker.now.session (ap view.transaction_command c.in-ProcessRule.is)
     (performs_as c.process-in-Some-active_rule.new.self (g.L.ChangeLog.records c.process-in-Some-active_rule.new.log) (g.L.ChangeLog.clock c.process-in-Some-active_rule.new.log) c.args.index.now state c.args.self.now.database.id c.args.asker.now.bound c.args.asker.now.session (walk state.catalog (text.process_rule name)) (Ok (process_rule found.0)) c.process-in-Some-active_rule.result.0
     (ap (λ (o : Result ℕ Refusal). and_then o (λ id. Ok (process_rule id))) (ap (λ (rs : List Rule). rule_named rs name) (sym h.0.1.rules) ∙ found.1))
     (c.process-in-Some-active_rule.ensures.performed state h (λ id. nat_eq id found.0 && is_active state.catalog.rules id)
@@ -81,7 +81,7 @@ pub returns-in-None-active_rule-clause-performed : goal.returns-in-None-active_r
 returns-in-None-active_rule-clause-performed g c = λ state h.
     let name = c.in-ProcessRule.name in
     let none : rule_named c.args.self.now.definitions.rules name ≡ Err refusal.NoRule = c.in-None-active_rule.ensures in
-    performs_command state c.args.self.now.database.id c.args.asker.now.bound c.args.asker.now.session (ap view.command c.in-ProcessRule.is)
+    performs_command state c.args.self.now.database.id c.args.asker.now.bound c.args.asker.now.session (ap view.transaction_command c.in-ProcessRule.is)
     (performs_as c.args.self.now (g.L.ChangeLog.records c.args.log.now) (g.L.ChangeLog.clock c.args.log.now) c.args.index.now state c.args.self.now.database.id c.args.asker.now.bound c.args.asker.now.session (walk state.catalog (text.process_rule name)) (Err refusal.NoRule) c.refused-in-None-active_rule.result.0
     (ap (λ (o : Result ℕ Refusal). and_then o (λ id. Ok (process_rule id))) (ap (λ (rs : List Rule). rule_named rs name) (sym h.0.1.rules) ∙ none))
     (inl (ap (λ (r : Reply × Reply). r.0) c.refused-in-None-active_rule.ensures, h)))
