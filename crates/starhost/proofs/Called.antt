@@ -5,7 +5,7 @@ use Rattle.std.proofs.lemmas.List.Elements.{All-append, All-cons, All-nil}
 use Rattle.std.specs.Prelude.{IfSome, ⊤, option_to_list}
 use Rattle.sb_tenant.specs.declared.reply.Answer.{Answer}
 use Rattle.sb_tenant.specs.declared.reply.Reply.TheVariants as told
-use Rattle.sb_host.specs.Desk.{AnswersOnce, Calls, IsNumbered, LeavesStub, Receipt, Session, Stub, list_by, pending_connection, numbered, receipt, shown}
+use Rattle.sb_host.specs.Desk.{AnswersOnce, Calls, IsNumbered, LeavesStub, Receipt, Session, Stub, list_by, newcomer, numbered, receipt, shown}
 use Rattle.starhost.specs.Calls.{AreTakenBy, IsPlayedIn, LeaveAll, LeavesFor, TakesCall, TakesCalls}
 use Rattle.starhost.specs.LoadedCells.{IsTaken, TakesEach}
 
@@ -75,7 +75,7 @@ each_called (own ∷ more) old new (mid, taken, behind) =
 
 -- ---- a closed session
 
-pub closed_played : (t n : ℕ) (old new : Session) (lines : List (List ℕ)) (stub : Stub) → old ≡ shown (pending_connection t 0 n) → TakesCalls lines old new → new.ended ≡ false
+pub closed_played : (t n : ℕ) (old new : Session) (lines : List (List ℕ)) (stub : Stub) → old ≡ shown (newcomer t 0 n) → TakesCalls lines old new → new.ended ≡ false
     → LeavesStub new stub → IsPlayedIn t lines stub
 closed_played t n old new lines stub opened calls going leaves =
     let left = leaves.3 going in
