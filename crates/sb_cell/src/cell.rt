@@ -4,7 +4,7 @@ ghost use Rattle.std.specs.Prelude.{◌≡◌, ◌≤◌, ◌<◌, ◌+◌, ◌*
 ghost use Rattle.sb_tenant.specs.declared.reply.Reply.TheVariants as told;
 ghost use Rattle.sb_tenant.specs.Limits.{entry_limit, trail_limit};
 ghost use Rattle.sb_tenant.specs.Tenant.{Tenant as ItsTenant};
-ghost use Rattle.sb_tenant.specs.State.{session_at, is_open as session_is_open, table_seen};
+ghost use Rattle.sb_tenant.specs.State.{session_at, is_open as session_is_open, has_transaction as session_has_transaction, table_seen};
 ghost use Rattle.sb_cell.specs.Headline.{IsRun, RunsInTurn, RunsAlone};
 ghost use Rattle.sb_cell.specs.Hosting.{AreFresh, ArePlacesBelow, entry_count};
 ghost use Rattle.sb_cell.specs.Memory.{HoldsTransactions, HoldsRules, AreInStep};
@@ -262,6 +262,14 @@ impl Cell {
         ensures { result ≡ session_is_open (session_at (states self.now tenant) session) }
     {
         self.tenants[(tenant / self.stride) as usize].is_open(session)
+    }
+
+    /// Whether a tenant's session has a transaction.
+    pub fn has_transaction(&self, tenant: u32, session: SessionId) -> bool
+        requires { hosts self.now tenant ≡ true }
+        ensures { result ≡ session_has_transaction (session_at (states self.now tenant) session) }
+    {
+        self.tenants[(tenant / self.stride) as usize].has_transaction(session)
     }
 
     /// Whether a tenant's trail has no place but for the ends of open sessions.

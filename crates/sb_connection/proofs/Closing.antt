@@ -18,7 +18,7 @@ end_closes = refl
 ending : (e : Exchange) → IsCall e → ends e ≡ true → (r : Receipt) × (receipt_of e ≡ r ∷ []) × (closes r.line r.answer.reply ≡ true)
 ending overlong call ended = absurd (false≢true ended)
 ending (unbegun line) call ended = absurd (false≢true ended)
-ending (answered line answer) numbered ended = by_number answer.number refl
+ending (answered line answer has) numbered ended = by_number answer.number refl
   where
     by_number : (n : Option ℕ) → answer.number ≡ n → (r : Receipt) × (list_by n [] line answer ≡ r ∷ []) × (closes r.line r.answer.reply ≡ true)
     by_number (Some n) is = (receipt line answer, refl, ended)

@@ -7,6 +7,7 @@ use Rattle.std.proofs.lemmas.List.{drop-append-le, length-drop, take-append-drop
 use Rattle.std.proofs.Math.Seq.{drop-append_seam, drop-length}
 use Rattle.sb_wire.specs.Lines.{Completes, Piece, complete_pieces, last_piece, line, open_line, piece_of}
 use Rattle.sb_wire.specs.Responses.{AreAnswered}
+use Rattle.sb_desk.specs.Calls.{Session}
 use Rattle.sb_connection.specs.declared.state.State.TheVariants.{Open, Answered, Over, Failed}
 use Rattle.sb_connection.specs.declared.state.State as stands
 use Rattle.sb_connection.specs.Conversation.{Hosted, named_by, welcome}
@@ -14,7 +15,7 @@ use Rattle.sb_connection.specs.Exchanges.{said_text}
 use Rattle.sb_connection.specs.History.{AreAll, AreComplete, AreFirstLines, History, IsSessionOf, IsSettled, MayReceive, Stands, Tells, Transacts, after_end, after_receiving, after_sending, nothing_yet}
 use Rattle.sb_connection.specs.ProtocolState.{Adds, AddsLast, Answers, Finishes, Holds, IsNamedBy, Steps, Talking, ended, last_state, named_after, named_first, naming}
 use Rattle.sb_connection.specs.Policies.{Admits}
-use Rattle.sb_connection.specs.Responses.{Opened, Greets, Responds, RespondsBy, State, over}
+use Rattle.sb_connection.specs.Responses.{Greets, Responds, RespondsBy, State, over}
 use Rattle.sb_connection.specs.declared.first_line.SessionName.{SessionName}
 use Rattle.sb_connection.specs.Admission.{BringsKey}
 use Rattle.sb_connection.specs.Standing.{is_open}
@@ -114,7 +115,7 @@ module _ (admits : Admits) (k : Talking) (holds : Holds admits k) where
       }
 
   -- whether it has a transaction
-  pub transacting_now : h.attached ≡ true → (has : Bool) → has ≡ option_map_or (λ (o : Opened). o.transacts) k.talk.0 false → Transacts h has
+  pub transacting_now : h.attached ≡ true → (has : Bool) → has ≡ option_map_or (λ (o : Session). o.has_transaction) k.talk.0 false → Transacts h has
   transacting_now attached has is =
       let one = some_from k.talk.0 (sym holds.attached ∙ attached) in
       let said = transacting admits h.hosted holds.pieces holds.text k.talk one.0 holds.answered one.1 in record {
@@ -122,7 +123,7 @@ module _ (admits : Admits) (k : Talking) (holds : Holds admits k) where
         exchanges = said.1;
         over = over k.talk;
         tells = subst (λ (ps : List Piece). Tells h ps (welcome ++ flat_map said_text said.1) (over k.talk)) said.2 (subst (λ (t : List ℕ). Tells h holds.pieces t (over k.talk)) said.3 holds.tells);
-        is = is ∙ ap (λ (s : Option Opened). option_map_or (λ (o : Opened). o.transacts) s false) one.1 ∙ said.4;
+        is = is ∙ ap (λ (s : Option Session). option_map_or (λ (o : Session). o.has_transaction) s false) one.1 ∙ said.4;
       }
 
   -- ---- from outside
@@ -176,13 +177,13 @@ module _ (admits : Admits) (k : Talking) (holds : Holds admits k) where
             holds.named ∙ ap (λ (qs : List Piece). named_first h.hosted.keyed qs) (sym (append-nil holds.pieces))
         names_new (p ∷ ps) none = ap (λ (qs : List Piece). named_first h.hosted.keyed (qs ++ p ∷ ps)) (sym none)
 
-        names_old : (s : Opened) (qs ps : List Piece) → k.talk.0 ≡ Some s → holds.pieces ≡ qs → h.named ≡ named_first h.hosted.keyed (qs ++ ps)
+        names_old : (s : Session) (qs ps : List Piece) → k.talk.0 ≡ Some s → holds.pieces ≡ qs → h.named ≡ named_first h.hosted.keyed (qs ++ ps)
         names_old s [] ps is none =
             let said = subst (λ (qs : List Piece). AreSaid admits h.hosted (None, false) qs holds.text k.talk) none holds.answered in
             absurd (let e : None ≡ Some s = ap (λ (x : State). x.0) (sym said.1) ∙ is in cc)
         names_old s (q ∷ qs) ps is some = holds.named ∙ ap (λ (rs : List Piece). named_first h.hosted.keyed rs) some
 
-        names_by : (o : Option Opened) → k.talk.0 ≡ o → (ps : List Piece) → named_after o h.hosted.keyed h.named ps ≡ named_first h.hosted.keyed (holds.pieces ++ ps)
+        names_by : (o : Option Session) → k.talk.0 ≡ o → (ps : List Piece) → named_after o h.hosted.keyed h.named ps ≡ named_first h.hosted.keyed (holds.pieces ++ ps)
         names_by None is ps = names_new ps (none_before admits h.hosted holds.pieces holds.text k.talk holds.answered is standing.2)
         names_by (Some s) is ps = names_old s holds.pieces ps is refl
 
@@ -316,10 +317,10 @@ module _ (admits : Admits) (k : Talking) (holds : Holds admits k) where
       brings keyed before after =
           let none : k.talk.0 ≡ None = none_from k.talk.0 (sym holds.attached ∙ before) in
           let alone : holds.pieces ≡ [] = none_before admits h.hosted holds.pieces holds.text k.talk holds.answered none standing.2 in
-          let greets : Greets admits h.hosted p a.text new.talk.0 new.talk.1 = subst (λ (s : Option Opened). RespondsBy admits h.hosted s p a.text new.talk) none a.responds in
+          let greets : Greets admits h.hosted p a.text new.talk.0 new.talk.1 = subst (λ (s : Option Session). RespondsBy admits h.hosted s p a.text new.talk) none a.responds in
           let one = some_from new.talk.0 (sym a.attached ∙ after) in
           let handshake = admitted admits h.hosted p a.text one.0 new.talk.1 (ap (λ (n : Hosted). n.keyed) (sym a.streams.0) ∙ keyed)
-          (subst (λ (s : Option Opened). Greets admits h.hosted p a.text s new.talk.1) one.1 greets) in record {
+          (subst (λ (s : Option Session). Greets admits h.hosted p a.text s new.talk.1) one.1 greets) in record {
             first = p;
             begins = inl (taken ++ fed, new.history.waiting, new_split, sym complete ∙ ap (λ (ps : List Piece). ps ++ p ∷ []) alone);
             handshake = handshake.0;
@@ -374,7 +375,7 @@ module _ (admits : Admits) (k : Talking) (holds : Holds admits k) where
           closed : k.talk.0 ≡ None
           closed = none_from k.talk.0 (sym holds.attached ∙ before)
 
-          one : (s : Opened) × (new.talk.0 ≡ Some s)
+          one : (s : Session) × (new.talk.0 ≡ Some s)
           one = some_from new.talk.0 (sym a.attached ∙ after)
 
           alone : holds.pieces ≡ []
@@ -388,9 +389,9 @@ module _ (admits : Admits) (k : Talking) (holds : Holds admits k) where
               let are = subst (λ (ps : List Piece). AreAnswered (Responds admits h.hosted) over k.talk ps a.text new.talk) is a.answered in
               let mid = are.2 in
               let now : mid ≡ new.talk = sym are.6.1 in
-              let greets : Greets admits h.hosted k.opened are.0 mid.0 mid.1 = subst (λ (s : Option Opened). RespondsBy admits h.hosted s k.opened are.0 mid) closed are.5 in
+              let greets : Greets admits h.hosted k.opened are.0 mid.0 mid.1 = subst (λ (s : Option Session). RespondsBy admits h.hosted s k.opened are.0 mid) closed are.5 in
               let handshake = admitted admits h.hosted k.opened are.0 one.0 mid.1 (ap (λ (n : Hosted). n.keyed) (sym a.streams.0) ∙ keyed)
-              (subst (λ (s : Option Opened). Greets admits h.hosted k.opened are.0 s mid.1) (ap (λ (x : State). x.0) now ∙ one.1) greets) in record {
+              (subst (λ (s : Option Session). Greets admits h.hosted k.opened are.0 s mid.1) (ap (λ (x : State). x.0) now ∙ one.1) greets) in record {
                 first = k.opened;
                 begins = inr (a.streams.1 ∙ at_end, ap complete_pieces same_bytes ∙ sym standing.0 ∙ alone, holds.is_open ∙ ap (λ (t : List ℕ). piece_of (open_line t)) (sym same_bytes));
                 handshake = handshake.0;

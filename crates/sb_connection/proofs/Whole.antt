@@ -12,10 +12,9 @@ use Rattle.sb_desk.specs.Calls.{Attached, Session}
 use Rattle.sb_desk.specs.declared.stub.Stub.{Stub}
 use Rattle.sb_connection.specs.Conversation.{Hosted, IsAdmitted, Talks, TurnsAway, TurnsAwayFrom, TurnsAwayLine, TurnsAwayVisitor, KeyHandshake, attach_lines, named_by, named_in, named_of, tenant_at, visitor_in, visitor_of, welcome}
 use Rattle.sb_connection.specs.declared.first_line.SessionName.{SessionName}
-use Rattle.sb_connection.specs.Exchanges.{Exchange, IsClosed, has_ended, line_in, receipts_of, said_text}
-use Rattle.sb_connection.specs.Transactions.{transacts_from}
+use Rattle.sb_connection.specs.Exchanges.{Exchange, IsClosed, has_ended, line_in, receipts_of, said_text, transacts_from}
 use Rattle.sb_connection.specs.Policies.{Admits}
-use Rattle.sb_connection.specs.Responses.{Opened, Greets, GreetsBy, GreetsLine, GreetsVisitor, LeavesSome, Responds, State, is_over, over}
+use Rattle.sb_connection.specs.Responses.{Greets, GreetsBy, GreetsLine, GreetsVisitor, LeavesSome, Responds, State, is_over, over}
 use Rattle.sb_connection.proofs.Closing.{left_receipts}
 use Rattle.sb_connection.proofs.Talks.{MovesBy, calls}
 
@@ -43,33 +42,33 @@ module _ (admits : Admits) (hosted : Hosted) where
   turned (line bytes) text away greets = turned_line hosted.keyed bytes text away greets
 
   -- the session that was opened
-  abbrev Opens : Option SessionName → List ℕ → Opened → Type 0
-  Opens named text s = (n : SessionName) × (named ≡ Some n) × Attached hosted.tenants (tenant_at hosted n.tenant) n.session (Ok s.session) × (text ≡ welcome) × (s.transacts ≡ false)
+  abbrev Opens : Option SessionName → List ℕ → Session → Type 0
+  Opens named text s = (n : SessionName) × (named ≡ Some n) × Attached hosted.tenants (tenant_at hosted n.tenant) n.session (Ok s) × (text ≡ welcome) × (s.has_transaction ≡ false)
 
-  opened_by : (named : Option SessionName) (text : List ℕ) (s : Opened) (away : Bool) → GreetsBy hosted named text (Some s) away → Opens named text s
+  opened_by : (named : Option SessionName) (text : List ℕ) (s : Session) (away : Bool) → GreetsBy hosted named text (Some s) away → Opens named text s
   opened_by None text s away (none, is_away, is) = absurd cc
-  opened_by (Some n) text s away (attached, is, fresh) = (n, refl, attached, is, fresh)
+  opened_by (Some n) text s away (attached, is) = (n, refl, attached, is, ap (λ (x : Session). x.has_transaction) attached.2.1)
 
-  opened_visitor : (handshake : Option KeyHandshake) (text : List ℕ) (s : Opened) (away : Bool) → GreetsVisitor admits hosted handshake text (Some s) away → Opens (option_map (λ (v : KeyHandshake). v.named) handshake) text s
+  opened_visitor : (handshake : Option KeyHandshake) (text : List ℕ) (s : Session) (away : Bool) → GreetsVisitor admits hosted handshake text (Some s) away → Opens (option_map (λ (v : KeyHandshake). v.named) handshake) text s
   opened_visitor None text s away (none, is_away, is) = absurd cc
   opened_visitor (Some v) text s away (inl (none, is_away, is)) = absurd cc
   opened_visitor (Some v) text s away (inr (admitted, greets)) = opened_by (Some v.named) text s away greets
 
-  opened_line : (keyed : Bool) (bytes text : List ℕ) (s : Opened) (away : Bool) → GreetsLine admits keyed hosted bytes text (Some s) away → Opens (named_in keyed bytes) text s
+  opened_line : (keyed : Bool) (bytes text : List ℕ) (s : Session) (away : Bool) → GreetsLine admits keyed hosted bytes text (Some s) away → Opens (named_in keyed bytes) text s
   opened_line false bytes text s away greets = opened_by (named_of bytes) text s away greets
   opened_line true bytes text s away greets = opened_visitor (visitor_of bytes) text s away greets
 
-  opened : (p : Piece) (text : List ℕ) (s : Opened) (away : Bool) → Greets admits hosted p text (Some s) away → Opens (named_by hosted.keyed p) text s
+  opened : (p : Piece) (text : List ℕ) (s : Session) (away : Bool) → Greets admits hosted p text (Some s) away → Opens (named_by hosted.keyed p) text s
   opened too_long text s away (none, is_away, is) = absurd cc
   opened (line bytes) text s away greets = opened_line hosted.keyed bytes text s away greets
 
   -- with keys, only to whom the key admits
-  admitted_visitor : (handshake : Option KeyHandshake) (text : List ℕ) (s : Opened) (away : Bool) → GreetsVisitor admits hosted handshake text (Some s) away → (v : KeyHandshake) × (handshake ≡ Some v) × admits v.named.tenant v.key
+  admitted_visitor : (handshake : Option KeyHandshake) (text : List ℕ) (s : Session) (away : Bool) → GreetsVisitor admits hosted handshake text (Some s) away → (v : KeyHandshake) × (handshake ≡ Some v) × admits v.named.tenant v.key
   admitted_visitor None text s away (none, is_away, is) = absurd cc
   admitted_visitor (Some v) text s away (inl (none, is_away, is)) = absurd cc
   admitted_visitor (Some v) text s away (inr (admitted, greets)) = (v, refl, admitted)
 
-  pub admitted : (p : Piece) (text : List ℕ) (s : Opened) (away : Bool) → hosted.keyed ≡ true → Greets admits hosted p text (Some s) away → (v : KeyHandshake) × (visitor_in p ≡ Some v) × admits v.named.tenant v.key
+  pub admitted : (p : Piece) (text : List ℕ) (s : Session) (away : Bool) → hosted.keyed ≡ true → Greets admits hosted p text (Some s) away → (v : KeyHandshake) × (visitor_in p ≡ Some v) × admits v.named.tenant v.key
   admitted too_long text s away keyed (none, is_away, is) = absurd cc
   admitted (line bytes) text s away keyed greets =
       admitted_visitor (visitor_of bytes) text s away (subst (λ (k : Bool). GreetsLine admits k hosted bytes text (Some s) away) keyed greets)
@@ -95,7 +94,7 @@ module _ (admits : Admits) (hosted : Hosted) where
   after_turning p (q ∷ ps) text first rest away new stub is greets (f, r, mid, same, going, own, later) leaves = absurd (false≢true (sym going ∙ (turned p first away greets).0))
 
   -- calls of the session that was opened
-  after_opening : (p : Piece) (ps : List Piece) (text first rest : List ℕ) (s : Opened) (away : Bool) (new : State) (stub : Stub) → text ≡ first ++ rest → Greets admits hosted p first (Some s) away
+  after_opening : (p : Piece) (ps : List Piece) (text first rest : List ℕ) (s : Session) (away : Bool) (new : State) (stub : Stub) → text ≡ first ++ rest → Greets admits hosted p first (Some s) away
       → (r : MovesBy s ps rest new) → LeavesSome (Some r.new) (Some stub) → Whole (p ∷ ps) text (Some stub) (over new)
   after_opening p ps text first rest s away new stub is greets r (of_tenant, of_session, same, more) =
       let o = opened p first s away greets in
@@ -103,7 +102,7 @@ module _ (admits : Admits) (hosted : Hosted) where
       let attached = o.2 in
       let fresh = attached.2 in
       let left =
-      left_receipts fresh.0 r.exchanges r.are_calls r.new.session.list stub.receipts.items (r.list ∙ ap (λ (x : Session). x.list ++ receipts_of r.exchanges) fresh.1) (has_ended r.exchanges) refl
+      left_receipts fresh.0 r.exchanges r.are_calls r.new.list stub.receipts.items (r.list ∙ ap (λ (x : Session). x.list ++ receipts_of r.exchanges) fresh.1) (has_ended r.exchanges) refl
       (λ e. same (r.ended ∙ e)) (λ e. more (r.ended ∙ e)) in (
         record {
           named = n;
@@ -116,18 +115,18 @@ module _ (admits : Admits) (hosted : Hosted) where
           text_is = is ∙ ap (λ (x : List ℕ). x ++ rest) o.3 ∙ ap (λ (x : List ℕ). welcome ++ x) r.text_is;
           stub_of = (of_tenant ∙ r.tenant ∙ ap (λ (x : Session). x.tenant) fresh.1, of_session ∙ r.session ∙ ap (λ (x : Session). x.session) fresh.1);
           receipts = left.0;
-          over_is = ap (λ (x : Option Opened). is_over x new.1) r.is ∙ r.ended;
+          over_is = ap (λ (x : Option Session). is_over x new.1) r.is ∙ r.ended;
         },
         left.1,
       )
 
-  first_line : (p : Piece) (ps : List Piece) (text first rest : List ℕ) (session : Option Opened) (away : Bool) (new : State) (stub : Option Stub) → text ≡ first ++ rest → Greets admits hosted p first session away
+  first_line : (p : Piece) (ps : List Piece) (text first rest : List ℕ) (session : Option Session) (away : Bool) (new : State) (stub : Option Stub) → text ≡ first ++ rest → Greets admits hosted p first session away
       → Answered (session, away) ps rest new → LeavesSome new.0 stub → Whole (p ∷ ps) text stub (over new)
   first_line p ps text first rest None away new stub is greets others leaves = after_turning p ps text first rest away new stub is greets others leaves
   first_line p ps text first rest (Some s) away new stub is greets others leaves =
-      let open_yet : s.session.ended ≡ false = ap (λ (x : Session). x.ended) (opened p first s away greets).2.2.1 in
+      let open_yet : s.ended ≡ false = ap (λ (x : Session). x.ended) (opened p first s away greets).2.2.1 in
       let r = calls admits hosted s away ps rest new open_yet others in
-      by_stub stub r (subst (λ (x : Option Opened). LeavesSome x stub) r.is leaves)
+      by_stub stub r (subst (λ (x : Option Session). LeavesSome x stub) r.is leaves)
     where
       by_stub : (k : Option Stub) (r : MovesBy s ps rest new) → LeavesSome (Some r.new) k → Whole (p ∷ ps) text k (over new)
       by_stub None r left = absurd left
@@ -140,27 +139,27 @@ module _ (admits : Admits) (hosted : Hosted) where
   whole (p ∷ ps) text new stub (first, rest, mid, is, going, greets, others) leaves = first_line p ps text first rest mid.0 mid.1 new stub is greets others leaves
 
   -- whether the session has a transaction
-  pub transacting : (pieces : List Piece) (text : List ℕ) (new : State) (o : Opened) → Answered (None, false) pieces text new → new.0 ≡ Some o
-      → (first : Piece) × (es : List Exchange) × (pieces ≡ first ∷ map line_in es) × (text ≡ welcome ++ flat_map said_text es) × (o.transacts ≡ transacts_from false es)
+  pub transacting : (pieces : List Piece) (text : List ℕ) (new : State) (o : Session) → Answered (None, false) pieces text new → new.0 ≡ Some o
+      → (first : Piece) × (es : List Exchange) × (pieces ≡ first ∷ map line_in es) × (text ≡ welcome ++ flat_map said_text es) × (o.has_transaction ≡ transacts_from false es)
   transacting [] text new o (none, same) is = absurd (let e : None ≡ Some o = ap (λ (x : State). x.0) (sym same) ∙ is in cc)
   transacting (p ∷ ps) text new o (first, rest, mid, split, going, greets, others) is = by mid.0 refl
     where
-      by : (s : Option Opened) → mid.0 ≡ s → (q : Piece) × (es : List Exchange) × (p ∷ ps ≡ q ∷ map line_in es) × (text ≡ welcome ++ flat_map said_text es) × (o.transacts ≡ transacts_from false es)
+      by : (s : Option Session) → mid.0 ≡ s → (q : Piece) × (es : List Exchange) × (p ∷ ps ≡ q ∷ map line_in es) × (text ≡ welcome ++ flat_map said_text es) × (o.has_transaction ≡ transacts_from false es)
       by None none =
-          let away : Greets admits hosted p first None mid.1 = subst (λ (s : Option Opened). Greets admits hosted p first s mid.1) none greets in
+          let away : Greets admits hosted p first None mid.1 = subst (λ (s : Option Session). Greets admits hosted p first s mid.1) none greets in
           absurd (none_behind ps rest mid (turned p first mid.1 away).0 none others)
         where
           none_behind : (ps : List Piece) (rest : List ℕ) (old : State) → old.1 ≡ true → old.0 ≡ None → Answered old ps rest new → ⊥
           none_behind [] rest old away gone (none, same) = let e : None ≡ Some o = sym gone ∙ ap (λ (x : State). x.0) (sym same) ∙ is in absurd cc
           none_behind (q ∷ qs) rest old away gone (f, r, m, s, still, own, later) =
-              let closed : over old ≡ true = ap (λ (x : Option Opened). is_over x old.1) gone ∙ away in absurd (false≢true (sym still ∙ closed))
+              let closed : over old ≡ true = ap (λ (x : Option Session). is_over x old.1) gone ∙ away in absurd (false≢true (sym still ∙ closed))
       by (Some s) some =
-          let opens = opened p first s mid.1 (subst (λ (x : Option Opened). Greets admits hosted p first x mid.1) some greets) in
-          let r = calls admits hosted s mid.1 ps rest new (ap (λ (x : Session). x.ended) opens.2.2.1) (subst (λ (x : Option Opened). Answered (x, mid.1) ps rest new) some others) in
+          let opens = opened p first s mid.1 (subst (λ (x : Option Session). Greets admits hosted p first x mid.1) some greets) in
+          let r = calls admits hosted s mid.1 ps rest new (ap (λ (x : Session). x.ended) opens.2.2.1) (subst (λ (x : Option Session). Answered (x, mid.1) ps rest new) some others) in
           let same : r.new ≡ o = same_Some r.new o (sym r.is ∙ is) in (
             p,
             r.exchanges,
             ap (λ (qs : List Piece). p ∷ qs) r.lines_are,
             split ∙ ap (λ (x : List ℕ). x ++ rest) opens.3 ∙ ap (λ (x : List ℕ). welcome ++ x) r.text_is,
-            ap (λ (x : Opened). x.transacts) (sym same) ∙ r.transacts ∙ ap (λ (b : Bool). transacts_from b r.exchanges) opens.4,
+            ap (λ (x : Session). x.has_transaction) (sym same) ∙ r.transacts ∙ ap (λ (b : Bool). transacts_from b r.exchanges) opens.4,
           )

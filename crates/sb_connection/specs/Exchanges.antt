@@ -14,33 +14,46 @@ use Rattle.sb_desk.specs.declared.receipts.Receipt.{Receipt}
 use Rattle.sb_desk.specs.Receipts.{list_after, numbered, receipt}
 use Rattle.sb_desk.specs.Calls.{IsNumbered}
 
--- a line that is too long, one whose step isn't begun, or one that has an answer
+-- a line that is too long, one whose step isn't begun, or one that has an answer, behind which the session has a transaction or hasn't
 pub data Exchange : Type 0 where
   overlong : Exchange
   unbegun : List ℕ → Exchange
-  answered : List ℕ → Answer → Exchange
+  answered : List ℕ → Answer → Bool → Exchange
 
 abbrev pub line_in : Exchange → Piece
 line_in overlong = lines.too_long
 line_in (unbegun line) = lines.line line
-line_in (answered line answer) = lines.line line
+line_in (answered line answer has) = lines.line line
 
 -- ---- what is written
 
 abbrev pub said_lines : Exchange → List (List ℕ)
 said_lines overlong = refusal_line wire.TooLong ∷ []
 said_lines (unbegun line) = refusal_line wire.NotBegun ∷ []
-said_lines (answered line answer) = reply_lines answer.reply
+said_lines (answered line answer has) = reply_lines answer.reply
 
 -- each line of a reply stands alone
 abbrev pub said_text : Exchange → List ℕ
 said_text e = ended_lines (said_lines e)
 
+-- ---- the transaction
+
+-- whether the session has one behind an exchange: as its call tells; a line that was no step leaves it as it was
+abbrev pub transacts_behind : Bool → Exchange → Bool
+transacts_behind was overlong = was
+transacts_behind was (unbegun line) = was
+transacts_behind was (answered line answer has) = has
+
+-- behind one exchange after another
+abbrev pub transacts_from : Bool → List Exchange → Bool
+transacts_from was [] = was
+transacts_from was (e ∷ es) = transacts_from (transacts_behind was e) es
+
 -- ---- the end
 
 -- an `end` that is answered `ok`
 abbrev pub ends : Exchange → Bool
-ends (answered line answer) = closes line answer.reply
+ends (answered line answer has) = closes line answer.reply
 ends e = false
 
 abbrev pub has_ended : List Exchange → Bool
@@ -48,7 +61,7 @@ has_ended es = list_any ends es
 
 -- an answer has no number exactly where it says that the trail is full
 abbrev pub IsCall : Exchange → Type 0
-IsCall (answered line answer) = IsNumbered answer
+IsCall (answered line answer has) = IsNumbered answer
 IsCall e = ⊤
 
 -- the calls of one session: none comes behind its end
@@ -60,7 +73,7 @@ AreCalls (e ∷ es) = IsCall e × (ends e ≡ true → es ≡ []) × AreCalls es
 
 -- an answer with a number has a receipt
 abbrev pub receipt_of : Exchange → List Receipt
-receipt_of (answered line answer) = list_after [] line answer
+receipt_of (answered line answer has) = list_after [] line answer
 receipt_of e = []
 
 abbrev pub receipts_of : List Exchange → List Receipt

@@ -5,8 +5,7 @@ use Rattle.sb_desk.specs.declared.stub.Stub.{Stub}
 use Rattle.sb_connection.specs.declared.state.State.{State}
 use Rattle.sb_connection.specs.declared.state.State.TheVariants.{Open, Answered, Over, Failed}
 use Rattle.sb_connection.specs.Conversation.{Hosted, Talks, named_by, welcome}
-use Rattle.sb_connection.specs.Exchanges.{Exchange, line_in, said_text}
-use Rattle.sb_connection.specs.Transactions.{transacts_from}
+use Rattle.sb_connection.specs.Exchanges.{Exchange, line_in, said_text, transacts_from}
 use Rattle.sb_connection.specs.Policies.{Admits}
 use Rattle.sb_connection.specs.declared.first_line.SessionName.{SessionName}
 use Rattle.sb_connection.specs.Standing.{is_open}
@@ -97,7 +96,7 @@ pub record IsSessionOf (h : History) (named : SessionName) : Type 0 where
   pub are_first : AreFirstLines h (first ∷ behind)
   pub is : named_by h.hosted.keyed first ≡ Some named
 
--- whether its session has a transaction, by the answers to the lines behind the first one
+-- whether its session has a transaction, as its calls told with the answers to the lines behind the first one
 pub record Transacts (h : History) (has : Bool) : Type 0 where
   pub first : Piece
   pub exchanges : List Exchange

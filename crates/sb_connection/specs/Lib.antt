@@ -12,4 +12,3 @@ pub mod Admission
 pub mod ProtocolState
 pub mod Routes
 pub mod Traffic
-pub mod Transactions

@@ -7,7 +7,8 @@ use Rattle.sb_connection.specs.declared.state.State as stands
 use Rattle.sb_connection.specs.History.{History, IsSettled, SameStreams, Tells}
 use Rattle.sb_connection.specs.Conversation.{named_by}
 use Rattle.sb_connection.specs.Policies.{Admits}
-use Rattle.sb_connection.specs.Responses.{Opened, Responds, State, over}
+use Rattle.sb_desk.specs.Calls.{Session}
+use Rattle.sb_connection.specs.Responses.{Responds, State, over}
 use Rattle.sb_connection.specs.declared.first_line.SessionName.{SessionName}
 use Rattle.sb_connection.specs.Admission.{LetsIn}
 
@@ -50,7 +51,7 @@ named_anew keyed named [] = named
 named_anew keyed named (p ∷ ps) = named_by keyed p
 
 -- a session keeps its name
-abbrev pub named_after : Option Opened → Bool → Option SessionName → List Piece → Option SessionName
+abbrev pub named_after : Option Session → Bool → Option SessionName → List Piece → Option SessionName
 named_after None keyed named ps = named_anew keyed named ps
 named_after (Some o) keyed named ps = named
 

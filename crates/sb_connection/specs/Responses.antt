@@ -7,33 +7,22 @@ use Rattle.sb_wire.specs.declared.refusal.WireRefusal.{WireRefusal}
 use Rattle.sb_wire.specs.declared.refusal.WireRefusal.TheVariants as wire
 use Rattle.sb_desk.specs.declared.desk.AttachError.{AttachError}
 use Rattle.sb_desk.specs.declared.desk.CallError.TheVariants as call
-use Rattle.sb_tenant.specs.declared.reply.Answer.{Answer}
-use Rattle.sb_desk.specs.Calls.{Attached, Calls, IsNumbered, Session, after_call}
+use Rattle.sb_desk.specs.Calls.{Attached, Calls, Session}
 use Rattle.sb_desk.specs.Stubs.{LeavesStub}
 use Rattle.sb_desk.specs.declared.stub.Stub.{Stub}
 use Rattle.sb_connection.specs.Conversation.{Hosted, KeyHandshake, attach_lines, named_of, tenant_at, visitor_of, welcome}
 use Rattle.sb_connection.specs.declared.first_line.SessionName.{SessionName}
 use Rattle.sb_connection.specs.Policies.{Admits}
-use Rattle.sb_connection.specs.Transactions.{transacts_after, transacts_behind}
-use Rattle.sb_connection.specs.Exchanges.{Exchange, line_in, said_text}
+use Rattle.sb_connection.specs.Exchanges.{Exchange, line_in, said_text, transacts_behind}
 use Rattle.sb_connection.specs.Exchanges as exchange
-
--- a session that a connection has opened, and whether it has a transaction
-pub record Opened : Type 0 where
-  pub session : Session
-  pub transacts : Bool
-
--- just now
-abbrev pub opened : Session → Opened
-opened s = record { session = s; transacts = false }
 
 -- the session, once it is open; and whether the connection was turned away
 abbrev pub State : Type 0
-State = Option Opened × Bool
+State = Option Session × Bool
 
-abbrev pub is_over : Option Opened → Bool → Bool
+abbrev pub is_over : Option Session → Bool → Bool
 is_over None away = away
-is_over (Some o) away = o.session.ended
+is_over (Some o) away = o.ended
 
 abbrev pub over : State → Bool
 over state = is_over state.0 state.1
@@ -42,49 +31,43 @@ over state = is_over state.0 state.1
 abbrev pub Moves : Session → Exchange → Session → Type 0
 Moves old exchange.overlong new = new ≡ old
 Moves old (exchange.unbegun bytes) new = Calls old bytes (Err call.NotBegun) new
-Moves old (exchange.answered bytes answer) new = Calls old bytes (Ok answer) new
+Moves old (exchange.answered bytes answer has) new = Calls old bytes (Ok answer) new
 
--- and its answer says whether it has a transaction
-abbrev pub Exchanges : Opened → Exchange → Opened → Type 0
-Exchanges old e new = Moves old.session e new.session × (new.transacts ≡ transacts_behind old.transacts e)
-
--- of a session that hasn't ended, one answer to a line
-abbrev pub AnswersLine : Opened → List ℕ → Opened → Type 0
-AnswersLine old bytes new =
-    (answer : Answer) × (old.session.ended ≡ false) × IsNumbered answer
-    × (new ≡ record { session = after_call old.session bytes answer; transacts = transacts_after old.transacts bytes answer.reply })
+-- and tells whether the session has a transaction behind it
+abbrev pub Exchanges : Session → Exchange → Session → Type 0
+Exchanges old e new = Moves old e new × (new.has_transaction ≡ transacts_behind old.has_transaction e)
 
 -- a first line opens a session, or the connection is turned away
-abbrev pub GreetsNamed : Hosted → SessionName → List ℕ → Option Opened → Bool → Type 0
+abbrev pub GreetsNamed : Hosted → SessionName → List ℕ → Option Session → Bool → Type 0
 GreetsNamed hosted named text None away = (away ≡ true) × (e : AttachError) × Attached hosted.tenants (tenant_at hosted named.tenant) named.session (Err e) × (text ≡ ended_lines (attach_lines e))
-GreetsNamed hosted named text (Some o) away = Attached hosted.tenants (tenant_at hosted named.tenant) named.session (Ok o.session) × (text ≡ welcome) × (o.transacts ≡ false)
+GreetsNamed hosted named text (Some o) away = Attached hosted.tenants (tenant_at hosted named.tenant) named.session (Ok o) × (text ≡ welcome)
 
-abbrev pub TurnsAwayBy : WireRefusal → List ℕ → Option Opened → Bool → Type 0
+abbrev pub TurnsAwayBy : WireRefusal → List ℕ → Option Session → Bool → Type 0
 TurnsAwayBy r text s away = (s ≡ None) × (away ≡ true) × (text ≡ ended_lines (refusal_line r ∷ []))
 
 -- by what the line names
-abbrev pub GreetsBy : Hosted → Option SessionName → List ℕ → Option Opened → Bool → Type 0
+abbrev pub GreetsBy : Hosted → Option SessionName → List ℕ → Option Session → Bool → Type 0
 GreetsBy hosted None text s away = TurnsAwayBy wire.BadLine text s away
 GreetsBy hosted (Some named) text s away = GreetsNamed hosted named text s away
 
 -- only whoever brings a key of the tenant
-abbrev pub GreetsVisitor : Admits → Hosted → Option KeyHandshake → List ℕ → Option Opened → Bool → Type 0
+abbrev pub GreetsVisitor : Admits → Hosted → Option KeyHandshake → List ℕ → Option Session → Bool → Type 0
 GreetsVisitor admits hosted None text s away = TurnsAwayBy wire.BadKey text s away
 GreetsVisitor admits hosted (Some v) text s away =
     TurnsAwayBy wire.BadKey text s away ⊎ (admits v.named.tenant v.key × GreetsNamed hosted v.named text s away)
 
-abbrev pub GreetsLine : Admits → Bool → Hosted → List ℕ → List ℕ → Option Opened → Bool → Type 0
+abbrev pub GreetsLine : Admits → Bool → Hosted → List ℕ → List ℕ → Option Session → Bool → Type 0
 GreetsLine admits false hosted bytes text s away = GreetsBy hosted (named_of bytes) text s away
 GreetsLine admits true hosted bytes text s away = GreetsVisitor admits hosted (visitor_of bytes) text s away
 
-abbrev pub Greets : Admits → Hosted → Piece → List ℕ → Option Opened → Bool → Type 0
+abbrev pub Greets : Admits → Hosted → Piece → List ℕ → Option Session → Bool → Type 0
 Greets admits hosted too_long text s away = TurnsAwayBy wire.TooLong text s away
 Greets admits hosted (line bytes) text s away = GreetsLine admits hosted.keyed hosted bytes text s away
 
 -- the first line is greeted, and any other is an exchange of the session
-abbrev pub RespondsBy : Admits → Hosted → Option Opened → Piece → List ℕ → State → Type 0
+abbrev pub RespondsBy : Admits → Hosted → Option Session → Piece → List ℕ → State → Type 0
 RespondsBy admits hosted None p text new = Greets admits hosted p text new.0 new.1
-RespondsBy admits hosted (Some s) p text new = (e : Exchange) × (after : Opened) × (p ≡ line_in e) × (text ≡ said_text e) × Exchanges s e after × (new.0 ≡ Some after)
+RespondsBy admits hosted (Some s) p text new = (e : Exchange) × (after : Session) × (p ≡ line_in e) × (text ≡ said_text e) × Exchanges s e after × (new.0 ≡ Some after)
 
 abbrev pub Responds : Admits → Hosted → State → Piece → List ℕ → State → Type 0
 Responds admits hosted old p text new = RespondsBy admits hosted old.0 p text new
@@ -94,7 +77,7 @@ abbrev pub WritesText : {T E : Type 0} → (List ℕ → Type 0) → List ℕ �
 WritesText Is old result new = (text : List ℕ) × Is text × OnOk result (new ≡ old ++ text) × OnErr result (new ≡ old)
 
 -- a session is closed, if there is one
-abbrev pub LeavesSome : Option Opened → Option Stub → Type 0
+abbrev pub LeavesSome : Option Session → Option Stub → Type 0
 LeavesSome None stub = stub ≡ None
 LeavesSome (Some o) None = ⊥
-LeavesSome (Some o) (Some stub) = LeavesStub o.session stub
+LeavesSome (Some o) (Some stub) = LeavesStub o stub

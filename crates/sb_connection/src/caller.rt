@@ -45,6 +45,13 @@ impl<S: Calling> SessionCaller<S> {
         self.session.ended()
     }
 
+    /// Whether it has a transaction behind its newest step.
+    pub fn has_transaction(&self) -> bool
+        ensures { result ≡ self.now.has_transaction }
+    {
+        self.session.has_transaction()
+    }
+
     /// Makes the step of a line, whose answer is the last one then.
     pub fn step<R: Wait>(&mut self, rt: &R, alloc: Global, line: &[u8]) -> Result<(), CallError>
         ensures ok { OnOk result (AnswersOnce self.old line.now self.new) }

@@ -141,11 +141,11 @@ impl<H: Hosting, D: Doorkeeper> Connection<H, D> {
     }
 
     /// Whether its session has a transaction.
-    pub fn transacts(&self) -> bool
+    pub fn has_transaction(&self) -> bool
         ensures session { self.now.attached ≡ true → Transacts self.now result }
         ensures none { self.now.attached ≡ false → result ≡ false }
     {
-        self.protocol_state.transacts()
+        self.protocol_state.has_transaction()
     }
 
     /// The session that it opened, if it did.

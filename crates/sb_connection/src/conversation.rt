@@ -7,9 +7,9 @@ ghost use Rattle.sb_connection.specs.Exchanges.{Exchange, line_in, said_text};
 ghost use Rattle.sb_connection.specs.Responses.{Exchanges};
 
 use crate::admission::Doorkeeper;
+use crate::caller::SessionCaller;
 use crate::entrance::Entrance;
 use crate::first_line::greet;
-use crate::open_session::OpenSession;
 use crate::watch::Watch;
 use sb_desk::{CallError, Calling, Hosting};
 use sb_wire::{Piece, Responder, WireRefusal, write_bare_refusal, write_bare_reply};
@@ -31,7 +31,7 @@ pub(crate) struct Talk<'r, T, H: Hosting, V, D: Doorkeeper> {
 }
 
 impl<'r, T: Wait, H: Hosting, V: Watch, D: Doorkeeper> Responder<
-    Option<OpenSession<H::Session>>,
+    Option<SessionCaller<H::Session>>,
     bool,
 > for Talk<'r, T, H, V, D> {
     ghost use Rattle.sb_connection.specs.Conversation.{hosting_by};
@@ -46,7 +46,7 @@ impl<'r, T: Wait, H: Hosting, V: Watch, D: Doorkeeper> Responder<
         alloc: Global,
         piece: Piece<'_>,
         out: &mut Vec<u8>,
-        first: &mut Option<OpenSession<H::Session>>,
+        first: &mut Option<SessionCaller<H::Session>>,
         second: &mut bool,
     ) -> Result<(), AllocError> {
         match first {
@@ -55,7 +55,7 @@ impl<'r, T: Wait, H: Hosting, V: Watch, D: Doorkeeper> Responder<
         }
     }
 
-    fn is_over(&self, first: &Option<OpenSession<H::Session>>, second: &bool) -> bool {
+    fn is_over(&self, first: &Option<SessionCaller<H::Session>>, second: &bool) -> bool {
         match first {
             Some(session) => session.ended(),
             None => *second,
@@ -69,9 +69,9 @@ fn exchange<T: Wait, S: Calling>(
     alloc: Global,
     piece: Piece<'_>,
     out: &mut Vec<u8>,
-    session: &mut OpenSession<S>,
+    session: &mut SessionCaller<S>,
 ) -> Result<(), AllocError>
-    requires { session.old.session.ended ≡ false }
+    requires { session.old.ended ≡ false }
     ensures { (e : Exchange) × (piece_seen piece.entry ≡ line_in e) × Exchanges session.old e session.new
         × OnOk result (out.new.items ≡ out.old.items ++ said_text e)
         × OnErr result (out.new.items ≡ out.old.items) }
@@ -87,9 +87,9 @@ fn exchange<T: Wait, S: Calling>(
 }
 
 /// Writes the newest answer of a session.
-fn write_last<S: Calling>(out: &mut Vec<u8>, session: &OpenSession<S>) -> Result<(), AllocError>
-    requires { IsSome session.now.session.last }
-    ensures ok { IfSome session.now.session.last (λ answer. OnOk result (out.new.items ≡
+fn write_last<S: Calling>(out: &mut Vec<u8>, session: &SessionCaller<S>) -> Result<(), AllocError>
+    requires { IsSome session.now.last }
+    ensures ok { IfSome session.now.last (λ answer. OnOk result (out.new.items ≡
         out.old.items ++ ended_lines (reply_lines answer.reply))) }
     ensures err { OnErr result (out.new.items ≡ out.old.items) }
 {

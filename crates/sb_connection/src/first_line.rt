@@ -6,9 +6,9 @@ ghost use Rattle.sb_connection.specs.Conversation.{attach_lines, hosting, hostin
 ghost use Rattle.sb_connection.specs.Responses.{Greets, GreetsNamed, GreetsVisitor, WritesText};
 
 use crate::admission::Doorkeeper;
+use crate::caller::SessionCaller;
 use crate::conversation::Talk;
 use crate::entrance::Pass;
-use crate::open_session::OpenSession;
 use crate::watch::{ConnectionEvent, Watch};
 use sb_desk::{AttachError, Hosting};
 use sb_tenant::Reply;
@@ -100,7 +100,7 @@ pub(crate) fn greet<T: Wait, H: Hosting, V: Watch, D: Doorkeeper>(
     alloc: Global,
     piece: Piece<'_>,
     out: &mut Vec<u8>,
-    session: &mut Option<OpenSession<H::Session>>,
+    session: &mut Option<SessionCaller<H::Session>>,
     away: &mut bool,
 ) -> Result<(), AllocError>
     requires { session.old ≡ None }
@@ -123,7 +123,7 @@ fn greet_visitor<T: Wait, H: Hosting, V: Watch, D: Doorkeeper>(
     alloc: Global,
     line: &[u8],
     out: &mut Vec<u8>,
-    session: &mut Option<OpenSession<H::Session>>,
+    session: &mut Option<SessionCaller<H::Session>>,
     away: &mut bool,
 ) -> Result<(), AllocError>
     requires { session.old ≡ None }
@@ -165,7 +165,7 @@ fn open<T: Wait, H: Hosting, V: Watch, D: Doorkeeper>(
     alloc: Global,
     pass: Pass<D>,
     out: &mut Vec<u8>,
-    session: &mut Option<OpenSession<H::Session>>,
+    session: &mut Option<SessionCaller<H::Session>>,
     away: &mut bool,
 ) -> Result<(), AllocError>
     requires { session.old ≡ None }
@@ -176,7 +176,7 @@ fn open<T: Wait, H: Hosting, V: Watch, D: Doorkeeper>(
     match talk.entrance.open(talk.rt, alloc, talk.first, pass) {
         Ok(opened) => {
             talk.watch.on_event(ConnectionEvent::Attached(named));
-            *session = Some(OpenSession::new(opened));
+            *session = Some(SessionCaller::new(opened));
             write_bare_reply(out, &Reply::Ok)
         }
         Err(error) => {

@@ -9,14 +9,12 @@ mod connection_end;
 mod conversation;
 mod entrance;
 mod first_line;
-mod open_session;
 mod protocol_state;
 mod route;
 mod serve;
 mod state;
 mod stream;
 mod trail_room;
-mod transactions;
 mod watch;
 
 pub use admission::{Admission, Doorkeeper, Open};

@@ -10,10 +10,10 @@ ghost use Rattle.sb_connection.specs.Standing.{is_open};
 ghost use Rattle.sb_connection.specs.Traffic.{after_write};
 
 use crate::admission::Doorkeeper;
+use crate::caller::SessionCaller;
 use crate::conversation::Talk;
 use crate::entrance::Entrance;
 use crate::first_line::{SessionName, named_in};
-use crate::open_session::OpenSession;
 use crate::state::State;
 use crate::stream::Stream;
 use crate::trail_room::{newest_step, tell_refusal, tell_reply, tell_room, was_unbegun};
@@ -42,7 +42,7 @@ pub(crate) struct ProtocolState<H: Hosting, D: Doorkeeper> {
     pub(crate) state: State,
     /// The client sends no more.
     pub(crate) at_end: bool,
-    pub(crate) session: Option<OpenSession<H::Session>>,
+    pub(crate) session: Option<SessionCaller<H::Session>>,
     /// No session was opened, and none will be.
     pub(crate) away: bool,
     /// What the first line names.
@@ -67,7 +67,7 @@ struct Before {
     /// The newest answer that is a step.
     step: Option<u32>,
     has_session: bool,
-    transacts: bool,
+    has_transaction: bool,
 }
 
 impl<H: Hosting, D: Doorkeeper> Model for ProtocolState<H, D> {
@@ -136,7 +136,7 @@ impl<H: Hosting, D: Doorkeeper> ProtocolState<H, D> {
         self.at_end = true;
     }
 
-    pub(crate) fn into_session(self) -> Option<OpenSession<H::Session>>
+    pub(crate) fn into_session(self) -> Option<SessionCaller<H::Session>>
         ensures session { result ≡ self.talk.0 }
         ensures keyed { self.history.hosted.keyed ≡ D.policy.keyed }
     {
@@ -183,7 +183,7 @@ impl<H: Hosting, D: Doorkeeper> ProtocolState<H, D> {
         let before = Before {
             step: newest_step(&self.session),
             has_session: self.session.is_some(),
-            transacts: self.transacts(),
+            has_transaction: self.has_transaction(),
         };
         self.note_name();
         self.respond(rt, watch, doorkeeper);
@@ -223,7 +223,7 @@ impl<H: Hosting, D: Doorkeeper> ProtocolState<H, D> {
             named,
             self.lines.line(),
             !before.has_session,
-            before.transacts,
+            before.has_transaction,
         );
     }
 
@@ -247,7 +247,7 @@ impl<H: Hosting, D: Doorkeeper> ProtocolState<H, D> {
                 named,
                 Piece::TooLong,
                 WireRefusal::TooLong,
-                before.transacts,
+                before.has_transaction,
             );
             return;
         };
@@ -259,7 +259,7 @@ impl<H: Hosting, D: Doorkeeper> ProtocolState<H, D> {
                 named,
                 self.lines.line(),
                 false,
-                before.transacts,
+                before.has_transaction,
             );
             return;
         }
@@ -269,7 +269,7 @@ impl<H: Hosting, D: Doorkeeper> ProtocolState<H, D> {
             named,
             self.lines.line(),
             WireRefusal::NotBegun,
-            before.transacts,
+            before.has_transaction,
         );
         if !self.tells_unbegun {
             self.tells_unbegun = true;
@@ -278,11 +278,11 @@ impl<H: Hosting, D: Doorkeeper> ProtocolState<H, D> {
     }
 
     /// Whether its session has a transaction.
-    pub(crate) fn transacts(&self) -> bool
-        ensures { result ≡ option_map_or (λ o. o.transacts) self.now.talk.0 false }
+    pub(crate) fn has_transaction(&self) -> bool
+        ensures { result ≡ option_map_or (λ o. o.has_transaction) self.now.talk.0 false }
     {
         match &self.session {
-            Some(session) => session.transacts(),
+            Some(session) => session.has_transaction(),
             None => false,
         }
     }

@@ -6,11 +6,11 @@ ghost use Rattle.sb_connection.specs.Responses.{LeavesSome};
 ghost use Rattle.sb_wire.specs.Stream.{MayFail, OnWriteFault};
 
 use crate::admission::Open;
+use crate::caller::SessionCaller;
 use crate::connection_end::ConnectionEnd;
 use crate::conversation::Talk;
 use crate::entrance::Entrance;
 use crate::first_line::{SessionName, number_of};
-use crate::open_session::OpenSession;
 use crate::trail_room::steps_left;
 use crate::watch::{ConnectionEvent, NoWatch, Watch};
 use sb_desk::{Calling, Hosting, Stub};
@@ -72,7 +72,7 @@ pub fn serve_one_with<T: Wait, H: Hosting, R: Source, W: Sink, V: Watch>(
 }
 
 /// Closes the session, if one was opened.
-pub(crate) fn close<T: Wait, S: Calling>(rt: &T, session: Option<OpenSession<S>>) -> Option<Stub>
+pub(crate) fn close<T: Wait, S: Calling>(rt: &T, session: Option<SessionCaller<S>>) -> Option<Stub>
     ensures { LeavesSome session result }
 {
     match session {

@@ -1,7 +1,7 @@
 //! What is told of the answers of a session, and of the room of its tenant's trail.
 
+use crate::caller::SessionCaller;
 use crate::first_line::SessionName;
-use crate::open_session::OpenSession;
 use crate::watch::{Answered, ConnectionEvent, Said, Watch};
 use sb_desk::Calling;
 use sb_tenant::TRAIL_LIMIT;
@@ -15,7 +15,7 @@ const MOST_STEPS: u32 = TRAIL_LIMIT as u32;
 const FEW_STEPS: u32 = MOST_STEPS / 10;
 
 /// The step number of a session's newest answer, if it was a step.
-pub(crate) fn newest_step<S: Calling>(session: &Option<OpenSession<S>>) -> Option<u32> {
+pub(crate) fn newest_step<S: Calling>(session: &Option<SessionCaller<S>>) -> Option<u32> {
     let Some(session) = session else {
         return None;
     };
@@ -28,7 +28,7 @@ pub(crate) fn newest_step<S: Calling>(session: &Option<OpenSession<S>>) -> Optio
 /// Whether the newest line wasn't begun, where it was no step and this is the newest one: an answer that is no step says
 /// that the trail is full.
 pub(crate) fn was_unbegun<S: Calling>(
-    session: &Option<OpenSession<S>>,
+    session: &Option<SessionCaller<S>>,
     newest: Option<u32>,
 ) -> bool {
     let Some(session) = session else {
@@ -57,7 +57,7 @@ pub(crate) fn tell_room<V: Watch>(watch: &V, tenant: u32, step: u32) {
 pub(crate) fn tell_reply<T: Wait, V: Watch, S: Calling>(
     rt: &T,
     watch: &V,
-    session: &Option<OpenSession<S>>,
+    session: &Option<SessionCaller<S>>,
     named: SessionName,
     piece: Piece<'_>,
     is_first: bool,
@@ -77,6 +77,7 @@ pub(crate) fn tell_reply<T: Wait, V: Watch, S: Calling>(
             is_first,
             Said::Reply(&answer.reply),
             transacted,
+            session.has_transaction(),
         ),
     );
 }
@@ -92,6 +93,13 @@ pub(crate) fn tell_refusal<T: Wait, V: Watch>(
 ) {
     watch.on_reply(
         rt,
-        Answered::new(named, piece, false, Said::Refusal(why), transacted),
+        Answered::new(
+            named,
+            piece,
+            false,
+            Said::Refusal(why),
+            transacted,
+            transacted,
+        ),
     );
 }

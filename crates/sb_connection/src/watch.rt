@@ -143,8 +143,10 @@ pub struct Answered<'a> {
     pub named: SessionName,
     line: &'a [u8],
     pub said: Said<'a>,
-    /// The session had a transaction before.
+    /// The session had a transaction before it.
     pub transacted: bool,
+    /// The session has a transaction behind it.
+    pub transacts: bool,
 }
 
 impl<'a> Answered<'a> {
@@ -157,6 +159,7 @@ impl<'a> Answered<'a> {
         is_first: bool,
         said: Said<'a>,
         transacted: bool,
+        transacts: bool,
     ) -> Answered<'a>
         ensures { line_of result ≡ told_line is_first (piece_seen piece.entry) }
     {
@@ -170,6 +173,7 @@ impl<'a> Answered<'a> {
             line,
             said,
             transacted,
+            transacts,
         }
     }
 

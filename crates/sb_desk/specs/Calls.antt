@@ -5,13 +5,13 @@ use Rattle.sb_tenant.specs.declared.reply.Answer.{Answer}
 use Rattle.sb_tenant.specs.declared.reply.Reply.TheVariants.{No}
 use Rattle.sb_tenant.specs.Closing.{closes}
 use Rattle.sb_tenant.specs.Limits.{session_count}
-use Rattle.sb_cell.specs.Tenants.{Cell, hosts}
+use Rattle.sb_cell.specs.Tenants.{AnswersEvent, Cell, hosts}
 use Rattle.sb_desk.specs.declared.desk.AttachError.{AttachError}
 use Rattle.sb_desk.specs.declared.desk.AttachError.TheVariants.{NoTenant, NoSession}
 use Rattle.sb_desk.specs.declared.desk.CallError.{CallError}
 use Rattle.sb_desk.specs.declared.desk.CallError.TheVariants as call
 use Rattle.sb_desk.specs.declared.receipts.Receipt.{Receipt}
-use Rattle.sb_desk.specs.Desks.{RefusesRightly}
+use Rattle.sb_desk.specs.Desks.{RefusesRightly, in_transaction}
 use Rattle.sb_desk.specs.Receipts.{Receipts, after, after_end, list_after, newcomer}
 
 -- ---- behind a lock
@@ -20,9 +20,15 @@ use Rattle.sb_desk.specs.Receipts.{Receipts, after, after_end, list_after, newco
 abbrev pub IsNumbered : Answer → Type 0
 IsNumbered answer = (answer.number ≡ None) ↔ (answer.reply ≡ No TrailFull)
 
+-- a cell of this tenant answered the session's line so, and the session has a transaction behind that step or hasn't
+abbrev pub IsBehind : ℕ → ℕ → List ℕ → Answer → Bool → Type 0
+IsBehind t s line answer has = (c c' : Cell) × AnswersEvent c t s line (Ok answer) c' × (in_transaction c' t s ≡ has)
+
 -- one answer to the line that was ready
 abbrev pub Called : Receipts → Receipts → Type 0
-Called r r' = (line : List ℕ) × (answer : Answer) × (r.ended ≡ false) × (r.ready ≡ Some line) × IsNumbered answer × (r' ≡ after r line answer)
+Called r r' =
+    (line : List ℕ) × (answer : Answer) × (r.ended ≡ false) × (r.ready ≡ Some line) × IsNumbered answer
+    × (r' ≡ after r line answer r'.has_transaction) × IsBehind r.tenant r.session line answer r'.has_transaction
 
 abbrev pub is_ended : CallError → Bool
 is_ended call.Ended = true
@@ -51,23 +57,26 @@ pub record Session : Type 0 where
   pub session : ℕ
   pub list : List Receipt
   pub ended : Bool
+  pub has_transaction : Bool
   pub last : Option Answer
 
 abbrev pub shown : Receipts → Session
-shown r = record { tenant = r.tenant; session = r.session; list = r.list; ended = r.ended; last = r.last }
+shown r = record { tenant = r.tenant; session = r.session; list = r.list; ended = r.ended; has_transaction = r.has_transaction; last = r.last }
 
--- the receipts before, followed by one with this line where the answer has a number
-abbrev pub after_call : Session → List ℕ → Answer → Session
-after_call s line answer = record s { list = list_after s.list line answer; ended = closes line answer.reply; last = Some answer }
+-- the receipts before, followed by one with this line where the answer has a number; and whether it has a transaction then
+abbrev pub after_call : Session → List ℕ → Answer → Bool → Session
+after_call s line answer has = record s { list = list_after s.list line answer; ended = closes line answer.reply; has_transaction = has; last = Some answer }
 
 -- of a session that hasn't ended, one answer
 abbrev pub AnswersOnce : Session → List ℕ → Session → Type 0
 AnswersOnce old line new =
-    (answer : Answer) × (old.ended ≡ false) × IsNumbered answer × (new ≡ after_call old line answer)
+    (answer : Answer) × (old.ended ≡ false) × IsNumbered answer × (new ≡ after_call old line answer new.has_transaction)
+    × IsBehind old.tenant old.session line answer new.has_transaction
 
 -- of a session that hasn't ended, one answer; or a refusal, which says whether it has
 abbrev pub Calls : Session → List ℕ → Result Answer CallError → Session → Type 0
-Calls old line (Ok answer) new = (old.ended ≡ false) × IsNumbered answer × (new ≡ after_call old line answer)
+Calls old line (Ok answer) new =
+    (old.ended ≡ false) × IsNumbered answer × (new ≡ after_call old line answer new.has_transaction) × IsBehind old.tenant old.session line answer new.has_transaction
 Calls old line (Err e) new = (old.ended ≡ is_ended e) × (new ≡ old)
 
 -- a new session; or a refusal: the numbers are looked at first, then the tenant's cell

@@ -3,7 +3,7 @@ use Rattle.std.specs.Prelude.{ℕ, ◌≡◌, Bool, true, false, nat_le, List, c
 use Rattle.sb_tenant.specs.declared.reply.Answer.{Answer}
 use Rattle.sb_tenant.specs.declared.reply.Reply.TheVariants as told
 use Rattle.sb_tenant.specs.Limits.{trail_limit}
-use Rattle.sb_tenant.specs.State.{session_at, is_open}
+use Rattle.sb_tenant.specs.State.{session_at, is_open, has_transaction}
 use Rattle.sb_cell.specs.declared.StepError.TheVariants as step
 use Rattle.sb_cell.specs.Tenants.{Cell, AnswersEvent, states}
 use Rattle.sb_desk.specs.declared.desk.AttachError.{AttachError}
@@ -16,13 +16,17 @@ use Rattle.sb_desk.specs.Receipts.{Receipts, after, after_end, newcomer, numbere
 abbrev pub open_in : Cell → ℕ → ℕ → Bool
 open_in c t s = is_open (session_at (states c t) s)
 
+-- it has a transaction
+abbrev pub in_transaction : Cell → ℕ → ℕ → Bool
+in_transaction c t s = has_transaction (session_at (states c t) s)
+
 -- ---- a line
 
--- exactly one step of the line that is ready, of an open session
+-- exactly one step of the line that is ready, of an open session; whether that has a transaction behind it is told as the cell shows it
 abbrev pub Enters : Cell → Receipts → Cell → Receipts → Type 0
 Enters c r c' r' =
     (line : List ℕ) × (answer : Answer) × (r.ended ≡ false) × (r.ready ≡ Some line) × (open_in c r.tenant r.session ≡ true)
-    × AnswersEvent c r.tenant r.session line (Ok answer) c' × (r' ≡ after r line answer)
+    × AnswersEvent c r.tenant r.session line (Ok answer) c' × (r' ≡ after r line answer (in_transaction c' r.tenant r.session))
 
 -- a refusal leaves the session as it was: it has ended, and the cell stays, too; or the step wasn't begun
 abbrev pub Refuses : Cell → Receipts → CallError → Cell → Receipts → Type 0

@@ -1,5 +1,5 @@
 -- Machine: what the fields of a session's receipts are seen as, and what holds of them.
-use Rattle.std.specs.Prelude.{ℕ, ◌≡◌, ◌+◌, ◌<◌, ◌≤◌, true, List, [], ◌∷◌, ◌++◌, length, codes, Some, None, vec_capacity}
+use Rattle.std.specs.Prelude.{Bool, ℕ, ◌≡◌, ◌+◌, ◌<◌, ◌≤◌, true, List, [], ◌∷◌, ◌++◌, length, codes, Some, None, vec_capacity}
 use Rattle.atomic_table.specs.Seated.{TableId}
 use Rattle.sb_tenant.specs.declared.reply.Answer.{Answer}
 use Rattle.sb_desk.specs.declared.receipts.Receipts.TheInside.{Inside}
@@ -15,6 +15,7 @@ module _ {N : Type 0} where
     session = r.session;
     list = r.list.items;
     ended = not_some r.opening;
+    has_transaction = r.has_transaction;
     ready = r.ready;
     last = answer_by r.newest r.list.items;
   }
@@ -29,12 +30,12 @@ module _ {N : Type 0} where
 -- ---- what is taken in
 
 -- with one receipt more, of the line that was ready
-abbrev pub noted : Receipts → List ℕ → Answer → Receipts
-noted r line answer = record r { list = r.list ++ receipt line answer ∷ []; ready = None; last = Some answer }
+abbrev pub noted : Receipts → List ℕ → Answer → Bool → Receipts
+noted r line answer has = record r { list = r.list ++ receipt line answer ∷ []; has_transaction = has; ready = None; last = Some answer }
 
 -- with an answer to the line that was ready, which is no receipt
-abbrev pub answered : Receipts → Answer → Receipts
-answered r answer = record r { ready = None; last = Some answer }
+abbrev pub answered : Receipts → Answer → Bool → Receipts
+answered r answer has = record r { has_transaction = has; ready = None; last = Some answer }
 
 -- without its seat
 abbrev pub unseated : Receipts → Receipts

@@ -9,12 +9,13 @@ use Rattle.sb_desk.specs.declared.receipts.Receipt.{Receipt}
 use Rattle.sb_desk.specs.declared.receipts.Newest.{Newest}
 use Rattle.sb_desk.specs.declared.receipts.Newest.TheVariants as newest
 
--- its receipts, whether it has ended, the line that is ready, and the answer of the newest call that gave one
+-- its receipts, whether it has ended, whether it has a transaction behind its newest step, the line that is ready, and the answer of the newest call that gave one
 pub record Receipts : Type 0 where
   pub tenant : ℕ
   pub session : ℕ
   pub list : List Receipt
   pub ended : Bool
+  pub has_transaction : Bool
   pub ready : Option (List ℕ)
   pub last : Option Answer
 
@@ -36,11 +37,12 @@ list_after list line answer = list_by answer.number list line answer
 
 -- ---- after a call
 
--- of an open session
-abbrev pub after : Receipts → List ℕ → Answer → Receipts
-after r line answer = record r {
+-- of an open session, which has a transaction then or hasn't
+abbrev pub after : Receipts → List ℕ → Answer → Bool → Receipts
+after r line answer has = record r {
   list = list_after r.list line answer;
   ended = closes line answer.reply;
+  has_transaction = has;
   ready = None;
   last = Some answer;
 }
@@ -50,6 +52,7 @@ abbrev pub after_end : Receipts → ℕ → Receipts
 after_end r n = record r {
   list = r.list ++ receipt (codes "end") (numbered n Ok) ∷ [];
   ended = true;
+  has_transaction = false;
   ready = None;
   last = Some (numbered n Ok);
 }
@@ -61,6 +64,7 @@ newcomer tenant session n = record {
   session = session;
   list = receipt (codes "open") (numbered n Ok) ∷ [];
   ended = false;
+  has_transaction = false;
   ready = None;
   last = None;
 }

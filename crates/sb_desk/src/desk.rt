@@ -171,11 +171,12 @@ impl<N: Naming, const FIRST: u32> Desk<N, FIRST> {
         // for the proof: the new entry opens or closes its session and no other, and the trails are legal
         entries_open_and_close();
         self.cell.keeps_trails();
+        let has_transaction = self.cell.has_transaction(tenant, session);
         if answer.number.is_none() {
-            r.tell(answer);
+            r.tell(answer, has_transaction);
             return Ok(());
         }
-        r.note(&mut self.share, answer);
+        r.note(&mut self.share, answer, has_transaction);
         if !self.cell.is_open(tenant, session) {
             let at = seat_place(tenant, session, cells);
             self.seats[at] = Some(r.give_up_seat());

@@ -28,6 +28,10 @@ pub trait Calling: Drop {
     fn ended(&self) -> bool
         ensures { result ≡ (seen self.now).ended };
 
+    /// Whether the session has a transaction behind its newest step.
+    fn has_transaction(&self) -> bool
+        ensures { result ≡ (seen self.now).has_transaction };
+
     /// Makes the step of a line, with a gate inside the lock. Its answer is the last one then.
     fn step<R: Wait, G: Gate>(
         &mut self,

@@ -47,6 +47,8 @@ pub struct Receipts<N: Naming> {
     list: Vec<Receipt>,
     share: Share<N>,
     opening: Option<Opening>,
+    /// Whether it has a transaction behind its newest step.
+    has_transaction: bool,
     known: KnownLines,
     ready: Option<Line>,
     newest: Newest,
@@ -60,6 +62,7 @@ impl<N: Naming> Drop for Receipts<N> {
             list: _,
             share: _,
             opening: _,
+            has_transaction: _,
             known: _,
             ready: _,
             newest: _,
@@ -102,6 +105,13 @@ impl<N: Naming> Receipts<N> {
         self.opening.is_none()
     }
 
+    /// Whether the session has a transaction behind its newest step.
+    pub fn has_transaction(&self) -> bool
+        ensures { result ≡ self.now.has_transaction }
+    {
+        self.has_transaction
+    }
+
     /// The receipts so far.
     pub fn list(&self) -> &[Receipt]
         ensures { result.now ≡ self.now.list }
@@ -130,6 +140,7 @@ impl<N: Naming> Receipts<N> {
             list,
             share: _,
             opening: _,
+            has_transaction: _,
             known: _,
             ready: _,
             newest: _,
@@ -156,11 +167,11 @@ impl<N: Naming> Receipts<N> {
     }
 
     /// Takes the receipt of the line that was ready, with its part.
-    pub(crate) fn note(&mut self, from: &mut Share<N>, answer: Answer)
+    pub(crate) fn note(&mut self, from: &mut Share<N>, answer: Answer, has_transaction: bool)
         requires parts { 1 < from.old.parts }
         requires ready { IsSome self.old.ready }
         ensures part { from.new.parts + 1 ≡ from.old.parts }
-        ensures note { (line : List ℕ) × (self.old.ready ≡ Some line) × (self.new ≡ noted self.old line answer) }
+        ensures note { (line : List ℕ) × (self.old.ready ≡ Some line) × (self.new ≡ noted self.old line answer has_transaction) }
     {
         let Some(line) = self.ready.take() else {
             unreachable!()
@@ -169,6 +180,7 @@ impl<N: Naming> Receipts<N> {
         self.share.merge(part);
         self.list.push_reserved(Receipt { line, answer });
         self.newest = Newest::Listed;
+        self.has_transaction = has_transaction;
     }
 
     /// Takes the receipt of the `end`, with its part, and gives the seat.
@@ -186,6 +198,7 @@ impl<N: Naming> Receipts<N> {
         let part = from.split_off(1, 0);
         self.share.merge(part);
         self.ready = None;
+        self.has_transaction = false;
         self.list.push_reserved(Receipt {
             line: end,
             answer: ok(number),
@@ -195,10 +208,11 @@ impl<N: Naming> Receipts<N> {
     }
 
     /// Takes the answer to the line that was ready, which is no receipt.
-    pub(crate) fn tell(&mut self, answer: Answer)
-        ensures { self.new ≡ answered self.old answer }
+    pub(crate) fn tell(&mut self, answer: Answer, has_transaction: bool)
+        ensures { self.new ≡ answered self.old answer has_transaction }
     {
         self.ready = None;
+        self.has_transaction = has_transaction;
         self.newest = Newest::Beside(answer);
     }
 
@@ -291,6 +305,7 @@ impl Room {
             list,
             share,
             opening: Some(Opening { seat, end }),
+            has_transaction: false,
             known,
             ready: None,
             newest: Newest::Nothing,

@@ -37,7 +37,7 @@ place_of r = session_count * r.tenant + r.session
 -- a session was called with a line, and the step that it made in full has this number
 abbrev pub MakesStep : Session → List ℕ → ℕ → Session → Type 0
 MakesStep old line number new =
-    (answer : Answer) × (old.ended ≡ false) × (answer.number ≡ Some number) × (is_no_memory answer.reply ≡ false) × (new ≡ after_call old line answer)
+    (answer : Answer) × (old.ended ≡ false) × (answer.number ≡ Some number) × (is_no_memory answer.reply ≡ false) × (new ≡ after_call old line answer new.has_transaction)
 
 -- it is still open; or it has ended, and this is what it left
 abbrev pub Stays : Session → Option Session → Option Stub → Type 0

@@ -1,11 +1,11 @@
 -- An answer has no number exactly where it says that the trail is full.
-use Rattle.std.proofs.Common.{ℕ, Bool, true, false, List, Ok}
+use Rattle.std.proofs.Common.{◌≡◌, ◌∙◌, ap, sym, ℕ, Bool, true, false, List, Ok}
 use Rattle.sb_tenant.specs.declared.reply.Answer.{Answer}
 use Rattle.sb_tenant.specs.Limits.{is_session}
 use Rattle.sb_tenant.specs.TrailLaws.{AnswersAreNumbered}
 use Rattle.sb_cell.specs.Tenants.{AnswersBy, Cell, hosts, trails}
-use Rattle.sb_desk.specs.Desks.{Enters}
-use Rattle.sb_desk.specs.Receipts.{Receipts}
+use Rattle.sb_desk.specs.Desks.{Enters, in_transaction}
+use Rattle.sb_desk.specs.Receipts.{Receipts, after}
 use Rattle.sb_desk.specs.Calls.{Called, IsNumbered}
 
 module _ (law : (tenant bound : ℕ) → AnswersAreNumbered tenant bound) where
@@ -15,4 +15,7 @@ module _ (law : (tenant bound : ℕ) → AnswersAreNumbered tenant bound) where
   by_event true true c c' t s line a h = law t c.bound (trails c t) (trails c' t) s line a h.0
 
   pub called : (c : Cell) (r : Receipts) (c' : Cell) (r' : Receipts) → Enters c r c' r' → Called r r'
-  called c r c' r' h = (h.0, h.1, h.2, h.3, by_event (hosts c r.tenant) (is_session r.session) c c' r.tenant r.session h.0 h.1 h.5, h.6)
+  called c r c' r' h =
+      let shown : r'.has_transaction ≡ in_transaction c' r.tenant r.session = ap (λ (x : Receipts). x.has_transaction) h.6 in
+      let told : r' ≡ after r h.0 h.1 r'.has_transaction = h.6 ∙ ap (after r h.0 h.1) (sym shown) in
+      (h.0, h.1, h.2, h.3, by_event (hosts c r.tenant) (is_session r.session) c c' r.tenant r.session h.0 h.1 h.5, told, (c, c', h.5, sym shown))

@@ -7,10 +7,11 @@ use Rattle.atomic_table.specs.Seated.{TableId}
 use Rattle.sb_tenant.specs.declared.reply.Answer.{Answer}
 use Rattle.sb_desk.specs.declared.desk.CallError.{CallError}
 use Rattle.sb_host.specs.contracts.session.Session.{the_row}
-use Rattle.sb_desk.specs.Calls.{Session, after_call}
+use Rattle.sb_desk.specs.Calls.{IsBehind, Session, after_call}
 
 abbrev pub CallsTo : Session → List ℕ → Result (Bor Answer) CallError → Session → Type 0
-CallsTo old line (Ok answer) new = new ≡ after_call old line answer.now
+CallsTo old line (Ok answer) new =
+    (new ≡ after_call old line answer.now new.has_transaction) × IsBehind old.tenant old.session line answer.now new.has_transaction
 CallsTo old line (Err e) new = new ≡ old
 
 -- the type of a session, in a host of these names

@@ -22,6 +22,10 @@ impl<'h, N: Naming> Calling for Session<'h, N> {
         self.ended()
     }
 
+    fn has_transaction(&self) -> bool {
+        self.has_transaction()
+    }
+
     fn step<R: Wait, G: Gate>(
         &mut self,
         rt: &R,

@@ -53,6 +53,13 @@ impl<'h, N: Naming> Session<'h, N> {
         self.receipts.ended()
     }
 
+    /// Whether it has a transaction behind its newest step.
+    pub fn has_transaction(&self) -> bool
+        ensures { result ≡ self.now.has_transaction }
+    {
+        self.receipts.has_transaction()
+    }
+
     /// The receipts so far.
     pub fn list(&self) -> &[Receipt]
         ensures { result.now ≡ self.now.list }

@@ -115,7 +115,7 @@ talks (e ∷ es) old last (mid, called, others) (fine, served) = by (talks es mi
           (is, subst (λ (b : Bool). Talks b es) (ap (λ (x : Session). x.ended) same ∙ ended) rest.0),
           rest.1 ∙ (λ i. map pair_of (same i).list ++ Plain ((ap (λ (x : Session). x.ended) same ∙ ended) i) es),
         )
-    by rest (Ok answer) is wanted (going, number, new) =
+    by rest (Ok answer) is wanted (going, number, new, behind) =
         let shut : mid.ended ≡ closes e.command answer.reply = ap (λ (x : Session). x.ended) new in
         let list : mid.list ≡ old.list ++ receipt e.command answer ∷ [] =
         ap (λ (x : Session). x.list) new ∙ numbered-list answer.number wanted.1 old.list e.command answer in

@@ -312,7 +312,7 @@ impl<H: Hosting, S: Stream + Drop, D: Doorkeeper> ClientConnection<H, S, D> {
         ensures attached { IsTrue result → self.now.connection.attached ≡ true }
         ensures session { self.now.connection.attached ≡ true → Transacts self.now.connection result }
     {
-        self.connection.transacts()
+        self.connection.has_transaction()
     }
 
     /// Closes the connection and its session. The receipts of the session are left.

@@ -90,7 +90,7 @@ impl<'e, 'w, V: Watch, C: Clock> ReplyMetrics<'e, 'w, V, C> {
                 trace.as_slice().len(),
             ),
             Reply::ByLimit(trace) => self.count_rollback(Cause::Limit, trace.as_slice().len()),
-            Reply::Ok if answered.transacted && is_rollback(answered.line()) => {
+            Reply::Ok if answered.transacted && !answered.transacts => {
                 self.count_rollback(Cause::Command, 0);
             }
             _ => {}
@@ -135,11 +135,6 @@ impl<'e, 'w, V: Watch, C: Clock> ReplyMetrics<'e, 'w, V, C> {
 
 /// The nanoseconds of a millisecond.
 const NANOS: u64 = 1_000_000;
-
-/// Whether a line that was answered `ok` in a transaction rolls it back: each other one with that letter wants none.
-fn is_rollback(line: &[u8]) -> bool {
-    line.trim_ascii_start().first() == Some(&b'r')
-}
 
 /// The number of the refusal that a first line is answered, if it is.
 fn refusal_of(event: &ConnectionEvent) -> Option<u8> {

@@ -13,15 +13,15 @@ use Rattle.starhost.specs.LoadedCells.{IsTaken, TakesEach}
 
 -- a step's answer is the last one then
 pub own_call : (old new : Session) (own : List ℕ) (found : Answer) → AnswersOnce old own new → new.last ≡ Some found → Calls old own (Ok found) new
-own_call old new own found (answer, going, is_numbered, is) left =
-    subst (λ (o : Option Answer). IfSome o (λ (a : Answer). Calls old own (Ok a) new)) (sym (ap (λ (s : Session). s.last) is) ∙ left) (going, is_numbered, is)
+own_call old new own found (answer, going, is_numbered, is, behind) left =
+    subst (λ (o : Option Answer). IfSome o (λ (a : Answer). Calls old own (Ok a) new)) (sym (ap (λ (s : Session). s.last) is) ∙ left) (going, is_numbered, is, behind)
 
 abbrev is_there : Option Answer → Type 0
 is_there (Some answer) = ⊤
 is_there None = ⊥
 
 pub has_answer : (old new : Session) (own : List ℕ) → AnswersOnce old own new → new.last ≡ None → ⊥
-has_answer old new own (answer, going, is_numbered, is) left = subst is_there (sym (ap (λ (s : Session). s.last) is) ∙ left) tt
+has_answer old new own (answer, going, is_numbered, is, behind) left = subst is_there (sym (ap (λ (s : Session). s.last) is) ∙ left) tt
 
 -- an answer that is taken has a number, and so a receipt
 has_receipt : (answer : Answer) (list : List Receipt) (own : List ℕ) → IsTaken answer.reply → IsNumbered answer → (n : Option ℕ) → answer.number ≡ n
@@ -36,7 +36,7 @@ one_taken own answer taken = record {
 }
 
 one_called : (old new : Session) (own : List ℕ) → TakesCall old own new → TakesCalls (own ∷ []) old new
-one_called old new own (answer, taken, (going, is_numbered, is)) = record {
+one_called old new own (answer, taken, (going, is_numbered, is, behind)) = record {
   tenant = ap (λ (s : Session). s.tenant) is;
   session = ap (λ (s : Session). s.session) is;
   receipts = receipt own answer ∷ [];

@@ -2,8 +2,8 @@ use Rattle.std.proofs.Common.{◌≡◌, ℕ, ◌+◌, ◌*◌, ◌/◌, Bool, t
 use Rattle.std.proofs.lemmas.Bool.{true≢false, not-false}
 use Rattle.std.proofs.lemmas.Option.{same_Some}
 use Rattle.sb_cell.specs.Tenants.{AnswersEvent, Cell}
-use Rattle.sb_desk.specs.Desks.{open_in}
-use Rattle.sb_desk.specs.Receipts.{Receipts, receipt}
+use Rattle.sb_desk.specs.Desks.{in_transaction, open_in}
+use Rattle.sb_desk.specs.Receipts.{Receipts, after, receipt}
 use Rattle.sb_tenant.specs.Closing.{closes}
 use Rattle.sb_desk.specs.Seats.{IsSeat, number_of}
 use Rattle.sb_desk.proofs.DeskCalls.{closed_by, enough, full, given_back, opened, own, still_open, unbegun}
@@ -89,5 +89,6 @@ returns-then-not-is_open-clause-ok g c =
       ap (λ (r : Receipts). r.ready) (sym r) ∙ c.note.ensures.note.1,
       c.find_open.ensures.open,
       subst (λ (x : Cell × ℕ × ℕ × Cell). AnswersEvent x.0 x.1 x.2 line (Ok c.in-Ok.answer) x.3) (λ i. (cell i, tenant i, session i, sym after_is i)) did,
-      after_closing c.args.r.now c.note.new.self c.give_up_seat.new.self line c.in-Ok.answer has.0 has.1 closing (c.note.ensures.note.2 ∙ ap (λ (r : Receipts). record { tenant = r.tenant; session = r.session; list = r.list ++ receipt line c.in-Ok.answer ∷ []; ended = r.ended; ready = None; last = Some c.in-Ok.answer }) r) c.give_up_seat.ensures.ended,
+      after_closing c.args.r.now c.note.new.self c.give_up_seat.new.self line c.in-Ok.answer c.has_transaction-has_transaction.result has.0 has.1 closing (c.note.ensures.note.2 ∙ ap (λ (r : Receipts). record { tenant = r.tenant; session = r.session; list = r.list ++ receipt line c.in-Ok.answer ∷ []; ended = r.ended; has_transaction = c.has_transaction-has_transaction.result; ready = None; last = Some c.in-Ok.answer }) r) c.give_up_seat.ensures.ended
+          ∙ ap (after c.args.r.now line c.in-Ok.answer) (c.has_transaction-has_transaction.ensures ∙ (λ i. in_transaction (sym after_is i) (tenant i) (session i))),
     )
