@@ -84,7 +84,8 @@ impl<H: Hosting, D: Doorkeeper> Connection<H, D> {
         self.protocol_state.end();
     }
 
-    /// Answers complete lines, at most 64. True if more may be answered at once.
+    /// Answers complete lines, at most 64, and no more once the watch says that the turn is over. True if more may be
+    /// answered at once.
     pub fn advance<T: Wait, V: Watch>(&mut self, rt: &T, watch: &V, doorkeeper: &D) -> bool
         ensures streams { SameStreams self.old self.new }
         ensures settles { IsFalse result → IsSettled self.new }
@@ -94,7 +95,10 @@ impl<H: Hosting, D: Doorkeeper> Connection<H, D> {
         // replies don't pile up
         ensures full { pending_limit ≤ length self.old.pending → self.new ≡ self.old }
     {
-        for _line in 0..LINES_A_TURN {
+        for line in 0..LINES_A_TURN {
+            if line > 0 && watch.is_turn_over() {
+                return true;
+            }
             if !self.protocol_state.step(rt, watch, doorkeeper) {
                 return false;
             }

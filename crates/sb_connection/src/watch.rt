@@ -213,6 +213,9 @@ pub trait Watch {
 
     /// A line of the client at this port was slow.
     fn on_slow_line(&self, port: u16, slow: Slow<'_>);
+
+    /// Whether a connection has had the time of its turn, so that others may have theirs.
+    fn is_turn_over(&self) -> bool;
 }
 
 /// Observes nothing.
@@ -226,4 +229,8 @@ impl Watch for NoWatch {
     fn on_reply<T: Wait>(&self, _rt: &T, _answered: Answered<'_>) {}
 
     fn on_slow_line(&self, _port: u16, _slow: Slow<'_>) {}
+
+    fn is_turn_over(&self) -> bool {
+        false
+    }
 }

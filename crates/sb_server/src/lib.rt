@@ -20,6 +20,7 @@ mod server_metrics;
 mod slow_line;
 mod socket;
 mod sweeps;
+mod time_shares;
 mod told;
 mod worker;
 

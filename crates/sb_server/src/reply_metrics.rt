@@ -33,6 +33,8 @@ pub(crate) struct ReplyMetrics<'e, 'w, V, C> {
     port: u16,
     /// When the line that is answered next began.
     since: Cell<Option<Instant>>,
+    /// When the turn of the connection began, if the system told it.
+    began: Option<Instant>,
 }
 
 impl<'e, 'w, V: Watch, C: Clock> ReplyMetrics<'e, 'w, V, C> {
@@ -51,6 +53,7 @@ impl<'e, 'w, V: Watch, C: Clock> ReplyMetrics<'e, 'w, V, C> {
             metrics_context,
             port,
             since: Cell::new(since),
+            began: Instant::now(metrics_context.clock).ok(),
         }
     }
 
@@ -133,6 +136,9 @@ impl<'e, 'w, V: Watch, C: Clock> ReplyMetrics<'e, 'w, V, C> {
     }
 }
 
+/// The turn of a connection ends after so many milliseconds.
+const TURN: u64 = 2;
+
 /// The nanoseconds of a millisecond.
 const NANOS: u64 = 1_000_000;
 
@@ -178,5 +184,12 @@ impl<'e, 'w, V: Watch, C: Clock> Watch for ReplyMetrics<'e, 'w, V, C> {
 
     fn on_slow_line(&self, port: u16, slow: Slow<'_>) {
         self.metrics_context.watch.on_slow_line(port, slow);
+    }
+
+    fn is_turn_over(&self) -> bool {
+        let (Some(began), Ok(now)) = (self.began, Instant::now(self.metrics_context.clock)) else {
+            return false;
+        };
+        now.duration_since(began) >= Duration::from_millis(TURN)
     }
 }

@@ -26,4 +26,8 @@ impl<'w, V: Watch> Watch for Told<'w, V> {
     fn on_slow_line(&self, port: u16, slow: Slow<'_>) {
         self.watch.on_slow_line(port, slow);
     }
+
+    fn is_turn_over(&self) -> bool {
+        self.watch.is_turn_over()
+    }
 }

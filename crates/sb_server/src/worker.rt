@@ -20,6 +20,7 @@ use crate::reply_metrics::MetricsContext;
 use crate::server::Serving;
 use crate::socket::Socket;
 use crate::sweeps::{SWEEP, Sweeps};
+use crate::time_shares::TimeShares;
 use mio::event::Event as Ready;
 use mio::unix::SourceFd;
 use mio::{Events, Interest, Poll, Token};
@@ -40,15 +41,6 @@ const LOOK: u64 = 100;
 /// The pause before a commit that lacked memory is tried again, in milliseconds.
 const PAUSE: u64 = 100;
 
-/// A part of a turn.
-#[derive(Clone, Copy)]
-enum TurnPart {
-    /// Reads and answers. Without a commit hook this is the whole turn.
-    First,
-    /// Sends the replies.
-    Last,
-}
-
 /// A worker with its connections, by their tokens.
 #[derive(Drop)]
 pub(crate) struct Worker<'s, H: Hosting, V, D: Doorkeeper, K: CommitHook, C> {
@@ -63,6 +55,10 @@ pub(crate) struct Worker<'s, H: Hosting, V, D: Doorkeeper, K: CommitHook, C> {
     due: Vec<usize>,
     /// The queue lacked memory for a key, so all connections are served next.
     all_due: bool,
+    /// The time that each tenant has had.
+    time_shares: TimeShares,
+    /// The newest round was too short for all connections that were due.
+    is_behind: bool,
     /// The tenants with answers that are not committed yet. Their connections are not read meanwhile.
     answered: Vec<u32>,
     stubs: Vec<Stub>,
@@ -98,6 +94,8 @@ impl<'s, H: Hosting, V: Watch, D: Doorkeeper, K: CommitHook, C: Clock> Worker<'s
             client_connections: Slab::new(serving.alloc),
             due: Vec::new(serving.alloc),
             all_due: false,
+            time_shares: TimeShares::new(),
+            is_behind: false,
             answered: Vec::new(serving.alloc),
             stubs: Vec::new(serving.alloc),
             is_called: true,
@@ -492,8 +490,8 @@ impl<'s, H: Hosting, V: Watch, D: Doorkeeper, K: CommitHook, C: Clock> Worker<'s
         }
     }
 
-    /// Gives each queued connection its turn. With a commit hook a turn has three parts: all lines are answered, all
-    /// answers are committed at once, and then the replies are sent.
+    /// Gives the queued connections their turns, as far as the time of a round goes. With a commit hook a round has three
+    /// parts: all lines are answered, all answers are committed at once, and then the replies are sent.
     pub(crate) fn serve_due<T: Wait>(&mut self, rt: &T)
         ensures gains { GainsClosed D.policy self.old.stubs.items self.new.stubs.items }
         ensures sessions { KeepsSessions self.old.client_connections self.new.client_connections (λ v. v.value.connection.attached) self.old.stubs.items self.new.stubs.items }
@@ -501,9 +499,25 @@ impl<'s, H: Hosting, V: Watch, D: Doorkeeper, K: CommitHook, C: Clock> Worker<'s
         if !self.keep(rt) {
             return;
         }
-        let due = mem::replace(&mut self.due, Vec::new(self.serving.alloc));
+        let mut due = mem::replace(&mut self.due, Vec::new(self.serving.alloc));
         let all_due = mem::replace(&mut self.all_due, false);
-        self.give_turn(rt, &due, all_due);
+        if self.is_behind {
+            due.sort_unstable_by_key(|key| self.time_of(*key));
+        }
+        self.give_turns(rt, &due, all_due);
+    }
+
+    /// The time that the tenant of a connection has had lately, in nanoseconds.
+    fn time_of(&self, key: usize) -> u64 {
+        self.time_shares.of(self.tenant_of(key))
+    }
+
+    /// The tenant that the first line of a connection names, if there is one.
+    fn tenant_of(&self, key: usize) -> Option<u32> {
+        match self.client_connections.get(key) {
+            Some(client_connection) => client_connection.tenant,
+            None => None,
+        }
     }
 
     /// Gives one connection a turn of its own.
@@ -512,21 +526,34 @@ impl<'s, H: Hosting, V: Watch, D: Doorkeeper, K: CommitHook, C: Clock> Worker<'s
         ensures sessions { KeepsSessions self.old.client_connections self.new.client_connections (λ v. v.value.connection.attached) self.old.stubs.items self.new.stubs.items }
     {
         if self.keep(rt) {
-            self.give_turn(rt, &[key], false);
+            self.give_turns(rt, &[key], false);
         }
     }
 
-    /// Gives these connections, or all, a turn.
-    fn give_turn<T: Wait>(&mut self, rt: &T, keys: &[usize], all: bool)
+    /// Gives these connections a turn, until the round has had its time; or all.
+    fn give_turns<T: Wait>(&mut self, rt: &T, keys: &[usize], all: bool)
         requires { self.old.answered.items ≡ [] }
         ensures gains { GainsClosed D.policy self.old.stubs.items self.new.stubs.items }
         ensures sessions { KeepsSessions self.old.client_connections self.new.client_connections (λ v. v.value.connection.attached) self.old.stubs.items self.new.stubs.items }
     {
-        self.do_part(rt, TurnPart::First, keys, all);
-        self.finish(rt, keys, all);
+        let served = self.begin_turns(rt, keys);
+        self.put_off(&keys[served..]);
+        self.begin_all_turns(rt, all);
+        self.finish(rt, &keys[..served], all);
     }
 
-    /// Commits the answers of a turn, and sends the replies.
+    /// Puts connections off to the next round.
+    fn put_off(&mut self, keys: &[usize])
+        ensures { (self.new.stubs ≡ self.old.stubs) × (self.new.client_connections ≡ self.old.client_connections)
+            × (self.new.answered ≡ self.old.answered) }
+    {
+        self.is_behind = !keys.is_empty();
+        if self.due.extend_from_slice(keys).is_err() {
+            self.all_due = true;
+        }
+    }
+
+    /// Commits the answers of a round, and sends the replies.
     fn finish<T: Wait>(&mut self, rt: &T, keys: &[usize], all: bool)
         ensures gains { GainsClosed D.policy self.old.stubs.items self.new.stubs.items }
         ensures sessions { KeepsSessions self.old.client_connections self.new.client_connections (λ v. v.value.connection.attached) self.old.stubs.items self.new.stubs.items }
@@ -535,45 +562,72 @@ impl<'s, H: Hosting, V: Watch, D: Doorkeeper, K: CommitHook, C: Clock> Worker<'s
             return;
         }
         if self.keep(rt) {
-            self.do_part(rt, TurnPart::Last, keys, all);
+            self.end_turns(rt, keys, all);
         } else {
             self.all_due = true;
         }
     }
 
-    /// Does one part of the turn of these connections, or of all.
-    fn do_part<T: Wait>(&mut self, rt: &T, part: TurnPart, keys: &[usize], all: bool)
-        requires { part ≡ TurnPart.Last → self.old.answered.items ≡ [] }
+    /// Begins the turns of these connections, one after another, until the round has had its time. Returns how many began.
+    fn begin_turns<T: Wait>(&mut self, rt: &T, keys: &[usize]) -> usize
+        ensures count { result ≤ length keys.now }
+        ensures gains { GainsClosed D.policy self.old.stubs.items self.new.stubs.items }
+        ensures sessions { KeepsSessions self.old.client_connections self.new.client_connections (λ v. v.value.connection.attached) self.old.stubs.items self.new.stubs.items }
+    {
+        let now = self.clock();
+        self.time_shares.begin_round(now);
+        for place in 0..keys.len() {
+            if self.time_shares.is_round_over() {
+                return place;
+            }
+            let tenant = self.tenant_of(keys[place]);
+            self.begin_turn(rt, keys[place]);
+            let now = self.clock();
+            self.time_shares.charge(tenant, now);
+        }
+        keys.len()
+    }
+
+    /// The time, if the system tells it.
+    fn clock(&self) -> Option<Instant> {
+        Instant::now(self.serving.clock).ok()
+    }
+
+    /// Begins the turns of all connections, if all are due.
+    fn begin_all_turns<T: Wait>(&mut self, rt: &T, all: bool)
+        ensures gains { GainsClosed D.policy self.old.stubs.items self.new.stubs.items }
+        ensures sessions { KeepsSessions self.old.client_connections self.new.client_connections (λ v. v.value.connection.attached) self.old.stubs.items self.new.stubs.items }
+    {
+        if !all {
+            return;
+        }
+        for key in 0..self.client_connections.capacity() {
+            self.begin_turn(rt, key);
+        }
+    }
+
+    /// Sends the replies of these connections, or of all.
+    fn end_turns<T: Wait>(&mut self, rt: &T, keys: &[usize], all: bool)
+        requires { self.old.answered.items ≡ [] }
         ensures gains { GainsClosed D.policy self.old.stubs.items self.new.stubs.items }
         ensures sessions { KeepsSessions self.old.client_connections self.new.client_connections (λ v. v.value.connection.attached) self.old.stubs.items self.new.stubs.items }
     {
         for key in keys {
-            self.do_part_of(rt, part, *key);
+            self.give_out(rt, *key);
         }
         if all {
-            self.do_part_of_all(rt, part);
+            self.end_all_turns(rt);
         }
     }
 
-    fn do_part_of_all<T: Wait>(&mut self, rt: &T, part: TurnPart)
-        requires { part ≡ TurnPart.Last → self.old.answered.items ≡ [] }
+    /// Sends the replies of all connections.
+    fn end_all_turns<T: Wait>(&mut self, rt: &T)
+        requires { self.old.answered.items ≡ [] }
         ensures gains { GainsClosed D.policy self.old.stubs.items self.new.stubs.items }
         ensures sessions { KeepsSessions self.old.client_connections self.new.client_connections (λ v. v.value.connection.attached) self.old.stubs.items self.new.stubs.items }
     {
         for key in 0..self.client_connections.capacity() {
-            self.do_part_of(rt, part, key);
-        }
-    }
-
-    fn do_part_of<T: Wait>(&mut self, rt: &T, part: TurnPart, key: usize)
-        requires { part ≡ TurnPart.Last → self.old.answered.items ≡ [] }
-        ensures answered { part ≡ TurnPart.Last → self.new.answered.items ≡ [] }
-        ensures gains { GainsClosed D.policy self.old.stubs.items self.new.stubs.items }
-        ensures sessions { KeepsSessions self.old.client_connections self.new.client_connections (λ v. v.value.connection.attached) self.old.stubs.items self.new.stubs.items }
-    {
-        match part {
-            TurnPart::First => self.begin_turn(rt, key),
-            TurnPart::Last => self.give_out(rt, key),
+            self.give_out(rt, key);
         }
     }
 

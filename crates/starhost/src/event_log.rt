@@ -189,6 +189,10 @@ impl<'r, T: Eprint + Clock> Watch for EventLog<'r, T> {
         self.write(severity_of(&event), &format_args!("port {port}: {event}"));
     }
 
+    fn is_turn_over(&self) -> bool {
+        false
+    }
+
     fn on_reply<R: Wait>(&self, _rt: &R, _answered: Answered<'_>) {}
 
     /// Logs at most one slow line a second, with the number of those left out since.

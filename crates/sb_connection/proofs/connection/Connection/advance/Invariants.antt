@@ -11,5 +11,5 @@ invariant-loop-line g l = record {
   lets : LetsIn g.D.Doorkeeper.policy.admits l.fn.self l.self-inside.protocol_state.history;
   stays : l.fn.self.attached ≡ true → l.self-inside.protocol_state.history.attached ≡ true;
   full : pending_limit ≤ length l.fn.self.pending → l.self-inside.protocol_state.history ≡ l.fn.self;
-  goes : length l.self-inside.protocol_state.history.waiting + l._line ≤ length l.fn.self.waiting;
+  goes : length l.self-inside.protocol_state.history.waiting + l.line ≤ length l.fn.self.waiting;
 }

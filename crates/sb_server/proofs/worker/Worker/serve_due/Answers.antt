@@ -5,4 +5,4 @@ pub returns-clause-gains : goal.returns-clause-gains
 returns-clause-gains g c =
     let old = c.args.self.now.stubs.items in
     let kept = c.keep.new.self.stubs.items in
-    gains_then g.D.Doorkeeper.policy old kept c.give_turn.new.self.stubs.items (gains_nothing g.D.Doorkeeper.policy old kept c.keep.ensures.others.0) c.give_turn.ensures.gains
+    gains_then g.D.Doorkeeper.policy old kept c.give_turns.new.self.stubs.items (gains_nothing g.D.Doorkeeper.policy old kept c.keep.ensures.others.0) c.give_turns.ensures.gains

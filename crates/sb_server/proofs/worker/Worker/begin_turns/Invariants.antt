@@ -1,11 +1,8 @@
-use Rattle.std.proofs.Common.{◌≡◌, []}
 use Rattle.sb_server.specs.Closed.{GainsClosed}
 use Rattle.sb_server.specs.Sessions.{KeepsSessions}
-use Rattle.sb_server.specs.declared.worker.TurnPart.TheVariants.{Last}
-use Rattle.sb_server.proofs.worker.Worker.do_part.Given as goal
+use Rattle.sb_server.proofs.worker.Worker.begin_turns.Given as goal
 
-abbrev pub invariant-loop-key : goal.invariant-loop-key
-invariant-loop-key g l =
+abbrev pub invariant-loop-place : goal.invariant-loop-place
+invariant-loop-place g l =
     GainsClosed g.D.Doorkeeper.policy l.fn.self.stubs.items l.self.stubs.items
     × KeepsSessions l.fn.self.client_connections l.self.client_connections (λ v. v.value.connection.attached) l.fn.self.stubs.items l.self.stubs.items
-    × (l.part ≡ Last → l.self.answered.items ≡ [])

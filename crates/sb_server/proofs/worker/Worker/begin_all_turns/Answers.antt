@@ -1,0 +1,9 @@
+use Rattle.std.proofs.Common.{arith}
+use Rattle.sb_server.proofs.Gains.{gains_then}
+use Rattle.sb_server.proofs.worker.Worker.begin_all_turns.Goals as goal
+
+pub loop-key-preserved : goal.loop-key-preserved
+loop-key-preserved g c = (
+  gains_then g.D.Doorkeeper.policy c.args.self.now.stubs.items c.loop-key.self.stubs.items c.begin_turn.new.self.stubs.items c.loop-key.invariant.0 c.begin_turn.ensures.gains,
+  omega arith,
+)
