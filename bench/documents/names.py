@@ -64,7 +64,7 @@ class Code:
         self.below = crates_below()
         for crate in sorted((TOP / "crates").iterdir()):
             self.names[crate.name].add(crate.name)
-            for file in sorted(crate.glob("src/*.rt")):
+            for file in sorted(crate.glob("src/**/*.rt")):
                 self.names[file.stem].add(crate.name)
                 self.read_source(crate.name, file.stem, file.read_text(encoding="utf-8"))
             for file in sorted(crate.glob("specs/*.antt")):

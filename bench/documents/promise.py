@@ -11,7 +11,7 @@ from bench.harness import TOP
 CRATES = TOP / "crates"
 WORDS = ("Promise", "Machine")
 # what came to a connection, and what was noted of a trail, is the machine's to tell
-ON_WHAT_IS_KEPT = {("sb_connection", "Admission"), ("sb_durable", "Keeping")}
+ON_WHAT_IS_KEPT = {("sb_connection", "Admission"), ("sb_durable", "RecordedTrails")}
 HEAD = re.compile(rf"-- ({'|'.join(WORDS)}): \S")
 USE = re.compile(r"^(?:pub )?use Rattle\.(\w+)\.specs\.(\w+)", re.MULTILINE)
 

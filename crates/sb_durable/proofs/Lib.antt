@@ -15,3 +15,18 @@ mod Batches
 mod Pieces
 mod Shortened
 pub mod Sending
+mod Torn
+mod SegmentContents
+mod SegmentReading
+mod Chain
+mod SegmentCrash
+mod Finding
+mod Walking
+mod Heads
+mod SegmentShortened
+mod Opened
+mod Mending
+mod SegmentPlaces
+mod Begun
+mod CutFiles
+mod Journals

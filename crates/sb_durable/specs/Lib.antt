@@ -14,3 +14,10 @@ pub mod Journal
 pub mod LogHeaders
 pub mod PendingEntries
 pub mod File
+pub mod SegmentBlocks
+pub mod Head
+pub mod Chain
+pub mod Segment
+pub mod SegmentEnds
+pub mod JournaledRuns
+pub mod JournalFaults

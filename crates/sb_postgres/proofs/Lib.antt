@@ -5,3 +5,14 @@ pub mod Takes
 pub mod Bodies
 pub mod Parameters
 pub mod Starts
+pub mod Scanning
+pub mod Turns
+pub mod Runs
+pub mod Quotes
+pub mod Comments
+pub mod Found
+pub mod Again
+pub mod Grammar
+pub mod Places
+pub mod Fine
+pub mod Marks

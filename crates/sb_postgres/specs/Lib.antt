@@ -6,3 +6,13 @@ pub mod Writing
 pub mod Startup
 pub mod StartupReading
 pub mod Answers
+pub mod Bytes
+pub mod Pieces
+pub mod Scan
+pub mod Lines
+pub mod Drafts
+pub mod Drafting
+pub mod Origins
+pub mod Cutting
+pub mod Statements
+pub mod Kinds

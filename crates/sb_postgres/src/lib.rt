@@ -7,6 +7,7 @@ mod fields;
 mod frame;
 mod item;
 mod lists;
+pub mod query;
 mod reading;
 mod server_message;
 mod startup;

@@ -10,9 +10,9 @@ use Rattle.sb_tenant.specs.declared.reply.Answer.{Answer}
 use Rattle.sb_desk.specs.declared.desk.CallError.{CallError}
 use Rattle.sb_desk.specs.Receipts.{newcomer}
 use Rattle.sb_desk.specs.Calls.{Calls, Session, shown}
-use Rattle.sb_pool.specs.Pool.{CallsOnce, IsDone}
-use Rattle.sb_pool.specs.declared.pool.Job.{Job}
-use Rattle.sb_pool.specs.declared.pool.Done.{Done}
+use Rattle.sb_replay.specs.Pool.{CallsOnce, IsDone}
+use Rattle.sb_replay.specs.declared.pool.Job.{Job}
+use Rattle.sb_replay.specs.declared.pool.Done.{Done}
 use Rattle.sb_replay.specs.Lists.{AllCut}
 use Rattle.sb_replay.specs.Sessions.{Exchange, Plays, any_lacks, commands_in, lacks_number, session_text, told_text}
 use Rattle.sb_replay.specs.Sheets.{Sheet, Tells, fresh, lines_of, telling, with_next}

@@ -7,3 +7,4 @@ pub mod Parts
 pub mod Replay
 pub mod Alone
 pub mod Fields
+pub mod Pool

@@ -11,8 +11,8 @@ use Rattle.sb_desk.specs.Calls.{Calls, Session, shown}
 use Rattle.sb_host.specs.Finish.{IsInOrder, gathered}
 use Rattle.sb_desk.specs.Stubs.{LeavesStub}
 use Rattle.sb_desk.specs.declared.stub.Stub.{Stub}
-use Rattle.sb_pool.specs.declared.pool.Job.{Job}
-use Rattle.sb_pool.specs.declared.pool.Done.{Done}
+use Rattle.sb_replay.specs.declared.pool.Job.{Job}
+use Rattle.sb_replay.specs.declared.pool.Done.{Done}
 use Rattle.sb_replay.specs.Lists.{AllCut, AllFrom}
 use Rattle.sb_replay.specs.Sessions.{Exchange, Leaves, any_lacks, commands_in, session_text}
 use Rattle.sb_replay.specs.Sheets.{Sheet, Tells, fresh, lines_of, telling, with_next}

@@ -8,6 +8,7 @@ mod finishing;
 mod fresh;
 pub mod laws;
 mod part;
+mod pool;
 mod reading;
 mod replaying;
 mod round;
@@ -16,5 +17,6 @@ mod sheet;
 
 pub use error::{ReplayError, ScriptError};
 pub use fresh::{Size, replay_fresh};
+pub use pool::{Done, Job, Pool, PoolError};
 pub use reading::read_script;
 pub use replaying::replay;

@@ -6,9 +6,9 @@ ghost use Rattle.sb_replay.specs.Lists.{AllCut};
 ghost use Rattle.sb_replay.specs.Parts.{AddsPart, Deals, DealsOne, Gathers, GathersOne, Moves, MovesIn, TellsDone, calls, calls_of};
 
 use crate::part::SessionPart;
+use crate::pool::{Done, Job, Pool};
 use crate::sheet::Sheet;
 use sb_host::{Naming, NoGate, Session};
-use sb_pool::{Done, Job, Pool};
 use std::alloc::{AllocError, Global};
 use std::sync::Wait;
 use std::thread::Threads;

@@ -1,3 +1,3 @@
-pub mod Markup
+pub mod Marked
 pub mod Targets
 pub mod Traced

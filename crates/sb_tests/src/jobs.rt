@@ -3,7 +3,7 @@ ghost use Rattle.sb_host.specs.Opening.{AreNames};
 
 use crate::hosts::{attach, finish, is_ok};
 use sb_host::{CallError, Calling, Gate, Host, Hosting, Naming, Opened, Stub};
-use sb_pool::{Done, Job, Pool, PoolError};
+use sb_replay::{Done, Job, Pool, PoolError};
 use sb_value::SessionId;
 use std::alloc::Global;
 use std::marker::Brand;

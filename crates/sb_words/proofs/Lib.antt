@@ -1,7 +1,3 @@
 mod Fitting
 mod Found
 mod Usual
-mod Cuts
-mod Lines
-mod Members
-mod Numbers

@@ -6,6 +6,3 @@ pub mod Within
 pub mod Asking
 pub mod Words
 pub mod Refusals
-pub mod Keys
-pub mod Text
-pub mod Seen

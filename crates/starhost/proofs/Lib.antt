@@ -1,14 +1,5 @@
 mod Runs
-mod Journals
 mod Told
 mod Servers
 mod Commands
-mod Dumped
-mod Loaded
-mod Played
-mod Called
-mod Written
-mod Digests
 mod Sending
-mod Shown
-mod KeyTexts

@@ -1,26 +1,28 @@
 -- What words ask for, and statuses.
-use Rattle.std.proofs.Common.{◌≡◌, ◌≤◌, ℕ, List, length, Option, Result, Ok, Err, subst, sym, arith, map}
+use Rattle.std.proofs.Common.{◌≡◌, ◌≤◌, ℕ, List, length, Option, Result, Ok, Err, refl, subst, sym, arith, map}
 use Rattle.std.proofs.lemmas.List.{length-map}
-use Rattle.std.specs.Prelude.{OnOk}
-use Rattle.clap.specs.Words.{Text}
+use Rattle.std.specs.Prelude.{IfErr, OnOk}
 use Rattle.sb_words.specs.Words.{AskFor, AskOnce, IsAsked}
 use Rattle.sb_words.specs.declared.invocation.Paths.{Paths}
 use Rattle.sb_words.specs.declared.invocation.Invocation.{Invocation}
 use Rattle.sb_words.specs.declared.words.Asked.{Asked}
 use Rattle.sb_words.specs.declared.words.Asked.TheVariants.{For}
-use Rattle.starhost.specs.Faults.{TellsEnd}
+use Rattle.sb_backup.specs.declared.error.BackupError.{BackupError}
+use Rattle.sb_durable.specs.declared.journal_fault.JournalFault.{JournalFault}
+use Rattle.starhost.specs.Faults.{TellsEnd, as_backup, as_journal}
 use Rattle.starhost.specs.declared.fault.ProgramFault.{ProgramFault}
+use Rattle.starhost.specs.declared.fault.ProgramFault.TheVariants.{Backup, Journal}
 
 -- texts are as many as words
-pub few_texts : {A : Type 0} (f : A → Text) (words : List A) → length words ≤ 1 → length (map f words) ≤ 1
+pub few_texts : {A B : Type 0} (f : A → B) (words : List A) → length words ≤ 1 → length (map f words) ≤ 1
 few_texts f words few = subst (λ (n : ℕ). n ≤ 1) (sym (length-map words f)) few
 
 -- what is read is what the words ask for
-pub asked_for : (words : List Text) (a : Asked) (r : Invocation) (f : Paths) → IsAsked words a → a ≡ For r f → AskFor words r
+pub asked_for : (words : _) (a : Asked) (r : Invocation) (f : Paths) → IsAsked words a → a ≡ For r f → AskFor words r
 asked_for words a r f h is = (subst (IsAsked words) is h).0
 
 -- and what else they ask for is the same
-pub as_asked : AskOnce → (words : List Text) (P : Invocation → Type 0) (a : Asked) (r q : Invocation) (f : Paths) → IsAsked words a → a ≡ For r f → AskFor words q → P r → P q
+pub as_asked : AskOnce → (words : _) (P : Invocation → Type 0) (a : Asked) (r q : Invocation) (f : Paths) → IsAsked words a → a ≡ For r f → AskFor words q → P r → P q
 as_asked once words P a r q f h is asks holds = subst P (once words r q (asked_for words a r f h is) asks) holds
 
 -- a command that is told as a success went well
@@ -28,3 +30,37 @@ module _ {E P : Type 0} (denies : E → Type 0) (told : E → Option (List ℕ))
   pub went_well : (ended : Result (Unit {0}) ProgramFault) (n : ℕ) → TellsEnd denies told errors more ended n → n ≡ 0 → OnOk ended P → P
   went_well (Ok value) n tells none h = h
   went_well (Err why) n tells none h = absurd (let one = tells.0 in omega arith)
+
+-- what sb_backup answered, as the program tells it
+pub ok_backup : {P : Type 0} (own : Result (Unit {0}) BackupError) (ended : Result (Unit {0}) ProgramFault) → ended ≡ as_backup own → OnOk own P → OnOk ended P
+ok_backup {P} own ended is holds = subst (λ (r : Result (Unit {0}) ProgramFault). OnOk r P) (sym is) (by own holds)
+  where
+    by : (r : Result (Unit {0}) BackupError) → OnOk r P → OnOk (as_backup r) P
+    by (Ok value) h = h
+    by (Err e) h = tt
+
+pub err_backup : {P : BackupError → Type 0} (own : Result (Unit {0}) BackupError) (ended : Result (Unit {0}) ProgramFault) → ended ≡ as_backup own → IfErr own P
+    → IfErr ended (λ why. (e : BackupError) × (why ≡ Backup e) × P e)
+err_backup {P} own ended is holds =
+    subst (λ (r : Result (Unit {0}) ProgramFault). IfErr r (λ why. (e : BackupError) × (why ≡ Backup e) × P e)) (sym is) (by own holds)
+  where
+    by : (r : Result (Unit {0}) BackupError) → IfErr r P → IfErr (as_backup r) (λ why. (e : BackupError) × (why ≡ Backup e) × P e)
+    by (Ok value) h = tt
+    by (Err e) h = (e, refl, h)
+
+-- and what sb_durable answered
+pub ok_journal : {P : Type 0} (own : Result (Unit {0}) JournalFault) (ended : Result (Unit {0}) ProgramFault) → ended ≡ as_journal own → OnOk own P → OnOk ended P
+ok_journal {P} own ended is holds = subst (λ (r : Result (Unit {0}) ProgramFault). OnOk r P) (sym is) (by own holds)
+  where
+    by : (r : Result (Unit {0}) JournalFault) → OnOk r P → OnOk (as_journal r) P
+    by (Ok value) h = h
+    by (Err e) h = tt
+
+pub err_journal : {P : JournalFault → Type 0} (own : Result (Unit {0}) JournalFault) (ended : Result (Unit {0}) ProgramFault) → ended ≡ as_journal own → IfErr own P
+    → IfErr ended (λ why. (e : JournalFault) × (why ≡ Journal e) × P e)
+err_journal {P} own ended is holds =
+    subst (λ (r : Result (Unit {0}) ProgramFault). IfErr r (λ why. (e : JournalFault) × (why ≡ Journal e) × P e)) (sym is) (by own holds)
+  where
+    by : (r : Result (Unit {0}) JournalFault) → IfErr r P → IfErr (as_journal r) (λ why. (e : JournalFault) × (why ≡ Journal e) × P e)
+    by (Ok value) h = tt
+    by (Err e) h = (e, refl, h)

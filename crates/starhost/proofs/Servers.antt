@@ -5,7 +5,8 @@ use Rattle.std.specs.Io.KnownBytes.{Appends}
 use Rattle.std.proofs.KnownBytes.{Appends-trans}
 use Rattle.sb_server.specs.Policies.{anyone, policy}
 use Rattle.starhost.specs.Ends.{EndsEarly, FailsToServe}
-use Rattle.starhost.specs.Totals.{TellsServer, TellsTrails, listening_line}
+use Rattle.starhost.specs.Totals.{TellsServer, TellsTrails}
+use Rattle.sb_monitor.specs.Listening.{listening_line}
 use Rattle.starhost.specs.declared.fault.ProgramFault.{ProgramFault}
 
 pub tells_both : (old mid new : Option (List ℕ)) (b bound t tenants port : ℕ) (ended : Result (Unit {0}) ProgramFault) → b ≡ bound → t ≡ tenants

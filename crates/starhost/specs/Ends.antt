@@ -10,10 +10,11 @@ use Rattle.sb_host.specs.Desk.{Stub}
 use Rattle.sb_server.specs.Policies.{Policy, anyone, policy}
 use Rattle.sb_server.specs.Closed.{LeavesClosed}
 use Rattle.sb_server.specs.declared.server.ServeError.{ServeError}
-use Rattle.starhost.specs.Faults.{unfinished_as, unserved_as}
-use Rattle.starhost.specs.Totals.{listening_line}
+use Rattle.sb_monitor.specs.Listening.{FailsToListen, listening_line}
+use Rattle.sb_monitor.specs.declared.listener.ListenError.{ListenError}
+use Rattle.starhost.specs.Faults.{unfinished_as, unheard_as, unserved_as}
 use Rattle.starhost.specs.declared.fault.ProgramFault.{ProgramFault}
-use Rattle.starhost.specs.declared.fault.ProgramFault.TheVariants.{Stream, CannotListen}
+use Rattle.starhost.specs.declared.fault.ProgramFault.TheVariants.{Stream}
 
 module _ {W : Type 0} (refuses : W → Type 0) (contents : W → Option (List ℕ)) where
   -- the writer fails; or nothing is written, for this reason
@@ -33,13 +34,9 @@ module _ {W : Type 0} (refuses : W → Type 0) (contents : W → Option (List �
       (Keeps (contents writer) (contents after) × ((e : ServeError) × (why ≡ unserved_as e)))
       ⊎ ((stubs : List Stub) × All (LeavesClosed p) stubs × FailsToTell bound tenants first stubs writer after why)
 
-  -- nothing listens at the port, or there was no memory
-  abbrev pub FailsToListen : W → W → ProgramFault → Type 0
-  FailsToListen writer after why = WritesNot writer after why ((why ≡ CannotListen) ⊎ (why ≡ Stream stream.NoMemory))
-
   -- a server without keys ends so, or behind its first line
   abbrev pub EndsEarly : ℕ → ℕ → ℕ → W → W → ProgramFault → Type 0
   EndsEarly bound tenants first writer after why =
-      FailsToListen writer after why
+      ((e : ListenError) × (why ≡ unheard_as e) × FailsToListen refuses contents writer after e)
       ⊎ ((port : ℕ) × (mid : W) × Appends (contents writer) (contents mid) (listening_line port)
       × FailsToServe (policy false anyone) bound tenants first mid after why)

@@ -3,7 +3,7 @@ use Rattle.std.specs.Prelude.{ℕ, ◌≡◌, ◌⊎◌, ◌+◌, List, ◌++◌
 use Rattle.sb_wire.specs.Faults.{fault_line}
 use Rattle.sb_wire.specs.declared.fault.StreamError.{StreamError}
 use Rattle.sb_wire.specs.declared.fault.StreamError.TheVariants as stream
-use Rattle.sb_words.specs.declared.keys.KeysError.TheVariants as keys
+use Rattle.sb_keys.specs.declared.keys.KeysError.TheVariants as keys
 use Rattle.sb_host.specs.declared.finish.FinishError.{FinishError}
 use Rattle.sb_host.specs.declared.finish.FinishError.TheVariants as finish
 use Rattle.sb_server.specs.declared.server.ServeError.{ServeError}
@@ -12,15 +12,18 @@ use Rattle.sb_replay.specs.declared.error.ReplayError.{ReplayError}
 use Rattle.sb_replay.specs.declared.error.ReplayError.TheVariants as replay
 use Rattle.starhost.specs.Commands.{Tells}
 use Rattle.starhost.specs.declared.fault.ProgramFault.{ProgramFault}
-use Rattle.starhost.specs.declared.key_source.Unread.{Unread}
-use Rattle.starhost.specs.declared.key_source.Unread.TheVariants.{File, TooLong, Keys}
-use Rattle.starhost.specs.declared.fault.ProgramFault.TheVariants.{Stream, CannotListen, CannotWait, CannotStart, WaitingFailed, CannotOpenJournal, JournalFailed, BadLine, NoTenant, TenantBusy, NoFolder, CannotLoad, CannotWrite, CannotDump, CannotAttach, TrailMissing, TrailMismatch, CannotWriteJournal, NoKeys, BadKeys, BadKey}
+use Rattle.sb_keys.specs.declared.key_source.Unread.{Unread}
+use Rattle.sb_keys.specs.declared.key_source.Unread.TheVariants.{File, TooLong, Keys}
+use Rattle.sb_backup.specs.declared.error.BackupError.{BackupError}
+use Rattle.sb_backup.specs.Errors.{error_text, one_number_text}
+use Rattle.sb_durable.specs.JournalFaults as durable
+use Rattle.sb_durable.specs.declared.journal_fault.JournalFault.{JournalFault}
+use Rattle.sb_durable.specs.declared.journal_fault.JournalFault.TheVariants as journal
+use Rattle.sb_monitor.specs.declared.listener.ListenError.{ListenError}
+use Rattle.sb_monitor.specs.declared.listener.ListenError.TheVariants as listen
+use Rattle.starhost.specs.declared.fault.ProgramFault.TheVariants.{Stream, CannotListen, CannotWait, CannotStart, WaitingFailed, Journal, Backup, BadLine, NoKeys, BadKeys, BadKey, CannotAttach, TrailMissing, TrailMismatch}
 
 -- ---- the lines
-
--- a text with a number behind it
-abbrev pub one_number_text : List ℕ → ℕ → List ℕ
-one_number_text label number = label ++ decimal number ++ codes "\n"
 
 -- a text with the numbers of a session behind it
 abbrev pub numbered_text : List ℕ → ℕ → ℕ → List ℕ
@@ -32,19 +35,12 @@ fault_text CannotListen = codes "fault: cannot listen\n"
 fault_text CannotWait = codes "fault: cannot wait\n"
 fault_text CannotStart = codes "fault: cannot start a thread\n"
 fault_text WaitingFailed = codes "fault: waiting failed\n"
-fault_text CannotOpenJournal = codes "fault: cannot open journal\n"
-fault_text JournalFailed = codes "fault: journal failed\n"
-fault_text CannotWriteJournal = codes "fault: cannot write journal\n"
+fault_text (Journal why) = durable.fault_text why
+fault_text (Backup why) = error_text why
 fault_text (BadLine n) = one_number_text (codes "fault: bad line ") n
-fault_text (NoTenant t) = one_number_text (codes "fault: no tenant ") t
-fault_text (TenantBusy t) = one_number_text (codes "fault: busy tenant ") t
-fault_text (CannotDump t) = one_number_text (codes "fault: cannot dump ") t
-fault_text NoFolder = codes "fault: no folder\n"
 fault_text NoKeys = codes "fault: no keys\n"
 fault_text (BadKeys n) = one_number_text (codes "fault: bad keys ") n
 fault_text BadKey = codes "fault: bad key\n"
-fault_text (CannotLoad t) = one_number_text (codes "fault: cannot load ") t
-fault_text (CannotWrite t) = one_number_text (codes "fault: cannot write ") t
 fault_text (CannotAttach t s) = numbered_text (codes "fault: cannot attach ") t s
 fault_text (TrailMissing t s) = numbered_text (codes "fault: trail missing ") t s
 fault_text (TrailMismatch t s) = numbered_text (codes "fault: trail mismatch ") t s
@@ -64,6 +60,25 @@ module _ {E : Type 0} (denies : E → Type 0) (told : E → Option (List ℕ)) (
 -- of a stream that failed
 abbrev pub IsOfStream : ProgramFault → Type 0
 IsOfStream why = (e : StreamError) × (why ≡ Stream e)
+
+-- of an input whose first line has no digest: a stream failed, or the line is no key
+abbrev pub RefusesDigest : ProgramFault → Type 0
+RefusesDigest why = IsOfStream why ⊎ (why ≡ BadKey)
+
+-- of a port at which nothing listens
+abbrev pub unheard_as : ListenError → ProgramFault
+unheard_as (listen.Stream e) = Stream e
+unheard_as listen.CannotListen = CannotListen
+
+-- of what sb_backup answered
+abbrev pub as_backup : Result (Unit {0}) BackupError → Result (Unit {0}) ProgramFault
+as_backup (Ok value) = Ok value
+as_backup (Err e) = Err (Backup e)
+
+-- of what sb_durable answered
+abbrev pub as_journal : Result (Unit {0}) JournalFault → Result (Unit {0}) ProgramFault
+as_journal (Ok value) = Ok value
+as_journal (Err e) = Err (Journal e)
 
 -- of keys that weren't read
 abbrev pub unread_as : Unread → ProgramFault
@@ -93,4 +108,4 @@ unserved_as serve.NoMemory = Stream stream.NoMemory
 unserved_as serve.NoPlace = CannotWait
 unserved_as serve.NoThread = CannotStart
 unserved_as serve.PollFailed = WaitingFailed
-unserved_as serve.NotKept = JournalFailed
+unserved_as serve.NotKept = Journal journal.Failed

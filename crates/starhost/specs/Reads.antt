@@ -7,17 +7,20 @@ use Rattle.sb_wire.specs.declared.fault.StreamError.{StreamError}
 use Rattle.sb_wire.specs.declared.summary.Summary.{Summary}
 use Rattle.sb_words.specs.declared.invocation.Invocation.{Invocation}
 use Rattle.sb_words.specs.declared.invocation.Invocation.TheVariants.{Run, Load, Serve, Keep, Replay, Parse, Dump, DumpAll, Compact, Key, Record}
-use Rattle.starhost.specs.KeyDigests.{RefusesDigest, TellsDigest}
+use Rattle.sb_keys.specs.KeyDigests.{TellsDigest}
 use Rattle.starhost.specs.Commands.{GoesFresh, Tells, TellsRun, line_of, status_of}
-use Rattle.starhost.specs.Dumps.{DumpsInput, HaveScripts, RefusesDump, RefusesDumps}
+use Rattle.sb_backup.specs.Dumps.{DumpsInput, HaveScripts, RefusesDump, RefusesDumps}
 use Rattle.starhost.specs.Ends.{EndsEarly}
-use Rattle.starhost.specs.Faults.{TellsEnd, TellsFault, unplayed_as}
-use Rattle.starhost.specs.JournaledRuns.{AnswersJournaled, EndsJournaled}
-use Rattle.starhost.specs.Loads.{AnswersLoaded, GoesLoaded, IsUnloaded}
+use Rattle.starhost.specs.Faults.{RefusesDigest, TellsEnd, TellsFault, unplayed_as}
+use Rattle.sb_durable.specs.JournaledRuns.{AnswersJournaled, EndsJournaled}
+use Rattle.sb_backup.specs.Loads.{AnswersLoaded, GoesLoaded, IsUnloaded}
 use Rattle.starhost.specs.Parses.{ParsesStream, TellsLines}
 use Rattle.starhost.specs.Totals.{TellsServer}
-use Rattle.starhost.specs.Outputs.{Writes, WritesOf}
+use Rattle.sb_backup.specs.Outputs.{Writes, WritesOf}
 use Rattle.starhost.specs.declared.fault.ProgramFault.{ProgramFault}
+use Rattle.starhost.specs.declared.fault.ProgramFault.TheVariants.{Backup, Journal}
+use Rattle.sb_backup.specs.declared.error.BackupError.{BackupError}
+use Rattle.sb_durable.specs.declared.journal_fault.JournalFault.{JournalFault}
 
 module _ {R W : Type 0} (remaining : R → Option (List ℕ)) (contents : W → Option (List ℕ)) (reader rest : R) (writer after : W) where
   -- with status 0 the writer has this, for all of the input where it is known
@@ -43,13 +46,13 @@ module _ {R W E : Type 0} (fails : R → Type 0) (remaining : R → Option (List
       × GoesFresh fails remaining refuses contents r.tenants r.bound reader rest writer after ended summary
       × TellsRun denies told is_terminal errors more summary ended
   Goes (Load r) =
-      ((why : ProgramFault) × IsUnloaded r.tenants why × (status ≡ 1) × (rest ≡ reader) × (after ≡ writer) × TellsFault denies told errors more why)
+      ((why : BackupError) × IsUnloaded r.tenants why × (status ≡ 1) × (rest ≡ reader) × (after ≡ writer) × TellsFault denies told errors more (Backup why))
       ⊎ ((ended : Result (Unit {0}) StreamError) × (summary : Summary) × (status ≡ status_of ended)
       × GoesLoaded fails remaining refuses contents r.tenants r.bound reader rest writer after ended summary
       × TellsRun denies told is_terminal errors more summary ended)
   Goes (Record r) =
       (ended : Result (Unit {0}) ProgramFault) × TellsEnd denies told errors more ended status
-      × IfErr ended (EndsJournaled fails remaining contents reader rest writer after r.tenants r.bound)
+      × IfErr ended (λ why. (e : JournalFault) × (why ≡ Journal e) × EndsJournaled fails remaining contents reader rest writer after r.tenants r.bound e)
   Goes (Serve s) =
       (ended : Result (Unit {0}) ProgramFault) × TellsEnd denies told errors more ended status × (rest ≡ reader)
       × IfErr ended (EndsEarly refuses contents s.hosting.run.bound s.hosting.run.tenants s.first_tenant writer after)
@@ -64,9 +67,9 @@ module _ {R W E : Type 0} (fails : R → Type 0) (remaining : R → Option (List
       × Tells denies told errors more (line_of ended)
   Goes (Dump d) =
       (ended : Result (Unit {0}) ProgramFault) × TellsEnd denies told errors more ended status
-      × IfErr ended (λ why. IfSome (remaining reader) (λ input. RefusesDump d.run.tenants d.run.bound d.tenant input why))
+      × IfErr ended (λ why. (e : BackupError) × (why ≡ Backup e) × IfSome (remaining reader) (λ input. RefusesDump d.run.tenants d.run.bound d.tenant input e))
   Goes (DumpAll r) =
       (ended : Result (Unit {0}) ProgramFault) × TellsEnd denies told errors more ended status × (after ≡ writer)
-      × IfErr ended (λ why. IfSome (remaining reader) (λ input. RefusesDumps r.tenants r.bound input why))
+      × IfErr ended (λ why. (e : BackupError) × (why ≡ Backup e) × IfSome (remaining reader) (λ input. RefusesDumps r.tenants r.bound input e))
   Goes (Compact r) = (ended : Result (Unit {0}) ProgramFault) × TellsEnd denies told errors more ended status × (rest ≡ reader) × (after ≡ writer)
   Goes Key = (ended : Result (Unit {0}) ProgramFault) × TellsEnd denies told errors more ended status × IfErr ended RefusesDigest

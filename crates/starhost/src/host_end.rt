@@ -3,7 +3,7 @@ ghost use Rattle.std.specs.Prelude.{◌≡◌, IfErr, IfOk, OnOk};
 ghost use Rattle.starhost.specs.Ends.{FailsToTell};
 ghost use Rattle.starhost.specs.Faults.{unfinished_as};
 ghost use Rattle.starhost.specs.Totals.{TellsTrails, trails_line};
-ghost use Rattle.starhost.specs.Outputs.{Writes};
+ghost use Rattle.sb_backup.specs.Outputs.{Writes};
 
 use crate::fault::ProgramFault;
 use sb_host::{FinishError, Host, Naming, Report, Stub};

@@ -1,35 +1,27 @@
 //! A server with a journal: it begins as the journal leaves it, and what is answered is recorded before it is sent.
-ghost use Rattle.std.specs.Prelude.{◌≡◌, ◌↔◌, OnOk, true};
+ghost use Rattle.std.specs.Prelude.{OnOk, true};
 ghost use Rattle.std.specs.Thread.{IsSend, IsSync};
 ghost use Rattle.sb_durable.specs.ServerContext.{AreKept};
-ghost use Rattle.starhost.specs.Totals.{TellsPort};
+ghost use Rattle.sb_monitor.specs.Listening.{TellsPort};
 
-use crate::event_log::EventLog;
 use crate::fault::ProgramFault;
-use crate::flusher::Flusher;
-use crate::pages::Pages;
 use crate::server_context::{Entrance, ServerContext, ServerEnd};
-use crate::status_port::StatusPort;
 use crate::system::System;
 use sb_durable::{
-    Disk, File as JournalFile, Head, Journal, JournalError, Played, Progress, Recorder, Syncing,
-    Wary, open_path, play,
+    Disk, File as JournalFile, Flusher, Head, JournalError, JournalFault, Recorder, Wary,
+    open_recorder, tell_no_journal, tell_not_recorded,
 };
 use sb_host::{Lending, Stub};
+use sb_monitor::{EventLog, Pages, StatusPort};
 use sb_server::{Admission, BackgroundTask, CommitHook, CommitStatus};
 use sb_wire::Sink;
 use sb_words::Syncs;
 use std::alloc::Global;
-use std::fs::File;
 use std::net::TcpListener;
-use std::rt::{Clock, Files};
+use std::rt::Clock;
 use std::sync::Wait;
 use std::sync::atomic::{AtomicBool, Ordering};
 use std::thread;
-use std::time::{Duration, Instant};
-
-/// The progress of a replay is logged once in so many seconds.
-const TOLD: u64 = 1;
 
 /// Records what tenants are answered.
 #[derive(Drop)]
@@ -40,14 +32,14 @@ struct JournalHook<'k, R, T> {
     lacks_memory: AtomicBool,
     has_failed: AtomicBool,
     /// Syncs what is written, if commits don't.
-    flusher: Option<&'k Flusher<'k, T>>,
+    flusher: Option<&'k Flusher<'k, EventLog<'k, T>>>,
 }
 
 impl<'k, R, T: Eprint + Clock> JournalHook<'k, R, T> {
     fn new(
         recorder: R,
         log: &'k EventLog<'k, T>,
-        flusher: Option<&'k Flusher<'k, T>>,
+        flusher: Option<&'k Flusher<'k, EventLog<'k, T>>>,
     ) -> JournalHook<'k, R, T> {
         JournalHook {
             recorder,
@@ -77,7 +69,7 @@ impl<'k, R, T: Eprint + Clock> JournalHook<'k, R, T> {
             _ => self.has_failed.swap(true, Ordering::SeqCst),
         };
         if !was_told {
-            self.log.tell_not_recorded(error);
+            tell_not_recorded(self.log, error);
         }
     }
 }
@@ -109,77 +101,6 @@ impl<'k, H: Lending, D: Disk, T: Eprint + Clock> CommitHook for JournalHook<'k, 
     }
 }
 
-/// Whether commits are synced.
-pub(crate) fn syncing_of(syncs: Syncs) -> Syncing
-    ensures { result ≡ Syncing.Always ↔ syncs ≡ Syncs.Always }
-{
-    match syncs {
-        Syncs::Always => Syncing::Always,
-        Syncs::Second | Syncs::Never => Syncing::Never,
-    }
-}
-
-/// Opens the journal at this path and replays it on a host. If that fails, the reason is logged.
-pub(crate) fn played_journal<H: Lending, T: Wait + Eprint + Clock + Files<File = File>>(
-    rt: &T,
-    alloc: Global,
-    host: H,
-    path: &str,
-    syncing: Syncing,
-    head: Head,
-    log: &EventLog<'_, T>,
-) -> Result<(Journal<JournalFile<Wary>>, Played), ProgramFault> {
-    let mut file = match open_path(rt, alloc, path, syncing, head) {
-        Ok(file) => file,
-        Err(error) => {
-            log.tell_no_journal(path, &error);
-            return Err(ProgramFault::CannotOpenJournal);
-        }
-    };
-    let mut playing = Playing::new(rt, log);
-    match play(rt, alloc, host, &mut file, &mut playing) {
-        Ok(played) => Ok((file, played)),
-        Err(error) => {
-            log.tell_no_journal(path, &error);
-            Err(ProgramFault::CannotOpenJournal)
-        }
-    }
-}
-
-/// Tells how far a journal is played.
-#[derive(Drop)]
-pub(crate) struct Playing<'k, T> {
-    rt: &'k T,
-    log: &'k EventLog<'k, T>,
-    told: Option<Instant>,
-}
-
-impl<'k, T> Playing<'k, T> {
-    pub(crate) fn new(rt: &'k T, log: &'k EventLog<'k, T>) -> Playing<'k, T> {
-        Playing {
-            rt,
-            log,
-            told: None,
-        }
-    }
-}
-
-impl<'k, T: Eprint + Clock> Progress for Playing<'k, T> {
-    fn tell(&mut self, records: u64, bytes: u64) {
-        let Ok(now) = Instant::now(self.rt) else {
-            return;
-        };
-        match self.told {
-            Some(told) if now.duration_since(told) < Duration::from_secs(TOLD) => {}
-            Some(_) => {
-                self.told = Some(now);
-                self.log.tell_played(records, bytes);
-            }
-            None => self.told = Some(now),
-        }
-    }
-}
-
 impl<'k, H: Lending + Sync, T: System + Sync> ServerContext<'k, H, T>
 where
     H::Session: Send,
@@ -193,11 +114,17 @@ where
     ) -> Result<ServerEnd, ProgramFault>
         ensures { OnOk result (TellsPort (W.contents writer.old) (W.contents writer.new)) }
     {
-        let (recorder, stubs) = match self.restart(path) {
-            Ok(restarted) => restarted,
-            Err(why) => return Err(why),
+        let head = Head {
+            tenants: self.plan.tenants,
+            bound: u64::from(self.plan.bound),
         };
-        if let Syncs::Second = self.paths.syncs {
+        let syncs = self.paths.syncs;
+        let opened = open_recorder(self.rt, self.alloc, self.host, path, syncs, head, self.log);
+        let (recorder, stubs) = match opened {
+            Ok(restarted) => restarted,
+            Err(why) => return Err(ProgramFault::Journal(why)),
+        };
+        if let Syncs::Second = syncs {
             return self.record_by_seconds(path, gate, recorder, stubs, writer);
         }
         let recording = JournalHook::new(recorder, self.log, None);
@@ -218,8 +145,8 @@ where
         let flusher = match Flusher::open(self.rt, path, self.log) {
             Ok(flusher) => flusher,
             Err(error) => {
-                self.log.tell_no_journal(path, &error);
-                return Err(ProgramFault::CannotOpenJournal);
+                tell_no_journal(self.log, path, &error);
+                return Err(ProgramFault::Journal(JournalFault::CannotOpen));
             }
         };
         let recording = JournalHook::new(recorder, self.log, Some(&flusher));
@@ -229,7 +156,7 @@ where
         };
         let served = self.serve_beside(&flusher, (&listener, &port), gate, &recording, stubs);
         if flusher.has_failed() {
-            return Err(ProgramFault::JournalFailed);
+            return Err(ProgramFault::Journal(JournalFault::Failed));
         }
         served
     }
@@ -237,7 +164,7 @@ where
     /// Serves the connections of this port while a thread syncs the journal.
     fn serve_beside<A: Admission + Sync, G: BackgroundTask, K: CommitHook + Sync>(
         &self,
-        flusher: &Flusher<'k, T>,
+        flusher: &Flusher<'k, EventLog<'k, T>>,
         ports: (&TcpListener, &Option<StatusPort<Pages<'_, H, A, T>>>),
         gate: Entrance<'_, '_, A, G>,
         commit_hook: &K,
@@ -259,32 +186,5 @@ where
                 served
             },
         )
-    }
-
-    /// Replays the journal at this path. Returns the recorder and the receipts of the replayed sessions.
-    fn restart(
-        &self,
-        path: &str,
-    ) -> Result<(Recorder<H, JournalFile<Wary>>, Vec<Stub>), ProgramFault> {
-        let head = Head {
-            tenants: self.plan.tenants,
-            bound: u64::from(self.plan.bound),
-        };
-        let syncing = syncing_of(self.paths.syncs);
-        match played_journal(
-            self.rt, self.alloc, self.host, path, syncing, head, self.log,
-        ) {
-            Ok(
-                (
-                    file,
-                    Played {
-                        stubs,
-                        recorded,
-                        ..
-                    },
-                ),
-            ) => { Ok((Recorder::new(self.alloc, self.host, file, recorded), stubs)) }
-            Err(why) => Err(why),
-        }
     }
 }

@@ -1,53 +1,34 @@
 //! The keys of a server: those of a file, which is read before it listens, and again where it changes.
 ghost use Rattle.std.specs.Prelude.{◌≡◌, OnOk};
-ghost use Rattle.starhost.specs.Totals.{TellsPort};
+ghost use Rattle.sb_monitor.specs.Listening.{TellsPort};
 
+use crate::ends::unread;
 use crate::fault::ProgramFault;
-use crate::key_list::KeyList;
-use crate::key_source::{KeyFiles, KeySource, Stamp, keys_at};
-use crate::key_watch::KeyWatch;
 use crate::server_context::{Entrance, ServerContext, ServerEnd};
 use crate::system::System;
 use sb_host::{Lending, Stub};
+use sb_keys::{AnyFiles, KeyFile, KeyFiles, KeyList, KeySource, KeyWatch, keys_at, tell_no_keys};
+use sb_server::{BackgroundTask, ShutdownSignal};
 use sb_wire::Sink;
-use std::fs::{self, File};
-use std::io;
-use std::rt::Files;
+use sb_words::Log;
+use std::sync::Wait;
 
-/// Whichever files a system has, of which no contract can say more.
-pub(crate) struct AnyFiles;
-
-impl KeyFiles for AnyFiles {
-    ghost use Rattle.std.specs.Prelude.{true};
-
-    ghost is_opened = { λ _. true };
-}
-
-/// The file of this path.
+/// Reads the list of keys again where its file changes, while the server runs.
 #[derive(Drop)]
-struct KeyFile<'k, 'p, T> {
-    rt: &'k T,
-    path: &'p str,
+struct KeyTask<'p, 'l, 'k, L: KeyFiles, S, O> {
+    watch: KeyWatch<'p, 'l, 'k, L, S, O>,
 }
 
-impl<'k, 'p, T: Files<File = File>> KeySource<AnyFiles> for KeyFile<'k, 'p, T> {
-    type File = File;
-
-    fn stamp(&self) -> Option<Stamp> {
-        let Ok(found) = fs::metadata(self.rt, self.path) else {
-            return None;
-        };
-        let Ok(changed) = found.modified() else {
-            return None;
-        };
-        Some(Stamp {
-            changed,
-            len: found.len(),
-        })
-    }
-
-    fn open(&self) -> io::Result<File> {
-        fs::open(self.rt, self.path)
+impl<'p, 'l, 'k, L: KeyFiles, S: KeySource<L>, O: Log> BackgroundTask
+    for KeyTask<'p, 'l, 'k, L, S, O> {
+    fn run<R: Wait>(&self, rt: &R, over: &ShutdownSignal) {
+        let mut last = self.watch.first();
+        for _ in rt.forever() {
+            if !over.lasts(rt) {
+                return;
+            }
+            last = self.watch.look(rt, last);
+        }
     }
 }
 
@@ -82,15 +63,17 @@ where
         let keys = match keys_at::<L, S>(self.alloc, &source) {
             Ok(keys) => keys,
             Err(why) => {
-                self.log.tell_no_keys(path, &why);
-                return Err(why.fault());
+                tell_no_keys(self.log, path, &why);
+                return Err(unread(&why));
             }
         };
         let list = KeyList::<L>::new(keys);
-        let watch = KeyWatch::new(self.alloc, source, path, stamp, &list, self.log);
+        let task = KeyTask {
+            watch: KeyWatch::new(self.alloc, source, path, stamp, &list, self.log),
+        };
         let gate = Entrance {
             admission: &list,
-            beside: &watch,
+            beside: &task,
         };
         self.admit(gate, loaded, writer)
     }

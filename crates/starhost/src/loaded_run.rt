@@ -4,18 +4,18 @@ ghost use Rattle.sb_wire.specs.Counts.{Summarizes};
 ghost use Rattle.sb_wire.specs.Stream.{AnswersInput, EndsBy, MayFail, OnWriteFault, Streams};
 ghost use Rattle.starhost.specs.Commands.{TellsRun, status_of};
 ghost use Rattle.starhost.specs.Faults.{TellsFault};
-ghost use Rattle.starhost.specs.Loads.{AnswersLoaded, GoesLoaded, IsUnloaded};
-ghost use Rattle.starhost.specs.declared.fault.ProgramFault.{ProgramFault as ItsProgramFault};
-ghost use Rattle.starhost.specs.Outputs.{WritesOf};
+ghost use Rattle.sb_backup.specs.Loads.{AnswersLoaded, GoesLoaded, IsUnloaded};
+ghost use Rattle.sb_backup.specs.declared.error.BackupError.{BackupError as ItsError};
+ghost use Rattle.sb_backup.specs.Outputs.{WritesOf};
 ghost use Rattle.sb_words.specs.Within.{AreRun};
 
-use crate::cell_loader::loaded_cell;
-use crate::console::Console;
-use crate::fault::tell_fault;
-use crate::run_report::tell_run;
+use crate::fault::{ProgramFault, tell_fault};
+use crate::run_report::{Console, tell_run};
+use sb_backup::loaded_cell;
 use sb_cell::Cell;
+use sb_monitor::EventLog;
 use sb_wire::{Sink, Source, Summary, run_stream};
-use sb_words::Run;
+use sb_words::{Run, Severity};
 use std::alloc::Global;
 use std::rt::{Clock, Files};
 
@@ -32,17 +32,18 @@ pub(crate) fn run_loaded<T: Eprint + Clock + Files, R: Source, W: Sink, E: Sink>
     requires { AreRun asked }
     ensures loads { result ≡ 0 → WritesOf R.remaining W.contents reader.old writer.old writer.new
         (AnswersLoaded asked.tenants asked.bound) }
-    ensures goes { ((why : ItsProgramFault) × IsUnloaded asked.tenants why × (result ≡ 1) × (reader.new ≡ reader.old)
-        × (writer.new ≡ writer.old) × TellsFault E.refuses E.contents errors.old.sink errors.new.sink why)
+    ensures goes { ((why : ItsError) × IsUnloaded asked.tenants why × (result ≡ 1) × (reader.new ≡ reader.old)
+        × (writer.new ≡ writer.old) × TellsFault E.refuses E.contents errors.old.sink errors.new.sink (ProgramFault.Backup why))
         ⊎ ((ended : _) × (summary : _) × (result ≡ status_of ended)
         × GoesLoaded R.fails R.remaining W.refuses W.contents asked.tenants asked.bound
         reader.old reader.new writer.old writer.new ended summary
         × TellsRun E.refuses E.contents errors.old.is_terminal errors.old.sink errors.new.sink
         summary ended) }
 {
-    match loaded_cell(rt, alloc, asked, load) {
+    let log = EventLog::new(rt, Severity::Info);
+    match loaded_cell(rt, alloc, &log, asked, load) {
         Ok(mut cell) => run_on(alloc, &mut cell, reader, writer, errors),
-        Err(why) => tell_fault(alloc, why, &mut errors.sink),
+        Err(why) => tell_fault(alloc, ProgramFault::Backup(why), &mut errors.sink),
     }
 }
 

@@ -1,50 +1,24 @@
 //! The program: lines of standard input answered on standard output, or a server on a port.
 #![tactic(auto)]
 
-mod activity;
-mod cell_dump;
-mod cell_loader;
-mod compaction;
-mod console;
-mod dump;
-mod event_log;
+mod ends;
 mod fault;
-mod flusher;
-mod folder;
-mod host_dump;
 mod host_end;
-mod host_loader;
-mod http_connection;
-mod http_outcome;
-mod journaled_run;
 mod journaled_server;
-mod key_digest;
-mod key_list;
-mod key_source;
-mod key_watch;
 mod keys;
-mod line_player;
-mod listener;
 mod loaded_run;
-mod memory;
-mod page_access;
-mod pages;
 mod parse;
 mod program;
 mod refusal_lines;
 mod replay;
 mod run_report;
-mod script_files;
-mod script_source;
 mod server;
 mod server_context;
-mod session_ender;
-mod status_port;
 mod system;
 mod terms;
 
-use crate::console::Console;
 use crate::program::command;
+use crate::run_report::Console;
 use sb_wire::{Fallible, StreamError};
 use std::fs::File;
 use std::io::IsTerminal as _;

@@ -2,7 +2,7 @@
 ghost use Rattle.std.specs.Prelude.{◌≡◌, ◌≤◌, ◌+◌, ◌++◌, List, ℕ, codes, decimal, length, IfOk, OnErr, OnOk};
 ghost use Rattle.sb_wire.specs.Stream.{MayFail, OnWriteFault};
 ghost use Rattle.starhost.specs.Parses.{ParsesStream, TellsBytes, TellsLines};
-ghost use Rattle.starhost.specs.Outputs.{WritesOf};
+ghost use Rattle.sb_backup.specs.Outputs.{WritesOf};
 
 use sb_syntax::{COMMAND_LIMIT, ParseError, parse};
 use sb_wire::{Piece, Responder, Sink, Source, StreamError, answer_stream, push_labelled};

@@ -7,12 +7,12 @@ ghost use Rattle.starhost.specs.Faults.{TellsEnd};
 ghost use Rattle.starhost.specs.Parses.{TellsLines};
 ghost use Rattle.sb_replay.specs.Replay.{Replays};
 ghost use Rattle.starhost.specs.Totals.{TellsServer};
-ghost use Rattle.starhost.specs.KeyDigests.{TellsDigest};
-ghost use Rattle.starhost.specs.Dumps.{DumpsInput, HaveScripts};
+ghost use Rattle.sb_keys.specs.KeyDigests.{TellsDigest};
+ghost use Rattle.sb_backup.specs.Dumps.{DumpsInput, HaveScripts};
 ghost use Rattle.starhost.specs.Reads.{Goes, Succeeds};
-ghost use Rattle.starhost.specs.JournaledRuns.{AnswersJournaled};
-ghost use Rattle.starhost.specs.Loads.{AnswersLoaded};
-ghost use Rattle.starhost.specs.Outputs.{Writes, WritesOf};
+ghost use Rattle.sb_durable.specs.JournaledRuns.{AnswersJournaled};
+ghost use Rattle.sb_backup.specs.Loads.{AnswersLoaded};
+ghost use Rattle.sb_backup.specs.Outputs.{Writes, WritesOf};
 ghost use Rattle.sb_words.specs.declared.invocation.Dumping.{Dumping as ItsDumping};
 ghost use Rattle.sb_words.specs.declared.invocation.HostOptions.{HostOptions as ItsHostOptions};
 ghost use Rattle.sb_words.specs.declared.invocation.Invocation.{Invocation as ItsInvocation};
@@ -24,23 +24,24 @@ ghost use Rattle.sb_words.specs.Words.{AskFor, AskForHelp, AskForVersion, HasFau
 ghost use Rattle.sb_words.specs.declared.argument.Unfit.{Unfit as ItsUnfit};
 ghost use Rattle.sb_words.specs.Refusals.{refusal_text};
 
-use crate::cell_dump::dump_all;
-use crate::compaction::compact;
-use crate::console::Console;
-use crate::dump::dump_tenant;
+use crate::ends::{of_backup, of_journal, undigested};
 use crate::fault::{ProgramFault, tell_fault};
-use crate::journaled_run::run_journaled;
-use crate::key_digest::tell_digest;
 use crate::loaded_run::run_loaded;
 use crate::parse::parse_lines;
 use crate::refusal_lines::{refuse, refuse_part};
 use crate::replay::replay;
-use crate::run_report::{SUCCESS, fault, tell_run, tell_stream_end};
+use crate::run_report::{Console, SUCCESS, fault, tell_run, tell_stream_end};
 use crate::server::serve;
 use crate::server_context::keep;
 use crate::system::System;
+use sb_backup::{dump_all, dump_tenant};
+use sb_durable::{compact, run_journaled};
+use sb_keys::tell_digest;
+use sb_monitor::EventLog;
 use sb_wire::{Sink, Source, StreamError, Summary, run_fresh, write_bytes};
-use sb_words::{ALLOWED, Asked, HELP, Invocation, Paths, Run, VERSION, read_words, words_ask_once};
+use sb_words::{
+    ALLOWED, Asked, HELP, Invocation, Paths, Run, Severity, VERSION, read_words, words_ask_once,
+};
 use std::alloc::Global;
 use std::convert::AsStr;
 
@@ -160,8 +161,9 @@ fn answer<T: System + Sync, R: Source, W: Sink, E: Sink>(
         }
         Invocation::Load(asked) => run_loaded(rt, alloc, asked, paths.load, reader, writer, errors),
         Invocation::Record(asked) => {
-            let ended = run_journaled(rt, alloc, asked, paths, reader, writer);
-            tell_end(alloc, ended, &mut errors.sink)
+            let log = EventLog::new(rt, Severity::Info);
+            let ended = run_journaled(rt, alloc, &log, asked, paths, reader, writer);
+            tell_end(alloc, of_journal(ended), &mut errors.sink)
         }
         Invocation::Keep(asked) => {
             let ended = keep(rt, alloc, asked, paths, writer);
@@ -169,19 +171,23 @@ fn answer<T: System + Sync, R: Source, W: Sink, E: Sink>(
         }
         Invocation::Dump(asked) => {
             let ended = dump_tenant(alloc, asked, reader, writer);
-            tell_end(alloc, ended, &mut errors.sink)
+            tell_end(alloc, of_backup(ended), &mut errors.sink)
         }
         Invocation::DumpAll(asked) => {
-            let ended = dump_all(rt, alloc, asked, paths.into, reader);
-            tell_end(alloc, ended, &mut errors.sink)
+            let log = EventLog::new(rt, Severity::Info);
+            let ended = dump_all(rt, alloc, &log, asked, paths.into, reader);
+            tell_end(alloc, of_backup(ended), &mut errors.sink)
         }
         Invocation::Compact(asked) => {
-            let ended = compact(rt, alloc, asked, paths.old, paths.new);
-            tell_end(alloc, ended, &mut errors.sink)
+            let log = EventLog::new(rt, Severity::Info);
+            let ended = compact(rt, alloc, &log, asked, paths.old, paths.new);
+            tell_end(alloc, of_journal(ended), &mut errors.sink)
         }
         Invocation::Key => {
-            let ended = tell_digest(alloc, reader, writer);
-            tell_end(alloc, ended, &mut errors.sink)
+            match tell_digest(alloc, reader, writer) {
+                Ok(()) => SUCCESS,
+                Err(why) => tell_fault(alloc, undigested(why), &mut errors.sink),
+            }
         }
     }
 }

@@ -3,7 +3,7 @@ ghost use Rattle.std.specs.Prelude.{◌≡◌, IfErr, OnOk};
 ghost use Rattle.sb_replay.specs.Replay.{Fails, Replays};
 ghost use Rattle.sb_replay.specs.declared.error.ReplayError.{ReplayError as ItsError};
 ghost use Rattle.starhost.specs.Faults.{unplayed_as};
-ghost use Rattle.starhost.specs.Outputs.{WritesOf};
+ghost use Rattle.sb_backup.specs.Outputs.{WritesOf};
 ghost use Rattle.sb_words.specs.Within.{AreHost};
 
 use crate::fault::ProgramFault;

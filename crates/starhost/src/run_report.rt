@@ -5,9 +5,15 @@ ghost use Rattle.sb_wire.specs.Stream.{MayFail};
 ghost use Rattle.starhost.specs.Commands.{IsSummaryLine, Tells, TellsRun, line_of, status_of};
 ghost use Rattle.sb_wire.specs.Faults.{fault_line};
 
-use crate::console::Console;
 use sb_wire::{Sink, StreamError, Summary, write_bytes, write_summary};
 use std::alloc::Global;
+
+/// Standard error, and whether it is a terminal.
+#[derive(Drop)]
+pub struct Console<E> {
+    pub sink: E,
+    pub is_terminal: bool,
+}
 
 pub(crate) const SUCCESS: u8 = 0;
 

@@ -5,15 +5,16 @@ ghost use Rattle.sb_server.specs.Policies.{policy};
 ghost use Rattle.starhost.specs.Ends.{EndsEarly, FailsToServe};
 ghost use Rattle.starhost.specs.Faults.{unserved_as};
 ghost use Rattle.starhost.specs.Totals.{TellsServer, TellsTrails};
-ghost use Rattle.starhost.specs.Outputs.{Writes};
+ghost use Rattle.sb_backup.specs.Outputs.{Writes};
 ghost use Rattle.sb_words.specs.Within.{AreServer};
 
-use crate::event_log::EventLog;
+use crate::ends::unheard;
 use crate::fault::ProgramFault;
 use crate::host_end::finish;
-use crate::listener::listen;
 use crate::terms::{Plan, plan_of};
+use sb_durable::JournalFault;
 use sb_host::{Host, Naming, Opened};
+use sb_monitor::{EventLog, listen};
 use sb_server::{
     Admission, CommitHook, NoBackgroundTask, NoJournal, Open, ServeError, ServerConfig,
     ServerMetrics, Watch, serve_all,
@@ -80,7 +81,7 @@ fn serve_host<
     let log = EventLog::new(rt, plan.log);
     let listener = match listen(rt, alloc, plan.address, &log, writer) {
         Ok(listener) => listener,
-        Err(why) => return Err(why),
+        Err(why) => return Err(unheard(why)),
     };
     let server_metrics = ServerMetrics::blank(alloc);
     let config = ServerConfig {
@@ -131,6 +132,6 @@ pub(crate) fn unserved(error: ServeError) -> ProgramFault
         ServeError::NoPlace => ProgramFault::CannotWait,
         ServeError::NoThread => ProgramFault::CannotStart,
         ServeError::PollFailed => ProgramFault::WaitingFailed,
-        ServeError::NotKept => ProgramFault::JournalFailed,
+        ServeError::NotKept => ProgramFault::Journal(JournalFault::Failed),
     }
 }

@@ -1,26 +1,22 @@
 //! A server that keeps its tenants: in a journal, or in files that it reads before and writes behind.
 ghost use Rattle.std.specs.Prelude.{◌≡◌, ◌++◌, ◌<◌, ◌≤◌, IfOk, OnOk};
 ghost use Rattle.sb_host.specs.Opening.{AreNames};
-ghost use Rattle.starhost.specs.Totals.{TellsPort, TellsServer, TellsTrails};
-ghost use Rattle.starhost.specs.Outputs.{Writes};
+ghost use Rattle.starhost.specs.Totals.{TellsServer, TellsTrails};
+ghost use Rattle.sb_monitor.specs.Listening.{TellsPort};
+ghost use Rattle.sb_backup.specs.Outputs.{Writes};
 ghost use Rattle.sb_words.specs.Within.{AreServer};
 
-use crate::event_log::EventLog;
+use crate::ends::{of_backup, unheard};
 use crate::fault::ProgramFault;
-use crate::folder::{Folder, FolderLock};
-use crate::host_dump::save_all;
 use crate::host_end::finish;
-use crate::host_loader::load_all;
-use crate::listener::listen;
-use crate::memory::memory_file;
-use crate::pages::Pages;
-use crate::script_files::ScriptFiles;
-use crate::script_source::FolderScripts;
 use crate::server::{OUT_OF_MEMORY, opened_by, unserved};
-use crate::status_port::{StatusPort, bound_to, serve_beside};
 use crate::system::System;
 use crate::terms::{Plan, plan_of};
+use sb_backup::{
+    BackupError, Folder, FolderLock, FolderScripts, ScriptFiles, load_folder, save_all,
+};
 use sb_host::{Host, Lending, Naming, Opened, Stub};
+use sb_monitor::{EventLog, Pages, StatusPort, listen, memory_file, serve_beside};
 use sb_server::{
     Admission, BackgroundTask, CommitHook, NoBackgroundTask, NoJournal, Open, ServerConfig,
     ServerMetrics, serve_all,
@@ -164,11 +160,11 @@ where
     {
         let _lock = match self.lock_folder() {
             Ok(lock) => lock,
-            Err(why) => return Err(why),
+            Err(why) => return Err(ProgramFault::Backup(why)),
         };
         let loaded = match self.prepare() {
             Ok(stubs) => stubs,
-            Err(why) => return Err(why),
+            Err(why) => return Err(ProgramFault::Backup(why)),
         };
         match self.paths.keys {
             Some(path) => self.with_keys(path, loaded, writer),
@@ -226,7 +222,7 @@ where
             Ok(port) => {
                 match listen(self.rt, self.alloc, self.plan.address, self.log, writer) {
                     Ok(listener) => Ok((listener, port)),
-                    Err(why) => Err(why),
+                    Err(why) => Err(unheard(why)),
                 }
             }
             Err(why) => Err(why),
@@ -277,15 +273,9 @@ where
         let Some(address) = self.plan.status else {
             return Ok(None);
         };
-        match bound_to(self.rt, address) {
-            Ok((listener, port)) => {
-                self.log.tell_status(port);
-                Ok(Some(StatusPort::new(listener, self.pages(admission))))
-            }
-            Err(error) => {
-                self.log.tell_cannot_listen(address.port(), &error);
-                Err(ProgramFault::CannotListen)
-            }
+        match StatusPort::open(self.rt, address, self.log, self.pages(admission)) {
+            Ok(port) => Ok(Some(port)),
+            Err(_) => Err(ProgramFault::CannotListen),
         }
     }
 
@@ -306,35 +296,24 @@ where
     }
 
     /// Locks the folder to which the tenants are to be written, if there is to be one.
-    fn lock_folder(&self) -> Result<Option<FolderLock>, ProgramFault> {
+    fn lock_folder(&self) -> Result<Option<FolderLock>, BackupError> {
         let Some(path) = self.paths.dump_to else {
             return Ok(None);
         };
-        let folder = folder_at(self.plan, path);
-        if !folder.is_found(self.rt, self.log) {
-            return Err(ProgramFault::NoFolder);
-        }
-        match folder.lock(self.rt, self.log) {
-            Some(lock) => Ok(Some(lock)),
-            None => Err(ProgramFault::NoFolder),
-        }
+        Ok(Some(folder_at(self.plan, path).claim(self.rt, self.log)?))
     }
 
     /// Makes the tenants from the files of a folder, if there is to be one.
-    fn prepare(&self) -> Result<Vec<Stub>, ProgramFault> {
+    fn prepare(&self) -> Result<Vec<Stub>, BackupError> {
         let Some(path) = self.paths.load else {
             return Ok(Vec::new(self.alloc));
         };
-        let folder = folder_at(self.plan, path);
-        if !folder.is_found(self.rt, self.log) {
-            return Err(ProgramFault::NoFolder);
-        }
         let scripts = FolderScripts {
             rt: self.rt,
-            folder,
+            folder: folder_at(self.plan, path),
             log: self.log,
         };
-        load_all(self.rt, self.alloc, self.host, folder.first, &scripts)
+        load_folder(self.alloc, self.host, &scripts)
     }
 
     /// Writes the tenants to their files, if that is asked for.
@@ -348,7 +327,7 @@ where
                     folder: folder_at(self.plan, path),
                     log: self.log,
                 };
-                save_all(&files, self.host)
+                of_backup(save_all(&files, self.host))
             }
             None => Ok(()),
         }

@@ -1,6 +1,6 @@
 use Rattle.std.proofs.Common.{[], ◌∷◌, refl}
 use Rattle.sb_desk.specs.Calls.{Session}
-use Rattle.sb_pool.specs.declared.pool.Job.{Job}
+use Rattle.sb_replay.specs.declared.pool.Job.{Job}
 use Rattle.sb_replay.specs.declared.round.Waiting.TheVariants.{Called}
 use Rattle.sb_replay.proofs.round.deal_one.Goals as goal
 

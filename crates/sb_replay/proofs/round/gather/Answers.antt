@@ -1,7 +1,7 @@
 use Rattle.std.proofs.Common.{◌≡◌, [], ◌++◌, List, length, refl, sym, ap, ◌∙◌, subst, append_assoc, append-nil, length-append, arith}
 use Rattle.std.specs.Vec.Iter.{into_iter_items}
 use Rattle.std.proofs.lemmas.List.{nil_from_length}
-use Rattle.sb_pool.specs.declared.pool.Done.{Done}
+use Rattle.sb_replay.specs.declared.pool.Done.{Done}
 use Rattle.sb_replay.specs.declared.part.SessionPart.{SessionPart}
 use Rattle.sb_replay.specs.declared.round.Waiting.{Waiting}
 use Rattle.sb_replay.specs.Lists.{AllCut}

@@ -1,4 +1,4 @@
-use Rattle.sb_status.proofs.Markup.{text-plain}
+use Rattle.sb_status.proofs.Marked.{text-plain}
 use Rattle.sb_status.proofs.laws.texts_are_no_markup.Goals as goal
 
 pub returns : goal.returns

@@ -1,5 +1,5 @@
 use Rattle.std.proofs.Common.{inr}
-use Rattle.starhost.proofs.Loaded.{answers_loaded}
+use Rattle.sb_backup.proofs.Loaded.{answers_loaded}
 use Rattle.starhost.proofs.loaded_run.run_loaded.Goals as goal
 
 pub returns-in-Ok-clause-loads : goal.returns-in-Ok-clause-loads

@@ -1,6 +1,4 @@
 use Rattle.std.proofs.Common.{◌≡◌, ◌⊎◌, ℕ, List, map, inl, inr, refl, subst}
-use Rattle.clap.specs.Words.{Text}
-use Rattle.clap.specs.declared.error.kind.ErrorKind.TheVariants.{DisplayHelp, DisplayVersion}
 use Rattle.sb_words.specs.Words.{AskFor, IsAsked}
 use Rattle.sb_words.specs.declared.invocation.Invocation.{Invocation}
 use Rattle.sb_words.specs.declared.invocation.Invocation.TheVariants.{Run, Load, Serve, Keep, Replay, Parse, Dump, DumpAll, Key, Record}
@@ -13,7 +11,7 @@ use Rattle.starhost.proofs.program.command.Goals as goal
 pub returns-in-Ok-For : goal.returns-in-Ok-For
 returns-in-Ok-For g c =
     let b = c.in-Ok-For in
-    let words : List Text = map g.S.AsStr.text c.args.words.now in
+    let words = map g.S.AsStr.text c.args.words.now in
     let Has : Invocation → Type 0 = Succeeds g.R.Read.remaining g.W.Write.contents c.args.reader.now c.answer.new.reader c.args.writer.now c.answer.new.writer in
     let has : (q : Invocation) → AskFor words q → c.answer.result ≡ 0 → Has q = λ q asks ok.
     as_asked c.words_ask_once.ensures.once words Has b.field-0 b.asked q b.paths b.ensures.asked b.field-0-is asks (c.answer.ensures.succeeds ok) in
@@ -35,13 +33,13 @@ returns-in-Ok-For g c =
 -- ---- questions, and words that are refused
 
 pub returns-in-Ok-Help-clause-usual : goal.returns-in-Ok-Help-clause-usual
-returns-in-Ok-Help-clause-usual g c = λ few ok. let words : List Text = map g.S.AsStr.text c.args.words.now in absurd (c.words_ask_once.ensures.one_thing words _ (c.words_ask_once.ensures.usual words (few_texts g.S.AsStr.text c.args.words.now few)) DisplayHelp (rw c.in-Ok-Help.field-0-is at c.in-Ok-Help.ensures.asked))
+returns-in-Ok-Help-clause-usual g c = λ few ok. let words = map g.S.AsStr.text c.args.words.now in absurd (c.words_ask_once.ensures.one_thing words _ (c.words_ask_once.ensures.usual words (few_texts g.S.AsStr.text c.args.words.now few)) _ (rw c.in-Ok-Help.field-0-is at c.in-Ok-Help.ensures.asked))
 
 pub returns-in-Ok-Help-clause-asked : goal.returns-in-Ok-Help-clause-asked
 returns-in-Ok-Help-clause-asked g c = inr (inl (rw c.in-Ok-Help.field-0-is at c.in-Ok-Help.ensures.asked, refl, c.show.ensures))
 
 pub returns-in-Ok-Version-clause-usual : goal.returns-in-Ok-Version-clause-usual
-returns-in-Ok-Version-clause-usual g c = λ few ok. let words : List Text = map g.S.AsStr.text c.args.words.now in absurd (c.words_ask_once.ensures.one_thing words _ (c.words_ask_once.ensures.usual words (few_texts g.S.AsStr.text c.args.words.now few)) DisplayVersion (rw c.in-Ok-Version.field-0-is at c.in-Ok-Version.ensures.asked))
+returns-in-Ok-Version-clause-usual g c = λ few ok. let words = map g.S.AsStr.text c.args.words.now in absurd (c.words_ask_once.ensures.one_thing words _ (c.words_ask_once.ensures.usual words (few_texts g.S.AsStr.text c.args.words.now few)) _ (rw c.in-Ok-Version.field-0-is at c.in-Ok-Version.ensures.asked))
 
 pub returns-in-Ok-Version-clause-asked : goal.returns-in-Ok-Version-clause-asked
 returns-in-Ok-Version-clause-asked g c = inr (inr (inl (rw c.in-Ok-Version.field-0-is at c.in-Ok-Version.ensures.asked, refl, c.show-in-Ok-Version.ensures)))

@@ -2,8 +2,8 @@ use denote.Param.Send.{arg_sync, param_sync, sendable}
 use Rattle.std.proofs.Crossing.{crosses}
 use Rattle.sb_durable.proofs.Sending.{opened_send}
 use Rattle.starhost.proofs.Sending.{recorder_sync}
-use Rattle.starhost.proofs.flusher.Flusher.TheSendSync as flusher
-use Rattle.starhost.proofs.event_log.EventLog.TheSendSync as log
+use Rattle.sb_durable.proofs.flusher.Flusher.TheSendSync as flusher
+use Rattle.sb_monitor.proofs.event_log.EventLog.TheSendSync as log
 use Rattle.starhost.proofs.journaled_server.JournalHook.TheSendSync as recording
 use Rattle.starhost.proofs.server_context.ServerContext.record.Goals as goal
 

@@ -1,8 +1,8 @@
 use denote.Param.Send.{arg_sync, param_sync, sendable}
 use Rattle.std.proofs.Crossing.{crosses}
 use Rattle.sb_server.proofs.server_metrics.ServerMetrics.TheSendSync as server_metrics
-use Rattle.starhost.proofs.Sending.{pages_sync}
-use Rattle.starhost.proofs.status_port.StatusPort.TheSendSync as port
+use Rattle.sb_monitor.proofs.Sending.{pages_sync}
+use Rattle.sb_monitor.proofs.status_port.StatusPort.TheSendSync as port
 use Rattle.starhost.proofs.server_context.ServerContext.serve_at.Goals as goal
 
 -- the threads share what is shown, and the port

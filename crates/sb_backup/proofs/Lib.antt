@@ -1,0 +1,5 @@
+mod Dumped
+pub mod Loaded
+mod Played
+mod Called
+mod Written

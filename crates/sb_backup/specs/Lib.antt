@@ -1,0 +1,7 @@
+pub mod Outputs
+pub mod Dumps
+pub mod Loads
+pub mod Calls
+pub mod HostDumps
+pub mod LoadedCells
+pub mod Errors

@@ -1,0 +1,101 @@
+-- What a crash leaves while a segment is begun.
+use Rattle.std.proofs.Common.{◌≡◌, ◌⊎◌, ℕ, ◌+◌, ◌<◌, ◌≤◌, List, [], ◌∷◌, ◌++◌, true, length, get_or, take, drop, ◌-◌, refl, sym, ◌∙◌, ap, subst, inl, inr, arith, append-nil, ◌≢◌}
+use Rattle.std.proofs.lemmas.Bool.{cases_eq}
+use Rattle.std.proofs.lemmas.List.{drop_all, take_at}
+use Rattle.sqlite_disk.specs.Disk.{Holds, Torn, Cut, Only}
+use Rattle.sb_durable.specs.Head.{Head, IsHead, IsUnbegun, IsShut, IsReady, mark, head_bytes, head_digest, Stands}
+use Rattle.sb_durable.specs.Segment.{HasAll, IsBegun, head_in}
+use Rattle.sb_durable.specs.declared.segment.segment.Segment.{Segment}
+use Rattle.sb_durable.proofs.Torn.{torn_front, torn_byte, cut_front, written_behind}
+use Rattle.sb_durable.proofs.Finding.{held_front}
+use Rattle.sb_durable.proofs.Heads.{length-head}
+use Rattle.sb_durable.proofs.Mending.{rest_stands}
+
+-- a file of eight bytes at most is written anew
+pub left_short : (old c : List ℕ) → length old ≤ 8 → Torn 0 8 old c → IsUnbegun c
+left_short old c short torn = inl (omega (arith, short, torn.no_longer))
+
+pub short_ready : (old c : List ℕ) → length old ≤ 8 → Torn 0 8 old c → Holds c 0 (0 ∷ mark) → IsReady c
+short_ready old c short torn holds = record {
+  gate = 0;
+  shut = omega arith;
+  whole = held_front c (0 ∷ mark) 0 holds ∙ ap (λ (l : List ℕ). 0 ∷ (mark ++ l)) (drop_all 8 c (omega (arith, short, torn.no_longer)));
+}
+
+-- what is behind the mark is cut off
+marked_cut : (gate : ℕ) (rest old c : List ℕ) → old ≡ gate ∷ (mark ++ rest) → Cut 8 old c → c ≡ gate ∷ (mark ++ drop 8 c)
+marked_cut gate rest old c is cut = cut_front old (gate ∷ mark) rest c 8 is (omega arith) cut
+
+pub left_cut : (old c : List ℕ) → IsShut old → Cut 8 old c → IsUnbegun c
+left_cut old c shut cut = inr (shut.gate, drop 8 c, inl shut.shut, marked_cut shut.gate shut.rest old c shut.whole cut)
+
+pub cut_ready : (old c : List ℕ) → IsShut old → Cut 8 old c → length c ≡ 8 → IsReady c
+cut_ready old c shut cut size =
+    record { gate = shut.gate; shut = shut.shut; whole = marked_cut shut.gate shut.rest old c shut.whole cut ∙ ap (λ (l : List ℕ). shut.gate ∷ (mark ++ l)) (drop_all 8 c (omega (arith, size))) }
+
+-- a gate that isn't open
+pub shut_there : (old : List ℕ) → 8 < length old → IsUnbegun old → get_or old 0 0 ≢ 70 → IsShut old
+shut_there old long (inl short) shut = absurd (omega (arith, short, long))
+shut_there old long (inr (gate, rest, _, is)) shut = record { gate = gate; rest = rest; shut = λ one. shut (ap (λ (l : List ℕ). get_or l 0 0) is ∙ one); whole = is }
+
+-- while an open gate is shut
+pub left_shut : (old c : List ℕ) → 8 < length old → IsUnbegun old → get_or old 0 0 ≡ 70 → Torn 0 1 old c → IsUnbegun c
+left_shut old c long (inl short) opened torn = absurd (omega (arith, short, long))
+left_shut old c long (inr (gate, rest, inl shut, is)) opened torn = absurd (shut (ap (λ (l : List ℕ). get_or l 0 0) (sym is) ∙ opened))
+left_shut old c long (inr (gate, rest, inr cut, is)) opened torn = inr (get_or c 0 0, rest, inr cut, torn_byte old [] (mark ++ rest) c gate is torn)
+
+pub shut_now : (old c : List ℕ) → 8 < length old → IsUnbegun old → Torn 0 1 old c → Holds c 0 (0 ∷ []) → IsShut c
+shut_now old c long (inl short) torn holds = absurd (omega (arith, short, long))
+shut_now old c long (inr (gate, rest, _, is)) torn holds =
+    record { gate = 0; rest = rest; shut = omega arith; whole = torn_byte old [] (mark ++ rest) c gate is torn ∙ ap (λ (g : ℕ). g ∷ (mark ++ rest)) (holds.each 0 (omega arith)) }
+
+module _ (old bytes rest : List ℕ) (ready : IsReady old) (are : bytes ≡ 70 ∷ (mark ++ rest)) where
+  -- while a head is written behind the mark
+  pub left_head : (n : ℕ) (c : List ℕ) → Torn 8 n old c → IsUnbegun c
+  left_head n c torn = inr (ready.gate, drop 8 c, inl ready.shut, torn_front old (ready.gate ∷ mark) [] c 8 n ready.whole (omega arith) torn)
+
+  tail_is : take (length bytes - 8) (drop 8 bytes) ≡ rest
+  tail_is =
+      let size : length bytes - 8 ≡ length rest = omega (arith, ap length are) in
+      ap (λ (l : List ℕ). take (length bytes - 8) (drop 8 l)) are ∙ ap (λ (n : ℕ). take n rest) size ∙ ap (λ (l : List ℕ). take (length rest) l) (sym (append-nil rest)) ∙ take_at rest [] (length rest) refl
+
+  pub tail_some : 8 < length bytes → 0 < length (take (length bytes - 8) (drop 8 bytes))
+  tail_some long = omega (arith, long, ap length tail_is, ap length are)
+
+  pub staged_head : (tail mid : List ℕ) → tail ≡ take (length bytes - 8) (drop 8 bytes) → Torn 8 (length tail) old mid → Holds mid 8 tail → mid ≡ ready.gate ∷ (mark ++ rest)
+  staged_head tail mid same torn holds =
+      let eight : 8 ≡ length old = sym (ap length ready.whole) in
+      written_behind old tail mid (subst (λ n. Torn n (length tail) old mid) eight torn) (subst (λ n. Holds mid n tail) eight holds)
+      ∙ ap (λ (l : List ℕ). l ++ tail) ready.whole
+      ∙ ap (λ (l : List ℕ). ready.gate ∷ (mark ++ l)) (same ∙ tail_is)
+
+  -- while its gate is opened
+  head_torn : (mid c : List ℕ) → mid ≡ ready.gate ∷ (mark ++ rest) → Torn 0 1 mid c → c ≡ get_or c 0 0 ∷ (mark ++ rest)
+  head_torn mid c is torn = torn_byte mid [] (mark ++ rest) c ready.gate is torn
+
+  pub left_head_gate : (mid c : List ℕ) → mid ≡ ready.gate ∷ (mark ++ rest) → Torn 0 1 mid c → IsUnbegun c ⊎ (c ≡ bytes)
+  left_head_gate mid c is torn = elim (cases_eq (get_or c 0 0) 70) [
+    | inl opened ↦ inr (head_torn mid c is torn ∙ ap (λ (g : ℕ). g ∷ (mark ++ rest)) opened ∙ sym are)
+    | inr shut ↦ inl (inr (get_or c 0 0, rest, inl shut, head_torn mid c is torn))
+  ]
+
+  pub head_opened : (mid c : List ℕ) → mid ≡ ready.gate ∷ (mark ++ rest) → Torn 0 1 mid c → Holds c 0 (70 ∷ []) → c ≡ bytes
+  head_opened mid c is torn holds = head_torn mid c is torn ∙ ap (λ (g : ℕ). g ∷ (mark ++ rest)) (holds.each 0 (omega arith)) ∙ sym are
+
+-- a head and a shut gate
+pub head_stands : (head : Head) (file : List ℕ) → IsHead head → file ≡ head_bytes head ++ 0 ∷ [] → Stands head [] file
+head_stands head file fits is = rest_stands head [] file fits tt (record { gate = 0; shut = omega arith; whole = is })
+
+pub begun_has : {D : Type 0} (seen : D → List ℕ) (may_leave : D → List ℕ → Type 0) (segment : Segment D) (head : Head) → IsHead head → IsBegun head segment.beginning → seen segment.device ≡ head_bytes head ++ 0 ∷ []
+    → Only (seen segment.device) (may_leave segment.device) → segment.end.at ≡ 36 + length segment.beginning.settings.items → segment.end.chain ≡ segment.beginning.own → segment.is_settled ≡ true → HasAll seen may_leave segment []
+begun_has seen may_leave segment head fits begun is durable at chain settled =
+    let here = head_in segment.beginning in
+    let small : IsHead here = subst IsHead (sym begun.same) fits in
+    let own : segment.beginning.own ≡ head_digest here = begun.own ∙ ap (λ (h : Head). head_digest h) (sym begun.same) in
+    let whole : seen segment.device ≡ head_bytes here ++ 0 ∷ [] = is ∙ ap (λ (h : Head). head_bytes h ++ 0 ∷ []) (sym begun.same) in
+    record {
+      knows = record { stands = head_stands here (seen segment.device) small whole; own = own; end = record { at = omega (arith, at, length-head here); chain = chain ∙ own } };
+      file = record { gate = 0; shut = omega arith; whole = whole };
+      durable = durable;
+      settled = settled;
+    }

@@ -1,0 +1,31 @@
+use Rattle.std.proofs.Common.{inl, arith, refl, ◌∙◌}
+use Rattle.sb_durable.proofs.SegmentCrash.{left_behind, left_gate, has_more, long}
+use Rattle.sb_durable.proofs.segment.segment.Segment.append.Goals as goal
+
+-- the body is written behind the shut gate
+pub returns-in_err-write_at-clause-any_moment : goal.returns-in_err-write_at-clause-any_moment
+returns-in_err-write_at-clause-any_moment g c contents has file left =
+    let size = long _ _ _ contents has _ _ _ c.requires c.digest_of-own.ensures.value (c.deref.ensures.value ∙ c.in_ok-behind.ensures) in
+    inl (left_behind _ _ _ contents has _ _ (omega (arith, size, c.requires)) c.write_at.ensures.crash file left)
+
+pub returns-in_err-sync-clause-any_moment : goal.returns-in_err-sync-clause-any_moment
+returns-in_err-sync-clause-any_moment g c contents has file left =
+    let size = long _ _ _ contents has _ _ _ c.requires c.digest_of-own.ensures.value (c.deref.ensures.value ∙ c.in_ok-behind.ensures) in
+    inl (left_behind _ _ _ contents has _ _ (omega (arith, size, c.requires)) c.write_at.ensures.crash file (c.sync.ensures.crash file left))
+
+-- and then the gate is opened
+pub returns-in_err-write_at-2-clause-any_moment : goal.returns-in_err-write_at-2-clause-any_moment
+returns-in_err-write_at-2-clause-any_moment g c contents has file left =
+    left_gate _ _ _ contents has _ _ _ c.requires c.digest_of-own.ensures.value (c.deref.ensures.value ∙ c.in_ok-behind.ensures) _ _ _ c.write_at.ensures.others c.in_ok-write_at.ensures.written c.in_ok-sync.ensures.durable c.write_at-2.ensures.crash file left
+
+pub returns-in_err-sync-2-clause-any_moment : goal.returns-in_err-sync-2-clause-any_moment
+returns-in_err-sync-2-clause-any_moment g c contents has file left =
+    left_gate _ _ _ contents has _ _ _ c.requires c.digest_of-own.ensures.value (c.deref.ensures.value ∙ c.in_ok-behind.ensures) _ _ _ c.write_at.ensures.others c.in_ok-write_at.ensures.written c.in_ok-sync.ensures.durable c.write_at-2.ensures.crash file (c.sync-2.ensures.crash file left)
+
+pub returns-clause-any_moment : goal.returns-clause-any_moment
+returns-clause-any_moment g c contents has file left =
+    left_gate _ _ _ contents has _ _ _ c.requires c.digest_of-own.ensures.value (c.deref.ensures.value ∙ c.in_ok-behind.ensures) _ _ _ c.write_at.ensures.others c.in_ok-write_at.ensures.written c.in_ok-sync.ensures.durable c.write_at-2.ensures.crash file (c.sync-2.ensures.crash file left)
+
+pub returns-clause-ok : goal.returns-clause-ok
+returns-clause-ok g c contents has =
+    has_more _ _ _ contents has _ _ _ c.requires c.digest_of-own.ensures.value (c.deref.ensures.value ∙ c.in_ok-behind.ensures) _ _ _ _ _ (omega arith) refl c.write_at.ensures.others c.in_ok-write_at.ensures.written c.sync.ensures.seen c.write_at-2.ensures.others (c.in_ok-write_at-2.ensures.written (omega arith)) c.sync-2.ensures.seen c.in_ok-sync-2.ensures.durable

@@ -1,0 +1,38 @@
+-- Promise: one digest at the end binds a whole segment.
+use Rattle.std.specs.Prelude.{◌≡◌, ◌≢◌, ◌⊎◌, ℕ, List, [], ◌∷◌, take}
+use Rattle.sqlite_disk.specs.Digest.{digest}
+use Rattle.sb_durable.specs.Head.{Head, IsHead, IsUnbegun, head_digest, last_digest, Stands}
+use Rattle.sb_durable.specs.Segment.{Bears}
+use Rattle.sb_durable.specs.declared.segment.place.Place.{Place}
+
+-- two keys with their texts that have one digest and aren't the same
+pub record HasCollision : Type 0 where
+  pub one : ℕ × List ℕ
+  pub other : ℕ × List ℕ
+  pub differ : one ≢ other
+  pub collide : digest one.0 one.1 ≡ digest other.0 other.1
+
+-- segments with one digest at their ends have the same head and the same contents, or a collision is at hand
+abbrev pub OneEndOneSegment : Type 0
+OneEndOneSegment = (head other : Head) (contents others : List (List ℕ)) → IsHead head → IsHead other
+    → last_digest head contents ≡ last_digest other others → ((head ≡ other) × (contents ≡ others)) ⊎ HasCollision
+
+-- a file stands for one segment at most
+abbrev pub OneFileOneSegment : Type 0
+OneFileOneSegment = (file : List ℕ) (head other : Head) (contents others : List (List ℕ)) → Stands head contents file → Stands other others file
+    → (head ≡ other) × (contents ≡ others)
+
+-- a file that is cut at any byte has not begun, or it stands for the first contents
+abbrev pub CutFilesStand : Type 0
+CutFilesStand = (head : Head) (contents : List (List ℕ)) (file : List ℕ) (n : ℕ) → Stands head contents file
+    → IsUnbegun (take n file) ⊎ ((k : ℕ) × Stands head (take k contents) (take n file))
+
+-- these contents lie between two places, one behind the other, as they were read
+abbrev pub Leads : Place → List (List ℕ) → Place → Type 0
+Leads from [] to = from.chain ≡ to.chain
+Leads from (content ∷ contents) to = (next : Place) × Bears from content next × Leads next contents to
+
+-- contents that were read from the first place to the end have the end's digest
+abbrev pub WhatIsReadIsBound : Type 0
+WhatIsReadIsBound = (head : Head) (contents : List (List ℕ)) (first end : Place) → first.chain ≡ head_digest head → Leads first contents end
+    → end.chain ≡ last_digest head contents

@@ -1,0 +1,69 @@
+-- Promise: what a segment begins with, and what a file of one stands for.
+use Rattle.std.specs.Prelude.{◌≡◌, ◌≢◌, ◌⊎◌, ℕ, ◌+◌, ◌^◌, ◌<◌, ◌≤◌, List, [], ◌∷◌, ◌++◌, length}
+use Rattle.std.specs.Int.{w32, w64, to_be_bytes}
+use Rattle.sqlite_disk.specs.Digest.{digest}
+use Rattle.sb_durable.specs.SegmentBlocks.{end_digest, GoOn}
+
+-- the number of the segment, the digest at the end of the one before, and settings
+pub record Head : Type 0 where
+  pub number : ℕ
+  pub before : ℕ
+  pub settings : List ℕ
+
+abbrev pub IsHead : Head → Type 0
+IsHead head = (head.number < 2 ^ 64) × (head.before < 2 ^ 64) × (length head.settings ≤ 4096)
+
+-- ILGJRN2, which stands behind the gate of a file: an F if it has begun
+abbrev pub mark : List ℕ
+mark = 73 ∷ 76 ∷ 71 ∷ 74 ∷ 82 ∷ 78 ∷ 50 ∷ []
+
+-- all of a head but its digest
+abbrev pub head_text : Head → List ℕ
+head_text head = 70 ∷ (mark ++ (to_be_bytes w64 head.number ++ (to_be_bytes w64 head.before ++ (to_be_bytes w32 (length head.settings) ++ head.settings))))
+
+abbrev pub head_digest : Head → ℕ
+head_digest head = digest 0 (head_text head)
+
+abbrev pub head_bytes : Head → List ℕ
+head_bytes head = head_text head ++ to_be_bytes w64 (head_digest head)
+
+-- the digest at the end of a segment
+abbrev pub last_digest : Head → List (List ℕ) → ℕ
+last_digest head contents = end_digest (head_digest head) contents
+
+-- The file is this head and the blocks of these contents, and no block begins behind them.
+pub record Stands (head : Head) (contents : List (List ℕ)) (file : List ℕ) : Type 0 where
+  pub fits : IsHead head
+  pub rest : List ℕ
+  pub whole : file ≡ head_bytes head ++ rest
+  pub behind : GoOn (head_digest head) contents rest
+
+-- the file stands for what was there, or for that and one content more
+abbrev pub IsBeforeOrAfter : Head → List (List ℕ) → List ℕ → List ℕ → Type 0
+IsBeforeOrAfter head contents content file = Stands head contents file ⊎ Stands head (contents ++ content ∷ []) file
+
+-- Behind the mark the file ends within a head: it has less than its numbers, or less than the length of its settings says.
+abbrev pub IsHeadCut : List ℕ → Type 0
+IsHeadCut rest =
+    (length rest < 20) ⊎ ((number before size : ℕ) × (cut : List ℕ) × (size ≤ 4096) × (length cut < size + 8) × (rest ≡ to_be_bytes w64 number ++ (to_be_bytes w64 before ++ (to_be_bytes w32 size ++ cut))))
+
+-- The file has not begun: it has eight bytes at most, or it has the mark, behind a gate that isn't open or before a head that is cut short.
+abbrev pub IsUnbegun : List ℕ → Type 0
+IsUnbegun file = (length file ≤ 8) ⊎ ((gate : ℕ) × (rest : List ℕ) × ((gate ≢ 70) ⊎ IsHeadCut rest) × (file ≡ gate ∷ (mark ++ rest)))
+
+-- the mark behind a gate that isn't open
+pub record IsShut (file : List ℕ) : Type 0 where
+  pub gate : ℕ
+  pub rest : List ℕ
+  pub shut : gate ≢ 70
+  pub whole : file ≡ gate ∷ (mark ++ rest)
+
+-- the mark behind a gate that isn't open, and nothing behind it
+pub record IsReady (file : List ℕ) : Type 0 where
+  pub gate : ℕ
+  pub shut : gate ≢ 70
+  pub whole : file ≡ gate ∷ mark
+
+-- no segment begins here, and none was begun
+abbrev pub IsForeign : List ℕ → Type 0
+IsForeign file = (8 < length file) × ((gate : ℕ) (rest : List ℕ) → file ≢ gate ∷ (mark ++ rest))

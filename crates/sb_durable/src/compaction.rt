@@ -1,0 +1,236 @@
+//! A journal, written anew: its lines are the scripts of the tenants that the old one leaves.
+ghost use Rattle.std.specs.Prelude.{◌≡◌, ◌≤◌};
+ghost use Rattle.sb_host.specs.Opening.{AreNames};
+ghost use Rattle.sb_words.specs.Within.{AreRun};
+
+use crate::journal_fault::JournalFault;
+use crate::log_lines::{tell_no_journal, tell_not_recorded};
+use crate::playing::played_journal;
+use crate::{
+    File as JournalFile, Head, Journal, JournalError, Record, Syncing, Wary, open_path, sync_folder,
+};
+use sb_backup::{NotedScript, Script, ScriptNotes, noted_of, undumped};
+use sb_host::{Host, Lending, Naming, Opened};
+use sb_wire::{LINE_LIMIT, StreamError};
+use sb_words::{Log, Run};
+use std::alloc::Global;
+use std::fs::{self, File};
+use std::io;
+use std::marker::Brand;
+use std::rt::{Clock, Files};
+use std::sync::Wait;
+
+const OUT_OF_MEMORY: JournalFault = JournalFault::Stream(StreamError::NoMemory);
+
+/// Writes the tenants of the journal `old` as a new journal `new`. The name must be free; it appears when the whole
+/// file is durable. Error: the old one can't be opened, a tenant has no script, or the new one can't be written.
+pub fn compact<T: Wait + Clock + Files<File = File>, O: Log>(
+    rt: &T,
+    alloc: Global,
+    log: &O,
+    run: Run,
+    old: Option<&str>,
+    new: Option<&str>,
+) -> Result<(), JournalFault>
+    requires { AreRun run }
+{
+    let (Some(old), Some(new)) = (old, new) else {
+        return Err(JournalFault::CannotOpen);
+    };
+    match Opened::new(alloc, run.tenants, 1, run.bound) {
+        Ok(opened) => compact_host::<Brand, T, O>(
+            rt,
+            alloc,
+            log,
+            opened,
+            run,
+            Renewal { old, new },
+        ),
+        Err(_) => Err(OUT_OF_MEMORY),
+    }
+}
+
+/// The paths of a journal and of the new one.
+#[derive(Clone, Copy)]
+struct Renewal<'p> {
+    old: &'p str,
+    new: &'p str,
+}
+
+/// Replays the old journal on a host of these parts, and writes the new one.
+fn compact_host<N: Naming, T: Wait + Clock + Files<File = File>, O: Log>(
+    rt: &T,
+    alloc: Global,
+    log: &O,
+    opened: Opened,
+    run: Run,
+    paths: Renewal<'_>,
+) -> Result<(), JournalFault>
+    requires named { AreNames N.table N.tenants N.cells N.bound N.name N.parts opened }
+    requires bound { run.bound ≤ 1000 }
+{
+    let Ok(host) = Host::<N>::new(alloc, opened) else {
+        return Err(OUT_OF_MEMORY);
+    };
+    let compaction = Compaction {
+        rt,
+        alloc,
+        host: &host,
+        bound: run.bound,
+        head: Head {
+            tenants: run.tenants,
+            bound: u64::from(run.bound),
+        },
+        log,
+    };
+    match compaction.play(paths.old) {
+        Ok(()) => compaction.write(paths.new),
+        Err(why) => Err(why),
+    }
+}
+
+/// What a compaction works with.
+#[derive(Drop)]
+struct Compaction<'c, H, T, O> {
+    rt: &'c T,
+    alloc: Global,
+    host: H,
+    bound: u32,
+    head: Head,
+    log: &'c O,
+    ghost few: { bound ≤ 1000 },
+}
+
+impl<'c, H: Lending, T: Wait + Clock + Files<File = File>, O: Log> Compaction<'c, H, T, O> {
+    /// Replays the journal at this path.
+    fn play(&self, path: &str) -> Result<(), JournalFault> {
+        if let Err(error) = fs::metadata(self.rt, path) {
+            tell_no_journal(self.log, path, &error);
+            return Err(JournalFault::CannotOpen);
+        }
+        match played_journal(
+            self.rt,
+            self.alloc,
+            self.host,
+            path,
+            Syncing::Always,
+            self.head,
+            self.log,
+        ) {
+            Ok(_) => Ok(()),
+            Err(why) => Err(why),
+        }
+    }
+
+    /// Writes a journal to a temporary name, and renames it.
+    fn write(&self, path: &str) -> Result<(), JournalFault> {
+        if fs::metadata(self.rt, path).is_ok() {
+            tell_no_journal(self.log, path, &"it is there already");
+            return Err(JournalFault::CannotWrite);
+        }
+        let Ok(beside) = format!(in self.alloc; "{path}.new") else {
+            return Err(OUT_OF_MEMORY);
+        };
+        let written = self.write_beside(beside.as_str(), path);
+        if written.is_err() {
+            // half a journal is of no use
+            let _removed = fs::remove_file(self.rt, beside.as_str());
+        }
+        written
+    }
+
+    /// Writes a journal as `beside`, and renames it.
+    fn write_beside(&self, beside: &str, path: &str) -> Result<(), JournalFault> {
+        // nor is what an earlier try left
+        let _removed = fs::remove_file(self.rt, beside);
+        let mut journal = match open_path(self.rt, self.alloc, beside, Syncing::Always, self.head) {
+            Ok(journal) => journal,
+            Err(error) => {
+                tell_no_journal(self.log, beside, &error);
+                return Err(JournalFault::CannotWrite);
+            }
+        };
+        match self.write_all(&mut journal) {
+            Ok(()) => {}
+            Err(why) => return Err(why),
+        }
+        match self.give_name(beside, path) {
+            Ok(()) => Ok(()),
+            Err(error) => {
+                tell_no_journal(self.log, path, &error);
+                Err(JournalFault::CannotWrite)
+            }
+        }
+    }
+
+    /// Renames a file unless the new name is taken, and syncs the folder.
+    fn give_name(&self, from: &str, to: &str) -> io::Result<()> {
+        fs::hard_link(self.rt, from, to)?;
+        let _removed = fs::remove_file(self.rt, from);
+        sync_folder(self.rt, to)
+    }
+
+    /// Writes the tenants that were ever opened.
+    fn write_all(&self, journal: &mut Journal<JournalFile<Wary>>) -> Result<(), JournalFault> {
+        for tenant in 0..self.host.tenants() {
+            let notes = ScriptNotes::new(self.alloc, self.bound);
+            match noted_of(self.rt, self.host, tenant, notes) {
+                NotedScript::Unused => {}
+                NotedScript::Lacking(error) => return Err(JournalFault::Undumped(undumped(
+                    u64::from(tenant),
+                    error,
+                ))),
+                NotedScript::Script(script) => {
+                    if let Err(error) = write_script(journal, tenant, &script) {
+                        return Err(self.unwritten(error));
+                    }
+                }
+            }
+        }
+        match journal.commit() {
+            Ok(()) => Ok(()),
+            Err(error) => Err(self.unwritten(error)),
+        }
+    }
+
+    fn unwritten(&self, error: JournalError) -> JournalFault {
+        tell_not_recorded(self.log, &error);
+        JournalFault::CannotWrite
+    }
+}
+
+/// Writes a script, in a session of its own.
+fn write_script(
+    journal: &mut Journal<JournalFile<Wary>>,
+    tenant: u32,
+    script: &Script,
+) -> Result<(), JournalError> {
+    write_line(journal, tenant, b"open")?;
+    for line in script.lines() {
+        write_line(journal, tenant, line.as_slice())?;
+    }
+    write_line(journal, tenant, b"end")
+}
+
+/// Stages a line. If the buffer is full, it is committed first.
+fn write_line(
+    journal: &mut Journal<JournalFile<Wary>>,
+    tenant: u32,
+    text: &[u8],
+) -> Result<(), JournalError> {
+    if text.len() > LINE_LIMIT {
+        return Err(JournalError::Full);
+    }
+    let record = Record {
+        tenant,
+        session: 0,
+        text,
+    };
+    match journal.stage(record) {
+        Err(JournalError::Full) => {
+            journal.commit()?;
+            journal.stage(record)
+        }
+        staged => staged,
+    }
+}

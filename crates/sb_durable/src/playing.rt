@@ -1,0 +1,112 @@
+//! A journal that is opened, and replayed on a host; how far it is replayed is logged.
+ghost use Rattle.std.specs.Prelude.{◌≡◌, ◌↔◌};
+
+use crate::journal_fault::JournalFault;
+use crate::log_lines::{tell_no_journal, tell_played};
+use crate::{File, Head, Journal, Played, Progress, Recorder, Syncing, Wary, open_path, play};
+use sb_host::{Lending, Stub};
+use sb_words::{Log, Syncs};
+use std::alloc::Global;
+use std::fs;
+use std::rt::{Clock, Files};
+use std::sync::Wait;
+use std::time::{Duration, Instant};
+
+/// The progress of a replay is logged once in so many seconds.
+const TOLD: u64 = 1;
+
+/// Whether commits are synced.
+pub(crate) fn syncing_of(syncs: Syncs) -> Syncing
+    ensures { result ≡ Syncing.Always ↔ syncs ≡ Syncs.Always }
+{
+    match syncs {
+        Syncs::Always => Syncing::Always,
+        Syncs::Second | Syncs::Never => Syncing::Never,
+    }
+}
+
+/// Opens the journal at this path and replays it on a host. Error: CannotOpen, and the reason
+/// is logged.
+pub(crate) fn played_journal<H: Lending, T: Wait + Clock + Files<File = fs::File>, O: Log>(
+    rt: &T,
+    alloc: Global,
+    host: H,
+    path: &str,
+    syncing: Syncing,
+    head: Head,
+    log: &O,
+) -> Result<(Journal<File<Wary>>, Played), JournalFault> {
+    let mut file = match open_path(rt, alloc, path, syncing, head) {
+        Ok(file) => file,
+        Err(error) => {
+            tell_no_journal(log, path, &error);
+            return Err(JournalFault::CannotOpen);
+        }
+    };
+    let mut playing = Playing::new(rt, log);
+    match play(rt, alloc, host, &mut file, &mut playing) {
+        Ok(played) => Ok((file, played)),
+        Err(error) => {
+            tell_no_journal(log, path, &error);
+            Err(JournalFault::CannotOpen)
+        }
+    }
+}
+
+/// Opens the journal at this path and replays it on a host, whose tenants are recorded behind its records from then on.
+/// Gives the recorder, and the receipts of the sessions that were replayed. Error: CannotOpen, and the reason is logged.
+pub fn open_recorder<H: Lending, T: Wait + Clock + Files<File = fs::File>, O: Log>(
+    rt: &T,
+    alloc: Global,
+    host: H,
+    path: &str,
+    syncs: Syncs,
+    head: Head,
+    log: &O,
+) -> Result<(Recorder<H, File<Wary>>, Vec<Stub>), JournalFault> {
+    match played_journal(rt, alloc, host, path, syncing_of(syncs), head, log) {
+        Ok((journal, played)) => {
+            let Played {
+                stubs,
+                recorded,
+                ..
+            } = played;
+            Ok((Recorder::new(alloc, host, journal, recorded), stubs))
+        }
+        Err(why) => Err(why),
+    }
+}
+
+/// Tells how far a journal is played.
+#[derive(Drop)]
+pub(crate) struct Playing<'k, 'o, T, O> {
+    rt: &'k T,
+    log: &'o O,
+    told: Option<Instant>,
+}
+
+impl<'k, 'o, T, O> Playing<'k, 'o, T, O> {
+    pub(crate) fn new(rt: &'k T, log: &'o O) -> Playing<'k, 'o, T, O> {
+        Playing {
+            rt,
+            log,
+            told: None,
+        }
+    }
+}
+
+impl<'k, 'o, T: Clock, O: Log> Progress for Playing<'k, 'o, T, O> {
+    fn tell(&mut self, records: u64, bytes: u64) {
+        let Ok(now) = Instant::now(self.rt) else {
+            return;
+        };
+        match self.told {
+            Some(told) if now.duration_since(told) < Duration::from_secs(TOLD) => {}
+            Some(_) => {
+                self.told = Some(now);
+                tell_played(self.log, records, bytes);
+            }
+            None => self.told = Some(now),
+        }
+    }
+}

@@ -1,0 +1,6 @@
+mod Cuts
+mod Lines
+mod Members
+mod Numbers
+mod Digests
+mod KeyTexts

@@ -1,0 +1,5 @@
+pub mod Listening
+pub mod PageAccess
+pub mod HttpRefusals
+pub mod Pages
+pub mod PageAnswers

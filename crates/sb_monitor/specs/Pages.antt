@@ -1,0 +1,94 @@
+-- Promise: what the status port shows of a host at each route, and whose it is.
+use Rattle.std.specs.Prelude.{◌≡◌, ◌⊎◌, ◌+◌, ◌%◌, ◌<◌, ◌≤◌, ℕ, false, List, [], codes}
+use Rattle.sb_connection.specs.declared.first_line.SessionName.{SessionName}
+use Rattle.sb_status.specs.Pages.{IsPage}
+use Rattle.sb_status.specs.TenantPages.{IsPageOf}
+use Rattle.sb_status.specs.TenantViews.{IsViewAt}
+use Rattle.sb_status.specs.declared.response.ContentType.{ContentType}
+use Rattle.sb_status.specs.declared.response.ContentType.TheVariants as kind
+use Rattle.sb_status.specs.declared.response.Status.{Status}
+use Rattle.sb_status.specs.declared.response.Status.TheVariants as status
+use Rattle.sb_status.specs.declared.route.Ended.{Ended}
+use Rattle.sb_status.specs.declared.route.Route.{Route}
+use Rattle.sb_status.specs.declared.route.Route.TheVariants as route
+use Rattle.sb_status.specs.declared.text.Escaping.TheVariants.{Html, Label}
+use Rattle.sb_status.specs.declared.view.TenantView.{TenantView}
+use Rattle.sb_tenant.specs.Limits.{session_count}
+use Rattle.sb_tenant.specs.State.{is_open, session_at}
+use Rattle.sb_tenant.specs.Tenant.{Tenant, state}
+use Rattle.sb_backup.specs.HostDumps.{IsScriptOf}
+use Rattle.sb_monitor.specs.declared.http_outcome.HttpRefusal.{HttpRefusal}
+use Rattle.sb_monitor.specs.declared.http_outcome.HttpRefusal.TheVariants.{NoPage, NoScript, NoSession, NoTenant, TenantBusy, WorkerBusy}
+use Rattle.sb_monitor.specs.declared.http_outcome.Outcome.{Outcome}
+use Rattle.sb_monitor.specs.declared.http_outcome.Outcome.TheVariants.{Refused, Shown}
+
+-- of so many tenants from the first number on, one has this number
+abbrev pub IsHosted : ℕ → ℕ → ℕ → Type 0
+IsHosted first tenants n = (first ≤ n) × (n < first + tenants)
+
+-- ---- what is shown
+
+-- a page of what a tenant of this number was
+abbrev pub IsPageAt : ℕ → ℕ → List ℕ → Type 0
+IsPageAt first n body = (place : ℕ) × (first + place ≡ n) × (view : TenantView) × IsViewAt first place view × IsPageOf view body
+
+-- the one of a tenant of this number
+abbrev pub IsScriptAt : ℕ → ℕ → ℕ → List ℕ → Type 0
+IsScriptAt first bound n body = (own : Tenant) × (first + own.id ≡ n) × IsScriptOf bound own body
+
+-- the worker of its tenant's cell was told that this session is to end
+abbrev pub IsEnding : ℕ → ℕ → (ℕ → SessionName → Type 0) → Ended → Type 0
+IsEnding first cells told e = (place : ℕ) × (first + place ≡ e.tenant) × told (place % cells) (record { tenant = e.tenant; session = e.session })
+
+-- ---- why nothing is shown
+
+-- a tenant has no such session, or it wasn't open
+abbrev pub LacksSession : ℕ → ℕ → Type 0
+LacksSession t session = (session_count ≤ session) ⊎ ((own : Tenant) × (own.id ≡ t) × (is_open (session_at (state own) session) ≡ false))
+
+-- so it is of the one of this number
+abbrev pub IsNoSession : ℕ → ℕ → ℕ → Type 0
+IsNoSession first n session = (place : ℕ) × (first + place ≡ n) × LacksSession place session
+
+-- the tenant isn't hosted; or it is, and that is why
+abbrev pub IsUnshown : ℕ → ℕ → ℕ → (HttpRefusal → Type 0) → HttpRefusal → Type 0
+IsUnshown first tenants n reason why = ((why ≡ NoTenant) × (IsHosted first tenants n → ⊥)) ⊎ (IsHosted first tenants n × reason why)
+
+-- ---- what a request comes to
+
+-- it is shown with this status as a body of this type; or that is why it isn't
+abbrev pub IsOutcome : Status → ContentType → (List ℕ → Type 0) → (HttpRefusal → Type 0) → Outcome → Type 0
+IsOutcome status kind body why (Shown s) = (s.status ≡ status) × (s.kind ≡ kind) × body s.body.items
+IsOutcome status kind body why (Refused refusal) = why refusal
+
+-- the page of a tenant
+abbrev pub IsPageOutcome : ℕ → ℕ → ℕ → Outcome → Type 0
+IsPageOutcome first tenants n = IsOutcome status.Found kind.Page (IsPageAt first n) (IsUnshown first tenants n (λ why. why ≡ TenantBusy))
+
+-- its script
+abbrev pub IsScriptOutcome : ℕ → ℕ → ℕ → ℕ → Outcome → Type 0
+IsScriptOutcome first tenants bound n =
+    IsOutcome status.Found kind.Text (IsScriptAt first bound n) (IsUnshown first tenants n (λ why. (why ≡ TenantBusy) ⊎ (why ≡ NoScript)))
+
+-- the end of a session
+abbrev pub IsEndOutcome : ℕ → ℕ → ℕ → (ℕ → SessionName → Type 0) → Ended → Outcome → Type 0
+IsEndOutcome first tenants cells told e =
+    IsOutcome status.Accepted kind.Text (λ body. (body ≡ codes "told\n") × IsEnding first cells told e)
+    (IsUnshown first tenants e.tenant (λ why. ((why ≡ NoSession) × IsNoSession first e.tenant e.session) ⊎ (why ≡ WorkerBusy)))
+
+-- a page of the host itself
+abbrev pub IsHostOutcome : Outcome → Type 0
+IsHostOutcome = IsOutcome status.Found kind.Page (IsPage Html) (λ _. ⊥)
+
+-- its samples
+abbrev pub AreSamples : Outcome → Type 0
+AreSamples = IsOutcome status.Found kind.Samples (IsPage Label) (λ _. ⊥)
+
+-- each route has its own
+abbrev pub Shows : ℕ → ℕ → ℕ → ℕ → (ℕ → SessionName → Type 0) → Route → Outcome → Type 0
+Shows first tenants cells bound told route.Host outcome = IsHostOutcome outcome
+Shows first tenants cells bound told route.Metrics outcome = AreSamples outcome
+Shows first tenants cells bound told (route.Tenant n) outcome = IsPageOutcome first tenants n outcome
+Shows first tenants cells bound told (route.Dump n) outcome = IsScriptOutcome first tenants bound n outcome
+Shows first tenants cells bound told (route.End e) outcome = IsEndOutcome first tenants cells told e outcome
+Shows first tenants cells bound told route.Unknown outcome = outcome ≡ Refused NoPage

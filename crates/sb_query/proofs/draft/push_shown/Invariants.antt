@@ -1,6 +1,0 @@
-use Rattle.std.proofs.Common.{◌≡◌, ◌++◌, map, take}
-use Rattle.sb_query.specs.Lines.{shown}
-use Rattle.sb_query.proofs.draft.push_shown.Given as goal
-
-abbrev pub invariant-loop-b : goal.invariant-loop-b
-invariant-loop-b l = l.out.items ≡ l.fn.out.items ++ map (shown l.kind) (take l.b-index l.bytes)

@@ -1,5 +1,0 @@
-use Rattle.sb_query.proofs.Grammar.{ends_at_all}
-use Rattle.sb_query.proofs.reading.check_from.Goals as goal
-
-pub returns : goal.returns
-returns c = ends_at_all c.loop-at.at c.args.text.now _ c.loop-at-test.false c.loop-at.invariant.so_far

@@ -1,5 +1,0 @@
-use Rattle.sb_query.proofs.Grammar.{ends_as}
-use Rattle.sb_query.proofs.statements.Statements.check.Goals as goal
-
-pub returns : goal.returns
-returns c = λ ls h. ends_as c.args.self.now.at c.args.self.now.text.now c.check_from.result ls c.check_from.ensures h

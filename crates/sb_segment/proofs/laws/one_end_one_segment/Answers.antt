@@ -1,5 +1,0 @@
-use Rattle.sb_segment.proofs.Chain as chain
-use Rattle.sb_segment.proofs.laws.one_end_one_segment.Goals as goal
-
-pub returns : goal.returns
-returns c = chain.one_end_one_segment

@@ -1,6 +1,0 @@
-use Rattle.starhost.specs.Calls.{LeaveAll}
-use Rattle.starhost.proofs.host_loader.load_all.Given as goal
-
--- the tenants so far left these
-abbrev pub invariant-loop-tenant : goal.invariant-loop-tenant
-invariant-loop-tenant g l = LeaveAll (g.S.ScriptSource.files l.scripts) l.tenant l.stubs.items

@@ -1,6 +1,0 @@
--- the first line was a key, and its digest is written
-use Rattle.starhost.proofs.Digests.{tells}
-use Rattle.starhost.proofs.key_digest.tell_digest.Goals as goal
-
-pub returns-in-Told-clause-ok : goal.returns-in-Told-clause-ok
-returns-in-Told-clause-ok g c = let ended = c.in-Ok.ensures.goes in tells ended.0 ended.1.0 ended.1.1 c.in-Told.is

@@ -1,6 +1,0 @@
-use Rattle.sb_status.specs.StatisticsCache.{IsCacheOf}
-use Rattle.starhost.proofs.status_port.StatusPortPagesSideTask.run.Given as goal
-
--- what is kept is of the tenants at their places
-abbrev pub invariant-loop-stream : goal.invariant-loop-stream
-invariant-loop-stream g l = IsCacheOf l.self.pages.first_tenant l.cache
