@@ -642,9 +642,54 @@ def full_trail(program):
     print(f"a trail that fills up: {told_in(warned[0])}; {told_in(warned[1])}; {told_in(closed)}; {told}")
 
 
+# Statements that each busy tenant has in flight, and how long one takes, in seconds.
+IN_FLIGHT = 64
+STEP = 0.01
+
+
+def longest_gap(left, least):
+    """Reads what comes, until of each stream so many lines at most are left: the longest time between two parts."""
+    last, longest = time.perf_counter(), 0.0
+    while most := [stream for stream, lines in left.items() if lines > least]:
+        ready = select.select([stream for stream, lines in left.items() if lines > 0], [], [], PATIENCE)[0]
+        need(ready, f"{len(most)} busy tenants aren't served")
+        now = time.perf_counter()
+        longest, last = max(longest, now - last), now
+        for stream in ready:
+            left[stream] -= stream.recv(65536).count(b"\n")
+    return longest
+
+
+def calm_beside_busy_ones(program, longer):
+    """Beside seven busy tenants of its cell, each with many statements in flight, a client waits for two of them at most."""
+    server = crowded(program, "--cells", "1", workers=1, tenants=8)
+    busy, statements = [], []
+    for tenant in range(1, 8):
+        busy.append(server.connect())
+        say(busy[-1], f"{tenant} 0\n".encode())
+        statements.append(long_statement(busy[-1], longer * STEP))
+    calm = Talker(server, 0)
+    start = time.perf_counter()
+    for stream, statement in zip(busy, statements):
+        stream.sendall(IN_FLIGHT * statement)
+    left = {stream: 2 * IN_FLIGHT for stream in busy}
+    # each has had a step, so the server knows who is busy
+    longest_gap(left, 2 * IN_FLIGHT - 2)
+    calm.start()
+    step = longest_gap(left, 0)
+    seconds = time.perf_counter() - start
+    calm.stopped.set()
+    calm.join()
+    server.kill()
+    need(calm.wrong is None, calm.wrong)
+    need(calm.longest < 2 * step + 0.005, f"a calm client waits {calm.longest:.3f} s beside steps of {step:.3f} s")
+    print(f"a calm client beside 7 busy ones of its cell, for {seconds:.1f} s: the longest wait is {calm.longest * 1e3:.0f} ms, the longest step {step * 1e3:.0f} ms")
+
+
 # Those with a bound on time. On a machine that does much else, or is suddenly faster, one may miss it, so each is tried
 # up to three times, with longer statements and times each time, and told.
 TIMED = {idle_end, idle_beside_a_long_statement, long_statement_alone, long_statement_with_waiting_ones, idle_transaction, idle_of_all_kinds}
+TIMED |= {calm_beside_busy_ones}
 
 
 def trial(crowd, program):
@@ -658,7 +703,7 @@ def crowds():
     _, most = resource.getrlimit(resource.RLIMIT_NOFILE)
     small = [silent_ones, reset, idle_end, input_end, port_closes, port_in_use, unread_log, full_trail, no_descriptors, never_reads]
     small += [other_address, first_tenant, log_levels, slow_reader, unread_replies, tenant_memory, idle_transaction, idle_of_all_kinds]
-    small += [idle_beside_a_long_statement, long_statement_alone, long_statement_with_waiting_ones]
+    small += [idle_beside_a_long_statement, long_statement_alone, long_statement_with_waiting_ones, calm_beside_busy_ones]
     large = [short_ones, all_at_once, idle_ones]
     if most != resource.RLIM_INFINITY and most < DESCRIPTORS:
         print(f"large crowds are left out: they want {DESCRIPTORS} descriptors, and a process has {most} at most")
