@@ -5,7 +5,7 @@
 
 PROGRAM is crates/starhost/out/starhost where no word is given. Told in one line each: who is let in and who isn't, and that
 it makes no step; N guesses (10,000), one connection after another, while a client of another cell goes on; a file of
-100,000 keys; a file that changes while the server runs; files that no server begins with; and `starhost key`. No log may
+100,000 keys; a file that changes while the server runs, or becomes a FIFO; files that no server begins with; and `starhost key`. No log may
 have a key in it. The first thing that isn't as it is to be ends this with status 1.
 """
 
@@ -220,6 +220,34 @@ def changed_file(program, folder):
     return f"a new key after {took:.1f} s"
 
 
+def odd_files(program, folder):
+    """A FIFO in the place of the file, which nobody may open, and then a file that only its inode tells from the first one."""
+    path = os.path.join(folder, "odd")
+    old, new = key_of("odd"), key_of("new")
+    write(path, line_of(0, old))
+    server, before = keyed(program, path), os.stat(path)
+    os.remove(path)
+    os.mkfifo(path)
+    until("a FIFO is told", lambda: f"keys {path}: it isn't a regular file" in server.told())
+    time.sleep(2.5)
+    expect("the keys stay", asked(server, f"0 0 {old}", "end\n"), "ok\nok\n")
+    beside = f"{path}.same"
+    with open(beside, "w") as file:
+        file.write(line_of(0, new))
+    os.utime(beside, ns=(before.st_mtime_ns, before.st_mtime_ns))
+    expect("the same length", os.stat(beside).st_size, before.st_size)
+    os.rename(beside, path)
+    until("the new key", lambda: asked(server, f"0 0 {new}", "end\n") == "ok\nok\n")
+    expect("the old key", asked(server, f"0 0 {old}"), BAD_KEY)
+    told = re.findall(rf" keys {re.escape(path)}: (.*)", ended(server, [old, new])[1])
+    expect("each change is told once", told, ["it isn't a regular file", "read again"])
+    os.remove(path)
+    os.mkfifo(path)
+    refused = subprocess.run([program, "serve", "--keys", path], capture_output=True, text=True, timeout=PATIENCE)
+    expect("a FIFO at the start", (refused.returncode, "fault: no keys\n" in refused.stderr), (1, True))
+    return "the keys stay beside a FIFO"
+
+
 def bad_files(program, folder):
     path, good = os.path.join(folder, "bad"), line_of(0, key_of("good"))
     texts = {
@@ -256,8 +284,8 @@ def main():
     words.add_argument("--guesses", type=int, default=10_000)
     given = words.parse_args()
     program = os.path.abspath(given.program)
-    visits = [who_is_let_in, without_keys, lambda *which: guesses(*which, given.guesses), many_keys, changed_file, bad_files, digests]
-    names = ["who is let in", "without keys", "guesses", "many keys", "a changed file", "bad files", "digests"]
+    visits = [who_is_let_in, without_keys, lambda *which: guesses(*which, given.guesses), many_keys, changed_file, odd_files, bad_files, digests]
+    names = ["who is let in", "without keys", "guesses", "many keys", "a changed file", "odd files", "bad files", "digests"]
     with tempfile.TemporaryDirectory() as folder:
         for name, visit in zip(names, visits):
             print(f"{name}: {visit(program, folder)}", flush=True)

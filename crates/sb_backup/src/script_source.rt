@@ -6,6 +6,7 @@ use crate::cell_loader::Unplayed;
 use crate::folder::Folder;
 use sb_words::{Log, Severity};
 use std::alloc::Global;
+use std::fmt::Display;
 use std::io::{self, ErrorKind, Read};
 use std::rt::Files;
 use std::{fs, str};
@@ -45,6 +46,14 @@ impl<'r, 'j, T: Files, O: Log> FolderScripts<'r, 'j, T, O> {
     pub(crate) fn are_found(&self) -> bool {
         self.folder.is_found(self.rt, self.log)
     }
+
+    /// Logs why the file of the tenant with this number isn't read.
+    fn tell_unread<D: Display>(&self, number: u64, why: &D) {
+        self.log.write(
+            Severity::Error,
+            &format_args!("can't read {number}.lines: {why}"),
+        );
+    }
 }
 
 impl<'r, 'j, T: Files, O: Log> ScriptSource<T::File> for FolderScripts<'r, 'j, T, O> {
@@ -57,15 +66,19 @@ impl<'r, 'j, T: Files, O: Log> ScriptSource<T::File> for FolderScripts<'r, 'j, T
         let Ok(path) = self.folder.file_of(alloc, number) else {
             return Err(Unopened::NoMemory);
         };
+        if let Ok(found) = fs::metadata(self.rt, path.as_str()) {
+            // whoever opens a FIFO waits for ever
+            if !found.is_file() {
+                self.tell_unread(number, &"it isn't a regular file");
+                return Err(Unopened::CannotRead);
+            }
+        }
         match fs::open(self.rt, path.as_str()) {
             Ok(file) => Ok(Some(file)),
             Err(error) => match is_missing(&error) {
                 true => Ok(None),
                 false => {
-                    self.log.write(
-                        Severity::Error,
-                        &format_args!("can't read {number}.lines: {error}"),
-                    );
+                    self.tell_unread(number, &error);
                     Err(Unopened::CannotRead)
                 }
             },

@@ -3,6 +3,7 @@
 use crate::key_source::{KeyFiles, KeySource, Stamp};
 use std::fs::{self, File};
 use std::io;
+use std::os::unix::fs::MetadataExt as _;
 use std::rt::Files;
 
 /// Whichever files a system has, of which no contract can say more.
@@ -35,7 +36,13 @@ impl<'k, 'p, T: Files<File = File>> KeySource<AnyFiles> for KeyFile<'k, 'p, T> {
         Some(Stamp {
             changed,
             len: found.len(),
+            inode: found.ino(),
+            touched: (found.ctime(), found.ctime_nsec()),
         })
+    }
+
+    fn is_file(&self) -> io::Result<bool> {
+        Ok(fs::metadata(self.rt, self.path)?.is_file())
     }
 
     fn open(&self) -> io::Result<File> {

@@ -17,6 +17,8 @@ const MOST_BYTES: u64 = 1 << 26;
 pub enum Unread {
     /// The system gives no file.
     File(io::Error),
+    /// What is there is a folder, a FIFO or a device.
+    NotAFile,
     /// The file has 64 MiB or more.
     TooLong,
     /// The text of the file gives no list.
@@ -27,6 +29,7 @@ impl Display for Unread {
     fn fmt<W: fmt::Write>(&self, f: &mut Formatter<W>) -> fmt::Result {
         match self {
             Unread::File(error) => write!(f, "{error}"),
+            Unread::NotAFile => f.write_str("it isn't a regular file"),
             Unread::TooLong => f.write_str("too long"),
             Unread::Keys(KeysError::BadLine { line }) => write!(f, "bad line {line}"),
             Unread::Keys(KeysError::NoMemory) => f.write_str("out of memory"),
@@ -47,13 +50,17 @@ pub trait KeyFiles {
     ghost is_opened: { Option (List ℕ) → Bool };
 }
 
-/// Time and length of a file, by which a change is seen.
+/// What tells a file from another one, and from itself as it was, without its bytes.
 #[derive(Clone, Copy, PartialEq, Eq)]
 pub struct Stamp {
-    /// When it was changed last.
+    /// When its bytes were changed last.
     pub changed: SystemTime,
     /// How many bytes it has.
     pub len: u64,
+    /// Its number in its file system.
+    pub inode: u64,
+    /// When anything of it was changed last, its name, too: seconds, and nanoseconds of these.
+    pub touched: (i64, i64),
 }
 
 /// Where lists of keys are read.
@@ -64,16 +71,25 @@ pub trait KeySource<L: KeyFiles> {
     /// The stamp of the current file, if there is one.
     fn stamp(&self) -> Option<Stamp>;
 
+    /// Whether a regular file is there. Error: the system's.
+    fn is_file(&self) -> io::Result<bool>;
+
     /// Opens the file that it stands in. Error: the system's.
     fn open(&self) -> io::Result<Self::File>
         ensures { IfOk result (λ file. L.is_opened (Self.File.remaining file) ≡ true) };
 }
 
-/// Reads the list that is there now. Error: why it isn't read.
+/// Reads the list that is there now. Error: why it isn't read. Only a regular file is opened: a FIFO would keep whoever
+/// opens it waiting for ever.
 pub fn keys_at<L: KeyFiles, S: KeySource<L>>(alloc: Global, source: &S) -> Result<Keys, Unread>
     ensures keys { IfOk result (λ keys. AreReadKeys L.is_opened (table_of keys)) }
     ensures bad { (line : ℕ) → result ≡ Err (Unread.Keys (KeysError.BadLine line)) → IsBadLine L.is_opened line }
 {
+    match source.is_file() {
+        Ok(true) => {}
+        Ok(false) => return Err(Unread::NotAFile),
+        Err(error) => return Err(Unread::File(error)),
+    }
     let file = match source.open() {
         Ok(file) => file,
         Err(error) => return Err(Unread::File(error)),

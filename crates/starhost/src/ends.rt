@@ -56,6 +56,6 @@ pub(crate) fn unread(why: &Unread) -> ProgramFault
     match why {
         Unread::Keys(KeysError::BadLine { line }) => ProgramFault::BadKeys { line: *line as u64 },
         Unread::Keys(KeysError::NoMemory) => ProgramFault::Stream(StreamError::NoMemory),
-        Unread::File(_) | Unread::TooLong => ProgramFault::NoKeys,
+        Unread::File(_) | Unread::NotAFile | Unread::TooLong => ProgramFault::NoKeys,
     }
 }
