@@ -31,7 +31,7 @@ pub fn tell_digest<R: Source, W: Sink>(
     reader: &mut R,
     writer: &mut W,
 ) -> Result<(), DigestError>
-    ensures ok { OnOk result (TellsDigest (R.remaining reader.old) (R.remaining reader.new)
+    ensures { OnOk result (TellsDigest (R.remaining reader.old) (R.remaining reader.new)
         (W.contents writer.old) (W.contents writer.new)) }
 {
     let mut digested = Digested::Awaits;

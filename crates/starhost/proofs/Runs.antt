@@ -1,5 +1,5 @@
 -- What words ask for, and statuses.
-use Rattle.std.proofs.Common.{◌≡◌, ◌≤◌, ℕ, List, length, Option, Result, Ok, Err, refl, subst, sym, arith, map}
+use Rattle.std.proofs.Common.{◌≡◌, ◌≤◌, ℕ, List, length, Option, Result, Ok, Err, inl, inr, refl, subst, sym, arith, map}
 use Rattle.std.proofs.lemmas.List.{length-map}
 use Rattle.std.specs.Prelude.{IfErr, OnOk}
 use Rattle.sb_words.specs.Words.{AskFor, AskOnce, IsAsked}
@@ -9,7 +9,9 @@ use Rattle.sb_words.specs.declared.words.Asked.{Asked}
 use Rattle.sb_words.specs.declared.words.Asked.TheVariants.{For}
 use Rattle.sb_backup.specs.declared.error.BackupError.{BackupError}
 use Rattle.sb_durable.specs.declared.journal_fault.JournalFault.{JournalFault}
-use Rattle.starhost.specs.Faults.{TellsEnd, as_backup, as_journal}
+use Rattle.sb_keys.specs.declared.key_digest.DigestError.{DigestError}
+use Rattle.sb_keys.specs.declared.key_digest.DigestError.TheVariants as digest
+use Rattle.starhost.specs.Faults.{RefusesDigest, TellsEnd, as_backup, as_digest, as_journal}
 use Rattle.starhost.specs.declared.fault.ProgramFault.{ProgramFault}
 use Rattle.starhost.specs.declared.fault.ProgramFault.TheVariants.{Backup, Journal}
 
@@ -64,3 +66,20 @@ err_journal {P} own ended is holds =
     by : (r : Result (Unit {0}) JournalFault) → IfErr r P → IfErr (as_journal r) (λ why. (e : JournalFault) × (why ≡ Journal e) × P e)
     by (Ok value) h = tt
     by (Err e) h = (e, refl, h)
+
+-- and what told a digest: a stream failed, or the line is no key
+pub ok_digest : {P : Type 0} (own : Result (Unit {0}) DigestError) (ended : Result (Unit {0}) ProgramFault) → ended ≡ as_digest own → OnOk own P → OnOk ended P
+ok_digest {P} own ended is holds = subst (λ (r : Result (Unit {0}) ProgramFault). OnOk r P) (sym is) (by own holds)
+  where
+    by : (r : Result (Unit {0}) DigestError) → OnOk r P → OnOk (as_digest r) P
+    by (Ok value) h = h
+    by (Err (digest.Stream e)) h = tt
+    by (Err digest.BadKey) h = tt
+
+pub err_digest : (own : Result (Unit {0}) DigestError) (ended : Result (Unit {0}) ProgramFault) → ended ≡ as_digest own → IfErr ended RefusesDigest
+err_digest own ended is = subst (λ (r : Result (Unit {0}) ProgramFault). IfErr r RefusesDigest) (sym is) (by own)
+  where
+    by : (r : Result (Unit {0}) DigestError) → IfErr (as_digest r) RefusesDigest
+    by (Ok value) = tt
+    by (Err (digest.Stream e)) = inl (e, refl)
+    by (Err digest.BadKey) = inr refl

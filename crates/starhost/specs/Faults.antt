@@ -19,6 +19,8 @@ use Rattle.sb_backup.specs.Errors.{error_text, one_number_text}
 use Rattle.sb_durable.specs.JournalFaults as durable
 use Rattle.sb_durable.specs.declared.journal_fault.JournalFault.{JournalFault}
 use Rattle.sb_durable.specs.declared.journal_fault.JournalFault.TheVariants as journal
+use Rattle.sb_keys.specs.declared.key_digest.DigestError.{DigestError}
+use Rattle.sb_keys.specs.declared.key_digest.DigestError.TheVariants as digest
 use Rattle.sb_monitor.specs.declared.listener.ListenError.{ListenError}
 use Rattle.sb_monitor.specs.declared.listener.ListenError.TheVariants as listen
 use Rattle.starhost.specs.declared.fault.ProgramFault.TheVariants.{Stream, CannotListen, CannotWait, CannotStart, WaitingFailed, Journal, Backup, BadLine, NoKeys, BadKeys, BadKey, CannotAttach, TrailMissing, TrailMismatch}
@@ -64,6 +66,12 @@ IsOfStream why = (e : StreamError) × (why ≡ Stream e)
 -- of an input whose first line has no digest: a stream failed, or the line is no key
 abbrev pub RefusesDigest : ProgramFault → Type 0
 RefusesDigest why = IsOfStream why ⊎ (why ≡ BadKey)
+
+-- so ends what tells a digest
+abbrev pub as_digest : Result (Unit {0}) DigestError → Result (Unit {0}) ProgramFault
+as_digest (Ok value) = Ok value
+as_digest (Err (digest.Stream e)) = Err (Stream e)
+as_digest (Err digest.BadKey) = Err BadKey
 
 -- of a port at which nothing listens
 abbrev pub unheard_as : ListenError → ProgramFault

@@ -2,8 +2,8 @@
 ghost use Rattle.std.specs.Prelude.{◌≡◌, OnOk};
 ghost use Rattle.sb_monitor.specs.Listening.{TellsPort};
 
-use crate::ends::unread;
 use crate::fault::ProgramFault;
+use crate::part_faults::unread;
 use crate::server_context::{Entrance, ServerContext, ServerEnd};
 use crate::system::System;
 use sb_host::{Lending, Stub};

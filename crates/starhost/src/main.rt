@@ -1,13 +1,13 @@
 //! The program: lines of standard input answered on standard output, or a server on a port.
 #![tactic(auto)]
 
-mod ends;
 mod fault;
 mod host_end;
 mod journaled_server;
 mod keys;
 mod loaded_run;
 mod parse;
+mod part_faults;
 mod program;
 mod refusal_lines;
 mod replay;

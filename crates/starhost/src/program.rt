@@ -24,10 +24,10 @@ ghost use Rattle.sb_words.specs.Words.{AskFor, AskForHelp, AskForVersion, HasFau
 ghost use Rattle.sb_words.specs.declared.argument.Unfit.{Unfit as ItsUnfit};
 ghost use Rattle.sb_words.specs.Refusals.{refusal_text};
 
-use crate::ends::{of_backup, of_journal, undigested};
 use crate::fault::{ProgramFault, tell_fault};
 use crate::loaded_run::run_loaded;
 use crate::parse::parse_lines;
+use crate::part_faults::{of_backup, of_digest, of_journal};
 use crate::refusal_lines::{refuse, refuse_part};
 use crate::replay::replay;
 use crate::run_report::{Console, SUCCESS, fault, tell_run, tell_stream_end};
@@ -184,10 +184,8 @@ fn answer<T: System + Sync, R: Source, W: Sink, E: Sink>(
             tell_end(alloc, of_journal(ended), &mut errors.sink)
         }
         Invocation::Key => {
-            match tell_digest(alloc, reader, writer) {
-                Ok(()) => SUCCESS,
-                Err(why) => tell_fault(alloc, undigested(why), &mut errors.sink),
-            }
+            let ended = tell_digest(alloc, reader, writer);
+            tell_end(alloc, of_digest(ended), &mut errors.sink)
         }
     }
 }

@@ -8,9 +8,9 @@ ghost use Rattle.starhost.specs.Totals.{TellsServer, TellsTrails};
 ghost use Rattle.sb_backup.specs.Outputs.{Writes};
 ghost use Rattle.sb_words.specs.Within.{AreServer};
 
-use crate::ends::unheard;
 use crate::fault::ProgramFault;
 use crate::host_end::finish;
+use crate::part_faults::unheard;
 use crate::terms::{Plan, plan_of};
 use sb_durable::JournalFault;
 use sb_host::{Host, Naming, Opened};

@@ -6,9 +6,9 @@ ghost use Rattle.sb_monitor.specs.Listening.{TellsPort};
 ghost use Rattle.sb_backup.specs.Outputs.{Writes};
 ghost use Rattle.sb_words.specs.Within.{AreServer};
 
-use crate::ends::{of_backup, unheard};
 use crate::fault::ProgramFault;
 use crate::host_end::finish;
+use crate::part_faults::{of_backup, unheard};
 use crate::server::{OUT_OF_MEMORY, opened_by, unserved};
 use crate::system::System;
 use crate::terms::{Plan, plan_of};

@@ -2,5 +2,5 @@
 use Rattle.sb_keys.proofs.Digests.{tells}
 use Rattle.sb_keys.proofs.key_digest.tell_digest.Goals as goal
 
-pub returns-in-Told-clause-ok : goal.returns-in-Told-clause-ok
-returns-in-Told-clause-ok g c = let ended = c.in-Ok.ensures.goes in tells ended.0 ended.1.0 ended.1.1 c.in-Told.is
+pub returns-in-Told : goal.returns-in-Told
+returns-in-Told g c = let ended = c.in-Ok.ensures.goes in tells ended.0 ended.1.0 ended.1.1 c.in-Told.is

@@ -1,5 +1,5 @@
 use Rattle.std.proofs.Common.{◌∙◌, refl, sym}
-use Rattle.starhost.proofs.Runs.{err_backup, err_journal, ok_backup, ok_journal, went_well}
+use Rattle.starhost.proofs.Runs.{err_backup, err_digest, err_journal, ok_backup, ok_digest, ok_journal, went_well}
 use Rattle.starhost.proofs.Told.{at_success}
 use Rattle.starhost.proofs.program.answer.Goals as goal
 
@@ -62,3 +62,9 @@ returns-in-Compact-clause-succeeds g c = rw c.in-Compact.is (λ ok. tt)
 
 pub returns-in-Compact-clause-goes : goal.returns-in-Compact-clause-goes
 returns-in-Compact-clause-goes g c = rw c.in-Compact.is (c.of_journal-in-Compact.result, c.tell_end-in-Compact.ensures, refl, refl)
+
+pub returns-in-Key-clause-succeeds : goal.returns-in-Key-clause-succeeds
+returns-in-Key-clause-succeeds g c = rw c.in-Key.is (λ ok. went_well g.E.Sink.refuses g.E.Write.contents c.args.errors.now.sink c.tell_end-in-Key.new.errors c.of_digest.result c.tell_end-in-Key.result c.tell_end-in-Key.ensures ok (ok_digest c.tell_digest-ended.result c.of_digest.result c.of_digest.ensures c.tell_digest-ended.ensures))
+
+pub returns-in-Key-clause-goes : goal.returns-in-Key-clause-goes
+returns-in-Key-clause-goes g c = rw c.in-Key.is (c.of_digest.result, c.tell_end-in-Key.ensures, err_digest c.tell_digest-ended.result c.of_digest.result c.of_digest.ensures)

@@ -1,6 +1,6 @@
 //! The faults of what the parts of the program answer.
 ghost use Rattle.std.specs.Prelude.{◌≡◌};
-ghost use Rattle.starhost.specs.Faults.{RefusesDigest, as_backup, as_journal, unheard_as, unread_as};
+ghost use Rattle.starhost.specs.Faults.{as_backup, as_digest, as_journal, unheard_as, unread_as};
 
 use crate::fault::ProgramFault;
 use sb_backup::BackupError;
@@ -39,13 +39,14 @@ pub(crate) fn unheard(error: ListenError) -> ProgramFault
     }
 }
 
-/// The fault of an input without a key.
-pub(crate) fn undigested(error: DigestError) -> ProgramFault
-    ensures { RefusesDigest result }
+/// The end of what tells the digest of a key.
+pub(crate) fn of_digest(ended: Result<(), DigestError>) -> Result<(), ProgramFault>
+    ensures { result ≡ as_digest ended }
 {
-    match error {
-        DigestError::Stream(error) => ProgramFault::Stream(error),
-        DigestError::BadKey => ProgramFault::BadKey,
+    match ended {
+        Ok(()) => Ok(()),
+        Err(DigestError::Stream(error)) => Err(ProgramFault::Stream(error)),
+        Err(DigestError::BadKey) => Err(ProgramFault::BadKey),
     }
 }
 
