@@ -13,7 +13,7 @@ use Rattle.sb_replay.specs.declared.error.ReplayError.TheVariants as replay
 use Rattle.starhost.specs.Commands.{Tells}
 use Rattle.starhost.specs.declared.fault.ProgramFault.{ProgramFault}
 use Rattle.sb_keys.specs.declared.key_source.Unread.{Unread}
-use Rattle.sb_keys.specs.declared.key_source.Unread.TheVariants.{File, TooLong, Keys}
+use Rattle.sb_keys.specs.declared.key_source.Unread.TheVariants.{File, NotAFile, TooLong, Keys}
 use Rattle.sb_backup.specs.declared.error.BackupError.{BackupError}
 use Rattle.sb_backup.specs.Errors.{error_text, one_number_text}
 use Rattle.sb_durable.specs.JournalFaults as durable
@@ -91,6 +91,7 @@ as_journal (Err e) = Err (Journal e)
 -- of keys that weren't read
 abbrev pub unread_as : Unread → ProgramFault
 unread_as (File e) = NoKeys
+unread_as NotAFile = NoKeys
 unread_as TooLong = NoKeys
 unread_as (Keys (keys.BadLine n)) = BadKeys n
 unread_as (Keys keys.NoMemory) = Stream stream.NoMemory
