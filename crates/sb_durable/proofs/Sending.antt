@@ -12,7 +12,7 @@ use Rattle.sb_durable.proofs.recorder.Callers.TheSendSync as callers
 use Rattle.sb_durable.specs.contracts.recorder.Callers as Callers
 use Rattle.sb_durable.specs.contracts.journal_writer.JournalWriter as JournalWriter
 use Rattle.sb_durable.proofs.system_file.Syncing.TheSendSync as syncing
-use Rattle.sb_durable.specs.contracts.noted.PendingEntries as PendingEntries
+use Rattle.sb_durable.specs.contracts.pending_entries.PendingEntries as PendingEntries
 use Rattle.sb_durable.specs.contracts.system_file.SystemFile as SystemFile
 
 pub callers_send : IsSend Callers.the_row

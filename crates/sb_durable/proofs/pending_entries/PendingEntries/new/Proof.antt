@@ -22,9 +22,9 @@ use denote.Triple.Spec.{Meets, triple_of}
 use denote.Triple.Table.{entered}
 use denote.Triple.Walked.{says, ends_at, walked, walk_Meets}
 use Rattle.sb_durable.specs.declared.pending_entries.PendingEntries.{PendingEntries}
-use Rattle.sb_durable.specs.contracts.noted.PendingEntries as T
-use Rattle.sb_durable.specs.contracts.noted.PendingEntries.new.Key.{name as #it}
-use Rattle.sb_durable.specs.contracts.noted.PendingEntries.new as it
+use Rattle.sb_durable.specs.contracts.pending_entries.PendingEntries as T
+use Rattle.sb_durable.specs.contracts.pending_entries.PendingEntries.new.Key.{name as #it}
+use Rattle.sb_durable.specs.contracts.pending_entries.PendingEntries.new as it
 use Rattle.sb_durable.proofs.pending_entries.PendingEntries.new.Statement as stated
 use Rattle.sb_durable.proofs.pending_entries.PendingEntries.new.Code as code
 

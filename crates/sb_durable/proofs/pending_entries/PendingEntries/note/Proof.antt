@@ -27,9 +27,9 @@ use denote.Triple.Table.{entered}
 use denote.Triple.Walked.{says, Stays, stay_ref, walk_of, AllGo, Goes-ref, Walks, ends_at, walked, walk_Meets}
 use Rattle.sb_durable.specs.declared.pending_entries.PendingEntries.{PendingEntries}
 use Rattle.sb_durable.specs.PendingEntries.{event_of}
-use Rattle.sb_durable.specs.contracts.noted.PendingEntries as T
-use Rattle.sb_durable.specs.contracts.noted.PendingEntries.note.Key.{name as #it}
-use Rattle.sb_durable.specs.contracts.noted.PendingEntries.note as it
+use Rattle.sb_durable.specs.contracts.pending_entries.PendingEntries as T
+use Rattle.sb_durable.specs.contracts.pending_entries.PendingEntries.note.Key.{name as #it}
+use Rattle.sb_durable.specs.contracts.pending_entries.PendingEntries.note as it
 use Rattle.sb_durable.proofs.pending_entries.PendingEntries.note.Statement as stated
 use Rattle.sb_durable.proofs.pending_entries.PendingEntries.note.Code as code
 use denote.Ref.{Bor}
