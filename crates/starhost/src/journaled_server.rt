@@ -1,7 +1,7 @@
 //! A server with a journal: it begins as the journal leaves it, and what is answered is recorded before it is sent.
 ghost use Rattle.std.specs.Prelude.{OnOk, true};
 ghost use Rattle.std.specs.Thread.{IsSend, IsSync};
-ghost use Rattle.sb_durable.specs.ServerContext.{AreKept};
+ghost use Rattle.sb_durable.specs.RecordedTrails.{AreKept};
 ghost use Rattle.sb_monitor.specs.Listening.{TellsPort};
 
 use crate::fault::ProgramFault;
