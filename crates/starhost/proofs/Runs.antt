@@ -34,16 +34,16 @@ module _ {E P : Type 0} (denies : E → Type 0) (told : E → Option (List ℕ))
   went_well (Err why) n tells none h = absurd (let one = tells.0 in omega arith)
 
 -- what sb_backup answered, as the program tells it
-pub ok_backup : {P : Type 0} (own : Result (Unit {0}) BackupError) (ended : Result (Unit {0}) ProgramFault) → ended ≡ as_backup own → OnOk own P → OnOk ended P
-ok_backup {P} own ended is holds = subst (λ (r : Result (Unit {0}) ProgramFault). OnOk r P) (sym is) (by own holds)
+pub ok_backup : (P : Type 0) (own : Result (Unit {0}) BackupError) (ended : Result (Unit {0}) ProgramFault) → ended ≡ as_backup own → OnOk own P → OnOk ended P
+ok_backup P own ended is holds = subst (λ (r : Result (Unit {0}) ProgramFault). OnOk r P) (sym is) (by own holds)
   where
     by : (r : Result (Unit {0}) BackupError) → OnOk r P → OnOk (as_backup r) P
     by (Ok value) h = h
     by (Err e) h = tt
 
-pub err_backup : {P : BackupError → Type 0} (own : Result (Unit {0}) BackupError) (ended : Result (Unit {0}) ProgramFault) → ended ≡ as_backup own → IfErr own P
+pub err_backup : (P : BackupError → Type 0) (own : Result (Unit {0}) BackupError) (ended : Result (Unit {0}) ProgramFault) → ended ≡ as_backup own → IfErr own P
     → IfErr ended (λ why. (e : BackupError) × (why ≡ Backup e) × P e)
-err_backup {P} own ended is holds =
+err_backup P own ended is holds =
     subst (λ (r : Result (Unit {0}) ProgramFault). IfErr r (λ why. (e : BackupError) × (why ≡ Backup e) × P e)) (sym is) (by own holds)
   where
     by : (r : Result (Unit {0}) BackupError) → IfErr r P → IfErr (as_backup r) (λ why. (e : BackupError) × (why ≡ Backup e) × P e)
@@ -51,16 +51,16 @@ err_backup {P} own ended is holds =
     by (Err e) h = (e, refl, h)
 
 -- and what sb_durable answered
-pub ok_journal : {P : Type 0} (own : Result (Unit {0}) JournalFault) (ended : Result (Unit {0}) ProgramFault) → ended ≡ as_journal own → OnOk own P → OnOk ended P
-ok_journal {P} own ended is holds = subst (λ (r : Result (Unit {0}) ProgramFault). OnOk r P) (sym is) (by own holds)
+pub ok_journal : (P : Type 0) (own : Result (Unit {0}) JournalFault) (ended : Result (Unit {0}) ProgramFault) → ended ≡ as_journal own → OnOk own P → OnOk ended P
+ok_journal P own ended is holds = subst (λ (r : Result (Unit {0}) ProgramFault). OnOk r P) (sym is) (by own holds)
   where
     by : (r : Result (Unit {0}) JournalFault) → OnOk r P → OnOk (as_journal r) P
     by (Ok value) h = h
     by (Err e) h = tt
 
-pub err_journal : {P : JournalFault → Type 0} (own : Result (Unit {0}) JournalFault) (ended : Result (Unit {0}) ProgramFault) → ended ≡ as_journal own → IfErr own P
+pub err_journal : (P : JournalFault → Type 0) (own : Result (Unit {0}) JournalFault) (ended : Result (Unit {0}) ProgramFault) → ended ≡ as_journal own → IfErr own P
     → IfErr ended (λ why. (e : JournalFault) × (why ≡ Journal e) × P e)
-err_journal {P} own ended is holds =
+err_journal P own ended is holds =
     subst (λ (r : Result (Unit {0}) ProgramFault). IfErr r (λ why. (e : JournalFault) × (why ≡ Journal e) × P e)) (sym is) (by own holds)
   where
     by : (r : Result (Unit {0}) JournalFault) → IfErr r P → IfErr (as_journal r) (λ why. (e : JournalFault) × (why ≡ Journal e) × P e)
@@ -68,8 +68,8 @@ err_journal {P} own ended is holds =
     by (Err e) h = (e, refl, h)
 
 -- and what told a digest: a stream failed, or the line is no key
-pub ok_digest : {P : Type 0} (own : Result (Unit {0}) DigestError) (ended : Result (Unit {0}) ProgramFault) → ended ≡ as_digest own → OnOk own P → OnOk ended P
-ok_digest {P} own ended is holds = subst (λ (r : Result (Unit {0}) ProgramFault). OnOk r P) (sym is) (by own holds)
+pub ok_digest : (P : Type 0) (own : Result (Unit {0}) DigestError) (ended : Result (Unit {0}) ProgramFault) → ended ≡ as_digest own → OnOk own P → OnOk ended P
+ok_digest P own ended is holds = subst (λ (r : Result (Unit {0}) ProgramFault). OnOk r P) (sym is) (by own holds)
   where
     by : (r : Result (Unit {0}) DigestError) → OnOk r P → OnOk (as_digest r) P
     by (Ok value) h = h

@@ -34,10 +34,10 @@ pub returns-in-Replay-clause-goes : goal.returns-in-Replay-clause-goes
 returns-in-Replay-clause-goes g c = rw c.in-Replay.is (c.replay-ended.result, c.tell_end-in-Replay.ensures, c.replay-ended.ensures.err)
 
 pub returns-in-Record-clause-succeeds : goal.returns-in-Record-clause-succeeds
-returns-in-Record-clause-succeeds g c = rw c.in-Record.is (λ ok. went_well g.E.Sink.refuses g.E.Write.contents c.args.errors.now.sink c.tell_end-in-Record.new.errors c.of_journal.result c.tell_end-in-Record.result c.tell_end-in-Record.ensures ok (ok_journal c.run_journaled-ended.result c.of_journal.result c.of_journal.ensures c.run_journaled-ended.ensures.ok))
+returns-in-Record-clause-succeeds g c = rw c.in-Record.is (λ ok. went_well g.E.Sink.refuses g.E.Write.contents c.args.errors.now.sink c.tell_end-in-Record.new.errors c.of_journal.result c.tell_end-in-Record.result c.tell_end-in-Record.ensures ok (ok_journal _ c.run_journaled-ended.result c.of_journal.result c.of_journal.ensures c.run_journaled-ended.ensures.ok))
 
 pub returns-in-Record-clause-goes : goal.returns-in-Record-clause-goes
-returns-in-Record-clause-goes g c = rw c.in-Record.is (c.of_journal.result, c.tell_end-in-Record.ensures, err_journal c.run_journaled-ended.result c.of_journal.result c.of_journal.ensures c.run_journaled-ended.ensures.err)
+returns-in-Record-clause-goes g c = rw c.in-Record.is (c.of_journal.result, c.tell_end-in-Record.ensures, err_journal _ c.run_journaled-ended.result c.of_journal.result c.of_journal.ensures c.run_journaled-ended.ensures.err)
 
 pub returns-in-Keep-clause-succeeds : goal.returns-in-Keep-clause-succeeds
 returns-in-Keep-clause-succeeds g c = rw c.in-Keep.is (λ ok. went_well g.E.Sink.refuses g.E.Write.contents c.args.errors.now.sink c.tell_end-in-Keep.new.errors c.keep-ended.result c.tell_end-in-Keep.result c.tell_end-in-Keep.ensures ok c.keep-ended.ensures)
@@ -46,16 +46,16 @@ pub returns-in-Keep-clause-goes : goal.returns-in-Keep-clause-goes
 returns-in-Keep-clause-goes g c = rw c.in-Keep.is (c.keep-ended.result, c.tell_end-in-Keep.ensures, refl)
 
 pub returns-in-Dump-clause-succeeds : goal.returns-in-Dump-clause-succeeds
-returns-in-Dump-clause-succeeds g c = rw c.in-Dump.is (λ ok. went_well g.E.Sink.refuses g.E.Write.contents c.args.errors.now.sink c.tell_end-in-Dump.new.errors c.of_backup.result c.tell_end-in-Dump.result c.tell_end-in-Dump.ensures ok (ok_backup c.dump_tenant-ended.result c.of_backup.result c.of_backup.ensures c.dump_tenant-ended.ensures.ok))
+returns-in-Dump-clause-succeeds g c = rw c.in-Dump.is (λ ok. went_well g.E.Sink.refuses g.E.Write.contents c.args.errors.now.sink c.tell_end-in-Dump.new.errors c.of_backup.result c.tell_end-in-Dump.result c.tell_end-in-Dump.ensures ok (ok_backup _ c.dump_tenant-ended.result c.of_backup.result c.of_backup.ensures c.dump_tenant-ended.ensures.ok))
 
 pub returns-in-Dump-clause-goes : goal.returns-in-Dump-clause-goes
-returns-in-Dump-clause-goes g c = rw c.in-Dump.is (c.of_backup.result, c.tell_end-in-Dump.ensures, err_backup c.dump_tenant-ended.result c.of_backup.result c.of_backup.ensures c.dump_tenant-ended.ensures.err)
+returns-in-Dump-clause-goes g c = rw c.in-Dump.is (c.of_backup.result, c.tell_end-in-Dump.ensures, err_backup _ c.dump_tenant-ended.result c.of_backup.result c.of_backup.ensures c.dump_tenant-ended.ensures.err)
 
 pub returns-in-DumpAll-clause-succeeds : goal.returns-in-DumpAll-clause-succeeds
-returns-in-DumpAll-clause-succeeds g c = rw c.in-DumpAll.is (λ ok. (refl, went_well g.E.Sink.refuses g.E.Write.contents c.args.errors.now.sink c.tell_end-in-DumpAll.new.errors c.of_backup-in-DumpAll.result c.tell_end-in-DumpAll.result c.tell_end-in-DumpAll.ensures ok (ok_backup c.dump_all-ended.result c.of_backup-in-DumpAll.result c.of_backup-in-DumpAll.ensures c.dump_all-ended.ensures.ok)))
+returns-in-DumpAll-clause-succeeds g c = rw c.in-DumpAll.is (λ ok. (refl, went_well g.E.Sink.refuses g.E.Write.contents c.args.errors.now.sink c.tell_end-in-DumpAll.new.errors c.of_backup-in-DumpAll.result c.tell_end-in-DumpAll.result c.tell_end-in-DumpAll.ensures ok (ok_backup _ c.dump_all-ended.result c.of_backup-in-DumpAll.result c.of_backup-in-DumpAll.ensures c.dump_all-ended.ensures.ok)))
 
 pub returns-in-DumpAll-clause-goes : goal.returns-in-DumpAll-clause-goes
-returns-in-DumpAll-clause-goes g c = rw c.in-DumpAll.is (c.of_backup-in-DumpAll.result, c.tell_end-in-DumpAll.ensures, refl, err_backup c.dump_all-ended.result c.of_backup-in-DumpAll.result c.of_backup-in-DumpAll.ensures c.dump_all-ended.ensures.err)
+returns-in-DumpAll-clause-goes g c = rw c.in-DumpAll.is (c.of_backup-in-DumpAll.result, c.tell_end-in-DumpAll.ensures, refl, err_backup _ c.dump_all-ended.result c.of_backup-in-DumpAll.result c.of_backup-in-DumpAll.ensures c.dump_all-ended.ensures.err)
 
 pub returns-in-Compact-clause-succeeds : goal.returns-in-Compact-clause-succeeds
 returns-in-Compact-clause-succeeds g c = rw c.in-Compact.is (λ ok. tt)
@@ -64,7 +64,7 @@ pub returns-in-Compact-clause-goes : goal.returns-in-Compact-clause-goes
 returns-in-Compact-clause-goes g c = rw c.in-Compact.is (c.of_journal-in-Compact.result, c.tell_end-in-Compact.ensures, refl, refl)
 
 pub returns-in-Key-clause-succeeds : goal.returns-in-Key-clause-succeeds
-returns-in-Key-clause-succeeds g c = rw c.in-Key.is (λ ok. went_well g.E.Sink.refuses g.E.Write.contents c.args.errors.now.sink c.tell_end-in-Key.new.errors c.of_digest.result c.tell_end-in-Key.result c.tell_end-in-Key.ensures ok (ok_digest c.tell_digest-ended.result c.of_digest.result c.of_digest.ensures c.tell_digest-ended.ensures))
+returns-in-Key-clause-succeeds g c = rw c.in-Key.is (λ ok. went_well g.E.Sink.refuses g.E.Write.contents c.args.errors.now.sink c.tell_end-in-Key.new.errors c.of_digest.result c.tell_end-in-Key.result c.tell_end-in-Key.ensures ok (ok_digest _ c.tell_digest-ended.result c.of_digest.result c.of_digest.ensures c.tell_digest-ended.ensures))
 
 pub returns-in-Key-clause-goes : goal.returns-in-Key-clause-goes
 returns-in-Key-clause-goes g c = rw c.in-Key.is (c.of_digest.result, c.tell_end-in-Key.ensures, err_digest c.tell_digest-ended.result c.of_digest.result c.of_digest.ensures)

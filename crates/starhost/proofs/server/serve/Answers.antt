@@ -1,6 +1,13 @@
+use Rattle.std.proofs.Common.{inl, inr, refl, rules}
+use Rattle.sb_wire.specs.declared.fault.StreamError.TheVariants as stream
+use Rattle.sb_monitor.specs.declared.listener.ListenError.TheVariants as listen
 use Rattle.starhost.proofs.server.serve.Goals as goal
 
 -- the host has the numbers of the plan, and the plan those of the words
 pub returns-in-Ok-clause-ok : goal.returns-in-Ok-clause-ok
 returns-in-Ok-clause-ok g c =
     rw (c.in-Ok.ensures.0, c.in-Ok.ensures.2, c.plan_of-plan.ensures.1, c.plan_of-plan.ensures.3) at c.serve_host.ensures.ok
+
+-- there was no memory, and nothing is written
+pub returns-in-Err-clause-err : goal.returns-in-Err-clause-err
+returns-in-Err-clause-err g c = inl (listen.Stream stream.NoMemory, refl, inr (search rules, inr refl))
