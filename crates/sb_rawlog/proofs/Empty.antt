@@ -24,21 +24,21 @@ session_below : (t s : ℕ) → session_number t s < 2048
 unfolding session_number
 session_below t s = mod-lt (t * 8 + s) (omega arith)
 
-module _ (n : ℕ) (positive : 0 < n) where
+module _ (n m : ℕ) (positive : 0 < n) (positive_too : 0 < m) where
   abbrev heads : Which → List (Option ℕ)
-  heads = by_which (replicate n None) (replicate n None) (replicate 2048 None)
+  heads = by_which (replicate n None) (replicate m None) (replicate 2048 None)
 
-  within : (w : Which) (c : Change) → bucket n w c < length (heads w)
-  within Op c = let m = mod-lt _ positive in subst (λ k. bucket n Op c < k) (sym (count n)) m
-  within Tuple c = let m = mod-lt _ positive in subst (λ k. bucket n Tuple c < k) (sym (count n)) m
-  within Session c = subst (λ k. bucket n Session c < k) (sym (count 2048)) (session_below c.tenant c.session)
+  within : (w : Which) (c : Change) → bucket n m w c < length (heads w)
+  within Op c = let below = mod-lt _ positive in subst (λ k. bucket n m Op c < k) (sym (count n)) below
+  within Tuple c = let below = mod-lt _ positive_too in subst (λ k. bucket n m Tuple c < k) (sym (count m)) below
+  within Session c = subst (λ k. bucket n m Session c < k) (sym (count 2048)) (session_below c.tenant c.session)
 
   no_heads : (w : Which) (b : ℕ) → get_or (heads w) b None ≡ None
   no_heads Op b = nones n b
-  no_heads Tuple b = nones n b
+  no_heads Tuple b = nones m b
   no_heads Session b = nones 2048 b
 
-  empty_log : IsLog (bucket n) [] heads [] 0
+  empty_log : IsLog (bucket n m) [] heads [] 0
   empty_log = record {
     falls = tt;
     all = λ p is. let e = is.1 in absurd (cc);
@@ -46,19 +46,19 @@ module _ (n : ℕ) (positive : 0 < n) where
     chains = no_heads;
   }
 
-  empty_holds : HoldsLog [] (replicate n None) (replicate n None) (replicate 2048 None) [] 0
+  empty_holds : HoldsLog [] (replicate n None) (replicate m None) (replicate 2048 None) [] 0
   empty_holds = record {
     buckets = omega (arith, count n);
-    as_many = refl;
+    of_tuples = omega (arith, count m);
     of_sessions = count 2048;
-    log = subst (λ k. IsLog (bucket k) [] heads [] 0) (sym (count n)) empty_log;
+    log = subst (λ (k : ℕ × ℕ). IsLog (bucket k.0 k.1) [] heads [] 0) (λ j. (sym (count n) j, sym (count m) j)) empty_log;
   }
 
-pub empty : (n : ℕ) → 0 < n → (a : Inside) → a.used ≡ 0 → a.clock ≡ 0 → a.room ≡ 0 → a.arena ≡ [] → a.heads.ops.items ≡ replicate n None → a.heads.tuples.items ≡ replicate n None → a.heads.sessions.items ≡ replicate 2048 None → a.free.items ≡ [] → IsRaw a
-empty n positive a used clock room arena ops tuples sessions free = record {
+pub empty : (n m : ℕ) → 0 < n → 0 < m → (a : Inside) → a.used ≡ 0 → a.clock ≡ 0 → a.room ≡ 0 → a.arena ≡ [] → a.heads.ops.items ≡ replicate n None → a.heads.tuples.items ≡ replicate m None → a.heads.sessions.items ≡ replicate 2048 None → a.free.items ≡ [] → IsRaw a
+empty n m positive positive_too a used clock room arena ops tuples sessions free = record {
   order = [];
   holds = subst (λ (z : List (Option (Node Change)) × (List (Option ℕ) × (List (Option ℕ) × (List (Option ℕ) × ℕ)))). HoldsLog z.0 z.1.0 z.1.1.0 z.1.1.1.0 [] z.1.1.1.1)
-      (λ j. (sym arena j, (sym ops j, (sym tuples j, (sym sessions j, sym clock j))))) (empty_holds n positive);
+      (λ j. (sym arena j, (sym ops j, (sym tuples j, (sym sessions j, sym clock j))))) (empty_holds n m positive positive_too);
   free = record {
     within = omega (arith, used);
     given_back = λ p m. absurd (subst (Member p) free m);

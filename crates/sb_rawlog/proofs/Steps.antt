@@ -31,14 +31,14 @@ use Rattle.sb_rawlog.proofs.KeySteps.{of_op, of_tuple}
 -- ---- keys
 
 -- what fits a key lies in the key's bucket
-pub fits_bucket : (n : ℕ) (k : Key) (c : Change) → fits k c ≡ true → bucket n (list_of k) c ≡ key_bucket n k
-fits_bucket n (OpKey who table kind) c e =
+pub fits_bucket : (n m : ℕ) (k : Key) (c : Change) → fits k c ≡ true → bucket n m (list_of k) c ≡ key_bucket n m k
+fits_bucket n m (OpKey who table kind) c e =
     let of = of_op who table kind c e in
     λ j. mixed (group (of.0 j).tenant (of.0 j).session (of.1.0 j)) (kind_number (of.1.1 j)) % n
-fits_bucket n (TupleKey who table tuple) c e =
+fits_bucket n m (TupleKey who table tuple) c e =
     let of = of_tuple who table tuple c e in
-    λ j. mixed (group (of.0 j).tenant (of.0 j).session (of.1.0 j)) (of.1.1 j) % n
-fits_bucket n (SessionKey who) c e = let by : author c ≡ who = author_is who c e in λ j. session_number (by j).tenant (by j).session
+    λ j. mixed (group (of.0 j).tenant (of.0 j).session (of.1.0 j)) (of.1.1 j) % m
+fits_bucket n m (SessionKey who) c e = let by : author c ≡ who = author_is who c e in λ j. session_number (by j).tenant (by j).session
 
 is_by-author : (who : Who) (c : Change) → who ≡ author c → is_by who c ≡ true
 is_by-author who c e = ap (λ b. b && (c.session == who.session)) (eq-eqb c.tenant who.tenant (ap (λ (w : Who). w.tenant) (sym e))) ∙ eq-eqb c.session who.session (ap (λ (w : Who). w.session) (sym e))
@@ -94,14 +94,14 @@ module _ (cs : List (Option (Node Change))) (ops tuples sessions : List (Option 
     w = list_of k
 
     abbrev b : ℕ
-    b = key_bucket (length ops) k
+    b = key_bucket (length ops) (length tuples) k
 
     abbrev in_list : Which → Change → ℕ
-    in_list = bucket (length ops)
+    in_list = bucket (length ops) (length tuples)
 
     -- the bucket's chain has all that is selected
     enough : (ps : List ℕ) → filter (selects p since) (entries cs (in_bucket in_list w b cs ps)) ≡ filter (selects p since) (entries cs ps)
-    enough ps = bucket_enough in_list w b cs (selects p since) (λ r e. fits_bucket (length ops) k r.1 (and_parts (nat_le since r.0) (p r.1) e).1) ps
+    enough ps = bucket_enough in_list w b cs (selects p since) (λ r e. fits_bucket (length ops) (length tuples) k r.1 (and_parts (nat_le since r.0) (p r.1) e).1) ps
 
     pub first_chain : (head : Option ℕ) → head ≡ get_or (by_which ops tuples sessions w) b None → IsChain w cs clock head (in_bucket in_list w b cs order)
     first_chain head e = subst (λ h. IsChain w cs clock h (in_bucket in_list w b cs order)) (sym e) (holds.log.chains w b)
@@ -125,7 +125,7 @@ module _ (cs : List (Option (Node Change))) (ops tuples sessions : List (Option 
 
       pub next_chain : (behind : Option ℕ) → behind ≡ link w cs at → IsChain w cs t behind next_places
       next_chain behind e =
-          let mine : bucket_in in_list w (item_at cs at) ≡ b = ap (λ c. bucket_in in_list w (item_in c)) here ∙ fits_bucket (length ops) k n.item good in
+          let mine : bucket_in in_list w (item_at cs at) ≡ b = ap (λ c. bucket_in in_list w (item_in c)) here ∙ fits_bucket (length ops) (length tuples) k n.item good in
           let chain = chain_behind in_list w cs at clock order clock (get_or (by_which ops tuples sessions w) (bucket_in in_list w (item_at cs at)) None) holds.log.falls (holds.log.all at (n, here)) (holds.log.chains w (bucket_in in_list w (item_at cs at))) in
           subst (λ (z : ℕ × (Option ℕ × ℕ)). IsChain w cs z.0 z.1.0 (in_bucket in_list w z.1.1 cs (older cs z.0 order))) (λ j. (time_is j, (sym e j, mine j))) chain
 

@@ -79,7 +79,7 @@ takes_newest cs ds ops tuples sessions ops' tuples' sessions' order clock room r
 module _ (cs : List (Option (Node Change))) (ops tuples sessions : List (Option ℕ)) (order : List ℕ) (clock room room' place : ℕ) (back : Back) (change : Change) (holds : HoldsLog cs ops tuples sessions order clock)
     (free : get_or cs place None ≡ None) (within : place < length cs) where
   abbrev in_list : Which → Change → ℕ
-  in_list = bucket (length ops)
+  in_list = bucket (length ops) (length tuples)
 
   abbrev node : Node Change
   node = node_for ops tuples sessions clock back change
@@ -107,14 +107,15 @@ module _ (cs : List (Option (Node Change))) (ops tuples sessions : List (Option 
   pub holds_added : HoldsLog after (set ops (in_list Op change) (Some place)) (set tuples (in_list Tuple change) (Some place)) (set sessions (in_list Session change) (Some place)) (place ∷ order) (clock + 1)
   holds_added =
       let long = length-set ops (in_list Op change) (Some place) in
+      let long_too = length-set tuples (in_list Tuple change) (Some place) in
       let ops1 = set ops (in_list Op change) (Some place) in let tuples1 = set tuples (in_list Tuple change) (Some place) in let sessions1 = set sessions (in_list Session change) (Some place) in
       let log : IsLog in_list after (by_which ops1 tuples1 sessions1) (place ∷ order) (clock + 1) =
       subst (λ (h : Which → List (Option ℕ)). IsLog in_list after h (place ∷ order) (clock + 1)) (λ j w. heads_are w j) (added in_list cs (by_which ops tuples sessions) order clock holds.log place free within node refl links_are).0 in
       record {
         buckets = omega (arith, holds.buckets);
-        as_many = length-set tuples (in_list Tuple change) (Some place) ∙ holds.as_many ∙ sym long;
+        of_tuples = omega (arith, holds.of_tuples, long_too);
         of_sessions = length-set sessions (in_list Session change) (Some place) ∙ holds.of_sessions;
-        log = subst (λ k. IsLog (bucket k) after (by_which ops1 tuples1 sessions1) (place ∷ order) (clock + 1)) (sym long) log;
+        log = subst (λ (k : ℕ × ℕ). IsLog (bucket k.0 k.1) after (by_which ops1 tuples1 sessions1) (place ∷ order) (clock + 1)) (λ j. (sym long j, sym long_too j)) log;
       }
 
   pub records_added : records_of added_one ≡ records_of before_that ++ (clock, change) ∷ []
@@ -138,11 +139,11 @@ module _ (cs ds : List (Option (Node Change))) (ops tuples sessions : List (Opti
   abbrev places_after : Raw
   places_after = record { places = shown ds; clock = clock; room = room' }
 
-  kept : IsLog (bucket (length ops)) ds (by_which ops tuples sessions) order clock × (entries ds order ≡ entries cs order)
-  kept = same_log (bucket (length ops)) cs ds (by_which ops tuples sessions) order clock same holds.log
+  kept : IsLog (bucket (length ops) (length tuples)) ds (by_which ops tuples sessions) order clock × (entries ds order ≡ entries cs order)
+  kept = same_log (bucket (length ops) (length tuples)) cs ds (by_which ops tuples sessions) order clock same holds.log
 
   pub kept_holds : HoldsLog ds ops tuples sessions order clock
-  kept_holds = record { buckets = holds.buckets; as_many = holds.as_many; of_sessions = holds.of_sessions; log = kept.0 }
+  kept_holds = record { buckets = holds.buckets; of_tuples = holds.of_tuples; of_sessions = holds.of_sessions; log = kept.0 }
 
   pub kept_records : records_of places_after ≡ records_of places_before
   kept_records = seen_is ds ops tuples sessions order clock room' kept_holds ∙ ap reverse kept.1 ∙ sym (seen_is cs ops tuples sessions order clock room holds)

@@ -43,7 +43,7 @@ read_head xs i j x e same lt =
 module _ (was : List (Option (Node Change))) (ops tuples sessions : List (Option ℕ)) (order : List ℕ) (clock p : ℕ) (holds : HoldsLog was ops tuples sessions order clock) (there : Member p order)
     (n : Node Change) (at : get_or was p None ≡ Some n) where
   abbrev in_list : Which → Change → ℕ
-  in_list = bucket (length ops)
+  in_list = bucket (length ops) (length tuples)
 
   abbrev mine : Which → ℕ
   mine w = bucket_in in_list w (item_at was p)
@@ -143,9 +143,9 @@ module _ (was : List (Option (Node Change))) (ops tuples sessions : List (Option
                     result_is = cc;
                     holds = record {
                       buckets = (let b = holds.buckets in omega (arith, long_ops));
-                      as_many = long_tuples ∙ holds.as_many ∙ sym long_ops;
+                      of_tuples = (let b = holds.of_tuples in omega (arith, long_tuples));
                       of_sessions = long_sessions ∙ holds.of_sessions;
-                      log = subst (λ k. IsLog (bucket k) es (by_which ops1 tuples1 sessions1) out clock) (sym long_ops) log;
+                      log = subst (λ (k : ℕ × ℕ). IsLog (bucket k.0 k.1) es (by_which ops1 tuples1 sessions1) out clock) (λ j. (sym long_ops j, sym long_tuples j)) log;
                     };
                     left = entries_taken was es p clock order order clock holds.log.falls there (λ q m. m) (λ q ne. (ap item_in (kept q ne) ∙ part3.items q, ap time_in (kept q ne) ∙ part3.times q)) holds.log.falls
                         ∙ ap (λ t. filter (λ e. not (e.0 == t)) (entries was order)) (ap time_in at);

@@ -24,11 +24,11 @@ kind_number Updated = 2
 unfoldable pub session_number : ℕ → ℕ → ℕ
 session_number tenant session = (tenant * 8 + session) % 2048
 
--- a change's bucket in each kind of list; the sessions' lists have a bucket for each session
-abbrev pub bucket : ℕ → Which → Change → ℕ
-bucket n Op c = mixed (group c.tenant c.session c.table) (kind_number c.kind) % n
-bucket n Tuple c = mixed (group c.tenant c.session c.table) c.tuple % n
-bucket n Session c = session_number c.tenant c.session
+-- a change's bucket in each kind of list, of n by session, table and kind, and m by tuple; the sessions' lists have a bucket for each session
+abbrev pub bucket : ℕ → ℕ → Which → Change → ℕ
+bucket n m Op c = mixed (group c.tenant c.session c.table) (kind_number c.kind) % n
+bucket n m Tuple c = mixed (group c.tenant c.session c.table) c.tuple % m
+bucket n m Session c = session_number c.tenant c.session
 
 -- the list, and the bucket, of the changes that fit a key
 abbrev pub list_of : Key → Which
@@ -36,10 +36,10 @@ list_of (OpKey who table kind) = Op
 list_of (TupleKey who table tuple) = Tuple
 list_of (SessionKey who) = Session
 
-abbrev pub key_bucket : ℕ → Key → ℕ
-key_bucket n (OpKey who table kind) = mixed (group who.tenant who.session table) (kind_number kind) % n
-key_bucket n (TupleKey who table tuple) = mixed (group who.tenant who.session table) tuple % n
-key_bucket n (SessionKey who) = session_number who.tenant who.session
+abbrev pub key_bucket : ℕ → ℕ → Key → ℕ
+key_bucket n m (OpKey who table kind) = mixed (group who.tenant who.session table) (kind_number kind) % n
+key_bucket n m (TupleKey who table tuple) = mixed (group who.tenant who.session table) tuple % m
+key_bucket n m (SessionKey who) = session_number who.tenant who.session
 
 abbrev pub by_which : List (Option ℕ) → List (Option ℕ) → List (Option ℕ) → Which → List (Option ℕ)
 by_which ops tuples sessions Op = ops

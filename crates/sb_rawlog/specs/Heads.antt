@@ -16,11 +16,11 @@ heads_of h = by_which h.ops.items h.tuples.items h.sessions.items
 
 -- where the list of the key's bucket begins
 abbrev pub first_of : Heads → Key → Option ℕ
-first_of h key = get_or (heads_of h (list_of key)) (key_bucket (length h.ops.items) key) None
+first_of h key = get_or (heads_of h (list_of key)) (key_bucket (length h.ops.items) (length h.tuples.items) key) None
 
 -- the heads of one kind of list, once the place comes first in the list of the change's bucket
 abbrev pub put_first : Heads → Which → Change → ℕ → List (Option ℕ)
-put_first h w c place = slice_set (heads_of h w) (bucket (length h.ops.items) w c) (Some place)
+put_first h w c place = slice_set (heads_of h w) (bucket (length h.ops.items) (length h.tuples.items) w c) (Some place)
 
 -- the node of a change that comes in front of its lists
 abbrev pub node_before : Heads → ℕ → Back → Change → Node Change

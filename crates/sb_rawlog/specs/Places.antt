@@ -13,7 +13,7 @@ use Rattle.sb_rawlog.specs.Buckets.{bucket, by_which}
 abbrev pub node_for : List (Option ℕ) → List (Option ℕ) → List (Option ℕ) → ℕ → Back → Change → Node Change
 node_for ops tuples sessions time back c = record {
   time = time;
-  links = record { op = get_or ops (bucket (length ops) Op c) None; tuple = get_or tuples (bucket (length ops) Tuple c) None; session = get_or sessions (bucket (length ops) Session c) None };
+  links = record { op = get_or ops (bucket (length ops) (length tuples) Op c) None; tuple = get_or tuples (bucket (length ops) (length tuples) Tuple c) None; session = get_or sessions (bucket (length ops) (length tuples) Session c) None };
   back = back;
   item = c;
 }
@@ -65,9 +65,9 @@ Sheds places used given_back n left = (CanSpareBlock places used given_back n �
 -- the places and the lists through them hold a log
 pub record HoldsLog (cs : List (Option (Node Change))) (ops tuples sessions : List (Option ℕ)) (order : List ℕ) (clock : ℕ) : Type 0 where
   pub buckets : 0 < length ops
-  pub as_many : length tuples ≡ length ops
+  pub of_tuples : 0 < length tuples
   pub of_sessions : length sessions ≡ 2048
-  pub log : IsLog (bucket (length ops)) cs (by_which ops tuples sessions) order clock
+  pub log : IsLog (bucket (length ops) (length tuples)) cs (by_which ops tuples sessions) order clock
 
 -- the place's change is taken out, and what the other places hold stays
 pub record TakesOut (cs ds : List (Option (Node Change))) (ops tuples sessions : List (Option ℕ)) (order : List ℕ) (clock place : ℕ) (result : Change) : Type 0 where

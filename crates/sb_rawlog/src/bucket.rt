@@ -1,5 +1,5 @@
 //! Which list of which bucket a change is in.
-ghost use Rattle.std.specs.Prelude.{◌≡◌, ◌<◌, length};
+ghost use Rattle.std.specs.Prelude.{◌≡◌, ◌<◌, ◌≤◌, length};
 ghost use Rattle.sb_rawlog.specs.declared.node.Which.TheVariants.{Op, Tuple, Session};
 ghost use Rattle.sb_rawlog.specs.Buckets.{group, mixed, kind_number, session_number, bucket, list_of};
 ghost use Rattle.sb_rawlog.specs.Heads.{first_of};
@@ -11,6 +11,18 @@ use sb_value::{Change, ChangeKind, SessionId, TableId, TenantId};
 
 /// How many sessions there are. Each has a list of its own.
 pub(crate) const SESSIONS: usize = 2_048;
+
+/// The most buckets of changes by tuple: so many rows a tenant has at most.
+const MOST_TUPLE_BUCKETS: usize = 65_536;
+
+/// How many buckets of changes by tuple there are beside so many by session, table and kind. A session changes far more
+/// tuples than tables, and a walk along a tuple's changes meets those of other tuples in its bucket.
+pub(crate) fn tuple_buckets(buckets: usize) -> usize
+    requires { (0 < buckets) × (buckets ≤ 65536) }
+    ensures { 0 < result }
+{
+    (buckets * 16).min(MOST_TUPLE_BUCKETS)
+}
 
 /// One number for a session's table.
 #[tactic(auto, unfolding(crate::specs::Buckets::group))]
@@ -51,7 +63,7 @@ fn session_number(tenant: TenantId, session: SessionId) -> usize
 
 pub(crate) fn op_bucket(change: &Change, count: usize) -> usize
     requires { 0 < count }
-    ensures { result ≡ bucket count Op change.now }
+    ensures { result ≡ bucket count count Op change.now }
 {
     let group = group(change.tenant, change.session, change.table);
     (mixed(group, kind_number(change.kind)) % count as u64) as usize
@@ -59,7 +71,7 @@ pub(crate) fn op_bucket(change: &Change, count: usize) -> usize
 
 pub(crate) fn tuple_bucket(change: &Change, count: usize) -> usize
     requires { 0 < count }
-    ensures { result ≡ bucket count Tuple change.now }
+    ensures { result ≡ bucket count count Tuple change.now }
 {
     let group = group(change.tenant, change.session, change.table);
     (mixed(group, change.tuple) % count as u64) as usize
@@ -90,7 +102,7 @@ impl Heads {
     #[inline(always)]
     pub(crate) fn first(&self, key: &Key) -> Option<usize>
         requires ops { 0 < length self.now.ops.items }
-        requires tuples { length self.now.tuples.items ≡ length self.now.ops.items }
+        requires tuples { 0 < length self.now.tuples.items }
         requires sessions { length self.now.sessions.items ≡ 2048 }
         ensures { result ≡ first_of self.now key.now }
     {
@@ -101,7 +113,7 @@ impl Heads {
             }
             Key::Tuple(who, table, tuple) => {
                 let mixed = mixed(group(who.tenant, who.session, *table), *tuple);
-                self.tuples[(mixed % self.ops.len() as u64) as usize]
+                self.tuples[(mixed % self.tuples.len() as u64) as usize]
             }
             Key::Session(who) => self.sessions[session_number(who.tenant, who.session)],
         }

@@ -42,7 +42,7 @@ pub(crate) fn enter(
     change: Change,
 )
     requires ops { 0 < length heads.old.ops.items }
-    requires tuples { length heads.old.tuples.items ≡ length heads.old.ops.items }
+    requires tuples { 0 < length heads.old.tuples.items }
     requires sessions { length heads.old.sessions.items ≡ 2048 }
     requires within { place < length arena.old }
     requires free { get_or arena.old place None ≡ None }
@@ -51,9 +51,8 @@ pub(crate) fn enter(
     ensures tuples { heads.new.tuples.items ≡ put_first heads.old Tuple change place }
     ensures sessions { heads.new.sessions.items ≡ put_first heads.old Session change place }
 {
-    let count = heads.ops.len();
-    let op = op_bucket(&change, count);
-    let tuple = tuple_bucket(&change, count);
+    let op = op_bucket(&change, heads.ops.len());
+    let tuple = tuple_bucket(&change, heads.tuples.len());
     let session = session_bucket(&change);
     let links = Links {
         op: heads.ops[op],
@@ -82,7 +81,7 @@ pub(crate) fn take_out(arena: &mut Arena<Node<Change>>, heads: &mut Heads, place
         unreachable!()
     };
     let op = op_bucket(&node.item, heads.ops.len());
-    let tuple = tuple_bucket(&node.item, heads.ops.len());
+    let tuple = tuple_bucket(&node.item, heads.tuples.len());
     let session = session_bucket(&node.item);
     heads.ops[op] = unlink(arena, Which::Op, heads.ops[op], place);
     heads.tuples[tuple] = unlink(arena, Which::Tuple, heads.tuples[tuple], place);

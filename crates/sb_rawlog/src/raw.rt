@@ -8,7 +8,7 @@ ghost use Rattle.sb_rawlog.specs.Steps.{SpotsStay, TakesNewest};
 ghost use Rattle.sb_rawlog.specs.Raw.{records_of, Stands};
 
 use crate::back::{back_for, node_at};
-use crate::bucket::SESSIONS;
+use crate::bucket::{SESSIONS, tuple_buckets};
 use crate::heads::Heads;
 use crate::key::Key;
 use crate::lists::link;
@@ -69,7 +69,7 @@ impl RawLog {
             arena: Arena::new(alloc),
             heads: Heads {
                 ops: Vec::from_elem(alloc, None, buckets)?,
-                tuples: Vec::from_elem(alloc, None, buckets)?,
+                tuples: Vec::from_elem(alloc, None, tuple_buckets(buckets))?,
                 sessions: Vec::from_elem(alloc, None, SESSIONS)?,
             },
             free: Vec::new(alloc),
