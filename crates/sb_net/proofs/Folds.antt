@@ -1,7 +1,7 @@
 -- The first and the last of a tuple's changes, from the ends of a walk over them.
 use Rattle.std.proofs.Common.{◌≡◌, ℕ, true, false, cond, ◌&&◌, nat_le, List, [], ◌∷◌, ◌++◌, reverse, length, length-append, ◌<◌, Option, Some, None, MatchOption, refl, sym, ap, ◌∙◌, subst, arith}
 use Rattle.std.proofs.lemmas.List.{reverse-append, reverse-reverse, map-append}
-use Rattle.sb_value.specs.NetEffect.{is_of, history, last_of}
+use Rattle.sb_value.specs.NetEffect.{is_of, history, last_of, net_between, net_of}
 use Rattle.sb_value.specs.declared.id.Who.{Who}
 use Rattle.sb_value.specs.declared.change.Change.{Change}
 use Rattle.sb_rawlog.specs.Changes.{is_by, is_tuple}
@@ -31,7 +31,7 @@ history-since who table tuple since (r ∷ rs) =
     ]
 
 -- the same, from the walk
-history-walk : (who : Who) (table tuple since : ℕ) (rs : List Record) → history (changes_since who since rs) table tuple ≡ changes (reverse (walk (is_tuple who table tuple) since rs))
+pub history-walk : (who : Who) (table tuple since : ℕ) (rs : List Record) → history (changes_since who since rs) table tuple ≡ changes (reverse (walk (is_tuple who table tuple) since rs))
 unfolding walk
 history-walk who table tuple since rs = history-since who table tuple since rs ∙ ap changes (sym (reverse-reverse (selected (is_tuple who table tuple) since rs)))
 
@@ -39,7 +39,7 @@ history-walk who table tuple since rs = history-since who table tuple since rs �
 pub none_since : (who : Who) (table tuple since : ℕ) (rs : List Record) → walk (is_tuple who table tuple) since rs ≡ [] → history (changes_since who since rs) table tuple ≡ []
 none_since who table tuple since rs e = history-walk who table tuple since rs ∙ ap (λ l. changes (reverse l)) e
 
-last_of-end : (c : Change) (cs : List Change) (d : Change) → last_of c (cs ++ d ∷ []) ≡ d
+pub last_of-end : (c : Change) (cs : List Change) (d : Change) → last_of c (cs ++ d ∷ []) ≡ d
 last_of-end c [] d = refl
 last_of-end c (b ∷ cs) d = last_of-end b cs d
 
@@ -55,10 +55,19 @@ ends_of (q ∷ qs) tail s t first last e =
       last_is = sym same ∙ sym (last_of-end first (changes (reverse qs)) q.1);
     }
 
-pub span_is : (who : Who) (table tuple since : ℕ) (rs passed tail : List Record) (s t : ℕ) (first last : Change) → walk (is_tuple who table tuple) since rs ≡ passed ++ (t, first) ∷ []
-    → walk (is_tuple who table tuple) since rs ≡ (s, last) ∷ tail → IsSpan first last (history (changes_since who since rs) table tuple)
-span_is who table tuple since rs passed tail s t first last ends begins =
-    subst (IsSpan first last) (ap (λ l. changes (reverse l)) (sym ends) ∙ sym (history-walk who table tuple since rs)) (ends_of passed tail s t first last (sym ends ∙ begins))
+-- what is left at a spot begins and ends with these
+pub span_is : (todo passed tail : List Record) (s t : ℕ) (first last : Change) → todo ≡ passed ++ (t, first) ∷ [] → todo ≡ (s, last) ∷ tail → IsSpan first last (changes (reverse todo))
+span_is todo passed tail s t first last ends begins =
+    subst (λ l. IsSpan first last (changes (reverse l))) (sym ends) (ends_of passed tail s t first last (sym ends ∙ begins))
+
+-- a net effect is between the first and the last change
+pub net_of_span : (first last : Change) (changes : List Change) → IsSpan first last changes → net_between first.kind last.kind first last ≡ net_of changes
+net_of_span first last changes span = (λ j. net_between first.kind (span.last_is j).kind first (span.last_is j)) ∙ ap net_of (sym span.are)
+
+-- the span of all that a walk has is that of the tuple's changes
+pub span_of_all : (who : Who) (table tuple since : ℕ) (rs todo : List Record) (first last : Change) → todo ≡ walk (is_tuple who table tuple) since rs → IsSpan first last (changes (reverse todo))
+    → IsSpan first last (history (changes_since who since rs) table tuple)
+span_of_all who table tuple since rs todo first last all span = subst (IsSpan first last) (ap (λ l. changes (reverse l)) all ∙ sym (history-walk who table tuple since rs)) span
 
 -- ---- the steps of a walk
 

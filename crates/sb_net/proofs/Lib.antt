@@ -1,4 +1,5 @@
 mod Folds
 mod Hits
+mod Newest
 mod Tables
 mod Tuples

@@ -1,4 +1,5 @@
 pub mod Spans
+pub mod Newest
 pub mod Seen
 pub mod Hits
 pub mod Scopes

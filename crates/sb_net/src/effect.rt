@@ -1,10 +1,13 @@
 //! What several changes of a tuple come to.
-ghost use Rattle.std.specs.Prelude.{◌≡◌, option_map};
+ghost use Rattle.std.specs.Prelude.{◌≡◌, None, option_map, if◌then◌else◌};
 ghost use Rattle.sb_value.specs.NetEffect.{net_between, net_effect, update_between};
 ghost use Rattle.sb_rawlog.specs.Sessions.{changes_since};
+ghost use Rattle.sb_net.specs.Newest.{is_newest};
+ghost use Rattle.sb_net.specs.Scopes.{changes_in};
 ghost use Rattle.sb_net.specs.Seen.{seen};
 
-use crate::span::span_of;
+use crate::scope::ChangeScope;
+use crate::span::{span_from, span_of};
 use sb_rawlog::ChangeLog;
 use sb_value::{Change, ChangeKind, Columns, TableId, Value, Who, differing, same_row};
 
@@ -17,7 +20,7 @@ pub enum NetOf<'a> {
 }
 
 /// An update from one row to another, or nothing where these are equal.
-pub(crate) fn update<'a>(old: &'a [Value], new: &'a [Value]) -> Option<NetOf<'a>>
+fn update<'a>(old: &'a [Value], new: &'a [Value]) -> Option<NetOf<'a>>
     ensures { option_map seen result ≡ update_between old.now new.now }
 {
     if same_row(old, new) {
@@ -51,5 +54,25 @@ pub fn net<L: ChangeLog>(
     let Some(changes) = span_of(log, who, table, tuple, since) else {
         return None;
     };
+    between(changes.first, changes.last)
+}
+
+/// The net effect on the tuple of a change, where the tuple's newest change is of that time.
+pub(crate) fn net_at<'a, L: ChangeLog>(
+    log: &'a L,
+    scope: &ChangeScope,
+    tuple: u64,
+    time: u64,
+) -> Option<NetOf<'a>>
+    ensures { let rs = L.records log.now in option_map seen result ≡
+        (if is_newest scope.now rs tuple time then net_effect (changes_in scope.now rs) scope.now.table tuple else None) }
+{
+    let Some(newest) = log.tuple_first(scope.who, scope.table, tuple, scope.since) else {
+        return None;
+    };
+    if newest.time != time {
+        return None;
+    }
+    let changes = span_from(log, newest);
     between(changes.first, changes.last)
 }

@@ -1,7 +1,8 @@
 //! The first and the last of a session's changes of one tuple.
-ghost use Rattle.std.specs.Prelude.{◌≡◌, [], MatchOption};
+ghost use Rattle.std.specs.Prelude.{◌≡◌, [], Some, reverse, MatchOption};
 ghost use Rattle.sb_value.specs.NetEffect.{history};
-ghost use Rattle.sb_rawlog.specs.Sessions.{changes_since};
+ghost use Rattle.sb_rawlog.specs.Sessions.{changes, changes_since};
+ghost use Rattle.sb_rawlog.specs.Steps.{tuple_todo};
 ghost use Rattle.sb_net.specs.Spans.{IsSpan, IsOldest, GoesBack};
 
 use sb_rawlog::{ChangeLog, Spot};
@@ -25,14 +26,23 @@ pub(crate) fn span_of<L: ChangeLog>(
     ensures { let changes = history (changes_since who since (L.records log.now)) table tuple in
         MatchOption result (changes ≡ []) (λ s. IsSpan s.first.now s.last.now changes) }
 {
-    let Some(newest) = log.tuple_first(who, table, tuple, since) else {
-        return None;
-    };
+    match log.tuple_first(who, table, tuple, since) {
+        Some(newest) => Some(span_from(log, newest)),
+        None => None,
+    }
+}
+
+/// What the walk that the spot is on has left.
+pub(crate) fn span_from<L: ChangeLog>(log: &L, newest: Spot) -> Span<'_>
+    requires { L.stands log.now newest }
+    ensures { let todo = tuple_todo (L.records log.now) (Some newest) in
+        IsSpan result.first.now result.last.now (changes (reverse todo)) }
+{
     let from = newest;
     let oldest = oldest(log, from);
     let (_, last) = log.get(newest);
     let (_, first) = log.get(oldest);
-    Some(Span { first, last })
+    Span { first, last }
 }
 
 /// The oldest change of the walk that the spot is on.

@@ -13,6 +13,7 @@ ghost use Rattle.sb_process.specs.Work.{EachWork, IsAtWork, AreActive, IsWork};
 
 use crate::database::Database;
 use crate::process::Rules;
+use crate::witnesses::Witnesses;
 use sb_catalog::{Catalog, Rule};
 use sb_net::is_triggered_anew;
 use sb_priority::Priorities;
@@ -28,6 +29,7 @@ impl Database {
         rules: &Rules<'a>,
         session: SessionId,
         eligible: RuleSet,
+        witnesses: &mut Witnesses,
     ) -> Option<&'a Rule>
         requires work { IsAtWork self.old session (L.records log.now) (L.clock log.now) rules.now }
         requires active { AreActive (flag_at eligible) rules.now.catalog.now }
@@ -44,7 +46,7 @@ impl Database {
         let _now = log.now();
         let _rules = rules.catalog.rules();
         proper_lists_have_lives();
-        let set = self.sift(log, rules.catalog, session, eligible);
+        let set = self.sift(log, rules.catalog, session, eligible, witnesses);
         match chosen_of(rules.order, set) {
             Some(id) => rules.catalog.rule(id),
             None => None,
@@ -59,6 +61,7 @@ impl Database {
         catalog: &Catalog,
         session: SessionId,
         eligible: RuleSet,
+        witnesses: &mut Witnesses,
     ) -> RuleSet
         requires past { ArePast self.old.transactions session (L.clock log.now) }
         requires can { CanTestAll (who_in self.old session) self.old.transactions (L.records log.now) catalog.now }
@@ -72,7 +75,7 @@ impl Database {
         let mut next = 0;
         while let Some(rule) = set.first_from(next) {
             next = rule.index() + 1;
-            if !self.is_hit(log, catalog, session, rule) {
+            if !self.is_hit(log, catalog, session, rule, witnesses) {
                 self.transactions.leave(session, rule, now);
                 set = set.without(rule);
             }
@@ -87,6 +90,7 @@ impl Database {
         catalog: &Catalog,
         session: SessionId,
         rule: RuleId,
+        witnesses: &mut Witnesses,
     ) -> bool
         requires past { ArePast self.now.transactions session (L.clock log.now) }
         requires can { CanTest (who_in self.now session) self.now.transactions (L.records log.now)
@@ -100,7 +104,8 @@ impl Database {
         let who = self.who(session);
         let since = self.transactions.mark(session, rule.id);
         let tested = self.transactions.tested(session, rule.id);
-        is_triggered_anew(log, who, rule.table, rule.triggers, since, tested)
+        let witness = witnesses.of(rule.id);
+        is_triggered_anew(log, who, rule.table, rule.triggers, since, tested, witness)
     }
 }
 

@@ -23,6 +23,7 @@ mod transaction;
 mod transactions;
 mod undo;
 mod view;
+mod witnesses;
 
 pub use database::Database;
 pub use laws::transactions_share_tables;

@@ -12,6 +12,7 @@ ghost use Rattle.sb_process.specs.Work.{EachWork, IsAtWork, AreActive, CanRun, P
 
 use crate::consider::Chosen;
 use crate::database::Database;
+use crate::witnesses::Witnesses;
 use crate::{Outcome, Processed, Trace};
 use sb_catalog::Catalog;
 use sb_index::RuleIndex;
@@ -124,8 +125,15 @@ impl Database {
         ensures leaves { Leaves (32768 * point.now.bound) self.old self.new point.now.session
             (L.records log.old) (L.records log.new) (L.clock log.old) (L.clock log.new) }
     {
+        let mut witnesses = Witnesses::new();
         for _turn in 0..point.bound {
-            let Some(rule) = self.next_rule(log, rules, point.session, point.eligible) else {
+            let Some(rule) = self.next_rule(
+                log,
+                rules,
+                point.session,
+                point.eligible,
+                &mut witnesses,
+            ) else {
                 return Ok(Outcome::Done);
             };
             let chosen = Chosen {
@@ -138,7 +146,7 @@ impl Database {
                 Err(error) => return Err(error),
             }
         }
-        match self.next_rule(log, rules, point.session, point.eligible) {
+        match self.next_rule(log, rules, point.session, point.eligible, &mut witnesses) {
             Some(_) => Ok(Outcome::ByLimit),
             None => Ok(Outcome::Done),
         }
