@@ -301,6 +301,19 @@ module _ (triggers : Triggers) (s : ChangeScope) (tested clock : ℕ) (rs : List
   named_is : (k : ChangeKind) → named_found k ≡ true → found k ≡ true
   named_is k e = (and_parts (names_kind triggers k) (found k) e).1
 
+  -- a rule is triggered where a tuple that is asked is hit
+  pub met_as : ((found Inserted || found Deleted) || found Updated) ≡ triggered
+  met_as = same_truth ((found Inserted || found Deleted) || found Updated) triggered (λ e. elim (or_cases (found Inserted || found Deleted) (found Updated) e) [
+    | inl two ↦ elim (or_cases (found Inserted) (found Deleted) two) [ inl i ↦ sound Inserted i | inr d ↦ sound Deleted d ]
+    | inr u ↦ sound Updated u
+  ]) (λ h. elim (or_cases (named_found Inserted || named_found Deleted) (named_found Updated) (complete h)) [
+    | inl two ↦ or_left (found Inserted || found Deleted) (found Updated) (elim (or_cases (named_found Inserted) (named_found Deleted) two) [
+      | inl i ↦ or_left (found Inserted) (found Deleted) (named_is Inserted i)
+      | inr d ↦ or_right (found Inserted) (found Deleted) (named_is Deleted d)
+    ])
+    | inr u ↦ or_right (found Inserted || found Deleted) (found Updated) (named_is Updated u)
+  ])
+
   -- kinds that the rule doesn't name needn't be looked at
   pub triggered_as : any ≡ triggered
   triggered_as = same_truth any triggered (λ e. elim (or_cases (named_found Inserted || named_found Deleted) (named_found Updated) e) [

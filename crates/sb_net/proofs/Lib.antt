@@ -1,5 +1,6 @@
 mod Folds
 mod Hits
+mod MaskLaws
 mod Newest
 mod Tables
 mod Tuples

@@ -1,6 +1,5 @@
 use Rattle.std.proofs.Common.{◌∙◌, sym}
-use Rattle.sb_rawlog.specs.Sessions.{changes_since}
-use Rattle.sb_net.proofs.Hits.{triggered_as, hit_is_enough, first-found, second-found, third-found}
+use Rattle.sb_net.proofs.Hits.{triggered_as, first-found, second-found, third-found}
 use Rattle.sb_net.proofs.triggers.is_triggered_anew.Goals as goal
 
 pub returns-then-is_witnessed : goal.returns-then-is_witnessed
