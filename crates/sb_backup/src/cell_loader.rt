@@ -37,7 +37,7 @@ pub(crate) enum Unplayed {
     Ended,
 }
 
-/// Whether this is a reply to a line of a valid script.
+/// True if this is a reply to a line of a valid script.
 pub(crate) fn is_taken(reply: &Reply) -> bool
     ensures { IsTrue result ↔ IsTaken reply.now }
 {
@@ -186,7 +186,7 @@ fn send_lines<F: Read + Drop>(
     }
 }
 
-/// Whether a script may end here, by the state of the tenant's session.
+/// True if a script may end here, by the state of the tenant's session.
 fn check_end(cell: &Cell, tenant: u32) -> Result<(), Unplayed>
     ensures ok { OnOk result (IsSettled tenant cell.now) }
     ensures err { IfErr result (IsUnsettled tenant cell.now) }

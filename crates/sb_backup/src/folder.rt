@@ -43,7 +43,7 @@ impl<'a> Folder<'a> {
         format!(in alloc; "{folder}/{number}.lines.new")
     }
 
-    /// Whether the folder is there. If not, the reason is logged.
+    /// True if the folder is there. If not, the reason is logged.
     pub(crate) fn is_found<R: Files, O: Log>(self, rt: &R, log: &O) -> bool {
         match fs::metadata(rt, self.path) {
             Ok(found) if found.is_dir() => true,

@@ -42,7 +42,7 @@ pub struct FolderScripts<'r, 'j, T, O> {
 }
 
 impl<'r, 'j, T: Files, O: Log> FolderScripts<'r, 'j, T, O> {
-    /// Whether the folder is there. If not, the reason is logged.
+    /// True if the folder is there. If not, the reason is logged.
     pub(crate) fn are_found(&self) -> bool {
         self.folder.is_found(self.rt, self.log)
     }

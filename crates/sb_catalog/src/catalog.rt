@@ -93,7 +93,7 @@ impl Catalog {
         Ok(())
     }
 
-    /// Whether there is a rule of that name.
+    /// True if there is a rule of that name.
     pub fn has(&self, name: &Name) -> bool
         ensures { result ≡ spec.has_name self.now name.now }
     {
@@ -223,7 +223,7 @@ impl Catalog {
         self.active
     }
 
-    /// Whether one more rule may be made.
+    /// True if one more rule may be made.
     pub fn has_room(&self) -> bool
         ensures { result ≡ spec.has_room self.now }
     {
@@ -243,7 +243,7 @@ impl Catalog {
         RuleId::new(number as u8)
     }
 
-    /// Whether a rule, active or not, is on the table or names it.
+    /// True if a rule, active or not, is on the table or names it.
     pub fn uses(&self, table: TableId) -> bool
         ensures { result ≡ is_used self.now table }
     {

@@ -1,4 +1,4 @@
-//! Whether statements and queries name a table.
+//! Tests whether statements and queries name a table.
 ghost use Rattle.std.specs.Prelude.{◌≡◌, ◌||◌};
 ghost use Rattle.std.specs.List.{list_any};
 ghost use Rattle.sb_check.specs.Mentions.{mentioned, query_sources};
@@ -28,7 +28,7 @@ impl SourceVisitor for Search {
     }
 }
 
-/// Whether a rule is on the table or names it.
+/// True if a rule is on the table or names it.
 pub(crate) fn rule_names(table: TableId, rule: &Rule) -> bool
     ensures { result ≡ spec.rule_names table rule.now }
 {

@@ -14,7 +14,7 @@ pub struct Rule {
     pub triggers: Triggers,
     pub condition: Option<Query>,
     pub actions: Actions,
-    /// Whether it is considered at all.
+    /// True if it is considered at all.
     pub active: bool,
 }
 

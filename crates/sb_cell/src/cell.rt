@@ -152,7 +152,7 @@ impl Cell {
         tenants
     }
 
-    /// Whether it has the tenant of that number.
+    /// True if it has the tenant of that number.
     pub fn hosts(&self, tenant: u32) -> bool
         ensures { result ≡ hosts self.now tenant }
     {
@@ -256,7 +256,7 @@ impl Cell {
         self.tenants[place].end(&mut self.log, session)
     }
 
-    /// Whether a tenant's session is open.
+    /// True if a tenant's session is open.
     pub fn is_open(&self, tenant: u32, session: SessionId) -> bool
         requires { hosts self.now tenant ≡ true }
         ensures { result ≡ session_is_open (session_at (states self.now tenant) session) }
@@ -264,7 +264,7 @@ impl Cell {
         self.tenants[(tenant / self.stride) as usize].is_open(session)
     }
 
-    /// Whether a tenant's session has a transaction.
+    /// True if a tenant's session has a transaction.
     pub fn has_transaction(&self, tenant: u32, session: SessionId) -> bool
         requires { hosts self.now tenant ≡ true }
         ensures { result ≡ session_has_transaction (session_at (states self.now tenant) session) }
@@ -272,7 +272,7 @@ impl Cell {
         self.tenants[(tenant / self.stride) as usize].has_transaction(session)
     }
 
-    /// Whether a tenant's trail has no place but for the ends of open sessions.
+    /// True if a tenant's trail has no place but for the ends of open sessions.
     pub fn is_full(&self, tenant: u32) -> bool
         requires { hosts self.now tenant ≡ true }
         ensures { result ≡ nat_le trail_limit (states self.now tenant).steps }

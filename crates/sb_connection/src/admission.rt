@@ -11,11 +11,11 @@ pub trait Admission {
     // whether keys are wanted
     ghost wants: { Self → Bool };
 
-    /// Whether first lines bring a key.
+    /// True if first lines bring a key.
     fn wants_key(&self) -> bool
         ensures { result ≡ wants self.now };
 
-    /// Whether the key is one of the tenant's, by the number that a line names.
+    /// True if the key is one of the tenant's, by the number that a line names.
     fn admits<T: Wait>(&self, rt: &T, tenant: u32, key: &[u8]) -> bool
         ensures { IsTrue result → admits self.now tenant key.now };
 }
@@ -26,11 +26,11 @@ pub trait Doorkeeper {
 
     ghost policy: { Policy };
 
-    /// Whether it asks for a key.
+    /// True if it asks for a key.
     fn asks_for_key(&self) -> bool
         ensures { result ≡ policy.keyed };
 
-    /// Whether it lets in who brings this key of a tenant, by the number that a line names.
+    /// True if it lets in who brings this key of a tenant, by the number that a line names.
     fn lets_in<T: Wait>(&self, rt: &T, tenant: u32, key: &[u8]) -> bool
         ensures { IsTrue result → policy.admits tenant key.now };
 }

@@ -38,14 +38,14 @@ impl<S: Calling> SessionCaller<S> {
         self.session.last()
     }
 
-    /// Whether an `end` was answered `ok`.
+    /// True if an `end` was answered `ok`.
     pub fn ended(&self) -> bool
         ensures { result ≡ self.now.ended }
     {
         self.session.ended()
     }
 
-    /// Whether it has a transaction behind its newest step.
+    /// True if it has a transaction behind its newest step.
     pub fn has_transaction(&self) -> bool
         ensures { result ≡ self.now.has_transaction }
     {

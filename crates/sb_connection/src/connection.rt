@@ -58,7 +58,7 @@ impl<H: Hosting, D: Doorkeeper> Connection<H, D> {
         }
     }
 
-    /// Whether all lines so far are answered, more may come, and little waits to be sent.
+    /// True if all lines so far are answered, more may come, and little waits to be sent.
     pub fn wants_read(&self) -> bool
         ensures may { IsTrue result → MayReceive self.now }
         ensures wants { MayReceive self.now → self.now.pending ≡ [] → IsTrue result }
@@ -116,21 +116,21 @@ impl<H: Hosting, D: Doorkeeper> Connection<H, D> {
         self.protocol_state.send(stream)
     }
 
-    /// Whether there is something to send.
+    /// True if there is something to send.
     pub fn wants_write(&self) -> bool
         ensures { IsTrue result ↔ (0 < length self.now.pending) }
     {
         !self.protocol_state.pending().is_empty()
     }
 
-    /// Whether no line is answered any more, and all replies are sent.
+    /// True if no line is answered any more, and all replies are sent.
     pub fn is_done(&self) -> bool
         ensures { IsTrue result ↔ ((is_open self.now.state ≡ false) × (self.now.pending ≡ [])) }
     {
         !self.protocol_state.state().is_open() && self.protocol_state.pending().is_empty()
     }
 
-    /// Whether there was no memory for a reply.
+    /// True if there was no memory for a reply.
     pub fn has_failed(&self) -> bool
         ensures { IsTrue result ↔ (self.now.state ≡ State.Failed) }
     {
@@ -144,7 +144,7 @@ impl<H: Hosting, D: Doorkeeper> Connection<H, D> {
         self.protocol_state.waiting().len()
     }
 
-    /// Whether its session has a transaction.
+    /// True if its session has a transaction.
     pub fn has_transaction(&self) -> bool
         ensures session { self.now.attached ≡ true → Transacts self.now result }
         ensures none { self.now.attached ≡ false → result ≡ false }

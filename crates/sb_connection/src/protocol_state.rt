@@ -277,7 +277,7 @@ impl<H: Hosting, D: Doorkeeper> ProtocolState<H, D> {
         }
     }
 
-    /// Whether its session has a transaction.
+    /// True if its session has a transaction.
     pub(crate) fn has_transaction(&self) -> bool
         ensures { result ≡ option_map_or (λ o. o.has_transaction) self.now.talk.0 false }
     {
@@ -335,7 +335,7 @@ impl<H: Hosting, D: Doorkeeper> ProtocolState<H, D> {
         }
     }
 
-    /// Whether a line is answered where one comes.
+    /// True if a line is answered where one comes.
     fn may_answer(&self) -> bool
         ensures open { IsTrue result → is_open self.now.history.state ≡ true }
         ensures not { IsFalse result → (is_open self.now.history.state ≡ false) ⊎ (self.now.history.pending ≡ [] → ⊥) }
@@ -347,7 +347,7 @@ impl<H: Hosting, D: Doorkeeper> ProtocolState<H, D> {
         self.has_room()
     }
 
-    /// Whether a reply may be added to what waits to be sent.
+    /// True if a reply may be added to what waits to be sent.
     fn has_room(&self) -> bool
         ensures empty { self.now.history.pending ≡ [] → IsTrue result }
         ensures few { IsTrue result → length self.now.history.pending < pending_limit }
@@ -358,7 +358,7 @@ impl<H: Hosting, D: Doorkeeper> ProtocolState<H, D> {
         self.output.len() < MOST_PENDING
     }
 
-    /// Whether more may be received.
+    /// True if more may be received.
     fn may_receive(&self) -> bool
         ensures { MatchBool result (MayReceive self.now.history) (MayReceive self.now.history → ⊥) }
     {

@@ -16,7 +16,7 @@ pub enum State {
 }
 
 impl State {
-    /// Whether lines are answered.
+    /// True if lines are answered.
     pub fn is_open(self) -> bool
         ensures { result ≡ is_open self }
     {

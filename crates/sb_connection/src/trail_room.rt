@@ -25,7 +25,7 @@ pub(crate) fn newest_step<S: Calling>(session: &Option<SessionCaller<S>>) -> Opt
     }
 }
 
-/// Whether the newest line wasn't begun, where it was no step and this is the newest one: an answer that is no step says
+/// True if the newest line wasn't begun, where it was no step and this is the newest one: an answer that is no step says
 /// that the trail is full.
 pub(crate) fn was_unbegun<S: Calling>(
     session: &Option<SessionCaller<S>>,

@@ -63,7 +63,7 @@ pub enum ConnectionEvent {
 }
 
 impl ConnectionEvent {
-    /// Whether something went wrong.
+    /// True if something went wrong.
     pub fn is_warning(&self) -> bool
         ensures { result ≡ is_warning self.now }
     {
@@ -214,7 +214,7 @@ pub trait Watch {
     /// A line of the client at this port was slow.
     fn on_slow_line(&self, port: u16, slow: Slow<'_>);
 
-    /// Whether a connection has had the time of its turn, so that others may have theirs.
+    /// True if a connection has had the time of its turn, so that others may have theirs.
     fn is_turn_over(&self) -> bool;
 }
 

@@ -24,11 +24,11 @@ pub trait Calling: Drop {
     fn list(&self) -> &[Receipt]
         ensures { result.now ≡ (seen self.now).list };
 
-    /// Whether an `end` was answered `ok`.
+    /// True if an `end` was answered `ok`.
     fn ended(&self) -> bool
         ensures { result ≡ (seen self.now).ended };
 
-    /// Whether the session has a transaction behind its newest step.
+    /// True if the session has a transaction behind its newest step.
     fn has_transaction(&self) -> bool
         ensures { result ≡ (seen self.now).has_transaction };
 

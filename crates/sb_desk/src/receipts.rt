@@ -47,7 +47,7 @@ pub struct Receipts<N: Naming> {
     list: Vec<Receipt>,
     share: Share<N>,
     opening: Option<Opening>,
-    /// Whether it has a transaction behind its newest step.
+    /// True if it has a transaction behind its newest step.
     has_transaction: bool,
     known: KnownLines,
     ready: Option<Line>,
@@ -98,14 +98,14 @@ impl<N: Naming> Receipts<N> {
         self.session
     }
 
-    /// Whether the session has ended.
+    /// True if the session has ended.
     pub fn ended(&self) -> bool
         ensures { result ≡ self.now.ended }
     {
         self.opening.is_none()
     }
 
-    /// Whether the session has a transaction behind its newest step.
+    /// True if the session has a transaction behind its newest step.
     pub fn has_transaction(&self) -> bool
         ensures { result ≡ self.now.has_transaction }
     {

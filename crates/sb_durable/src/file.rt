@@ -73,7 +73,7 @@ pub fn open_file<R: Files<File = fs::File>, S: Start>(
     Ok(Modelled::new(settled, false, 0))
 }
 
-/// Whether a file is empty, begins as a journal does, or may be one that a crash left before it had its head.
+/// True if a file is empty, begins as a journal does, or may be one that a crash left before it had its head.
 fn may_be_journal(file: &fs::File) -> io::Result<bool> {
     let mut buffer = [0u8; 12];
     let count = file.read_at(&mut buffer, 0)?;

@@ -48,7 +48,7 @@ impl<'k, O: Log> Flusher<'k, O> {
         self.is_behind.store(true, Ordering::SeqCst);
     }
 
-    /// Whether a sync has failed.
+    /// True if a sync has failed.
     pub fn has_failed(&self) -> bool {
         self.has_failed.load(Ordering::SeqCst)
     }

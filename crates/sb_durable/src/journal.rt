@@ -98,7 +98,7 @@ impl<D: Disk> Journal<D> {
             → (file : List ℕ) → D.Disk.may_leave (disk_of self.now) file → Keeps head entries file }
     {}
 
-    /// Whether a write or a sync has failed. Then nothing more is written.
+    /// True if a write or a sync has failed. Then nothing more is written.
     pub fn is_spent(&self) -> bool
         ensures { IsTrue result ↔ IsSpent self.now.log }
     {

@@ -15,7 +15,7 @@ use std::time::{Duration, Instant};
 /// The progress of a replay is logged once in so many seconds.
 const TOLD: u64 = 1;
 
-/// Whether commits are synced.
+/// True if commits are synced.
 pub(crate) fn syncing_of(syncs: Syncs) -> Syncing
     ensures { result ≡ Syncing.Always ↔ syncs ≡ Syncs.Always }
 {

@@ -58,7 +58,7 @@ impl<D: Disk> RecordLog<D> {
         self.device
     }
 
-    /// Whether a write or a sync has failed.
+    /// True if a write or a sync has failed.
     pub fn is_spent(&self) -> bool
         ensures { IsTrue result ↔ IsSpent self.now }
     {

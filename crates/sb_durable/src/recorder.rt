@@ -109,7 +109,7 @@ fn catch_up_both<H: Lending, D: Disk, T: Wait>(
     journal_writer.catch_up(rt, host, own)
 }
 
-/// Whether these tenants stand in a list from a place on.
+/// True if these tenants stand in a list from a place on.
 fn stand_at(list: &[u32], place: Option<usize>, tenants: &[u32]) -> bool
     ensures { IsTrue result → HasEach list.now tenants.now }
 {

@@ -24,7 +24,7 @@ const TESTED: u64 = 6;
 
 const MAX_OFFSET: usize = (1 << 63) - 1;
 
-/// Whether syncs are made. Without them, written data survives the death of the process, but not of the machine: what
+/// True if syncs are made. Without them, written data survives the death of the process, but not of the machine: what
 /// is proved of a crash does not hold of the file.
 #[derive(Clone, Copy, Debug)]
 pub enum Syncing {

@@ -122,14 +122,14 @@ fn look(
     }
 }
 
-/// Whether that receipt is there, and is the one that the entry wants.
+/// True if that receipt is there, and is the one that the entry wants.
 fn is_next(receipts: &[Receipt], at: usize, entry: &Entry, number: usize) -> bool
     ensures { TellsAt result receipts.now at (due_of number entry.now) }
 {
     at < receipts.len() && is_receipt(&receipts[at], entry, number)
 }
 
-/// Whether it is the receipt that the entry of this number wants.
+/// True if it is the receipt that the entry of this number wants.
 fn is_receipt(held: &Receipt, entry: &Entry, number: usize) -> bool
     ensures { Tells result held.now (due_of number entry.now) }
 {

@@ -5,7 +5,7 @@ ghost use Rattle.sb_host.specs.Comparing.{Tells};
 use sb_tenant::{NamedTrace, Reply, RuleError, RuleName};
 use sb_value::{Name, Refusal, Verdict};
 
-/// Whether the two have the same bytes.
+/// True if the two have the same bytes.
 pub(crate) fn same_bytes(one: &[u8], other: &[u8]) -> bool
     ensures { Tells result one.now other.now }
 {
@@ -70,7 +70,7 @@ fn same_error(one: &RuleError, other: &RuleError) -> bool
     same_refusal(one.refusal(), other.refusal())
 }
 
-/// Whether the two are one reply.
+/// True if the two are one reply.
 pub(crate) fn same_reply(one: &Reply, other: &Reply) -> bool
     ensures { Tells result one.now other.now }
 {

@@ -55,7 +55,7 @@ fn look_at(first: &mut Option<SessionPlace>, stub: &Stub, tenants: u32)
     }
 }
 
-/// Whether there is a first one, and it doesn't stand behind the other.
+/// True if there is a first one, and it doesn't stand behind the other.
 fn is_before(first: &Option<SessionPlace>, other: &SessionPlace) -> bool
     ensures { MatchOption first.now (result ≡ false) (λ p. result ≡ is_no_later p other.now) }
 {

@@ -46,14 +46,14 @@ impl<'h, N: Naming> Session<'h, N> {
         self.receipts.last()
     }
 
-    /// Whether an `end` was answered `ok`.
+    /// True if an `end` was answered `ok`.
     pub fn ended(&self) -> bool
         ensures { result ≡ self.now.ended }
     {
         self.receipts.ended()
     }
 
-    /// Whether it has a transaction behind its newest step.
+    /// True if it has a transaction behind its newest step.
     pub fn has_transaction(&self) -> bool
         ensures { result ≡ self.now.has_transaction }
     {

@@ -3,7 +3,7 @@ ghost use Rattle.std.specs.Prelude.{◌≡◌, ◌↔◌, Contains, IsTrue};
 
 use crate::digest::Digest;
 
-/// Whether a digest is among these, all of which are looked at.
+/// True if a digest is among these, all of which are looked at.
 pub(crate) fn has_digest(digests: &[Digest], digest: &Digest) -> bool
     ensures { IsTrue result ↔ Contains digests.now digest.now }
 {
@@ -14,7 +14,7 @@ pub(crate) fn has_digest(digests: &[Digest], digest: &Digest) -> bool
     has
 }
 
-/// Whether two digests are the same, of which all bytes are looked at.
+/// True if two digests are the same, of which all bytes are looked at.
 fn is_same(own: &Digest, digest: &Digest) -> bool
     ensures { IsTrue result ↔ (own.now ≡ digest.now) }
 {

@@ -14,14 +14,14 @@ pub type Digest = [u8; 32];
 /// The most bytes of a key.
 const LONGEST: usize = 128;
 
-/// Whether these bytes may be a key.
+/// True if these bytes may be a key.
 pub fn is_key(bytes: &[u8]) -> bool
     ensures { result ≡ is_key bytes.now }
 {
     1 <= bytes.len() && bytes.len() <= LONGEST && are_printable(bytes)
 }
 
-/// Whether all are printable, and none is a space.
+/// True if all are printable, and none is a space.
 fn are_printable(bytes: &[u8]) -> bool
     ensures { result ≡ list_all is_ascii_graphic bytes.now }
 {

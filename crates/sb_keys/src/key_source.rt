@@ -38,7 +38,7 @@ impl Display for Unread {
 }
 
 impl Unread {
-    /// Whether the same file may be read later.
+    /// True if the same file may be read later.
     pub(crate) fn may_pass(&self) -> bool {
         matches!(self, Unread::File(_) | Unread::Keys(KeysError::NoMemory))
     }
@@ -71,7 +71,7 @@ pub trait KeySource<L: KeyFiles> {
     /// The stamp of the current file, if there is one.
     fn stamp(&self) -> Option<Stamp>;
 
-    /// Whether a regular file is there. Error: the system's.
+    /// True if a regular file is there. Error: the system's.
     fn is_file(&self) -> io::Result<bool>;
 
     /// Opens the file that it stands in. Error: the system's.

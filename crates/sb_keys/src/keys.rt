@@ -62,7 +62,7 @@ impl Keys {
         Ok(keys)
     }
 
-    /// Whether this is a key of the tenant. All its keys are compared, to their last bytes.
+    /// True if this is a key of the tenant. All its keys are compared, to their last bytes.
     pub fn admits(&self, tenant: u32, key: &[u8]) -> bool
         ensures { IsTrue result ↔ Admits (table_of self.now) tenant key.now }
     {

@@ -76,7 +76,7 @@ fn add<A: Drop>(list: &mut Vec<A>, item: A) -> Result<(), ReplayError>
     }
 }
 
-/// Whether the receipts stand in the order of their steps.
+/// True if the receipts stand in the order of their steps.
 fn are_in_order(receipts: &[Receipt]) -> bool
     ensures { MatchBool result (IsInOrder receipts.now) (IsInOrder receipts.now → ⊥) }
 {

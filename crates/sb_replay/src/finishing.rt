@@ -14,7 +14,7 @@ use sb_tenant::{Entry, TRAIL_LIMIT};
 use sb_wire::write_totals;
 use std::alloc::{AllocError, Global};
 
-/// Whether a tenant's trail is full.
+/// True if a tenant's trail is full.
 fn has_full_trail(trails: &[Vec<Entry>], tenant: u32) -> bool
     ensures { result ≡ nat_le trail_limit (length (row_at trails.now tenant)) }
 {
@@ -25,7 +25,7 @@ fn has_full_trail(trails: &[Vec<Entry>], tenant: u32) -> bool
     TRAIL_LIMIT <= trails[at].len()
 }
 
-/// Whether a session was told of a full trail where the trail isn't.
+/// True if a session was told of a full trail where the trail isn't.
 fn denies(trails: &[Vec<Entry>], sheet: &Sheet) -> bool
     ensures { MatchBool result (IsDenied trails.now sheet.now) (IsFullBy trails.now sheet.now) }
 {

@@ -98,7 +98,7 @@ impl Sheet {
         }
     }
 
-    /// Whether it was answered that the trail is full.
+    /// True if it was answered that the trail is full.
     pub(crate) fn is_full(&self) -> bool
         ensures { result ≡ self.now.is_full }
     {

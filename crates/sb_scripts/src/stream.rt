@@ -83,7 +83,7 @@ fn play_writes(
     push_times(whole.as_slice(), times, b" writes failed)\n", out)
 }
 
-/// Whether a play that has room for this much of the answer writes just that. If not, what it wrote is
+/// True if a play that has room for this much of the answer writes just that. If not, what it wrote is
 /// added.
 fn ends_behind(
     alloc: Global,

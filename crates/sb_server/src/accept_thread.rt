@@ -310,7 +310,7 @@ impl<'s, H: Hosting, V: Watch, D: Doorkeeper, K: CommitHook, C: Clock> AcceptThr
         }
     }
 
-    /// Whether a pending connection is late.
+    /// True if a pending connection is late.
     fn is_late(&self, key: usize) -> bool {
         match self.pending_connections.get(key) {
             Some(pending_connection) => pending_connection.age > FIRST_LINE,

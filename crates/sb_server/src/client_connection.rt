@@ -132,7 +132,7 @@ impl<H: Hosting, S: Stream + Drop, D: Doorkeeper> ClientConnection<H, S, D> {
         }
     }
 
-    /// Whether the client has shut down its sending side and unread bytes may be left.
+    /// True if the client has shut down its sending side and unread bytes may be left.
     fn has_more(&self) -> bool {
         self.hung_up && matches!(self.came, Came::Bytes { .. }) && self.connection.wants_read()
     }
@@ -297,7 +297,7 @@ impl<H: Hosting, S: Stream + Drop, D: Doorkeeper> ClientConnection<H, S, D> {
         None
     }
 
-    /// Whether it has this session.
+    /// True if it has this session.
     pub(crate) fn has_session(&self, named: SessionName) -> bool
         ensures { IsTrue result ↔ HasSession self.now.connection named }
     {
@@ -307,7 +307,7 @@ impl<H: Hosting, S: Stream + Drop, D: Doorkeeper> ClientConnection<H, S, D> {
         }
     }
 
-    /// Whether its session has a transaction.
+    /// True if its session has a transaction.
     pub(crate) fn has_transaction(&self) -> bool
         ensures attached { IsTrue result → self.now.connection.attached ≡ true }
         ensures session { self.now.connection.attached ≡ true → Transacts self.now.connection result }
@@ -392,7 +392,7 @@ pub(crate) struct Limits {
 }
 
 impl Limits {
-    /// Whether any limit is set.
+    /// True if any limit is set.
     pub(crate) fn are_set(&self) -> bool
         ensures { IsTrue result ↔ (IsSome self.now.idle ⊎ IsSome self.now.idle_transaction) }
     {
@@ -400,7 +400,7 @@ impl Limits {
     }
 }
 
-/// Whether a limit is reached.
+/// True if a limit is reached.
 fn is_over(silent: Duration, limit: Option<Duration>) -> bool
     ensures { IsTrue result ↔ IsSomeAnd limit (λ limit. as_nanos limit ≤ as_nanos silent) }
 {

@@ -21,7 +21,7 @@ pub trait CommitHook {
     // all that these tenants were answered so far is kept
     ghost keeps: { Self → List ℕ → Type 0 };
 
-    /// Whether anything is committed. If not, each connection is served by itself.
+    /// True if anything is committed. If not, each connection is served by itself.
     fn is_set(&self) -> bool
         ensures { result ≡ is_set self.now };
 

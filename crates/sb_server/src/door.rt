@@ -58,7 +58,7 @@ impl<'s> Door<'s> {
         self.listener.as_raw_fd()
     }
 
-    /// Whether one more connection is to be taken.
+    /// True if one more connection is to be taken.
     pub(crate) fn is_open(&self) -> bool
         ensures { IsTrue result ↔ StandsOpen self.now.left }
     {
@@ -83,7 +83,7 @@ impl<'s> Door<'s> {
         self.is_due = true;
     }
 
-    /// Whether the last accept failed.
+    /// True if the last accept failed.
     pub(crate) fn has_fault(&self) -> bool
         ensures { result ≡ is_some self.now.fault }
     {
@@ -104,7 +104,7 @@ impl<'s> Door<'s> {
         }
     }
 
-    /// Whether the listener may be tried.
+    /// True if the listener may be tried.
     fn may_try(&self, now: Option<Instant>) -> bool
         ensures { IsTrue result → StandsOpen self.now.left }
     {

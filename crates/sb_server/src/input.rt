@@ -15,7 +15,7 @@ pub(crate) fn watch_input(registry: &Registry, token: Token) -> bool {
         .is_err()
 }
 
-/// Whether the input, which is ready, has ended. If not, it is registered again.
+/// True if the input, which is ready, has ended. If not, it is registered again.
 pub(crate) fn has_ended(registry: &Registry, token: Token) -> bool {
     let mut piece = [0u8; PIECE];
     if libc::read(INPUT, &mut piece) <= 0 {

@@ -22,6 +22,7 @@ mod socket;
 mod sweeps;
 mod time_shares;
 mod told;
+mod turns;
 mod worker;
 
 pub use background_task::{BackgroundTask, NoBackgroundTask, ShutdownSignal};

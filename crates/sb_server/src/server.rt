@@ -147,7 +147,7 @@ impl<'s, H: Hosting, V, D, K, C> Serving<'s, H, V, D, K, C> {
         }
     }
 
-    /// Whether all threads run: the workers and the accept thread.
+    /// True if all threads run: the workers and the accept thread.
     pub(crate) fn are_all_here(&self) -> bool {
         self.here.load(Ordering::SeqCst) > self.mailboxes.len()
     }
@@ -185,7 +185,7 @@ impl<'s, H: Hosting, V, D, K, C> Serving<'s, H, V, D, K, C> {
         self.stop_by(&self.has_lost);
     }
 
-    /// Whether answers could not be committed.
+    /// True if answers could not be committed.
     pub(crate) fn has_lost(&self) -> bool {
         self.has_lost.load(Ordering::SeqCst)
     }

@@ -98,7 +98,7 @@ impl ServerMetrics {
         })
     }
 
-    /// Whether anything is counted.
+    /// True if anything is counted.
     pub(crate) fn is_set(&self) -> bool
         ensures { IsTrue result ↔ (0 < place_count self.now) }
     {

@@ -41,7 +41,7 @@ impl TimeShares {
         self.lap = now;
     }
 
-    /// Whether the round has had its time.
+    /// True if the round has had its time.
     pub(crate) fn is_round_over(&self) -> bool {
         self.left == 0
     }

@@ -1,22 +1,20 @@
 //! One worker: it waits for events of its connections, and serves those that have some.
-ghost use Rattle.std.specs.Prelude.{◌≡◌, ◌⊎◌, ◌+◌, ◌≤◌, ◌++◌, ◌==◌, [], ℕ, false, true, cond, length, Contains, IfOk, IfSome, IsFalse, IsTrue, None, OnOk, OnSome, Some, Option, option_to_list, vec_len, vec_capacity};
+ghost use Rattle.std.specs.Prelude.{◌≡◌, ◌⊎◌, ◌+◌, ◌≤◌, ◌++◌, ◌==◌, [], ℕ, false, true, cond, length, IfOk, IfSome, None, OnOk, OnSome, Some, Option, option_to_list, vec_len, vec_capacity};
 ghost use Rattle.sb_desk.specs.declared.stub.Stub.{Stub as ItsStub};
 ghost use Rattle.slab.specs.Slab.{Updates, get, slab_len};
 ghost use Rattle.sb_server.specs.Closed.{GainsClosed, Leaves};
-ghost use Rattle.sb_server.specs.Keeping.{IsNoted};
 ghost use Rattle.sb_server.specs.Places.{place_of};
 ghost use Rattle.sb_server.specs.Sessions.{KeepsSessions, has_one, session_count};
 ghost use Rattle.sb_server.specs.Sockets.{traffic};
 ghost use Rattle.sb_server.specs.ClientConnections.{HasSession};
 
-use crate::client_connection::{ClientConnection, Limits, Next};
+use crate::client_connection::{ClientConnection, Limits};
 use crate::commit_hook::CommitHook;
 use crate::counts::{Cause, Count};
 use crate::input::{has_ended, watch_input};
 use crate::mailbox::Handoff;
 use crate::pending_connection::{HandshakeRead, PendingConnection};
 use crate::poller::{Poller, WAKER};
-use crate::reply_metrics::MetricsContext;
 use crate::server::Serving;
 use crate::socket::Socket;
 use crate::sweeps::{SWEEP, Sweeps};
@@ -28,7 +26,6 @@ use sb_connection::{ConnectionEnd, ConnectionEvent, Doorkeeper, SessionName, Wat
 use sb_desk::{Hosting, Stub};
 use slab::Slab;
 use std::alloc::{AllocError, AllocFailed};
-use std::mem;
 use std::rt::Clock;
 use std::sync::Wait;
 use std::time::{Duration, Instant};
@@ -46,26 +43,26 @@ const PAUSE: u64 = 100;
 pub(crate) struct Worker<'s, H: Hosting, V, D: Doorkeeper, K: CommitHook, C> {
     pub(crate) serving: &'s Serving<'s, H, V, D, K, C>,
     /// The place of its counters.
-    place: usize,
+    pub(crate) place: usize,
     limits: Limits,
     pub(crate) poll: Poll,
     pub(crate) buffer: Vec<u8>,
-    client_connections: Slab<Box<ClientConnection<H, Socket, D>>>,
+    pub(crate) client_connections: Slab<Box<ClientConnection<H, Socket, D>>>,
     /// The connections that are served next, by key.
-    due: Vec<usize>,
+    pub(crate) due: Vec<usize>,
     /// The queue lacked memory for a key, so all connections are served next.
-    all_due: bool,
+    pub(crate) all_due: bool,
     /// The time that each tenant has had.
-    time_shares: TimeShares,
+    pub(crate) time_shares: TimeShares,
     /// The newest round was too short for all connections that were due.
-    is_behind: bool,
+    pub(crate) is_behind: bool,
     /// The tenants with answers that are not committed yet. Their connections are not read meanwhile.
-    answered: Vec<u32>,
+    pub(crate) answered: Vec<u32>,
     stubs: Vec<Stub>,
     /// The waker was used.
     is_called: bool,
     /// When events came, if lines are timed.
-    woke: Option<Instant>,
+    pub(crate) woke: Option<Instant>,
     /// When silent connections were looked for.
     sweeps: Sweeps,
     /// Each connection has a place for its receipts.
@@ -211,7 +208,7 @@ impl<'s, H: Hosting, V: Watch, D: Doorkeeper, K: CommitHook, C: Clock> Worker<'s
         !watch_input(self.poll.registry(), token)
     }
 
-    /// Whether the program's input, which is ready, has ended.
+    /// True if the program's input, which is ready, has ended.
     pub(crate) fn has_input_ended(&self, token: Token) -> bool {
         has_ended(self.poll.registry(), token)
     }
@@ -227,7 +224,7 @@ impl<'s, H: Hosting, V: Watch, D: Doorkeeper, K: CommitHook, C: Clock> Worker<'s
         pending_connection.read_first_line(&mut self.buffer, serving.handshake())
     }
 
-    /// Whether the worker has no connection.
+    /// True if the worker has no connection.
     pub(crate) fn is_empty(&self) -> bool
         ensures { result ≡ (slab_len self.now.client_connections == 0) }
     {
@@ -251,7 +248,7 @@ impl<'s, H: Hosting, V: Watch, D: Doorkeeper, K: CommitHook, C: Clock> Worker<'s
     }
 
     /// The time, if idle connections are closed.
-    fn now(&self) -> Option<Instant> {
+    pub(crate) fn now(&self) -> Option<Instant> {
         if !self.limits.are_set() {
             return None;
         }
@@ -284,7 +281,7 @@ impl<'s, H: Hosting, V: Watch, D: Doorkeeper, K: CommitHook, C: Clock> Worker<'s
     }
 
     /// Takes a connection out. It is put back or settled next.
-    fn take_out(&mut self, key: usize) -> Option<Box<ClientConnection<H, Socket, D>>>
+    pub(crate) fn take_out(&mut self, key: usize) -> Option<Box<ClientConnection<H, Socket, D>>>
         ensures client_connection { result ≡ get self.old.client_connections key }
         ensures updates { Updates self.old.client_connections self.new.client_connections key None }
         ensures sessions { session_count self.old.client_connections (λ v. v.value.connection.attached) ≡ session_count self.new.client_connections (λ v. v.value.connection.attached) + cond (has_one result (λ v. v.value.connection.attached)) 1 0 }
@@ -298,7 +295,10 @@ impl<'s, H: Hosting, V: Watch, D: Doorkeeper, K: CommitHook, C: Clock> Worker<'s
     }
 
     /// Puts a connection into the vacant place, and tells which that is.
-    fn put_back(&mut self, client_connection: Box<ClientConnection<H, Socket, D>>) -> usize
+    pub(crate) fn put_back(
+        &mut self,
+        client_connection: Box<ClientConnection<H, Socket, D>>,
+    ) -> usize
         requires stub { vec_len self.old.stubs + (slab_len self.old.client_connections + 1) ≤ vec_capacity self.old.stubs }
         requires place { slab_len self.old.client_connections + 1 ≤ self.old.client_connections.capacity }
         ensures key { result ≡ self.old.client_connections.vacant_key }
@@ -312,7 +312,7 @@ impl<'s, H: Hosting, V: Watch, D: Doorkeeper, K: CommitHook, C: Clock> Worker<'s
     }
 
     /// Puts a connection back, and serves it next.
-    fn put_due(&mut self, mut client_connection: Box<ClientConnection<H, Socket, D>>)
+    pub(crate) fn put_due(&mut self, mut client_connection: Box<ClientConnection<H, Socket, D>>)
         requires stub { vec_len self.old.stubs + (slab_len self.old.client_connections + 1) ≤ vec_capacity self.old.stubs }
         requires place { slab_len self.old.client_connections + 1 ≤ self.old.client_connections.capacity }
         ensures sessions { session_count self.new.client_connections (λ v. v.value.connection.attached) ≡ session_count self.old.client_connections (λ v. v.value.connection.attached) + cond client_connection.value.connection.attached 1 0 }
@@ -490,284 +490,6 @@ impl<'s, H: Hosting, V: Watch, D: Doorkeeper, K: CommitHook, C: Clock> Worker<'s
         }
     }
 
-    /// Gives the queued connections their turns, as far as the time of a round goes. With a commit hook a round has three
-    /// parts: all lines are answered, all answers are committed at once, and then the replies are sent.
-    pub(crate) fn serve_due<T: Wait>(&mut self, rt: &T)
-        ensures gains { GainsClosed D.policy self.old.stubs.items self.new.stubs.items }
-        ensures sessions { KeepsSessions self.old.client_connections self.new.client_connections (λ v. v.value.connection.attached) self.old.stubs.items self.new.stubs.items }
-    {
-        if !self.keep(rt) {
-            return;
-        }
-        let mut due = mem::replace(&mut self.due, Vec::new(self.serving.alloc));
-        let all_due = mem::replace(&mut self.all_due, false);
-        if self.is_behind {
-            due.sort_unstable_by_key(|key| self.time_of(*key));
-        }
-        self.give_turns(rt, &due, all_due);
-    }
-
-    /// The time that the tenant of a connection has had lately, in nanoseconds.
-    fn time_of(&self, key: usize) -> u64 {
-        self.time_shares.of(self.tenant_of(key))
-    }
-
-    /// The tenant that the first line of a connection names, if there is one.
-    fn tenant_of(&self, key: usize) -> Option<u32> {
-        match self.client_connections.get(key) {
-            Some(client_connection) => client_connection.tenant,
-            None => None,
-        }
-    }
-
-    /// Gives one connection a turn of its own.
-    fn serve_apart<T: Wait>(&mut self, rt: &T, key: usize)
-        ensures gains { GainsClosed D.policy self.old.stubs.items self.new.stubs.items }
-        ensures sessions { KeepsSessions self.old.client_connections self.new.client_connections (λ v. v.value.connection.attached) self.old.stubs.items self.new.stubs.items }
-    {
-        if self.keep(rt) {
-            self.give_turns(rt, &[key], false);
-        }
-    }
-
-    /// Gives these connections a turn, until the round has had its time; or all.
-    fn give_turns<T: Wait>(&mut self, rt: &T, keys: &[usize], all: bool)
-        requires { self.old.answered.items ≡ [] }
-        ensures gains { GainsClosed D.policy self.old.stubs.items self.new.stubs.items }
-        ensures sessions { KeepsSessions self.old.client_connections self.new.client_connections (λ v. v.value.connection.attached) self.old.stubs.items self.new.stubs.items }
-    {
-        let served = self.begin_turns(rt, keys);
-        self.put_off(&keys[served..]);
-        self.begin_all_turns(rt, all);
-        self.finish(rt, &keys[..served], all);
-    }
-
-    /// Puts connections off to the next round.
-    fn put_off(&mut self, keys: &[usize])
-        ensures { (self.new.stubs ≡ self.old.stubs) × (self.new.client_connections ≡ self.old.client_connections)
-            × (self.new.answered ≡ self.old.answered) }
-    {
-        self.is_behind = !keys.is_empty();
-        if self.due.extend_from_slice(keys).is_err() {
-            self.all_due = true;
-        }
-    }
-
-    /// Commits the answers of a round, and sends the replies.
-    fn finish<T: Wait>(&mut self, rt: &T, keys: &[usize], all: bool)
-        ensures gains { GainsClosed D.policy self.old.stubs.items self.new.stubs.items }
-        ensures sessions { KeepsSessions self.old.client_connections self.new.client_connections (λ v. v.value.connection.attached) self.old.stubs.items self.new.stubs.items }
-    {
-        if !self.serving.commit_hook.is_set() {
-            return;
-        }
-        if self.keep(rt) {
-            self.end_turns(rt, keys, all);
-        } else {
-            self.all_due = true;
-        }
-    }
-
-    /// Begins the turns of these connections, one after another, until the round has had its time. Returns how many began.
-    fn begin_turns<T: Wait>(&mut self, rt: &T, keys: &[usize]) -> usize
-        ensures count { result ≤ length keys.now }
-        ensures gains { GainsClosed D.policy self.old.stubs.items self.new.stubs.items }
-        ensures sessions { KeepsSessions self.old.client_connections self.new.client_connections (λ v. v.value.connection.attached) self.old.stubs.items self.new.stubs.items }
-    {
-        let now = self.clock();
-        self.time_shares.begin_round(now);
-        for place in 0..keys.len() {
-            if self.time_shares.is_round_over() {
-                return place;
-            }
-            let tenant = self.tenant_of(keys[place]);
-            self.begin_turn(rt, keys[place]);
-            let now = self.clock();
-            self.time_shares.charge(tenant, now);
-        }
-        keys.len()
-    }
-
-    /// The time, if the system tells it.
-    fn clock(&self) -> Option<Instant> {
-        Instant::now(self.serving.clock).ok()
-    }
-
-    /// Begins the turns of all connections, if all are due.
-    fn begin_all_turns<T: Wait>(&mut self, rt: &T, all: bool)
-        ensures gains { GainsClosed D.policy self.old.stubs.items self.new.stubs.items }
-        ensures sessions { KeepsSessions self.old.client_connections self.new.client_connections (λ v. v.value.connection.attached) self.old.stubs.items self.new.stubs.items }
-    {
-        if !all {
-            return;
-        }
-        for key in 0..self.client_connections.capacity() {
-            self.begin_turn(rt, key);
-        }
-    }
-
-    /// Sends the replies of these connections, or of all.
-    fn end_turns<T: Wait>(&mut self, rt: &T, keys: &[usize], all: bool)
-        requires { self.old.answered.items ≡ [] }
-        ensures gains { GainsClosed D.policy self.old.stubs.items self.new.stubs.items }
-        ensures sessions { KeepsSessions self.old.client_connections self.new.client_connections (λ v. v.value.connection.attached) self.old.stubs.items self.new.stubs.items }
-    {
-        for key in keys {
-            self.give_out(rt, *key);
-        }
-        if all {
-            self.end_all_turns(rt);
-        }
-    }
-
-    /// Sends the replies of all connections.
-    fn end_all_turns<T: Wait>(&mut self, rt: &T)
-        requires { self.old.answered.items ≡ [] }
-        ensures gains { GainsClosed D.policy self.old.stubs.items self.new.stubs.items }
-        ensures sessions { KeepsSessions self.old.client_connections self.new.client_connections (λ v. v.value.connection.attached) self.old.stubs.items self.new.stubs.items }
-    {
-        for key in 0..self.client_connections.capacity() {
-            self.give_out(rt, key);
-        }
-    }
-
-    /// The first part of a connection's turn. Without a commit hook it is the whole turn.
-    fn begin_turn<T: Wait>(&mut self, rt: &T, key: usize)
-        ensures gains { GainsClosed D.policy self.old.stubs.items self.new.stubs.items }
-        ensures sessions { KeepsSessions self.old.client_connections self.new.client_connections (λ v. v.value.connection.attached) self.old.stubs.items self.new.stubs.items }
-    {
-        self.take_in(rt, key);
-        if !self.serving.commit_hook.is_set() {
-            self.give_out(rt, key);
-        }
-    }
-
-    /// Reads and answers what a connection has received.
-    #[tactic(auto, using(crate::proofs::Counting::keeps_bit))]
-    fn take_in<T: Wait>(&mut self, rt: &T, key: usize)
-        ensures noted { IfSome (get self.new.client_connections key) (λ v. (get self.old.client_connections key ≡ Some v)
-            ⊎ IsNoted (K.is_set self.new.serving.now.commit_hook.now) self.new.answered.items v.value.tenant v.value.connection) }
-        ensures unsent { IfSome (get self.new.client_connections key) (λ v. IfSome (get self.old.client_connections key)
-            (λ w. v.value.connection.handed ≡ w.value.connection.handed)) }
-        ensures gains { GainsClosed D.policy self.old.stubs.items self.new.stubs.items }
-        ensures sessions { KeepsSessions self.old.client_connections self.new.client_connections (λ v. v.value.connection.attached) self.old.stubs.items self.new.stubs.items }
-    {
-        // where there is no memory to note what is answered, nothing is
-        if self.answered.reserve(1).is_err() {
-            self.all_due = true;
-            return;
-        }
-        let Some(mut client_connection) = self.take_out(key) else {
-            return;
-        };
-        client_connection.is_due = false;
-        match self.listen(rt, &mut client_connection) {
-            Some(fault) => self.settle(rt, Box::into_inner(client_connection), fault),
-            None => {
-                let answered = client_connection.answered();
-                self.put_back(client_connection);
-                self.note_answered(answered);
-            }
-        }
-    }
-
-    /// The first part of the turn of a connection that is taken out. Returns the fault, if there is one.
-    fn listen<T: Wait>(
-        &mut self,
-        rt: &T,
-        client_connection: &mut ClientConnection<H, Socket, D>,
-    ) -> Option<ConnectionEnd>
-        ensures stays { client_connection.old.connection.attached ≡ true → client_connection.new.connection.attached ≡ true }
-        ensures unsent { client_connection.new.connection.handed ≡ client_connection.old.connection.handed }
-        ensures tenant { client_connection.new.tenant ≡ client_connection.old.tenant }
-        ensures others { (self.new.stubs ≡ self.old.stubs) × (self.new.client_connections ≡ self.old.client_connections)
-            × (self.new.answered ≡ self.old.answered) }
-    {
-        let serving = self.serving;
-        let metrics_context = self.metrics_context();
-        client_connection.take_in(rt, &metrics_context, serving.doorkeeper, &mut self.buffer)
-    }
-
-    /// Where lines are counted, and who is told of slow ones.
-    fn metrics_context(&self) -> MetricsContext<'s, V, C> {
-        let serving = self.serving;
-        MetricsContext {
-            watch: serving.watch,
-            clock: serving.clock,
-            server_metrics: serving.server_metrics,
-            place: self.place,
-            slow: serving.slow(),
-            woke: self.woke,
-        }
-    }
-
-    /// Sends the replies of a connection, all of which are committed.
-    fn give_out<T: Wait>(&mut self, rt: &T, key: usize)
-        requires { self.old.answered.items ≡ [] }
-        ensures answered { self.new.answered.items ≡ [] }
-        ensures gains { GainsClosed D.policy self.old.stubs.items self.new.stubs.items }
-        ensures sessions { KeepsSessions self.old.client_connections self.new.client_connections (λ v. v.value.connection.attached) self.old.stubs.items self.new.stubs.items }
-    {
-        let Some(mut client_connection) = self.take_out(key) else {
-            return;
-        };
-        let next = client_connection.give_out();
-        client_connection.note_turn(self.now());
-        match next {
-            Next::Waits => {
-                self.put_back(client_connection);
-            }
-            Next::GoesOn => self.put_due(client_connection),
-            Next::Ends(ending) => self.settle(rt, Box::into_inner(client_connection), ending),
-        }
-    }
-
-    /// Marks a tenant to be committed at the end of the turn.
-    fn note_answered(&mut self, tenant: Option<u32>)
-        requires { vec_len self.old.answered + 1 ≤ vec_capacity self.old.answered }
-        ensures noted { K.is_set self.new.serving.now.commit_hook.now ≡ true → IfSome tenant (Contains self.new.answered.items) }
-        ensures others { (self.new.stubs ≡ self.old.stubs) × (self.new.client_connections ≡ self.old.client_connections) }
-    {
-        let Some(tenant) = tenant else {
-            return;
-        };
-        if !self.serving.commit_hook.is_set() {
-            return;
-        }
-        self.note_tenant(tenant);
-    }
-
-    /// Marks a tenant to be committed, once.
-    fn note_tenant(&mut self, tenant: u32)
-        requires set { K.is_set self.old.serving.now.commit_hook.now ≡ true }
-        requires room { vec_len self.old.answered + 1 ≤ vec_capacity self.old.answered }
-        ensures noted { Contains self.new.answered.items tenant }
-        ensures others { (self.new.stubs ≡ self.old.stubs) × (self.new.client_connections ≡ self.old.client_connections) }
-    {
-        if self.answered.contains(&tenant) {
-            return;
-        }
-        self.answered.push_reserved(tenant);
-    }
-
-    /// Commits what tenants were answered. True if all is durable and replies may be sent.
-    fn keep<T: Wait>(&mut self, rt: &T) -> bool
-        ensures all { IsTrue result → self.new.answered.items ≡ [] }
-        ensures kept { IsTrue result → (self.old.answered.items ≡ [])
-            ⊎ K.keeps self.old.serving.now.commit_hook.now self.old.answered.items }
-        ensures not_yet { IsFalse result → self.new.answered.items ≡ self.old.answered.items }
-        ensures others { (self.new.stubs.items ≡ self.old.stubs.items) × (self.new.client_connections ≡ self.old.client_connections) }
-    {
-        if self.answered.is_empty() {
-            return !self.serving.has_lost();
-        }
-        if !self.serving.keep(rt, &self.answered) {
-            return false;
-        }
-        self.answered.clear();
-        true
-    }
-
     /// Closes the connections that have been silent for too long.
     pub(crate) fn sweep<T: Wait>(&mut self, rt: &T)
         ensures gains { GainsClosed D.policy self.old.stubs.items self.new.stubs.items }
@@ -836,7 +558,7 @@ impl<'s, H: Hosting, V: Watch, D: Doorkeeper, K: CommitHook, C: Clock> Worker<'s
     }
 
     /// Closes a connection, and keeps the receipts of its session.
-    fn settle<T: Wait>(
+    pub(crate) fn settle<T: Wait>(
         &mut self,
         rt: &T,
         client_connection: ClientConnection<H, Socket, D>,

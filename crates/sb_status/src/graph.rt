@@ -18,7 +18,7 @@ impl Drop for Graph {
 }
 
 impl Graph {
-    /// Whether there is an arrow from one place to another.
+    /// True if there is an arrow from one place to another.
     pub(crate) fn has(arrows: &[Nodes], from: usize, to: usize) -> bool {
         match arrows.get(from) {
             Some(nodes) => nodes.has(to),

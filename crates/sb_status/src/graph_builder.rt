@@ -29,7 +29,7 @@ impl Deeds {
         }
     }
 
-    /// Whether a rule of these triggers may be triggered by them.
+    /// True if a rule of these triggers may be triggered by them.
     fn may_trigger(&self, triggers: Triggers) -> bool
         ensures { result ≡ ((self.now.inserts && triggers.inserted) || (self.now.deletes && triggers.deleted)
             || (self.now.updates && (triggers.updated || share_place triggers.columns self.now.columns))) }

@@ -31,7 +31,7 @@ impl Layout {
         Ok(Layout { places, reach })
     }
 
-    /// Whether a path leads from one node to the other.
+    /// True if a path leads from one node to the other.
     pub(crate) fn reaches(&self, from: usize, to: usize) -> bool {
         Graph::has(self.reach.as_slice(), from, to)
     }

@@ -50,7 +50,7 @@ impl KnownLines {
     }
 }
 
-/// Whether two short lines have the same bytes: one by one, for they are few.
+/// True if two short lines have the same bytes: one by one, for they are few.
 fn is_same(one: &[u8], other: &[u8]) -> bool
     ensures { result ≡ true → one.now ≡ other.now }
 {

@@ -58,7 +58,7 @@ impl Phases {
         self.list[session.index()] = phase;
     }
 
-    /// Whether another session has a transaction.
+    /// True if another session has a transaction.
     pub(crate) fn is_another_under_way(&self, session: SessionId) -> bool
         ensures { result ≡ is_another_under_way self.now session }
     {

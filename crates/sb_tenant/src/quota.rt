@@ -61,7 +61,7 @@ impl Quota {
         self.changes
     }
 
-    /// Whether a line isn't begun: all that may be taken is, and it isn't `rollback`, which gives back.
+    /// True if a line isn't begun: all that may be taken is, and it isn't `rollback`, which gives back.
     pub(crate) fn refuses(&self, line: &[u8]) -> bool
         ensures { result ≡ refuses self.now line.now }
     {

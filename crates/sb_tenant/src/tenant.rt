@@ -155,7 +155,7 @@ impl Tenant {
         self.trail.as_slice()
     }
 
-    /// Whether the session is open.
+    /// True if the session is open.
     pub fn is_open(&self, session: SessionId) -> bool
         ensures { result ≡ session_is_open (session_at (state self.now) session) }
     {
@@ -167,7 +167,7 @@ impl Tenant {
         }
     }
 
-    /// Whether the trail has no place but for the ends of open sessions.
+    /// True if the trail has no place but for the ends of open sessions.
     pub fn is_full(&self) -> bool
         ensures { result ≡ nat_le trail_limit (state self.now).steps }
     {
@@ -181,7 +181,7 @@ impl Tenant {
         self.store.database.tables.by_name(name)
     }
 
-    /// Whether the session has a transaction.
+    /// True if the session has a transaction.
     pub fn has_transaction(&self, session: SessionId) -> bool
         ensures { result ≡ session_has_transaction (session_at (state self.now) session) }
     {
@@ -315,7 +315,7 @@ impl Tenant {
         }
     }
 
-    /// Whether the line is the end of the open session.
+    /// True if the line is the end of the open session.
     fn ends(&self, session: SessionId, line: &[u8]) -> bool
         ensures { result ≡ is_end_of_open (state self.now) session line.now }
     {
@@ -372,7 +372,7 @@ impl Tenant {
     }
 }
 
-/// Whether the line is the one that ends a session.
+/// True if the line is the one that ends a session.
 fn is_end(line: &[u8]) -> bool
     ensures { result ≡ same_name line.now (codes "end") }
 {

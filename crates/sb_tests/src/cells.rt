@@ -9,7 +9,7 @@ use std::alloc::Global;
 use std::process::Abort;
 use std::test::Fail;
 
-/// Whether a step was begun and isn't refused.
+/// True if a step was begun and isn't refused.
 fn is_served(answer: &Result<Answer, StepError>) -> bool {
     match answer {
         Ok(answer) => !matches!(&answer.reply, Reply::No(_)),
@@ -24,7 +24,7 @@ fn play(rt: &impl Abort, alloc: Global, cell: &mut Cell, lines: &[&[u8]]) {
     }
 }
 
-/// Whether a table of the first tenant has so many rows.
+/// True if a table of the first tenant has so many rows.
 fn has_rows(cell: &Cell, name: &Name, count: usize) -> bool {
     match cell.table(0, name) {
         Some(table) => table.len() == count,
@@ -32,7 +32,7 @@ fn has_rows(cell: &Cell, name: &Name, count: usize) -> bool {
     }
 }
 
-/// Whether the first tenant's trail has so many entries.
+/// True if the first tenant's trail has so many entries.
 fn has_entries(cell: &Cell, count: usize) -> bool {
     cell.trail(0).is_some_and(|trail| trail.len() == count)
 }
@@ -82,7 +82,7 @@ fn an_end_takes_no_memory(rt: HostRuntime) -> Result<(), Fail> {
     Ok(())
 }
 
-/// Whether the trail is full, and the answer has no number.
+/// True if the trail is full, and the answer has no number.
 fn is_full(answer: &Result<Answer, StepError>) -> bool {
     match answer {
         Ok(answer) => {

@@ -77,7 +77,7 @@ fn push_reply(rt: &impl Abort, text: &mut Vec<u8>, answer: &Result<Answer, StepE
     }
 }
 
-/// Whether the replies to a tenant's events are this text.
+/// True if the replies to a tenant's events are this text.
 fn are_replies(
     rt: &impl Abort,
     alloc: Global,

@@ -11,7 +11,7 @@ use std::sync::Wait;
 use std::test::Fail;
 use std::thread::Threads;
 
-/// Whether a replay of the first tenant's session ended so: its receipts are gone where it is closed, and else it is open.
+/// True if a replay of the first tenant's session ended so: its receipts are gone where it is closed, and else it is open.
 fn is_expected(error: &ReplayError, is_closed: bool) -> bool {
     match error {
         ReplayError::Attach { tenant, session } => {

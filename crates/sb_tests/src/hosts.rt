@@ -16,7 +16,7 @@ use std::process::Abort;
 use std::sync::Wait;
 use std::test::Fail;
 
-/// Whether the answer is `ok`, or tells that memory ran out.
+/// True if the answer is `ok`, or tells that memory ran out.
 pub fn is_ok(answer: Option<&Answer>, may_lack: bool) -> bool {
     match answer {
         Some(answer) => match &answer.reply {
@@ -177,7 +177,7 @@ fn live<H: Hosting, R: Wait + Abort>(
     Some(leave(rt, alloc, session))
 }
 
-/// Whether the session was open once more. Its receipts are lost.
+/// True if the session was open once more. Its receipts are lost.
 fn lose<H: Hosting, R: Wait + Abort>(rt: &R, alloc: Global, host: H, may_lack: bool) -> bool {
     let Some(mut session) = attach(rt, alloc, host, 0, may_lack) else {
         return false;
@@ -189,7 +189,7 @@ fn lose<H: Hosting, R: Wait + Abort>(rt: &R, alloc: Global, host: H, may_lack: b
     true
 }
 
-/// Whether the first session of the first tenant has fewer receipts than entries, or memory ran out.
+/// True if the first session of the first tenant has fewer receipts than entries, or memory ran out.
 fn is_missing(error: Option<&FinishError>, may_lack: bool) -> bool {
     match error {
         Some(FinishError::Missing { tenant, session }) => *tenant == 0 && session.number() == 0,

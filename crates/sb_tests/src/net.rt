@@ -37,7 +37,7 @@ fn on_update() -> Triggers {
     }
 }
 
-/// Whether an update of the table triggers.
+/// True if an update of the table triggers.
 fn triggers<L: ChangeLog>(log: &L, since: u64) -> bool {
     mark();
     let triggered = is_triggered(log, session_of(0), table(), on_update(), since);
@@ -45,7 +45,7 @@ fn triggers<L: ChangeLog>(log: &L, since: u64) -> bool {
     triggered
 }
 
-/// Whether these are the row of that integer alone.
+/// True if these are the row of that integer alone.
 fn is_only(rows: &RowList, value: i64) -> bool {
     match rows.rows() {
         [row] => integer(row.values()) == Some(value),

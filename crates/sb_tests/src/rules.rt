@@ -28,7 +28,7 @@ fn rules_are_looked_up_and_dropped_without_memory(rt: HostRuntime) {
     look_up(&rt, &mut catalog, &name);
 }
 
-/// Whether the ruleset has the rule.
+/// True if the ruleset has the rule.
 fn has_rule(sets: &Rulesets, name: &Name, rule: RuleId) -> bool {
     match sets.members(name) {
         Some(rules) => rules.contains(rule),

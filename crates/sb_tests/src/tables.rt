@@ -28,7 +28,7 @@ fn insert(rt: &impl Abort, table: &mut Table, row: Row, number: u64) {
     assert!(rt; table.insert(row).is_ok_and(|got| got == number));
 }
 
-/// Whether the table has a row of that number.
+/// True if the table has a row of that number.
 fn has_row(table: &Table, tuple: u64) -> bool
     ensures { result ≡ is_some (row_at table.now.table tuple) }
 {

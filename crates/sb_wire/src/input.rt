@@ -86,7 +86,7 @@ impl Lines {
         Some((whole_piece(&bytes[..end]), &bytes[end + 1..]))
     }
 
-    /// Whether a byte of a line is kept.
+    /// True if a byte of a line is kept.
     fn is_open(&self) -> bool
         ensures { result ≡ false → self.now ≡ line [] }
     {

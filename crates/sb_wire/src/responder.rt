@@ -29,7 +29,7 @@ pub trait Responder<S, T> {
             × OnOk result (out.new.items ≡ out.old.items ++ text)
             × OnErr result (out.new.items ≡ out.old.items) };
 
-    /// Whether the stream is over.
+    /// True if the stream is over.
     fn is_over(&self, first: &S, second: &T) -> bool
         ensures { result ≡ over (first.now, second.now) };
 }

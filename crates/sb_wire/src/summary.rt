@@ -74,7 +74,7 @@ fn stepped(steps: u64, is_step: bool) -> u64
     }
 }
 
-/// Whether what a line was given has a number in the trail.
+/// True if what a line was given has a number in the trail.
 fn has_number(given: &Result<Answer, StepError>) -> bool
     ensures { result ≡ counts.has_number given.now }
 {

@@ -19,7 +19,7 @@ impl Tries {
         Tries { left: MOST_TRIES }
     }
 
-    /// Whether a call that failed in this way is to be made again.
+    /// True if a call that failed in this way is to be made again.
     pub fn again(&mut self, error: &Error) -> bool
         ensures interrupted { IsTrue result ↔ ((0 < self.old.left) × (error_kind error.now ≡ ErrorKind.Interrupted)) }
         ensures fewer { IsTrue result → self.new.left + 1 ≡ self.old.left }

@@ -107,7 +107,7 @@ fn read_head<D: Disk>(alloc: Global, disk: &mut D, len: usize) -> Result<Beginni
     })
 }
 
-/// Whether a file of this length has the mark behind an open gate.
+/// True if a file of this length has the mark behind an open gate.
 pub(crate) fn check_mark<D: Disk>(disk: &mut D, len: usize) -> Result<(), SegmentError>
     requires usable { IsTrue (D.Disk.is_usable disk.old) }
     requires len { IsTrue (D.Disk.is_clean disk.old) → len ≡ length (D.Disk.seen disk.old) }

@@ -116,14 +116,14 @@ impl<D: Disk> Segment<D> {
         device
     }
 
-    /// Whether the segment can be appended to: nothing is behind the gate at its end.
+    /// True if the segment can be appended to: nothing is behind the gate at its end.
     pub fn is_settled(&self) -> bool
         ensures { IsTrue result ↔ IsSettled self.now }
     {
         self.is_settled
     }
 
-    /// Whether a write or a sync has failed.
+    /// True if a write or a sync has failed.
     pub fn is_spent(&self) -> bool
         ensures { IsTrue result ↔ IsSpent self.now }
     {
