@@ -171,18 +171,60 @@ def reset(program):
 
 
 def no_descriptors(program):
+    """Where silent clients have all descriptors, one that sends its first line is served: the oldest silent ones go."""
     server = crowded(program, descriptors=32)
     streams = [server.connect() for _ in range(60)]
-    time.sleep(2)
+    time.sleep(1)
+    start = time.perf_counter()
+    with server.connect() as stream:
+        need(say(stream, b"0 0\nbegin\n") == b"ok\nok\n", "a client beside silent ones")
+        millis = (time.perf_counter() - start) * 1e3
+    need(millis < 1_000, f"a client beside silent ones waits {millis:.0f} ms")
     ticks = server.ticks()
-    lines = os.fstat(server.log.fileno()).st_size
+    time.sleep(2)
+    ticks, size = server.ticks() - ticks, os.fstat(server.log.fileno()).st_size
     for stream in streams:
         stream.close()
-    # it waits at the port until the server tries again
-    with server.connect() as stream:
-        need(say(stream, b"0 0\nbegin\n") == b"ok\nok\n", "a client behind those without descriptors")
     server.kill()
-    print(f"no descriptors left: {ticks * 10} ms of processors and {lines} bytes of log in two seconds; served again behind that")
+    print(f"no descriptors left beside 60 silent clients: the next one is answered in {millis:.0f} ms; {ticks * 10} ms of processors in two seconds; {size} bytes of log")
+
+
+class Dripping(threading.Thread):
+    """Clients that send a byte of their first line now and then, and come again where they are turned away."""
+
+    def __init__(self, server, count, pause):
+        super().__init__(daemon=True)
+        self.server, self.pause = server, pause
+        self.streams = [server.connect() for _ in range(count)]
+        self.stopped = threading.Event()
+
+    def run(self):
+        while not self.stopped.wait(self.pause):
+            for place, stream in enumerate(self.streams):
+                try:
+                    stream.sendall(b"1")
+                except OSError:
+                    stream.close()
+                    self.streams[place] = self.server.connect()
+
+
+def dripping_ones(program, longer):
+    """Beside clients that send their first lines byte by byte, others are let in at once."""
+    server = crowded(program)
+    crowd = Dripping(server, 300, 0.05)
+    crowd.start()
+    time.sleep(longer)
+    waits = []
+    for tenant in range(20):
+        start = time.perf_counter()
+        with server.connect() as stream:
+            need(say(stream, f"{tenant} 0\n".encode()) == b"ok\n", "a client beside dripping ones")
+        waits.append(time.perf_counter() - start)
+    crowd.stopped.set()
+    crowd.join()
+    server.kill()
+    need(max(waits) < 0.5, f"a client beside 300 dripping ones waits {max(waits):.3f} s")
+    print(f"300 clients send a byte of a first line each 50 ms: 20 others are let in within {max(waits) * 1e3:.0f} ms")
 
 
 def idle_end(program, longer):
@@ -689,7 +731,7 @@ def calm_beside_busy_ones(program, longer):
 # Those with a bound on time. On a machine that does much else, or is suddenly faster, one may miss it, so each is tried
 # up to three times, with longer statements and times each time, and told.
 TIMED = {idle_end, idle_beside_a_long_statement, long_statement_alone, long_statement_with_waiting_ones, idle_transaction, idle_of_all_kinds}
-TIMED |= {calm_beside_busy_ones}
+TIMED |= {calm_beside_busy_ones, dripping_ones}
 
 
 def trial(crowd, program):
@@ -701,7 +743,7 @@ def trial(crowd, program):
 def crowds():
     """Those for which there are descriptors."""
     _, most = resource.getrlimit(resource.RLIMIT_NOFILE)
-    small = [silent_ones, reset, idle_end, input_end, port_closes, port_in_use, unread_log, full_trail, no_descriptors, never_reads]
+    small = [silent_ones, reset, idle_end, input_end, port_closes, port_in_use, unread_log, full_trail, no_descriptors, dripping_ones, never_reads]
     small += [other_address, first_tenant, log_levels, slow_reader, unread_replies, tenant_memory, idle_transaction, idle_of_all_kinds]
     small += [idle_beside_a_long_statement, long_statement_alone, long_statement_with_waiting_ones, calm_beside_busy_ones]
     large = [short_ones, all_at_once, idle_ones]

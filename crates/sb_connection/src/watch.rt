@@ -9,7 +9,7 @@ use sb_tenant::{OPEN, Reply};
 use sb_wire::{Piece, StreamError, WireRefusal};
 use std::fmt;
 use std::fmt::{Display, Formatter};
-use std::io::ErrorKind;
+use std::io::{self, ErrorKind};
 use std::sync::Wait;
 
 /// What happens to connections.
@@ -57,7 +57,11 @@ pub enum ConnectionEvent {
     },
     /// A connection without a session ended.
     Left,
-    NotAccepted(ErrorKind),
+    /// A connection wasn't accepted, for this reason and by this number of the system.
+    NotAccepted {
+        why: ErrorKind,
+        code: Option<i32>,
+    },
     /// There is no memory for a connection.
     NoPlace,
 }
@@ -131,7 +135,16 @@ impl Display for ConnectionEvent {
                 write!(f, "closed: {named}: {steps} steps, {left} left")
             }
             ConnectionEvent::Left => f.write_str("disconnected"),
-            ConnectionEvent::NotAccepted(why) => write!(f, "a connection can't be accepted: {why}"),
+            ConnectionEvent::NotAccepted {
+                why: _,
+                code: Some(code),
+            } => {
+                let why = io::Error::from_raw_os_error(*code);
+                write!(f, "a connection can't be accepted: {why}")
+            }
+            ConnectionEvent::NotAccepted { why, code: None } => {
+                write!(f, "a connection can't be accepted: {why}")
+            }
             ConnectionEvent::NoPlace => f.write_str("no memory for a connection"),
         }
     }

@@ -4,7 +4,7 @@ ghost use Rattle.slab.specs.Slab.{slab_len};
 ghost use Rattle.sb_server.specs.Closed.{GainsClosed};
 
 use crate::commit_hook::CommitHook;
-use crate::door::{Client, Door};
+use crate::door::{Client, Door, not_accepted};
 use crate::mailbox::Handoff;
 use crate::pending_connection::{HandshakeRead, PendingConnection};
 use crate::server::Serving;
@@ -29,7 +29,7 @@ const INPUT: Token = Token(usize::MAX - 2);
 const MOST_PENDING: usize = 1 << 48;
 
 /// The most connections that are accepted before pending ones are read.
-const TAKEN_A_TURN: usize = 16;
+const TAKEN_A_TURN: usize = 64;
 
 /// How long a client may take to send its first line, in seconds.
 pub(crate) const FIRST_LINE: u32 = 10;
@@ -104,6 +104,7 @@ impl<'s, H: Hosting, V: Watch, D: Doorkeeper, K: CommitHook, C: Clock> AcceptThr
         ensures { self.new.lobby ≡ self.old.lobby }
     {
         let listener = self.door.descriptor();
+        self.door.widen();
         self.lobby.report(listener, LISTENER);
         if watches_input && !self.lobby.report_input(INPUT) {
             self.lobby.serving.stop();
@@ -179,7 +180,8 @@ impl<'s, H: Hosting, V: Watch, D: Doorkeeper, K: CommitHook, C: Clock> AcceptThr
         }
     }
 
-    /// Accepts some of the connections that wait at the listener.
+    /// Accepts some of the connections that wait at the listener. Where there is no descriptor for one, the pending
+    /// connection that has been silent for longest is closed.
     fn take_some<T: Wait>(&mut self, rt: &T)
         ensures { self.new.lobby.stubs.items ≡ self.old.lobby.stubs.items }
     {
@@ -187,9 +189,39 @@ impl<'s, H: Hosting, V: Watch, D: Doorkeeper, K: CommitHook, C: Clock> AcceptThr
         for _taken in 0..TAKEN_A_TURN {
             match self.door.take(self.lobby.serving.watch, now) {
                 Some(client) => self.welcome(rt, client),
+                None if self.door.is_short() && self.let_go() => {}
                 None => return,
             }
         }
+    }
+
+    /// Closes the oldest pending connection. False if there is none.
+    fn let_go(&mut self) -> bool
+        ensures { self.new.lobby ≡ self.old.lobby }
+    {
+        let Some(key) = self.oldest() else {
+            return false;
+        };
+        let Some(pending_connection) = self.pending_connections.try_remove(key) else {
+            return false;
+        };
+        self.tell(pending_connection.port, ConnectionEvent::Late);
+        true
+    }
+
+    /// The key of the pending connection that came first, about.
+    fn oldest(&self) -> Option<usize> {
+        let mut oldest = None;
+        let mut age = 0;
+        for key in 0..self.pending_connections.capacity() {
+            if let Some(pending_connection) = self.pending_connections.get(key) {
+                if oldest.is_none() || pending_connection.age > age {
+                    oldest = Some(key);
+                    age = pending_connection.age;
+                }
+            }
+        }
+        oldest
     }
 
     /// Reads the first line of an accepted connection. Without memory for it, the connection is closed.
@@ -235,7 +267,8 @@ impl<'s, H: Hosting, V: Watch, D: Doorkeeper, K: CommitHook, C: Clock> AcceptThr
         }
     }
 
-    /// Keeps a connection pending until it sends more. A connection that was pending before keeps its key.
+    /// Keeps a connection pending until it sends more. A connection that was pending before keeps its key. One whose line
+    /// came in many pieces isn't watched any more: it is read once a second.
     fn keep(&mut self, mut pending_connection: Box<PendingConnection>)
         ensures { self.new.lobby ≡ self.old.lobby }
     {
@@ -244,12 +277,11 @@ impl<'s, H: Hosting, V: Watch, D: Doorkeeper, K: CommitHook, C: Clock> AcceptThr
             return;
         }
         let token = Token(MOST_PENDING.saturating_add(self.pending_connections.vacant_key()));
-        if !pending_connection.is_watched {
+        if pending_connection.is_dripping() {
+            pending_connection.unwatch(self.lobby.poll.registry());
+        } else if !pending_connection.is_watched {
             if let Err(error) = pending_connection.watch(self.lobby.poll.registry(), token) {
-                self.tell(
-                    pending_connection.port,
-                    ConnectionEvent::NotAccepted(error.kind()),
-                );
+                self.tell(pending_connection.port, not_accepted(&error));
                 return;
             }
         }

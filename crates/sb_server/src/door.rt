@@ -4,7 +4,7 @@ ghost use Rattle.sb_server.specs.Doors.{StandsOpen, one_less};
 
 use libc::net as system;
 use sb_connection::{ConnectionEvent, Watch};
-use std::io::ErrorKind;
+use std::io::{self, ErrorKind};
 use std::net::{TcpListener, TcpStream};
 use std::os::fd::AsRawFd;
 use std::time::{Duration, Instant};
@@ -13,6 +13,14 @@ use std::time::{Duration, Instant};
 const FIRST_PAUSE: u64 = 10;
 
 const LONGEST_PAUSE: u64 = 1_000;
+
+/// Numbers of the system: no descriptor is left to the process, or to the system.
+const EMFILE: i32 = 24;
+
+const ENFILE: i32 = 23;
+
+/// The most connections that wait at the listener.
+const BACKLOG: i32 = 4_096;
 
 /// An accepted client.
 #[derive(Drop)]
@@ -29,6 +37,8 @@ pub(crate) struct Door<'s> {
     left: Option<u64>,
     /// A connection may wait.
     is_due: bool,
+    /// The last accept found no descriptor.
+    is_short: bool,
     /// The last accept failed.
     fault: Option<Pause>,
 }
@@ -49,6 +59,7 @@ impl<'s> Door<'s> {
             listener,
             left: if count == 0 { None } else { Some(count) },
             is_due: true,
+            is_short: false,
             fault: None,
         }
     }
@@ -133,21 +144,44 @@ impl<'s> Door<'s> {
         match accept(self.listener) {
             Ok(client) => {
                 self.fault = None;
+                self.is_short = false;
                 self.use_up();
                 Some(client)
             }
-            Err(ErrorKind::WouldBlock) => {
-                self.fault = None;
-                self.is_due = false;
-                None
-            }
-            Err(ErrorKind::Interrupted) => None,
-            Err(why) => {
-                self.pause(watch, why, now);
-                self.use_up();
+            Err(error) => {
+                self.note_fault(watch, &error, now);
                 None
             }
         }
+    }
+
+    /// Notes why no connection was accepted. Without a descriptor the listener is tried once more at once.
+    fn note_fault<V: Watch>(&mut self, watch: &V, error: &io::Error, now: Option<Instant>)
+        ensures { (self.new.left ≡ self.old.left) ⊎ (self.new.left ≡ one_less self.old.left) }
+    {
+        match error.kind() {
+            ErrorKind::WouldBlock => {
+                self.fault = None;
+                self.is_due = false;
+            }
+            ErrorKind::Interrupted => {}
+            _ if lacks_descriptor(error) && !self.is_short => self.is_short = true,
+            _ => {
+                self.pause(watch, error, now);
+                self.use_up();
+            }
+        }
+    }
+
+    /// True if the last accept found no descriptor.
+    pub(crate) fn is_short(&self) -> bool {
+        self.is_short
+    }
+
+    /// Lets as many connections wait at the listener as the system allows.
+    pub(crate) fn widen(&self) {
+        // where that fails, as many wait as before
+        let _status = system::listen(self.descriptor(), BACKLOG);
     }
 
     /// Counts an accepted or failed connection. The port is closed behind the last one.
@@ -165,14 +199,14 @@ impl<'s> Door<'s> {
     }
 
     /// Leaves the listener alone for a while. The fault is logged once, until an accept succeeds.
-    fn pause<V: Watch>(&mut self, watch: &V, why: ErrorKind, now: Option<Instant>)
+    fn pause<V: Watch>(&mut self, watch: &V, error: &io::Error, now: Option<Instant>)
         ensures fault { IsSome self.new.fault }
         ensures others { self.new.left ≡ self.old.left }
     {
         let millis = match self.fault {
             Some(pause) => LONGEST_PAUSE.min(pause.millis.saturating_mul(2)),
             None => {
-                watch.on_event(ConnectionEvent::NotAccepted(why));
+                watch.on_event(not_accepted(error));
                 FIRST_PAUSE
             }
         };
@@ -181,16 +215,25 @@ impl<'s> Door<'s> {
 }
 
 /// Accepts a connection whose reads and writes do not block.
-fn accept(listener: &TcpListener) -> Result<Client, ErrorKind> {
-    let (stream, peer) = match listener.accept() {
-        Ok(accepted) => accepted,
-        Err(error) => return Err(error.kind()),
-    };
-    if stream.set_nodelay(true).is_err() || stream.set_nonblocking(true).is_err() {
-        return Err(ErrorKind::ConnectionAborted);
-    }
+fn accept(listener: &TcpListener) -> io::Result<Client> {
+    let (stream, peer) = listener.accept()?;
+    stream.set_nodelay(true)?;
+    stream.set_nonblocking(true)?;
     Ok(Client {
         stream,
         port: peer.port(),
     })
+}
+
+/// True if the process or the system has no descriptor left.
+fn lacks_descriptor(error: &io::Error) -> bool {
+    matches!(error.raw_os_error(), Some(EMFILE | ENFILE))
+}
+
+/// The event of a connection that isn't accepted.
+pub(crate) fn not_accepted(error: &io::Error) -> ConnectionEvent {
+    ConnectionEvent::NotAccepted {
+        why: error.kind(),
+        code: error.raw_os_error(),
+    }
 }

@@ -23,6 +23,8 @@ pub(crate) struct PendingConnection {
     pub(crate) bytes: Vec<u8>,
     /// For how many seconds the first line has been missing, about.
     pub(crate) age: u32,
+    /// In how many pieces what came so far was read.
+    pieces: u32,
     /// The socket is registered for events.
     pub(crate) is_watched: bool,
     /// The last bytes that were read are lost for want of memory.
@@ -38,6 +40,7 @@ impl Drop for PendingConnection {
             port: _,
             bytes: _,
             age: _,
+            pieces: _,
             is_watched: _,
             is_cut: _,
         } = self;
@@ -64,6 +67,9 @@ pub(crate) struct HandshakeSettings {
     pub(crate) keyed: bool,
 }
 
+/// In so many pieces a first line is read as it comes.
+const MOST_PIECES: u32 = 8;
+
 /// The most reads of a pending connection in one turn.
 const MOST_READS: usize = 16;
 
@@ -89,6 +95,7 @@ impl PendingConnection {
             port,
             bytes: Vec::new(alloc),
             age: 0,
+            pieces: 0,
             is_watched: false,
             is_cut: false,
         }
@@ -103,6 +110,7 @@ impl PendingConnection {
             port: _,
             bytes,
             age: _,
+            pieces: _,
             is_watched: _,
             is_cut: _,
         } = self;
@@ -117,6 +125,7 @@ impl PendingConnection {
     ) -> HandshakeRead
         ensures { HeardBy (hosting_by by.keyed by.first by.tenants) self.new.bytes.items self.new.is_cut result }
     {
+        self.pieces = self.pieces.saturating_add(1);
         for _read in 0..MOST_READS {
             if let Some(heard) = self.read_once(buffer, by) {
                 return heard;
@@ -171,6 +180,11 @@ impl PendingConnection {
         answer
     }
 
+    /// True if the first line comes in more pieces than a client needs.
+    pub(crate) fn is_dripping(&self) -> bool {
+        self.pieces > MOST_PIECES
+    }
+
     /// One look more.
     pub(crate) fn grow_older(&mut self) {
         self.age = self.age.saturating_add(1);
@@ -185,6 +199,7 @@ impl PendingConnection {
     /// Has it reported no more.
     pub(crate) fn unwatch(&mut self, registry: &Registry) {
         if self.is_watched {
+            self.is_watched = false;
             self.socket.deregister(registry);
         }
     }

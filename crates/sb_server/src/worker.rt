@@ -11,6 +11,7 @@ ghost use Rattle.sb_server.specs.ClientConnections.{HasSession};
 use crate::client_connection::{ClientConnection, Limits};
 use crate::commit_hook::CommitHook;
 use crate::counts::{Cause, Count};
+use crate::door::not_accepted;
 use crate::input::{has_ended, watch_input};
 use crate::mailbox::Handoff;
 use crate::pending_connection::{HandshakeRead, PendingConnection};
@@ -483,10 +484,7 @@ impl<'s, H: Hosting, V: Watch, D: Doorkeeper, K: CommitHook, C: Clock> Worker<'s
                     .add(self.place, Count::Connections, 1);
                 self.put_due(client_connection);
             }
-            Err(error) => self.refuse(
-                client_connection.port,
-                ConnectionEvent::NotAccepted(error.kind()),
-            ),
+            Err(error) => self.refuse(client_connection.port, not_accepted(&error)),
         }
     }
 
