@@ -52,7 +52,8 @@ impl<S: Calling> SessionCaller<S> {
         self.session.has_transaction()
     }
 
-    /// Makes the step of a line, whose answer is the last one then.
+    /// Makes the step of a line, whose answer is the last one then. Error: NotBegun where there is no memory, Ended
+    /// behind an `end`.
     pub fn step<R: Wait>(&mut self, rt: &R, alloc: Global, line: &[u8]) -> Result<(), CallError>
         ensures ok { OnOk result (AnswersOnce self.old line.now self.new) }
         ensures err { IfErr result (λ e. (self.new ≡ self.old) × (self.old.ended ≡ is_ended e)) }

@@ -106,7 +106,7 @@ impl<H: Hosting, D: Doorkeeper> Connection<H, D> {
         true
     }
 
-    /// Makes one write. Returns how many bytes were sent, or why none.
+    /// Makes one write. Returns how many bytes were sent, or why none. Error: the stream's.
     pub fn send<S: Stream>(&mut self, stream: &mut S) -> io::Result<usize>
         ensures count { IfOk result (λ count. count ≤ length self.old.pending) }
         ensures sent { IfOk result (λ count. self.new ≡ after_sending self.old count) }

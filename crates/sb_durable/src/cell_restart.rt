@@ -21,7 +21,7 @@ use std::alloc::{AllocError, Global};
 use std::sync::Wait;
 
 /// Replays the records of a journal on a new cell, and ends and records the sessions that are open then. Returns the
-/// number of records.
+/// number of records. Error: why a record can't be read or played.
 pub fn restart<T: Wait, D: Disk, P: Progress>(
     rt: &T,
     alloc: Global,

@@ -45,7 +45,8 @@ const BEGINNING: &[u8] = b"\x01\x00\x00\x00\x14FILGJRN";
 const MOST_BEGUN: u64 = 26;
 
 /// Opens the file of a path, and makes it if it is missing. It is locked until it is dropped. No other code may write
-/// to it meanwhile. A file in which something else stands is left as it is (NotAJournal).
+/// to it meanwhile. A file in which something else stands is left as it is (NotAJournal). Error: the system's, Locked,
+/// NotAFile or NotAJournal.
 pub fn open_file<R: Files<File = fs::File>, S: Start>(
     rt: &R,
     path: &str,
@@ -93,7 +94,8 @@ pub enum StartError {
     Begin(BeginError),
 }
 
-/// Opens the journal at a path. An empty or missing file becomes a new journal with this header.
+/// Opens the journal at a path. An empty or missing file becomes a new journal with this header. Error: why the file
+/// isn't opened, or what of its header differs.
 pub fn open_path<R: Files<File = fs::File>>(
     rt: &R,
     alloc: Global,
@@ -138,7 +140,7 @@ fn made<R: Files<File = fs::File>>(rt: &R, path: &str) -> io::Result<fs::File> {
         .open(rt, path)
 }
 
-/// Syncs the folder of a file, so that its name is durable.
+/// Syncs the folder of a file, so that its name is durable. Error: the system's.
 pub fn sync_folder<R: Files<File = fs::File>>(rt: &R, path: &str) -> io::Result<()> {
     let folder = match Path::new(path).parent() {
         Some(folder) if !folder.as_str().is_empty() => folder,

@@ -63,7 +63,8 @@ impl<D: Disk> Journal<D> {
         25
     }
 
-    /// Reads the bytes of the batch at a place, and says where the next one is; `None` behind the last.
+    /// Reads the bytes of the batch at a place, and says where the next one is; `None` behind the last. Error: the
+    /// device's, Memory or Damaged.
     pub fn read(&mut self, place: usize, batch: &mut Vec<u8>) -> Result<Option<usize>, JournalError>
         ensures found { IfOk result (λ next. IsTrue (D.Disk.is_clean (disk_of self.new)) → (head : TheHead) (entries : List Entry)
             → IsAt D.Disk.seen D.Disk.may_leave self.old head place entries

@@ -27,7 +27,7 @@ pub enum BeginError {
 }
 
 /// Opens the journal of a file that a crash may have left, or begins one in an empty file. A crash during the call is
-/// covered, too.
+/// covered, too. Error: the journal's, or what of its header differs.
 pub fn open_journal<D: Disk + Drop>(
     alloc: Global,
     disk: D,
@@ -54,7 +54,8 @@ pub fn open_journal<D: Disk + Drop>(
     }
 }
 
-/// Compares the header of a log, or writes it into an empty one. A crash during the call is covered, too.
+/// Compares the header of a log, or writes it into an empty one. A crash during the call is covered, too. Error: the
+/// journal's, or what of the header differs.
 pub fn begin<D: Disk>(alloc: Global, log: &mut RecordLog<D>, head: Head) -> Result<(), BeginError>
     // A log that has something begins with this head, and keeps all.
     ensures found { OnOk result (IsTrue (D.Disk.is_clean (device_of log.new)) → (first : List ℕ) (others : List (List ℕ))

@@ -22,7 +22,8 @@ pub struct RecordLog<D: Disk> {
 }
 
 impl<D: Disk> RecordLog<D> {
-    /// Opens a file that a crash may have left, or an empty one. A crash during the call is covered, too.
+    /// Opens a file that a crash may have left, or an empty one. A crash during the call is covered, too. Error: the
+    /// device's, Memory or Damaged; the file is given back.
     pub fn open(device: D) -> Result<RecordLog<D>, (JournalError, D)>
         requires { IsTrue (D.Disk.is_usable device) }
         ensures ok { IfOk result (λ log. IsTrue (D.Disk.is_clean (device_of log)) → (contents : List (List ℕ)) → Stands contents (D.Disk.seen device)
@@ -65,7 +66,7 @@ impl<D: Disk> RecordLog<D> {
         self.is_spent
     }
 
-    /// Reads the block at `at`. Returns the place of the next block.
+    /// Reads the block at `at`. Returns the place of the next block. Error: the device's, Memory or Damaged.
     pub fn read(&mut self, at: usize, content: &mut Vec<u8>) -> Result<Option<usize>, JournalError>
         ensures found { IfOk result (λ next. IsTrue (D.Disk.is_clean (device_of self.new)) → (front back : List (List ℕ))
             → HasAll D.Disk.seen D.Disk.may_leave self.old (front ++ back) → at ≡ length (blocks front) → Reads front back content.new.items next) }
@@ -95,7 +96,8 @@ impl<D: Disk> RecordLog<D> {
         }
     }
 
-    /// Appends a block and syncs it. Behind `Ok` no crash loses it.
+    /// Appends a block and syncs it. Behind `Ok` no crash loses it. Error: the device's, Memory, Full, or Spent behind
+    /// a write that failed.
     pub fn append(&mut self, alloc: Global, content: &[u8]) -> Result<(), JournalError>
         requires { IsContent content.now }
         ensures ok { OnOk result ((contents : List (List ℕ)) → HasAll D.Disk.seen D.Disk.may_leave self.old contents

@@ -60,7 +60,8 @@ pub struct PlayError {
     pub why: PlayFault,
 }
 
-/// Replays the records of a journal on a new host, and ends the sessions that are open then.
+/// Replays the records of a journal on a new host, and ends the sessions that are open then. Error: why a record can't
+/// be read or played.
 pub fn play<T: Wait, H: Hosting, D: Disk, P: Progress>(
     rt: &T,
     alloc: Global,

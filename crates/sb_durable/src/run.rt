@@ -123,7 +123,8 @@ pub(crate) fn step<D: Disk>(
     }
 }
 
-/// Answers the lines of the input, each after its step is durable. A run that can't record a step stops there.
+/// Answers the lines of the input, each after its step is durable. A run that can't record a step stops there. Error: a
+/// read or a write that failed, or out of memory.
 pub fn run_recorded<R: Source, W: Sink, D: Disk>(
     alloc: Global,
     reader: &mut R,

@@ -350,7 +350,7 @@ impl<'s, H: Hosting, V: Watch, D: Doorkeeper, K: CommitHook, C: Clock> Serving<'
 }
 
 /// Serves all connections: each worker and the accept thread run in threads of their own, the background task in this
-/// one. Leaves the receipts of all sessions.
+/// one. Leaves the receipts of all sessions. Error: why it ended before it was to (ServeError).
 pub fn serve_all<H, V, A, K, G, R>(
     rt: &R,
     alloc: Global,

@@ -69,7 +69,7 @@ impl ServerMetrics {
     }
 
     /// The metrics of so many workers and the accept thread, and of so many tenants from this first number on. The
-    /// server begins at this time.
+    /// server begins at this time. Error: out of memory.
     pub fn new(
         alloc: Global,
         workers: usize,
@@ -165,7 +165,7 @@ impl ServerMetrics {
         self.last_lines.age(named, now)
     }
 
-    /// The slowest lines, the slowest first.
+    /// The slowest lines, the slowest first. Error: out of memory.
     pub fn slowest<T: Wait>(&self, rt: &T, alloc: Global) -> Result<Vec<SlowLine>, AllocError>
         ensures { IfOk result (λ lines. AreSlowestFirst lines.items) }
     {

@@ -14,7 +14,7 @@ use std::io;
 
 impl<D: Disk> Segment<D> {
     /// Begins a segment in a file that hasn't begun: its number, the digest at the end of the segment before, and
-    /// settings. It may crash too.
+    /// settings. It may crash too. Error: the journal's, or what of the header differs.
     pub fn begin(
         alloc: Global,
         device: D,

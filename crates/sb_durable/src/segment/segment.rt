@@ -29,7 +29,8 @@ pub struct Segment<D: Disk> {
 }
 
 impl<D: Disk> Segment<D> {
-    /// Adds a content. At `Ok` each crash leaves a file that has it.
+    /// Adds a content. At `Ok` each crash leaves a file that has it. Error: the device's, Memory, Full, or Spent behind
+    /// a write that failed.
     pub fn append(&mut self, alloc: Global, content: &[u8]) -> Result<(), SegmentError>
         requires { IsContent content.now }
         ensures ok { OnOk result ((contents : List (List ℕ)) → HasAll D.Disk.seen D.Disk.may_leave self.old contents
