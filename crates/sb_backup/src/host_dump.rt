@@ -1,16 +1,11 @@
-//! The tenants of a host, written to the files of a folder.
-ghost use Rattle.std.specs.Prelude.{◌≡◌, ◌≤◌, ◌+◌, IfErr};
-ghost use Rattle.sb_backup.specs.HostDumps.{IsNotedOf, IsNotedOfSome, IsUnsaved};
+//! The scripts of a host's tenants.
+ghost use Rattle.std.specs.Prelude.{◌≡◌, ◌≤◌};
+ghost use Rattle.sb_backup.specs.HostDumps.{IsNotedOf, IsNotedOfSome};
 
-use crate::dump::undumped;
-use crate::error::BackupError;
-use crate::script_files::ScriptFiles;
 use sb_dump::{DumpError, Script, dump};
 use sb_host::{Lending, Reading};
 use sb_tenant::Tenant;
-use sb_words::Log;
 use std::alloc::Global;
-use std::rt::Files;
 use std::sync::Wait;
 
 /// The script of a tenant, or why there is none.
@@ -70,41 +65,6 @@ fn script_of(alloc: Global, tenant: &Tenant, bound: u32) -> NotedScript
     match dump(alloc, tenant, bound) {
         Ok(script) => NotedScript::Script(script),
         Err(error) => NotedScript::Lacking(error),
-    }
-}
-
-/// Writes the file of each tenant that was ever opened. After a fault the others are still written, and the first fault
-/// is returned.
-pub fn save_all<T: Wait + Files, O: Log, H: Lending>(
-    files: &ScriptFiles<'_, '_, T, O>,
-    host: H,
-) -> Result<(), BackupError> {
-    let mut ended = Ok(());
-    for tenant in 0..host.tenants() {
-        if let Err(why) = save_one(files, host, tenant) {
-            files.tell_unsaved(tenant);
-            if ended.is_ok() {
-                ended = Err(why);
-            }
-        }
-    }
-    ended
-}
-
-/// Writes the file of a tenant, if it was ever opened.
-fn save_one<T: Wait + Files, O: Log, H: Lending>(
-    files: &ScriptFiles<'_, '_, T, O>,
-    host: H,
-    tenant: u32,
-) -> Result<(), BackupError>
-    ensures { IfErr result (IsUnsaved (files.now.folder.first + tenant)) }
-{
-    let number = files.folder.number_of(tenant);
-    let notes = ScriptNotes::new(files.alloc, files.bound);
-    match noted_of(files.rt, host, tenant, notes) {
-        NotedScript::Unused => Ok(()),
-        NotedScript::Lacking(error) => Err(undumped(number, error)),
-        NotedScript::Script(script) => files.write(number, &script),
     }
 }
 

@@ -11,14 +11,16 @@ mod host_loader;
 mod line_player;
 mod script_files;
 mod script_source;
+mod tenant_saver;
 
 pub use cell_dump::dump_all;
 pub use cell_loader::loaded_cell;
 pub use dump::{dump_tenant, text_of, undumped};
 pub use error::{BackupError, push_number};
 pub use folder::{Folder, FolderLock};
-pub use host_dump::{NotedScript, ScriptNotes, noted_of, save_all};
+pub use host_dump::{NotedScript, ScriptNotes, noted_of};
 pub use host_loader::load_folder;
 pub use sb_dump::{DumpError, Script};
 pub use script_files::ScriptFiles;
 pub use script_source::FolderScripts;
+pub use tenant_saver::TenantSaver;
