@@ -5,19 +5,22 @@ use Rattle.httparse.specs.Spans.{RequestOverflows}
 use Rattle.sb_connection.specs.declared.first_line.SessionName.{SessionName}
 use Rattle.sb_status.specs.Requests.{IsHeadOf, head_limit, header_limit}
 use Rattle.sb_status.specs.Responses.{head_text}
-use Rattle.sb_status.specs.Routes.{Names}
 use Rattle.sb_status.specs.declared.request.Request.{Request}
 use Rattle.sb_status.specs.declared.response.ContentType.{ContentType}
 use Rattle.sb_status.specs.declared.response.ContentType.TheVariants.{Text}
 use Rattle.sb_status.specs.declared.response.Status.{Status}
-use Rattle.sb_status.specs.declared.route.Route.{Route}
 use Rattle.sb_monitor.specs.PageAccess.{IsGuarded}
 use Rattle.sb_monitor.specs.HttpRefusals.{misfit_of, status_of, words_of}
-use Rattle.sb_monitor.specs.Pages.{Shows}
+use Rattle.sb_monitor.specs.Pages.{Replies}
+use Rattle.sb_monitor.specs.Senders.{IsSentBy, stranger_of}
+use Rattle.sb_monitor.specs.Targets.{Aims, page_of, wants_key}
+use Rattle.sb_monitor.specs.declared.http_outcome.TheConstants.{NOT_READY}
+use Rattle.sb_monitor.specs.declared.sender.Sender.{Sender}
+use Rattle.sb_monitor.specs.declared.target.Target.{Target}
 use Rattle.sb_monitor.specs.declared.http_outcome.HttpRefusal.{HttpRefusal}
 use Rattle.sb_monitor.specs.declared.http_outcome.HttpRefusal.TheVariants.{BadRequest, KeyWanted, TooLong}
 use Rattle.sb_monitor.specs.declared.http_outcome.Outcome.{Outcome}
-use Rattle.sb_monitor.specs.declared.http_outcome.Outcome.TheVariants.{Refused, Shown}
+use Rattle.sb_monitor.specs.declared.http_outcome.Outcome.TheVariants.{NotReady, Refused, Shown}
 
 -- ---- the bytes of an answer
 
@@ -28,30 +31,39 @@ answer_text status kind body has_body = head_text status kind (length body) ++ (
 abbrev pub outcome_text : Outcome → Bool → List ℕ
 outcome_text (Shown s) has_body = answer_text s.status s.kind s.body.items has_body
 outcome_text (Refused why) has_body = answer_text (status_of why) Text (words_of why) has_body
+outcome_text NotReady has_body = NOT_READY.now ++ (if has_body then codes "not yet\n" else [])
 
 abbrev pub has_body : Request → Bool
 has_body r = not (bytes_eq r.method.now (codes "HEAD"))
 
 -- ---- what a request comes to
 
--- it doesn't fit its page; or a key is wanted
-abbrev pub IsTurnedAway : Bool → Request → Route → HttpRefusal → Type 0
-IsTurnedAway wants r route why = (misfit_of route r ≡ Some why) ⊎ ((misfit_of route r ≡ None) × (wants ≡ true) × (why ≡ KeyWanted))
+-- it doesn't fit its target; or a key is wanted
+abbrev pub IsTurnedAway : Bool → Request → Target → HttpRefusal → Type 0
+IsTurnedAway wants r target why =
+    (misfit_of target r ≡ Some why) ⊎ ((misfit_of target r ≡ None) × (wants_key wants target ≡ true) × (why ≡ KeyWanted))
 
-module _ (wants : Bool) (admits : ℕ → List ℕ → Type 0) (first tenants cells bound : ℕ) (told : ℕ → SessionName → Type 0) where
-  -- a request that fits, and has the key of whom the page belongs to, is shown that page
-  abbrev pub IsLetIn : Request → Route → Outcome → Type 0
-  IsLetIn r route outcome =
-      (misfit_of route r ≡ None) × IsGuarded wants admits route (option_copied r.authorization) × Shows first tenants cells bound told route outcome
+module _ (wants : Bool) (admits : ℕ → List ℕ → Type 0) (first tenants cells bound : ℕ) (told : ℕ → SessionName → Type 0) (stopped : Type 0) (lets_in : Bool → Type 0) where
+  -- a request that fits, and has the key of whom its target belongs to, is replied to
+  abbrev pub IsLetIn : Request → Target → Outcome → Type 0
+  IsLetIn r target outcome =
+      (misfit_of target r ≡ None) × IsGuarded (wants_key wants target) admits (page_of target) (option_copied r.authorization)
+      × Replies first tenants cells bound told stopped lets_in target outcome
 
-  abbrev pub ComesTo : Request → Route → Outcome → Type 0
-  ComesTo r route (Shown s) = IsLetIn r route (Shown s)
-  ComesTo r route (Refused why) = IsTurnedAway wants r route why ⊎ IsLetIn r route (Refused why)
+  abbrev pub ComesTo : Request → Target → Outcome → Type 0
+  ComesTo r target (Shown s) = IsLetIn r target (Shown s)
+  ComesTo r target (Refused why) = IsTurnedAway wants r target why ⊎ IsLetIn r target (Refused why)
+  ComesTo r target NotReady = IsLetIn r target NotReady
 
-  -- the bytes are a request, and what it comes to at the page that its target names is answered
+  -- one that comes from elsewhere is refused, and shown nothing; any other one comes to what its target names
+  abbrev pub ComesFrom : Option HttpRefusal → Request → Outcome → Type 0
+  ComesFrom (Some why) r outcome = outcome ≡ Refused why
+  ComesFrom None r outcome = (target : Target) × Aims r.target.now target × ComesTo r target outcome
+
+  -- the bytes are a request, and what it comes to, by who sends it, is answered
   abbrev pub AnswersRequest : List ℕ → List ℕ → Type 0
   AnswersRequest bytes answer =
-      (r : Request) × IsHeadOf bytes r × (route : Route) × Names r.target.now route × (outcome : Outcome) × ComesTo r route outcome
+      (r : Request) × IsHeadOf bytes r × (s : Sender) × IsSentBy bytes s × (outcome : Outcome) × ComesFrom (stranger_of s) r outcome
       × (answer ≡ outcome_text outcome (has_body r))
 
   -- they are too many, or not a request, and that is told; or they are one

@@ -1,5 +1,5 @@
 -- Promise: what the status port shows of a host at each route, and whose it is.
-use Rattle.std.specs.Prelude.{◌≡◌, ◌⊎◌, ◌+◌, ◌%◌, ◌<◌, ◌≤◌, ℕ, false, List, [], codes}
+use Rattle.std.specs.Prelude.{◌≡◌, ◌⊎◌, ◌+◌, ◌%◌, ◌<◌, ◌≤◌, ℕ, Bool, false, true, List, [], codes}
 use Rattle.sb_connection.specs.declared.first_line.SessionName.{SessionName}
 use Rattle.sb_status.specs.Pages.{IsPage}
 use Rattle.sb_status.specs.TenantPages.{IsPageOf}
@@ -17,10 +17,12 @@ use Rattle.sb_tenant.specs.Limits.{session_count}
 use Rattle.sb_tenant.specs.State.{is_open, session_at}
 use Rattle.sb_tenant.specs.Tenant.{Tenant, state}
 use Rattle.sb_backup.specs.HostDumps.{IsScriptOf}
+use Rattle.sb_monitor.specs.declared.target.Target.{Target}
+use Rattle.sb_monitor.specs.declared.target.Target.TheVariants as target
 use Rattle.sb_monitor.specs.declared.http_outcome.HttpRefusal.{HttpRefusal}
-use Rattle.sb_monitor.specs.declared.http_outcome.HttpRefusal.TheVariants.{NoPage, NoScript, NoSession, NoTenant, TenantBusy, WorkerBusy}
+use Rattle.sb_monitor.specs.declared.http_outcome.HttpRefusal.TheVariants.{NoPage, NoScript, NoSession, NoStop, NoTenant, TenantBusy, WorkerBusy}
 use Rattle.sb_monitor.specs.declared.http_outcome.Outcome.{Outcome}
-use Rattle.sb_monitor.specs.declared.http_outcome.Outcome.TheVariants.{Refused, Shown}
+use Rattle.sb_monitor.specs.declared.http_outcome.Outcome.TheVariants.{NotReady, Refused, Shown}
 
 -- of so many tenants from the first number on, one has this number
 abbrev pub IsHosted : ℕ → ℕ → ℕ → Type 0
@@ -60,6 +62,7 @@ IsUnshown first tenants n reason why = ((why ≡ NoTenant) × (IsHosted first te
 abbrev pub IsOutcome : Status → ContentType → (List ℕ → Type 0) → (HttpRefusal → Type 0) → Outcome → Type 0
 IsOutcome status kind body why (Shown s) = (s.status ≡ status) × (s.kind ≡ kind) × body s.body.items
 IsOutcome status kind body why (Refused refusal) = why refusal
+IsOutcome status kind body why NotReady = ⊥
 
 -- the page of a tenant
 abbrev pub IsPageOutcome : ℕ → ℕ → ℕ → Outcome → Type 0
@@ -92,3 +95,22 @@ Shows first tenants cells bound told (route.Tenant n) outcome = IsPageOutcome fi
 Shows first tenants cells bound told (route.Dump n) outcome = IsScriptOutcome first tenants bound n outcome
 Shows first tenants cells bound told (route.End e) outcome = IsEndOutcome first tenants cells told e outcome
 Shows first tenants cells bound told route.Unknown outcome = outcome ≡ Refused NoPage
+
+-- the server was told to stop, or it can't be told
+abbrev pub IsStopOutcome : Type 0 → Outcome → Type 0
+IsStopOutcome stopped = IsOutcome status.Accepted kind.Text (λ body. (body ≡ codes "told\n") × stopped) (λ why. why ≡ NoStop)
+
+-- clients are let in
+abbrev pub IsReadyOutcome : Outcome → Type 0
+IsReadyOutcome = IsOutcome status.Found kind.Text (λ body. body ≡ codes "ready\n") (λ _. ⊥)
+
+-- this is replied where the server lets clients in, and that it doesn't where it doesn't
+abbrev pub IsInTime : (Bool → Type 0) → (Outcome → Type 0) → Outcome → Type 0
+IsInTime lets_in replied outcome = (lets_in true × replied outcome) ⊎ (lets_in false × (outcome ≡ NotReady))
+
+-- pages wait until clients are let in; a stop is told at any time
+abbrev pub Replies : ℕ → ℕ → ℕ → ℕ → (ℕ → SessionName → Type 0) → Type 0 → (Bool → Type 0) → Target → Outcome → Type 0
+Replies first tenants cells bound told stopped lets_in target.Stop outcome = IsStopOutcome stopped outcome
+Replies first tenants cells bound told stopped lets_in target.Ready outcome = IsInTime lets_in IsReadyOutcome outcome
+Replies first tenants cells bound told stopped lets_in (target.Page route) outcome =
+    IsInTime lets_in (Shows first tenants cells bound told route) outcome

@@ -2,6 +2,8 @@
 #![tactic(auto)]
 
 mod activity;
+mod bell;
+mod crowd;
 mod event_log;
 mod http_connection;
 mod http_outcome;
@@ -9,13 +11,19 @@ mod listener;
 mod memory;
 mod page_access;
 mod pages;
-mod session_ender;
+mod sender;
+mod server_control;
 mod status_port;
+mod stop_switch;
+mod supervisor;
+mod target;
 mod tenant_script;
 
 pub use event_log::EventLog;
-pub use listener::{ListenError, listen};
+pub use listener::{ListenError, is_closed, listen};
 pub use memory::memory_file;
 pub use pages::Pages;
-pub use session_ender::SessionEnder;
-pub use status_port::{SideTask, StatusPort, serve_beside};
+pub use server_control::{ServerControl, ServerControls};
+pub use status_port::{SideTask, StatusPort, serve_beside, work_beside};
+pub use stop_switch::StopSwitch;
+pub use supervisor::Supervisor;

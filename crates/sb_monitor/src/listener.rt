@@ -2,7 +2,8 @@
 ghost use Rattle.std.specs.Prelude.{◌≡◌, IfErr, IfOk, OnOk};
 ghost use Rattle.sb_monitor.specs.Listening.{FailsToListen, TellsPort, listening_line};
 
-use libc::net::listen as listen_longer;
+use libc::net::{self as system, listen as listen_longer};
+use libc::types::pollfd;
 use sb_wire::{Sink, StreamError, push_labelled, write_and_flush};
 use sb_words::{Log, Severity};
 use std::alloc::{AllocError, Global};
@@ -51,6 +52,16 @@ pub fn listen<T: Net<Listener = TcpListener, Stream = TcpStream>, O: Log, W: Sin
         Ok(()) => Ok(listener),
         Err(error) => Err(ListenError::Stream(error)),
     }
+}
+
+/// Whether a port that was listened at is closed.
+pub fn is_closed(listener: &TcpListener) -> bool {
+    let mut waits = [pollfd {
+        fd: listener.as_raw_fd(),
+        events: 0,
+        revents: 0,
+    }];
+    system::poll(&mut waits, 0) > 0
 }
 
 /// Tells why nothing listens there.

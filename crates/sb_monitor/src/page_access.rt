@@ -1,15 +1,37 @@
 //! Whose key opens which page.
 ghost use Rattle.std.specs.Prelude.{◌≡◌, IfOk, IsFalse, IsTrue, option_copied, true};
 ghost use Rattle.sb_monitor.specs.PageAccess.{IsGuarded, Opens, OpensBy};
+ghost use Rattle.sb_monitor.specs.Targets.{page_of, wants_key};
 
+use crate::target::Target;
 use sb_connection::Admission;
 use sb_keys::STATUS;
 use sb_status::{Credentials, Request, Route, number};
 use std::alloc::{AllocError, Global};
 use std::sync::Wait;
 
-/// Whether no key is wanted, or the request has a key that opens the page.
+/// Whether no key is wanted, or the request has a key that opens its target.
 pub(crate) fn is_let_in<A: Admission, T: Wait>(
+    rt: &T,
+    alloc: Global,
+    admission: &A,
+    target: Target,
+    request: &Request<'_>,
+) -> Result<bool, AllocError>
+    ensures guarded { IfOk result (λ let_in. IsTrue let_in
+        → IsGuarded (wants_key (A.wants admission.now) target) (A.admits admission.now) (page_of target)
+        (option_copied request.now.authorization)) }
+    ensures wanted { IfOk result (λ let_in. IsFalse let_in → wants_key (A.wants admission.now) target ≡ true) }
+{
+    match target {
+        Target::Ready => Ok(true),
+        Target::Stop => is_guest(rt, alloc, admission, Route::Host, request),
+        Target::Page(route) => is_guest(rt, alloc, admission, route, request),
+    }
+}
+
+/// Whether no key is wanted, or the request has a key that opens the page.
+fn is_guest<A: Admission, T: Wait>(
     rt: &T,
     alloc: Global,
     admission: &A,

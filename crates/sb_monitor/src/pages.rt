@@ -1,18 +1,19 @@
 //! What the status port answers.
 ghost use Rattle.std.specs.Prelude.{◌≡◌, ◌⊎◌, ◌+◌, ◌<◌, ◌≤◌, IfOk, MatchOption, ℕ, false, true};
+ghost use Rattle.sb_monitor.specs.Senders.{stranger_of};
 ghost use Rattle.sb_status.specs.StatisticsCache.{IsCacheOf};
 ghost use Rattle.sb_status.specs.TenantPages.{IsPageOf};
-ghost use Rattle.sb_status.specs.Routes.{Names};
 ghost use Rattle.sb_status.specs.TenantViews.{IsFoundView, OnlyAges};
-ghost use Rattle.sb_status.specs.declared.route.Route.{Route as ItsRoute};
-ghost use Rattle.sb_monitor.specs.PageAnswers.{Answers, ComesTo, outcome_text};
-ghost use Rattle.sb_monitor.specs.Pages.{AreSamples, IsEndOutcome, IsHostOutcome, IsPageOutcome, IsScriptOutcome, LacksSession, Shows};
+ghost use Rattle.sb_monitor.specs.PageAnswers.{Answers, ComesFrom, ComesTo, outcome_text};
+ghost use Rattle.sb_monitor.specs.Pages.{AreSamples, IsEndOutcome, IsHostOutcome, IsInTime, IsPageOutcome, IsReadyOutcome, IsScriptOutcome, IsStopOutcome, LacksSession, Replies, Shows};
 
 use crate::activity::{Counted, Overview};
 use crate::http_outcome::{HttpRefusal, Outcome, Shown, has_body};
 use crate::memory::resident;
 use crate::page_access::is_let_in;
-use crate::session_ender::SessionEnder;
+use crate::sender::Sender;
+use crate::server_control::{ServerControl, ServerControls};
+use crate::target::{Target, target_of};
 use crate::tenant_script::noted_in;
 use sb_backup::{DumpError, NotedScript, ScriptNotes, text_of};
 use sb_host::{Lending, SESSION_LIMIT, SessionId, Tried};
@@ -20,7 +21,7 @@ use sb_server::{Admission, ServerMetrics, SessionName};
 use sb_status::{
     ContentType, Counting, Ended, HostNumbers, Incoming, LockBudget, Request, Route,
     SessionReading, SessionView, StatisticsCache, Status, TenantNumbers, TenantView, read_request,
-    route_of, tenant_page, view_at,
+    tenant_page, view_at,
 };
 use std::alloc::{AllocError, Global};
 use std::fs::File;
@@ -33,7 +34,7 @@ const VERSION: &str = "0.1";
 
 /// The status pages of a server.
 #[derive(Drop)]
-pub struct Pages<'k, H, A, T, E = ServerMetrics> {
+pub struct Pages<'k, H, A, T, E = ServerControls> {
     /// The system.
     pub rt: &'k T,
     pub alloc: Global,
@@ -50,12 +51,12 @@ pub struct Pages<'k, H, A, T, E = ServerMetrics> {
     pub memory: Option<File>,
     /// What the workers have counted.
     pub server_metrics: &'k ServerMetrics,
-    /// What tells them that sessions are to end.
-    pub ender: &'k E,
+    /// What tells them that sessions are to end, and the server that it is to stop.
+    pub control: &'k E,
     ghost few: { bound ≤ 1000 },
 }
 
-impl<'k, H: Lending, A: Admission, T: Wait + Clock, E: SessionEnder> Pages<'k, H, A, T, E> {
+impl<'k, H: Lending, A: Admission, T: Wait + Clock, E: ServerControl> Pages<'k, H, A, T, E> {
     /// For what pages showed last.
     pub(crate) fn cache(&self) -> Result<StatisticsCache, AllocError>
         ensures { IfOk result (IsCacheOf self.now.first_tenant) }
@@ -71,39 +72,108 @@ impl<'k, H: Lending, A: Admission, T: Wait + Clock, E: SessionEnder> Pages<'k, H
     ) -> Result<Vec<u8>, AllocError>
         requires { IsCacheOf self.now.first_tenant cache.old }
         ensures answers { IfOk result (λ answer. Answers (A.wants self.now.admission.now) (A.admits self.now.admission.now)
-            self.now.first_tenant (H.tenants self.now.host) H.cells self.now.bound (E.told self.now.ender.now)
-            bytes.now answer.items) }
+            self.now.first_tenant (H.tenants self.now.host) H.cells self.now.bound (E.told self.now.control.now)
+            (E.stopped self.now.control.now) (E.lets_in self.now.control.now) bytes.now answer.items) }
         ensures cache { IsCacheOf self.now.first_tenant cache.new }
     {
         match read_request(bytes) {
-            Incoming::Whole(request) => {
-                let outcome = self.outcome(&request, cache)?;
-                outcome.answer(self.alloc, has_body(&request))
-            }
+            Incoming::Whole(request) => match Sender::read(bytes) {
+                Some(sender) => {
+                    let outcome = self.outcome_from(&sender, &request, cache)?;
+                    outcome.answer(self.alloc, has_body(&request))
+                }
+                None => refuse(self.alloc, HttpRefusal::BadRequest),
+            },
             Incoming::TooLong => refuse(self.alloc, HttpRefusal::TooLong),
             Incoming::Malformed | Incoming::Partial => refuse(self.alloc, HttpRefusal::BadRequest),
         }
     }
 
-    /// The outcome of a request for the page that its target names.
-    fn outcome(
+    /// The outcome of a request of this sender.
+    fn outcome_from(
         &self,
+        sender: &Sender<'_>,
         request: &Request<'_>,
         cache: &mut StatisticsCache,
     ) -> Result<Outcome, AllocError>
         requires { IsCacheOf self.now.first_tenant cache.old }
-        ensures comes { IfOk result (λ outcome. (route : ItsRoute) × Names request.now.target.now route
-            × ComesTo (A.wants self.now.admission.now) (A.admits self.now.admission.now)
-            self.now.first_tenant (H.tenants self.now.host) H.cells self.now.bound (E.told self.now.ender.now)
-            request.now route outcome) }
+        ensures comes { IfOk result (ComesFrom (A.wants self.now.admission.now) (A.admits self.now.admission.now)
+            self.now.first_tenant (H.tenants self.now.host) H.cells self.now.bound (E.told self.now.control.now)
+            (E.stopped self.now.control.now) (E.lets_in self.now.control.now) (stranger_of sender.now) request.now) }
         ensures cache { IsCacheOf self.now.first_tenant cache.new }
     {
-        let route = route_of(request.target);
-        if let Some(misfit) = HttpRefusal::of_misfit(route, request) {
+        match sender.refusal() {
+            Some(why) => Ok(Outcome::Refused(why)),
+            None => self.outcome(target_of(request.target), request, cache),
+        }
+    }
+
+    /// The outcome of a request for this target.
+    fn outcome(
+        &self,
+        target: Target,
+        request: &Request<'_>,
+        cache: &mut StatisticsCache,
+    ) -> Result<Outcome, AllocError>
+        requires { IsCacheOf self.now.first_tenant cache.old }
+        ensures comes { IfOk result (ComesTo (A.wants self.now.admission.now) (A.admits self.now.admission.now)
+            self.now.first_tenant (H.tenants self.now.host) H.cells self.now.bound (E.told self.now.control.now)
+            (E.stopped self.now.control.now) (E.lets_in self.now.control.now) request.now target) }
+        ensures cache { IsCacheOf self.now.first_tenant cache.new }
+    {
+        if let Some(misfit) = HttpRefusal::of_misfit(target, request) {
             return Ok(Outcome::Refused(misfit));
         }
-        if !is_let_in(self.rt, self.alloc, self.admission, route, request)? {
+        if !is_let_in(self.rt, self.alloc, self.admission, target, request)? {
             return Ok(Outcome::Refused(HttpRefusal::KeyWanted));
+        }
+        self.reply(target, cache)
+    }
+
+    /// What a client gets that may have it.
+    fn reply(&self, target: Target, cache: &mut StatisticsCache) -> Result<Outcome, AllocError>
+        requires { IsCacheOf self.now.first_tenant cache.old }
+        ensures replies { IfOk result (Replies self.now.first_tenant (H.tenants self.now.host) H.cells self.now.bound
+            (E.told self.now.control.now) (E.stopped self.now.control.now) (E.lets_in self.now.control.now) target) }
+        ensures cache { IsCacheOf self.now.first_tenant cache.new }
+    {
+        match target {
+            Target::Stop => self.stop(),
+            Target::Ready => self.readiness(),
+            Target::Page(route) => self.page_in_time(route, cache),
+        }
+    }
+
+    /// Tells the server to stop.
+    fn stop(&self) -> Result<Outcome, AllocError>
+        ensures { IfOk result (IsStopOutcome (E.stopped self.now.control.now)) }
+    {
+        if !self.control.stop() {
+            return Ok(Outcome::Refused(HttpRefusal::NoStop));
+        }
+        Ok(accepted(b"told\n".to_vec(self.alloc)?))
+    }
+
+    /// Tells whether clients are let in.
+    fn readiness(&self) -> Result<Outcome, AllocError>
+        ensures { IfOk result (IsInTime (E.lets_in self.now.control.now) IsReadyOutcome) }
+    {
+        if !self.control.is_ready() {
+            return Ok(Outcome::NotReady);
+        }
+        Ok(found(ContentType::Text, b"ready\n".to_vec(self.alloc)?))
+    }
+
+    /// The page at a route, once clients are let in.
+    fn page_in_time(&self, route: Route, cache: &mut StatisticsCache) -> Result<Outcome, AllocError>
+        requires { IsCacheOf self.now.first_tenant cache.old }
+        ensures shows { IfOk result (IsInTime (E.lets_in self.now.control.now)
+            (Shows self.now.first_tenant (H.tenants self.now.host) H.cells self.now.bound
+            (E.told self.now.control.now) route)) }
+        ensures cache { IsCacheOf self.now.first_tenant cache.new }
+    {
+        if !self.control.is_ready() {
+            return Ok(Outcome::NotReady);
         }
         self.page(route, cache)
     }
@@ -112,7 +182,7 @@ impl<'k, H: Lending, A: Admission, T: Wait + Clock, E: SessionEnder> Pages<'k, H
     fn page(&self, route: Route, cache: &mut StatisticsCache) -> Result<Outcome, AllocError>
         requires { IsCacheOf self.now.first_tenant cache.old }
         ensures shows { IfOk result (Shows self.now.first_tenant (H.tenants self.now.host) H.cells self.now.bound
-            (E.told self.now.ender.now) route) }
+            (E.told self.now.control.now) route) }
         ensures cache { IsCacheOf self.now.first_tenant cache.new }
     {
         match route {
@@ -297,7 +367,7 @@ impl<'k, H: Lending, A: Admission, T: Wait + Clock, E: SessionEnder> Pages<'k, H
     /// Asks a worker to end a session.
     fn end(&self, ended: Ended) -> Result<Outcome, AllocError>
         ensures { IfOk result (IsEndOutcome self.now.first_tenant (H.tenants self.now.host) H.cells
-            (E.told self.now.ender.now) ended) }
+            (E.told self.now.control.now) ended) }
     {
         let Some(place) = self.place_of(ended.tenant) else {
             return Ok(Outcome::Refused(HttpRefusal::NoTenant));
@@ -310,14 +380,10 @@ impl<'k, H: Lending, A: Admission, T: Wait + Clock, E: SessionEnder> Pages<'k, H
             session: ended.session,
         };
         let cell = place % self.host.cells();
-        if !self.ender.end(self.rt, cell as usize, named) {
+        if !self.control.end(self.rt, cell as usize, named) {
             return Ok(Outcome::Refused(HttpRefusal::WorkerBusy));
         }
-        Ok(Outcome::Shown(Shown {
-            status: Status::Accepted,
-            kind: ContentType::Text,
-            body: b"told\n".to_vec(self.alloc)?,
-        }))
+        Ok(accepted(b"told\n".to_vec(self.alloc)?))
     }
 
     /// Whether a session of the tenant at this place is open, as far as that can be seen in time.
@@ -393,6 +459,17 @@ fn found(kind: ContentType, body: Vec<u8>) -> Outcome
     Outcome::Shown(Shown {
         status: Status::Found,
         kind,
+        body,
+    })
+}
+
+/// The outcome of what is done as soon as it can be.
+fn accepted(body: Vec<u8>) -> Outcome
+    ensures { result ≡ Outcome.Shown (record { status = Status.Accepted; kind = ContentType.Text; body = body }) }
+{
+    Outcome::Shown(Shown {
+        status: Status::Accepted,
+        kind: ContentType::Text,
         body,
     })
 }

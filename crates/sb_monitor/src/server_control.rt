@@ -1,0 +1,101 @@
+//! What an operator may tell a server, and whether it lets clients in.
+ghost use Rattle.std.specs.Prelude.{Bool, IsTrue, ℕ};
+ghost use Rattle.sb_connection.specs.declared.first_line.SessionName.{SessionName as ItsSessionName};
+
+use crate::stop_switch::StopSwitch;
+use sb_server::{ServerMetrics, SessionName};
+use std::sync::Wait;
+use std::sync::atomic::{AtomicBool, Ordering};
+
+/// Tells a server what an operator wants, and tells of it whether it lets clients in.
+pub trait ServerControl {
+    // the worker that has this cell was told it of this session
+    ghost told: { Self → ℕ → ItsSessionName → Type 0 };
+
+    // the server was told to stop
+    ghost stopped: { Self → Type 0 };
+
+    // it answered that it lets clients in, or that it doesn't
+    ghost lets_in: { Self → Bool → Type 0 };
+
+    /// Asks the worker of this cell to end a session. False if it can't be asked.
+    fn end<T: Wait>(&self, rt: &T, cell: usize, named: SessionName) -> bool
+        ensures { IsTrue result → told self.now cell named };
+
+    /// Tells the server to stop. False if it can't be told.
+    fn stop(&self) -> bool
+        ensures { IsTrue result → stopped self.now };
+
+    /// Whether clients are let in.
+    fn is_ready(&self) -> bool
+        ensures { lets_in self.now result };
+
+    /// The descriptor whose end stops the server, or a negative number.
+    fn watched(&self) -> i32;
+
+    /// Drops what has come at that descriptor. If it has ended, the server is told to stop.
+    fn look(&self);
+}
+
+/// The workers of a server, its stop, and whether it lets clients in.
+#[derive(Drop)]
+pub struct ServerControls {
+    pub server_metrics: ServerMetrics,
+    /// None: it can't be told to stop.
+    stop_switch: Option<StopSwitch>,
+    is_ready: AtomicBool,
+}
+
+impl ServerControls {
+    /// Clients aren't let in yet.
+    pub fn new(server_metrics: ServerMetrics, stop_switch: Option<StopSwitch>) -> ServerControls {
+        ServerControls {
+            server_metrics,
+            stop_switch,
+            is_ready: AtomicBool::new(false),
+        }
+    }
+
+    /// Notes that clients are let in from now on.
+    pub fn let_in(&self) {
+        self.is_ready.store(true, Ordering::SeqCst);
+    }
+}
+
+impl ServerControl for ServerControls {
+    ghost use Rattle.std.specs.Prelude.{⊤};
+
+    ghost told = { λ _ _ _. ⊤ };
+
+    ghost stopped = { λ _. ⊤ };
+
+    ghost lets_in = { λ _ _. ⊤ };
+
+    fn end<T: Wait>(&self, rt: &T, cell: usize, named: SessionName) -> bool {
+        self.server_metrics.end_session(rt, cell, named)
+    }
+
+    fn stop(&self) -> bool {
+        match &self.stop_switch {
+            Some(stop_switch) => stop_switch.stop(),
+            None => false,
+        }
+    }
+
+    fn is_ready(&self) -> bool {
+        self.is_ready.load(Ordering::SeqCst)
+    }
+
+    fn watched(&self) -> i32 {
+        match &self.stop_switch {
+            Some(stop_switch) => stop_switch.watched(),
+            None => -1,
+        }
+    }
+
+    fn look(&self) {
+        if let Some(stop_switch) = &self.stop_switch {
+            stop_switch.look();
+        }
+    }
+}
