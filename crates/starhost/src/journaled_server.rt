@@ -5,6 +5,7 @@ ghost use Rattle.sb_durable.specs.RecordedTrails.{AreKept};
 ghost use Rattle.sb_monitor.specs.Listening.{TellsPort};
 
 use crate::fault::ProgramFault;
+use crate::housekeeping::Chore;
 use crate::server_context::{Entrance, ServerContext, ServerEnd};
 use crate::system::System;
 use sb_durable::{
@@ -13,7 +14,7 @@ use sb_durable::{
 };
 use sb_host::{Lending, Stub};
 use sb_monitor::{EventLog, Pages, StatusPort};
-use sb_server::{Admission, BackgroundTask, CommitHook, CommitStatus};
+use sb_server::{Admission, CommitHook, CommitStatus};
 use sb_wire::Sink;
 use sb_words::Syncs;
 use std::alloc::Global;
@@ -106,10 +107,11 @@ where
     H::Session: Send,
 {
     /// Makes the tenants of the journal at this path, and serves connections that are recorded in it.
-    pub(crate) fn record<A: Admission + Sync, G: BackgroundTask, W: Sink>(
+    pub(crate) fn record<A: Admission + Sync, G: Chore, W: Sink>(
         &self,
         path: &str,
         gate: Entrance<'_, '_, A, G>,
+        port: &Option<StatusPort<Pages<'_, H, A, T>>>,
         writer: &mut W,
     ) -> Result<ServerEnd, ProgramFault>
         ensures { OnOk result (TellsPort (W.contents writer.old) (W.contents writer.new)) }
@@ -119,25 +121,29 @@ where
             bound: u64::from(self.plan.bound),
         };
         let syncs = self.paths.syncs;
-        let opened = open_recorder(self.rt, self.alloc, self.host, path, syncs, head, self.log);
+        self.tell(b"STATUS=the journal is played\n");
+        let opened = self.beside(port, || {
+            open_recorder(self.rt, self.alloc, self.host, path, syncs, head, self.log)
+        });
         let (recorder, stubs) = match opened {
             Ok(restarted) => restarted,
             Err(why) => return Err(ProgramFault::Journal(why)),
         };
         if let Syncs::Second = syncs {
-            return self.record_by_seconds(path, gate, recorder, stubs, writer);
+            return self.record_by_seconds(path, gate, recorder, stubs, port, writer);
         }
         let recording = JournalHook::new(recorder, self.log, None);
-        self.serve_with(gate, &recording, stubs, writer)
+        self.serve_with(gate, &recording, stubs, port, writer)
     }
 
     /// Serves connections, and has a thread of its own sync the journal once a second.
-    fn record_by_seconds<A: Admission + Sync, G: BackgroundTask, W: Sink>(
+    fn record_by_seconds<A: Admission + Sync, G: Chore, W: Sink>(
         &self,
         path: &str,
         gate: Entrance<'_, '_, A, G>,
         recorder: Recorder<H, JournalFile<Wary>>,
         stubs: Vec<Stub>,
+        port: &Option<StatusPort<Pages<'_, H, A, T>>>,
         writer: &mut W,
     ) -> Result<ServerEnd, ProgramFault>
         ensures { OnOk result (TellsPort (W.contents writer.old) (W.contents writer.new)) }
@@ -150,11 +156,11 @@ where
             }
         };
         let recording = JournalHook::new(recorder, self.log, Some(&flusher));
-        let (listener, port) = match self.ports(gate.admission, writer) {
-            Ok(ports) => ports,
+        let listener = match self.listen(writer) {
+            Ok(listener) => listener,
             Err(why) => return Err(why),
         };
-        let served = self.serve_beside(&flusher, (&listener, &port), gate, &recording, stubs);
+        let served = self.serve_beside(&flusher, (&listener, port), gate, &recording, stubs);
         if flusher.has_failed() {
             return Err(ProgramFault::Journal(JournalFault::Failed));
         }
@@ -162,7 +168,7 @@ where
     }
 
     /// Serves the connections of this port while a thread syncs the journal.
-    fn serve_beside<A: Admission + Sync, G: BackgroundTask, K: CommitHook + Sync>(
+    fn serve_beside<A: Admission + Sync, G: Chore, K: CommitHook + Sync>(
         &self,
         flusher: &Flusher<'k, EventLog<'k, T>>,
         ports: (&TcpListener, &Option<StatusPort<Pages<'_, H, A, T>>>),

@@ -3,12 +3,14 @@ ghost use Rattle.std.specs.Prelude.{◌≡◌, OnOk};
 ghost use Rattle.sb_monitor.specs.Listening.{TellsPort};
 
 use crate::fault::ProgramFault;
+use crate::housekeeping::Chore;
 use crate::part_faults::unread;
 use crate::server_context::{Entrance, ServerContext, ServerEnd};
 use crate::system::System;
-use sb_host::{Lending, Stub};
-use sb_keys::{AnyFiles, KeyFile, KeyFiles, KeyList, KeySource, KeyWatch, keys_at, tell_no_keys};
-use sb_server::{BackgroundTask, ShutdownSignal};
+use sb_host::Lending;
+use sb_keys::{
+    AnyFiles, KeyFile, KeyFiles, KeyList, KeySource, KeyWatch, Look, keys_at, tell_no_keys,
+};
 use sb_wire::Sink;
 use sb_words::Log;
 use std::sync::Wait;
@@ -19,16 +21,15 @@ struct KeyTask<'p, 'l, 'k, L: KeyFiles, S, O> {
     watch: KeyWatch<'p, 'l, 'k, L, S, O>,
 }
 
-impl<'p, 'l, 'k, L: KeyFiles, S: KeySource<L>, O: Log> BackgroundTask
-    for KeyTask<'p, 'l, 'k, L, S, O> {
-    fn run<R: Wait>(&self, rt: &R, over: &ShutdownSignal) {
-        let mut last = self.watch.first();
-        for _ in rt.forever() {
-            if !over.lasts(rt) {
-                return;
-            }
-            last = self.watch.look(rt, last);
-        }
+impl<'p, 'l, 'k, L: KeyFiles, S: KeySource<L>, O: Log> Chore for KeyTask<'p, 'l, 'k, L, S, O> {
+    type Seen = Look;
+
+    fn first(&self) -> Look {
+        self.watch.first()
+    }
+
+    fn look<R: Wait>(&self, rt: &R, last: Look) -> Look {
+        self.watch.look(rt, last)
     }
 }
 
@@ -40,13 +41,12 @@ where
     pub(crate) fn with_keys<W: Sink>(
         &self,
         path: &str,
-        loaded: Vec<Stub>,
         writer: &mut W,
     ) -> Result<ServerEnd, ProgramFault>
         ensures { OnOk result (TellsPort (W.contents writer.old) (W.contents writer.new)) }
     {
         let file = KeyFile { rt: self.rt, path };
-        self.with_lists::<AnyFiles, KeyFile<'_, '_, T>, W>(file, path, loaded, writer)
+        self.with_lists::<AnyFiles, KeyFile<'_, '_, T>, W>(file, path, writer)
     }
 
     /// Serves clients that bring a key of the newest list of this source.
@@ -54,7 +54,6 @@ where
         &self,
         source: S,
         path: &str,
-        loaded: Vec<Stub>,
         writer: &mut W,
     ) -> Result<ServerEnd, ProgramFault>
         ensures { OnOk result (TellsPort (W.contents writer.old) (W.contents writer.new)) }
@@ -73,8 +72,8 @@ where
         };
         let gate = Entrance {
             admission: &list,
-            beside: &task,
+            chore: &task,
         };
-        self.admit(gate, loaded, writer)
+        self.admit(gate, writer)
     }
 }

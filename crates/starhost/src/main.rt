@@ -3,6 +3,7 @@
 
 mod fault;
 mod host_end;
+mod housekeeping;
 mod journaled_server;
 mod keys;
 mod loaded_run;

@@ -14,7 +14,7 @@ use crate::part_faults::unheard;
 use crate::terms::{Plan, plan_of};
 use sb_durable::JournalFault;
 use sb_host::{Host, Naming, Opened};
-use sb_monitor::{EventLog, listen};
+use sb_monitor::{EventLog, Supervisor, listen};
 use sb_server::{
     Admission, CommitHook, NoBackgroundTask, NoJournal, Open, ServeError, ServerConfig,
     ServerMetrics, Watch, serve_all,
@@ -24,7 +24,7 @@ use sb_words::ServerOptions;
 use std::alloc::{AllocError, Global};
 use std::marker::Brand;
 use std::net::{Net, TcpListener, TcpStream};
-use std::rt::Clock;
+use std::rt::{Clock, Env};
 use std::sync::Wait;
 use std::thread::Threads;
 
@@ -32,7 +32,13 @@ pub(crate) const OUT_OF_MEMORY: ProgramFault = ProgramFault::Stream(StreamError:
 
 /// Serves connections over TCP on this machine, until the last one has ended.
 pub(crate) fn serve<
-    T: Threads + Wait + Net<Listener = TcpListener, Stream = TcpStream> + Eprint + Clock + Sync,
+    T: Threads
+        + Wait
+        + Net<Listener = TcpListener, Stream = TcpStream>
+        + Eprint
+        + Clock
+        + Env
+        + Sync,
     W: Sink,
 >(rt: &T, alloc: Global, serving: ServerOptions, writer: &mut W) -> Result<(), ProgramFault>
     requires { AreServer serving }
@@ -64,7 +70,13 @@ pub(crate) fn opened_by(alloc: Global, plan: Plan) -> Result<Opened, AllocError>
 /// Serves a host of these parts.
 fn serve_host<
     N: Naming + Send + Sync,
-    T: Threads + Wait + Net<Listener = TcpListener, Stream = TcpStream> + Eprint + Clock + Sync,
+    T: Threads
+        + Wait
+        + Net<Listener = TcpListener, Stream = TcpStream>
+        + Eprint
+        + Clock
+        + Env
+        + Sync,
     W: Sink,
 >(rt: &T, alloc: Global, opened: Opened, plan: Plan, writer: &mut W) -> Result<(), ProgramFault>
     requires named { AreNames N.table N.tenants N.cells N.bound N.name N.parts opened }
@@ -92,6 +104,9 @@ fn serve_host<
         server_metrics: &server_metrics,
         terms: plan.terms,
     };
+    if let Some(supervisor) = Supervisor::find(rt) {
+        supervisor.tell(b"READY=1\nSTATUS=clients are let in\n");
+    }
     serve_by(rt, alloc, &config, host, writer)
 }
 

@@ -8,18 +8,22 @@ ghost use Rattle.sb_words.specs.Within.{AreServer};
 
 use crate::fault::ProgramFault;
 use crate::host_end::finish;
+use crate::housekeeping::{Chore, Housekeeping, LongStop, NoChore};
 use crate::part_faults::{of_backup, unheard};
 use crate::server::{OUT_OF_MEMORY, opened_by, unserved};
 use crate::system::System;
 use crate::terms::{Plan, plan_of};
 use sb_backup::{
-    BackupError, Folder, FolderLock, FolderScripts, ScriptFiles, load_folder, save_all,
+    BackupError, Folder, FolderLock, FolderScripts, ScriptFiles, TenantSaver, load_folder,
 };
 use sb_host::{Host, Lending, Naming, Opened, Stub};
-use sb_monitor::{EventLog, Pages, StatusPort, listen, memory_file, serve_beside};
+use sb_monitor::{
+    EventLog, Pages, ServerControls, StatusPort, StopSwitch, Supervisor, listen, memory_file,
+    serve_beside, work_beside,
+};
 use sb_server::{
-    Admission, BackgroundTask, CommitHook, NoBackgroundTask, NoJournal, Open, ServerConfig,
-    ServerMetrics, serve_all,
+    Admission, BackgroundTask, CommitHook, NoJournal, Open, ServeError, ServerConfig,
+    ServerMetrics, Terms, serve_all,
 };
 use sb_wire::Sink;
 use sb_words::{Paths, ServerOptions};
@@ -66,10 +70,15 @@ fn keep_host<N: Naming + Send + Sync, T: System + Sync, W: Sink>(
     let Ok(host) = Host::<N>::new(alloc, opened) else {
         return Err(OUT_OF_MEMORY);
     };
+    let stop_switch = match stop_switch_of(rt, plan) {
+        Ok(stop_switch) => stop_switch,
+        Err(why) => return Err(why),
+    };
     let log = EventLog::new(rt, plan.log);
     let Some(server_metrics) = server_metrics_of(rt, alloc, plan) else {
         return Err(OUT_OF_MEMORY);
     };
+    let controls = ServerControls::new(server_metrics, stop_switch);
     let server_context = ServerContext {
         rt,
         alloc,
@@ -77,13 +86,25 @@ fn keep_host<N: Naming + Send + Sync, T: System + Sync, W: Sink>(
         plan,
         paths,
         log: &log,
-        server_metrics: &server_metrics,
+        controls: &controls,
+        supervisor: Supervisor::find(rt),
     };
     let served = match server_context.serve(writer) {
         Ok(served) => served,
         Err(why) => return Err(why),
     };
     finish_served(alloc, host, plan.terms.first_tenant, served, writer)
+}
+
+/// The stop of a server with status pages, which takes the place of its standard input.
+fn stop_switch_of<T: System>(rt: &T, plan: Plan) -> Result<Option<StopSwitch>, ProgramFault> {
+    if plan.status.is_none() {
+        return Ok(None);
+    }
+    match StopSwitch::take_place(rt, plan.terms.until_input_ends) {
+        Ok(stop_switch) => Ok(Some(stop_switch)),
+        Err(_) => Err(ProgramFault::CannotWait),
+    }
 }
 
 /// The metrics of the workers. None without memory.
@@ -129,16 +150,18 @@ pub(crate) struct ServerContext<'k, H, T> {
     pub(crate) plan: Plan,
     pub(crate) paths: Paths<'k>,
     pub(crate) log: &'k EventLog<'k, T>,
-    pub(crate) server_metrics: &'k ServerMetrics,
+    pub(crate) controls: &'k ServerControls,
+    /// Who has started it, if it wants to hear of it.
+    pub(crate) supervisor: Option<Supervisor>,
     ghost bound: { plan.bound ≤ 1000 },
     ghost workers: { (0 < plan.terms.workers) × (plan.terms.workers ≤ 16) },
 }
 
-/// The admission of a server, and its background task.
+/// The admission of a server, and what is looked at for it.
 #[derive(Drop)]
 pub(crate) struct Entrance<'a, 'g, A, G> {
     pub(crate) admission: &'a A,
-    pub(crate) beside: &'g G,
+    pub(crate) chore: &'g G,
 }
 
 /// The result of serving.
@@ -162,75 +185,105 @@ where
             Ok(lock) => lock,
             Err(why) => return Err(ProgramFault::Backup(why)),
         };
-        let loaded = match self.prepare() {
-            Ok(stubs) => stubs,
-            Err(why) => return Err(ProgramFault::Backup(why)),
-        };
         match self.paths.keys {
-            Some(path) => self.with_keys(path, loaded, writer),
+            Some(path) => self.with_keys(path, writer),
             None => {
-                let gate = Entrance::<Open, NoBackgroundTask> {
+                let gate = Entrance::<Open, NoChore> {
                     admission: &Open,
-                    beside: &NoBackgroundTask,
+                    chore: &NoChore,
                 };
-                self.admit(gate, loaded, writer)
+                self.admit(gate, writer)
             }
         }
     }
 
-    /// Serves the clients of this admission, with a journal if one is asked for.
-    pub(crate) fn admit<A: Admission + Sync, G: BackgroundTask, W: Sink>(
+    /// Listens at the status port, if one is asked for, and serves the clients of this admission, with a journal if one
+    /// is asked for.
+    pub(crate) fn admit<A: Admission + Sync, G: Chore, W: Sink>(
         &self,
         gate: Entrance<'_, '_, A, G>,
-        loaded: Vec<Stub>,
         writer: &mut W,
     ) -> Result<ServerEnd, ProgramFault>
         ensures { OnOk result (TellsPort (W.contents writer.old) (W.contents writer.new)) }
     {
+        let port = match self.status_port(gate.admission) {
+            Ok(port) => port,
+            Err(why) => return Err(why),
+        };
         match self.paths.journal {
-            Some(path) => self.record(path, gate, writer),
-            None => self.serve_with(gate, &NoJournal, loaded, writer),
+            Some(path) => self.record(path, gate, &port, writer),
+            None => self.serve_loaded(gate, &port, writer),
+        }
+    }
+
+    /// Makes the tenants from files, if that is asked for, and serves the clients of this admission.
+    fn serve_loaded<A: Admission + Sync, G: Chore, W: Sink>(
+        &self,
+        gate: Entrance<'_, '_, A, G>,
+        port: &Option<StatusPort<Pages<'_, H, A, T>>>,
+        writer: &mut W,
+    ) -> Result<ServerEnd, ProgramFault>
+        ensures { OnOk result (TellsPort (W.contents writer.old) (W.contents writer.new)) }
+    {
+        match self.beside(port, || self.prepare()) {
+            Ok(loaded) => self.serve_with(gate, &NoJournal, loaded, port, writer),
+            Err(why) => Err(ProgramFault::Backup(why)),
+        }
+    }
+
+    /// Does some work while the status port, if there is one, tells that clients aren't let in yet.
+    pub(crate) fn beside<A: Admission + Sync, X, F: FnOnce() -> X>(
+        &self,
+        port: &Option<StatusPort<Pages<'_, H, A, T>>>,
+        work: F,
+    ) -> X
+        requires { F.pre work }
+        ensures { F.post work result }
+    {
+        match port {
+            Some(port) => work_beside(self.rt, port, work),
+            None => work(),
         }
     }
 
     /// Serves the clients of this admission with this commit hook. After the last connection the tenants are written to
     /// their files.
-    pub(crate) fn serve_with<A: Admission + Sync, G: BackgroundTask, K: CommitHook + Sync, W: Sink>(
+    pub(crate) fn serve_with<A: Admission + Sync, G: Chore, K: CommitHook + Sync, W: Sink>(
         &self,
         gate: Entrance<'_, '_, A, G>,
         commit_hook: &K,
         loaded: Vec<Stub>,
+        port: &Option<StatusPort<Pages<'_, H, A, T>>>,
         writer: &mut W,
     ) -> Result<ServerEnd, ProgramFault>
         ensures { OnOk result (TellsPort (W.contents writer.old) (W.contents writer.new)) }
     {
-        match self.ports(gate.admission, writer) {
-            Ok((listener, port)) => self.serve_at(&listener, &port, gate, commit_hook, loaded),
+        match self.listen(writer) {
+            Ok(listener) => self.serve_at(&listener, port, gate, commit_hook, loaded),
             Err(why) => Err(why),
         }
     }
 
-    /// Listens at the status port, if one is asked for, and at the server's. Writes the port.
-    pub(crate) fn ports<'a, A: Admission, W: Sink>(
-        &'a self,
-        admission: &'a A,
-        writer: &mut W,
-    ) -> Result<(TcpListener, Option<StatusPort<Pages<'a, H, A, T>>>), ProgramFault>
+    /// Listens at the server's port, and writes it.
+    pub(crate) fn listen<W: Sink>(&self, writer: &mut W) -> Result<TcpListener, ProgramFault>
         ensures { OnOk result (TellsPort (W.contents writer.old) (W.contents writer.new)) }
     {
-        match self.status_port(admission) {
-            Ok(port) => {
-                match listen(self.rt, self.alloc, self.plan.address, self.log, writer) {
-                    Ok(listener) => Ok((listener, port)),
-                    Err(why) => Err(unheard(why)),
-                }
-            }
-            Err(why) => Err(why),
+        match listen(self.rt, self.alloc, self.plan.address, self.log, writer) {
+            Ok(listener) => Ok(listener),
+            Err(why) => Err(unheard(why)),
         }
     }
 
-    /// Serves the connections of this port, and status pages at the other one.
-    pub(crate) fn serve_at<A: Admission + Sync, G: BackgroundTask, K: CommitHook + Sync>(
+    /// Tells whoever has started the server, if it wants to hear of it.
+    pub(crate) fn tell(&self, lines: &[u8]) {
+        if let Some(supervisor) = &self.supervisor {
+            supervisor.tell(lines);
+        }
+    }
+
+    /// Serves the connections of this port, and status pages at the other one. Behind the last connection the tenants
+    /// are written, if that is asked for.
+    pub(crate) fn serve_at<A: Admission + Sync, G: Chore, K: CommitHook + Sync>(
         &self,
         listener: &TcpListener,
         port: &Option<StatusPort<Pages<'_, H, A, T>>>,
@@ -238,30 +291,74 @@ where
         commit_hook: &K,
         loaded: Vec<Stub>,
     ) -> Result<ServerEnd, ProgramFault> {
+        let Ok(saver) = self.saver() else {
+            return Err(OUT_OF_MEMORY);
+        };
         let config = ServerConfig {
             listener,
             watch: self.log,
             admission: gate.admission,
             commit_hook,
-            server_metrics: self.server_metrics,
-            terms: self.plan.terms,
+            server_metrics: &self.controls.server_metrics,
+            terms: self.terms(),
         };
-        let served = match port {
-            Some(port) => {
-                serve_beside(self.rt, self.alloc, &config, self.host, port, gate.beside)
-            }
-            None => serve_all(self.rt, self.alloc, &config, self.host, gate.beside),
+        let housekeeping = Housekeeping {
+            chore: gate.chore,
+            long_stop: self.long_stop(&saver, listener),
         };
-        let stubs = match served {
+        let stubs = match self.serve_config(&config, port, &housekeeping) {
             Ok(stubs) => stubs,
             Err(error) => return Err(unserved(error)),
         };
         match together(loaded, stubs) {
             Ok(stubs) => Ok(ServerEnd {
                 stubs,
-                saved: self.save(),
+                saved: self.save(&saver),
             }),
             Err(_) => Err(OUT_OF_MEMORY),
+        }
+    }
+
+    /// Serves by this configuration, with the status port if there is one.
+    fn serve_config<A: Admission + Sync, G: BackgroundTask, K: CommitHook + Sync>(
+        &self,
+        config: &ServerConfig<'_, EventLog<'k, T>, A, K>,
+        port: &Option<StatusPort<Pages<'_, H, A, T>>>,
+        housekeeping: &G,
+    ) -> Result<Vec<Stub>, ServeError>
+        requires { (0 < config.now.terms.workers) × (config.now.terms.workers ≤ 16) }
+    {
+        self.controls.let_in();
+        self.tell(b"READY=1\nSTATUS=clients are let in\n");
+        match port {
+            Some(port) => serve_beside(self.rt, self.alloc, config, self.host, port, housekeeping),
+            None => serve_all(self.rt, self.alloc, config, self.host, housekeeping),
+        }
+    }
+
+    /// The terms of the server. With a status port its input is the stop's.
+    fn terms(&self) -> Terms
+        ensures { result.workers ≡ self.now.plan.terms.workers }
+    {
+        Terms {
+            until_input_ends: self.plan.terms.until_input_ends || self.plan.status.is_some(),
+            ..self.plan.terms
+        }
+    }
+
+    /// What is done where the stop takes long: without a journal tenants are written that are at rest. A port that is
+    /// closed behind some connections doesn't tell of a stop.
+    fn long_stop<'s>(
+        &self,
+        saver: &'s Option<TenantSaver<'k, 'k, T, EventLog<'k, T>>>,
+        listener: &'s TcpListener,
+    ) -> Option<LongStop<'s, 'k, 'k, H, T, EventLog<'k, T>>> {
+        if self.paths.journal.is_some() || self.plan.terms.connections > 0 {
+            return None;
+        }
+        match saver {
+            Some(saver) => Some(LongStop::new(saver, self.host, listener)),
+            None => None,
         }
     }
 
@@ -290,8 +387,8 @@ where
             bound: self.plan.bound,
             began: Instant::now(self.rt).ok(),
             memory: memory_file(self.rt),
-            server_metrics: self.server_metrics,
-            ender: self.server_metrics,
+            server_metrics: &self.controls.server_metrics,
+            control: self.controls,
         }
     }
 
@@ -316,19 +413,29 @@ where
         load_folder(self.alloc, self.host, &scripts)
     }
 
+    /// What writes the tenants to their files, if that is asked for.
+    fn saver(&self) -> Result<Option<TenantSaver<'k, 'k, T, EventLog<'k, T>>>, AllocError> {
+        let Some(path) = self.paths.dump_to else {
+            return Ok(None);
+        };
+        let files = ScriptFiles {
+            rt: self.rt,
+            alloc: self.alloc,
+            bound: self.plan.bound,
+            folder: folder_at(self.plan, path),
+            log: self.log,
+        };
+        Ok(Some(TenantSaver::new(files, self.host.tenants())?))
+    }
+
     /// Writes the tenants to their files, if that is asked for.
-    fn save(&self) -> Result<(), ProgramFault> {
-        match self.paths.dump_to {
-            Some(path) => {
-                let files = ScriptFiles {
-                    rt: self.rt,
-                    alloc: self.alloc,
-                    bound: self.plan.bound,
-                    folder: folder_at(self.plan, path),
-                    log: self.log,
-                };
-                of_backup(save_all(&files, self.host))
-            }
+    fn save(
+        &self,
+        saver: &Option<TenantSaver<'k, 'k, T, EventLog<'k, T>>>,
+    ) -> Result<(), ProgramFault> {
+        self.tell(b"STOPPING=1\nSTATUS=the tenants are written\n");
+        match saver {
+            Some(saver) => of_backup(saver.save_all(self.rt, self.host)),
             None => Ok(()),
         }
     }

@@ -2,16 +2,17 @@
 
 use std::fs::File;
 use std::net::{Net, TcpListener, TcpStream};
-use std::rt::{Clock, Files};
+use std::rt::{Clock, Env, Files};
 use std::sync::Wait;
 use std::thread::Threads;
 
-/// A system with threads, sockets, files, a clock and a standard error.
+/// A system with threads, sockets, files, a clock, an environment and a standard error.
 pub trait System: Threads
     + Wait
     + Net<Listener = TcpListener, Stream = TcpStream>
     + Eprint
     + Clock
+    + Env
     + Files<File = File> {}
 
 impl<
@@ -20,5 +21,6 @@ impl<
         + Net<Listener = TcpListener, Stream = TcpStream>
         + Eprint
         + Clock
+        + Env
         + Files<File = File>,
 > System for T {}
