@@ -190,7 +190,7 @@ class Player:
             pathlib.Path(room, "lines").write_text("5 0 open\n5 0 create table t (a int)\n5 0 begin\n5 0 insert into t values (7)\n5 0 commit\n5 0 end\n")
             pathlib.Path(room, "more").write_text("5 1 open\n5 1 begin\n5 1 select * from t\n5 1 end\n")
             os.mkdir(f"{room}/FOLDER")
-            serve, upgrade, dump, key, capped = shells
+            serve, caught, upgrade, dump, key, capped = shells
             self.shell(room, dump)
             self.need(pathlib.Path(room, "5.lines").read_text().startswith("create table t"), "docs/OPERATING.md: a dump")
             if shutil.which("nc"):
@@ -203,6 +203,7 @@ class Player:
                     self.backup(room, page, sent)
             else:
                 print("what pages print: no nc on this machine")
+            self.caught_signal(room, caught)
             self.new_key(room, key)
             for span in ("starhost dump --into FOLDER < lines", "starhost run --load FOLDER < more"):
                 self.need(f"`{span}`" in page, f"docs/OPERATING.md: {span}")
@@ -218,6 +219,22 @@ class Player:
             self.unit(room, next(text for kind, text in blocks_of("docs/OPERATING.md") if kind == "ini"))
         # the configuration of Prometheus is its own program's to read
         self.played |= {*shells, *(text for kind, text in blocks_of("docs/OPERATING.md") if kind in ("ini", "yaml"))}
+
+    def caught_signal(self, room, text):
+        """A shell that catches a signal ends its server, which then writes its tenants."""
+        words = text.replace(BUILT, self.program).replace("--port 7411", "--port 0")
+        with subprocess.Popen(["sh", "-c", words], cwd=room, stdout=subprocess.PIPE, stderr=subprocess.PIPE, text=True) as shell:
+            port = int(shell.stdout.readline().split()[1])
+            with socket.create_connection(("127.0.0.1", port), timeout=60) as stream:
+                stream.sendall(b"5 0\ncreate table t (a int)\n")
+                told = stream.makefile("rb")
+                self.need([told.readline(), told.readline()] == [b"ok\n", b"ok\n"], "docs/OPERATING.md: a server that a shell stops")
+                shell.terminate()
+                out, errors = shell.communicate(timeout=60)
+        ended = shell.returncode, out.startswith("trails 16 steps "), pathlib.Path(room, "stop").exists()
+        self.need(ended == (0, True, False), f"docs/OPERATING.md: {ended}: {errors[-300:]}")
+        self.need(pathlib.Path(room, "tenants/5.lines").read_text() == "create table t (a int)\n", "docs/OPERATING.md: its tenants")
+        shutil.rmtree(pathlib.Path(room, "tenants"))
 
     def new_key(self, room, text):
         """The key that a page makes opens its tenant, and no other one does."""
@@ -241,6 +258,7 @@ class Player:
         self.need(pathlib.Path(room, "asked").read_bytes() == pathlib.Path(room, "5.lines").read_bytes(), f"docs/OPERATING.md: {asked}")
 
     def unit(self, room, text):
+        self.need((TOP / "examples/filgwesha.service").read_text("ascii") == text, "examples/filgwesha.service: another unit than docs/OPERATING.md has")
         if not shutil.which("systemd-analyze"):
             print("what pages print: no systemd-analyze on this machine")
             return

@@ -6,8 +6,8 @@
 PROGRAM is crates/starhost/out/starhost where no word is given. Told in one line each: the pages of a small tenant and the
 samples, byte by byte as bench/tests/status_pages has them (numbers that vary are written as N); what Prometheus' `promtool` says
 of the samples, where it is installed; what is counted; how old a session's last line is, and the server; slow lines; a page
-while a step runs; a session that is ended; hostile requests, and silent connections while a client of the server goes on;
-whom keys let in. The first thing that isn't as it is to be ends this with status 1; what has a bound on time is tried up to
+while a step runs; a session that is ended; requests of other sites, and those that name another machine; hostile requests, and
+silent connections while a client of the server goes on; half requests beside which others are answered; whom keys let in. The first thing that isn't as it is to be ends this with status 1; what has a bound on time is tried up to
 three times, and each miss is told. With --write the files of bench/tests/status_pages are written anew, and with --shots a
 headless Chromium draws the pages to that folder.
 """
@@ -79,8 +79,8 @@ def soon(what, ask, wanted):
 class Server(Program):
     """A server with status pages."""
 
-    def __init__(self, program, *words):
-        super().__init__(program, "--tenants", "16", "--status", "0", *words)
+    def __init__(self, program, *words, **given):
+        super().__init__(program, "--tenants", "16", "--status", "0", *words, **given)
         self.status = self.status_port
 
     def client(self, first):
@@ -136,9 +136,9 @@ class Server(Program):
                 pass
         return answer, (sent or time.monotonic()) > began + LATE
 
-    def get(self, path, method="GET", user=None, key=None, header=""):
+    def get(self, path, method="GET", user=None, key=None, header="", host="127.0.0.1"):
         """The status and the body of a page, whose length and end are as they are to be."""
-        head = f"{method} {path} HTTP/1.1\r\nHost: here\r\n{header}"
+        head = f"{method} {path} HTTP/1.1\r\nHost: {host}\r\n{header}"
         if user is not None:
             head += f"Authorization: Basic {base64.b64encode(f'{user}:{key}'.encode()).decode()}\r\n"
         answer = self.raw(f"{head}\r\n".encode(), whole=False)
@@ -418,6 +418,7 @@ def ends(program):
     path = "/tenants/1/sessions/3/end"
     expect("GET of an end", server.get(path)[0], 405)
     expect("an end from a page", server.get(path, method="POST", header="Origin: http://127.0.0.1\r\n")[0], 403)
+    expect("GET of a stop", server.get("/stop")[0], 405)
     for missing in ("/tenants/1/sessions/5/end", "/tenants/1/sessions/8/end", "/tenants/16/sessions/0/end", "/tenants/1/sessions/3/", "/tenants/1/sessions/33/end"):
         expect(missing, server.get(missing, method="POST")[0] in (404, 405), True)
     before = server.sample('filgwesha_tenant_steps_total{tenant="1"}')
@@ -432,6 +433,65 @@ def ends(program):
     until("it is told", lambda: "ended by an operator: tenant 1, session 3" in server.told())
     server.stop()
     print("an end: its connection is closed, its transaction is gone, and others go on")
+
+
+HERE = ["127.0.0.1", "127.0.0.1:{port}", "localhost", "localhost:1", "localhost:", "[::1]", "[::1]:{port}"]
+ELSEWHERE = ["", "LOCALHOST", "rebound.example", "rebound.example:{port}", "127.0.0.1.rebound.example", "localhost.", "localhost:80x", "[::1", "x[::1]", "0.0.0.0:{port}"]
+# what a browser tells of who asks
+OTHERS = ["Origin: http://other.example", "Origin: null", "Origin: http://127.0.0.1:1", "Sec-Fetch-Site: cross-site", "Sec-Fetch-Site: same-site", "sec-fetch-site: x"]
+OWN = ["Sec-Fetch-Site: none", "Sec-Fetch-Site: same-origin", "SEC-FETCH-SITE: none"]
+EACH = [("/", "GET"), ("/metrics", "GET"), ("/tenants/0", "HEAD"), ("/tenants/0/dump", "GET"), ("/tenants/0/sessions/0/end", "POST"), ("/ready", "GET"), ("/stop", "POST"), ("/nowhere", "GET")]
+
+
+def strangers(program):
+    """Who names another machine, or comes from a page of another site, gets one line and nothing else, and does nothing."""
+    server = Server(program)
+    stream, file, reply = server.client("0 0")
+    for host in HERE:
+        expect(f"host {host}", server.get("/metrics", host=host.format(port=server.status))[0], 200)
+    for path, method in EACH:
+        for host in ELSEWHERE:
+            told = server.get(path, method, host=host.format(port=server.status))
+            expect(f"{path} for host {host!r}", told, (403, b"" if method == "HEAD" else b"ask by 127.0.0.1, [::1] or localhost\n"))
+        for header in OTHERS:
+            told = server.get(path, method, header=f"{header}\r\n")
+            expect(f"{path} with {header}", told, (403, b"" if method == "HEAD" else b"not from a page of another site\n"))
+    for header in OWN:
+        expect(f"a page with {header}", server.get("/tenants/0", header=f"{header}\r\n")[0], 200)
+    expect("a request that names nobody", server.raw(b"GET /metrics HTTP/1.0\r\n\r\n")[9:12], b"200")
+    expect("a session that nobody has ended", say(file, "begin"), "ok\n")
+    stream.close()
+    file.close()
+    server.stop()
+    print(f"strangers: {len(EACH) * (len(ELSEWHERE) + len(OTHERS))} requests from elsewhere got one line; {len(HERE)} names of this machine are known")
+
+
+def half_requests(program, most):
+    """A thousand connections with half a request each: pages and ends of sessions are answered all the same, in so many
+    seconds at most."""
+    server = Server(program)
+    stream, file, reply = server.client("1 0")
+    count = min(1_000, resource.getrlimit(resource.RLIMIT_NOFILE)[0] - 100)
+    halves = [server.stand_silent() for _ in range(count)]
+    for half in halves:
+        try:
+            half.sendall(b"GET /metrics HTTP/1.1\r\nHost: 127.0.0.1\r\n")
+        except OSError:  # its place was given to another one
+            pass
+    took = []
+    for path, method, status in [("/metrics", "GET", 200), ("/tenants/1/sessions/0/end", "POST", 202), ("/", "GET", 200)]:
+        asked = time.monotonic()
+        expect(f"{path} beside half requests", server.get(path, method)[0], status)
+        took.append(time.monotonic() - asked)
+    for half in halves:
+        half.close()
+    expect("its connection", file.read(), "")
+    stream.close()
+    file.close()
+    server.stop()
+    if max(took) > most:
+        sys.exit(f"beside {count} half requests pages took {took} and are to take {most} s at most")
+    print(f"half requests: beside {count} of them a page or an end is answered in {max(took) * 1000:.0f} ms at most")
 
 
 def hostile_requests(server):
@@ -467,7 +527,8 @@ def inserts(file, count):
 
 
 def hostile(program, longer):
-    """Hostile requests, and silent connections, for each of which the status port waits half a second, but no client does."""
+    """Hostile requests, and silent connections, each of which the status port lets go in half a second, and for which no
+    client waits."""
     server = Server(program)
     requests = hostile_requests(server)
     stream, file, reply = server.client("1 0")
@@ -537,6 +598,8 @@ def main():
         ages(asked.program)
         trial(slow, asked.program)
         ends(asked.program)
+        strangers(asked.program)
+        tried(half_requests, [(asked.program, most) for most in (1, 1, 2)], Server.kill_all)
         trial(hostile, asked.program)
         keys(asked.program)
     finally:
