@@ -1,5 +1,5 @@
 -- Promise: what is written of the tenants of a host, and by which names.
-use Rattle.std.specs.Prelude.{◌≡◌, ◌≢◌, ◌⊎◌, ◌≤◌, ◌++◌, ℕ, true, length, List, [], codes, decimal}
+use Rattle.std.specs.Prelude.{◌≡◌, ◌⊎◌, ◌≤◌, ◌++◌, ℕ, true, List, [], codes, decimal}
 use Rattle.sb_dump.specs.Dumps.{Dumps, is_busy}
 use Rattle.sb_dump.specs.declared.dumps.DumpError.{DumpError}
 use Rattle.sb_dump.specs.declared.dumps.DumpError.TheVariants.{Busy}
@@ -9,7 +9,6 @@ use Rattle.sb_backup.specs.Dumps.{script_text, undumped_as}
 use Rattle.sb_backup.specs.declared.error.BackupError.{BackupError}
 use Rattle.sb_backup.specs.declared.error.BackupError.TheVariants.{CannotWrite, Stream}
 use Rattle.sb_backup.specs.declared.host_dump.NotedScript.{NotedScript}
-use Rattle.sb_backup.specs.declared.host_dump.ScriptNotes.{ScriptNotes}
 use Rattle.sb_backup.specs.declared.host_dump.NotedScript.TheVariants as noted
 
 -- a file of the tenant with a number, in a folder, by the ending of its name
@@ -21,12 +20,6 @@ abbrev pub IsNotedOf : ℕ → Tenant → NotedScript → Type 0
 IsNotedOf bound own noted.Unused = own.trail ≡ []
 IsNotedOf bound own (noted.Script script) = Dumps bound own script
 IsNotedOf bound own (noted.Lacking why) = why ≡ Busy → is_busy (state own) ≡ true
-
--- of a tenant that has as many steps as are known nothing more is noted; of another one what it has, and how many steps
-abbrev pub IsNoted : ℕ → ScriptNotes → Tenant → ℕ → ScriptNotes → Type 0
-IsNoted known old own steps new =
-    (steps ≡ length own.trail) × (steps ≡ known → new ≡ old)
-    × ((steps ≢ known) → old.noted ≡ noted.Unused → IsNotedOf old.bound own new.noted)
 
 -- its script isn't in its file: it has none, for this reason, or the file can't be written, or memory ran out
 abbrev pub IsUnsaved : ℕ → BackupError → Type 0

@@ -25,7 +25,7 @@ pub(crate) struct NewerNotes {
 }
 
 impl Reading for NewerNotes {
-    ghost use Rattle.sb_backup.specs.HostDumps.{IsNoted};
+    ghost use Rattle.sb_backup.specs.NewerNotes.{IsNoted};
 
     ghost reads = { λ old own new. IsNoted old.known old.notes own new.steps new.notes };
 
