@@ -45,7 +45,7 @@ impl<'r, T: Eprint + Clock> EventLog<'r, T> {
         }
     }
 
-    /// Whether no slow line was logged in this second yet.
+    /// True if no slow line was logged in this second yet.
     fn may_tell_slow(&self) -> bool {
         let second = match (self.began, Instant::now(self.rt)) {
             (Some(began), Ok(now)) => now.duration_since(began).as_secs().saturating_add(1),
@@ -139,7 +139,7 @@ fn level_of(severity: Severity) -> Level {
     }
 }
 
-/// Whether standard error takes a line without blocking. A pipe with room has enough for a line of each worker.
+/// True if standard error takes a line without blocking. A pipe with room has enough for a line of each worker.
 fn has_room() -> bool {
     let mut waits = [pollfd {
         fd: STANDARD_ERROR,

@@ -70,17 +70,17 @@ impl HttpConnection {
         self.stream.as_raw_fd()
     }
 
-    /// Whether its request isn't whole.
+    /// True if its request isn't whole.
     pub(crate) fn is_asking(&self) -> bool {
         matches!(self.progress, Progress::Asking(_))
     }
 
-    /// Whether a part of its answer waits.
+    /// True if a part of its answer waits.
     pub(crate) fn is_answering(&self) -> bool {
         matches!(self.progress, Progress::Answering(_))
     }
 
-    /// Whether it takes longer than it may.
+    /// True if it takes longer than it may.
     pub(crate) fn is_late(&self, now: Instant) -> bool {
         let Some(since) = self.since else {
             return false;
@@ -204,7 +204,7 @@ fn write_some(mut stream: &TcpStream, rest: &[u8]) -> io::Result<usize>
     stream.write(rest)
 }
 
-/// Whether the client lets a call wait.
+/// True if the client lets a call wait.
 fn is_waiting(error: &io::Error) -> bool {
     matches!(error.kind(), ErrorKind::WouldBlock | ErrorKind::Interrupted)
 }

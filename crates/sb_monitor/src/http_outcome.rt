@@ -157,7 +157,7 @@ fn not_ready(alloc: Global, has_body: bool) -> Result<Vec<u8>, AllocError>
     Ok(answer)
 }
 
-/// Whether the answer to a request has a body.
+/// True if the answer to a request has a body.
 pub(crate) fn has_body(request: &Request<'_>) -> bool
     ensures { result ≡ has_body request.now }
 {

@@ -54,7 +54,7 @@ pub fn listen<T: Net<Listener = TcpListener, Stream = TcpStream>, O: Log, W: Sin
     }
 }
 
-/// Whether a port that was listened at is closed.
+/// True if a port that was listened at is closed.
 pub fn is_closed(listener: &TcpListener) -> bool {
     let mut waits = [pollfd {
         fd: listener.as_raw_fd(),

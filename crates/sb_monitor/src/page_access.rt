@@ -10,7 +10,7 @@ use sb_status::{Credentials, Request, Route, number};
 use std::alloc::{AllocError, Global};
 use std::sync::Wait;
 
-/// Whether no key is wanted, or the request has a key that opens its target.
+/// True if no key is wanted, or the request has a key that opens its target.
 pub(crate) fn is_let_in<A: Admission, T: Wait>(
     rt: &T,
     alloc: Global,
@@ -30,7 +30,7 @@ pub(crate) fn is_let_in<A: Admission, T: Wait>(
     }
 }
 
-/// Whether no key is wanted, or the request has a key that opens the page.
+/// True if no key is wanted, or the request has a key that opens the page.
 fn is_guest<A: Admission, T: Wait>(
     rt: &T,
     alloc: Global,
@@ -48,7 +48,7 @@ fn is_guest<A: Admission, T: Wait>(
     is_opened(rt, alloc, admission, route, request.authorization)
 }
 
-/// Whether a header brings a key that opens the page.
+/// True if a header brings a key that opens the page.
 fn is_opened<A: Admission, T: Wait>(
     rt: &T,
     alloc: Global,
@@ -67,7 +67,7 @@ fn is_opened<A: Admission, T: Wait>(
     }
 }
 
-/// Whether the key is one of whom the page belongs to, and the user is named so.
+/// True if the key is one of whom the page belongs to, and the user is named so.
 fn admits<A: Admission, T: Wait>(
     rt: &T,
     admission: &A,
@@ -91,7 +91,7 @@ fn admits<A: Admission, T: Wait>(
     }
 }
 
-/// Whether the key is one of the tenant's, and the user is named by its number.
+/// True if the key is one of the tenant's, and the user is named by its number.
 fn admits_to<A: Admission, T: Wait>(
     rt: &T,
     admission: &A,

@@ -386,7 +386,7 @@ impl<'k, H: Lending, A: Admission, T: Wait + Clock, E: ServerControl> Pages<'k, 
         Ok(accepted(b"told\n".to_vec(self.alloc)?))
     }
 
-    /// Whether a session of the tenant at this place is open, as far as that can be seen in time.
+    /// True if a session of the tenant at this place is open, as far as that can be seen in time.
     fn may_be_open(&self, place: u32, session: u32) -> bool
         requires { place < H.tenants self.now.host }
         ensures { result ≡ false → LacksSession place session }

@@ -60,7 +60,7 @@ impl<'a> Sender<'a> {
     }
 }
 
-/// Whether a request names this machine, or none.
+/// True if a request names this machine, or none.
 fn names_here(host: Option<&[u8]>) -> bool
     ensures { result ≡ names_here (option_copied host.entry) }
 {
@@ -76,7 +76,7 @@ fn is_here(host: &[u8]) -> bool
     is_at(host, b"localhost") || is_at(host, b"127.0.0.1") || is_at(host, b"[::1]")
 }
 
-/// Whether this is the name, without a port or with one.
+/// True if this is the name, without a port or with one.
 fn is_at(host: &[u8], name: &[u8]) -> bool
     ensures { result ≡ is_at name.now host.now }
 {
@@ -86,7 +86,7 @@ fn is_at(host: &[u8], name: &[u8]) -> bool
     }
 }
 
-/// Whether this is nothing, or a colon and digits.
+/// True if this is nothing, or a colon and digits.
 fn is_port(text: &[u8]) -> bool
     ensures { result ≡ is_port text.now }
 {
@@ -107,7 +107,7 @@ fn are_digits(bytes: &[u8]) -> bool
     true
 }
 
-/// Whether no page of another site sends a request, as far as a browser tells.
+/// True if no page of another site sends a request, as far as a browser tells.
 fn is_own(site: Option<&[u8]>) -> bool
     ensures { result ≡ is_own (option_copied site.entry) }
 {

@@ -26,7 +26,7 @@ pub trait ServerControl {
     fn stop(&self) -> bool
         ensures { IsTrue result → stopped self.now };
 
-    /// Whether clients are let in.
+    /// True if clients are let in.
     fn is_ready(&self) -> bool
         ensures { lets_in self.now result };
 

@@ -8,7 +8,7 @@ use sb_status::{Route, route_of};
 pub(crate) enum Target {
     /// A page of the host or of a tenant, or the end of a session.
     Page(Route),
-    /// Whether clients are let in.
+    /// The question whether clients are let in.
     Ready,
     /// The end of the server.
     Stop,

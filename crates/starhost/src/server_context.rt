@@ -169,7 +169,7 @@ pub(crate) struct Entrance<'a, 'g, A, G> {
 pub(crate) struct ServerEnd {
     /// The receipts of all sessions.
     stubs: Vec<Stub>,
-    /// Whether the files were written.
+    /// How the files were written.
     saved: Result<(), ProgramFault>,
 }
 
