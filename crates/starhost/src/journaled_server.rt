@@ -122,12 +122,16 @@ where
         };
         let syncs = self.paths.syncs;
         self.tell(b"STATUS=the journal is played\n");
-        let opened = self.beside(port, || {
-            open_recorder(self.rt, self.alloc, self.host, path, syncs, head, self.log)
+        let mut opened = None;
+        self.beside(port, || {
+            opened = Some(open_recorder(
+                self.rt, self.alloc, self.host, path, syncs, head, self.log,
+            ));
         });
         let (recorder, stubs) = match opened {
-            Ok(restarted) => restarted,
-            Err(why) => return Err(ProgramFault::Journal(why)),
+            Some(Ok(restarted)) => restarted,
+            Some(Err(why)) => return Err(ProgramFault::Journal(why)),
+            None => return Err(ProgramFault::Journal(JournalFault::CannotOpen)),
         };
         if let Syncs::Second = syncs {
             return self.record_by_seconds(path, gate, recorder, stubs, port, writer);
