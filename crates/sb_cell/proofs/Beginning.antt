@@ -41,7 +41,7 @@ unfolding records_by
 of_none who = refl
 
 module _ (c : Cell) (limit : ℕ) (below : c.first < c.stride) (few : limit ≤ 256) (fresh : AreFresh c.first c.stride c.bound c.tenants)
-    (all : (place : ℕ) → nat_lt place (length c.tenants) ≡ nat_lt (c.first + c.stride * place) limit) (none : c.records ≡ []) (start : c.clock ≡ 0)
+    (all : (place : ℕ) → nat_lt place (length c.tenants) ≡ nat_lt (c.first + c.stride * place) limit) (none : c.records ≡ [])
     (empty : (t table : ℕ) (operation : Operation) (rule : ℕ) → stands c.index t table operation rule ≡ false) where
   no_records : (who : Who) → records_by who c.records ≡ []
   no_records who = ap (records_by who) none ∙ of_none who
@@ -73,7 +73,6 @@ module _ (c : Cell) (limit : ℕ) (below : c.first < c.stride) (few : limit ≤ 
     tenants = fresh_at;
     records = λ who other. no_records who;
     rules = λ t other. λ table operation rule. empty t table operation rule;
-    clock = omega (arith, start);
   }
 
   hosted_so : (t : ℕ) → hosts c t ≡ ((t % c.stride == c.first) && nat_lt t limit)

@@ -1,9 +1,9 @@
 -- A cell after a call of one of its tenants: what holds of it at any time still holds, and the line is answered as an event.
-use Rattle.std.proofs.Common.{◌≡◌, ℕ, ◌+◌, ◌*◌, ◌/◌, ◌%◌, ◌^◌, suc, ◌<◌, ◌≤◌, Bool, true, false, cond, ◌&&◌, ◌==◌, nat_lt, nat_le, not, codes, get_or, List, [], ◌∷◌, length, filter, slice_set, Option, Some, None, Result, inl, inr, IsFalse, refl, sym, ap, ◌∙◌, subst, arith, length-append, length-set}
+use Rattle.std.proofs.Common.{◌≡◌, ℕ, ◌+◌, ◌*◌, ◌/◌, ◌%◌, suc, ◌<◌, ◌≤◌, Bool, true, false, cond, ◌&&◌, ◌==◌, nat_lt, nat_le, not, codes, List, [], ◌∷◌, length, filter, slice_set, Option, Some, None, Result, IsFalse, refl, sym, ap, ◌∙◌, subst, arith, length-set}
 use Rattle.std.specs.List.{slice_get}
 use Rattle.std.proofs.lemmas.Bool.{true≢false, eqb-true, eqb-false, ne_eqb}
-use Rattle.std.proofs.lemmas.List.Sums.{sum_by-cons, sum_by-set}
-use Rattle.std.proofs.lemmas.Option.{get_or_from_slice_get, same_Some}
+use Rattle.std.proofs.lemmas.List.Sums.{sum_by-cons}
+use Rattle.std.proofs.lemmas.Option.{same_Some}
 use Rattle.sb_value.specs.declared.id.Who.{Who}
 use Rattle.sb_value.specs.NetEffect.{is_triggered}
 use Rattle.sb_rawlog.specs.Records.{Record, before}
@@ -22,8 +22,6 @@ use Rattle.sb_tenant.specs.Tenant.{Tenant, IsLegal, AnswersLine, LeavesLine, Mak
 use Rattle.sb_tenant.specs.Lending.{InStep, StaysInStep, rise_of_number}
 use Rattle.sb_tenant.specs.State.{session_at, is_open}
 use Rattle.sb_tenant.specs.Step.{is_end_of_open}
-use Rattle.sb_tenant.specs.Tenant as tenant
-use Rattle.sb_tenant.specs.Trail.{entry_of}
 use Rattle.sb_tenant.specs.TrailLaws.{TrailsAreBounded}
 use Rattle.sb_cell.specs.declared.StepError.{StepError}
 use Rattle.sb_cell.specs.Events.{IsTurn}
@@ -60,19 +58,14 @@ stays_in_step w id s records records' clock clock' index index' other stay rises
 
 -- ---- a call of one tenant
 
--- by how many entries its trail grows, each of which may have raised the clock
-abbrev pub Grows : ℕ → Tenant → Tenant → Type 0
-Grows n old new = (more : ℕ) × (length new.trail ≡ length old.trail + more) × (n ≤ 32768000 * more)
-
 -- what a call in a session of the tenant leaves
 pub record IsCalled (c : Cell) (t s n : ℕ) (w new : Tenant) (records' : List Record) (clock' : ℕ) (index' : List (List TableSets)) : Type 0 where
   pub hosted : hosts c t ≡ true
   pub is_one : is_session s ≡ true
   pub at : slice_get c.tenants (t / c.stride) ≡ Some w
-  pub same : tenant.IsSame w new
+  pub same : (new.id ≡ w.id) × (new.bound ≡ w.bound)
   pub legal : IsLegal new
   pub stays : StaysInStep n w new s c.records records' c.clock clock' c.index index'
-  pub grows : Grows n w new
 
 module _ (c : Cell) (h : IsHosted c) (t s n : ℕ) (w new : Tenant) (records' : List Record) (clock' : ℕ) (index' : List (List TableSets)) (call : IsCalled c t s n w new records' clock' index') where
   abbrev place : ℕ
@@ -145,11 +138,6 @@ module _ (c : Cell) (h : IsHosted c) (t s n : ℕ) (w new : Tenant) (records' : 
     tenants = tenants_at;
     records = no_records;
     rules = no_rules;
-    clock =
-        let summed = sum_by-set (λ (v : Tenant). length v.trail) c.tenants place new w inside in
-        let read : get_or c.tenants place w ≡ w = get_or_from_slice_get c.tenants place w w call.at in
-        let one : length (get_or c.tenants place w).trail ≡ length w.trail = ap (λ (v : Tenant). length v.trail) read in
-        omega (arith, summed, one, call.grows.1, call.grows.2, h.clock, call.stays.rises.1);
   }
 
   -- ---- the event
@@ -183,39 +171,12 @@ module _ (c : Cell) (h : IsHosted c) (t s n : ℕ) (w new : Tenant) (records' : 
           (subst (λ (k : ℕ). IsTurn k t w.trail (s, line) given new.trail) was.bound
           (subst (λ (i : ℕ). IsTurn w.bound i w.trail (s, line) given new.trail) id_is turn)))
 
--- ---- how a trail grows
-
--- a step's entry raises the clock, a refusal by the full trail doesn't
-pub answer_grows : (w new : Tenant) (s : ℕ) (line : List ℕ) (a : Answer) → AnswersLine w s line a new → Grows (rise_of_number a.number) w new
-answer_grows w new s line a (same, inl (longer, number, next)) = (
-  1,
-  ap length longer ∙ length-append w.trail (entry_of s line a.reply ∷ []),
-  subst (λ (k : Option ℕ). rise_of_number k ≤ 32768000 * 1) (sym number) (omega arith),
-)
-answer_grows w new s line a (same, inr (full, told, stays)) = (
-  0,
-  ap length stays ∙ sym_zero (length w.trail),
-  subst (λ (k : Option ℕ). rise_of_number k ≤ 32768000 * 0) (sym (ap (λ (x : Answer). x.number) told)) (omega arith),
-)
-  where
-    sym_zero : (k : ℕ) → k ≡ k + 0
-    sym_zero k = omega arith
-
-pub unbegun_grows : (w new : Tenant) (s : ℕ) (line : List ℕ) → LeavesLine w s line new → Grows 0 w new
-unbegun_grows w new s line (same, left) = (0, is, omega arith)
-  where
-    is : length new.trail ≡ length w.trail + 0
-    is = let e = ap (λ (v : Tenant). length v.trail) same in omega (arith, e)
-
-made_grows : (w new : Tenant) (s : ℕ) (line : List ℕ) (a : Answer) → MakesStep w s line a new → Grows 0 w new
-made_grows w new s line a (same, (longer, number, next)) = (1, ap length longer ∙ length-append w.trail (entry_of s line a.reply ∷ []), omega arith)
-
 -- ---- the calls
 
 module _ (c : Cell) (t s : ℕ) (w new : Tenant) (records' : List Record) (clock' : ℕ) (index' : List (List TableSets)) (hosted : hosts c t ≡ true) (is_one : is_session s ≡ true) (at : slice_get c.tenants (t / c.stride) ≡ Some w) (legal : IsLegal new) where
   pub answered : (line : List ℕ) (a : Answer) → AnswersLine w s line a new → StaysInStep (rise_of_number a.number) w new s c.records records' c.clock clock' c.index index' →
       IsCalled c t s (rise_of_number a.number) w new records' clock' index'
-  answered line a answers stays = record { hosted = hosted; is_one = is_one; at = at; same = answers.0; legal = legal; stays = stays; grows = answer_grows w new s line a answers }
+  answered line a answers stays = record { hosted = hosted; is_one = is_one; at = at; same = (answers.0.0, answers.0.1); legal = legal; stays = stays }
 
   pub unbegun : (line : List ℕ) → LeavesLine w s line new → StaysInStep 0 w new s c.records records' c.clock clock' c.index index' → IsCalled c t s 0 w new records' clock' index'
   unbegun line left stays = record {
@@ -225,11 +186,10 @@ module _ (c : Cell) (t s : ℕ) (w new : Tenant) (records' : List Record) (clock
     same = (ap (λ (v : Tenant). v.id) left.0, ap (λ (v : Tenant). v.bound) left.0);
     legal = legal;
     stays = stays;
-    grows = unbegun_grows w new s line left;
   }
 
   pub stepped : (line : List ℕ) (a : Answer) → MakesStep w s line a new → StaysInStep 0 w new s c.records records' c.clock clock' c.index index' → IsCalled c t s 0 w new records' clock' index'
-  stepped line a made stays = record { hosted = hosted; is_one = is_one; at = at; same = made.0; legal = legal; stays = stays; grows = made_grows w new s line a made }
+  stepped line a made stays = record { hosted = hosted; is_one = is_one; at = at; same = (made.0.0, made.0.1); legal = legal; stays = stays }
 
 -- a call that touches neither the log nor the index
 pub untouched : (w new : Tenant) (s : ℕ) (records : List Record) (clock : ℕ) (index : List (List TableSets)) → InStep new records clock index → StaysInStep 0 w new s records records clock clock index index
@@ -250,7 +210,7 @@ open_left w new s shut room same = (
   ),
 )
 
--- ---- the clock
+-- ---- how many entries there are
 
 pub few_entries : ((tenant bound : ℕ) → TrailsAreBounded tenant bound) → (tenants : List Tenant) → ((place : ℕ) (v : Tenant) → slice_get tenants place ≡ Some v → IsLegal v) → entry_count tenants ≤ entry_limit * length tenants
 few_entries bounded [] legal = omega arith
@@ -259,7 +219,3 @@ few_entries bounded (v ∷ vs) legal =
     let rest = few_entries bounded vs (λ place u at. legal (suc place) u at) in
     let one_more = sum_by-cons (λ (u : Tenant). length u.trail) v vs in
     omega (arith, own, rest, one_more)
-
-pub clock_low : ((tenant bound : ℕ) → TrailsAreBounded tenant bound) → (c : Cell) → IsHosted c → c.clock < 2 ^ 63
-clock_low bounded c h =
-    let entries = few_entries bounded c.tenants (λ place v at. (h.tenants place v at).legal) in omega (arith, entries, h.few, h.clock)

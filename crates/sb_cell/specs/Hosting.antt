@@ -21,14 +21,13 @@ pub record IsAt (c : Cell) (place : ℕ) (t : Tenant) : Type 0 where
 abbrev pub entry_count : List Tenant → ℕ
 entry_count tenants = sum_by (λ t. length t.trail) tenants
 
--- each tenant is at its place; nobody else has a record or a rule; each entry has raised the clock by 32,768,000 at most
+-- each tenant is at its place; nobody else has a record or a rule
 pub record IsHosted (c : Cell) : Type 0 where
   pub first : c.first < c.stride
   pub few : length c.tenants ≤ 256
   pub tenants : (place : ℕ) (t : Tenant) → slice_get c.tenants place ≡ Some t → IsAt c place t
   pub records : (who : Who) → IsFalse (hosts c who.tenant && is_session who.session) → records_by who c.records ≡ []
   pub rules : (t : ℕ) → IsFalse (hosts c t) → AreIndexed c.index t []
-  pub clock : c.clock ≤ 32768000 * entry_count c.tenants
 
 -- the places below n are those of the numbers first + stride * place below the limit
 abbrev pub ArePlacesBelow : ℕ → ℕ → ℕ → ℕ → Type 0

@@ -8,9 +8,11 @@ ghost use Rattle.sb_tenant.specs.State.{session_at, is_open as session_is_open, 
 ghost use Rattle.sb_cell.specs.Headline.{IsRun, RunsInTurn, RunsAlone};
 ghost use Rattle.sb_cell.specs.Hosting.{AreFresh, ArePlacesBelow, entry_count};
 ghost use Rattle.sb_cell.specs.Memory.{HoldsTransactions, HoldsRules, AreInStep};
+ghost use Rattle.sb_cell.specs.Renewing.{MayStand, Puts};
 ghost use Rattle.sb_cell.specs.Tenants.{AnswersEvent, HasLegalTrails, HasTrail, IsNew, IsSame, IsTenantOf, hosts, states, run_of, tenant_at};
 
 use crate::laws::{events_run_in_turn, turns_run_alone};
+use crate::renewal::number_of;
 use crate::{Answers, Event, StepError};
 use sb_index::RuleIndex;
 use sb_rawlog::{ChangeLog, RawLog};
@@ -20,6 +22,7 @@ use sb_tenant::{Answer, Entry, Line, Sent, Tenant};
 use sb_value::{Name, SESSION_LIMIT, SessionId, TenantId};
 use std::alloc::{AllocError, Global};
 use std::marker::Model;
+use std::mem::replace;
 
 /// The log of a cell.
 pub type Log = RawLog;
@@ -152,6 +155,23 @@ impl Cell {
         tenants
     }
 
+    /// The consideration limit of its tenants.
+    pub fn bound(&self) -> u32
+        ensures { result ≡ self.now.bound }
+    {
+        self.bound
+    }
+
+    /// Puts a tenant in the place of the one of its number.
+    pub(crate) fn put(&mut self, next: Tenant) -> Tenant
+        requires { MayStand self.old next }
+        ensures { Puts self.old next result self.new }
+    {
+        let number = number_of(&next);
+        let place = (number / self.stride) as usize;
+        replace(&mut self.tenants[place], next)
+    }
+
     /// True if it has the tenant of that number.
     pub fn hosts(&self, tenant: u32) -> bool
         ensures { result ≡ hosts self.now tenant }
@@ -209,8 +229,6 @@ impl Cell {
         if session >= SESSION_LIMIT as u32 {
             return Err(StepError::NoSession);
         }
-        // for the proof: so few entries make few changes, and the log's clock has room
-        trails_are_bounded();
         let place = (tenant / self.stride) as usize;
         let session = SessionId::new(session as u8);
         let sent = Sent { line, own };

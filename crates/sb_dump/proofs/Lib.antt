@@ -1,15 +1,1 @@
-pub mod Places
 pub mod Playing
-pub mod Resting
-mod Numbered
-mod Walks
-mod Seeing
-mod AtRest
-mod Pairs
-mod Nets
-mod Processing
-mod Commands
-mod States
-mod Defining
-mod Performing
-mod Answering

@@ -1,17 +1,13 @@
 -- Promise: a dump of a tenant: lines of one session that make an alike tenant of a fresh one.
-use Rattle.std.specs.Prelude.{◌≤◌, ℕ, Bool, List, [], ◌∷◌, ◌++◌, All, map, length, codes}
-use Rattle.std.specs.List.{list_any, AllPass}
-use Rattle.sb_value.specs.Locks.{sessions}
+use Rattle.std.specs.Prelude.{◌≤◌, ℕ, List, [], ◌∷◌, ◌++◌, All, map, length, codes}
+use Rattle.std.specs.List.{AllPass}
 use Rattle.sb_value.specs.Printable.{is_printable}
 use Rattle.sb_syntax.specs.Text.{text_limit}
 use Rattle.sb_tenant.specs.Alike.{AreAlikeAtRest}
-use Rattle.sb_tenant.specs.State.{State, opening, session_at, has_transaction}
+use Rattle.sb_tenant.specs.State.{State, opening}
 use Rattle.sb_tenant.specs.Tenant.{Tenant, state}
 use Rattle.sb_tenant.specs.Trail.{state_after}
-
--- whether a session has a transaction
-abbrev pub is_busy : State → Bool
-is_busy state = list_any (λ s. has_transaction (session_at state s)) sessions
+pub use Rattle.sb_alike.specs.Alike.{is_busy}
 
 -- each of the lines, sent in the session
 abbrev pub as_session : ℕ → List (List ℕ) → List (ℕ × List ℕ)

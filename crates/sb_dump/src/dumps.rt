@@ -4,13 +4,13 @@ ghost use Rattle.sb_dump.specs.Dumps.{Dumps, is_busy};
 ghost use Rattle.sb_dump.specs.declared.dumps.DumpError.TheVariants.{Busy};
 ghost use Rattle.sb_tenant.specs.Tenant.{state};
 
-use crate::alike::{are_alike, is_busy};
 use crate::draft::Draft;
 use crate::order::{write_order, write_rulesets};
 use crate::play::{SendFault, only_tenant, play};
 use crate::rules::{write_inactive, write_rules};
 use crate::script::Script;
 use crate::tables::write_tables;
+use sb_alike::{are_alike, is_busy};
 use sb_tenant::Tenant;
 use std::alloc::{AllocError, Global};
 

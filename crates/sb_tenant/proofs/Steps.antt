@@ -179,7 +179,7 @@ phase_closed (active changes marks) h = cc
 
 -- ---- before the first step
 
-none_before : (time : ℕ) → length (before time []) ≡ 0
+pub none_before : (time : ℕ) → length (before time []) ≡ 0
 unfolding before
 none_before time = refl
 
@@ -211,9 +211,9 @@ module _ (t new : Inside) (r : IsRemembered t) (same : IsSame (seen t) (seen new
   }
 
 -- none, but perhaps more room
-pub still_remembered : (t new : Inside) → IsRemembered t → new.bound ≡ t.bound → new.store ≡ t.store → new.trail.items ≡ t.trail.items → vec_len new.trail ≡ vec_len t.trail → vec_capacity t.trail ≤ vec_capacity new.trail →
+pub still_remembered : (t new : Inside) → IsRemembered t → new.bound ≡ t.bound → new.volume ≡ t.volume → new.store ≡ t.store → new.trail.items ≡ t.trail.items → vec_len new.trail ≡ vec_len t.trail → vec_capacity t.trail ≤ vec_capacity new.trail →
     t.end_lines ≤ new.end_lines → IsRemembered new
-still_remembered t new r bound store items len capacity ends = record {
+still_remembered t new r bound volume store items len capacity ends = record {
   legal = subst IsLegal (sym seen_is) r.legal;
   holds = subst (λ (x : Store × Tenant). (origin : List Held) × Holds origin x.0 (state x.1)) (λ i. (sym store i, sym seen_is i)) r.holds;
   bound = subst (λ (b : ℕ). b ≤ 1000) (sym bound) r.bound;
@@ -223,7 +223,7 @@ still_remembered t new r bound store items len capacity ends = record {
 }
   where
     seen_is : seen new ≡ seen t
-    seen_is = λ i. record { id = (store i).database.id; bound = bound i; trail = items i; transactions = (store i).database.transactions }
+    seen_is = λ i. record { id = (store i).database.id; bound = bound i; trail = items i; volume = volume i; transactions = (store i).database.transactions }
 
 -- ---- the calls of a tenant
 

@@ -4,6 +4,7 @@ use Rattle.sb_rawlog.specs.Records.{Record}
 use Rattle.sb_rawlog.specs.Sessions.{records_by, OthersStay}
 use Rattle.sb_index.specs.TableSets.{TableSets}
 use Rattle.sb_catalog.specs.Definitions.{AreIndexed, OtherTenantsStay}
+use Rattle.sb_catalog.specs.declared.rule.Rule.{Rule}
 use Rattle.sb_process.specs.Statement.{RisesBy}
 use Rattle.sb_tenant.specs.declared.reply.Answer.{Answer}
 use Rattle.sb_tenant.specs.Logged.{Agrees, who_of}
@@ -13,9 +14,13 @@ use Rattle.sb_tenant.specs.Tenant.{Tenant, state}
 abbrev pub InStep : Tenant → List Record → ℕ → List (List TableSets) → Type 0
 InStep t records clock index = Agrees t.id (state t) t.transactions records clock index
 
--- they hold nothing of the tenant of that number
+-- of the tenant of that number they hold its active rules, and nothing else
+abbrev pub HoldRules : ℕ → List Rule → List Record → List (List TableSets) → Type 0
+HoldRules id rules records index = ((s : ℕ) → records_by (who_of id s) records ≡ []) × AreIndexed index id rules
+
+-- they hold nothing of it
 abbrev pub HoldNothing : ℕ → List Record → List (List TableSets) → Type 0
-HoldNothing id records index = ((s : ℕ) → records_by (who_of id s) records ≡ []) × AreIndexed index id []
+HoldNothing id records index = HoldRules id [] records index
 
 -- by how much a line raises the clock at most: only a step that has a number does
 abbrev pub rise_of_number : Option ℕ → ℕ

@@ -8,7 +8,7 @@ use Rattle.sb_tenant.specs.State.{open_count}
 use Rattle.sb_tenant.specs.Tenant.{Tenant, IsLegal, state}
 
 abbrev pub seen : Inside → Tenant
-seen t = record { id = t.store.database.id; bound = t.bound; trail = t.trail.items; transactions = t.store.database.transactions }
+seen t = record { id = t.store.database.id; bound = t.bound; trail = t.trail.items; volume = t.volume; transactions = t.store.database.transactions }
 
 -- a number above each table's next one, after so many steps
 abbrev pub number_limit : ℕ → ℕ

@@ -21,9 +21,11 @@ mod store;
 mod table_commands;
 mod tenant;
 mod told;
+mod volume;
 mod work;
 
 pub use lines::KnownLines;
 pub use places::reserve_here;
 pub use reply::{Answer, Entry, Line, NamedTrace, Reply, RuleError, RuleName};
 pub use tenant::{END, NotBegun, OPEN, Sent, TRAIL_LIMIT, Tenant};
+pub use volume::Volume;

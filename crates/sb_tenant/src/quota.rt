@@ -47,6 +47,13 @@ impl Quota {
         self.limit = Some(bytes);
     }
 
+    /// As much may be taken as by another one.
+    pub(crate) fn limit_like(&mut self, other: &Quota)
+        ensures { self.new ≡ record self.old { limit = other.now.limit } }
+    {
+        self.limit = other.limit;
+    }
+
     /// What is taken, in bytes.
     pub(crate) fn taken(&self) -> u64
         ensures { result ≡ self.now.taken }

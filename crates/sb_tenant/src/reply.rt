@@ -228,6 +228,31 @@ impl Drop for Reply {
     }
 }
 
+impl Reply {
+    /// Another copy of it. Both share the rows and the trace.
+    pub fn share(&self, alloc: Global) -> Result<Reply, AllocError>
+        ensures { IfOk result (λ copy. copy ≡ self.now) }
+    {
+        match self {
+            Reply::Ok => Ok(Reply::Ok),
+            Reply::Count(changes) => Ok(Reply::Count(*changes)),
+            Reply::Rows(rows) => Ok(Reply::Rows(rows.share()?)),
+            Reply::Done(trace) => Ok(Reply::Done(trace.share()?)),
+            Reply::ByRule(rule, trace) => {
+                let name = RuleName::new(alloc, *rule.name())?;
+                Ok(Reply::ByRule(name, trace.share()?))
+            }
+            Reply::ByError(rule, error, trace) => {
+                let name = RuleName::new(alloc, *rule.name())?;
+                let refusal = RuleError::new(alloc, *error.refusal())?;
+                Ok(Reply::ByError(name, refusal, trace.share()?))
+            }
+            Reply::ByLimit(trace) => Ok(Reply::ByLimit(trace.share()?)),
+            Reply::No(refusal) => Ok(Reply::No(*refusal)),
+        }
+    }
+}
+
 /// A reply with the number of its step, if it was one.
 pub struct Answer {
     /// Which step of the tenant it was, from 1.

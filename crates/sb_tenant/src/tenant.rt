@@ -1,5 +1,5 @@
 //! A tenant: its steps, each with its answer and its entry in the trail.
-ghost use Rattle.std.specs.Prelude.{◌≡◌, ◌≤◌, ◌<◌, ◌^◌, ◌++◌, ◌∷◌, [], ◌+◌, ℕ, List, true, false, IfOk, IfSome, OnErr, OnOk, Some, nat_le, codes, length, vec_len, vec_capacity, option_copied, option_map};
+ghost use Rattle.std.specs.Prelude.{◌≡◌, ◌↔◌, ◌≤◌, ◌<◌, ◌^◌, ◌++◌, ◌∷◌, [], ◌+◌, ℕ, List, true, false, IsTrue, IsFalse, IfOk, IfSome, OnErr, OnOk, Some, nat_le, codes, length, vec_len, vec_capacity, option_copied, option_map};
 ghost use Rattle.sb_index.specs.TableSets.{TableSets};
 ghost use Rattle.sb_rawlog.specs.Records.{Record};
 ghost use Rattle.sb_syntax.specs.Text.{text_limit};
@@ -11,7 +11,8 @@ ghost use Rattle.sb_tables.specs.Held.{entries};
 ghost use Rattle.sb_tenant.specs.State.{session_at, is_open as session_is_open, has_transaction as session_has_transaction, table_seen, tables_seen};
 ghost use Rattle.sb_tenant.specs.Step.{is_full_for, is_end_of_open};
 ghost use Rattle.sb_tenant.specs.Tenant.{state, IsLegal, IsNew, AnswersLine, MakesStep, LeavesLine};
-ghost use Rattle.sb_tenant.specs.Lending.{InStep, HoldNothing, StaysInStep, rise_of};
+ghost use Rattle.sb_tenant.specs.Lending.{InStep, HoldNothing, HoldRules, StaysInStep, rise_of};
+ghost use Rattle.sb_tenant.specs.Volumes.{AreClosed, HasFollowing, following};
 
 use crate::asker::Asker;
 use crate::end_lines::EndLines;
@@ -21,8 +22,10 @@ use crate::places::reserve_here;
 use crate::quota::Quota;
 use crate::reply::{Answer, Entry, Line, Reply};
 use crate::store::Store;
+use crate::volume::Volume;
 use sb_catalog::Definitions;
 use sb_index::RuleIndex;
+use sb_process::Transactions;
 use sb_rawlog::ChangeLog;
 use sb_syntax::COMMAND_LIMIT;
 use sb_tables::{Table, Tables};
@@ -33,14 +36,17 @@ use std::marker::Model;
 /// The most entries of a tenant's trail, without those of the ends of open sessions.
 pub const TRAIL_LIMIT: usize = 1_048_576;
 
+/// From this time of a log's clock on no step is begun: what one step may add has room behind it.
+const CLOCK_LIMIT: u64 = 1 << 63;
+
 /// The line that opens a session.
 pub const OPEN: &[u8] = b"open";
 
 /// The line that ends a session.
 pub const END: &[u8] = b"end";
 
-/// A step wasn't begun: memory ran out, or what the tenant may take of it is taken, or the line is longer than a command
-/// may be.
+/// A step wasn't begun: memory ran out, or what the tenant may take of it is taken, or the log's clock is at 2^63, or the
+/// line is longer than a command may be.
 #[derive(Clone, Copy, Debug, PartialEq, Eq)]
 pub struct NotBegun;
 
@@ -59,6 +65,7 @@ pub struct Tenant {
     end_lines: EndLines,
     known_lines: KnownLines,
     quota: Quota,
+    volume: Volume,
 }
 
 impl Drop for Tenant {
@@ -70,6 +77,7 @@ impl Drop for Tenant {
             end_lines: _,
             known_lines: _,
             quota: _,
+            volume: _,
         } = self;
     }
 }
@@ -102,6 +110,7 @@ impl Tenant {
             end_lines: EndLines::new(alloc),
             known_lines: KnownLines::new(alloc),
             quota: Quota::none(),
+            volume: Volume::first(),
         }
     }
 
@@ -131,6 +140,51 @@ impl Tenant {
         self.store.database.id
     }
 
+    /// Its consideration limit.
+    pub fn bound(&self) -> u32
+        ensures { result ≡ self.now.bound }
+    {
+        self.bound
+    }
+
+    /// Which volume of its life its trail is.
+    pub fn volume(&self) -> Volume
+        ensures { result ≡ self.now.volume }
+    {
+        self.volume
+    }
+
+    /// Makes its trail the volume behind another tenant's, and takes that one's share of memory: whether there is one
+    /// behind it.
+    pub fn follow(&mut self, old: &Tenant) -> bool
+        ensures follows { IsTrue result → self.new
+            ≡ record self.old { volume = following old.now.volume (length old.now.trail) (length self.old.trail) } }
+        ensures stays { IsFalse result → self.new ≡ self.old }
+        ensures there { IsTrue result ↔ HasFollowing old.now.volume (length old.now.trail) }
+    {
+        let entries = old.trail.as_slice().len() as u64;
+        let opening = self.trail.as_slice().len() as u64;
+        match old.volume.following(entries, opening) {
+            Some(volume) => {
+                self.volume = volume;
+                self.quota.limit_like(&old.quota);
+                true
+            }
+            None => false,
+        }
+    }
+
+    /// Forgets the times of marks and tests, which count in a transaction alone. With whatever log holds nothing of it,
+    /// at whatever time, it is in step then.
+    pub fn settle(&mut self, alloc: Global)
+        requires closed { AreClosed (state self.old) }
+        ensures kept { self.new ≡ record self.old { transactions = (self.new).transactions } }
+        ensures in_step { (records : List Record) (clock : ℕ) (index : List (List TableSets)) →
+            HoldRules self.old.id (state self.old).catalog.rules records index → InStep self.new records clock index }
+    {
+        self.store.database.transactions = Transactions::new(alloc);
+    }
+
     /// Its steps alone.
     pub fn into_trail(self) -> Vec<Entry>
         ensures value { result.items ≡ self.trail }
@@ -143,6 +197,7 @@ impl Tenant {
             end_lines: _,
             known_lines: _,
             quota: _,
+            volume: _,
         } = self;
         trail
     }
@@ -165,6 +220,20 @@ impl Tenant {
             Phase::Idle => true,
             Phase::Active => true,
         }
+    }
+
+    /// True if one of its sessions is open.
+    pub fn is_any_open(&self) -> bool
+        ensures open { IsTrue result → (s : ℕ) × IsTrue (is_session s)
+            × IsTrue (session_is_open (session_at (state self.now) s)) }
+        ensures closed { IsFalse result → AreClosed (state self.now) }
+    {
+        for number in 0..SESSION_LIMIT {
+            if self.is_open(SessionId::new(number as u8)) {
+                return true;
+            }
+        }
+        false
     }
 
     /// True if the trail has no place but for the ends of open sessions.
@@ -210,8 +279,8 @@ impl Tenant {
     }
 
     /// Makes a step of the line, or is refused by the full trail. Where memory runs out before the step has begun, or all
-    /// is taken that the tenant may take, and for a line of more than 4,096 bytes, nothing changes. The entry shares the
-    /// bytes of a line that is in memory already.
+    /// is taken that the tenant may take, where the log's clock has no room for the step, and for a line of more than 4,096
+    /// bytes, nothing changes. The entry shares the bytes of a line that is in memory already.
     pub fn step<L: ChangeLog>(
         &mut self,
         alloc: Global,
@@ -222,7 +291,6 @@ impl Tenant {
     ) -> Result<Answer, NotBegun>
         requires own { IfSome sent.now.own (λ l. l.now ≡ sent.now.line.now) }
         requires in_step { InStep self.old (L.records log.old) (L.clock log.old) index.old }
-        requires times { L.clock log.old < 2 ^ 63 }
         ensures ok { IfOk result (λ answer. AnswersLine self.old session sent.now.line.now answer self.new) }
         ensures err { OnErr result (LeavesLine self.old session sent.now.line.now self.new) }
         ensures legal { IsLegal self.new }
@@ -242,6 +310,9 @@ impl Tenant {
             });
         }
         if self.quota.refuses(sent.line) {
+            return Err(NotBegun);
+        }
+        if log.now() >= CLOCK_LIMIT {
             return Err(NotBegun);
         }
         self.enter(alloc, log, index, session, sent)

@@ -10,7 +10,7 @@ use Rattle.sb_cell.specs.declared.StepError.TheVariants.{NotBegun}
 use Rattle.sb_cell.specs.contracts.cell.Cell.{the_view}
 use Rattle.sb_cell.specs.Tenants.{Cell, AnswersEvent, hosts}
 use Rattle.sb_cell.proofs.Hosted.{read_at}
-use Rattle.sb_cell.proofs.Cells.{after_hosted, answered, clock_low, event, unbegun}
+use Rattle.sb_cell.proofs.Cells.{after_hosted, answered, event, unbegun}
 use Rattle.sb_cell.proofs.cell.Cell.step_with.Goals.{in-Ok, in-Err}
 use Rattle.sb_cell.proofs.cell.Cell.step_with.Goals as goal
 
@@ -19,9 +19,6 @@ step-requires-clause-in_step c =
     let told : c.hosts.result ≡ true = search rules in
     let hosted = subst (λ (x : Cell). hosts x c.args.tenant ≡ true) (sym c.self.view_is) (sym c.hosts.ensures ∙ told) in
     (c.self.invariant.tenants (c.args.tenant / c.self.inside.stride) c.index_mut.result.now (read_at (the_view c.self.inside) c.args.tenant hosted c.index_mut.result.now c.index_mut.ensures.value)).in_step
-
-pub step-requires-clause-times : goal.step-requires-clause-times
-step-requires-clause-times c = clock_low c.trails_are_bounded.ensures (the_view c.self.inside) c.self.invariant
 
 -- ---- the tenant that is there
 

@@ -29,7 +29,7 @@ abbrev after : (g : Over) → goal.After-put g → Inside
 after g c = record c.self.inside { store = c.end.new.self; trail = c.put.new.trail; end_lines = c.take-line.new.self; quota = c.count_entry.new.self }
 
 same : (g : Over) (c : goal.After-put g) → IsSame (seen c.self.inside) (seen (after g c))
-same g c = (c.end.ensures.leaves.id, refl)
+same g c = (c.end.ensures.leaves.id, refl, refl)
 
 entered : (g : Over) (c : goal.After-put g) (index : List (List TableSets)) (agrees : InStep (seen c.self.inside) (g.L.ChangeLog.records c.args.log.now) (g.L.ChangeLog.clock c.args.log.now) index) →
     IsEntered (seen c.self.inside).id (seen c.self.inside).bound (seen c.self.inside).trail c.args.session (codes "end") Ok c.end.new.self (g.L.ChangeLog.records c.end.new.log) (g.L.ChangeLog.clock c.end.new.log) index

@@ -16,7 +16,7 @@ use Rattle.sb_tenant.specs.Limits.{entry_limit}
 
 pub invariant_of-self : goal.invariant_of-self
 invariant_of-self g c =
-    still_remembered c.self.inside _ c.self.invariant refl refl c.make_ready.ensures.items c.make_ready.ensures.len c.make_ready.ensures.capacity c.make_ready.ensures.ends
+    still_remembered c.self.inside _ c.self.invariant refl refl refl c.make_ready.ensures.items c.make_ready.ensures.len c.make_ready.ensures.capacity c.make_ready.ensures.ends
 
 pub answer-reply-requires-clause-numbers : goal.answer-reply-requires-clause-numbers
 answer-reply-requires-clause-numbers g c =
@@ -31,7 +31,7 @@ abbrev after : (g : Over) → goal.After-put g → Inside
 after g c = record c.self.inside { store = c.answer-reply.new.self; trail = c.put.new.trail; end_lines = c.make_ready.new.end_lines; known_lines = c.make_ready.new.known_lines; quota = c.count_entry.new.self }
 
 same : (g : Over) (c : goal.After-put g) → IsSame (seen c.self.inside) (seen (after g c))
-same g c = (c.answer-reply.ensures.leaves.id, refl)
+same g c = (c.answer-reply.ensures.leaves.id, refl, refl)
 
 longer : (g : Over) (c : goal.After-put g) → c.put.new.trail.items ≡ c.self.inside.trail.items ++ entry_of c.args.session c.args.sent.now.line.now c.answer-reply.result.0 ∷ []
 longer g c = c.put.ensures.items ∙ (λ i. c.make_ready.ensures.items i ++ entry_of c.args.session (c.in_ok-kept.ensures.line i) c.answer-reply.result.0 ∷ [])

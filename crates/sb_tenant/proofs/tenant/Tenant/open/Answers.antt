@@ -14,7 +14,7 @@ use Rattle.sb_tenant.proofs.tenant.Tenant.open.Goals as goal
 
 pub invariant_of-self : goal.invariant_of-self
 invariant_of-self c =
-    still_remembered c.self.inside _ c.self.invariant refl refl c.make_ready.ensures.items c.make_ready.ensures.len c.make_ready.ensures.capacity c.make_ready.ensures.ends
+    still_remembered c.self.inside _ c.self.invariant refl refl refl c.make_ready.ensures.items c.make_ready.ensures.len c.make_ready.ensures.capacity c.make_ready.ensures.ends
 
 pub open-requires : goal.open-requires
 open-requires c =
@@ -37,7 +37,7 @@ abbrev after : goal.After-put → Inside
 after c = record c.self.inside { store = c.open.new.self; trail = c.put.new.trail; end_lines = c.make_ready.new.end_lines; known_lines = c.make_ready.new.known_lines; quota = c.count_entry.new.self }
 
 same : (c : goal.After-put) → IsSame (seen c.self.inside) (seen (after c))
-same c = (ap (λ (d : Database). d.id) c.open.ensures.database, refl)
+same c = (ap (λ (d : Database). d.id) c.open.ensures.database, refl, refl)
 
 longer : (c : goal.After-put) → c.put.new.trail.items ≡ c.self.inside.trail.items ++ entry_of c.args.session (codes "open") Ok ∷ []
 longer c = c.put.ensures.items ∙ (λ i. c.make_ready.ensures.items i ++ entry_of c.args.session (c.in_ok-line.ensures.line i) Ok ∷ [])
