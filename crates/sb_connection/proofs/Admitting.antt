@@ -4,7 +4,7 @@ use Rattle.std.specs.Prelude.{is_some}
 use Rattle.std.proofs.lemmas.Bool.{false≢true}
 use Rattle.sb_wire.specs.Lines.{Piece, last_piece, line, too_long}
 use Rattle.sb_wire.specs.Responses.{AreAnswered}
-use Rattle.sb_desk.specs.Calls.{Session}
+use Rattle.sb_connection.specs.Callers.{Life}
 use Rattle.sb_connection.specs.Admission.{BringsKey, LetsIn}
 use Rattle.sb_connection.specs.Conversation.{Hosted}
 use Rattle.sb_connection.specs.History.{History, SameStreams}
@@ -24,7 +24,7 @@ some_from (Some x) e = (x, refl)
 module _ (admits : Admits) (hosted : Hosted) where
   -- ---- a session stays
 
-  keeps : (s : Option Session) (p : Piece) (text : List ℕ) (new : State) → RespondsBy admits hosted s p text new → is_some s ≡ true → is_some new.0 ≡ true
+  keeps : (s : Option Life) (p : Piece) (text : List ℕ) (new : State) → RespondsBy admits hosted s p text new → is_some s ≡ true → is_some new.0 ≡ true
   keeps None p text new responds has = absurd (false≢true has)
   keeps (Some s) p text new (e, after, own_line, said, exchange, now) has = ap is_some now
 
@@ -41,17 +41,17 @@ module _ (admits : Admits) (hosted : Hosted) where
   Answered old ps text new = AreAnswered (Responds admits hosted) over old ps text new
 
   -- a session stays
-  stays : (ps : List Piece) (s : Session) (away : Bool) (text : List ℕ) (new : State) → Answered (Some s, away) ps text new → new.0 ≡ None → ⊥
+  stays : (ps : List Piece) (s : Life) (away : Bool) (text : List ℕ) (new : State) → Answered (Some s, away) ps text new → new.0 ≡ None → ⊥
   stays [] s away text new (none, same) gone = absurd (let e : Some s ≡ None = ap (λ (x : State). x.0) (sym same) ∙ gone in cc)
   stays (p ∷ ps) s away text new (first, rest, mid, is, going, (e, after, own_line, said, exchange, now), later) gone =
-      stays ps after mid.1 rest new (subst (λ (x : Option Session). Answered (x, mid.1) ps rest new) now later) gone
+      stays ps after mid.1 rest new (subst (λ (x : Option Life). Answered (x, mid.1) ps rest new) now later) gone
 
   -- a line that opened none is the last one
   turned_last : (ps : List Piece) (p : Piece) (text rest : List ℕ) (away : Bool) (new : State) → Greets admits hosted p text None away → Answered (None, away) ps rest new → over new ≡ false → ⊥
   turned_last [] p text rest away new greets (none, same) going = false≢true (sym going ∙ ap over same ∙ (turned admits hosted p text away greets).0)
   turned_last (q ∷ qs) p text rest away new greets (first, more, mid, is, still, own, later) going = false≢true (sym still ∙ (turned admits hosted p text away greets).0)
 
-  by_mid : (s : Option Session) (ps : List Piece) (p : Piece) (text rest : List ℕ) (away : Bool) (new : State) → Greets admits hosted p text s away → Answered (s, away) ps rest new → new.0 ≡ None → over new ≡ false → ⊥
+  by_mid : (s : Option Life) (ps : List Piece) (p : Piece) (text rest : List ℕ) (away : Bool) (new : State) → Greets admits hosted p text s away → Answered (s, away) ps rest new → new.0 ≡ None → over new ≡ false → ⊥
   by_mid None ps p text rest away new greets later gone going = turned_last ps p text rest away new greets later going
   by_mid (Some s) ps p text rest away new greets later gone going = stays ps s away rest new later gone
 

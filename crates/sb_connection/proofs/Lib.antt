@@ -1,6 +1,9 @@
 pub mod Talks
+pub mod Volumes
+pub mod Callers
 pub mod Closing
 pub mod Whole
+pub mod Streams
 pub mod Admitting
 pub mod Steps
 pub mod Routes

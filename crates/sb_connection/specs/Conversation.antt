@@ -1,5 +1,5 @@
 -- Promise: a connection: its first line names a session, and the lines behind that are its calls.
-use Rattle.std.specs.Prelude.{◌≡◌, ◌⊎◌, ◌<◌, ◌-◌, nat_lt, if◌then◌else◌, ℕ, Bool, true, false, List, [], ◌∷◌, ◌++◌, map, flat_map, codes, Option, Some, None, option_and_then, option_map, Err}
+use Rattle.std.specs.Prelude.{◌≡◌, ◌⊎◌, ◌<◌, ◌-◌, nat_lt, if◌then◌else◌, ℕ, Bool, true, false, List, [], ◌∷◌, ◌++◌, map, flat_map, codes, Option, Some, None, option_and_then, option_map, Err, IfSome}
 use Rattle.std.specs.Io.KnownBytes.{Appends, Consumes}
 use Rattle.sb_value.specs.declared.refusal.Refusal.TheVariants as refusal
 use Rattle.sb_tenant.specs.declared.reply.Reply.TheVariants as told
@@ -17,7 +17,8 @@ use Rattle.sb_desk.specs.declared.stub.Stub.{Stub}
 use Rattle.sb_connection.specs.declared.first_line.SessionName.{SessionName}
 use Rattle.sb_connection.specs.declared.serve.Served.{Served}
 use Rattle.sb_connection.specs.Policies.{Admits, anyone}
-use Rattle.sb_connection.specs.Exchanges.{AreCalls, AreReceipts, Exchange, has_ended, line_in, said_text}
+use Rattle.sb_desk.specs.declared.receipts.Receipt.{Receipt}
+use Rattle.sb_connection.specs.Exchanges.{AreCalls, AreVolumes, Exchange, has_ended, line_in, said_text}
 
 -- ---- the tenants of a host, as lines name them
 
@@ -109,9 +110,14 @@ welcome = ended_lines (codes "ok" ∷ [])
 
 -- ---- all lines
 
+-- the last volume's receipts, if some are left there
+abbrev pub receipts_in : Option Stub → List (List Receipt)
+receipts_in None = []
+receipts_in (Some stub) = stub.receipts.items ∷ []
+
 -- The session that the first line names was opened, with keys to whoever brings one of its tenant's, called with the lines behind, and closed; it
--- is over where one of them ended it.
-pub record Serves (admits : Admits) (hosted : Hosted) (first : Piece) (behind : List Piece) (text : List ℕ) (stub : Stub) (over : Bool) : Type 0 where
+-- is over where one of them ended it. It left receipts in each volume of its tenant's trail that was ended meanwhile, and in the last one.
+pub record Serves (admits : Admits) (hosted : Hosted) (first : Piece) (behind : List Piece) (text : List ℕ) (left : List (List Receipt)) (stub : Option Stub) (over : Bool) : Type 0 where
   pub named : SessionName
   pub is_named : named_by hosted.keyed first ≡ Some named
   pub admitted : hosted.keyed ≡ true → IsAdmitted admits first
@@ -120,16 +126,20 @@ pub record Serves (admits : Admits) (hosted : Hosted) (first : Piece) (behind : 
   pub are_calls : AreCalls exchanges
   pub lines_are : behind ≡ map line_in exchanges
   pub text_is : text ≡ welcome ++ flat_map said_text exchanges
-  pub stub_of : (stub.tenant ≡ tenant_at hosted named.tenant) × (stub.session ≡ named.session)
-  pub receipts : AreReceipts exchanges stub.receipts.items
+  pub stub_of : IfSome stub (λ s. (s.tenant ≡ tenant_at hosted named.tenant) × (s.session ≡ named.session))
+  pub receipts : AreVolumes exchanges (left ++ receipts_in stub)
   pub over_is : over ≡ has_ended exchanges
 
--- no line came; or the first one opened no session, and is the last; or it did
-abbrev pub Talks : Admits → Hosted → List Piece → List ℕ → Option Stub → Bool → Type 0
-Talks admits hosted [] text stub over = (text ≡ []) × (stub ≡ None) × (over ≡ false)
-Talks admits hosted (first ∷ behind) text None over =
+-- the first line opened no session, and is the last
+abbrev pub TurnsAwayAlone : Hosted → Piece → List Piece → List ℕ → Bool → Type 0
+TurnsAwayAlone hosted first behind text over =
     (behind ≡ []) × ((said : List (List ℕ)) × TurnsAway hosted first said × (text ≡ ended_lines said)) × (over ≡ true)
-Talks admits hosted (first ∷ behind) text (Some stub) over = Serves admits hosted first behind text stub over
+
+-- no line came; or the first one opened no session; or it did
+abbrev pub Talks : Admits → Hosted → List Piece → List ℕ → List (List Receipt) → Option Stub → Bool → Type 0
+Talks admits hosted [] text left stub over = (text ≡ []) × (left ≡ []) × (stub ≡ None) × (over ≡ false)
+Talks admits hosted (first ∷ behind) text left stub over =
+    (TurnsAwayAlone hosted first behind text over × (left ≡ []) × (stub ≡ None)) ⊎ Serves admits hosted first behind text left stub over
 
 -- What a connection does until it is closed: it reads some bytes and answers some lines, the writer took a first part of the text, and
 -- the rest is left.
@@ -139,7 +149,7 @@ pub record Conversation (hosted : Hosted) (input held rest holds : Option (List 
   pub pieces : List Piece
   pub text : List ℕ
   pub over : Bool
-  pub talks : Talks anyone hosted pieces text stub over
+  pub talks : Talks anyone hosted pieces text [] stub over
   pub written : List ℕ
   pub left : List ℕ
   pub whole : text ≡ written ++ left

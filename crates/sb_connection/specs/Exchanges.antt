@@ -90,6 +90,12 @@ pub record AreReceipts (exchanges : List Exchange) (receipts : List Receipt) : T
   pub closing : ℕ
   pub are : receipts ≡ receipt (codes "open") (numbered opening told.Ok) ∷ (receipts_of exchanges ++ closing_receipts (has_ended exchanges) closing)
 
+-- The exchanges of a session, cut where its tenant's trail was renewed: it was opened in each volume, called with the lines there, and closed, and
+-- left these receipts.
+abbrev pub AreVolumes : List Exchange → List (List Receipt) → Type 0
+AreVolumes es [] = es ≡ []
+AreVolumes es (receipts ∷ more) = (now behind : List Exchange) × (es ≡ now ++ behind) × AreReceipts now receipts × AreVolumes behind more
+
 -- the last receipt is an `end` that was answered `ok`
 pub record IsClosed (receipts : List Receipt) : Type 0 where
   pub others : List Receipt

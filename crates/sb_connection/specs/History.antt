@@ -2,6 +2,7 @@
 use Rattle.std.specs.Prelude.{◌≡◌, ◌⊎◌, ℕ, Bool, true, false, List, [], ◌++◌, take, drop, map, flat_map, Option, Some, None, ◌∷◌}
 use Rattle.sb_wire.specs.Lines.{Piece, complete_pieces, last_piece, open_line, piece_of}
 use Rattle.sb_desk.specs.declared.stub.Stub.{Stub}
+use Rattle.sb_desk.specs.declared.receipts.Receipt.{Receipt}
 use Rattle.sb_connection.specs.declared.state.State.{State}
 use Rattle.sb_connection.specs.declared.state.State.TheVariants.{Open, Answered, Over, Failed}
 use Rattle.sb_connection.specs.Conversation.{Hosted, Talks, named_by, welcome}
@@ -14,8 +15,12 @@ pub record History : Type 0 where
   -- those of the host
   pub hosted : Hosted
   pub state : State
-  -- a session was opened
+  -- a session was opened, and doesn't wait for the next volume of its tenant's trail
   pub attached : Bool
+  -- it does
+  pub waits : Bool
+  -- the receipts that it left in each volume that was ended
+  pub left : List (List Receipt)
   -- what the first line names, once it is answered
   pub named : Option SessionName
   -- the client sends no more
@@ -30,7 +35,7 @@ pub record History : Type 0 where
 -- ---- what is done from outside
 
 abbrev pub nothing_yet : Hosted → History
-nothing_yet hosted = record { hosted = hosted; state = Open; attached = false; named = None; at_end = false; received = []; waiting = []; handed = []; pending = [] }
+nothing_yet hosted = record { hosted = hosted; state = Open; attached = false; waits = false; left = []; named = None; at_end = false; received = []; waiting = []; handed = []; pending = [] }
 
 abbrev pub after_receiving : History → List ℕ → History
 after_receiving h bytes = record h { received = h.received ++ bytes; waiting = h.waiting ++ bytes }
@@ -47,18 +52,27 @@ pending_limit = 65_536
 
 -- lines are answered, more bytes may come, and all that came are looked at
 abbrev pub MayReceive : History → Type 0
-MayReceive h = (is_open h.state ≡ true) × (h.at_end ≡ false) × (h.waiting ≡ [])
+MayReceive h = (is_open h.state ≡ true) × (h.at_end ≡ false) × (h.waiting ≡ []) × (h.waits ≡ false)
 
 -- ---- a turn
 
--- nothing is received or sent
+-- nothing is received or sent, and no volume is left
 abbrev pub SameStreams : History → History → Type 0
 SameStreams old new =
     (new.hosted ≡ old.hosted) × (new.at_end ≡ old.at_end) × (new.received ≡ old.received) × (new.handed ≡ old.handed)
+    × (new.left ≡ old.left) × (new.waits ≡ old.waits)
 
--- no line is answered any more, or something is to be sent first, or all that came are looked at and more may come
+-- no line is answered any more, or something is to be sent first, or all that came are looked at and more may come, or the session waits for a volume
 abbrev pub IsSettled : History → Type 0
-IsSettled h = (is_open h.state ≡ false) ⊎ ((h.pending ≡ [] → ⊥) ⊎ ((h.waiting ≡ []) × (h.at_end ≡ false)))
+IsSettled h = (is_open h.state ≡ false) ⊎ ((h.pending ≡ [] → ⊥) ⊎ (((h.waiting ≡ []) × (h.at_end ≡ false)) ⊎ (h.waits ≡ true)))
+
+-- its session leaves the volume, with these receipts
+abbrev pub after_suspending : History → List Receipt → History
+after_suspending h receipts = record h { attached = false; waits = true; left = h.left ++ receipts ∷ [] }
+
+-- it is in the next one
+abbrev pub after_resuming : History → History
+after_resuming h = record h { attached = true; waits = false }
 
 -- ---- what was answered
 
@@ -110,4 +124,4 @@ pub record Converses (admits : Admits) (h : History) (stub : Option Stub) : Type
   pub text : List ℕ
   pub over : Bool
   pub tells : Tells h pieces text over
-  pub talks : Talks admits h.hosted pieces text stub over
+  pub talks : Talks admits h.hosted pieces text h.left stub over

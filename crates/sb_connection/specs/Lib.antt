@@ -1,5 +1,6 @@
 pub mod Policies
 pub mod Exchanges
+pub mod Callers
 pub mod Conversation
 pub mod Responses
 pub mod Seen

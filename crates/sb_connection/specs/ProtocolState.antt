@@ -1,36 +1,82 @@
 -- Machine: what holds of a connection between its steps.
-use Rattle.std.specs.Prelude.{◌≡◌, ◌<◌, ℕ, Bool, true, false, List, [], ◌∷◌, ◌++◌, length, Option, Some, None, is_some}
+use Rattle.std.specs.Prelude.{◌≡◌, ◌⊎◌, ◌<◌, ℕ, Bool, true, false, not, ◌&&◌, List, [], ◌∷◌, ◌++◌, length, map, Option, Some, None, is_some}
 use Rattle.sb_wire.specs.Lines.{Piece, last_piece, open_line, piece_of}
 use Rattle.sb_wire.specs.Responses.{AreAnswered}
 use Rattle.sb_connection.specs.declared.state.State.TheVariants.{Open, Answered, Over, Failed}
 use Rattle.sb_connection.specs.declared.state.State as stands
-use Rattle.sb_connection.specs.History.{History, IsSettled, SameStreams, Tells}
-use Rattle.sb_connection.specs.Conversation.{named_by}
+use Rattle.sb_connection.specs.History.{History, IsSettled, SameStreams, Tells, after_resuming, after_suspending}
+use Rattle.sb_connection.specs.Conversation.{Hosted, named_by}
 use Rattle.sb_connection.specs.Policies.{Admits}
+use Rattle.sb_desk.specs.declared.receipts.Receipt.{Receipt}
 use Rattle.sb_desk.specs.Calls.{Session}
-use Rattle.sb_connection.specs.Responses.{Responds, State, over}
+use Rattle.sb_desk.specs.declared.stub.Stub.{Stub}
+use Rattle.sb_connection.specs.Callers.{Caller, IsNewcomer, Life, Stay, Suspends, calls_of, opening_receipt}
+use Rattle.sb_connection.specs.Exchanges.{closing_receipts}
+use Rattle.sb_connection.specs.Responses.{Responds, State, over, stays_in, talk_of, waits_in}
 use Rattle.sb_connection.specs.declared.first_line.SessionName.{SessionName}
 use Rattle.sb_connection.specs.Admission.{LetsIn}
 
--- its history, the line that stands open, and the session
+-- its history, the line that stands open, its session, and whether it was turned away
 pub record Talking : Type 0 where
   pub history : History
   pub opened : Piece
-  pub talk : State
+  pub caller : Option Caller
+  pub away : Bool
+
+-- the session's life, if it has one
+abbrev pub talk : Talking → State
+talk k = talk_of k.caller k.away
+
+-- what it left of volumes
+abbrev pub stays : Talking → List Stay
+stays k = stays_in k.caller
+
+-- it waits for the next one
+abbrev pub waits : Talking → Bool
+waits k = waits_in k.caller
 
 -- what the first of these lines names
 abbrev pub named_first : Bool → List Piece → Option SessionName
 named_first keyed [] = None
 named_first keyed (p ∷ ps) = named_by keyed p
 
+-- the session left the volume behind the calls before and these, whose receipts it left there
+pub record LeavesBehind (before : List Receipt) (mid : State) (stay : Stay) : Type 0 where
+  pub life : Life
+  pub is : mid.0 ≡ Some life
+  pub ended : life.ended ≡ stay.1
+  pub calls : life.calls ≡ before ++ calls_of stay
+  pub opening : ℕ
+  pub closing : ℕ
+  pub receipts : stay.0 ≡ opening_receipt opening ∷ (calls_of stay ++ closing_receipts stay.1 closing)
+
+-- these lines are answered so; none, where the session waits for a volume
+abbrev pub AreSaid : Admits → Hosted → State → List Piece → List ℕ → State → Type 0
+AreSaid admits hosted old pieces text new = AreAnswered (Responds admits hosted) over old pieces text new
+
+abbrev pub AreSaidNow : Admits → Hosted → Bool → State → List Piece → List ℕ → State → Type 0
+AreSaidNow admits hosted true old pieces text new = (pieces ≡ []) × (text ≡ []) × (new ≡ old)
+AreSaidNow admits hosted false old pieces text new = AreSaid admits hosted old pieces text new
+
+-- The lines are answered, some in each volume that was ended, behind calls whose receipts stand in others, and the rest in the one that goes on,
+-- unless the session waits for it. It is the last volume for a session that has ended.
+abbrev pub AreTold : Admits → Hosted → Bool → List Receipt → State → List Stay → List Piece → List ℕ → State → Type 0
+AreTold admits hosted waiting before old [] pieces text new = AreSaidNow admits hosted waiting old pieces text new
+AreTold admits hosted waiting before old (stay ∷ more) pieces text new =
+    (now behind : List Piece) × (said rest : List ℕ) × (mid : State) × (pieces ≡ now ++ behind) × (text ≡ said ++ rest)
+    × AreSaid admits hosted old now said mid × LeavesBehind before mid stay × (stay.1 ≡ true → (more ≡ []) × (waiting ≡ true))
+    × AreTold admits hosted waiting (before ++ calls_of stay) mid more behind rest new
+
 -- the session answered the lines of the bytes that are looked at, and goes on behind them
 pub record Holds (admits : Admits) (k : Talking) : Type 0 where
   pub pieces : List Piece
   pub text : List ℕ
-  pub tells : Tells k.history pieces text (over k.talk)
+  pub tells : Tells k.history pieces text (over (talk k))
   pub is_open : k.opened ≡ piece_of (open_line tells.taken)
-  pub attached : k.history.attached ≡ is_some k.talk.0
-  pub answered : AreAnswered (Responds admits k.history.hosted) over (None, false) pieces text k.talk
+  pub attached : k.history.attached ≡ (is_some k.caller && not (waits k))
+  pub waiting : k.history.waits ≡ waits k
+  pub left : k.history.left ≡ map (λ stay. stay.0) (stays k)
+  pub told : AreTold admits k.history.hosted (waits k) [] (None, false) (stays k) pieces text (talk k)
   pub named : k.history.named ≡ named_first k.history.hosted.keyed pieces
 
 -- A step keeps what holds, and receives and sends nothing. It opens a session only to whom it may, and loses none; where there may be more, it
@@ -43,6 +89,24 @@ pub record Steps (admits : Admits) (old : Talking) (more : Bool) (new : Talking)
   pub streams : SameStreams old.history new.history
   pub settles : more ≡ false → IsSettled new.history
 
+-- ---- volumes
+
+-- its session leaves a volume
+pub record SuspendsIn (old : Talking) (stub : Stub) (new : Talking) : Type 0 where
+  pub before : Caller
+  pub after : Caller
+  pub was : old.caller ≡ Some before
+  pub suspends : Suspends before stub after
+  pub is : new ≡ record old { history = after_suspending old.history stub.receipts.items; caller = Some after }
+
+-- a session that waits is in the next one; there is none, or it doesn't wait, or it has ended: then nothing changes
+abbrev pub ResumesIn : Talking → Talking → Type 0
+ResumesIn old new =
+    ((new ≡ old) × ((waits old ≡ false) ⊎ (over (talk old) ≡ true)))
+    ⊎ ((before : Caller) × (s : Session) × (old.caller ≡ Some before) × (before.waits ≡ true) × (before.life.ended ≡ false)
+    × IsNewcomer before.life.tenant before.life.session s
+    × (new ≡ record old { history = after_resuming old.history; caller = Some (record before { list = s.list; waits = false; last = s.last }) }))
+
 -- ---- one line
 
 -- before a session is opened, what the first of these lines names, if there is one
@@ -51,13 +115,13 @@ named_anew keyed named [] = named
 named_anew keyed named (p ∷ ps) = named_by keyed p
 
 -- a session keeps its name
-abbrev pub named_after : Option Session → Bool → Option SessionName → List Piece → Option SessionName
+abbrev pub named_after : Option Caller → Bool → Option SessionName → List Piece → Option SessionName
 named_after None keyed named ps = named_anew keyed named ps
 named_after (Some o) keyed named ps = named
 
 -- the open line is the first one, unless a session is open
 abbrev pub naming : Talking → Talking
-naming k = record k { history = record k.history { named = named_after k.talk.0 k.history.hosted.keyed k.history.named (k.opened ∷ []) } }
+naming k = record k { history = record k.history { named = named_after k.caller k.history.hosted.keyed k.history.named (k.opened ∷ []) } }
 
 -- the text is to be sent behind the rest, unless memory ran out
 abbrev pub Adds : stands.State → List ℕ → List ℕ → List ℕ → Bool → Type 0
@@ -68,14 +132,16 @@ Adds Failed old text new is_over = new ≡ old
 
 -- it has the name that these lines give it
 abbrev pub IsNamedBy : Talking → List Piece → Talking → Type 0
-IsNamedBy old ps new = new.history.named ≡ named_after old.talk.0 old.history.hosted.keyed old.history.named ps
+IsNamedBy old ps new = new.history.named ≡ named_after old.caller old.history.hosted.keyed old.history.named ps
 
 -- the open line is answered, and all else stays
 pub record Answers (admits : Admits) (old new : Talking) : Type 0 where
   pub text : List ℕ
-  pub responds : Responds admits old.history.hosted old.talk old.opened text new.talk
-  pub adds : Adds new.history.state old.history.pending text new.history.pending (over new.talk)
-  pub attached : new.history.attached ≡ is_some new.talk.0
+  pub responds : Responds admits old.history.hosted (talk old) old.opened text (talk new)
+  pub adds : Adds new.history.state old.history.pending text new.history.pending (over (talk new))
+  pub attached : new.history.attached ≡ (is_some new.caller && not (waits new))
+  pub stays_are : stays new ≡ stays old
+  pub waits_are : waits new ≡ waits old
   pub streams : SameStreams old.history new.history
   pub waiting : new.history.waiting ≡ old.history.waiting
   pub opened : new.opened ≡ old.opened
@@ -98,9 +164,11 @@ AddsLast Failed old text new = new ≡ old
 -- the line that stands open at the end is answered, if it has a byte, and no other one is
 pub record Finishes (admits : Admits) (old new : Talking) : Type 0 where
   pub text : List ℕ
-  pub answered : AreAnswered (Responds admits old.history.hosted) over old.talk (last_piece old.opened) text new.talk
+  pub answered : AreAnswered (Responds admits old.history.hosted) over (talk old) (last_piece old.opened) text (talk new)
   pub adds : AddsLast new.history.state old.history.pending text new.history.pending
-  pub attached : new.history.attached ≡ is_some new.talk.0
+  pub attached : new.history.attached ≡ (is_some new.caller && not (waits new))
+  pub stays_are : stays new ≡ stays old
+  pub waits_are : waits new ≡ waits old
   pub streams : SameStreams old.history new.history
   pub waiting : new.history.waiting ≡ old.history.waiting
   pub opened : new.opened ≡ old.opened

@@ -1,9 +1,9 @@
 //! A connection as a value over bytes: bytes come in and bytes go out, and it makes no system call.
-ghost use Rattle.std.specs.Prelude.{◌≡◌, ◌<◌, ◌≤◌, ◌↔◌, length, IfOk, IfSome, IsFalse, IsTrue, None, OnErr, OnOk, [], false, is_some, true};
+ghost use Rattle.std.specs.Prelude.{◌≡◌, ◌⊎◌, ◌<◌, ◌≤◌, ◌↔◌, length, IfNone, IfOk, IfSome, IsFalse, IsTrue, None, OnErr, OnOk, [], false, is_some, true};
 ghost use Rattle.sb_connection.specs.Conversation.{hosting_by};
 ghost use Rattle.sb_connection.specs.Admission.{LetsIn};
 ghost use Rattle.sb_connection.specs.Exchanges.{IsClosed};
-ghost use Rattle.sb_connection.specs.History.{Converses, IsSessionOf, IsSettled, MayReceive, SameStreams, Transacts, after_end, after_receiving, after_sending, nothing_yet, pending_limit};
+ghost use Rattle.sb_connection.specs.History.{Converses, IsSessionOf, IsSettled, MayReceive, SameStreams, Transacts, after_end, after_receiving, after_resuming, after_sending, after_suspending, nothing_yet, pending_limit};
 ghost use Rattle.sb_connection.specs.Standing.{is_open};
 ghost use Rattle.sb_connection.specs.Traffic.{after_write};
 
@@ -15,7 +15,7 @@ use crate::serve::{close, tell_end};
 use crate::state::State;
 use crate::stream::Stream;
 use crate::watch::Watch;
-use sb_desk::{Hosting, Stub};
+use sb_desk::{AttachError, Hosting, Stub};
 use std::alloc::{AllocError, Global};
 use std::io;
 use std::marker::Model;
@@ -158,13 +158,45 @@ impl<H: Hosting, D: Doorkeeper> Connection<H, D> {
         ensures none { self.now.attached ≡ false → result ≡ None }
         ensures named { IfSome result (IsSessionOf self.now) }
     {
-        match self.protocol_state.session {
-            Some(_) => self.protocol_state.named,
-            None => None,
+        match &self.protocol_state.session {
+            Some(caller) if !caller.waits() => self.protocol_state.named,
+            _ => None,
         }
     }
 
-    /// Closes the session, if one was opened, and reports it. Leaves the session's receipts.
+    /// True while its session waits for the next volume of its tenant's trail. No line is answered then, and nothing is
+    /// read.
+    pub fn waits(&self) -> bool
+        ensures { result ≡ self.now.waits }
+    {
+        self.protocol_state.waits()
+    }
+
+    /// Makes the step `end` of the session, unless it has ended, and leaves its receipts in this volume of its tenant's
+    /// trail. The session waits for the next one. None if there is no session, or it has a transaction, or waits already.
+    pub fn suspend<T: Wait>(&mut self, rt: &T) -> Option<Stub>
+        ensures some { IfSome result (λ stub. self.new ≡ after_suspending self.old stub.receipts.items) }
+        ensures attached { IfSome result (λ stub. self.old.attached ≡ true) }
+        ensures conversation { IfSome result (λ stub. Converses D.policy.admits self.new None) }
+        ensures closed { IfSome result (λ stub. IsClosed stub.receipts.items) }
+        ensures none { IfNone result (self.new ≡ self.old) }
+        ensures why { IfNone result (self.old.attached ≡ true → Transacts self.old true) }
+    {
+        self.protocol_state.suspend(rt)
+    }
+
+    /// Makes the step `open` of a session that waits, in the next volume, unless the session has ended. Error: why it
+    /// isn't opened; it waits on.
+    pub fn resume<T: Wait>(&mut self, rt: &T) -> Result<(), AttachError>
+        ensures ok { OnOk result (((self.new ≡ self.old) × ((self.old.waits ≡ false) ⊎ (is_open self.old.state ≡ false)))
+            ⊎ ((self.old.waits ≡ true) × (self.new ≡ after_resuming self.old))) }
+        ensures err { OnErr result (self.new ≡ self.old) }
+    {
+        self.protocol_state.resume(rt)
+    }
+
+    /// Closes the session, if one was opened, and reports it. Leaves the session's receipts in the volume in which it is,
+    /// if it is in one.
     pub fn close<T: Wait, V: Watch>(self, rt: &T, watch: &V, ended: ConnectionEnd) -> Option<Stub>
         ensures conversation { Converses D.policy.admits self result }
         ensures keyed { self.hosted.keyed ≡ D.policy.keyed }

@@ -35,11 +35,11 @@ impl<'r, T: Wait, H: Hosting, V: Watch, D: Doorkeeper> Responder<
     bool,
 > for Talk<'r, T, H, V, D> {
     ghost use Rattle.sb_connection.specs.Conversation.{hosting_by};
-    ghost use Rattle.sb_connection.specs.Responses.{Responds, over};
+    ghost use Rattle.sb_connection.specs.Responses.{RespondsIn, is_over_in};
 
-    ghost responds = { λ talk. Responds D.policy.admits (hosting_by talk.keyed talk.first (H.tenants talk.entrance.now)) };
+    ghost responds = { λ talk. RespondsIn D.policy.admits (hosting_by talk.keyed talk.first (H.tenants talk.entrance.now)) };
 
-    ghost over = { over };
+    ghost over = { is_over_in };
 
     fn respond(
         &self,
@@ -71,8 +71,9 @@ fn exchange<T: Wait, S: Calling>(
     out: &mut Vec<u8>,
     session: &mut SessionCaller<S>,
 ) -> Result<(), AllocError>
-    requires { session.old.ended ≡ false }
-    ensures { (e : Exchange) × (piece_seen piece.entry ≡ line_in e) × Exchanges session.old e session.new
+    requires { session.old.life.ended ≡ false }
+    ensures { (e : Exchange) × (piece_seen piece.entry ≡ line_in e) × Exchanges session.old.life e session.new.life
+        × (session.new.stays ≡ session.old.stays) × (session.new.waits ≡ session.old.waits)
         × OnOk result (out.new.items ≡ out.old.items ++ said_text e)
         × OnErr result (out.new.items ≡ out.old.items) }
 {

@@ -1,9 +1,11 @@
 //! Where sessions of a host are opened.
-ghost use Rattle.std.specs.Prelude.{◌≡◌, false, Err, MatchResult, Ok};
+ghost use Rattle.std.specs.Prelude.{◌≡◌, false, Err, IfOk, MatchResult, Ok};
+ghost use Rattle.sb_connection.specs.Callers.{IsNewcomer};
 ghost use Rattle.sb_connection.specs.Conversation.{hosting, tenant_at};
 ghost use Rattle.sb_desk.specs.Calls.{Attached};
 
 use crate::admission::Doorkeeper;
+use crate::caller::Absence;
 use crate::first_line::{SessionName, tenant_at};
 use sb_desk::{AttachError, Hosting};
 use std::alloc::Global;
@@ -94,5 +96,18 @@ impl<H: Hosting> Entrance<H> {
         let Pass { named, by: _ } = pass;
         let tenant = tenant_at(first, self.host.tenants(), named.tenant);
         self.host.attach(rt, alloc, tenant, named.session)
+    }
+
+    /// Opens a session again that was open in the volume before.
+    pub(crate) fn reopen<T: Wait>(
+        &self,
+        rt: &T,
+        alloc: Global,
+        absence: Absence,
+    ) -> Result<H::Session, AttachError>
+        ensures { IfOk result (λ opened. IsNewcomer absence.tenant absence.session (H.Session.seen opened)) }
+    {
+        let session = u32::from(absence.session.number());
+        self.host.attach(rt, alloc, absence.tenant, session)
     }
 }

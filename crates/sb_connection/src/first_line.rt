@@ -1,9 +1,9 @@
 //! The first line of a connection.
-ghost use Rattle.std.specs.Prelude.{◌≡◌, ◌++◌, ◌∷◌, [], None, OnOk, OnErr, true};
+ghost use Rattle.std.specs.Prelude.{◌≡◌, ◌++◌, ◌∷◌, [], None, OnOk, OnErr, false, true};
 ghost use Rattle.sb_wire.specs.Output.{ended_lines};
 ghost use Rattle.sb_wire.specs.Seen.{piece_seen, refusal_line};
 ghost use Rattle.sb_connection.specs.Conversation.{attach_lines, hosting, hosting_by, named_by, named_of, tenant_at, visitor_of};
-ghost use Rattle.sb_connection.specs.Responses.{Greets, GreetsNamed, GreetsVisitor, WritesText};
+ghost use Rattle.sb_connection.specs.Responses.{Greets, GreetsNamed, GreetsVisitor, WritesText, life_in, stays_in, waits_in};
 
 use crate::admission::Doorkeeper;
 use crate::caller::SessionCaller;
@@ -104,8 +104,9 @@ pub(crate) fn greet<T: Wait, H: Hosting, V: Watch, D: Doorkeeper>(
     away: &mut bool,
 ) -> Result<(), AllocError>
     requires { session.old ≡ None }
-    ensures { WritesText (λ text. Greets D.policy.admits (hosting_by talk.now.keyed talk.now.first (H.tenants talk.now.entrance.now))
-        (piece_seen piece.entry) text session.new away.new) out.old.items result out.new.items }
+    ensures writes { WritesText (λ text. Greets D.policy.admits (hosting_by talk.now.keyed talk.now.first (H.tenants talk.now.entrance.now))
+        (piece_seen piece.entry) text (life_in session.new) away.new) out.old.items result out.new.items }
+    ensures fresh { (stays_in session.new ≡ []) × (waits_in session.new ≡ false) }
 {
     match piece {
         Piece::TooLong => turn_away(talk.watch, out, away, WireRefusal::TooLong),
@@ -127,9 +128,10 @@ fn greet_visitor<T: Wait, H: Hosting, V: Watch, D: Doorkeeper>(
     away: &mut bool,
 ) -> Result<(), AllocError>
     requires { session.old ≡ None }
-    ensures { WritesText (λ text. GreetsVisitor D.policy.admits
-        (hosting_by talk.now.keyed talk.now.first (H.tenants talk.now.entrance.now)) (visitor_of line.now) text session.new away.new)
+    ensures writes { WritesText (λ text. GreetsVisitor D.policy.admits
+        (hosting_by talk.now.keyed talk.now.first (H.tenants talk.now.entrance.now)) (visitor_of line.now) text (life_in session.new) away.new)
         out.old.items result out.new.items }
+    ensures fresh { (stays_in session.new ≡ []) × (waits_in session.new ≡ false) }
 {
     let Some(handshake) = KeyHandshake::split(line) else {
         return turn_away(talk.watch, out, away, WireRefusal::BadKey);
@@ -169,8 +171,9 @@ fn open<T: Wait, H: Hosting, V: Watch, D: Doorkeeper>(
     away: &mut bool,
 ) -> Result<(), AllocError>
     requires { session.old ≡ None }
-    ensures { WritesText (λ text. GreetsNamed (hosting_by talk.now.keyed talk.now.first (H.tenants talk.now.entrance.now)) pass text
-        session.new away.new) out.old.items result out.new.items }
+    ensures writes { WritesText (λ text. GreetsNamed (hosting_by talk.now.keyed talk.now.first (H.tenants talk.now.entrance.now)) pass text
+        (life_in session.new) away.new) out.old.items result out.new.items }
+    ensures fresh { (stays_in session.new ≡ []) × (waits_in session.new ≡ false) }
 {
     let named = pass.named();
     match talk.entrance.open(talk.rt, alloc, talk.first, pass) {

@@ -1,10 +1,10 @@
 //! The steps of a connection, each of which answers a line.
-ghost use Rattle.std.specs.Prelude.{◌≡◌, ◌<◌, ◌≤◌, [], ◌∷◌, false, true, None, length, ◌⊎◌, IfOk, IsFalse, IsTrue, MatchBool, OnErr, OnOk};
+ghost use Rattle.std.specs.Prelude.{◌≡◌, ◌<◌, ◌≤◌, [], ◌∷◌, false, true, None, length, ◌⊎◌, IfOk, IsFalse, IsTrue, MatchBool, OnErr, OnOk, IfNone, IfSome};
 ghost use Rattle.std.specs.Option.{option_map_or};
 ghost use Rattle.sb_wire.specs.Lines.{last_piece, line};
 ghost use Rattle.sb_connection.specs.Conversation.{hosting_by};
 ghost use Rattle.sb_connection.specs.History.{MayReceive, after_end, after_receiving, after_sending, nothing_yet, pending_limit};
-ghost use Rattle.sb_connection.specs.ProtocolState.{Answers, Finishes, IsNamedBy, Steps, ended, naming};
+ghost use Rattle.sb_connection.specs.ProtocolState.{Answers, Finishes, IsNamedBy, ResumesIn, Steps, SuspendsIn, ended, naming, talk};
 ghost use Rattle.sb_connection.specs.Responses.{over};
 ghost use Rattle.sb_connection.specs.Standing.{is_open};
 ghost use Rattle.sb_connection.specs.Traffic.{after_write};
@@ -19,7 +19,7 @@ use crate::stream::Stream;
 use crate::trail_room::{newest_step, tell_refusal, tell_reply, tell_room, was_unbegun};
 use crate::watch::{ConnectionEvent, Watch};
 use http_server::Log;
-use sb_desk::Hosting;
+use sb_desk::{AttachError, Hosting, Stub};
 use sb_wire::{Lines, Piece, Responder, WireRefusal};
 use std::alloc::{AllocError, Global};
 use std::io;
@@ -71,7 +71,8 @@ struct Before {
 }
 
 impl<H: Hosting, D: Doorkeeper> Model for ProtocolState<H, D> {
-    ghost use Rattle.std.specs.Prelude.{◌≡◌, ◌≤◌, flat_map, is_some, take, drop, vec_len};
+    ghost use Rattle.std.specs.Prelude.{◌≡◌, ◌≤◌, ◌&&◌, false, not, [], flat_map, is_some, map, take, drop, vec_len};
+    ghost use Rattle.std.specs.Option.{option_map_or};
     ghost use Rattle.sb_connection.specs.Conversation.{hosting_by};
     ghost use Rattle.sb_connection.specs.ProtocolState.{Talking};
 
@@ -81,7 +82,9 @@ impl<H: Hosting, D: Doorkeeper> Model for ProtocolState<H, D> {
       history = record {
         hosted = hosting_by m.keyed m.first (H.tenants m.entrance);
         state = m.state;
-        attached = is_some m.session;
+        attached = is_some m.session && not (option_map_or (λ c. c.waits) m.session false);
+        waits = option_map_or (λ c. c.waits) m.session false;
+        left = map (λ stay. stay.0) (option_map_or (λ c. c.stays) m.session []);
         named = m.named;
         at_end = m.at_end;
         received = flat_map (λ r. r.0.items) m.reads.items;
@@ -90,7 +93,8 @@ impl<H: Hosting, D: Doorkeeper> Model for ProtocolState<H, D> {
         pending = drop m.sent m.output.items;
       };
       opened = m.lines;
-      talk = (m.session, m.away);
+      caller = m.session;
+      away = m.away;
     } };
 
     ghost invariant = { λ m. (m.taken ≤ vec_len m.input) × (m.sent ≤ vec_len m.output) × (m.keyed ≡ D.policy.keyed) };
@@ -99,7 +103,7 @@ impl<H: Hosting, D: Doorkeeper> Model for ProtocolState<H, D> {
 impl<H: Hosting, D: Doorkeeper> ProtocolState<H, D> {
     pub(crate) fn new(alloc: Global, host: H, first: u32, keyed: bool) -> ProtocolState<H, D>
         requires { keyed ≡ D.policy.keyed }
-        ensures { result ≡ record { history = nothing_yet (hosting_by keyed first (H.tenants host)); opened = line []; talk = (None, false) } }
+        ensures { result ≡ record { history = nothing_yet (hosting_by keyed first (H.tenants host)); opened = line []; caller = None; away = false } }
     {
         ProtocolState {
             alloc,
@@ -137,7 +141,7 @@ impl<H: Hosting, D: Doorkeeper> ProtocolState<H, D> {
     }
 
     pub(crate) fn into_session(self) -> Option<SessionCaller<H::Session>>
-        ensures session { result ≡ self.talk.0 }
+        ensures session { result ≡ self.caller }
         ensures keyed { self.history.hosted.keyed ≡ D.policy.keyed }
     {
         let ProtocolState { session, .. } = self;
@@ -146,7 +150,7 @@ impl<H: Hosting, D: Doorkeeper> ProtocolState<H, D> {
 
     /// Answers the next line, if it is complete and there is room for its reply. True if there may be another one.
     pub(crate) fn step<T: Wait, V: Watch>(&mut self, rt: &T, watch: &V, doorkeeper: &D) -> bool
-        requires { is_open self.old.history.state ≡ true → over self.old.talk ≡ false }
+        requires { is_open self.old.history.state ≡ true → over (talk self.old) ≡ false }
         ensures steps { Steps D.policy.admits self.old result self.new }
         ensures full { pending_limit ≤ length self.old.history.pending → self.new ≡ self.old }
     {
@@ -176,7 +180,7 @@ impl<H: Hosting, D: Doorkeeper> ProtocolState<H, D> {
 
     /// Answers the complete line, and reports a trail that fills up.
     fn answer<T: Wait, V: Watch>(&mut self, rt: &T, watch: &V, doorkeeper: &D)
-        requires { over self.old.talk ≡ false }
+        requires { over (talk self.old) ≡ false }
         ensures answers { Answers D.policy.admits self.old self.new }
         ensures named { IsNamedBy self.old (self.old.opened ∷ []) self.new }
     {
@@ -279,7 +283,8 @@ impl<H: Hosting, D: Doorkeeper> ProtocolState<H, D> {
 
     /// True if its session has a transaction.
     pub(crate) fn has_transaction(&self) -> bool
-        ensures { result ≡ option_map_or (λ o. o.has_transaction) self.now.talk.0 false }
+        ensures is { result ≡ option_map_or (λ c. c.life.has_transaction) self.now.caller false }
+        ensures none { self.now.history.attached ≡ false → result ≡ false }
     {
         match &self.session {
             Some(session) => session.has_transaction(),
@@ -288,7 +293,7 @@ impl<H: Hosting, D: Doorkeeper> ProtocolState<H, D> {
     }
 
     fn respond<T: Wait, V: Watch>(&mut self, rt: &T, watch: &V, doorkeeper: &D)
-        requires { over self.old.talk ≡ false }
+        requires { over (talk self.old) ≡ false }
         ensures answers { Answers D.policy.admits self.old self.new }
         ensures named { self.new.history.named ≡ self.old.history.named }
     {
@@ -313,7 +318,7 @@ impl<H: Hosting, D: Doorkeeper> ProtocolState<H, D> {
 
     /// Answers the incomplete line at the end, if it has a byte.
     fn answer_last<T: Wait, V: Watch>(&mut self, rt: &T, watch: &V, doorkeeper: &D)
-        requires { over self.old.talk ≡ false }
+        requires { over (talk self.old) ≡ false }
         ensures finishes { Finishes D.policy.admits self.old self.new }
         ensures named { IsNamedBy self.old (last_piece self.old.opened) self.new }
     {
@@ -338,13 +343,52 @@ impl<H: Hosting, D: Doorkeeper> ProtocolState<H, D> {
     /// True if a line is answered where one comes.
     fn may_answer(&self) -> bool
         ensures open { IsTrue result → is_open self.now.history.state ≡ true }
-        ensures not { IsFalse result → (is_open self.now.history.state ≡ false) ⊎ (self.now.history.pending ≡ [] → ⊥) }
+        ensures not { IsFalse result → (is_open self.now.history.state ≡ false) ⊎ ((self.now.history.pending ≡ [] → ⊥) ⊎ (self.now.history.waits ≡ true)) }
         ensures few { IsTrue result → length self.now.history.pending < pending_limit }
+        ensures there { IsTrue result → self.now.history.waits ≡ false }
     {
-        if !self.state.is_open() {
+        if !self.state.is_open() || self.waits() {
             return false;
         }
         self.has_room()
+    }
+
+    /// True while its session waits for the next volume of its tenant's trail.
+    pub(crate) fn waits(&self) -> bool
+        ensures { result ≡ self.now.history.waits }
+    {
+        match &self.session {
+            Some(caller) => caller.waits(),
+            None => false,
+        }
+    }
+
+    /// Leaves the volume. None if there is no session, or it has a transaction, or waits already.
+    pub(crate) fn suspend<T: Wait>(&mut self, rt: &T) -> Option<Stub>
+        ensures some { IfSome result (λ stub. SuspendsIn self.old stub self.new) }
+        ensures none { IfNone result (self.new ≡ self.old) }
+        ensures why { IfNone result (self.old.history.attached ≡ true → option_map_or (λ c. c.life.has_transaction) self.old.caller false ≡ true) }
+    {
+        let Some(caller) = &mut self.session else {
+            return None;
+        };
+        caller.suspend(rt)
+    }
+
+    /// Opens the session that waits in the next volume, unless it has ended. Error: why it isn't opened.
+    pub(crate) fn resume<T: Wait>(&mut self, rt: &T) -> Result<(), AttachError>
+        ensures ok { OnOk result (ResumesIn self.old self.new) }
+        ensures err { OnErr result (self.new ≡ self.old) }
+    {
+        let Some(caller) = &mut self.session else {
+            return Ok(());
+        };
+        let Some(absence) = caller.absence() else {
+            return Ok(());
+        };
+        let session = self.entrance.reopen(rt, self.alloc, absence)?;
+        caller.resume(session);
+        Ok(())
     }
 
     /// True if a reply may be added to what waits to be sent.
@@ -362,7 +406,7 @@ impl<H: Hosting, D: Doorkeeper> ProtocolState<H, D> {
     fn may_receive(&self) -> bool
         ensures { MatchBool result (MayReceive self.now.history) (MayReceive self.now.history → ⊥) }
     {
-        if !self.state.is_open() || self.at_end {
+        if !self.state.is_open() || self.at_end || self.waits() {
             return false;
         }
         self.taken == self.input.len()

@@ -76,7 +76,7 @@ pub(crate) fn close<T: Wait, S: Calling>(rt: &T, session: Option<SessionCaller<S
     ensures { LeavesSome session result }
 {
     match session {
-        Some(session) => Some(session.close(rt)),
+        Some(session) => session.close(rt),
         None => None,
     }
 }

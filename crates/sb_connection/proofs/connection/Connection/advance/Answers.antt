@@ -29,7 +29,7 @@ loop-line-preserved g c =
     let same = c.step.ensures.steps.streams in
     let fewer : length c.step.new.self.history.waiting < length c.loop-line.self-inside.protocol_state.history.waiting = c.if-not-step.ensures.steps.goes so_far.holds refl in
     record {
-      streams = (same.0 ∙ so_far.streams.0, same.1 ∙ so_far.streams.1, same.2 ∙ so_far.streams.2, same.3 ∙ so_far.streams.3);
+      streams = (same.0 ∙ so_far.streams.0, same.1 ∙ so_far.streams.1, same.2 ∙ so_far.streams.2, same.3 ∙ so_far.streams.3, same.4 ∙ so_far.streams.4, same.5 ∙ so_far.streams.5);
       holds = c.step.ensures.steps.holds so_far.holds;
       lets = lets_then g.D.Doorkeeper.policy.admits c.args.self.now c.loop-line.self-inside.protocol_state.history c.step.new.self.history same so_far.lets (c.step.ensures.steps.lets so_far.holds);
       stays = λ before. c.step.ensures.steps.stays so_far.holds (so_far.stays before);

@@ -10,4 +10,4 @@ pub returns-clause-session : goal.returns-clause-session
 returns-clause-session g c = λ attached.
     let k = c.self.inside.protocol_state in
     subst (λ (h : History). Transacts h c.has_transaction.result) c.self.view_is
-    (transacting_now g.D.Doorkeeper.policy.admits k c.self.invariant (ap (λ (h : History). h.attached) c.self.view_is ∙ attached) c.has_transaction.result c.has_transaction.ensures)
+    (transacting_now g.D.Doorkeeper.policy.admits k c.self.invariant (ap (λ (h : History). h.attached) c.self.view_is ∙ attached) c.has_transaction.result c.has_transaction.ensures.is)

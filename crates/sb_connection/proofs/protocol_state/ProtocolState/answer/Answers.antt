@@ -1,11 +1,11 @@
 use Rattle.std.proofs.Common.{◌∙◌, ap, subst, sym}
-use Rattle.sb_connection.specs.ProtocolState.{Answers, Talking}
+use Rattle.sb_connection.specs.ProtocolState.{Answers, Talking, talk}
 use Rattle.sb_connection.specs.Responses.{over}
 use Rattle.sb_connection.proofs.Steps.{answers_named}
 use Rattle.sb_connection.proofs.protocol_state.ProtocolState.answer.Goals as goal
 
 pub respond-requires : goal.respond-requires
-respond-requires g c = ap (λ (k : Talking). over k.talk) c.note_name.ensures ∙ c.requires
+respond-requires g c = ap (λ (k : Talking). over (talk k)) c.note_name.ensures ∙ c.requires
 
 pub returns-clause-answers : goal.returns-clause-answers
 returns-clause-answers g c =

@@ -8,4 +8,4 @@ returns g c =
     let h = c.args.self.now.history in
     let bytes = c.self.inside.input.items in
     let going : is_open h.state ≡ true = search rules in
-    may_by (c.self.inside.taken == c.len.result) c.self.inside.taken bytes h (ap (λ n. c.self.inside.taken == n) (search rules)) (omega arith) going (search rules) (ap (λ k. k.history.waiting) c.self.view_is)
+    may_by (c.self.inside.taken == c.len.result) c.self.inside.taken bytes h (ap (λ n. c.self.inside.taken == n) (search rules)) (omega arith) going (search rules) (search rules) (ap (λ k. k.history.waiting) c.self.view_is)
