@@ -5,4 +5,5 @@ pub mod Indexing
 pub mod InOrder
 pub mod NewRules
 pub mod Active
+pub mod Written
 pub mod Sought

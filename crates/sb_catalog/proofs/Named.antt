@@ -11,7 +11,9 @@ use Rattle.sb_value.specs.Name.{same_name}
 use Rattle.sb_value.specs.declared.refusal.Refusal.{Refusal}
 use Rattle.sb_value.specs.declared.refusal.Refusal.TheVariants.{NoRule}
 use Rattle.sb_check.specs.Names.{some_or}
+use Rattle.sb_clauses.specs.declared.clauses.RuleClauses.{RuleClauses}
 use Rattle.sb_catalog.specs.declared.rule.Rule.{Rule}
+use Rattle.sb_catalog.specs.Clauses.{HaveClauses}
 use Rattle.sb_catalog.specs.Rules.{named, change_numbered}
 use Rattle.sb_catalog.specs.Places.{under_name, AreNotedFrom, HasActive, AreKept}
 use Rattle.sb_catalog.proofs.Noted.{changed}
@@ -60,18 +62,18 @@ module _ (name : List ℕ) (change : Rule → Rule) (keeps : (r : Rule) → (cha
   found_at (s ∷ rules) r e = found_by s rules r (same_name name s.name) refl e (found_at rules r)
 
   -- what is written through the name is the rule with that number changed
-  pub written : (places : List ℕ) (flags : List Bool) (entries : List (List ℕ × Rule)) (r : Rule) → AreKept entries places flags → lookup (same_name name) entries ≡ Some r →
+  pub written : (places : List ℕ) (flags : List Bool) (entries : List (List ℕ × Rule)) (r : Rule) {clauses : List RuleClauses} → AreKept entries places flags clauses → lookup (same_name name) entries ≡ Some r →
       set_value (same_name name) entries (change r) ≡ map under_name (map (change_numbered r.id change) (values_of entries))
   written places flags entries r h e =
       let rules : List Rule = values_of entries in
       let f = found_at rules r (ap (lookup (same_name name)) (sym h.named) ∙ e) in
       ap (λ es. set_value (same_name name) es (change r)) h.named ∙ f.2 ∙ ap (map under_name) (sym (changed places change 0 f.0 rules r h.noted f.1))
 
-pub kept_with : (places : List ℕ) (flags : List Bool) (entries : List (List ℕ × Rule)) (rules : List Rule) → entries ≡ map under_name rules → AreNotedFrom 0 places rules → HasActive flags rules →
-    AreKept entries places flags
-kept_with places flags entries rules e h a =
+pub kept_with : (places : List ℕ) (flags : List Bool) (entries : List (List ℕ × Rule)) (clauses : List RuleClauses) (rules : List Rule) → entries ≡ map under_name rules → AreNotedFrom 0 places rules → HasActive flags rules → HaveClauses rules clauses →
+    AreKept entries places flags clauses
+kept_with places flags entries clauses rules e h a w =
     let same : values_of entries ≡ rules = ap values_of e ∙ values_under rules in
-    record { named = kept_under entries rules e; noted = subst (AreNotedFrom 0 places) (sym same) h; active = subst (HasActive flags) (sym same) a }
+    record { named = kept_under entries rules e; noted = subst (AreNotedFrom 0 places) (sym same) h; active = subst (HasActive flags) (sym same) a; written = subst (λ (all : List Rule). HaveClauses all clauses) (sym same) w }
 
 pub values_with : (entries : List (List ℕ × Rule)) (rules : List Rule) → entries ≡ map under_name rules → values_of entries ≡ rules
 values_with entries rules e = ap values_of e ∙ values_under rules
@@ -87,3 +89,12 @@ entries_without entries i e = ap (λ (es : List (List ℕ × Rule)). remove es i
 -- one rule more
 pub entries_with : (entries : List (List ℕ × Rule)) (r : Rule) → entries ≡ map under_name (values_of entries) → entries ++ under_name r ∷ [] ≡ map under_name (values_of entries ++ r ∷ [])
 entries_with entries r e = ap (λ (es : List (List ℕ × Rule)). es ++ under_name r ∷ []) e ∙ sym (map-append under_name (values_of entries) (r ∷ []))
+
+-- a rule that is found by its name stands at some place
+pub placed : (name : List ℕ) (rules : List Rule) (r : Rule) → named rules name ≡ Some r → (i : ℕ) × (slice_get rules i ≡ Some r)
+placed name [] r e = absurd (none-some r e)
+placed name (s ∷ rules) r e = by (same_name s.name name) e (placed name rules r)
+  where
+    by : (b : Bool) → cond b (Some s) (named rules name) ≡ Some r → (named rules name ≡ Some r → (i : ℕ) × (slice_get rules i ≡ Some r)) → (i : ℕ) × (slice_get (s ∷ rules) i ≡ Some r)
+    by true f rest = (0, f)
+    by false f rest = let later = rest f in (suc later.0, later.1)

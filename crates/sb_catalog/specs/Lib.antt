@@ -1,4 +1,5 @@
 pub mod Rules
+pub mod Clauses
 pub mod Uses
 pub mod Definitions
 pub mod Places

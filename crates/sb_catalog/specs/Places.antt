@@ -1,8 +1,10 @@
--- Machine: where the rules stand: under their names in order of creation, with a place for each number.
+-- Machine: where the rules stand: under their names in order of creation, with a place for each number, and their clauses.
 use Rattle.std.specs.Prelude.{◌≡◌, ℕ, Bool, ◌+◌, ◌-◌, nat_lt, if◌then◌else◌, List, [], ◌∷◌, map, slice_get, unwrap_or, Some}
 use Rattle.std.specs.Map.{values_of}
 use Rattle.sb_value.specs.Flags.{flag_at}
+use Rattle.sb_clauses.specs.declared.clauses.RuleClauses.{RuleClauses}
 use Rattle.sb_catalog.specs.declared.rule.Rule.{Rule}
+use Rattle.sb_catalog.specs.Clauses.{HaveClauses}
 use Rattle.sb_catalog.specs.Rules.{is_active}
 
 -- the place that is noted for a number
@@ -26,8 +28,9 @@ under_name r = (r.name, r)
 abbrev pub HasActive : List Bool → List Rule → Type 0
 HasActive set rules = (id : ℕ) → flag_at set id ≡ is_active rules id
 
--- each rule stands under its name, has its place noted, and is in the set where it is active
-pub record AreKept (entries : List (List ℕ × Rule)) (places : List ℕ) (set : List Bool) : Type 0 where
+-- each rule stands under its name, has its place noted and its clauses kept, and is in the set where it is active
+pub record AreKept (entries : List (List ℕ × Rule)) (places : List ℕ) (set : List Bool) (clauses : List RuleClauses) : Type 0 where
   pub named : entries ≡ map under_name (values_of entries)
   pub noted : AreNotedFrom 0 places (values_of entries)
   pub active : HasActive set (values_of entries)
+  pub written : HaveClauses (values_of entries) clauses

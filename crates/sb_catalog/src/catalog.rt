@@ -6,12 +6,13 @@ ghost use Rattle.sb_check.specs.RulePartsView.{new_parts, rule_parts};
 ghost use Rattle.sb_catalog.specs.Rules as spec;
 ghost use Rattle.sb_catalog.specs.Rules.{AreNumbered, named, numbered, rule_named, create_refusal, created, without_rule, with_active, with_parts, is_active};
 ghost use Rattle.sb_catalog.specs.Uses.{is_used};
+ghost use Rattle.sb_catalog.specs.Clauses.{AreClausesOf, AreNewClausesOf, HaveClauses, parts_of};
 
 use crate::mentions::rule_names;
 use crate::places::Places;
-use crate::rule::{Rule, rule_of_parts};
+use crate::rule::{ReadAlteration, ReadRule, Rule, rule_of_parts};
 use indexmap::IndexMap;
-use sb_check::{NewParts, RuleParts};
+use sb_clauses::RuleClauses;
 use sb_value::{Name, RULE_LIMIT, Refusal, RuleId, RuleSet, TableId};
 use std::alloc::Global;
 use std::marker::Model;
@@ -21,6 +22,10 @@ pub struct Catalog {
     rules: IndexMap<Name, Rule>,
     places: Places,
     active: RuleSet,
+    /// Those of each rule, in the order of the rules.
+    clauses: Vec<RuleClauses>,
+    /// How many bytes they are.
+    clause_bytes: u64,
 }
 
 impl Drop for Catalog {
@@ -29,6 +34,8 @@ impl Drop for Catalog {
             rules: _,
             places: _,
             active: _,
+            clauses: _,
+            clause_bytes: _,
         } = self;
     }
 }
@@ -47,7 +54,7 @@ impl Model for Catalog {
 
     ghost view = { λ c. values_of c.rules.entries };
 
-    ghost invariant = { λ c. AreKept c.rules.entries c.places c.active };
+    ghost invariant = { λ c. AreKept c.rules.entries c.places c.active c.clauses.items };
 }
 
 impl Catalog {
@@ -59,21 +66,27 @@ impl Catalog {
             rules: IndexMap::new(alloc),
             places: Places::new(),
             active: RuleSet::empty(),
+            clauses: Vec::new(alloc),
+            clause_bytes: 0,
         }
     }
 
-    /// Adds an active rule, and gives its number.
-    pub fn create(&mut self, name: Name, parts: RuleParts) -> Result<RuleId, Refusal>
-        ensures added { OnOk result (self.new ≡ created self.old name (rule_parts parts)) }
+    /// Adds an active rule with its clauses, and gives its number.
+    pub fn create(&mut self, name: Name, read: ReadRule) -> Result<RuleId, Refusal>
+        requires written { AreClausesOf read.clauses (rule_parts read.parts) }
+        ensures added { OnOk result (self.new ≡ created self.old name (rule_parts read.parts)) }
         ensures number { IfOk result (λ id. id ≡ spec.free_rule self.old) }
         ensures allowed { OnOk result (create_refusal self.old name ≡ None) }
         ensures refused { IfErr result (λ e. e ≡ unwrap_or (create_refusal self.old name) Refusal.NoMemory) }
         ensures unchanged { OnErr result (self.new ≡ self.old) }
     {
         match self.check_new(&name) {
-            Ok(()) => self.push(rule_of_parts(self.free_rule(), name, parts)),
+            Ok(()) => {
+                let rule = rule_of_parts(self.free_rule(), name, read.parts);
+                self.push(rule, read.clauses)
+            }
             Err(refusal) => {
-                drop(parts);
+                drop(read);
                 Err(refusal)
             }
         }
@@ -100,8 +113,9 @@ impl Catalog {
         self.rules.contains_key(name)
     }
 
-    /// Puts a rule of a new name and a new number behind the others.
-    fn push(&mut self, rule: Rule) -> Result<RuleId, Refusal>
+    /// Puts a rule of a new name and a new number behind the others, with its clauses. Room for these is had first.
+    fn push(&mut self, rule: Rule, clauses: RuleClauses) -> Result<RuleId, Refusal>
+        requires written { AreClausesOf clauses (parts_of rule) }
         requires new_name { IsFalse (spec.has_name self.old rule.name) }
         requires new_number { numbered self.old rule.id ≡ None }
         requires room { IsTrue (spec.has_room self.old) }
@@ -110,6 +124,11 @@ impl Catalog {
         ensures no_memory { IfErr result (λ e. e ≡ Refusal.NoMemory) }
         ensures unchanged { OnErr result (self.new ≡ self.old) }
     {
+        if self.clauses.reserve(1).is_err() {
+            drop(rule);
+            drop(clauses);
+            return Err(Refusal::NoMemory);
+        }
         let id = rule.id;
         let active = rule.active;
         let place = self.rules.len();
@@ -118,10 +137,13 @@ impl Catalog {
                 drop(replaced);
                 self.places.note(id, place);
                 self.active = with_flag(self.active, id, active);
+                self.clause_bytes = self.clause_bytes.saturating_add(clauses.len() as u64);
+                self.clauses.push_reserved(clauses);
                 Ok(id)
             }
             Err(failed) => {
                 drop(failed);
+                drop(clauses);
                 Err(Refusal::NoMemory)
             }
         }
@@ -141,6 +163,9 @@ impl Catalog {
         let id = rule.id;
         self.active = self.active.without(id);
         drop(rule);
+        let clauses = self.clauses.remove(place);
+        self.clause_bytes = self.clause_bytes.saturating_sub(clauses.len() as u64);
+        drop(clauses);
         Ok(id)
     }
 
@@ -178,18 +203,24 @@ impl Catalog {
         }
     }
 
-    /// Gives the rule of that name new parts, as far as they are written, and gives its number.
-    pub fn alter(&mut self, name: &Name, parts: NewParts) -> Result<RuleId, Refusal>
+    /// Gives the rule of that name new parts with their clauses, as far as they are written, and gives its number.
+    pub fn alter(&mut self, name: &Name, read: ReadAlteration) -> Result<RuleId, Refusal>
+        requires written { AreNewClausesOf read.clauses (new_parts read.parts) }
         ensures found { result ≡ rule_named self.old name.now }
-        ensures altered { IfOk result (λ id. self.new ≡ with_parts self.old id (new_parts parts)) }
+        ensures altered { IfOk result (λ id. self.new ≡ with_parts self.old id (new_parts read.parts)) }
         ensures unchanged { OnErr result (self.new ≡ self.old) }
     {
         let Some(rule) = self.rules.get_mut(name) else {
-            drop(parts);
+            drop(read);
             return Err(Refusal::NoRule);
         };
         let id = rule.id;
-        rule.alter(parts);
+        rule.alter(read.parts);
+        let clauses = &mut self.clauses[self.places.get(id)];
+        let before = clauses.len() as u64;
+        clauses.alter(read.clauses);
+        let bytes = self.clause_bytes.saturating_add(clauses.len() as u64);
+        self.clause_bytes = bytes.saturating_sub(before);
         Ok(id)
     }
 
@@ -214,6 +245,18 @@ impl Catalog {
         ensures numbered { AreNumbered self.now }
     {
         self.rules.values().as_slice()
+    }
+
+    /// The clauses of the rules, in the order of the rules.
+    pub fn clauses(&self) -> &[RuleClauses]
+        ensures { HaveClauses self.now result.now }
+    {
+        self.clauses.as_slice()
+    }
+
+    /// How many bytes the clauses are: an estimate that nothing rests on but a tenant's limit of memory.
+    pub fn clause_bytes(&self) -> u64 {
+        self.clause_bytes
     }
 
     /// The active rules.

@@ -2,7 +2,13 @@
 ghost use Rattle.std.specs.Prelude.{◌≡◌, ℕ, List, [], true, false, None, Ok, Err, IsTrue, IsFalse, if◌then◌else◌, IfOk, OnSome, OnErr};
 ghost use Rattle.sb_value.specs.Flags.{flag_at};
 ghost use Rattle.sb_check.specs.Answer.{Answers};
+ghost use Rattle.sb_check.specs.RuleParts.{walk_alteration, walk_parts};
 ghost use Rattle.sb_check.specs.RulePartsView.{new_parts, rule_parts};
+ghost use Rattle.sb_check.specs.Walk.{Schema};
+ghost use Rattle.sb_clauses.specs.Clauses.{AreClauses, AreNewClauses};
+ghost use Rattle.sb_value.specs.declared.net.Triggers.{Triggers};
+ghost use Rattle.sb_value.specs.declared.value.ColumnDefinition.{ColumnDefinition};
+ghost use Rattle.sb_catalog.specs.Clauses.{AreClausesOf};
 ghost use Rattle.sb_syntax.specs.Views.{alteration, rule};
 ghost use Rattle.sb_rulesets.specs.Sets.{has_name as has_ruleset};
 ghost use Rattle.sb_priority.specs.Ranks.{pairs_of};
@@ -12,7 +18,7 @@ ghost use Rattle.sb_catalog.specs.Definitions.{AltersInOrder, AreIndexed, AreOrd
 ghost use Rattle.sb_catalog.specs.Rules.{AreThere, free_rule, has_name, has_room, numbered, rule_named, is_active};
 
 use crate::catalog::Catalog;
-use sb_check::{NewParts, RuleParts};
+use crate::rule::{ReadAlteration, ReadRule};
 use sb_index::RuleIndex;
 use sb_priority::Priorities;
 use sb_rulesets::{MemberChange, Rulesets};
@@ -51,7 +57,7 @@ impl Definitions {
         }
     }
 
-    /// Adds an active rule of these parts, with the name and the pairs of its text.
+    /// Adds an active rule of these parts and clauses, with the name and the pairs of its text.
     /// Room in the index is had before the rules change.
     pub fn create_rule(
         &mut self,
@@ -59,14 +65,17 @@ impl Definitions {
         index: &mut RuleIndex,
         tenant: TenantId,
         text: &RuleText,
-        parts: RuleParts,
+        read: ReadRule,
     ) -> Result<(), Refusal>
+        requires written { AreClauses read.clauses (rule text.now) }
+        requires resolved { (schema : Schema) × (walk_parts schema (rule text.now) ≡ Ok (rule_parts read.parts)) }
         requires new_name { IsFalse (has_name self.old.rules text.now.name) }
         requires ordered { (pairs : List (ℕ × ℕ)) × AreOrdered self.old.order self.old.rules pairs }
-        ensures created { CreatesInOrder self.old self.new (rule text.now) (rule_parts parts) result }
+        ensures created { CreatesInOrder self.old self.new (rule text.now) (rule_parts read.parts) result }
         ensures indexed { AreIndexed index.old tenant self.old.rules → AreIndexed index.new tenant self.new.rules }
         ensures others { OtherTenantsStay tenant index.old index.new }
     {
+        let ReadRule { parts, clauses } = read;
         let before = self.numbers(alloc, text.precedes.as_slice())?;
         let after = self.numbers(alloc, text.follows.as_slice())?;
         if !self.rules.has_room() {
@@ -78,7 +87,8 @@ impl Definitions {
             drop(parts);
             return Err(Refusal::NoMemory);
         };
-        match self.push_rule(rule, text.name, parts, before.as_slice(), after.as_slice()) {
+        let read = ReadRule { parts, clauses };
+        match self.push_rule(rule, text.name, read, before.as_slice(), after.as_slice()) {
             Ok(()) => Ok(()),
             Err(refusal) => {
                 index.drop_rule(tenant, rule);
@@ -93,23 +103,24 @@ impl Definitions {
         &mut self,
         rule: RuleId,
         name: Name,
-        parts: RuleParts,
+        read: ReadRule,
         before: &[RuleId],
         after: &[RuleId],
     ) -> Result<(), Refusal>
+        requires written { AreClausesOf read.clauses (rule_parts read.parts) }
         requires number { rule ≡ free_rule self.old.rules }
         requires free { numbered self.old.rules rule ≡ None }
         requires new_name { IsFalse (has_name self.old.rules name) }
         requires room { IsTrue (has_room self.old.rules) }
         requires ordered { (pairs : List (ℕ × ℕ)) × AreOrdered self.old.order self.old.rules pairs }
         requires others { AreThere self.old.rules before.now }
-        ensures { PushesInOrder self.old self.new name (rule_parts parts) (pairs_of rule before.now after.now) result }
+        ensures { PushesInOrder self.old self.new name (rule_parts read.parts) (pairs_of rule before.now after.now) result }
     {
         if self.order.closes_cycle(rule, before, after) {
-            drop(parts);
+            drop(read);
             return Err(Refusal::Cycle);
         }
-        match self.rules.create(name, parts) {
+        match self.rules.create(name, read) {
             Ok(_) => match self.order.reserve(rule) {
                 Ok(()) => {
                     // Its pairs close no cycle, so it is added.
@@ -125,17 +136,20 @@ impl Definitions {
         }
     }
 
-    /// Gives a rule new parts and new pairs. Everything that can be refused is looked at before anything changes.
+    /// Gives a rule new parts with their clauses, and new pairs. Everything that can be refused is looked at before anything changes.
     pub fn alter_rule(
         &mut self,
         alloc: Global,
         rule: RuleId,
         text: &AlterationText,
-        parts: NewParts,
+        read: ReadAlteration,
     ) -> Result<(), Refusal>
+        requires written { AreNewClauses read.clauses (alteration text.now) }
+        requires resolved { (schema : Schema) × (columns : List ColumnDefinition) × (triggers : Triggers)
+            × (walk_alteration schema columns triggers (alteration text.now) ≡ Ok (new_parts read.parts)) }
         requires named { rule_named self.old.rules text.now.name ≡ Ok rule }
         requires ordered { (pairs : List (ℕ × ℕ)) × AreOrdered self.old.order self.old.rules pairs }
-        ensures altered { AltersInOrder self.old self.new rule (alteration text.now) (new_parts parts) result }
+        ensures altered { AltersInOrder self.old self.new rule (alteration text.now) (new_parts read.parts) result }
         ensures indexed { StayIndexed self.old.rules self.new.rules }
     {
         let before = self.numbers(alloc, text.precedes.as_slice())?;
@@ -143,11 +157,11 @@ impl Definitions {
         let apart = self.numbers(alloc, text.nopriority.as_slice())?;
         match self.order.alter(rule, before.as_slice(), after.as_slice(), apart.as_slice()) {
             Ok(()) => {
-                let _ = self.rules.alter(&text.name, parts);
+                let _ = self.rules.alter(&text.name, read);
                 Ok(())
             }
             Err(_) => {
-                drop(parts);
+                drop(read);
                 Err(Refusal::Cycle)
             }
         }

@@ -4,6 +4,7 @@ ghost use Rattle.sb_check.specs.RulePartsView.{new_parts, rule_parts};
 ghost use Rattle.sb_catalog.specs.Rules.{rule_of, set_parts, written_or};
 
 use sb_check::{Actions, NewParts, Query, RuleParts};
+use sb_clauses::{NewClauses, RuleClauses};
 use sb_value::{Name, RuleId, TableId, Triggers};
 
 /// A rule with its names resolved.
@@ -30,6 +31,20 @@ impl Drop for Rule {
             active: _,
         } = self;
     }
+}
+
+/// A rule that is read and isn't made yet: what its names mean, and its clauses as texts.
+#[derive(Drop)]
+pub struct ReadRule {
+    pub parts: RuleParts,
+    pub clauses: RuleClauses,
+}
+
+/// New parts of a rule, as far as they are written, with their clauses.
+#[derive(Drop)]
+pub struct ReadAlteration {
+    pub parts: NewParts,
+    pub clauses: NewClauses,
 }
 
 /// The active rule of that number and name with these parts.

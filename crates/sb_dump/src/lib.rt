@@ -4,8 +4,6 @@
 mod draft;
 mod dumps;
 mod order;
-mod origins;
-mod parts;
 mod play;
 mod rows;
 mod rules;

@@ -1,12 +1,9 @@
 //! The rules of a tenant as lines.
 
 use crate::draft::Draft;
-use crate::origins::{Origin, origins};
-use crate::parts::part;
 use crate::stand_ins::{Beginnings, StandIns};
-use sb_catalog::Rule;
-use sb_syntax::TokenKind;
-use sb_tenant::{Entry, Tenant};
+use sb_catalog::{Rule, RuleClauses};
+use sb_tenant::Tenant;
 use std::alloc::{AllocError, Global};
 
 /// Writes the rules in order of creation, without their order of precedence, each active.
@@ -23,12 +20,9 @@ pub(crate) fn write_rules(
     };
     let body = stand_in_body(alloc, table.as_slice())?;
     let mut stand_ins = StandIns::new(b"rule", body.as_slice(), free_beginning(rules));
-    let origins = origins(alloc, catalog, tenant.trail())?;
-    for rule in rules {
+    for (rule, clauses) in rules.iter().zip(catalog.clauses().iter()) {
         stand_ins.make_way(draft, rule.id.number())?;
-        if let Some(origin) = origins.get(rule.id.index()) {
-            write_rule(alloc, draft, tenant.trail(), rule, origin)?;
-        }
+        write_rule(draft, rule, clauses)?;
     }
     stand_ins.leave(draft)
 }
@@ -61,38 +55,18 @@ fn free_beginning(rules: &[Rule]) -> [u8; 2] {
     beginnings.free()
 }
 
-/// The part behind that word of the line at a place of the trail.
-fn part_at(
-    alloc: Global,
-    trail: &[Entry],
-    place: usize,
-    word: TokenKind,
-) -> Result<&[u8], AllocError> {
-    match trail.get(place) {
-        Some(entry) => part(alloc, entry.line.as_slice(), word),
-        None => Ok(&[]),
-    }
-}
-
-/// Writes one rule: in a line, or if that is too long in one for each of its parts.
-fn write_rule(
-    alloc: Global,
-    draft: &mut Draft,
-    trail: &[Entry],
-    rule: &Rule,
-    origin: &Origin,
-) -> Result<(), AllocError> {
+/// Writes one rule: in a line, or if that is too long in one for each of its clauses.
+fn write_rule(draft: &mut Draft, rule: &Rule, clauses: &RuleClauses) -> Result<(), AllocError> {
     let name = rule.name.as_slice();
-    let head = part_at(alloc, trail, origin.head, TokenKind::On)?;
-    let actions = part_at(alloc, trail, origin.actions, TokenKind::Then)?;
-    let condition = match origin.condition {
-        Some(place) => part_at(alloc, trail, place, TokenKind::If)?,
+    let actions = clauses.actions.as_slice();
+    let condition = match &clauses.condition {
+        Some(condition) => condition.as_slice(),
         None => &[],
     };
     draft.put(b"create rule ")?;
     draft.put(name)?;
     draft.put(b" on")?;
-    draft.put(head)?;
+    draft.put(clauses.event.as_slice())?;
     if is_short(draft, condition, actions) {
         if !condition.is_empty() {
             draft.put(b" if")?;

@@ -8,7 +8,7 @@ use Rattle.sb_tenant.specs.Limits.{session_count}
 use Rattle.sb_tenant.specs.State.{Session, has_transaction, is_open, session_at}
 use Rattle.sb_tenant.specs.Tenant.{Tenant, state}
 use Rattle.sb_status.specs.TenantCounts.{AreNumbersOf}
-use Rattle.sb_status.specs.RuleLines.{HaveLinesOf}
+use Rattle.sb_status.specs.RuleLines.{AreRulesOf}
 use Rattle.sb_status.specs.declared.tenant_copy.Viewing.{Viewing}
 
 -- how a session stands
@@ -24,6 +24,7 @@ pub record AreSessionsOf (own : Tenant) (n : ℕ) (views : List SessionView) : T
 pub record IsViewOf (first : ℕ) (own : Tenant) (view : TenantView) : Type 0 where
   pub numbers : AreNumbersOf first own view.numbers
   pub sessions : AreSessionsOf own session_count view.sessions.items
+  pub rules : AreRulesOf (state own).catalog.rules view.rules.items
 
 -- it was copied
 abbrev pub IsCopyOf : ℕ → Tenant → Option TenantView → Type 0
@@ -33,9 +34,9 @@ IsCopyOf first own found = (view : TenantView) × (found ≡ Some view) × IsVie
 abbrev pub Copies : Viewing → Tenant → Viewing → Type 0
 Copies old own new = IfOk new.view (IsCopyOf old.first_tenant own)
 
--- a tenant of this number was so, and the lines of the rules are its own
+-- a tenant of this number was so
 abbrev pub IsViewAt : ℕ → ℕ → TenantView → Type 0
-IsViewAt first t view = (own : Tenant) × (own.id ≡ t) × IsViewOf first own view × HaveLinesOf t view.rules.items
+IsViewAt first t view = (own : Tenant) × (own.id ≡ t) × IsViewOf first own view
 
 -- what is found is that
 abbrev pub IsFoundView : ℕ → ℕ → Option TenantView → Type 0

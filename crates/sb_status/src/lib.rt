@@ -21,7 +21,6 @@ mod picture;
 mod request;
 mod response;
 mod route;
-mod rule_lines;
 mod rule_rows;
 mod samples;
 mod statistics_cache;

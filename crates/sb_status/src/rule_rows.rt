@@ -15,7 +15,7 @@ pub(crate) fn write_rules<'v>(page: &mut Page<'v>, view: &'v TenantView) -> Resu
         write_others(page, view, view.graph.triggers.as_slice().get(place))?;
         page.mark(Markup::Cell)?;
         write_others(page, view, view.graph.precedes.as_slice().get(place))?;
-        write_lines(page, rule.lines.as_slice())?;
+        write_line(page, rule.line.as_slice())?;
     }
     page.mark(Markup::TableEnd)
 }
@@ -97,12 +97,10 @@ fn write_others<'v>(
     Ok(())
 }
 
-/// Writes the lines that made a rule, the oldest first.
-fn write_lines<'v>(page: &mut Page<'v>, lines: &'v [Vec<u8>]) -> Result<(), AllocError> {
+/// Writes the line that creates a rule.
+fn write_line<'v>(page: &mut Page<'v>, line: &'v [u8]) -> Result<(), AllocError> {
     page.mark(Markup::LinesBegin)?;
-    for line in lines.iter().rev() {
-        page.text(line.as_slice())?;
-        page.mark(Markup::NewLine)?;
-    }
+    page.text(line)?;
+    page.mark(Markup::NewLine)?;
     page.mark(Markup::LinesEnd)
 }

@@ -1,20 +1,20 @@
 //! What a tenant is, copied within the lock of its cell.
-ghost use Rattle.std.specs.Prelude.{◌≡◌, IfOk, IfSome, ℕ};
+ghost use Rattle.std.specs.Prelude.{◌≡◌, IfOk};
 ghost use Rattle.sb_tenant.specs.Limits.{session_count};
 ghost use Rattle.sb_tenant.specs.State.{session_at};
-ghost use Rattle.sb_tenant.specs.Tenant.{Tenant as ItsTenant, state};
-ghost use Rattle.sb_status.specs.RuleLines.{AreFoundOf, HaveLinesOf};
+ghost use Rattle.sb_tenant.specs.Tenant.{state};
+ghost use Rattle.sb_status.specs.RuleLines.{AreRulesOf, IsWrittenOf};
 ghost use Rattle.sb_status.specs.TenantViews.{AreSessionsOf, IsCopyOf, IsFoundView, IsViewOf, shown_as};
 
 use crate::graph_builder::graph_of;
 use crate::lock_budget::LockBudget;
-use crate::rule_lines::RuleLines;
 use crate::tenant_counts::numbers_of;
 use crate::view::{
     ColumnView, RuleView, RulesetView, SessionState, SessionView, TableView, TenantView,
     TriggersView,
 };
-use sb_catalog::{Definitions, Rule};
+use sb_catalog::{Catalog, Definitions, Rule, RuleClauses};
+use sb_clauses::create_line;
 use sb_host::{Lending, Reading};
 use sb_tables::{Table, Tables};
 use sb_tenant::Tenant;
@@ -40,7 +40,7 @@ impl Reading for Viewing {
     }
 }
 
-/// What a tenant is, with the lines that made its rules, unless its cell is busy for too long.
+/// What a tenant is, unless its cell is busy for too long.
 pub fn view_at<T: Clock, H: Lending>(
     lock_budget: &mut LockBudget<'_, T>,
     alloc: Global,
@@ -50,27 +50,6 @@ pub fn view_at<T: Clock, H: Lending>(
 ) -> Result<Option<TenantView>, AllocError>
     ensures { IfOk result (IsFoundView first_tenant tenant) }
 {
-    let Some(mut view) = copy_at(lock_budget, alloc, host, first_tenant, tenant)? else {
-        return Ok(None);
-    };
-    let mut lines = RuleLines::new(alloc, view.numbers.steps as usize)?;
-    if !lines.trace(lock_budget, host, tenant)? {
-        return Ok(None);
-    }
-    fill_in_lines(&mut view.rules, &mut lines);
-    Ok(Some(view))
-}
-
-/// What a tenant is, without the lines that made its rules, unless its cell is busy for too long.
-fn copy_at<T: Clock, H: Lending>(
-    lock_budget: &mut LockBudget<'_, T>,
-    alloc: Global,
-    host: H,
-    first_tenant: u32,
-    tenant: u32,
-) -> Result<Option<TenantView>, AllocError>
-    ensures { IfOk result (λ found. IfSome found (λ view. (own : ItsTenant) × (own.id ≡ tenant) × IsViewOf first_tenant own view)) }
-{
     let mut viewing = Viewing {
         alloc,
         first_tenant,
@@ -79,16 +58,6 @@ fn copy_at<T: Clock, H: Lending>(
     let _unless_it_is_busy = lock_budget.read(host, tenant, &mut viewing);
     let Viewing { view, .. } = viewing;
     view
-}
-
-/// Fills in the lines that made each rule.
-fn fill_in_lines(rules: &mut Vec<RuleView>, lines: &mut RuleLines)
-    ensures { (t : ℕ) → AreFoundOf t lines.old → HaveLinesOf t rules.new.items }
-{
-    for place in 0..rules.len() {
-        let rule = &mut rules[place];
-        rule.lines = lines.take(rule.number);
-    }
 }
 
 /// What is found of a tenant.
@@ -105,13 +74,13 @@ fn found_in(
     }
 }
 
-/// All of a tenant but the lines that made its rules.
+/// All of a tenant.
 fn view_of(alloc: Global, first_tenant: u32, tenant: &Tenant) -> Result<TenantView, AllocError>
     ensures { IfOk result (IsViewOf first_tenant tenant.now) }
 {
     let definitions = tenant.definitions();
     let tables = tables_of(alloc, tenant.tables())?;
-    let rules = rules_of(alloc, tenant.tables(), definitions.rules.rules())?;
+    let rules = rules_of(alloc, tenant.tables(), &definitions.rules)?;
     let rulesets = rulesets_of(alloc, definitions)?;
     let sessions = sessions_of(alloc, tenant)?;
     let graph = graph_of(alloc, definitions)?;
@@ -157,15 +126,26 @@ fn table_view(alloc: Global, name: &Name, table: &Table) -> Result<TableView, Al
     })
 }
 
-fn rules_of(alloc: Global, tables: &Tables, rules: &[Rule]) -> Result<Vec<RuleView>, AllocError> {
+fn rules_of(alloc: Global, tables: &Tables, catalog: &Catalog) -> Result<Vec<RuleView>, AllocError>
+    ensures { IfOk result (λ views. AreRulesOf catalog.now views.items) }
+{
+    let rules = catalog.rules();
+    let clauses = catalog.clauses();
     let mut views = Vec::new(alloc);
-    for rule in rules {
-        views.push(rule_view(alloc, tables, rule)?)?;
+    for place in 0..rules.len() {
+        views.push(rule_view(alloc, tables, &rules[place], &clauses[place])?)?;
     }
     Ok(views)
 }
 
-fn rule_view(alloc: Global, tables: &Tables, rule: &Rule) -> Result<RuleView, AllocError> {
+fn rule_view(
+    alloc: Global,
+    tables: &Tables,
+    rule: &Rule,
+    clauses: &RuleClauses,
+) -> Result<RuleView, AllocError>
+    ensures { IfOk result (λ view. IsWrittenOf rule.now clauses.now view) }
+{
     let table = match tables.name(rule.table) {
         Some(name) => copied(alloc, name)?,
         None => Vec::new(alloc),
@@ -175,7 +155,6 @@ fn rule_view(alloc: Global, tables: &Tables, rule: &Rule) -> Result<RuleView, Al
         None => Vec::new(alloc),
     };
     Ok(RuleView {
-        number: rule.id.index(),
         name: copied(alloc, &rule.name)?,
         table,
         triggers: TriggersView {
@@ -185,7 +164,7 @@ fn rule_view(alloc: Global, tables: &Tables, rule: &Rule) -> Result<RuleView, Al
             columns,
         },
         is_active: rule.active,
-        lines: Vec::new(alloc),
+        line: create_line(alloc, &rule.name, clauses)?,
     })
 }
 

@@ -23,7 +23,7 @@ pub struct TenantNumbers {
     pub steps: u64,
     /// How many steps more its trail has room for.
     pub room: u64,
-    /// What its trail and its open transactions take, as its share of memory is counted.
+    /// What its trail, its open transactions and the texts of its rules take, as its share of memory is counted.
     pub bytes: u64,
     pub tables: u64,
     pub rules: u64,
@@ -169,25 +169,22 @@ pub struct ColumnView {
 }
 
 pub struct RuleView {
-    /// The number by which whoever fills this in finds it.
-    pub number: usize,
     pub name: Vec<u8>,
     pub table: Vec<u8>,
     pub triggers: TriggersView,
     pub is_active: bool,
-    /// The lines that made it what it is, the newest first.
-    pub lines: Vec<Vec<u8>>,
+    /// The line that creates it.
+    pub line: Vec<u8>,
 }
 
 impl Drop for RuleView {
     fn drop(self) {
         let Self {
-            number: _,
             name: _,
             table: _,
             triggers: _,
             is_active: _,
-            lines: _,
+            line: _,
         } = self;
     }
 }

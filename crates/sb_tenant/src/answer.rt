@@ -1,9 +1,9 @@
 //! The answer to a line.
-ghost use Rattle.std.specs.Prelude.{◌≡◌, ◌<◌, ◌≤◌, ◌^◌, List, None, length};
+ghost use Rattle.std.specs.Prelude.{◌≡◌, ◌<◌, ◌≤◌, ◌^◌, List, None, Some, length};
 ghost use Rattle.sb_catalog.specs.Definitions.{OtherTenantsStay};
 ghost use Rattle.sb_index.specs.TableSets.{TableSets};
 ghost use Rattle.sb_process.specs.Made.{NumbersBelow};
-ghost use Rattle.sb_syntax.specs.Text.{text_limit};
+ghost use Rattle.sb_syntax.specs.Text.{command_of, text_limit};
 ghost use Rattle.sb_syntax.specs.Views.{command as tree_of};
 ghost use Rattle.sb_tenant.specs.declared.phase.Phase.TheVariants as phase;
 ghost use Rattle.sb_tenant.specs.declared.reply.Reply.TheVariants as told;
@@ -62,23 +62,22 @@ impl Store {
         alloc: Global,
         log: &mut L,
         index: &mut RuleIndex,
-        asker: &Asker,
-        line: &[u8],
+        asker: &Asker<'_>,
     ) -> Replies
         requires stand { (state : State) × StandFor self.old (L.records log.old) (L.clock log.old) index.old state }
         requires bound { asker.now.bound ≤ 1000 }
-        requires short { length line.now ≤ text_limit }
+        requires short { length asker.now.line.now ≤ text_limit }
         requires times { L.clock log.old < 2 ^ 63 }
         requires numbers { NumbersBelow (2 ^ 63) self.old.database.tables }
         ensures answered { EachState self.old (L.records log.old) (L.clock log.old) index.old
             (λ state. Performs self.new (L.records log.new) (L.clock log.new) index.new state asker.now.session
-            (reply_to self.old.database.id asker.now.bound state asker.now.session line.now) result.0) }
+            (reply_to self.old.database.id asker.now.bound state asker.now.session asker.now.line.now) result.0) }
         ensures twice { result.1 ≡ result.0 }
         ensures leaves { Leaves 32768000 self.old self.new asker.now.session
             (L.records log.old) (L.records log.new) (L.clock log.old) (L.clock log.new) }
         ensures others { OtherTenantsStay self.old.database.id index.old index.new }
     {
-        match parse(alloc, line) {
+        match parse(alloc, asker.line) {
             Ok(command) => self.respond(alloc, log, index, asker, command),
             Err(ParseError::NoMemory) => self.run_out(log, asker.session),
             Err(ParseError::Syntax { place: _ }) => refused(Refusal::Syntax),
@@ -133,7 +132,7 @@ impl Store {
         alloc: Global,
         log: &mut L,
         index: &mut RuleIndex,
-        asker: &Asker,
+        asker: &Asker<'_>,
         command: Command,
     ) -> Replies
         requires stand { (state : State) × StandFor self.old (L.records log.old) (L.clock log.old) index.old state }
@@ -141,6 +140,7 @@ impl Store {
         requires times { L.clock log.old < 2 ^ 63 }
         requires numbers { NumbersBelow (2 ^ 63) self.old.database.tables }
         requires few { HasFewActions (tree_of command) }
+        requires spelled { command_of asker.now.line.now ≡ Some (tree_of command) }
         ensures answered { EachState self.old (L.records log.old) (L.clock log.old) index.old
             (λ state. Performs self.new (L.records log.new) (L.clock log.new) index.new state asker.now.session
             (reply_to_command self.old.database.id asker.now.bound state asker.now.session (tree_of command))
@@ -170,7 +170,9 @@ impl Store {
                 self.begin(asker.session);
                 done()
             }
-            Command::Definition(definition) => replied(self.define(alloc, index, definition)),
+            Command::Definition(definition) => replied(self.define(
+                alloc, index, definition, asker.line,
+            )),
             Command::InTransaction(command) => self.work(alloc, log, index, asker, command),
         }
     }

@@ -1,10 +1,11 @@
-//! Who asks for a step.
+//! Who asks for a step, and by which line.
 
 use sb_value::SessionId;
 
-/// The session whose line is answered, and the most rules that are considered at an assertion point of it.
+/// The session whose line is answered, the most rules that are considered at an assertion point of it, and the line.
 #[derive(Drop)]
-pub(crate) struct Asker {
+pub(crate) struct Asker<'a> {
     pub(crate) session: SessionId,
     pub(crate) bound: u32,
+    pub(crate) line: &'a [u8],
 }

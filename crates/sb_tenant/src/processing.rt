@@ -41,7 +41,7 @@ impl Store {
         alloc: Global,
         log: &mut L,
         index: &RuleIndex,
-        asker: &Asker,
+        asker: &Asker<'_>,
         eligible: RuleSet,
         finish: Finish,
     ) -> Replies

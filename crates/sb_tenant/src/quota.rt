@@ -20,7 +20,7 @@ const CONSIDERED_BYTES: usize = 40;
 /// The name of the rule that ended a transaction takes so many bytes apart from its reply, and so does its refusal.
 const APART_BYTES: usize = 48;
 
-/// What a tenant's trail and its open transactions take, and how much that may be, in bytes.
+/// What a tenant's trail, its open transactions and the texts of its rules take, and how much that may be, in bytes.
 #[derive(Clone, Copy)]
 pub(crate) struct Quota {
     limit: Option<u64>,
@@ -95,6 +95,13 @@ impl Quota {
         self.taken = self.taken.saturating_add(added).saturating_sub(gone);
         let changes = self.changes.saturating_add(after as u64);
         self.changes = changes.saturating_sub(before as u64);
+    }
+
+    /// Counts the texts of rules: they took so many bytes, and take so many now.
+    pub(crate) fn count_texts(&mut self, before: u64, after: u64)
+        ensures { self.new.limit ≡ self.old.limit }
+    {
+        self.taken = self.taken.saturating_add(after).saturating_sub(before);
     }
 }
 

@@ -1,13 +1,16 @@
 //! The commands that define rules.
-ghost use Rattle.std.specs.Prelude.{◌≤◌, List, [], length, unwrap_or};
+ghost use Rattle.std.specs.Prelude.{◌≡◌, ◌≤◌, List, [], Some, length, unwrap_or};
 ghost use Rattle.sb_index.specs.TableSets.{TableSets};
+ghost use Rattle.sb_syntax.specs.Text.{command_of};
 ghost use Rattle.sb_syntax.specs.Tree as text;
 ghost use Rattle.sb_syntax.specs.Views.{alteration as alteration_text, rule as rule_text};
 ghost use Rattle.sb_tenant.specs.Defining.{DefinesAlone, Defines, IsAtRest, Stands};
 
 use crate::names::{Names, columns_of};
 use crate::store::Store;
+use sb_catalog::{ReadAlteration, ReadRule};
 use sb_check::{RuleEntry, resolve_alteration, resolve_rule, resolved_tables_are_there};
+use sb_clauses::{new_clauses, rule_clauses};
 use sb_index::RuleIndex;
 use sb_syntax::{AlterationText, RuleText};
 use sb_tables::Tables;
@@ -15,16 +18,18 @@ use sb_value::{ColumnDefinition, Name, Refusal, TableId};
 use std::alloc::Global;
 
 impl Store {
-    /// Adds an active rule, the last.
+    /// Adds the active rule that the line makes, the last.
     pub(crate) fn create_rule(
         &mut self,
         alloc: Global,
         index: &mut RuleIndex,
         rule: &RuleText,
+        line: &[u8],
     ) -> Result<(), Refusal>
         requires rest { IsAtRest self.old.phases }
         requires stand { Stands self.old index.old }
         requires few { length rule.now.actions.items ≤ 8 }
+        requires spelled { command_of line.now ≡ Some (text.create_rule (rule_text rule.now)) }
         ensures { Defines self.old self.new index.old index.new (text.create_rule (rule_text rule.now)) result }
     {
         if self.definitions.rules.has(&rule.name) {
@@ -39,15 +44,25 @@ impl Store {
             Ok(parts) => parts,
             Err(refusal) => return Err(refusal),
         };
+        let Ok(clauses) = rule_clauses(alloc, line) else {
+            return Err(Refusal::NoMemory);
+        };
+        let read = ReadRule { parts, clauses };
         self.definitions
-            .create_rule(alloc, index, self.database.id, rule, parts)
+            .create_rule(alloc, index, self.database.id, rule, read)
     }
 
-    /// Gives a rule new parts and new pairs; it keeps its place.
-    pub(crate) fn alter_rule(&mut self, alloc: Global, rule: &AlterationText) -> Result<(), Refusal>
+    /// Gives a rule the new parts and new pairs that the line writes; it keeps its place.
+    pub(crate) fn alter_rule(
+        &mut self,
+        alloc: Global,
+        rule: &AlterationText,
+        line: &[u8],
+    ) -> Result<(), Refusal>
         requires rest { IsAtRest self.old.phases }
         requires stand { (index : List (List TableSets)) × Stands self.old index }
         requires few { length (unwrap_or (alteration_text rule.now).actions []) ≤ 8 }
+        requires spelled { command_of line.now ≡ Some (text.alter_rule (alteration_text rule.now)) }
         ensures { DefinesAlone self.old self.new (text.alter_rule (alteration_text rule.now)) result }
     {
         let Some(found) = self.definitions.rules.find(&rule.name) else {
@@ -67,7 +82,11 @@ impl Store {
             Ok(parts) => parts,
             Err(refusal) => return Err(refusal),
         };
-        self.definitions.alter_rule(alloc, id, rule, parts)
+        let Ok(clauses) = new_clauses(alloc, line) else {
+            return Err(Refusal::NoMemory);
+        };
+        self.definitions
+            .alter_rule(alloc, id, rule, ReadAlteration { parts, clauses })
     }
 
     /// Drops a rule with its pairs and its memberships.

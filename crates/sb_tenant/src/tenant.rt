@@ -114,7 +114,7 @@ impl Tenant {
         }
     }
 
-    /// Lets its trail and its open transactions take so many bytes. Where they are taken no line is begun any more but
+    /// Lets its trail, its open transactions and the texts of its rules take so many bytes. Where they are taken no line is begun any more but
     /// `end` and `rollback`, which give back.
     pub fn limit_memory(&mut self, bytes: u64)
         ensures { self.new ≡ self.old }
@@ -122,7 +122,7 @@ impl Tenant {
         self.quota.set_limit(bytes);
     }
 
-    /// What its trail and its open transactions take, in bytes, as its limit counts them: an estimate that nothing rests
+    /// What its trail, its open transactions and the texts of its rules take, in bytes, as its limit counts them: an estimate that nothing rests
     /// on but the limit.
     pub fn bytes_taken(&self) -> u64 {
         self.quota.taken()
@@ -426,10 +426,14 @@ impl Tenant {
         let asker = Asker {
             session,
             bound: self.bound,
+            line: sent.line,
         };
         let changes = log.len();
-        let (reply, copy) = self.store.answer(alloc, log, index, &asker, sent.line);
+        let texts = self.store.definitions.rules.clause_bytes();
+        let (reply, copy) = self.store.answer(alloc, log, index, &asker);
         self.quota.count_changes(changes, log.len());
+        let texts_now = self.store.definitions.rules.clause_bytes();
+        self.quota.count_texts(texts, texts_now);
         self.quota.count_entry(sent.line, &reply);
         let entry = Entry {
             session,

@@ -30,7 +30,7 @@ impl Store {
         alloc: Global,
         log: &mut L,
         index: &RuleIndex,
-        asker: &Asker,
+        asker: &Asker<'_>,
         command: TransactionCommand,
     ) -> Replies
         requires stand { (state : State) × StandFor self.old (L.records log.old) (L.clock log.old) index.now state }

@@ -2,7 +2,7 @@
 
 use crate::changes::insert;
 use crate::mark::mark;
-use crate::schema::rule_parts;
+use crate::schema::read_rule;
 use sb_catalog::{Catalog, RuleIndex, Rulesets};
 use sb_locks::Locks;
 use sb_value::{Change, Columns, LockMode, Name, RuleId, SessionId, TableId, TenantId, Triggers};
@@ -23,8 +23,8 @@ fn look_up(rt: &impl Abort, catalog: &mut Catalog, name: &Name) {
 fn rules_are_looked_up_and_dropped_without_memory(rt: HostRuntime) {
     let mut catalog = Catalog::new(rt.alloc());
     let name = Name::new(b"r");
-    let parts = rule_parts(&rt, rt.alloc());
-    assert!(rt; catalog.create(name, parts).is_ok());
+    let rule = read_rule(&rt, rt.alloc());
+    assert!(rt; catalog.create(name, rule).is_ok());
     look_up(&rt, &mut catalog, &name);
 }
 

@@ -1,10 +1,14 @@
 //! A tenant with one table, and what its commands name.
 ghost use Rattle.std.specs.Prelude.{◌≡◌, ◌∷◌, [], None};
+ghost use Rattle.sb_catalog.specs.Clauses.{AreClausesOf};
+ghost use Rattle.sb_check.specs.RulePartsView.{rule_parts};
 ghost use Rattle.sb_value.specs.Table.{empty_table};
 
 use crate::tables::columns;
-use sb_check::{Resolved, RuleEntry, RuleParts, Schema, TableEntry, resolve};
-use sb_syntax::parse;
+use sb_catalog::ReadRule;
+use sb_check::{RuleEntry, Schema, TableEntry, resolve_rule};
+use sb_clauses::rule_clauses;
+use sb_syntax::{Command, Definition, parse};
 use sb_value::{ColumnDefinition, Name, TableId};
 use std::alloc::Global;
 use std::process::Abort;
@@ -39,16 +43,21 @@ impl Schema for OneTable {
     fn tells_columns(&self) {}
 }
 
-/// The parts of a rule on the table, with the names that it names.
-pub fn rule_parts(rt: &impl Abort, alloc: Global) -> RuleParts {
+/// A rule on the table, as it is read: its parts and its clauses.
+pub fn read_rule(rt: &impl Abort, alloc: Global) -> ReadRule
+    ensures { AreClausesOf result.clauses (rule_parts result.parts) }
+{
     let schema = OneTable {
         name: Name::new(b"t"),
         columns: columns(rt, alloc),
     };
     let line = b"create rule r on t when inserted then delete from t";
     let command = parse(alloc, line).expect(rt, "a command");
-    match resolve(alloc, &command, &schema) {
-        Ok(Resolved::Rule(parts)) => parts,
-        _ => rt.panic("no rule"),
+    let Command::Definition(Definition::CreateRule(rule)) = command else {
+        rt.panic("no rule")
+    };
+    ReadRule {
+        parts: resolve_rule(alloc, &rule, &schema).expect(rt, "its parts"),
+        clauses: rule_clauses(alloc, line).expect(rt, "its clauses"),
     }
 }

@@ -1,4 +1,5 @@
-use Rattle.std.proofs.Common.{◌∙◌, ℕ, ap, sym, subst, arith, List, map}
+use Rattle.std.proofs.lemmas.Option.{slice_get_within}
+use Rattle.std.proofs.Common.{◌≡◌, ◌∙◌, ℕ, length, vec_len, ap, sym, subst, arith, List, map}
 use Rattle.std.specs.List.{remove}
 use Rattle.std.specs.Map.{values_of, lookup}
 use Rattle.sb_value.specs.Name.{same_name}
@@ -6,6 +7,8 @@ use Rattle.sb_catalog.specs.declared.rule.Rule.{Rule}
 use Rattle.sb_catalog.specs.Rules.{named, without_rule}
 use Rattle.sb_catalog.specs.Places.{HasActive, closed}
 use Rattle.sb_catalog.proofs.Active.{active-without}
+use Rattle.sb_catalog.specs.Clauses.{HaveClauses}
+use Rattle.sb_catalog.proofs.Written.{written_length, written_without}
 use Rattle.sb_catalog.proofs.Named.{numbers, lookup_named, kept_with, values_with, rule_at, entries_without}
 use Rattle.sb_catalog.proofs.Noted.{removed, noted_without, no_rule}
 use Rattle.sb_catalog.proofs.catalog.Catalog.drop_rule.Goals as goal
@@ -21,11 +24,12 @@ invariant_of-self c =
     let entries : List (List ℕ × Rule) = c.self.inside.rules.entries in
     let rules : List Rule = values_of entries in
     let at = rule_at entries c.in-Some.place c.unwrap-rule.result (sym c.shift_remove_index.ensures.entry ∙ c.unwrap-rule.ensures) in
-    rw c.close.ensures (kept_with (map (closed c.in-Some.place) c.self.inside.places) _ _ (remove rules c.in-Some.place)
+    rw c.close.ensures (kept_with (map (closed c.in-Some.place) c.self.inside.places) _ _ _ (remove rules c.in-Some.place)
     (c.shift_remove_index.ensures.entries ∙ entries_without entries c.in-Some.place c.self.invariant.named)
     (noted_without c.self.inside.places 0 c.in-Some.place c.in-Some.place rules c.unwrap-rule.result.1 (omega arith) c.self.invariant.noted at)
     (subst (HasActive c.without-self-inside.result) (removed c.self.inside.places 0 c.in-Some.place rules c.unwrap-rule.result.1 c.self.invariant.noted at)
-    (active-without c.self.inside.active c.without-self-inside.result rules c.unwrap-rule.result.1.id c.self.invariant.active c.without-self-inside.ensures.members)))
+    (active-without c.self.inside.active c.without-self-inside.result rules c.unwrap-rule.result.1.id c.self.invariant.active c.without-self-inside.ensures.members))
+    (subst (HaveClauses (remove rules c.in-Some.place)) (sym c.remove-clauses.ensures.items) (written_without rules c.self.inside.clauses.items c.in-Some.place c.self.invariant.written)))
 
 pub returns-clause-found : goal.returns-clause-found
 returns-clause-found c =
@@ -42,3 +46,12 @@ returns-clause-dropped c =
     values_with _ (remove rules c.in-Some.place) (c.shift_remove_index.ensures.entries ∙ entries_without entries c.in-Some.place c.self.invariant.named)
     ∙ sym (removed c.self.inside.places 0 c.in-Some.place rules c.unwrap-rule.result.1 c.self.invariant.noted at)
     ∙ ap (λ (l : List Rule). without_rule l c.unwrap-rule.result.1.id) c.self.view_is
+
+-- the clauses are as many as the rules
+pub remove-clauses-requires : goal.remove-clauses-requires
+remove-clauses-requires c =
+    let entries : List (List ℕ × Rule) = c.self.inside.rules.entries in
+    let rules : List Rule = values_of entries in
+    let at = rule_at entries c.in-Some.place c.unwrap-rule.result (sym c.shift_remove_index.ensures.entry ∙ c.unwrap-rule.ensures) in
+    let long : vec_len c.self.inside.clauses ≡ length c.self.inside.clauses.items = omega arith in
+    omega (arith, long, slice_get_within rules c.in-Some.place c.unwrap-rule.result.1 at, written_length rules c.self.inside.clauses.items c.self.invariant.written)

@@ -6,6 +6,7 @@ use Rattle.sb_catalog.specs.Rules.{named, with_active}
 use Rattle.sb_catalog.proofs.Active.{active-set, named_there}
 use Rattle.sb_catalog.proofs.Named.{numbers, lookup_named, written, kept_with, values_with}
 use Rattle.sb_catalog.proofs.Noted.{noted_changed}
+use Rattle.sb_catalog.proofs.Written.{written_same}
 use Rattle.sb_catalog.proofs.catalog.Catalog.set_active.Goals as goal
 
 abbrev active_as : Bool → Rule → Rule
@@ -22,8 +23,9 @@ invariant_of-self c =
     let rules : List Rule = values_of c.self.inside.rules.entries in
     let r : Rule = c.in-Some.rule.now in
     let put = written c.args.name.now (active_as c.args.active) (λ x. refl) places c.self.inside.active c.self.inside.rules.entries r c.self.invariant (sym c.in-Some.ensures.value) in
-    kept_with places c.with_flag-self-inside.result _ (with_active rules r.id c.args.active) ((c.get_mut.follows.holds _).0 ∙ put) (noted_changed places (active_as c.args.active) (λ x. refl) r.id 0 rules c.self.invariant.noted)
+    kept_with places c.with_flag-self-inside.result _ c.self.inside.clauses.items (with_active rules r.id c.args.active) ((c.get_mut.follows.holds _).0 ∙ put) (noted_changed places (active_as c.args.active) (λ x. refl) r.id 0 rules c.self.invariant.noted)
     (active-set c.self.inside.active c.with_flag-self-inside.result rules r.id c.args.active c.self.invariant.active (named_there c.args.name.now rules r (found c)) c.with_flag-self-inside.ensures)
+    (written_same (active_as c.args.active) (λ x. refl) r.id rules c.self.inside.clauses.items c.self.invariant.written)
 
 pub returns-in-Some-clause-found : goal.returns-in-Some-clause-found
 returns-in-Some-clause-found c = ap numbers (sym (found c) ∙ ap (λ (rules : List Rule). named rules c.args.name.now) c.self.view_is)

@@ -47,7 +47,7 @@ returns-in-Ok-reserve c = λ pairs o.
       c.in-Ok.ensures.added,
       record {
         order = linked;
-        listed = last ∙ (λ i. (c.reserve.ensures.rules ∙ o.listed) i ++ c.requires.number i ∷ []) ∙ sym (map-append (λ (r : Rule). r.id) rules (rule_of (free_rule rules) c.args.name (rule_parts c.args.parts) ∷ [])) ∙ ap (map (λ (r : Rule). r.id)) (sym c.in-Ok.ensures.added);
+        listed = last ∙ (λ i. (c.reserve.ensures.rules ∙ o.listed) i ++ c.requires.number i ∷ []) ∙ sym (map-append (λ (r : Rule). r.id) rules (rule_of (free_rule rules) c.args.name (rule_parts c.args.read.parts) ∷ [])) ∙ ap (map (λ (r : Rule). r.id)) (sym c.in-Ok.ensures.added);
       },
       refl,
     )
@@ -56,7 +56,7 @@ returns-in-Ok-reserve c = λ pairs o.
 dropped : (c : goal.After-drop_rule) → c.drop_rule.new.self ≡ c.args.self.now.rules
 dropped c =
     let rules = c.args.self.now.rules in
-    let rule : Rule = rule_of (free_rule rules) c.args.name (rule_parts c.args.parts) in
+    let rule : Rule = rule_of (free_rule rules) c.args.name (rule_parts c.args.read.parts) in
     let found : c.drop_rule.result ≡ Ok rule.id =
     c.drop_rule.ensures.found ∙ ap (λ (l : List Rule). rule_named l c.args.name) c.in-Ok.ensures.added
     ∙ ap (λ (f : Option Rule). some_or NoRule (option_map (λ r. r.id) f)) (named_last rules rule c.requires.new_name) in

@@ -1,4 +1,4 @@
-use Rattle.std.proofs.Common.{◌≡◌, ◌∙◌, ◌⊎◌, ◌≤◌, length, sym, subst}
+use Rattle.std.proofs.Common.{◌≡◌, ◌∙◌, ◌⊎◌, ◌≤◌, length, inr, refl, sym, subst}
 use Rattle.std.specs.Prelude.{Ok, Err}
 use Rattle.std.proofs.lemmas.List.{length-map}
 use Rattle.sb_value.specs.declared.refusal.Refusal.TheVariants as refusal
@@ -35,3 +35,16 @@ returns c =
     rule_made old c.args.index.now c.create_rule.new.index r c.requires.rest (sym c.has.ensures ∙ c.if-has.false) parts walked c.create_rule.new.self c.create_rule.ensures.others c.create_rule.ensures.indexed
     (c.resolved_tables_are_there.ensures.rules (outside (entries old.database.tables)) r parts walked) few (some_order old c.args.index.now c.requires.stand) c.create_rule.result
     c.create_rule.ensures.created
+
+pub returns-in_default : goal.returns-in_default
+returns-in_default c =
+    let r = view.rule c.args.rule.now in
+    refused_here (text.create_rule r) c.args.self.now c.args.index.now refusal.NoMemory
+    (parts_refused c.args.self.now c.args.index.now c.args.index.now r c.requires.rest (sym c.has.ensures ∙ c.if-has.false) refusal.NoMemory (inr refl))
+
+-- what the line writes means the parts
+pub create_rule-requires-clause-written : goal.create_rule-requires-clause-written
+create_rule-requires-clause-written c = c.in-Ok-rule_clauses.ensures (view.rule c.args.rule.now) c.requires.spelled
+
+pub create_rule-requires-clause-resolved : goal.create_rule-requires-clause-resolved
+create_rule-requires-clause-resolved c = (outside (entries c.args.self.now.database.tables), c.in-Ok.ensures.value)
