@@ -77,7 +77,7 @@ impl<T> Arena<T> {
         self.blocks[place / BLOCK_PLACES].take(place % BLOCK_PLACES)
     }
 
-    /// Adds a block of free places.
+    /// Adds a block of free places. Error: out of memory.
     pub fn grow(&mut self) -> Result<(), AllocError>
         ensures ok { OnOk result (self.new ≡ self.old ++ replicate 4096 None) }
         ensures err { OnErr result (self.new ≡ self.old) }

@@ -143,7 +143,7 @@ fn write_script<W: Sink>(alloc: Global, script: &Script, writer: &mut W) -> Resu
     }
 }
 
-/// The text of a script: each line with its end.
+/// The text of a script: each line with its end. Error: out of memory.
 pub fn text_of(alloc: Global, script: &Script) -> Result<Vec<u8>, AllocError>
     ensures { IfOk result (λ text. text.items ≡ script_text script.now) }
 {

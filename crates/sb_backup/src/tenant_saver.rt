@@ -46,7 +46,7 @@ pub struct TenantSaver<'r, 'j, T, O> {
 }
 
 impl<'r, 'j, T: Files, O: Log> TenantSaver<'r, 'j, T, O> {
-    /// For so many tenants, of which none is written.
+    /// For so many tenants, of which none is written. Error: out of memory.
     pub fn new(
         files: ScriptFiles<'r, 'j, T, O>,
         tenants: u32,
@@ -72,8 +72,8 @@ impl<'r, 'j, T: Files, O: Log> TenantSaver<'r, 'j, T, O> {
         Ok(())
     }
 
-    /// Writes the file of each tenant that was ever opened. After a fault the others are still written, and the first fault
-    /// is returned.
+    /// Writes the file of each tenant that was ever opened. After a fault the others are still written, and the first
+    /// fault is returned. Error: the first fault.
     pub fn save_all<R: Wait, H: Lending>(&self, rt: &R, host: H) -> Result<(), BackupError> {
         let mut ended = Ok(());
         for tenant in 0..host.tenants() {

@@ -71,7 +71,7 @@ impl Catalog {
         }
     }
 
-    /// Adds an active rule with its clauses, and gives its number.
+    /// Adds an active rule with its clauses, and gives its number. Error: RuleExists, TooManyRules or NoMemory.
     pub fn create(&mut self, name: Name, read: ReadRule) -> Result<RuleId, Refusal>
         requires written { AreClausesOf read.clauses (rule_parts read.parts) }
         ensures added { OnOk result (self.new ≡ created self.old name (rule_parts read.parts)) }
@@ -149,7 +149,7 @@ impl Catalog {
         }
     }
 
-    /// Drops the rule of that name, and gives its number.
+    /// Drops the rule of that name, and gives its number. Error: NoRule.
     pub fn drop_rule(&mut self, name: &Name) -> Result<RuleId, Refusal>
         ensures found { result ≡ rule_named self.old name.now }
         ensures dropped { IfOk result (λ id. self.new ≡ without_rule self.old id) }
@@ -169,7 +169,7 @@ impl Catalog {
         Ok(id)
     }
 
-    /// Makes the rule of that name active, and gives its number.
+    /// Makes the rule of that name active, and gives its number. Error: NoRule, or NoMemory in the index.
     pub fn activate(&mut self, name: &Name) -> Result<RuleId, Refusal>
         ensures found { result ≡ rule_named self.old name.now }
         ensures active { IfOk result (λ id. self.new ≡ with_active self.old id true) }
@@ -178,7 +178,7 @@ impl Catalog {
         self.set_active(name, true)
     }
 
-    /// Makes the rule of that name inactive, and gives its number.
+    /// Makes the rule of that name inactive, and gives its number. Error: NoRule.
     pub fn deactivate(&mut self, name: &Name) -> Result<RuleId, Refusal>
         ensures found { result ≡ rule_named self.old name.now }
         ensures inactive { IfOk result (λ id. self.new ≡ with_active self.old id false) }
@@ -204,6 +204,7 @@ impl Catalog {
     }
 
     /// Gives the rule of that name new parts with their clauses, as far as they are written, and gives its number.
+    /// Error: NoRule.
     pub fn alter(&mut self, name: &Name, read: ReadAlteration) -> Result<RuleId, Refusal>
         requires written { AreNewClausesOf read.clauses (new_parts read.parts) }
         ensures found { result ≡ rule_named self.old name.now }

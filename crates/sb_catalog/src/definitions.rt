@@ -57,8 +57,9 @@ impl Definitions {
         }
     }
 
-    /// Adds an active rule of these parts and clauses, with the name and the pairs of its text.
-    /// Room in the index is had before the rules change.
+    /// Adds an active rule of these parts and clauses, with the name and the pairs of its text. Room in the index is
+    /// had before the rules change. Error: NoRule where a name of `precedes` or `follows` is none, TooManyRules, Cycle
+    /// or NoMemory; nothing changes.
     pub fn create_rule(
         &mut self,
         alloc: Global,
@@ -183,7 +184,7 @@ impl Definitions {
         Ok(numbers)
     }
 
-    /// Drops the rule of that name, and gives its number.
+    /// Drops the rule of that name, and gives its number. Error: NoRule.
     pub fn drop_rule(
         &mut self,
         index: &mut RuleIndex,
@@ -207,8 +208,8 @@ impl Definitions {
         }
     }
 
-    /// Makes the rule of that name active, and gives its number. Room in the index is had before
-    /// the rule changes.
+    /// Makes the rule of that name active, and gives its number. Room in the index is had before the rule changes.
+    /// Error: NoRule, or NoMemory in the index.
     pub fn activate(
         &mut self,
         index: &mut RuleIndex,
@@ -232,7 +233,7 @@ impl Definitions {
         }
     }
 
-    /// Makes the rule of that name inactive, and gives its number.
+    /// Makes the rule of that name inactive, and gives its number. Error: NoRule.
     pub fn deactivate(
         &mut self,
         index: &mut RuleIndex,
@@ -254,7 +255,8 @@ impl Definitions {
         }
     }
 
-    /// Puts the rules of these names into the ruleset, or takes them out of it.
+    /// Puts the rules of these names into the ruleset, or takes them out of it. Error: NoRuleset, NoRule or NoMemory;
+    /// nothing changes.
     pub fn change_members(
         &mut self,
         alloc: Global,

@@ -80,6 +80,7 @@ impl Model for Cell {
 
 impl Cell {
     /// The tenants below the number `tenants`, without tables and rules, and with `bound` as their consideration limit.
+    /// Error: out of memory.
     pub fn new(
         alloc: Global,
         first: u32,
@@ -95,7 +96,8 @@ impl Cell {
         Cell::with_buckets(alloc, first, stride, tenants, bound, BUCKETS)
     }
 
-    /// Makes a new cell whose log has this number of hash buckets. The number changes speed alone.
+    /// Makes a new cell whose log has this number of hash buckets. The number changes speed alone. Error: out of
+    /// memory.
     pub fn with_buckets(
         alloc: Global,
         first: u32,
@@ -179,7 +181,8 @@ impl Cell {
         tenant % self.stride == self.first && ((tenant / self.stride) as usize) < self.tenants.len()
     }
 
-    /// Makes a step of a line of a tenant's session.
+    /// Makes a step of a line of a tenant's session. Error: NoTenant, NoSession, or NotBegun where there is no memory
+    /// for the step; nothing changes.
     pub fn step(
         &mut self,
         alloc: Global,
@@ -238,7 +241,7 @@ impl Cell {
         }
     }
 
-    /// Makes the step `open` of a tenant's session.
+    /// Makes the step `open` of a tenant's session. Error: NotBegun where there is no memory; nothing changes.
     pub fn open(
         &mut self,
         alloc: Global,
@@ -358,7 +361,8 @@ impl Cell {
         &self.index
     }
 
-    /// The answers to events, one after another. All room for them is had before the first one runs.
+    /// The answers to events, one after another. All room for them is had before the first one runs. Error: out of
+    /// memory; no event was answered.
     pub fn run(&mut self, alloc: Global, events: &[Event]) -> Result<Answers, AllocError>
         ensures events { IfOk result (λ given. IsRun self.old.bound (run_of self.old events.now given self.new)) }
         ensures in_turn { IfOk result (λ given. RunsInTurn self.old.bound (run_of self.old events.now given self.new)) }

@@ -29,8 +29,8 @@ pub enum Resolved {
     Change(Statement),
 }
 
-/// A command with its names and types. What it gives can be evaluated: no column lies out of
-/// range, and no text stands where a number is asked for.
+/// A command with its names and types. What it gives can be evaluated: no column lies out of range, and no text stands
+/// where a number is asked for. Error: the first refusal of names and types in the order of the text, or NoMemory.
 pub fn resolve<'s, S: Schema>(
     alloc: Global,
     text: &Command,
@@ -107,7 +107,8 @@ fn transaction_command<'s, S: Schema>(
     }
 }
 
-/// Whether a table of that name and with these columns may be made.
+/// True if a table of that name and with these columns may be made. Error: TableExists, Ambiguous where two columns
+/// have one name, TooManyTables or NoMemory.
 pub fn resolve_new_table<S: Schema>(
     name: &Name,
     columns: &[ColumnDefinition],
@@ -137,7 +138,7 @@ fn new_table<S: Schema>(
     }
 }
 
-/// Whether there is a table of that name.
+/// True if there is a table of that name.
 fn has_table<S: Schema>(schema: &S, name: &Name) -> bool
     ensures { result ≡ list_any (λ e. same_name e.name name.now) (S.names schema.now).tables }
 {
@@ -156,7 +157,7 @@ fn old_table<S: Schema>(name: &Name, schema: &S) -> Result<Resolved, Refusal>
     }
 }
 
-/// Whether two columns have one name.
+/// True if two columns have one name.
 fn is_named_twice(columns: &[ColumnDefinition]) -> bool
     ensures { result ≡ named_twice columns.now }
 {

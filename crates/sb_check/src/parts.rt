@@ -16,7 +16,7 @@ use sb_syntax::{AlterationText, RuleText};
 use sb_value::Refusal;
 use std::alloc::Global;
 
-/// A query that stands alone.
+/// A query that stands alone. Error: the first refusal of names and types, or NoMemory.
 pub fn resolve_query<'s, S: Schema>(
     alloc: Global,
     text: &sb_syntax::Query,
@@ -31,7 +31,7 @@ pub fn resolve_query<'s, S: Schema>(
     }
 }
 
-/// A statement that changes a table.
+/// A statement that changes a table. Error: the first refusal of names and types, or NoMemory.
 pub fn resolve_statement<'s, S: Schema>(
     alloc: Global,
     text: &sb_syntax::Statement,
@@ -45,7 +45,8 @@ pub fn resolve_statement<'s, S: Schema>(
     }
 }
 
-/// The names and types of a rule's text: its table, then its triggers, its condition, its actions.
+/// The names and types of a rule's text: its table, then its triggers, its condition, its actions. Error: the first
+/// refusal of names and types in this order, or NoMemory.
 pub fn resolve_rule<'s, S: Schema>(
     alloc: Global,
     text: &RuleText,
@@ -62,8 +63,8 @@ pub fn resolve_rule<'s, S: Schema>(
     }
 }
 
-/// The names and types of a rule's new parts, where the rule has these triggers on a table with these columns: its condition,
-/// then its actions.
+/// The names and types of a rule's new parts, where the rule has these triggers on a table with these columns: its
+/// condition, then its actions. Error: the first refusal of names and types, or NoMemory.
 pub fn resolve_alteration<'s, S: Schema>(
     alloc: Global,
     text: &AlterationText,

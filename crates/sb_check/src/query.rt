@@ -86,7 +86,7 @@ fn compare(
     Ok(Box::new(alloc, Condition { node })?)
 }
 
-/// Whether the left side is one of the query's values, or isn't.
+/// True if the left side is one of the query's values, or isn't.
 #[inline(always)]
 fn within(
     alloc: Global,
@@ -130,7 +130,7 @@ fn scalar_subquery(query: Box<Query>) -> Operand
     }
 }
 
-/// Whether a query as an operand gives one value.
+/// True if a query as an operand gives one value.
 fn is_aggregate(items: &sb_syntax::Items) -> bool
     ensures { result ≡ spec.is_aggregate (view.items items.now) }
 {

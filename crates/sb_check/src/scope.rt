@@ -51,7 +51,7 @@ pub(crate) struct FoundColumn {
     pub(crate) of: ColumnType,
 }
 
-/// Whether the two names have the same bytes.
+/// True if the two names have the same bytes.
 #[inline(always)]
 #[tactic(auto, using(crate::proofs::SameName::names_tie))]
 pub(crate) fn is_named(a: &Name, b: &Name) -> bool
@@ -132,7 +132,7 @@ fn near_column(scope: &Scope<'_, '_>, name: &Name) -> Result<FoundColumn, CheckF
     }
 }
 
-/// Whether the two mean one table.
+/// True if the two mean one table.
 #[inline(always)]
 pub(crate) fn same_table(a: &TableReference, b: &TableReference) -> bool
     ensures { result ≡ spec.same_table a.now b.now }

@@ -81,7 +81,7 @@ pub(crate) fn table_named<'a, S: Schema>(
     }
 }
 
-/// Whether updates of any kind trigger.
+/// True if updates of any kind trigger.
 #[tactic(auto, using(crate::proofs::Filled::has_some))]
 pub(crate) fn has_updates(triggers: &Triggers) -> bool
     ensures { result ≡ spec.has_updates triggers.now }
@@ -89,7 +89,7 @@ pub(crate) fn has_updates(triggers: &Triggers) -> bool
     triggers.updated || !triggers.columns.is_empty()
 }
 
-/// Whether a rule with these triggers has that transition table.
+/// True if a rule with these triggers has that transition table.
 fn has_trigger(source: &Source, triggers: &Triggers) -> bool
     ensures { result ≡ has_trigger source.now triggers.now }
 {
@@ -151,7 +151,7 @@ fn visible_name(source: &SourceReference) -> TableReference
     }
 }
 
-/// Whether a source is seen by that name.
+/// True if a source is seen by that name.
 fn is_taken(visible: &[Visible<'_>], name: &TableReference) -> bool
     ensures { result ≡ list_any (names.same_table name.now) (map (λ v. v.name) visible.now) }
 {

@@ -20,7 +20,7 @@ use sb_syntax::TableReference;
 use sb_value::{ColumnDefinition, Tuples, Value};
 use std::alloc::Global;
 
-/// Whether the values fit the columns, of which there are as many, in order.
+/// True if the values fit the columns, of which there are as many, in order.
 fn row_types(values: &[Value], columns: &[ColumnDefinition]) -> Result<(), CheckFault>
     requires { length values.now ≡ length columns.now }
     ensures { Gives (λ _. true) (spec.of_types (map spec.type_of values.now) columns.now) result }
@@ -114,7 +114,7 @@ fn delete<'s, S: Schema>(
     Ok(Statement::Delete(table.id, condition))
 }
 
-/// Whether a column was assigned before.
+/// True if a column was assigned before.
 fn is_assigned(done: &[Assignment], place: usize) -> bool
     ensures { result ≡ list_any (λ k. k == place) (map (λ a. a.place) done.now) }
 {

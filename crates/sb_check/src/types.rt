@@ -10,7 +10,7 @@ use smallvec::SmallVec;
 use std::alloc::{AllocError, Global};
 use std::marker::Model;
 
-/// Whether the two types are the same.
+/// True if the two types are the same.
 pub(crate) fn same_type(a: ColumnType, b: ColumnType) -> bool
     ensures { result ≡ spec.same_type a b }
 {

@@ -20,7 +20,7 @@ pub trait SourceVisitor {
         ensures { OnOk result (self.new ≡ after self.old source) };
 }
 
-/// The sources of a statement, in order of mention.
+/// The sources of a statement, in order of mention. Error: what the visitor stops with.
 #[tactic(auto, using(crate::proofs::Shown::shown_both))]
 pub fn visit_statement<V: SourceVisitor>(
     statement: &Statement,
@@ -61,7 +61,7 @@ fn visit_sources<V: SourceVisitor>(sources: &[Source], visitor: &mut V) -> Resul
     Ok(())
 }
 
-/// The sources of a query, in order of mention.
+/// The sources of a query, in order of mention. Error: what the visitor stops with.
 #[cycle(visit)]
 #[tactic(auto, using(crate::proofs::Shown::shown_both))]
 pub fn visit_query<V: SourceVisitor>(query: &Query, visitor: &mut V) -> Result<(), V::Stop>

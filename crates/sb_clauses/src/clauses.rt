@@ -65,7 +65,7 @@ pub struct NewClauses {
     pub actions: Option<Vec<u8>>,
 }
 
-/// The clauses of a line that creates a rule.
+/// The clauses of a line that creates a rule. Error: out of memory.
 pub fn rule_clauses(alloc: Global, line: &[u8]) -> Result<RuleClauses, AllocError>
     ensures { (r : tree.RuleText) → command_of line.now ≡ Some (tree.create_rule r) →
         IfOk result (λ clauses. AreClauses clauses r) }
@@ -82,7 +82,7 @@ pub fn rule_clauses(alloc: Global, line: &[u8]) -> Result<RuleClauses, AllocErro
     })
 }
 
-/// The clauses of a line that alters a rule.
+/// The clauses of a line that alters a rule. Error: out of memory.
 pub fn new_clauses(alloc: Global, line: &[u8]) -> Result<NewClauses, AllocError>
     ensures { (r : tree.AlterationText) → command_of line.now ≡ Some (tree.alter_rule r) →
         IfOk result (λ clauses. AreNewClauses clauses r) }

@@ -6,7 +6,7 @@ use crate::clauses::RuleClauses;
 use sb_value::Name;
 use std::alloc::{AllocError, Global};
 
-/// The line that creates the rule of that name.
+/// The line that creates the rule of that name. Error: out of memory.
 pub fn create_line(alloc: Global, name: &Name, clauses: &RuleClauses) -> Result<Vec<u8>, AllocError>
     ensures { IfOk result (λ line. line.items ≡ spec.create_line name.now clauses.now) }
 {

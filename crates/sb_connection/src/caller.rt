@@ -97,7 +97,8 @@ impl<S: Calling> SessionCaller<S> {
         self.session.is_none()
     }
 
-    /// Makes the step of a line, whose answer is the last one then. While the session waits no step is begun.
+    /// Makes the step of a line, whose answer is the last one then. While the session waits no step is begun. Error:
+    /// NotBegun where there is no memory, Ended behind an `end`.
     pub fn step<R: Wait>(&mut self, rt: &R, alloc: Global, line: &[u8]) -> Result<(), CallError>
         ensures ok { OnOk result (CallsOnce self.old line.now self.new) }
         ensures err { IfErr result (λ e. (self.new ≡ self.old) × (self.old.life.ended ≡ is_ended e)) }

@@ -96,7 +96,8 @@ impl<N: Naming, const FIRST: u32> Desk<N, FIRST> {
         cell
     }
 
-    /// Makes the step `open` of a closed session, where the trail isn't full.
+    /// Makes the step `open` of a closed session, where the trail isn't full. Error: AlreadyOpen, TrailFull or
+    /// NotBegun; nothing changes.
     pub fn admit(
         &mut self,
         alloc: Global,
@@ -138,7 +139,8 @@ impl<N: Naming, const FIRST: u32> Desk<N, FIRST> {
         Ok(room.opened(tenant, session, share, seat, number))
     }
 
-    /// Makes the one step of the line that is ready.
+    /// Makes the one step of the line that is ready. Error: Ended behind an `end`, or NotBegun where there is no
+    /// memory; nothing changes.
     pub fn enter(
         &mut self,
         alloc: Global,

@@ -148,7 +148,7 @@ impl<N: Naming> Receipts<N> {
         list
     }
 
-    /// Makes a line ready, with the place of its receipt.
+    /// Makes a line ready, with the place of its receipt. Error: out of memory.
     pub fn prepare(&mut self, alloc: Global, line: &[u8]) -> Result<(), AllocError>
         ensures ok { OnOk result (self.new ≡ prepared self.old line.now) }
         ensures err { OnErr result (self.new ≡ self.old) }

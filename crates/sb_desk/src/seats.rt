@@ -62,7 +62,7 @@ pub type SeatTable = Shared<(), Numbers, usize, OnceEach>;
 /// The table with its word.
 pub type Seats = Table<(), Numbers, usize, OnceEach, Global>;
 
-/// The table, with the seat of all numbers below `count`.
+/// The table, with the seat of all numbers below `count`. Error: out of memory.
 pub fn open_seats(alloc: Global, count: usize) -> Result<(Seats, SessionSeat), AllocError>
     ensures { IfOk result (λ t. IsSeatOfAll count t.0.shared.table_id t.1) }
 {

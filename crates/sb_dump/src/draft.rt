@@ -32,12 +32,12 @@ impl Draft {
         self.text.as_slice().len()
     }
 
-    /// Whether the line is empty so far.
+    /// True if the line is empty so far.
     pub(crate) fn is_empty(&self) -> bool {
         self.text.as_slice().is_empty()
     }
 
-    /// Whether so many bytes more fit into the line where it can go on in the next one.
+    /// True if so many bytes more fit into the line where it can go on in the next one.
     pub(crate) fn has_room(&self, more: usize) -> bool {
         self.len().saturating_add(more) <= PACKED
     }

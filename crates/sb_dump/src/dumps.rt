@@ -25,7 +25,8 @@ pub enum DumpError {
 }
 
 /// A script that makes an alike tenant of a fresh one: tables with their rows, rules, their order, rulesets. It was
-/// played on a fresh tenant with that bound, and the tenant that it made was compared.
+/// played on a fresh tenant with that bound, and the tenant that it made was compared. Error: Busy where a session has
+/// a transaction, NotAlike, or NoMemory.
 pub fn dump(alloc: Global, tenant: &Tenant, bound: u32) -> Result<Script, DumpError>
     requires { bound ≤ 1000 }
     ensures ok { IfOk result (Dumps bound tenant.now) }

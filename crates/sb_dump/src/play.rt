@@ -82,14 +82,14 @@ fn send(alloc: Global, cell: &mut Cell, id: TenantId, line: &[u8]) -> Result<(),
     check(answer)
 }
 
-/// Whether a line can be sent.
+/// True if a line can be sent.
 fn is_sendable(line: &[u8]) -> bool
     ensures { IsTrue result → IsSendable line.now }
 {
     line.len() <= COMMAND_LIMIT && line.iter().all(|byte| *byte >= b' ' && *byte <= b'~')
 }
 
-/// Whether a line was done.
+/// True if a line was done.
 fn check(answer: Result<Answer, StepError>) -> Result<(), SendFault>
     ensures { OnOk result (IsDone answer) }
 {

@@ -84,7 +84,7 @@ fn write_rule(draft: &mut Draft, rule: &Rule, clauses: &RuleClauses) -> Result<(
     draft.line(&[b"alter rule ", name, b" then", actions])
 }
 
-/// Whether a line is short enough with a condition and actions more.
+/// True if a line is short enough with a condition and actions more.
 fn is_short(draft: &Draft, condition: &[u8], actions: &[u8]) -> bool {
     let words = b" if then".len();
     let parts = condition.len().saturating_add(actions.len());

@@ -55,7 +55,8 @@ pub enum FinishError {
 }
 
 impl<N: Naming> Host<N> {
-    /// The trails of all tenants, where the receipts of every session are exactly its entries.
+    /// The trails of all tenants, where the receipts of every session are exactly its entries. Error: a receipt of a
+    /// session is missing (Missing), or isn't its entry (Mismatch); or out of memory.
     pub fn finish(self, alloc: Global, stubs: Vec<Stub>) -> Result<Report, FinishError>
         ensures { Finishes N.bound self stubs.items result }
     {

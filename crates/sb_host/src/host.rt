@@ -70,7 +70,7 @@ impl<N: Naming> Host<N> {
         self.cells
     }
 
-    /// Opens a session of a tenant.
+    /// Opens a session of a tenant. Error: NoTenant, NoSession, AlreadyOpen, TrailFull or NotBegun.
     pub fn attach<R: Wait>(
         &self,
         rt: &R,

@@ -50,7 +50,8 @@ impl Model for Opened {
 }
 
 impl Opened {
-    /// The parts of a host with so many tenants and cells, and with `bound` as the tenants' consideration limit.
+    /// The parts of a host with so many tenants and cells, and with `bound` as the tenants' consideration limit. Error:
+    /// out of memory.
     pub fn new(alloc: Global, tenants: u32, cells: u32, bound: u32) -> Result<Opened, AllocError>
         requires tenants { (0 < tenants) × (tenants ≤ 256) }
         requires cells { (0 < cells) × (cells ≤ 16) }
@@ -195,7 +196,7 @@ pub(crate) fn open_desk<N: Naming, const F: u32>(
 }
 
 impl<N: Naming> Host<N> {
-    /// The host of these parts, which the type names.
+    /// The host of these parts, which the type names. Error: out of memory.
     pub fn new(alloc: Global, opened: Opened) -> Result<Host<N>, AllocError>
         requires { AreNames N.table N.tenants N.cells N.bound N.name N.parts opened }
         ensures { IfOk result (λ host. host ≡ opened.tenants) }

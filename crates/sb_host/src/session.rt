@@ -84,7 +84,8 @@ impl<'h, N: Naming> Session<'h, N> {
         self.host.enter(rt, alloc, &mut self.receipts, gate)
     }
 
-    /// Makes the step of a line and lends its answer, with a gate inside the lock.
+    /// Makes the step of a line and lends its answer, with a gate inside the lock. Error: Ended behind an `end`, or
+    /// NotBegun where there is no memory.
     pub fn call_with<R: Wait, G: Gate>(
         &mut self,
         rt: &R,
@@ -105,7 +106,8 @@ impl<'h, N: Naming> Session<'h, N> {
         }
     }
 
-    /// Makes the step of a line and lends its answer.
+    /// Makes the step of a line and lends its answer. Error: Ended behind an `end`, or NotBegun where there is no
+    /// memory.
     pub fn call<R: Wait>(
         &mut self,
         rt: &R,

@@ -44,7 +44,7 @@ impl RuleIndex {
         }
     }
 
-    /// Adds the tenant's rule on the table under each of its operations.
+    /// Adds the tenant's rule on the table under each of its operations. Error: out of memory.
     pub fn add_rule(
         &mut self,
         tenant: TenantId,

@@ -39,7 +39,7 @@ impl TenantRules {
         }
     }
 
-    /// Adds the rule under each of its operations on the table.
+    /// Adds the rule under each of its operations on the table. Error: out of memory.
     pub fn add(
         &mut self,
         rule: RuleId,

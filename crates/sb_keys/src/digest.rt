@@ -33,7 +33,7 @@ fn are_printable(bytes: &[u8]) -> bool
     true
 }
 
-/// The digest of a key, in hex as a line names it.
+/// The digest of a key, in hex as a line names it. Error: out of memory.
 pub fn digest_line(alloc: Global, key: &[u8]) -> Result<String, AllocError>
     ensures { IfOk result (λ text. string_bytes text ≡ hex_digest key.now) }
 {

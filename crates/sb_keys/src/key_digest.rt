@@ -25,7 +25,8 @@ pub enum DigestError {
     BadKey,
 }
 
-/// Writes the digest of the key in the first line of the input.
+/// Writes the digest of the key in the first line of the input. Error: a read or a write failed, there is no memory, or
+/// the line is no key (BadKey).
 pub fn tell_digest<R: Source, W: Sink>(
     alloc: Global,
     reader: &mut R,

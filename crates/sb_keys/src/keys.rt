@@ -44,7 +44,7 @@ impl Keys {
         }
     }
 
-    /// The keys that a text names.
+    /// The keys that a text names. Error: BadLine with the first line that names no key, or NoMemory.
     pub fn read(alloc: Global, text: &[u8]) -> Result<Keys, KeysError>
         ensures ok { IfOk result (λ keys. keys_of text.now ≡ Ok (table_of keys)) }
         ensures err { IfErr result (λ e. (e ≡ KeysError.NoMemory)

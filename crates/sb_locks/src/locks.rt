@@ -39,7 +39,8 @@ impl Locks {
         }
     }
 
-    /// Takes all locks of the list, in order of mention, or none.
+    /// Takes all locks of the list, in order of mention, or none. Error: the first table that another session has
+    /// locked in a mode that bars this one.
     pub fn request(
         &mut self,
         session: SessionId,
@@ -67,7 +68,7 @@ impl Locks {
         leave(&mut self.writers, session);
     }
 
-    /// Whether the session holds the table in that mode.
+    /// True if the session holds the table in that mode.
     pub fn is_held(&self, session: SessionId, table: TableId, mode: LockMode) -> bool
         ensures { result ≡ held self.now session table mode }
     {
@@ -90,7 +91,7 @@ impl Locks {
         None
     }
 
-    /// Whether the lock conflicts with one of another session.
+    /// True if the lock conflicts with one of another session.
     fn conflicts(&self, session: SessionId, table: TableId, mode: LockMode) -> bool
         ensures { result ≡ conflicts (held self.now) session table mode }
     {

@@ -38,7 +38,7 @@ fn no_operations() -> NetOperations
     }
 }
 
-/// Whether one of the operations triggers a rule.
+/// True if one of the operations triggers a rule.
 pub fn meets(triggers: Triggers, found: NetOperations) -> bool
     ensures { result ≡ meets triggers found }
 {

@@ -86,7 +86,7 @@ fn push_tuple<L: ChangeLog>(
     }
 }
 
-/// The transition tables of the session's changes that are no older than `since`.
+/// The transition tables of the session's changes that are no older than `since`. Error: out of memory.
 pub fn transition_tables<L: ChangeLog>(
     alloc: Global,
     log: &L,

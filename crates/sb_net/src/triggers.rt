@@ -1,4 +1,4 @@
-//! Whether a rule is triggered.
+//! Tests whether a rule is triggered.
 ghost use Rattle.std.specs.Prelude.{◌≡◌, ◌≤◌, ◌&&◌, IsTrue, IsFalse, option_map};
 ghost use Rattle.sb_value.specs.Laws.{AreLives};
 ghost use Rattle.sb_value.specs.NetEffect.{has_update, is_operation, is_triggered};
@@ -14,14 +14,14 @@ use crate::scope::ChangeScope;
 use sb_rawlog::ChangeLog;
 use sb_value::{Change, ChangeKind, Columns, TableId, Triggers, Who, new_changes_trigger};
 
-/// Whether an update of these columns is one of the operations.
+/// True if an update of these columns is one of the operations.
 pub(crate) fn has_update(triggers: &Triggers, columns: Columns) -> bool
     ensures { result ≡ has_update triggers.now columns }
 {
     triggers.updated || triggers.columns.intersects(columns)
 }
 
-/// Whether a net effect is one of the operations.
+/// True if a net effect is one of the operations.
 fn is_operation(triggers: &Triggers, net: &Option<NetOf<'_>>) -> bool
     ensures { result ≡ is_operation triggers.now (option_map seen net.now) }
 {
@@ -33,7 +33,7 @@ fn is_operation(triggers: &Triggers, net: &Option<NetOf<'_>>) -> bool
     }
 }
 
-/// Whether the net effect on the tuple is one of the operations.
+/// True if the net effect on the tuple is one of the operations.
 fn is_hit<L: ChangeLog>(log: &L, scope: &ChangeScope, tuple: u64, triggers: &Triggers) -> bool
     ensures { result ≡ is_hit triggers.now scope.now.table (changes_in scope.now (L.records log.now)) tuple }
 {
@@ -41,7 +41,7 @@ fn is_hit<L: ChangeLog>(log: &L, scope: &ChangeScope, tuple: u64, triggers: &Tri
     is_operation(triggers, &found)
 }
 
-/// Whether changes of the kind may be operations.
+/// True if changes of the kind may be operations.
 fn names_kind(triggers: &Triggers, kind: ChangeKind) -> bool
     ensures { result ≡ names_kind triggers.now kind }
 {
@@ -52,7 +52,7 @@ fn names_kind(triggers: &Triggers, kind: ChangeKind) -> bool
     }
 }
 
-/// Whether the net effect of a change's tuple is one of the operations. An update that isn't its tuple's newest change
+/// True if the net effect of a change's tuple is one of the operations. An update that isn't its tuple's newest change
 /// isn't asked: so each tuple is asked once, however often it changed.
 fn is_asked_hit<L: ChangeLog>(
     log: &L,
@@ -73,7 +73,7 @@ fn is_asked_hit<L: ChangeLog>(
     }
 }
 
-/// Whether a change of the kind that is no older than `tested` is asked, and the net effect on its tuple is an operation.
+/// True if a change of the kind that is no older than `tested` is asked, and the net effect on its tuple is an operation.
 /// The tuple is noted as the rule's witness.
 fn any_asked<L: ChangeLog>(
     log: &L,
@@ -99,7 +99,7 @@ fn any_asked<L: ChangeLog>(
     false
 }
 
-/// Whether the witness is a tuple whose net effect is one of the operations.
+/// True if the witness is a tuple whose net effect is one of the operations.
 fn is_witnessed<L: ChangeLog>(
     log: &L,
     scope: &ChangeScope,
@@ -115,7 +115,7 @@ fn is_witnessed<L: ChangeLog>(
     }
 }
 
-/// Whether the session's changes that are no older than `since` trigger a rule on the table, where those of them
+/// True if the session's changes that are no older than `since` trigger a rule on the table, where those of them
 /// that are older than `tested` don't. What it costs are the changes since then: of other tuples the net effects are
 /// what they were. The witness is a tuple that triggered the rule before, if one is known. It is asked first, so a rule
 /// that waits costs no walk; nothing rests on it. One that is found is noted.
@@ -157,7 +157,7 @@ pub fn is_triggered_anew<L: ChangeLog>(
     any_asked(log, &scope, ChangeKind::Updated, &triggers, tested, witness)
 }
 
-/// Whether a change of the kind is of a tuple whose net effect is an operation.
+/// True if a change of the kind is of a tuple whose net effect is an operation.
 fn any_tuple<L: ChangeLog>(
     log: &L,
     scope: &ChangeScope,
@@ -175,7 +175,7 @@ fn any_tuple<L: ChangeLog>(
     false
 }
 
-/// Whether the session's changes that are no older than `since` trigger a rule on the table, whatever changes these
+/// True if the session's changes that are no older than `since` trigger a rule on the table, whatever changes these
 /// are. It looks at the net effect of each change's tuple.
 pub fn is_triggered<L: ChangeLog>(
     log: &L,

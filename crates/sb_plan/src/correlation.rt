@@ -1,4 +1,4 @@
-//! Whether a query names a column of a query around it.
+//! Tests whether a query names a column of a query around it.
 ghost use Rattle.std.specs.Prelude.{◌≡◌, ℕ, true};
 ghost use Rattle.sb_plan.specs.Correlation as spec;
 
@@ -6,7 +6,7 @@ use sb_check::{
     Condition, ConditionNode, Expression, ExpressionNode, Items, Operand, OperandNode, Query,
 };
 
-/// Whether all columns are those of so many queries, the innermost.
+/// True if all columns are those of so many queries, the innermost.
 fn expression_within(queries: u8, e: &Expression) -> bool
     ensures { result ≡ spec.expression_within queries e.now }
 {
@@ -19,7 +19,7 @@ fn expression_within(queries: u8, e: &Expression) -> bool
     }
 }
 
-/// Whether all columns of each expression belong to so many innermost queries.
+/// True if all columns of each expression belong to so many innermost queries.
 fn expressions_within(queries: u8, list: &[Expression]) -> bool
     ensures { result ≡ spec.expressions_within queries list.now }
 {
@@ -31,7 +31,7 @@ fn expressions_within(queries: u8, list: &[Expression]) -> bool
     }
 }
 
-/// Whether all columns of the items belong to so many innermost queries.
+/// True if all columns of the items belong to so many innermost queries.
 fn items_within(queries: u8, items: &Items) -> bool
     ensures { result ≡ spec.items_within queries items.now }
 {
@@ -63,7 +63,7 @@ fn condition_within(queries: u8, c: &Condition) -> bool
     }
 }
 
-/// Whether all columns of an operand belong to so many innermost queries.
+/// True if all columns of an operand belong to so many innermost queries.
 #[cycle(within)]
 fn operand_within(queries: u8, o: &Operand) -> bool
     ensures { result ≡ true → spec.operand_within queries o.now ≡ true }
@@ -74,7 +74,7 @@ fn operand_within(queries: u8, o: &Operand) -> bool
     }
 }
 
-/// Whether all columns of a query belong to it or to so many queries around it.
+/// True if all columns of a query belong to it or to so many queries around it.
 #[cycle(within)]
 fn query_within(queries: u8, q: &Query) -> bool
     ensures { result ≡ true → spec.query_within queries q.now ≡ true }
@@ -85,7 +85,7 @@ fn query_within(queries: u8, q: &Query) -> bool
     }
 }
 
-/// Whether the query names no column of a query around it. Of one in which too many stand in one another it isn't said.
+/// True if the query names no column of a query around it. Of one in which too many stand in one another it isn't said.
 pub fn is_uncorrelated(q: &Query) -> bool
     ensures within { result ≡ true → spec.query_within 0 q.now ≡ true }
     ensures same { result ≡ true → spec.SameEverywhere q.now }

@@ -1,4 +1,4 @@
-//! Whether a condition or a query can overflow.
+//! Tests whether a condition or a query can overflow.
 ghost use Rattle.std.specs.Prelude.{◌≡◌};
 ghost use Rattle.std.specs.List.{list_all};
 ghost use Rattle.sb_plan.specs.ErrorFree as spec;
@@ -8,7 +8,7 @@ use sb_check::{
     Condition, ConditionNode, Expression, ExpressionNode, Items, Operand, OperandNode, Query,
 };
 
-/// Whether an expression is a literal or a column.
+/// True if an expression is a literal or a column.
 fn is_plain(e: &Expression) -> bool
     ensures { result ≡ spec.is_plain e.now }
 {
@@ -19,7 +19,7 @@ fn is_plain(e: &Expression) -> bool
     }
 }
 
-/// Whether an operand has no arithmetic, and is no query but one whose value is known.
+/// True if an operand has no arithmetic, and is no query but one whose value is known.
 fn is_operand_error_free(o: &Operand, memo: &Memo<'_>) -> bool
     ensures { result ≡ spec.operand_error_free o.now memo.now }
 {
@@ -29,7 +29,7 @@ fn is_operand_error_free(o: &Operand, memo: &Memo<'_>) -> bool
     }
 }
 
-/// Whether a condition has no arithmetic, and no query but those whose answer is known. Then it overflows nowhere.
+/// True if a condition has no arithmetic, and no query but those whose answer is known. Then it overflows nowhere.
 #[cycle(error_free)]
 pub fn is_error_free(c: &Condition, memo: &Memo<'_>) -> bool
     ensures { result ≡ spec.is_error_free c.now memo.now }
@@ -47,14 +47,14 @@ pub fn is_error_free(c: &Condition, memo: &Memo<'_>) -> bool
     }
 }
 
-/// Whether each expression is a literal or a column.
+/// True if each expression is a literal or a column.
 fn are_plain(list: &[Expression]) -> bool
     ensures { result ≡ list_all spec.is_plain list.now }
 {
     list.iter().all(|e| is_plain(e))
 }
 
-/// Whether the items are values that stand in a row.
+/// True if the items are values that stand in a row.
 fn gives_plain_rows(items: &Items) -> bool
     ensures { result ≡ spec.gives_plain_rows items.now }
 {
@@ -65,7 +65,7 @@ fn gives_plain_rows(items: &Items) -> bool
     }
 }
 
-/// Whether a query can't overflow.
+/// True if a query can't overflow.
 pub fn is_query_error_free(query: &Query, memo: &Memo<'_>) -> bool
     ensures { result ≡ spec.query_error_free query.now memo.now }
 {

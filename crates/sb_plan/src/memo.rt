@@ -17,7 +17,7 @@ pub enum Memo<'r> {
     Within(Box<Memo<'r>>),
     /// Of the condition of the query that stands here, with the access path of its last source.
     Prepared(Box<Memo<'r>>, Box<AccessPath<'r>>),
-    /// Whether the query that stands here has a row.
+    /// True if the query that stands here has a row.
     Truth(bool),
     /// The one value of the query that stands here.
     OneValue(ValueRef<'r>),
@@ -41,7 +41,7 @@ impl<'r> Drop for Memo<'r> {
 }
 
 impl<'r> Memo<'r> {
-    /// What is known of both sides. Of nothing no tree is made.
+    /// What is known of both sides. Of nothing no tree is made. Error: out of memory.
     pub fn both(alloc: Global, left: Memo<'r>, right: Memo<'r>) -> Result<Memo<'r>, AllocError>
         ensures left { IfOk result (λ memo. spec.left memo ≡ left.entry) }
         ensures right { IfOk result (λ memo. spec.right memo ≡ right.entry) }
@@ -52,7 +52,7 @@ impl<'r> Memo<'r> {
         }
     }
 
-    /// What is known of a query, where it is known of its condition alone.
+    /// What is known of a query, where it is known of its condition alone. Error: out of memory.
     pub fn around(alloc: Global, inside: Memo<'r>) -> Result<Memo<'r>, AllocError>
         ensures within { IfOk result (λ memo. spec.within memo ≡ inside.entry) }
         ensures truth { IfOk result (λ memo. spec.truth memo ≡ None) }
@@ -110,7 +110,7 @@ impl<'r> Memo<'r> {
         }
     }
 
-    /// Whether the query has a row, where that is known.
+    /// True if the query has a row, where that is known.
     #[inline(always)]
     pub fn truth(&self) -> Option<bool>
         ensures { result ≡ spec.truth self.now }

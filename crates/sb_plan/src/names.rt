@@ -10,7 +10,7 @@ use sb_check::{
 use sb_value::Value;
 use std::alloc::{AllocError, Global};
 
-/// Whether two columns are the same.
+/// True if two columns are the same.
 pub(crate) fn is_same(one: Column, two: Column) -> bool
     ensures { OnTrue result (one ≡ two) }
 {
@@ -113,7 +113,7 @@ pub(crate) fn named_in<'c>(alloc: Global, q: &'c Query) -> Option<Named<'c>> {
     }
 }
 
-/// Whether no part of a condition is left to the walk for its form: of subqueries those are compiled whose answer is known.
+/// True if no part of a condition is left to the walk for its form: of subqueries those are compiled whose answer is known.
 pub(crate) fn is_compiled(c: &Condition, memo: &Memo<'_>) -> bool {
     match &c.node {
         ConditionNode::Always => true,

@@ -25,7 +25,7 @@ fn source_at(outward: &Outward<'_>, depth: u8, place: u8) -> Option<Source> {
     }
 }
 
-/// Whether a column has a text in the first row of its source.
+/// True if a column has a text in the first row of its source.
 pub(crate) fn begins_with_text<S: Sources>(
     column: Column,
     sources: &S,

@@ -49,7 +49,7 @@ fn error_free_value<'r>(o: &'r Operand, memo: &Memo<'r>, scope: &Scope<'_, 'r>) 
     }
 }
 
-/// Whether an expression compares so with an operand that overflows nowhere. It is called, so that whoever walks a
+/// True if an expression compares so with an operand that overflows nowhere. It is called, so that whoever walks a
 /// chain keeps no place for it.
 #[inline(never)]
 pub(crate) fn compared<'r>(
@@ -65,7 +65,7 @@ pub(crate) fn compared<'r>(
     plain_value(a, scope).compares(comparison, error_free_value(b, memo, scope))
 }
 
-/// Whether a condition that overflows nowhere is true. Of one comparison, and of none, it is said at once.
+/// True if a condition that overflows nowhere is true. Of one comparison, and of none, it is said at once.
 #[cycle(truth)]
 #[inline(always)]
 pub fn is_true<'r>(c: &'r Condition, memo: &Memo<'r>, scope: &Scope<'_, 'r>) -> bool
@@ -79,7 +79,7 @@ pub fn is_true<'r>(c: &'r Condition, memo: &Memo<'r>, scope: &Scope<'_, 'r>) -> 
     }
 }
 
-/// Whether a condition that overflows nowhere is false. It stands apart, so that a chain is walked as a loop.
+/// True if a condition that overflows nowhere is false. It stands apart, so that a chain is walked as a loop.
 #[cycle(truth)]
 #[inline(never)]
 fn is_false<'r>(c: &'r Condition, memo: &Memo<'r>, scope: &Scope<'_, 'r>) -> bool
@@ -89,7 +89,7 @@ fn is_false<'r>(c: &'r Condition, memo: &Memo<'r>, scope: &Scope<'_, 'r>) -> boo
     !is_chain_true(c, memo, scope)
 }
 
-/// Whether a condition that overflows nowhere is true. The right side goes first: in a chain it is a single comparison,
+/// True if a condition that overflows nowhere is true. The right side goes first: in a chain it is a single comparison,
 /// and the left side is what is left of the chain.
 #[cycle(truth)]
 pub(crate) fn is_chain_true<'r>(c: &'r Condition, memo: &Memo<'r>, scope: &Scope<'_, 'r>) -> bool

@@ -47,7 +47,7 @@ impl<'r> ValueRef<'r> {
         }
     }
 
-    /// A value of its own.
+    /// A value of its own. Error: out of memory.
     pub fn to_value(self) -> Result<Value, AllocError>
         ensures { IfOk result (λ value. value ≡ value_seen self.entry) }
     {
@@ -74,7 +74,7 @@ impl<'r> ValueRef<'r> {
         }
     }
 
-    /// Whether it comes before another value.
+    /// True if it comes before another value.
     #[inline(always)]
     pub fn precedes(self, other: ValueRef<'_>) -> bool
         ensures { result ≡ is_lt (value_cmp (value_seen self.entry) (value_seen other.entry)) }
@@ -91,7 +91,7 @@ impl<'r> ValueRef<'r> {
         }
     }
 
-    /// Whether it compares so with another value.
+    /// True if it compares so with another value.
     #[inline(always)]
     pub fn compares(self, comparison: Comparison, other: ValueRef<'_>) -> bool
         ensures { result ≡ compared comparison (value_seen self.entry) (value_seen other.entry) }
@@ -100,7 +100,7 @@ impl<'r> ValueRef<'r> {
     }
 }
 
-/// Whether a comparison takes the order as true.
+/// True if a comparison takes the order as true.
 #[inline(always)]
 fn takes(comparison: Comparison, order: Ordering) -> bool
     ensures { result ≡ compares comparison order }

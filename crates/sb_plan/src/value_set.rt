@@ -72,7 +72,7 @@ impl<'r> ValueSet<'r> {
         ValueSet { values, keys: None }
     }
 
-    /// Whether a value is among them.
+    /// True if a value is among them.
     pub fn contains(&self, wanted: ValueRef<'_>) -> bool
         ensures { result ≡ spec.is_among (value_seen wanted.entry) self.now }
     {
@@ -98,7 +98,7 @@ fn place_of(keys: &IntegerFlags, number: i64) -> Option<usize>
     Some(distance as usize)
 }
 
-/// Whether a value's flag is set.
+/// True if a value's flag is set.
 #[tactic(auto, using(crate::proofs::Flagging::flag_at_place))]
 fn is_flagged(keys: &IntegerFlags, wanted: ValueRef<'_>) -> bool
     ensures { result ≡ spec.is_flagged keys.now (value_seen wanted.entry) }
@@ -189,7 +189,7 @@ fn keys_of(alloc: Global, values: &[ValueRef<'_>]) -> Option<IntegerFlags>
     Some(keys)
 }
 
-/// Whether a value is among these, which are in order where they are many.
+/// True if a value is among these, which are in order where they are many.
 fn is_listed(wanted: ValueRef<'_>, values: &[ValueRef<'_>]) -> bool
     requires { spec.AreSearchable values.now }
     ensures { result ≡ spec.is_among (value_seen wanted.entry) (map value_seen values.now) }
@@ -201,7 +201,7 @@ fn is_listed(wanted: ValueRef<'_>, values: &[ValueRef<'_>]) -> bool
     }
 }
 
-/// Whether a value is among these, which are walked.
+/// True if a value is among these, which are walked.
 fn is_among(wanted: ValueRef<'_>, list: &[ValueRef<'_>]) -> bool
     ensures { result ≡ spec.is_among (value_seen wanted.entry) (map value_seen list.now) }
 {
@@ -213,7 +213,7 @@ fn is_among(wanted: ValueRef<'_>, list: &[ValueRef<'_>]) -> bool
     false
 }
 
-/// Whether a value is among these, which are in order.
+/// True if a value is among these, which are in order.
 fn is_found(wanted: ValueRef<'_>, list: &[ValueRef<'_>]) -> bool
     requires { spec.InOrder list.now }
     ensures { result ≡ spec.is_among (value_seen wanted.entry) (map value_seen list.now) }

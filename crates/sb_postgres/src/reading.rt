@@ -113,7 +113,7 @@ fn message_of(alloc: Global, kind: u8, body: &[u8]) -> Result<ClientMessage<'_>,
     }
 }
 
-/// The message with this first byte and these bytes behind its length.
+/// The message with this first byte and these bytes behind its length. Error: what is wrong in it, or out of memory.
 pub fn read_message(alloc: Global, kind: u8, body: &[u8]) -> Result<ClientMessage<'_>, ReadError>
     // What is read has these bytes.
     ensures found { IfOk result (λ m. IsSaid (said m) × (kind_of (said m) ≡ kind) × (body_of (said m) ≡ body.now)) }

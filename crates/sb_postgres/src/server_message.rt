@@ -1,6 +1,6 @@
 //! Messages of a server.
 
-/// Whether a session is in a transaction.
+/// True if a session is in a transaction.
 #[derive(Clone, Copy, Debug, PartialEq, Eq)]
 pub enum TransactionStatus {
     Idle,

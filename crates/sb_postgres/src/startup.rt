@@ -105,7 +105,7 @@ fn startup_of(alloc: Global, body: &[u8]) -> Result<StartupPacket<'_>, ReadError
     }
 }
 
-/// The packet with these bytes behind its length.
+/// The packet with these bytes behind its length. Error: what is wrong in it, or out of memory.
 pub fn read_startup(alloc: Global, body: &[u8]) -> Result<StartupPacket<'_>, ReadError>
     // What is read has these bytes.
     ensures found { IfOk result (λ p. IsStarted (started p) × (body_of (started p) ≡ body.now)) }

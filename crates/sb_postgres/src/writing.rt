@@ -180,7 +180,7 @@ impl MessageWriter {
         }
     }
 
-    /// Adds the bytes of a message, or nothing.
+    /// Adds the bytes of a message, or nothing. Error: Unsayable where no message says this, or out of memory.
     pub fn write(
         &mut self,
         out: &mut Vec<u8>,

@@ -101,7 +101,7 @@ fn linked(row: RuleSet, number: usize, through: RuleSet, second: RuleId) -> Rule
     }
 }
 
-/// Whether the row of that number is the second rule's own or has it.
+/// True if the row of that number is the second rule's own or has it.
 fn reaches(row: RuleSet, number: usize, second: RuleId) -> bool
     ensures { result ≡ ((second == number) || flag_at row second) }
 {

@@ -196,7 +196,7 @@ fn row_apart(row: RuleSet, second: RuleId, rule: RuleId, others: &[RuleId]) -> R
     }
 }
 
-/// Whether the rule is in the list.
+/// True if the rule is in the list.
 fn is_listed(list: &[RuleId], rule: RuleId) -> bool
     ensures { result ≡ list_any (λ o. o == rule) list.now }
 {

@@ -51,7 +51,7 @@ impl Priorities {
         }
     }
 
-    /// Whether one more rule fits.
+    /// True if one more rule fits.
     pub fn has_room(&self) -> bool
         ensures { result ≡ nat_lt (length self.now.rules) rule_limit }
     {
@@ -68,7 +68,7 @@ impl Priorities {
         self.rows.reserve(rule)
     }
 
-    /// Whether the rule would precede itself if it preceded those of the first list and followed those of the second.
+    /// True if the rule would precede itself if it preceded those of the first list and followed those of the second.
     pub fn closes_cycle(&self, rule: RuleId, ahead_of: &[RuleId], behind: &[RuleId]) -> bool
         ensures { DecidesCycle self.now rule (pairs_of rule ahead_of.now behind.now) result }
     {
@@ -77,7 +77,8 @@ impl Priorities {
         pairs.predecessors(rule).contains(rule)
     }
 
-    /// Adds a rule that precedes those of the first list and follows those of the second.
+    /// Adds a rule that precedes those of the first list and follows those of the second. Error: the pairs would close
+    /// a cycle; nothing changes.
     pub fn add(&mut self, rule: RuleId, ahead_of: &[RuleId], behind: &[RuleId]) -> Result<(), Cycle>
         requires room { length self.old.rules < rule_limit }
         requires row { HasRow self.old rule }
@@ -101,8 +102,8 @@ impl Priorities {
         Ok(())
     }
 
-    /// Takes away the pairs between a rule and those of the last list, either way round; then the rule precedes those of the first
-    /// list and follows those of the second.
+    /// Takes away the pairs between a rule and those of the last list, either way round; then the rule precedes those
+    /// of the first list and follows those of the second. Error: the pairs would close a cycle; nothing changes.
     pub fn alter(
         &mut self,
         rule: RuleId,
@@ -141,7 +142,7 @@ impl Priorities {
         self.rows.store(&pairs);
     }
 
-    /// Whether the first rule precedes the second, by a pair or through other rules.
+    /// True if the first rule precedes the second, by a pair or through other rules.
     pub fn precedes(&self, first: RuleId, second: RuleId) -> bool
         ensures { (pairs : List (ℕ × ℕ)) → HasOrder self.now pairs → result ≡ precedes pairs first second }
     {
@@ -190,7 +191,7 @@ impl Priorities {
         }
     }
 
-    /// Whether no other rule of the set precedes the rule.
+    /// True if no other rule of the set precedes the rule.
     fn is_free(&self, rule: RuleId, set: RuleSet) -> bool
         ensures { DecidesFree self.now set rule result }
     {

@@ -51,7 +51,7 @@ impl PrecedenceRows {
         }
     }
 
-    /// Makes a row for the rule.
+    /// Makes a row for the rule. Error: out of memory.
     pub fn reserve(&mut self, rule: RuleId) -> Result<(), AllocError>
         ensures room { OnOk result (rule < length self.new) }
         ensures longer { length self.old ≤ length self.new }

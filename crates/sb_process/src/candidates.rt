@@ -83,7 +83,7 @@ impl Database {
         set
     }
 
-    /// Whether the session's changes since the rule's mark trigger it.
+    /// True if the session's changes since the rule's mark trigger it.
     fn is_hit<L: ChangeLog>(
         &self,
         log: &L,

@@ -20,7 +20,7 @@ use sb_value::Refusal;
 use std::alloc::Global;
 
 impl Database {
-    /// Whether a rule's condition is true over what the viewer sees, once all its locks are taken.
+    /// True if a rule's condition is true over what the viewer sees, once all its locks are taken.
     pub(crate) fn test(
         &mut self,
         alloc: Global,
@@ -73,7 +73,7 @@ impl Database {
         }
     }
 
-    /// Whether a query has a row over the tables as they are.
+    /// True if a query has a row over the tables as they are.
     fn has_row(&self, alloc: Global, viewer: &Viewer<'_>, query: &Query) -> Result<bool, Refusal>
         ensures { IsAnswer (truth (statement.condition_rows
             (seen_by self.now.tables viewer.now.tables.now (who_in self.now viewer.now.session)) query.now)) result }

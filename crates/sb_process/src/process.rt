@@ -39,7 +39,7 @@ pub struct AssertionPoint {
 }
 
 impl Outcome {
-    /// Whether no rule is left.
+    /// True if no rule is left.
     pub fn is_done(&self) -> bool
         ensures { result ≡ is_done self.now }
     {
@@ -53,8 +53,8 @@ impl Outcome {
 }
 
 impl Database {
-    /// Considers eligible rules that are triggered, one after another, up to the consideration limit.
-    /// After every outcome but `Done`, and where memory runs out, the transaction is taken back.
+    /// Considers eligible rules that are triggered, one after another, up to the consideration limit. After every
+    /// outcome but `Done`, and where memory runs out, the transaction is taken back. Error: out of memory.
     pub fn process<L: ChangeLog>(
         &mut self,
         alloc: Global,

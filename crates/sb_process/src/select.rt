@@ -19,7 +19,8 @@ use sb_value::{Refusal, SessionId};
 use std::alloc::Global;
 
 impl Database {
-    /// The rows of a query, once all its locks are taken.
+    /// The rows of a query, once all its locks are taken. Error: Locked with the first table that isn't to be had,
+    /// TooBig, Overflow, TooManyRows or NoMemory.
     pub fn select(
         &mut self,
         alloc: Global,

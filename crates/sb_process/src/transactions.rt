@@ -84,7 +84,7 @@ impl Transactions {
         self.rows.get(rule.index())
     }
 
-    /// Sets a rule's mark. Nothing since then triggers the rule.
+    /// Sets a rule's mark. Nothing since then triggers the rule. Error: out of memory.
     pub fn set_mark(
         &mut self,
         session: SessionId,

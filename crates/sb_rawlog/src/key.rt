@@ -13,7 +13,7 @@ pub(crate) enum Key {
     Session(Who),
 }
 
-/// Whether the change is by the session.
+/// True if the change is by the session.
 fn is_by(change: &Change, who: Who) -> bool
     ensures { result ≡ is_by who change.now }
 {

@@ -143,7 +143,7 @@ fn grow(
     Ok(())
 }
 
-/// Whether the last block can go: far more places are free than the `n` that are needed, and none of it was used.
+/// True if the last block can go: far more places are free than the `n` that are needed, and none of it was used.
 fn can_spare_block(places: usize, used: usize, given_back: usize, n: usize) -> bool
     requires { (given_back ≤ used) × (used ≤ places) }
     ensures { MatchBool result (CanSpareBlock places used given_back n) (CanSpareBlock places used given_back n → ⊥) }

@@ -58,7 +58,7 @@ impl Model for RawLog {
 }
 
 impl RawLog {
-    /// An empty log, whose clock stands at 0. One bucket is as right as many, and slower.
+    /// An empty log, whose clock stands at 0. One bucket is as right as many, and slower. Error: out of memory.
     pub fn new(alloc: Global, buckets: usize) -> Result<Self, AllocError>
         requires { (0 < buckets) × (buckets ≤ 65536) }
         ensures records { IfOk result (λ l. ⟦<RawLog as ChangeLog>⟧.records l ≡ []) }

@@ -22,7 +22,7 @@ pub struct Size {
     pub workers: u32,
 }
 
-/// Replays an input on a fresh host of this size.
+/// Replays an input on a fresh host of this size. Error: as of `replay`.
 pub fn replay_fresh<T: Threads + Wait + Sync, R: Source, W: Sink>(
     rt: &T,
     alloc: Global,

@@ -70,8 +70,8 @@ impl<'g, S: Calling, G: Gate> Work<Job<S>, Done<S>> for Gated<'g, G> {
 pub struct Pool;
 
 impl Pool {
-    /// Calls each job's session with its line, once, on so many threads: the calling one and others, as
-    /// far as they can be started.
+    /// Calls each job's session with its line, once, on so many threads: the calling one and others, as far as they can
+    /// be started. Error: out of memory; the jobs are given back.
     pub fn run<S: Calling + Send, G: Gate + Sync, R: Threads + Wait + Sync>(
         rt: &R,
         alloc: Global,

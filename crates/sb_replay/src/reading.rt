@@ -8,7 +8,8 @@ use crate::script::{RankedCommands, ScriptState};
 use sb_wire::{Piece, Responder, Source, StreamError, answer_stream};
 use std::alloc::{AllocError, Global};
 
-/// Reads an input to its end, and gives the commands of each session, in the order of tenants and sessions.
+/// Reads an input to its end, and gives the commands of each session, in the order of tenants and sessions. Error: a
+/// read failed, BadLine with its number and why, or out of memory.
 pub fn read_script<R: Source>(
     alloc: Global,
     reader: &mut R,

@@ -17,6 +17,8 @@ use std::thread::Threads;
 
 /// Replays an input: reads it to its end, opens each session that it names, calls all sessions round by round with
 /// their commands on so many threads, closes them, finishes the host, and only then writes what they were answered.
+/// Error: a read or a write failed, BadLine, a session that wasn't opened (Attach), receipts that aren't the trails'
+/// (Finish), or out of memory.
 pub fn replay<R: Source, W: Sink, N: Naming + Send + Sync, T: Threads + Wait + Sync>(
     rt: &T,
     alloc: Global,

@@ -149,7 +149,7 @@ pub fn range_of(term: &Term, ranges: &[Range]) -> Option<Range>
     }
 }
 
-/// Whether no term of a condition overflows, whatever row of these ranges it meets.
+/// True if no term of a condition overflows, whatever row of these ranges it meets.
 pub fn never_overflows(condition: &Test, ranges: &[Range]) -> bool
     ensures held { OnTrue result ((row : List ℤ) → AreIn ranges.now row → NeverOverflows row condition.now) }
     ensures near { condition_reach ranges.now condition.now < 2 ^ 63 → IsTrue result }

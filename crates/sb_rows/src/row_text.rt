@@ -52,7 +52,7 @@ impl RowText {
         self.count
     }
 
-    /// Adds an integer to the open row.
+    /// Adds an integer to the open row. Error: out of memory.
     pub fn add_integer(&mut self, number: i64) -> Result<(), AllocError>
         ensures ok { OnOk result (self.new ≡ with_value self.old (Int number)) }
         ensures err { OnErr result (self.new ≡ self.old) }
@@ -63,7 +63,7 @@ impl RowText {
         Ok(())
     }
 
-    /// Adds a text to the open row.
+    /// Adds a text to the open row. Error: out of memory.
     pub fn add_text(&mut self, text: &Text) -> Result<(), AllocError>
         ensures ok { OnOk result (self.new ≡ with_value self.old (ItsText text.now)) }
         ensures err { OnErr result (self.new ≡ self.old) }
@@ -75,7 +75,7 @@ impl RowText {
         Ok(())
     }
 
-    /// Adds a value to the open row.
+    /// Adds a value to the open row. Error: out of memory.
     pub fn add(&mut self, value: &Value) -> Result<(), AllocError>
         ensures ok { OnOk result (self.new ≡ with_value self.old value.now) }
         ensures err { OnErr result (self.new ≡ self.old) }
@@ -86,7 +86,7 @@ impl RowText {
         }
     }
 
-    /// Adds values to the open row. Where memory runs out, some of them may have been added.
+    /// Adds values to the open row. Where memory runs out, some of them may have been added. Error: out of memory.
     pub fn add_all(&mut self, values: &[Value]) -> Result<(), AllocError>
         ensures { OnOk result (self.new ≡ with_values self.old values.now) }
     {
@@ -96,7 +96,7 @@ impl RowText {
         Ok(())
     }
 
-    /// Ends the open row.
+    /// Ends the open row. Error: out of memory.
     pub fn end_row(&mut self) -> Result<(), AllocError>
         ensures ok { OnOk result (self.new ≡ with_row_ended self.old) }
         ensures err { OnErr result (self.new ≡ self.old) }
@@ -118,7 +118,7 @@ impl RowText {
         self.text.as_slice()
     }
 
-    /// Whether the two are the same rows.
+    /// True if the two are the same rows.
     pub(crate) fn is_same(&self, other: &RowText) -> bool
         ensures { IsTrue result ↔ (self.now ≡ other.now) }
     {

@@ -32,7 +32,7 @@ impl Model for SharedRows {
 }
 
 impl SharedRows {
-    /// These rows, to be shared. They keep no more room than they need.
+    /// These rows, to be shared. They keep no more room than they need. Error: out of memory.
     pub fn new(alloc: Global, rows: RowText) -> Result<SharedRows, AllocError>
         requires closed { rows.begun ≡ [] }
         ensures { IfOk result (λ shared. shared ≡ rows.rows) }
@@ -58,7 +58,7 @@ impl SharedRows {
         self.rows.text()
     }
 
-    /// Adds the rows' lines, each behind the same bytes.
+    /// Adds the rows' lines, each behind the same bytes. Error: out of memory.
     pub fn write_lines(&self, start: &[u8], out: &mut Vec<u8>) -> Result<(), AllocError>
         ensures ok { OnOk result (out.new.items ≡ out.old.items ++ started_rows start.now self.now) }
         ensures err { OnErr result (IsInFront out.old.items out.new.items) }
@@ -70,7 +70,7 @@ impl SharedRows {
         }
     }
 
-    /// Another reference to the same rows.
+    /// Another reference to the same rows. Error: out of memory.
     pub fn share(&self) -> Result<SharedRows, AllocError>
         ensures { IfOk result (λ shared. shared ≡ self.now) }
     {
@@ -79,7 +79,7 @@ impl SharedRows {
         })
     }
 
-    /// Whether the two are the same rows.
+    /// True if the two are the same rows.
     pub fn is_same(&self, other: &SharedRows) -> bool
         ensures { IsTrue result ↔ (self.now ≡ other.now) }
     {

@@ -47,7 +47,7 @@ impl Rulesets {
         }
     }
 
-    /// Adds an empty ruleset of that name.
+    /// Adds an empty ruleset of that name. Error: RulesetExists, TooManyRulesets or NoMemory.
     pub fn create(&mut self, name: Name) -> Result<(), Refusal>
         ensures added { OnOk result (self.new ≡ created self.old name) }
         ensures allowed { OnOk result (create_refusal self.old name ≡ None) }
@@ -66,7 +66,7 @@ impl Rulesets {
         }
     }
 
-    /// Drops the ruleset of that name.
+    /// Drops the ruleset of that name. Error: NoRuleset.
     pub fn drop_set(&mut self, name: &Name) -> Result<(), Refusal>
         ensures known { OnOk result (IsTrue (has_name self.old name.now)) }
         ensures dropped { OnOk result (self.new ≡ without_set self.old name.now) }
@@ -79,7 +79,7 @@ impl Rulesets {
         }
     }
 
-    /// Adds the rules to the ruleset of that name, or takes them out of it.
+    /// Adds the rules to the ruleset of that name, or takes them out of it. Error: NoRuleset.
     pub fn change_members(
         &mut self,
         name: &Name,
@@ -100,7 +100,7 @@ impl Rulesets {
         }
     }
 
-    /// Adds the rules to the ruleset of that name.
+    /// Adds the rules to the ruleset of that name. Error: NoRuleset.
     pub fn add_rules(&mut self, name: &Name, rules: &[RuleId]) -> Result<(), Refusal>
         ensures known { OnOk result (IsTrue (has_name self.old name.now)) }
         ensures added { OnOk result (self.new ≡ changed (λ set. with_rules set rules.now) self.old name.now) }
@@ -110,7 +110,7 @@ impl Rulesets {
         self.change_members(name, MemberChange::Added, rules)
     }
 
-    /// Takes the rules out of the ruleset of that name.
+    /// Takes the rules out of the ruleset of that name. Error: NoRuleset.
     pub fn del_rules(&mut self, name: &Name, rules: &[RuleId]) -> Result<(), Refusal>
         ensures known { OnOk result (IsTrue (has_name self.old name.now)) }
         ensures taken { OnOk result (self.new ≡ changed (λ set. without_rules set rules.now) self.old name.now) }
@@ -149,7 +149,7 @@ impl Rulesets {
         self.sets.get_index(place)
     }
 
-    /// Whether there is a ruleset of that name.
+    /// True if there is a ruleset of that name.
     pub fn has(&self, name: &Name) -> bool
         ensures { result ≡ has_name self.now name.now }
     {

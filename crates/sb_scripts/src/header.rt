@@ -51,7 +51,7 @@ pub struct Header {
 }
 
 impl Header {
-    /// The settings of a header's line.
+    /// The settings of a header's line. Error: BadHeader.
     pub fn read(line: &[u8]) -> Result<Header, ScriptFault> {
         let mut header = Header {
             lines: BlockKind::Stream,

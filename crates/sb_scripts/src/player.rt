@@ -35,7 +35,7 @@ impl ScriptPlayer {
         self.answers.as_slice()
     }
 
-    /// Plays the blocks of an input.
+    /// Plays the blocks of an input. Error: the first fault of the input or the output.
     pub fn play_all(&mut self, input: &[u8]) -> Result<(), ScriptFault> {
         for line in input.split(|byte| *byte == b'\n') {
             self.take(line)?;

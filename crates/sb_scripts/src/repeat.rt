@@ -37,7 +37,7 @@ struct Turn<'a> {
     word: &'a [u8],
 }
 
-/// Adds the lines that a line of a script stands for.
+/// Adds the lines that a line of a script stands for. Error: BadRepeat, or out of memory.
 pub fn push_lines(line: &[u8], out: &mut Vec<u8>) -> Result<(), ScriptFault> {
     if let Some(starred) = line.strip_prefix(b"*".as_slice()) {
         let Some((digits, rest)) = cut(starred, b' ') else {
@@ -120,7 +120,7 @@ fn push_repeated(form: &[u8], out: &mut Vec<u8>) -> Result<(), ScriptFault> {
     Ok(())
 }
 
-/// Adds a text and how often it came, if it came at all.
+/// Adds a text and how often it came, if it came at all. Error: out of memory.
 pub fn push_times(
     text: &[u8],
     times: u32,
@@ -136,7 +136,7 @@ pub fn push_times(
     Ok(())
 }
 
-/// Adds the lines of a text, with many equal ones as one.
+/// Adds the lines of a text, with many equal ones as one. Error: out of memory.
 pub fn push_folded(text: &[u8], out: &mut Vec<u8>) -> Result<(), ScriptFault> {
     let Some(lines) = text.strip_suffix(b"\n".as_slice()) else {
         return Ok(());

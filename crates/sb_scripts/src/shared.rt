@@ -13,9 +13,9 @@ use sb_value::{
 use sb_wire::{Summary, run_stream};
 use std::alloc::{AllocError, Global};
 
-/// Adds the replies to these lines, and behind each how many changes open transactions have. At the
-/// end come the rows that session 0 of each tenant has inserted into its first table since it began
-/// its transaction, each as its time and the rules that it may trigger.
+/// Adds the replies to these lines, and behind each how many changes open transactions have. At the end come the rows
+/// that session 0 of each tenant has inserted into its first table since it began its transaction, each as its time and
+/// the rules that it may trigger. Error: out of memory.
 pub fn play_shared(
     alloc: Global,
     block: ScriptBlock<'_>,

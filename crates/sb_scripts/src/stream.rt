@@ -131,7 +131,7 @@ fn play_on(
     push_end(ended, out)
 }
 
-/// A cell with the tenants, the bound and the buckets that a header says.
+/// A cell with the tenants, the bound and the buckets that a header says. Error: out of memory.
 pub fn fresh_cell(alloc: Global, header: Header) -> Result<Cell, ScriptFault> {
     if header.tenants > MOST_TENANTS || header.bound > MOST_BOUND {
         return Err(ScriptFault::BadHeader);
@@ -146,7 +146,7 @@ pub fn fresh_cell(alloc: Global, header: Header) -> Result<Cell, ScriptFault> {
     }
 }
 
-/// Adds the fault that ended a stream.
+/// Adds the fault that ended a stream. Error: out of memory.
 pub fn push_end(ended: Result<(), StreamError>, out: &mut Vec<u8>) -> Result<(), ScriptFault> {
     let error = match ended {
         Ok(()) => return Ok(()),

@@ -10,7 +10,7 @@ use sb_value::Refusal;
 use sb_wire::{LINE_LIMIT, StreamError, WireRefusal, write_bare_refusal, write_bare_reply};
 use std::alloc::Global;
 
-/// Adds the answers to these lines.
+/// Adds the answers to these lines. Error: out of memory.
 pub fn play_syntax(alloc: Global, lines: &[u8], out: &mut Vec<u8>) -> Result<(), ScriptFault> {
     for line in lines.split(|byte| *byte == b'\n') {
         if line.len() > LINE_LIMIT {

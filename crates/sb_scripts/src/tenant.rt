@@ -15,7 +15,7 @@ const LONE: u32 = 255;
 /// So many of a trail's last entries are shown.
 const SHOWN: usize = 4;
 
-/// Adds the numbers and the answers, and the end of the trail.
+/// Adds the numbers and the answers, and the end of the trail. Error: out of memory.
 pub fn play_tenant(alloc: Global, lines: &[u8], out: &mut Vec<u8>) -> Result<(), ScriptFault> {
     let mut cell = Cell::new(alloc, LONE, LONE + 1, LONE + 1, 0)?;
     play_lines(alloc, &mut cell, lines, out)

@@ -24,7 +24,7 @@ impl Drop for Credentials {
 }
 
 impl Credentials {
-    /// Those of a header's value, if it has some.
+    /// Those of a header's value, if it has some. Error: out of memory.
     pub fn read(alloc: Global, value: &[u8]) -> Result<Option<Credentials>, AllocError>
         ensures { IfOk result (λ found. MatchOption found
             ((text : List ℕ) (colon : ℕ) → AreSent value.now text colon → ⊥)

@@ -18,7 +18,7 @@ const DAY: u64 = 24 * HOUR;
 
 const KILOBYTE: u64 = 1024;
 
-/// All that is shown of a server, as a page.
+/// All that is shown of a server, as a page. Error: out of memory.
 pub fn host_page(alloc: Global, view: HostView<'_>) -> Result<Vec<u8>, AllocError>
     ensures { IfOk result (λ page. IsPage escaping.Html page.items) }
 {

@@ -41,7 +41,7 @@ pub const NO_MEMORY: &str =
     "HTTP/1.1 503 Service Unavailable\r\nContent-Type: text/plain\r\nContent-Length: 14\r\n\
 Connection: close\r\n\r\nout of memory\n";
 
-/// An answer with its body, or, as HEAD wants it, with the length of its body alone.
+/// An answer with its body, or, as HEAD wants it, with the length of its body alone. Error: out of memory.
 pub fn respond(
     alloc: Global,
     status: Status,

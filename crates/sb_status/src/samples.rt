@@ -21,7 +21,7 @@ struct Family {
 /// How many numbers each tenant has.
 const FAMILIES: usize = 10;
 
-/// All of it as samples, in the text format 0.0.4.
+/// All of it as samples, in the text format 0.0.4. Error: out of memory.
 pub fn metrics(alloc: Global, view: HostView<'_>) -> Result<Vec<u8>, AllocError>
     ensures { IfOk result (λ page. IsPage escaping.Label page.items) }
 {

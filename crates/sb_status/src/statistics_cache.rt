@@ -37,7 +37,7 @@ impl Drop for StatisticsCache {
 }
 
 impl StatisticsCache {
-    /// Nothing of so many tenants.
+    /// Nothing of so many tenants. Error: out of memory.
     pub fn new(alloc: Global, tenants: u32) -> Result<StatisticsCache, AllocError>
         ensures empty { IfOk result (λ cache. (cache.numbers.items ≡ replicate tenants None) × (cache.seen ≡ None)) }
         ensures own { IfOk result (λ cache. (first : ℕ) → IsCacheOf first cache) }

@@ -11,7 +11,7 @@ use crate::text::Escaping;
 use crate::view::{RulesetView, SessionState, SessionView, TableView, TenantNumbers, TenantView};
 use std::alloc::{AllocError, Global};
 
-/// Its numbers, its tables, its rules with their picture, its rulesets and its sessions.
+/// Its numbers, its tables, its rules with their picture, its rulesets and its sessions. Error: out of memory.
 pub fn tenant_page(alloc: Global, view: &TenantView) -> Result<Vec<u8>, AllocError>
     ensures { IfOk result (λ page. IsPageOf view.now page.items) }
 {

@@ -40,7 +40,7 @@ impl Reading for Viewing {
     }
 }
 
-/// What a tenant is, unless its cell is busy for too long.
+/// What a tenant is, unless its cell is busy for too long. Error: out of memory.
 pub fn view_at<T: Clock, H: Lending>(
     lock_budget: &mut LockBudget<'_, T>,
     alloc: Global,

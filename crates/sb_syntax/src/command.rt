@@ -202,7 +202,7 @@ fn leading_command(alloc: Global, tokens: &mut Cursor<'_>) -> Result<Command, Fa
     }
 }
 
-/// A command, which all of the tokens have to be.
+/// A command, which all of the tokens have to be. Error: the tokens aren't that (Refused), or out of memory.
 #[tactic(auto, unfolding(crate::specs::Reading::command, crate::specs::Reading::kind_at))]
 pub fn command(alloc: Global, tokens: &mut Cursor<'_>) -> Result<Command, Fault>
     ensures { Gives view.command (spec.command tokens.old) result tokens.old tokens.new }

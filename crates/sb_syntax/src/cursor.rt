@@ -80,7 +80,7 @@ impl<'a> Cursor<'a> {
         }
     }
 
-    /// Whether the next token is of that kind.
+    /// True if the next token is of that kind.
     #[tactic(auto, unfolding(crate::specs::Input::same_kind, crate::specs::Reading::sees))]
     pub fn sees(&self, kind: TokenKind) -> bool
         ensures { result ≡ spec.sees kind self.now }
@@ -115,7 +115,7 @@ impl<'a> Cursor<'a> {
         true
     }
 
-    /// Takes the next token, which has to be of that kind.
+    /// Takes the next token, which has to be of that kind. Error: the tokens aren't that (Refused), or out of memory.
     #[tactic(auto, unfolding(crate::specs::Reading::expect))]
     pub fn expect(&mut self, kind: TokenKind) -> Result<(), Fault>
         ensures { Gives (λ _. tt) (spec.expect kind self.old) result self.old self.new }

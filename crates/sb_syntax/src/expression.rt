@@ -26,7 +26,7 @@ fn transition_of(kind: Option<TokenKind>) -> Option<TableReference>
     }
 }
 
-/// A table by its name, or a transition table.
+/// A table by its name, or a transition table. Error: the tokens aren't that (Refused), or out of memory.
 #[tactic(auto, unfolding(crate::specs::Reading::table, crate::specs::Reading::table_by))]
 pub fn table(tokens: &mut Cursor<'_>) -> Result<TableReference, Fault>
     ensures { Gives (λ t. t) (spec.table tokens.old) result tokens.old tokens.new }
@@ -139,7 +139,7 @@ fn term(alloc: Global, tokens: &mut Cursor<'_>) -> Result<Expression, Fault>
     Ok(left)
 }
 
-/// An expression: terms with `+` and `-` between them.
+/// An expression: terms with `+` and `-` between them. Error: the tokens aren't that (Refused), or out of memory.
 #[tactic(auto, unfolding(crate::specs::Reading::expr))]
 pub fn expr(alloc: Global, tokens: &mut Cursor<'_>) -> Result<Expression, Fault>
     ensures { Gives view.expression (spec.expr tokens.old) result tokens.old tokens.new }

@@ -22,7 +22,7 @@ pub trait Item: Drop {
         ensures shorter { OnOk result (length tokens.new ≤ length tokens.old) };
 }
 
-/// Whether a list of `len` items, of which there may be a limit, may have one more.
+/// True if a list of `len` items, of which there may be a limit, may have one more.
 fn has_room(most: Option<usize>, len: usize) -> bool
     ensures { result ≡ has_room most len }
 {
@@ -32,14 +32,15 @@ fn has_room(most: Option<usize>, len: usize) -> bool
     }
 }
 
-/// Whether one more item follows those `len` of a list.
+/// True if one more item follows those `len` of a list.
 fn follows(tokens: &Cursor<'_>, separator: TokenKind, most: Option<usize>, len: usize) -> bool
     ensures { result ≡ follows separator most len tokens.now }
 {
     tokens.sees(separator) && has_room(most, len)
 }
 
-/// One item, and one more behind each separator, of `most` items at most.
+/// One item, and one more behind each separator, of `most` items at most. Error: the tokens aren't that (Refused), or
+/// out of memory.
 pub fn list<T: Item>(
     alloc: Global,
     tokens: &mut Cursor<'_>,

@@ -15,7 +15,7 @@ use crate::list::{Item, list};
 use sb_value::{NAME_LIMIT, Name, TEXT_LIMIT, Text, Value};
 use std::alloc::{AllocError, Global};
 
-/// A name.
+/// A name. Error: the tokens aren't that (Refused), or out of memory.
 #[tactic(auto, unfolding(crate::specs::Reading::name))]
 pub fn name(tokens: &mut Cursor<'_>) -> Result<Name, Fault>
     ensures { Gives (λ n. n) (spec.name tokens.old) result tokens.old tokens.new }
@@ -30,7 +30,7 @@ pub fn name(tokens: &mut Cursor<'_>) -> Result<Name, Fault>
     Ok(Name::new(bytes))
 }
 
-/// A name behind this word.
+/// A name behind this word. Error: the tokens aren't that (Refused), or out of memory.
 #[tactic(auto, unfolding(crate::specs::Reading::name_after))]
 pub fn name_after(tokens: &mut Cursor<'_>, kind: TokenKind) -> Result<Name, Fault>
     ensures { Gives (λ n. n) (spec.name_after kind tokens.old) result tokens.old tokens.new }
@@ -47,7 +47,7 @@ impl Item for Name {
     }
 }
 
-/// Names with commas between them.
+/// Names with commas between them. Error: the tokens aren't that (Refused), or out of memory.
 pub fn names(alloc: Global, tokens: &mut Cursor<'_>) -> Result<Vec<Name>, Fault>
     ensures { Gives (λ v. v.items) (spec.names tokens.old) result tokens.old tokens.new }
 {
@@ -111,7 +111,7 @@ fn minus(tokens: &mut Cursor<'_>) -> Result<Value, Fault>
     Ok(Value::Int(-1 - (n - 1) as i64))
 }
 
-/// Whether the byte stands for itself in a text.
+/// True if the byte stands for itself in a text.
 fn is_bare(b: u8) -> bool
     ensures { result ≡ is_bare b }
 {
@@ -211,7 +211,7 @@ fn text(alloc: Global, tokens: &mut Cursor<'_>) -> Result<Value, Fault>
     Ok(Value::Text(text))
 }
 
-/// An integer, with or without a sign, or a text in quotes.
+/// An integer, with or without a sign, or a text in quotes. Error: the tokens aren't that (Refused), or out of memory.
 #[inline(always)]
 #[tactic(auto, unfolding(crate::specs::Reading::literal_value))]
 pub fn literal_value(alloc: Global, tokens: &mut Cursor<'_>) -> Result<Value, Fault>

@@ -91,7 +91,8 @@ fn subquery(alloc: Global, tokens: &mut Cursor<'_>, depth: usize) -> Result<Quer
     Ok(inner)
 }
 
-/// The right side of a comparison or an assignment: an expression, or a query in parentheses.
+/// The right side of a comparison or an assignment: an expression, or a query in parentheses. Error: the tokens aren't
+/// that (Refused), or out of memory.
 #[cycle(query)]
 #[tactic(auto, unfolding(crate::specs::Reading::operand))]
 pub fn operand(alloc: Global, tokens: &mut Cursor<'_>, depth: usize) -> Result<Operand, Fault>
@@ -242,7 +243,7 @@ fn cond(
     Ok(left)
 }
 
-/// What stands behind `where`, if it is there.
+/// What stands behind `where`, if it is there. Error: the tokens aren't that (Refused), or out of memory.
 #[cycle(query)]
 #[tactic(auto, unfolding(crate::specs::Reading::filter))]
 pub fn filter(
@@ -261,7 +262,7 @@ pub fn filter(
     Ok(Some(Box::into_inner(condition)))
 }
 
-/// A query in which subqueries nest at most `depth` deep.
+/// A query in which subqueries nest at most `depth` deep. Error: the tokens aren't that (Refused), or out of memory.
 #[cycle(query)]
 #[tactic(auto, unfolding(crate::specs::Reading::query_to, crate::specs::Reading::query_with))]
 pub fn query(alloc: Global, tokens: &mut Cursor<'_>, depth: usize) -> Result<Query, Fault>

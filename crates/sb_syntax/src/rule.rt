@@ -153,7 +153,7 @@ fn body(alloc: Global, tokens: &mut Cursor<'_>, head: RuleHead) -> Result<RuleTe
     })
 }
 
-/// A rule, behind `create rule`.
+/// A rule, behind `create rule`. Error: the tokens aren't that (Refused), or out of memory.
 #[tactic(auto, unfolding(crate::specs::Reading::rule))]
 pub fn rule(alloc: Global, tokens: &mut Cursor<'_>) -> Result<RuleText, Fault>
     ensures { Gives view.rule (spec.rule tokens.old) result tokens.old tokens.new }
@@ -175,7 +175,7 @@ fn actions_then(alloc: Global, tokens: &mut Cursor<'_>) -> Result<Option<Vec<Act
     Ok(Some(actions(alloc, tokens)?))
 }
 
-/// New parts of a rule, behind `alter`.
+/// New parts of a rule, behind `alter`. Error: the tokens aren't that (Refused), or out of memory.
 #[tactic(auto, unfolding(crate::specs::Reading::alteration))]
 pub fn alteration(alloc: Global, tokens: &mut Cursor<'_>) -> Result<AlterationText, Fault>
     ensures { Gives view.alteration (spec.alteration tokens.old) result tokens.old tokens.new }

@@ -63,7 +63,7 @@ fn expressions(alloc: Global, tokens: &mut Cursor<'_>) -> Result<Vec<Expression>
     list(alloc, tokens, TokenKind::Comma, Some(MAX_ITEMS))
 }
 
-/// What a query lists.
+/// What a query lists. Error: the tokens aren't that (Refused), or out of memory.
 #[tactic(auto, unfolding(crate::specs::Reading::items))]
 pub fn items(alloc: Global, tokens: &mut Cursor<'_>) -> Result<Items, Fault>
     ensures { Gives view.items (spec.items tokens.old) result tokens.old tokens.new }
@@ -96,7 +96,7 @@ fn source(tokens: &mut Cursor<'_>) -> Result<SourceReference, Fault>
     Ok(SourceReference { table, alias })
 }
 
-/// The tables behind `from`, with commas between them.
+/// The tables behind `from`, with commas between them. Error: the tokens aren't that (Refused), or out of memory.
 #[tactic(auto, unfolding(crate::specs::Reading::sources, crate::specs::Reading::sources_after))]
 pub fn sources(alloc: Global, tokens: &mut Cursor<'_>) -> Result<Vec<SourceReference>, Fault>
     ensures { Gives (λ v. v.items) (spec.sources tokens.old) result tokens.old tokens.new }

@@ -80,7 +80,7 @@ fn insert_rows(alloc: Global, tokens: &mut Cursor<'_>, table: Name) -> Result<St
     Ok(Statement::InsertRows(table, tuples))
 }
 
-/// A query that stands in no other.
+/// A query that stands in no other. Error: the tokens aren't that (Refused), or out of memory.
 pub fn whole_query(alloc: Global, tokens: &mut Cursor<'_>) -> Result<Box<Query>, Fault>
     ensures { Gives (λ q. view.query q.value)
         (spec.query_to MAX_DEPTH tokens.old) result tokens.old tokens.new }
@@ -157,7 +157,7 @@ fn delete(alloc: Global, tokens: &mut Cursor<'_>) -> Result<Statement, Fault>
     Ok(Statement::Delete(table, filter))
 }
 
-/// A statement that changes rows, from its first word on.
+/// A statement that changes rows, from its first word on. Error: the tokens aren't that (Refused), or out of memory.
 #[tactic(auto, unfolding(crate::specs::Reading::change))]
 pub fn change(alloc: Global, tokens: &mut Cursor<'_>) -> Result<Statement, Fault>
     ensures { Gives view.statement (spec.change tokens.old) result tokens.old tokens.new }

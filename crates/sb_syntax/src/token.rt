@@ -48,7 +48,7 @@ fn cut(alloc: Global, text: &[u8]) -> Result<Vec<Token>, ParseError>
     Ok(all)
 }
 
-/// The tokens of a text.
+/// The tokens of a text. Error: the place of the first byte that begins no token, or out of memory.
 pub fn tokens(alloc: Global, text: &[u8]) -> Result<Vec<Token>, ParseError>
     // They are the text's, each its slice, in order, with spaces alone between them.
     ensures found { IfOk result (λ v. AreTokens 0 text.now v.items) }
@@ -76,7 +76,7 @@ fn one_word(text: &[u8]) -> Option<Command>
     }
 }
 
-/// The command that the text is.
+/// The command that the text is. Error: the place where the text stops being a command, or out of memory.
 pub fn parse(alloc: Global, text: &[u8]) -> Result<Command, ParseError>
     requires long { length text.now ≤ text_limit }
     ensures found { IfOk result (λ c. Spells text.now (view.command c)) }

@@ -98,7 +98,7 @@ pub enum Condition {
     Conjunction(Box<Condition>, Box<Condition>),
     Negation(Box<Condition>),
     Compare(Expression, Comparison, Operand),
-    /// Whether `not` is written, too.
+    /// True if `not` is written, too.
     In(Expression, bool, Box<Query>),
     Exists(Box<Query>),
 }

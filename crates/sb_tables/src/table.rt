@@ -109,7 +109,7 @@ impl Table {
         self.room
     }
 
-    /// Makes room for that many more rows, where there is less.
+    /// Makes room for that many more rows, where there is less. Error: out of memory.
     pub fn reserve(&mut self, more: usize) -> Result<(), AllocError>
         ensures ok { OnOk result (self.new ≡ record self.old { room = max self.old.room more }) }
         ensures err { OnErr result (self.new ≡ self.old) }
@@ -124,7 +124,7 @@ impl Table {
         Ok(())
     }
 
-    /// Adds a row under the next number, and gives that number.
+    /// Adds a row under the next number, and gives that number. Error: the table has 4,096 rows; nothing changes.
     pub fn insert(&mut self, row: Row) -> Result<u64, TooManyRows>
         requires room { 0 < self.old.room }
         requires numbers { self.old.table.next < 2 ^ 64 - 1 }

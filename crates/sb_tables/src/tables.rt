@@ -127,7 +127,7 @@ impl Tables {
         let _ = &self.slots;
     }
 
-    /// Adds a table, which has the least free number, as the last.
+    /// Adds a table, which has the least free number, as the last. Error: out of memory.
     pub fn create(
         &mut self,
         name: Name,
@@ -159,7 +159,7 @@ impl Tables {
         self.slots.clear(id);
     }
 
-    /// Makes room for that many more rows of the table, where there is less.
+    /// Makes room for that many more rows of the table, where there is less. Error: out of memory.
     pub fn reserve(&mut self, id: TableId, more: usize) -> Result<(), AllocError>
         requires { IsTrue (has_number self.old id) }
         ensures ok { OnOk result (self.new ≡ with_stored id (reserved more (stored_at self.old id)) self.old) }
@@ -171,7 +171,8 @@ impl Tables {
         self.get_mut(id).reserve(more)
     }
 
-    /// Adds a row to the table under the next number, and gives that number.
+    /// Adds a row to the table under the next number, and gives that number. Error: the table has 4,096 rows; nothing
+    /// changes.
     pub fn insert(&mut self, id: TableId, row: Row) -> Result<u64, TooManyRows>
         requires there { IsTrue (has_number self.old id) }
         requires room { 0 < (stored_at self.old id).room }

@@ -29,7 +29,7 @@ impl KnownLines {
         }
     }
 
-    /// A line with these bytes, which it shares with an earlier one where that was kept.
+    /// A line with these bytes, which it shares with an earlier one where that was kept. Error: out of memory.
     pub fn line(&mut self, alloc: Global, bytes: &[u8]) -> Result<Line, AllocError>
         ensures { IfOk result (λ line. line ≡ bytes.now) }
     {

@@ -6,9 +6,9 @@ use std::alloc::{AllocError, Global};
 /// From so many places on a list stands in pages of its own, which the system moves without copying.
 const PAGES_OF_ITS_OWN: usize = 8192;
 
-/// Room for so many more elements. Few that have to move for it go to the heap of the calling thread: to
-/// grow in place keeps the lock of the heap that they stand in, which another thread may use, until all are
-/// copied. Many grow in place, for they stand in no heap.
+/// Room for so many more elements. Few that have to move for it go to the heap of the calling thread: to grow in place
+/// keeps the lock of the heap that they stand in, which another thread may use, until all are copied. Many grow in
+/// place, for they stand in no heap. Error: out of memory.
 pub fn reserve_here<T: Drop>(
     alloc: Global,
     list: &mut Vec<T>,

@@ -30,7 +30,7 @@ impl Model for Line {
 }
 
 impl Line {
-    /// The line with these bytes.
+    /// The line with these bytes. Error: out of memory.
     pub fn new(alloc: Global, bytes: &[u8]) -> Result<Line, AllocError>
         ensures { IfOk result (λ line. line ≡ bytes.now) }
     {
@@ -47,7 +47,7 @@ impl Line {
         bytes.as_slice()
     }
 
-    /// Another reference to the same line.
+    /// Another reference to the same line. Error: out of memory.
     pub fn share(&self) -> Result<Line, AllocError>
         ensures { IfOk result (λ shared. shared ≡ self.now) }
     {
@@ -88,7 +88,7 @@ impl NamedTrace {
         NamedTrace { list: None }
     }
 
-    /// These considerations, to be shared.
+    /// These considerations, to be shared. Error: out of memory.
     pub fn new(alloc: Global, list: Vec<(Name, Verdict)>) -> Result<NamedTrace, AllocError>
         ensures { IfOk result (λ trace. trace ≡ list.items) }
     {
@@ -113,7 +113,7 @@ impl NamedTrace {
         }
     }
 
-    /// Another reference to the same considerations.
+    /// Another reference to the same considerations. Error: out of memory.
     pub fn share(&self) -> Result<NamedTrace, AllocError>
         ensures { IfOk result (λ shared. shared ≡ self.now) }
     {
@@ -148,7 +148,7 @@ impl Model for RuleName {
 }
 
 impl RuleName {
-    /// This name.
+    /// This name. Error: out of memory.
     pub fn new(alloc: Global, name: Name) -> Result<RuleName, AllocError>
         ensures { IfOk result (λ kept. kept ≡ name) }
     {
@@ -229,7 +229,7 @@ impl Drop for Reply {
 }
 
 impl Reply {
-    /// Another copy of it. Both share the rows and the trace.
+    /// Another copy of it. Both share the rows and the trace. Error: out of memory.
     pub fn share(&self, alloc: Global) -> Result<Reply, AllocError>
         ensures { IfOk result (λ copy. copy ≡ self.now) }
     {

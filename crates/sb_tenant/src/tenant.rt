@@ -318,7 +318,7 @@ impl Tenant {
         self.enter(alloc, log, index, session, sent)
     }
 
-    /// Makes the step `open`.
+    /// Makes the step `open`. Error: there is no memory for the step; nothing changes.
     #[inline(never)]
     pub fn open(&mut self, alloc: Global, session: SessionId) -> Result<Answer, NotBegun>
         requires closed { session_is_open (session_at (state self.old) session) ≡ false }

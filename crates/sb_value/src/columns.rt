@@ -36,7 +36,7 @@ impl Columns {
         Columns { bits: 0 }
     }
 
-    /// Whether the place is in the set.
+    /// True if the place is in the set.
     pub fn contains(self, place: u8) -> bool
         requires { place < 8 }
         ensures { result ≡ flag_at self place }
@@ -72,14 +72,14 @@ impl Columns {
         }
     }
 
-    /// Whether the two sets have a place in common.
+    /// True if the two sets have a place in common.
     pub fn intersects(self, other: Columns) -> bool
         ensures { result ≡ share_place self other }
     {
         self.bits & other.bits != 0
     }
 
-    /// Whether no place is in the set.
+    /// True if no place is in the set.
     pub fn is_empty(self) -> bool
         ensures { result ≡ has_none self }
     {

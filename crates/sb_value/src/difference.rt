@@ -8,7 +8,7 @@ use crate::columns::Columns;
 use crate::id::COLUMN_LIMIT;
 use crate::value::Value;
 
-/// Whether two rows are equal.
+/// True if two rows are equal.
 pub fn same_row(one: &[Value], other: &[Value]) -> bool
     ensures { result ≡ same_row one.now other.now }
 {
@@ -31,7 +31,7 @@ fn value_at(row: &[Value], place: usize) -> Option<&Value>
     }
 }
 
-/// Whether two rows differ at a place.
+/// True if two rows differ at a place.
 fn differ_at(old: &[Value], new: &[Value], place: usize) -> bool
     ensures { result ≡ differ_at old.now new.now place }
 {

@@ -36,8 +36,9 @@ const QUOTE: u8 = b'\'';
 const SIZE_CAP: u64 = 0x8000_0000_0000_0001;
 
 impl Value {
-    /// The value of a literal, which has no space outside its quotes. `BadType` says that the bytes are no literal,
-    /// its limits left aside; the next two that they are one past its limit.
+    /// The value of a literal, which has no space outside its quotes. `BadType` says that the bytes are no literal, its
+    /// limits left aside; the next two that they are one past its limit. Error: BadType, TextTooLong, Overflow or
+    /// NoMemory.
     pub fn from_literal(alloc: Global, bytes: &[u8]) -> Result<Value, LiteralError>
         ensures { IsReading (literal_value bytes.now) result }
     {

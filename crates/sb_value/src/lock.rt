@@ -1,6 +1,6 @@
 //! How a table is locked.
 
-/// Whether a statement reads a table or writes it.
+/// True if a statement reads a table or writes it.
 #[derive(Clone, Copy, Debug, PartialEq, Eq)]
 pub enum LockMode {
     Read,

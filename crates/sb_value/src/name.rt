@@ -62,7 +62,7 @@ impl Name {
         &self.bytes[..self.len as usize]
     }
 
-    /// Whether the two names have the same bytes.
+    /// True if the two names have the same bytes.
     pub fn is_same(&self, other: &Name) -> bool
         ensures { result ≡ same_name self.now other.now }
     {

@@ -14,11 +14,11 @@ pub enum Net {
 /// The triggering operations of a rule.
 #[derive(Clone, Copy)]
 pub struct Triggers {
-    /// Whether an insert triggers.
+    /// True if an insert triggers.
     pub inserted: bool,
-    /// Whether a delete triggers.
+    /// True if a delete triggers.
     pub deleted: bool,
-    /// Whether an update of any column triggers.
+    /// True if an update of any column triggers.
     pub updated: bool,
     /// The columns of which an update triggers.
     pub columns: Columns,

@@ -36,7 +36,7 @@ impl Row {
         }
     }
 
-    /// Adds a value at the end.
+    /// Adds a value at the end. Error: out of memory.
     pub fn push(&mut self, value: Value) -> Result<(), AllocError>
         ensures ok { OnOk result (self.new ≡ self.old ++ value ∷ []) }
         ensures err { OnErr result (self.new ≡ self.old) }
@@ -59,7 +59,7 @@ impl Row {
         self.values.as_slice().len()
     }
 
-    /// A row of copies of these values.
+    /// A row of copies of these values. Error: out of memory.
     pub fn from_values(alloc: Global, values: &[Value]) -> Result<Row, AllocError>
         ensures { IfOk result (λ row. row ≡ values.now) }
     {
@@ -70,7 +70,7 @@ impl Row {
         Ok(Row { values: list })
     }
 
-    /// A row with the same values.
+    /// A row with the same values. Error: out of memory.
     pub fn clone(&self) -> Result<Row, AllocError>
         ensures { IfOk result (λ copy. copy ≡ self.now) }
     {
@@ -108,7 +108,7 @@ impl RowList {
         }
     }
 
-    /// Adds a row at the end.
+    /// Adds a row at the end. Error: out of memory.
     pub fn push(&mut self, row: Row) -> Result<(), AllocError>
         ensures ok { OnOk result (self.new ≡ self.old ++ row ∷ []) }
         ensures err { OnErr result (self.new ≡ self.old) }
@@ -131,7 +131,7 @@ impl RowList {
         self.rows.len()
     }
 
-    /// A list of the same rows.
+    /// A list of the same rows. Error: out of memory.
     pub fn clone(&self) -> Result<RowList, AllocError>
         ensures { IfOk result (λ copy. copy ≡ self.now) }
     {

@@ -54,7 +54,7 @@ impl RuleSet {
         RULE_LIMIT
     }
 
-    /// Whether the rule is in the set.
+    /// True if the rule is in the set.
     pub fn contains(self, rule: RuleId) -> bool
         ensures { result ≡ flag_at self rule }
     {
@@ -110,14 +110,14 @@ impl RuleSet {
         }
     }
 
-    /// Whether some rule is in both sets.
+    /// True if some rule is in both sets.
     pub fn intersects(self, other: RuleSet) -> bool
         ensures { result ≡ share_place self other }
     {
         !self.intersection(other).is_empty()
     }
 
-    /// Whether no rule is in the set.
+    /// True if no rule is in the set.
     pub fn is_empty(self) -> bool
         ensures { result ≡ has_none self }
     {

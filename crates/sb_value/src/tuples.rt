@@ -60,7 +60,7 @@ impl Tuples {
         }
     }
 
-    /// A copy of the tuples.
+    /// A copy of the tuples. Error: out of memory.
     pub fn clone(&self) -> Result<Tuples, AllocError>
         ensures { IfOk result (λ copy. copy ≡ self.now) }
     {
@@ -124,7 +124,7 @@ impl Model for OpenTuples {
 }
 
 impl OpenTuples {
-    /// No tuple, with room for so many values.
+    /// No tuple, with room for so many values. Error: out of memory.
     pub fn with_capacity(alloc: Global, values: usize) -> Result<OpenTuples, AllocError>
         ensures { IfOk result (λ t. (t.closed ≡ []) × (t.begun ≡ [])) }
     {
@@ -135,7 +135,7 @@ impl OpenTuples {
         })
     }
 
-    /// Adds a value to the tuple that is begun.
+    /// Adds a value to the tuple that is begun. Error: out of memory.
     pub fn push(&mut self, value: Value) -> Result<(), AllocError>
         ensures ok { OnOk result (self.new ≡ record self.old { begun = self.old.begun ++ value ∷ [] }) }
         ensures err { OnErr result (self.new ≡ self.old) }
@@ -144,7 +144,7 @@ impl OpenTuples {
         Ok(())
     }
 
-    /// Closes the tuple that is begun.
+    /// Closes the tuple that is begun. Error: out of memory.
     #[tactic(auto, using(crate::proofs::TupleLaws::total_more))]
     pub fn close(&mut self) -> Result<(), AllocError>
         ensures ok { OnOk result (self.new ≡ record { closed = self.old.closed ++ self.old.begun ∷ []; begun = [] }) }
@@ -156,7 +156,7 @@ impl OpenTuples {
         Ok(())
     }
 
-    /// The closed tuples, to be shared.
+    /// The closed tuples, to be shared. Error: out of memory.
     pub fn finish(self, alloc: Global) -> Result<Tuples, AllocError>
         ensures { IfOk result (λ tuples. tuples ≡ self.closed) }
     {

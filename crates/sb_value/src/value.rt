@@ -31,7 +31,7 @@ impl Model for Text {
 }
 
 impl Text {
-    /// The text of these bytes.
+    /// The text of these bytes. Error: out of memory.
     pub fn new(alloc: Global, bytes: Vec<u8>) -> Result<Text, AllocError>
         requires short { length bytes.items ≤ 255 }
         requires printable { AllPass is_printable bytes.items }
@@ -51,7 +51,7 @@ impl Text {
         self.bytes.as_slice()
     }
 
-    /// A text with the same bytes.
+    /// A text with the same bytes. Error: out of memory.
     pub fn clone(&self) -> Result<Text, AllocError>
         ensures { IfOk result (λ copy. copy ≡ self.now) }
     {
@@ -79,7 +79,7 @@ impl Drop for Value {
 impl Value {
     ghost use Rattle.sb_value.specs.Values.{type_of, same_value, value_cmp};
 
-    /// A value equal to this one.
+    /// A value equal to this one. Error: out of memory.
     pub fn clone(&self) -> Result<Value, AllocError>
         ensures { IfOk result (λ copy. copy ≡ self.now) }
     {
@@ -101,7 +101,7 @@ impl Value {
         }
     }
 
-    /// Whether it equals another value.
+    /// True if it equals another value.
     pub fn is_same(&self, other: &Value) -> bool
         ensures { result ≡ same_value self.now other.now }
     {

@@ -74,7 +74,8 @@ fn answer_line(
     write_answer(out, &Prefix::new(line.tenant, line.session), &given)
 }
 
-/// Adds the text that a step was answered with, each line with the prefix: its reply, or why it wasn't made.
+/// Adds the text that a step was answered with, each line with the prefix: its reply, or why it wasn't made. Error: out
+/// of memory.
 pub fn write_answer(
     out: &mut Vec<u8>,
     prefix: &Prefix,

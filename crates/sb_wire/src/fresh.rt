@@ -12,7 +12,8 @@ use crate::summary::Summary;
 use sb_cell::{Cell, ample_buckets};
 use std::alloc::{AllocError, Global};
 
-/// Answers the lines of the input on a fresh cell of the tenants below the number `tenants`.
+/// Answers the lines of the input on a fresh cell of the tenants below the number `tenants`. Error: a read or a write
+/// failed, or out of memory.
 pub fn run_fresh<R: Source, W: Sink>(
     alloc: Global,
     tenants: u32,

@@ -15,7 +15,7 @@ use sb_tenant::Reply;
 use sb_value::{Name, Refusal, Verdict};
 use std::alloc::AllocError;
 
-/// Adds the lines of a reply, each with the prefix.
+/// Adds the lines of a reply, each with the prefix. Error: out of memory.
 #[tactic(auto, using(crate::proofs::Texts::prefixed_started))]
 pub fn write_reply(out: &mut Vec<u8>, prefix: &Prefix, reply: &Reply) -> Result<(), AllocError>
     ensures ok { OnOk result (out.new.items ≡
@@ -25,7 +25,7 @@ pub fn write_reply(out: &mut Vec<u8>, prefix: &Prefix, reply: &Reply) -> Result<
     push_whole_reply(out, prefix.start(), reply)
 }
 
-/// Adds the lines of a reply.
+/// Adds the lines of a reply. Error: out of memory.
 pub fn write_bare_reply(out: &mut Vec<u8>, reply: &Reply) -> Result<(), AllocError>
     ensures ok { OnOk result (out.new.items ≡
         out.old.items ++ ended_lines (reply_lines reply.now)) }

@@ -14,8 +14,8 @@ use crate::summary::Summary;
 use sb_cell::Cell;
 use std::alloc::{AllocError, Global};
 
-/// Answers each line of the input when it is complete, writes the replies before it reads on, and
-/// counts them.
+/// Answers each line of the input when it is complete, writes the replies before it reads on, and counts them. Error: a
+/// read or a write failed, or out of memory.
 pub fn run_stream<R: Source, W: Sink>(
     alloc: Global,
     reader: &mut R,

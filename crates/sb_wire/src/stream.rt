@@ -32,8 +32,8 @@ impl Drop for Pending {
     }
 }
 
-/// Answers each line of the input when it is complete, until the stream is over, and writes the
-/// replies before it reads on.
+/// Answers each line of the input when it is complete, until the stream is over, and writes the replies before it reads
+/// on. Error: a read or a write failed, or out of memory.
 pub fn answer_stream<S, T, A: Responder<S, T>, R: Source, W: Sink>(
     alloc: Global,
     reader: &mut R,
@@ -211,7 +211,7 @@ fn write_out<W: Sink>(writer: &mut W, out: &mut Vec<u8>) -> Result<(), StreamErr
     Ok(())
 }
 
-/// Writes these bytes, and flushes them. What is interrupted is tried again.
+/// Writes these bytes, and flushes them. What is interrupted is tried again. Error: the writer takes no more.
 pub fn write_and_flush<W: Sink>(writer: &mut W, bytes: &[u8]) -> Result<(), StreamError>
     ensures writes { (written left : List ℕ) × (bytes.now ≡ written ++ left)
         × Appends (W.contents writer.old) (W.contents writer.new) written
@@ -224,7 +224,7 @@ pub fn write_and_flush<W: Sink>(writer: &mut W, bytes: &[u8]) -> Result<(), Stre
     flush(writer)
 }
 
-/// Writes these bytes.
+/// Writes these bytes. Error: the writer takes no more.
 pub fn write_bytes<W: Sink>(writer: &mut W, bytes: &[u8]) -> Result<(), StreamError>
     ensures writes { (written left : List ℕ) × (bytes.now ≡ written ++ left)
         × Appends (W.contents writer.old) (W.contents writer.new) written

@@ -8,7 +8,7 @@ use crate::words::{push_labelled, push_word};
 use sb_value::{Name, Refusal};
 use std::alloc::AllocError;
 
-/// Adds the line of a summary.
+/// Adds the line of a summary. Error: out of memory.
 pub fn write_summary(out: &mut Vec<u8>, summary: &Summary) -> Result<(), AllocError>
     ensures { OnOk result (out.new.items ≡ out.old.items ++ summary_line summary.now) }
 {
@@ -19,7 +19,7 @@ pub fn write_summary(out: &mut Vec<u8>, summary: &Summary) -> Result<(), AllocEr
     Ok(())
 }
 
-/// Adds the line that tells how many trails there are, and how many steps they have together.
+/// Adds the line that tells how many trails there are, and how many steps they have together. Error: out of memory.
 pub fn write_totals(out: &mut Vec<u8>, trails: u64, steps: u64) -> Result<(), AllocError>
     ensures { OnOk result (out.new.items ≡ out.old.items ++ totals_line trails steps) }
 {

@@ -97,7 +97,7 @@ pub(crate) fn push_count(out: &mut Vec<u8>, count: u64) -> Result<(), AllocError
     Ok(())
 }
 
-/// Some text, and a number behind it.
+/// Some text, and a number behind it. Error: out of memory.
 pub fn push_labelled(out: &mut Vec<u8>, label: &[u8], number: u64) -> Result<(), AllocError>
     ensures { OnOk result (out.new.items ≡ out.old.items ++ (label.now ++ decimal number)) }
 {

@@ -112,7 +112,7 @@ impl Argument {
         }
     }
 
-    /// Whether a command has it.
+    /// True if a command has it.
     pub(crate) fn is_of(self, verb: Verb) -> bool
         ensures { result ≡ spec.has self verb }
     {

@@ -75,14 +75,14 @@ fn unfit_at<'a>(matches: &ArgMatches<'a>, verb: Verb, part: Argument) -> Option<
     Some(Unfit { part, text })
 }
 
-/// Whether a text isn't what the part has to be.
+/// True if a text isn't what the part has to be.
 fn is_wrong(matches: &ArgMatches<'_>, part: Argument, text: &str) -> bool
     ensures { IsTrue result ↔ IsWrong (rows_of (found_of matches.now)) part text.now }
 {
     lacks_number(part, text) || lacks_word(matches, part, text)
 }
 
-/// Whether it is no number of the part's range, if there is one.
+/// True if it is no number of the part's range, if there is one.
 fn lacks_number(part: Argument, text: &str) -> bool
     ensures { IsTrue result ↔ LacksNumber (range_of part) text.now }
 {
@@ -92,7 +92,7 @@ fn lacks_number(part: Argument, text: &str) -> bool
     }
 }
 
-/// Whether it is no word that the part may be, or doesn't go with what else is given.
+/// True if it is no word that the part may be, or doesn't go with what else is given.
 fn lacks_word(matches: &ArgMatches<'_>, part: Argument, text: &str) -> bool
     ensures { IsTrue result ↔ LacksWord (rows_of (found_of matches.now)) part text.now }
 {
@@ -107,7 +107,7 @@ fn lacks_word(matches: &ArgMatches<'_>, part: Argument, text: &str) -> bool
     }
 }
 
-/// Whether there is no such command, or it lacks its files.
+/// True if there is no such command, or it lacks its files.
 fn lacks_command(matches: &ArgMatches<'_>, verb: Option<Verb>) -> bool
     ensures { IsTrue result ↔ LacksCommand (rows_of (found_of matches.now)) verb }
 {

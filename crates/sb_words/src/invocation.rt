@@ -150,7 +150,7 @@ fn recorded_by(matches: &ArgMatches<'_>) -> Invocation
     }
 }
 
-/// Whether a server has files or status pages.
+/// True if a server has files or status pages.
 fn has_more(matches: &ArgMatches<'_>) -> bool
     ensures { result ≡ spec.has_more (rows_of (found_of matches.now)) }
 {

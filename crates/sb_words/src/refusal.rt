@@ -7,7 +7,7 @@ use crate::argument::{Argument, Unfit};
 use crate::help::ALLOWED;
 use std::alloc::{AllocError, Global};
 
-/// The line of a part that isn't allowed, and what is.
+/// The line of a part that isn't allowed, and what is. Error: out of memory.
 pub fn refusal_line(alloc: Global, unfit: Unfit<'_>) -> Result<Vec<u8>, AllocError>
     ensures { IfOk result (λ line. line.items ≡ refusal_text ALLOWED.now unfit.entry) }
 {

@@ -11,7 +11,7 @@ pub enum Severity {
 }
 
 impl Severity {
-    /// Whether what is so severe is told where the least that is told is as severe as this.
+    /// True if what is so severe is told where the least that is told is as severe as this.
     pub fn is_told_at(self, least: Severity) -> bool
         ensures { IsTrue result ↔ (rank self ≤ rank least) }
     {

@@ -24,7 +24,7 @@ pub enum Asked<'a> {
     NotAllowed(Unfit<'a>),
 }
 
-/// Reads the program's name and the words behind it.
+/// Reads the program's name and the words behind it. Error: out of memory.
 pub fn read_words<'a, S: AsStr>(alloc: Global, words: &'a [S]) -> Result<Asked<'a>, AllocError>
     ensures asked { IfOk result (IsAsked (map S.text words.now)) }
     ensures within { IfOk result AreWithin }

@@ -110,7 +110,8 @@ fn serve_host<
     serve_by(rt, alloc, &config, host, writer)
 }
 
-/// Serves all connections, and writes the numbers of trails and steps after the last one.
+/// Serves all connections, and writes the numbers of trails and steps after the last one. Error: the fault that ended
+/// it.
 pub fn serve_by<
     N: Naming + Send + Sync,
     V: Watch + Sync,

@@ -35,7 +35,7 @@ pub enum StatementKind {
     Statement,
 }
 
-/// Whether a line is made of these words, or begins with them.
+/// True if a line is made of these words, or begins with them.
 fn fits(reach: Reach, words: &[u8], line: &[u8]) -> bool
     ensures { result ≡ spec.fits reach words.now line.now }
 {

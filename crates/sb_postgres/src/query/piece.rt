@@ -94,7 +94,7 @@ fn is_u(word: &[u8]) -> bool
     folded(*b) == b'u'
 }
 
-/// Whether a word is another form of constant or name with what stands behind it.
+/// True if a word is another form of constant or name with what stands behind it.
 fn is_marked(word: &[u8], rest: &[u8]) -> bool
     ensures { result ≡ spec.is_marked word.now rest.now }
 {

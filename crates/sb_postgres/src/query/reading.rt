@@ -46,7 +46,7 @@ pub(crate) fn statement_from(
     }
 }
 
-/// Whether all statements from a place on can be read.
+/// True if all statements from a place on can be read.
 pub(crate) fn check_from(alloc: Global, text: &[u8], from: usize) -> Result<(), QueryError>
     requires { from ≤ length text.now }
     ensures { EndsAs (lines_from from text.now) result }

@@ -52,7 +52,7 @@ impl<'a> Statements<'a> {
         Ok(Some(statement))
     }
 
-    /// Whether all statements that are left can be read. PostgreSQL reads a whole text before it runs the first of them.
+    /// True if all statements that are left can be read. PostgreSQL reads a whole text before it runs the first of them.
     pub fn check(&self, alloc: Global) -> Result<(), QueryError>
         ensures { (ls : Lines) → Leaves self.now ls → EndsAs ls result }
     {
