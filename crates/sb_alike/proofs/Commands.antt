@@ -15,7 +15,7 @@ use Rattle.sb_catalog.specs.declared.rule.Rule.{Rule}
 use Rattle.sb_catalog.specs.Definitions.{altered_pairs}
 use Rattle.sb_catalog.specs.Rules.{has_name, named, rule_named}
 use Rattle.sb_catalog.specs.Uses.{is_used}
-use Rattle.sb_rulesets.specs.Sets as rulesets
+use Rattle.sb_catalog.specs.Sets as rulesets
 use Rattle.sb_tenant.specs.Limits.{table_limit}
 use Rattle.sb_tenant.specs.State.{Catalog}
 use Rattle.sb_tenant.specs.Resolved.{defines, Resolved, process_ruleset, process_rule, create_table, drop_table, create_rule, alter_rule, query, change}

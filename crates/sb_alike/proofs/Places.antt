@@ -6,7 +6,7 @@ use Rattle.std.proofs.lemmas.List.Elements.{All-cons}
 use Rattle.sb_value.specs.Flags.{flag_at}
 use Rattle.sb_value.specs.Table.{Entry, IsTable, has_table}
 use Rattle.sb_tables.specs.Held.{Held, entries, entry_of}
-use Rattle.sb_rulesets.specs.Ruleset.{Ruleset}
+use Rattle.sb_catalog.specs.Ruleset.{Ruleset}
 use Rattle.sb_tenant.specs.Alike.{shown}
 use Rattle.sb_alike.specs.Compared.{AreSettled, AreSettledFrom, AreSameFrom, ShowAlikeFrom}
 

@@ -5,9 +5,8 @@ ghost use Rattle.sb_alike.specs.Compared.{AreSameFrom, HaveSameBefore};
 use crate::same::{Same, are_same};
 use crate::same_tables::same_name;
 use crate::trees::same_rule_condition;
-use sb_catalog::{Definitions, Rule};
+use sb_catalog::{Definitions, Rule, Rulesets};
 use sb_priority::Priorities;
-use sb_rulesets::Rulesets;
 use sb_value::{RULE_LIMIT, RuleId, RuleSet, Triggers};
 
 /// True if the rules, the rulesets and the pairs of precedence are the same.

@@ -7,3 +7,12 @@ pub mod NewRules
 pub mod Active
 pub mod Written
 pub mod Sought
+pub mod Framed
+pub mod CutRules
+pub mod Cut
+pub mod Texts
+pub mod Glue
+pub mod MadeLines
+pub mod Marks
+pub mod Names
+pub mod Entries

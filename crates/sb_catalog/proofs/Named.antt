@@ -11,7 +11,7 @@ use Rattle.sb_value.specs.Name.{same_name}
 use Rattle.sb_value.specs.declared.refusal.Refusal.{Refusal}
 use Rattle.sb_value.specs.declared.refusal.Refusal.TheVariants.{NoRule}
 use Rattle.sb_check.specs.Names.{some_or}
-use Rattle.sb_clauses.specs.declared.clauses.RuleClauses.{RuleClauses}
+use Rattle.sb_catalog.specs.declared.clauses.RuleClauses.{RuleClauses}
 use Rattle.sb_catalog.specs.declared.rule.Rule.{Rule}
 use Rattle.sb_catalog.specs.Clauses.{HaveClauses}
 use Rattle.sb_catalog.specs.Rules.{named, change_numbered}

@@ -5,8 +5,8 @@ use Rattle.std.specs.List.{list_any}
 use Rattle.std.specs.Prelude.{OnOk, OnErr}
 use Rattle.std.proofs.lemmas.Option.{none-some}
 use Rattle.sb_value.specs.Name.{same_name}
-use Rattle.sb_rulesets.specs.Ruleset.{Ruleset}
-use Rattle.sb_rulesets.specs.Sets.{has_name, members_of}
+use Rattle.sb_catalog.specs.Ruleset.{Ruleset}
+use Rattle.sb_catalog.specs.Sets.{has_name, members_of}
 use Rattle.sb_value.specs.declared.refusal.Refusal.{Refusal}
 use Rattle.sb_value.specs.declared.refusal.Refusal.TheVariants.{NoRule, TooManyRules}
 use Rattle.sb_syntax.specs.Tree.{Name}

@@ -14,10 +14,10 @@ use Rattle.sb_check.specs.RuleParts.{NewParts, Parts, actions_parts, condition_p
 use Rattle.sb_check.specs.Walk.{Schema, table_named, walk_query}
 use Rattle.sb_check.specs.Triggers.{walk_triggers}
 use Rattle.sb_check.specs.declared.tree.Action.{Action}
-use Rattle.sb_clauses.specs.Clauses.{AreClauses, AreNewClauses, IsActionsText, IsConditionText, WhereThere, altered}
-use Rattle.sb_clauses.specs.Clauses as c
-use Rattle.sb_clauses.specs.declared.clauses.NewClauses.{NewClauses}
-use Rattle.sb_clauses.specs.declared.clauses.RuleClauses.{RuleClauses}
+use Rattle.sb_catalog.specs.ClauseTexts.{AreClauses, AreNewClauses, IsActionsText, IsConditionText, WhereThere, altered}
+use Rattle.sb_catalog.specs.ClauseTexts as c
+use Rattle.sb_catalog.specs.declared.clauses.NewClauses.{NewClauses}
+use Rattle.sb_catalog.specs.declared.clauses.RuleClauses.{RuleClauses}
 use Rattle.sb_catalog.specs.declared.rule.Rule.{Rule}
 use Rattle.sb_catalog.specs.Clauses.{AreClausesOf, AreNewClausesOf, HaveClauses, IsActionsOf, IsConditionOf, parts_of, walk_actions}
 use Rattle.sb_catalog.specs.Rules.{change_numbered, set_parts, with_parts, written_or}

@@ -9,9 +9,9 @@ use Rattle.sb_check.specs.RuleParts.{NewParts, Parts}
 use Rattle.sb_check.specs.Triggers.{walk_triggers}
 use Rattle.sb_check.specs.Walk.{Schema, table_named, walk_action, walk_alone}
 use Rattle.sb_check.specs.declared.tree.Action.{Action}
-use Rattle.sb_clauses.specs.Clauses.{Event, IsEventText, IsConditionText, IsActionsText, WhereThere}
-use Rattle.sb_clauses.specs.declared.clauses.NewClauses.{NewClauses}
-use Rattle.sb_clauses.specs.declared.clauses.RuleClauses.{RuleClauses}
+use Rattle.sb_catalog.specs.ClauseTexts.{Event, IsEventText, IsConditionText, IsActionsText, WhereThere}
+use Rattle.sb_catalog.specs.declared.clauses.NewClauses.{NewClauses}
+use Rattle.sb_catalog.specs.declared.clauses.RuleClauses.{RuleClauses}
 use Rattle.sb_catalog.specs.declared.rule.Rule.{Rule}
 
 -- a text reads as something that the walk resolves to this, by the tables of some schema

@@ -12,9 +12,9 @@ use Rattle.sb_index.specs.Operation.{Operation, names}
 use Rattle.sb_index.specs.Stands.{stands}
 use Rattle.sb_index.specs.TableSets.{TableSets}
 use Rattle.sb_priority.specs.Ranks.{Ranks, HasOrder, pairs_of, pairs_without, pairs_altered}
-use Rattle.sb_rulesets.specs.Ruleset.{Ruleset}
-use Rattle.sb_rulesets.specs.Sets.{has_name, members_of, changed}
-use Rattle.sb_rulesets.specs.Sets as rulesets
+use Rattle.sb_catalog.specs.Ruleset.{Ruleset}
+use Rattle.sb_catalog.specs.Sets.{has_name, members_of, changed}
+use Rattle.sb_catalog.specs.Sets as rulesets
 use Rattle.sb_catalog.specs.declared.rule.Rule.{Rule}
 use Rattle.sb_catalog.specs.declared.definitions.Definitions.{Definitions}
 use Rattle.sb_catalog.specs.Rules.{rule_named, is_active, free_rule, has_room, created, without_rule, with_active, with_parts}

@@ -1,6 +1,12 @@
 pub mod Rules
+pub mod ClauseTexts
+pub mod ClauseCuts
 pub mod Clauses
 pub mod Uses
+pub mod Ruleset
+pub mod Members
+pub mod Sets
+pub mod Distinct
 pub mod Definitions
 pub mod Places
 pub use Rattle.sb_priority.specs.Ranks

@@ -8,11 +8,11 @@ ghost use Rattle.sb_catalog.specs.Rules.{AreNumbered, named, numbered, rule_name
 ghost use Rattle.sb_catalog.specs.Uses.{is_used};
 ghost use Rattle.sb_catalog.specs.Clauses.{AreClausesOf, AreNewClausesOf, HaveClauses, parts_of};
 
+use crate::clauses::RuleClauses;
 use crate::mentions::rule_names;
 use crate::places::Places;
 use crate::rule::{ReadAlteration, ReadRule, Rule, rule_of_parts};
 use indexmap::IndexMap;
-use sb_clauses::RuleClauses;
 use sb_value::{Name, RULE_LIMIT, Refusal, RuleId, RuleSet, TableId};
 use std::alloc::Global;
 use std::marker::Model;

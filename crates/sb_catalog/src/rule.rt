@@ -3,8 +3,8 @@ ghost use Rattle.std.specs.Prelude.{◌≡◌, unwrap_or};
 ghost use Rattle.sb_check.specs.RulePartsView.{new_parts, rule_parts};
 ghost use Rattle.sb_catalog.specs.Rules.{rule_of, set_parts, written_or};
 
+use crate::clauses::{NewClauses, RuleClauses};
 use sb_check::{Actions, NewParts, Query, RuleParts};
-use sb_clauses::{NewClauses, RuleClauses};
 use sb_value::{Name, RuleId, TableId, Triggers};
 
 /// A rule with its names resolved.

@@ -36,7 +36,7 @@ use Rattle.sb_check.specs.contracts.tree.Assignments as Assignments
 use Rattle.sb_check.specs.contracts.tree.Statement as Statement
 use Rattle.sb_check.specs.contracts.tree.Actions as Actions
 use Rattle.sb_priority.proofs.priorities.Priorities.TheSendSync as priorities
-use Rattle.sb_rulesets.proofs.rulesets.Rulesets.TheSendSync as rulesets
+use Rattle.sb_catalog.proofs.rulesets.Rulesets.TheSendSync as rulesets
 use Rattle.sb_rawlog.proofs.raw.RawLog.TheSendSync as log
 use Rattle.sb_index.proofs.index.RuleIndex.TheSendSync as index
 use Rattle.sb_catalog.below.indexmap.proofs.map.IndexMap.TheSendSync as map

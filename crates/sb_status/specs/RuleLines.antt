@@ -2,8 +2,8 @@
 use Rattle.std.specs.Prelude.{◌≡◌, List, All, Contains}
 use Rattle.sb_catalog.specs.Clauses.{AreClausesOf, parts_of}
 use Rattle.sb_catalog.specs.declared.rule.Rule.{Rule}
-use Rattle.sb_clauses.specs.Clauses.{create_line}
-use Rattle.sb_clauses.specs.declared.clauses.RuleClauses.{RuleClauses}
+use Rattle.sb_catalog.specs.ClauseTexts.{create_line}
+use Rattle.sb_catalog.specs.declared.clauses.RuleClauses.{RuleClauses}
 use Rattle.sb_status.specs.declared.view.RuleView.{RuleView}
 
 -- it has the name of the rule, and the line that is made of these clauses

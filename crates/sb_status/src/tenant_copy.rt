@@ -13,8 +13,7 @@ use crate::view::{
     ColumnView, RuleView, RulesetView, SessionState, SessionView, TableView, TenantView,
     TriggersView,
 };
-use sb_catalog::{Catalog, Definitions, Rule, RuleClauses};
-use sb_clauses::create_line;
+use sb_catalog::{Catalog, Definitions, Rule, RuleClauses, create_line};
 use sb_host::{Lending, Reading};
 use sb_tables::{Table, Tables};
 use sb_tenant::Tenant;

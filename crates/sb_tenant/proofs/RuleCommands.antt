@@ -13,8 +13,8 @@ use Rattle.sb_rawlog.specs.Records.{Record}
 use Rattle.sb_index.specs.TableSets.{TableSets}
 use Rattle.sb_priority.specs.Ranks.{pairs_without}
 use Rattle.sb_tables.specs.Held.{entries}
-use Rattle.sb_rulesets.specs.Ruleset.{Ruleset}
-use Rattle.sb_rulesets.specs.Sets as rulesets
+use Rattle.sb_catalog.specs.Ruleset.{Ruleset}
+use Rattle.sb_catalog.specs.Sets as rulesets
 use Rattle.sb_catalog.specs.Definitions.{AreIndexed, AreOrdered, Alters, Creates, Drops, SetsActive, OtherTenantsStay, altered_pairs, new_pairs}
 use Rattle.sb_catalog.specs.Rules.{rule_named, named, has_name, free_rule, created, rule_of, with_parts}
 use Rattle.sb_catalog.specs.Rules as rules

@@ -8,11 +8,11 @@ use Rattle.sb_syntax.specs.Tree as text
 use Rattle.sb_check.specs.Names.{and_then, required}
 use Rattle.sb_rawlog.specs.Records.{Record}
 use Rattle.sb_index.specs.TableSets.{TableSets}
-use Rattle.sb_rulesets.specs.declared.members.MemberChange.{MemberChange}
-use Rattle.sb_rulesets.specs.declared.members.MemberChange.TheVariants.{Added, Taken}
-use Rattle.sb_rulesets.specs.Members.{changed_members, with_rules, without_rules}
-use Rattle.sb_rulesets.specs.Ruleset.{Ruleset}
-use Rattle.sb_rulesets.specs.Sets.{has_name, create_refusal, created, without_set, changed}
+use Rattle.sb_catalog.specs.declared.members.MemberChange.{MemberChange}
+use Rattle.sb_catalog.specs.declared.members.MemberChange.TheVariants.{Added, Taken}
+use Rattle.sb_catalog.specs.Members.{changed_members, with_rules, without_rules}
+use Rattle.sb_catalog.specs.Ruleset.{Ruleset}
+use Rattle.sb_catalog.specs.Sets.{has_name, create_refusal, created, without_set, changed}
 use Rattle.sb_catalog.specs.Definitions.{ChangesMembers, members_named, rules_named}
 use Rattle.sb_catalog.specs.declared.definitions.Definitions.{Definitions}
 use Rattle.sb_catalog.specs.declared.rule.Rule.{Rule}

@@ -29,7 +29,7 @@ use Rattle.sb_check.specs.There.{IsStatementThere, ArePartsThere, AreNewPartsThe
 use Rattle.sb_check.specs.Walk.{Schema, table_named, walk_query, walk_statement}
 use Rattle.sb_catalog.specs.Definitions.{rules_named, new_pairs, altered_pairs}
 use Rattle.sb_catalog.specs.Rules.{has_name, named, rule_named}
-use Rattle.sb_rulesets.specs.Sets as rulesets
+use Rattle.sb_catalog.specs.Sets as rulesets
 use Rattle.sb_syntax.specs.Text.{command_of}
 use Rattle.sb_syntax.specs.Tree as text
 use Rattle.sb_syntax.specs.Tree.{Command, RuleText}

@@ -5,8 +5,8 @@ use Rattle.sb_value.specs.declared.refusal.Refusal.{Refusal}
 use Rattle.sb_value.specs.declared.refusal.Refusal.TheVariants.{NoMemory}
 use Rattle.sb_value.specs.Locks.{sessions}
 use Rattle.sb_syntax.specs.Tree.{Command, create_rule, alter_rule, add_rules, del_rules}
-use Rattle.sb_rulesets.specs.declared.members.MemberChange.{MemberChange}
-use Rattle.sb_rulesets.specs.declared.members.MemberChange.TheVariants.{Added, Taken}
+use Rattle.sb_catalog.specs.declared.members.MemberChange.{MemberChange}
+use Rattle.sb_catalog.specs.declared.members.MemberChange.TheVariants.{Added, Taken}
 use Rattle.sb_rawlog.specs.Records.{Record}
 use Rattle.sb_index.specs.TableSets.{TableSets}
 use Rattle.sb_catalog.specs.Definitions.{OtherTenantsStay}

@@ -5,7 +5,7 @@ use Rattle.sb_value.specs.declared.change.Change.{Change}
 use Rattle.sb_value.specs.Name.{same_name}
 use Rattle.sb_value.specs.Table.{Table, Entry, after_all}
 use Rattle.sb_value.specs.Locks.{Locks, no_locks, released, sessions}
-use Rattle.sb_rulesets.specs.Ruleset.{Ruleset}
+use Rattle.sb_catalog.specs.Ruleset.{Ruleset}
 use Rattle.sb_catalog.specs.declared.rule.Rule.{Rule}
 use Rattle.sb_process.specs.Setting.{Setting, Progress}
 

@@ -14,7 +14,7 @@ use Rattle.sb_catalog.specs.Definitions.{rules_named, new_pairs, altered_pairs}
 use Rattle.sb_catalog.specs.declared.rule.Rule.{Rule}
 use Rattle.sb_catalog.specs.Rules.{has_name, named, rule_named}
 use Rattle.sb_catalog.specs.Uses.{is_used}
-use Rattle.sb_rulesets.specs.Sets as rulesets
+use Rattle.sb_catalog.specs.Sets as rulesets
 use Rattle.sb_tenant.specs.Limits.{table_limit}
 use Rattle.sb_tenant.specs.State.{Catalog}
 use Rattle.sb_tenant.specs.Resolved.{Class, opens, ends, begins, defines, works, Resolved, open_session, end_session, begin, commit, rollback, process_rules, process_ruleset, process_rule, create_table, drop_table, create_rule, alter_rule, drop_rule, activate_rule, deactivate_rule, create_ruleset, drop_ruleset, add_rules, del_rules, query, change}

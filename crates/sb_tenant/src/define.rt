@@ -6,7 +6,7 @@ ghost use Rattle.sb_tenant.specs.Defining.{Defines, HasFewActions, IsAtRest, Sta
 
 use crate::store::Store;
 use sb_index::RuleIndex;
-use sb_rulesets::MemberChange;
+use sb_catalog::MemberChange;
 use sb_syntax::Definition;
 use sb_value::Refusal;
 use std::alloc::Global;

@@ -8,9 +8,8 @@ ghost use Rattle.sb_tenant.specs.Defining.{DefinesAlone, Defines, IsAtRest, Stan
 
 use crate::names::{Names, columns_of};
 use crate::store::Store;
-use sb_catalog::{ReadAlteration, ReadRule};
+use sb_catalog::{ReadAlteration, ReadRule, new_clauses, rule_clauses};
 use sb_check::{RuleEntry, resolve_alteration, resolve_rule, resolved_tables_are_there};
-use sb_clauses::{new_clauses, rule_clauses};
 use sb_index::RuleIndex;
 use sb_syntax::{AlterationText, RuleText};
 use sb_tables::Tables;

@@ -3,7 +3,7 @@ ghost use Rattle.sb_syntax.specs.Tree as text;
 ghost use Rattle.sb_tenant.specs.Defining.{DefinesAlone, IsAtRest, member_command};
 
 use crate::store::Store;
-use sb_rulesets::MemberChange;
+use sb_catalog::MemberChange;
 use sb_value::{Name, Refusal};
 use std::alloc::Global;
 

@@ -5,9 +5,8 @@ ghost use Rattle.sb_check.specs.RulePartsView.{rule_parts};
 ghost use Rattle.sb_value.specs.Table.{empty_table};
 
 use crate::tables::columns;
-use sb_catalog::ReadRule;
+use sb_catalog::{ReadRule, rule_clauses};
 use sb_check::{RuleEntry, Schema, TableEntry, resolve_rule};
-use sb_clauses::rule_clauses;
 use sb_syntax::{Command, Definition, parse};
 use sb_value::{ColumnDefinition, Name, TableId};
 use std::alloc::Global;

@@ -11,7 +11,7 @@ use Rattle.sb_catalog.proofs.Named.{lookup_named, kept_with, values_with, entrie
 use Rattle.sb_catalog.proofs.Active.{active-with}
 use Rattle.sb_catalog.proofs.Written.{written_push}
 use Rattle.sb_catalog.specs.Clauses.{HaveClauses}
-use Rattle.sb_clauses.specs.declared.clauses.RuleClauses.{RuleClauses}
+use Rattle.sb_catalog.specs.declared.clauses.RuleClauses.{RuleClauses}
 use Rattle.sb_catalog.proofs.Noted.{some_found, no_rule, noted_with}
 use Rattle.sb_catalog.proofs.catalog.Catalog.push.Goals as goal
 

@@ -1,5 +1,5 @@
 use Rattle.std.proofs.Common.{refl}
-use Rattle.sb_rulesets.specs.Sets.{has_name}
+use Rattle.sb_catalog.specs.Sets.{has_name}
 use Rattle.sb_catalog.specs.Definitions.{rules_named}
 use Rattle.sb_catalog.proofs.InOrder.{refused_beside}
 use Rattle.sb_catalog.proofs.definitions.Definitions.change_members.Goals as goal

@@ -6,8 +6,8 @@ use Rattle.sb_value.specs.declared.refusal.Refusal.TheVariants as refusal
 use Rattle.sb_syntax.specs.Tree as text
 use Rattle.sb_syntax.specs.Views as view
 use Rattle.sb_check.specs.Names.{and_then, required}
-use Rattle.sb_rulesets.specs.Ruleset.{Ruleset}
-use Rattle.sb_rulesets.specs.Sets.{has_name}
+use Rattle.sb_catalog.specs.Ruleset.{Ruleset}
+use Rattle.sb_catalog.specs.Sets.{has_name}
 use Rattle.sb_catalog.specs.Rules.{rule_named, is_active}
 use Rattle.sb_catalog.specs.Definitions.{is_member}
 use Rattle.sb_catalog.specs.declared.rule.Rule.{Rule}

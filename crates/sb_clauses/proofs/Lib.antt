@@ -1,6 +1,0 @@
-pub mod Framed
-pub mod Rules
-pub mod Cut
-pub mod Texts
-pub mod Glue
-pub mod MadeLines

@@ -1,5 +1,0 @@
-use Rattle.sb_clauses.proofs.MadeLines.{rule_line}
-use Rattle.sb_clauses.proofs.laws.clauses_make_rules.Goals as goal
-
-pub returns : goal.returns
-returns c = rule_line

@@ -1,4 +1,0 @@
-pub mod Ruleset
-pub mod Members
-pub mod Sets
-pub mod Distinct
