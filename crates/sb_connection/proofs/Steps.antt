@@ -716,10 +716,17 @@ pub resumed_in : (old new : Talking) (before after : Caller) (s : Session) → o
     → after ≡ record before { list = s.list; waits = false; last = s.last }
     → new ≡ record old { history = record old.history { attached = not after.waits; waits = after.waits; left = map (λ (s : Stay). s.0) after.stays }; caller = Some after }
     → old.history.left ≡ map (λ (s : Stay). s.0) before.stays → ResumesIn old new
-resumed_in old new before after s was waits_yet going newcomer there is left = inr (before, s, was, waits_yet, going, newcomer,
-    is
-    ∙ ap (λ (c : Caller). record old { history = record old.history { attached = not c.waits; waits = c.waits; left = map (λ (s : Stay). s.0) c.stays }; caller = Some c }) there
-    ∙ ap (λ (l : List (List Receipt)). record old { history = record old.history { attached = true; waits = false; left = l }; caller = Some (record before { list = s.list; waits = false; last = s.last }) }) (sym left))
+resumed_in old new before after s was waits_yet going newcomer there is left = inr (
+  before,
+  s,
+  was,
+  waits_yet,
+  going,
+  newcomer,
+  is
+      ∙ ap (λ (c : Caller). record old { history = record old.history { attached = not c.waits; waits = c.waits; left = map (λ (s : Stay). s.0) c.stays }; caller = Some c }) there
+      ∙ ap (λ (l : List (List Receipt)). record old { history = record old.history { attached = true; waits = false; left = l }; caller = Some (record before { list = s.list; waits = false; last = s.last }) }) (sym left),
+)
 
 -- and keeps what holds
 pub holds_after : (admits : Admits) (r : Option Stub) (old new : Talking) → Holds admits old → IfSome r (λ stub. SuspendsIn old stub new) → IfNone r (new ≡ old) → Holds admits new

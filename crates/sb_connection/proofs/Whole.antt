@@ -222,12 +222,12 @@ module _ (admits : Admits) (hosted : Hosted) where
       by_cases old.ended (λ ended. absurd (false≢true (may ended).1)) (λ going. goes_last before old away pieces text new going calls_are told)
   goes_on waiting before old away (stay ∷ more) pieces text new may calls_are (now, behind, said, rest, mid, split, cut, own, left, last, told) =
       by_cases old.ended (λ ended. absurd (let none : stay ∷ more ≡ [] = (may ended).0 in cc)) (λ going.
-          let r = calls admits hosted old away now said mid going own in
-          let first = goes_both waiting before old stay more now behind said rest mid going calls_are r left in
-          first pieces text new split cut
-          (goes_on waiting (before ++ calls_of stay) r.new mid.1 more behind rest new (λ ended. last (sym (mid_ended waiting before old stay more now behind said rest mid going calls_are r left) ∙ ended))
-          (mid_calls waiting before old stay more now behind said rest mid going calls_are r left)
-          (subst (λ (x : Option Life). AreTold admits hosted waiting (before ++ calls_of stay) (x, mid.1) more behind rest new) r.is told)))
+      let r = calls admits hosted old away now said mid going own in
+      let first = goes_both waiting before old stay more now behind said rest mid going calls_are r left in
+      first pieces text new split cut
+      (goes_on waiting (before ++ calls_of stay) r.new mid.1 more behind rest new (λ ended. last (sym (mid_ended waiting before old stay more now behind said rest mid going calls_are r left) ∙ ended))
+      (mid_calls waiting before old stay more now behind said rest mid going calls_are r left)
+      (subst (λ (x : Option Life). AreTold admits hosted waiting (before ++ calls_of stay) (x, mid.1) more behind rest new) r.is told)))
 
   -- ---- the connection
 

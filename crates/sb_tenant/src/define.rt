@@ -5,8 +5,8 @@ ghost use Rattle.sb_syntax.specs.Views.{definition as tree_of};
 ghost use Rattle.sb_tenant.specs.Defining.{Defines, HasFewActions, IsAtRest, Stands};
 
 use crate::store::Store;
-use sb_index::RuleIndex;
 use sb_catalog::MemberChange;
+use sb_index::RuleIndex;
 use sb_syntax::Definition;
 use sb_value::Refusal;
 use std::alloc::Global;
