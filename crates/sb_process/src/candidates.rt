@@ -7,15 +7,17 @@ ghost use Rattle.sb_catalog.specs.Rules.{numbered};
 ghost use Rattle.sb_priority.specs.Ranks.{HasOrder, ranked};
 ghost use Rattle.sb_process.specs.Represents.{who_in};
 ghost use Rattle.sb_process.specs.Setting as spec;
+ghost use Rattle.sb_process.specs.SharedTest.{IsSound};
 ghost use Rattle.sb_process.specs.Transactions.{ArePast, OtherSessionsStay};
 ghost use Rattle.sb_process.specs.Triggered.{AreSifted, CanTest, CanTestAll, is_hit};
 ghost use Rattle.sb_process.specs.Work.{EachWork, IsAtWork, AreActive, IsWork};
 
 use crate::database::Database;
 use crate::process::Rules;
+use crate::shared_test::SharedTest;
 use crate::witnesses::Witnesses;
 use sb_catalog::{Catalog, Rule};
-use sb_net::is_triggered_anew;
+use sb_net::{is_triggered_anew, meets};
 use sb_priority::Priorities;
 use sb_rawlog::ChangeLog;
 use sb_value::{RuleId, RuleSet, SessionId, proper_lists_have_lives};
@@ -72,10 +74,11 @@ impl Database {
     {
         let now = log.now();
         let mut set = self.transactions.candidates(session).intersection(eligible);
+        let mut shared = SharedTest::new();
         let mut next = 0;
         while let Some(rule) = set.first_from(next) {
             next = rule.index() + 1;
-            if !self.is_hit(log, catalog, session, rule, witnesses) {
+            if !self.is_hit(log, catalog, session, rule, witnesses, &mut shared) {
                 self.transactions.leave(session, rule, now);
                 set = set.without(rule);
             }
@@ -83,7 +86,7 @@ impl Database {
         set
     }
 
-    /// True if the session's changes since the rule's mark trigger it.
+    /// True if the session's changes since the rule's mark trigger it. The shared test answers where it can.
     fn is_hit<L: ChangeLog>(
         &self,
         log: &L,
@@ -91,21 +94,32 @@ impl Database {
         session: SessionId,
         rule: RuleId,
         witnesses: &mut Witnesses,
+        shared: &mut SharedTest,
     ) -> bool
         requires past { ArePast self.now.transactions session (L.clock log.now) }
         requires can { CanTest (who_in self.now session) self.now.transactions (L.records log.now)
             (numbered catalog.now rule) }
-        ensures { result ≡ is_hit (who_in self.now session) self.now.transactions (L.records log.now)
+        requires sound { IsSound (who_in self.now session) (L.records log.now) shared.old }
+        ensures hit { result ≡ is_hit (who_in self.now session) self.now.transactions (L.records log.now)
             (numbered catalog.now rule) }
+        ensures sound { IsSound (who_in self.now session) (L.records log.now) shared.new }
     {
         let Some(rule) = catalog.rule(rule) else {
             return false;
         };
-        let who = self.who(session);
         let since = self.transactions.mark(session, rule.id);
         let tested = self.transactions.tested(session, rule.id);
+        let who = self.who(session);
+        if let Some(operations) = shared.operations(log, who, rule.table, since, tested) {
+            return meets(rule.triggers, operations);
+        }
+        let who = self.who(session);
         let witness = witnesses.of(rule.id);
-        is_triggered_anew(log, who, rule.table, rule.triggers, since, tested, witness)
+        if is_triggered_anew(log, who, rule.table, rule.triggers, since, tested, witness) {
+            return true;
+        }
+        shared.count_untriggered();
+        false
     }
 }
 

@@ -18,6 +18,7 @@ mod process;
 mod refusal;
 mod request;
 mod select;
+mod shared_test;
 mod times;
 mod transaction;
 mod transactions;

@@ -5,6 +5,7 @@ use Rattle.sb_catalog.specs.Rules.{numbered}
 use Rattle.sb_rawlog.specs.Records.{Rising}
 use Rattle.sb_process.specs.declared.database.Database.{Database}
 use Rattle.sb_process.specs.Represents.{who_in}
+use Rattle.sb_process.specs.SharedTest.{IsSound}
 use Rattle.sb_process.specs.Transactions.{Kept, tested_of, is_candidate_of}
 use Rattle.sb_process.specs.Triggered.{is_hit}
 use Rattle.sb_process.proofs.Sifting.{hit-same, left-candidates, left-hit, left-stay, left-other, seen-below}
@@ -26,7 +27,7 @@ loop-rule-preserved-then-not-is_hit g c =
     let same = ap (λ (d : Database). who_in d session) inv.same in
     let seen = ap (λ (w : Who). is_hit w old (g.L.ChangeLog.records c.args.log.now) (numbered c.args.catalog.now rule)) same
     ∙ hit-same who c.args.self.now.transactions old (g.L.ChangeLog.records c.args.log.now) (numbered c.args.catalog.now rule) inv.marks in
-    let missed : hit rule ≡ false = sym seen ∙ sym c.is_hit.ensures ∙ c.if-not-is_hit.true in
+    let missed : hit rule ≡ false = sym seen ∙ sym c.is_hit.ensures.hit ∙ c.if-not-is_hit.true in
     let told = c.leave.ensures.tested in
     let which : (told.0 ≡ g.L.ChangeLog.clock c.args.log.now) ⊎ (told.0 ≡ tested_of old session rule) = elim told.1 [ inl e ↦ inl (e ∙ c.now-now.ensures.clock) | inr e ↦ inr e ] in
     let tested = λ (r : ℕ). told.2 session r ∙ (λ i. cond (own i && nat_eq r rule) told.0 (tested_of old session r)) in
@@ -36,7 +37,7 @@ loop-rule-preserved-then-not-is_hit g c =
       can = can-left who old c.leave.new.self (g.L.ChangeLog.records c.args.log.now) (g.L.ChangeLog.clock c.args.log.now) c.args.catalog.now rule told.0 which (λ r. c.leave.ensures.marks session r) tested
           (λ since le. between-now who since (g.L.ChangeLog.clock c.args.log.now) (g.L.ChangeLog.records c.args.log.now) (subst (Rising 0 (g.L.ChangeLog.records c.args.log.now)) c.now-now.ensures.clock c.now-now.ensures.rising)
           c.now-now.ensures.marks c.now-now.ensures.times le)
-          inv.past inv.can (sym (ap (λ (w : Who). is_hit w old (g.L.ChangeLog.records c.args.log.now) (numbered c.args.catalog.now rule)) same) ∙ sym c.is_hit.ensures ∙ c.if-not-is_hit.true);
+          inv.past inv.can (sym (ap (λ (w : Who). is_hit w old (g.L.ChangeLog.records c.args.log.now) (numbered c.args.catalog.now rule)) same) ∙ sym c.is_hit.ensures.hit ∙ c.if-not-is_hit.true);
       are_candidates = λ r. c.without-set.ensures.members r ∙ left-candidates hit rule flag kept (flag_at c.args.eligible) (nat_eq session session) own inv.are_candidates r
           ∙ ap (λ (b : Bool). b && flag_at c.args.eligible r) (sym (c.leave.ensures.candidates session r));
       are_hit = λ r l f.
@@ -49,5 +50,6 @@ loop-rule-preserved-then-not-is_hit g c =
         told.2 s r ∙ ap (λ (b : Bool). cond (b && nat_eq r rule) told.0 (tested_of old s r)) other ∙ (inv.sessions s r other).1,
         c.leave.ensures.candidates s r ∙ left-other (is_candidate_of old s r) (nat_eq s session) (nat_eq r rule) other ∙ (inv.sessions s r other).2,
       );
+      sound = subst (λ (w : Who). IsSound w (g.L.ChangeLog.records c.args.log.now) c.is_hit.new.shared) same c.is_hit.ensures.sound;
       same = ap (λ (d : Database). record d { transactions = c.leave.new.self }) inv.same;
     }
