@@ -15,7 +15,7 @@ hit-same who old new records None h = refl
 hit-same who old new records (Some rule) h = ap (λ (t : ℕ). is_triggered rule.triggers rule.table (changes_since who t records)) (h who.session rule.id)
 
 -- of the numbers below n + 1 the last one is n
-last-below : (P : ℕ → Type 0) (n r : ℕ) → r < n + 1 → (r < n → P r) → P n → P r
+pub last-below : (P : ℕ → Type 0) (n r : ℕ) → r < n + 1 → (r < n → P r) → P n → P r
 last-below P n r l below here = by (nat_eq r n) refl
   where
     by : (b : Bool) → nat_eq r n ≡ b → P r

@@ -5,10 +5,9 @@ use Rattle.sb_catalog.specs.Rules.{numbered}
 use Rattle.sb_rawlog.specs.Records.{Rising}
 use Rattle.sb_process.specs.declared.database.Database.{Database}
 use Rattle.sb_process.specs.Represents.{who_in}
-use Rattle.sb_process.specs.SharedTest.{IsSound}
 use Rattle.sb_process.specs.Transactions.{Kept, tested_of, is_candidate_of}
 use Rattle.sb_process.specs.Triggered.{is_hit}
-use Rattle.sb_process.proofs.Sifting.{hit-same, left-candidates, left-hit, left-stay, left-other, seen-below}
+use Rattle.sb_process.proofs.Sifting.{hit-same, left-candidates, left-hit, left-stay, left-other, last-below, seen-below}
 use Rattle.sb_process.proofs.Testing.{between-now, can-left, past-left}
 use Rattle.sb_process.proofs.database.Database.sift.Goals as goal
 
@@ -50,6 +49,33 @@ loop-rule-preserved-then-not-is_hit g c =
         told.2 s r ∙ ap (λ (b : Bool). cond (b && nat_eq r rule) told.0 (tested_of old s r)) other ∙ (inv.sessions s r other).1,
         c.leave.ensures.candidates s r ∙ left-other (is_candidate_of old s r) (nat_eq s session) (nat_eq r rule) other ∙ (inv.sessions s r other).2,
       );
-      sound = subst (λ (w : Who). IsSound w (g.L.ChangeLog.records c.args.log.now) c.is_hit.new.shared) same c.is_hit.ensures.sound;
+      sound = c.is_hit.ensures.sound;
       same = ap (λ (d : Database). record d { transactions = c.leave.new.self }) inv.same;
+    }
+
+-- a rule that is hit stays
+pub loop-rule-preserved : goal.loop-rule-preserved
+loop-rule-preserved g c =
+    let session = c.args.session in
+    let inv = c.loop-rule.invariant in
+    let old : Kept = c.loop-rule.self.transactions in
+    let rule : ℕ = c.in-Some.rule in
+    let who : Who = who_in c.args.self.now session in
+    let hit = λ (r : ℕ). is_hit who c.args.self.now.transactions (g.L.ChangeLog.records c.args.log.now) (numbered c.args.catalog.now r) in
+    let flag = λ (r : ℕ). flag_at c.loop-rule.set r in
+    let seen = ap (λ (w : Who). is_hit w old (g.L.ChangeLog.records c.args.log.now) (numbered c.args.catalog.now rule)) (ap (λ (d : Database). who_in d session) inv.same)
+    ∙ hit-same who c.args.self.now.transactions old (g.L.ChangeLog.records c.args.log.now) (numbered c.args.catalog.now rule) inv.marks in
+    let met : hit rule ≡ true = sym seen ∙ sym c.is_hit.ensures.hit ∙ c.if-not-is_hit.false in
+    record {
+      marks = inv.marks;
+      past = inv.past;
+      can = inv.can;
+      are_candidates = inv.are_candidates;
+      are_hit = λ r l f.
+          let below : r < rule + 1 = omega (arith, l, c.index-next.ensures.value) in
+          last-below (λ (k : ℕ). flag k ≡ true → hit k ≡ true) rule r below (λ less. seen-below c.loop-rule.next rule flag hit inv.are_hit c.in-Some.ensures.least r less) (λ _. met) f;
+      stay = inv.stay;
+      sessions = inv.sessions;
+      sound = c.is_hit.ensures.sound;
+      same = inv.same;
     }

@@ -19,7 +19,7 @@ invariant-loop-rule g l = record {
   stay : (r : ℕ) → is_hit (who_in l.initial.self l.session) l.initial.self.transactions (g.L.ChangeLog.records l.log) (numbered l.catalog r) ≡ true →
       is_candidate_of l.self.transactions l.session r ≡ is_candidate_of l.initial.self.transactions l.session r;
   sessions : OtherSessionsStay l.initial.self.transactions l.self.transactions l.session;
-  sound : IsSound (who_in l.initial.self l.session) (g.L.ChangeLog.records l.log) l.shared;
+  sound : IsSound (who_in l.self l.session) (g.L.ChangeLog.records l.log) l.shared;
   same : l.self ≡ record l.initial.self { transactions = l.self.transactions };
 }
 
