@@ -4,3 +4,4 @@ pub mod DeskSteps
 pub mod ReceiptSteps
 pub mod DeskCalls
 pub mod DeskNew
+pub mod DeskRenewals

@@ -1,14 +1,16 @@
 //! What the lock of a cell holds: the cell, its share of the host's ledger, and the seats of its
 //! closed sessions.
-ghost use Rattle.std.specs.Prelude.{◌≡◌, ◌+◌, ◌-◌, ◌*◌, ◌/◌, ◌<◌, ◌≤◌, ◌%◌, ◌^◌, ◌==◌, ◌&&◌, nat_lt, ℕ, true, false, Some, Ok, IsSome, IfOk, IfErr, OnOk};
-ghost use Rattle.sb_cell.specs.Tenants.{IsNew, hosts};
+ghost use Rattle.std.specs.Prelude.{◌≡◌, ◌+◌, ◌-◌, ◌*◌, ◌/◌, ◌<◌, ◌≤◌, ◌%◌, ◌^◌, ◌==◌, ◌&&◌, nat_lt, length, ℕ, true, false, Some, Ok, IsSome, IfOk, IfErr, OnOk};
+ghost use Rattle.sb_cell.specs.Renewal.{IsNotRenewed, Renews};
+ghost use Rattle.sb_cell.specs.Tenants.{IsNew, hosts, trails};
 ghost use Rattle.sb_desk.specs.Desks.{open_in, Admits, Enters, Leaves, Refuses, RefusesRightly};
 ghost use Rattle.sb_desk.specs.Kept.{AreDealt};
 
 use crate::naming::Naming;
 use crate::receipts::{Receipts, Room};
 use crate::seats::{SeatTable, SessionSeat, differ};
-use sb_cell::Cell;
+use sb_cell::{Cell, Unrenewed};
+use sb_tenant::Tenant;
 use sb_tenant::laws::entries_open_and_close;
 use sb_value::{SESSION_LIMIT, SessionId};
 use std::alloc::Global;
@@ -30,6 +32,55 @@ pub enum AttachError {
 pub enum CallError {
     NotBegun,
     Ended,
+}
+
+/// What a renewal gives: the tenant that there was, and a part of the ledger for each entry of the new trail.
+pub struct Renewed<N: Naming> {
+    pub old: Tenant,
+    pub parts: Share<N>,
+}
+
+impl<N: Naming> Drop for Renewed<N> {
+    fn drop(self) {
+        let Self { old: _, parts: _ } = self;
+    }
+}
+
+impl<N: Naming> Renewed<N> {
+    /// The tenant, and the parts.
+    pub fn into_parts(self) -> (Tenant, Share<N>)
+        ensures old { result.0 ≡ self.old }
+        ensures parts { result.1.parts ≡ self.parts.parts }
+    {
+        let Self { old, parts } = self;
+        (old, parts)
+    }
+}
+
+/// What a renewal that wasn't done gives back.
+pub struct NotRenewed<N: Naming> {
+    pub refused: Unrenewed,
+    pub parts: Share<N>,
+}
+
+impl<N: Naming> Drop for NotRenewed<N> {
+    fn drop(self) {
+        let Self {
+            refused: _,
+            parts: _,
+        } = self;
+    }
+}
+
+impl<N: Naming> NotRenewed<N> {
+    /// What the cell gave back, and the parts.
+    pub fn into_parts(self) -> (Unrenewed, Share<N>)
+        ensures refused { result.0 ≡ self.refused }
+        ensures parts { result.1.parts ≡ self.parts.parts }
+    {
+        let Self { refused, parts } = self;
+        (refused, parts)
+    }
 }
 
 /// What the lock of the cell `FIRST` holds. To a contract it is the cell.
@@ -77,6 +128,7 @@ impl<N: Naming, const FIRST: u32> Desk<N, FIRST> {
     /// The cell.
     pub fn cell(&self) -> &Cell
         ensures same { result.now ≡ self.now }
+        ensures bound { (self.now).bound ≡ N.bound }
         ensures hosts { (t : ℕ) → hosts self.now t ≡ ((t % N.cells == FIRST) && nat_lt t N.tenants) }
     {
         &self.cell
@@ -209,6 +261,32 @@ impl<N: Naming, const FIRST: u32> Desk<N, FIRST> {
         };
         let at = seat_place(tenant, session, cells);
         self.seats[at] = Some(r.note_end(&mut self.share, number));
+    }
+
+    /// Renews the tenant of the fresh one's number (`Cell::renew`). It takes a part of the ledger for each entry of the
+    /// old trail.
+    pub fn renew(
+        &mut self,
+        alloc: Global,
+        fresh: Tenant,
+        parts: Share<N>,
+    ) -> Result<Renewed<N>, NotRenewed<N>>
+        requires { parts.parts ≡ length (trails self.old fresh.id) }
+        ensures ok { IfOk result (λ r. Renews self.old r.old fresh self.new × (r.parts.parts ≡ length fresh.trail)) }
+        ensures err { IfErr result (λ e. (self.new ≡ self.old) × (e.refused.fresh ≡ fresh)
+            × IsNotRenewed self.old fresh e.refused.error × (e.parts.parts ≡ parts.parts)) }
+    {
+        let entries = fresh.trail().len() as u64;
+        match self.cell.renew(alloc, fresh) {
+            Ok(old) => {
+                // for the proof: its trails have few entries
+                self.cell.keeps_trails();
+                self.share.merge(parts);
+                let parts = self.share.split_off(entries, 0);
+                Ok(Renewed { old, parts })
+            }
+            Err(refused) => Err(NotRenewed { refused, parts }),
+        }
     }
 
     /// For the proof: a session that holds its seat is open, or the desk would have a second one.

@@ -9,7 +9,7 @@ mod receipts;
 pub mod seats;
 mod stub;
 
-pub use desk::{AttachError, CallError, Desk};
+pub use desk::{AttachError, CallError, Desk, NotRenewed, Renewed};
 pub use gate::{Gate, NoGate};
 pub use hosting::{Calling, Hosting};
 pub use naming::Naming;

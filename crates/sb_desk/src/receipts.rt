@@ -1,5 +1,5 @@
 //! A session's receipts: a line and its answer for each of its entries.
-ghost use Rattle.std.specs.Prelude.{ℕ, List, ◌≡◌, ◌+◌, ◌<◌, false, Some, None, IsSome, MatchOption, IfOk, OnErr, OnOk};
+ghost use Rattle.std.specs.Prelude.{ℕ, List, length, ◌≡◌, ◌+◌, ◌<◌, false, Some, None, IsSome, MatchOption, IfOk, OnErr, OnOk};
 ghost use Rattle.sb_tenant.specs.declared.reply.Reply.TheVariants as told;
 ghost use Rattle.sb_desk.specs.Fields.{IsRoom, answered, noted, unseated};
 ghost use Rattle.sb_desk.specs.Receipts.{after_end, last_of, newcomer, numbered, prepared};
@@ -146,6 +146,25 @@ impl<N: Naming> Receipts<N> {
             newest: _,
         } = self;
         list
+    }
+
+    /// The receipts with their parts.
+    pub fn into_parts(self) -> (Vec<Receipt>, Share<N>)
+        ensures list { result.0.items ≡ self.list }
+        ensures parts { result.1.parts ≡ length self.list }
+    {
+        let Self {
+            tenant: _,
+            session: _,
+            list,
+            share,
+            opening: _,
+            has_transaction: _,
+            known: _,
+            ready: _,
+            newest: _,
+        } = self;
+        (list, share)
     }
 
     /// Makes a line ready, with the place of its receipt. Error: out of memory.
