@@ -67,11 +67,12 @@ both_called old mid new one two first second = record {
   };
 }
 
--- lines that are taken one after another
-pub each_called : (lines : List (List ℕ)) (old new : Session) → TakesEach TakesCall lines old new → TakesCalls lines old new
-each_called [] old new same = subst (λ (s : Session). TakesCalls [] old s) (sym same) (none_called old)
-each_called (own ∷ more) old new (mid, taken, behind) =
-    both_called old mid new (own ∷ []) more (one_called old mid own taken) (each_called more mid new behind)
+-- lines that are taken one after another, by something of which a session is seen
+pub each_called : {S : Type 0} (seen : S → Session) (lines : List (List ℕ)) (old new : S) → TakesEach (λ s own t. TakesCall (seen s) own (seen t)) lines old new
+    → TakesCalls lines (seen old) (seen new)
+each_called seen [] old new same = subst (λ s. TakesCalls [] (seen old) (seen s)) (sym same) (none_called (seen old))
+each_called seen (own ∷ more) old new (mid, taken, behind) =
+    both_called (seen old) (seen mid) (seen new) (own ∷ []) more (one_called (seen old) (seen mid) own taken) (each_called seen more mid new behind)
 
 -- ---- a closed session
 

@@ -9,8 +9,7 @@ use crate::cell_loader::{Unplayed, is_taken, told, unsettled};
 use crate::error::BackupError;
 use crate::line_player::{Sender, play_lines};
 use crate::script_source::{FolderScripts, ScriptSource, Unopened};
-use sb_connection::SessionCaller;
-use sb_host::{Calling, Lending, Reading, Stub};
+use sb_host::{Calling, Lending, NoGate, Reading, Stub};
 use sb_tenant::Tenant;
 use sb_wire::StreamError;
 use sb_words::Log;
@@ -27,12 +26,12 @@ struct ToSession<'r, T> {
     rt: &'r T,
 }
 
-impl<'r, T: Wait, S: Calling> Sender<SessionCaller<S>> for ToSession<'r, T> {
-    ghost takes = { λ _. TakesCall };
+impl<'r, T: Wait, S: Calling> Sender<S> for ToSession<'r, T> {
+    ghost takes = { λ _ old own new. TakesCall (S.seen old) own (S.seen new) };
 
-    ghost refuses = { λ _. RefusesCall };
+    ghost refuses = { λ _ old own new. RefusesCall (S.seen old) own (S.seen new) };
 
-    fn send(&self, alloc: Global, line: &[u8], to: &mut SessionCaller<S>) -> Result<(), Vec<u8>> {
+    fn send(&self, alloc: Global, line: &[u8], to: &mut S) -> Result<(), Vec<u8>> {
         call(self.rt, alloc, line, to)
     }
 }
@@ -42,13 +41,13 @@ fn call<T: Wait, S: Calling>(
     rt: &T,
     alloc: Global,
     line: &[u8],
-    caller: &mut SessionCaller<S>,
+    session: &mut S,
 ) -> Result<(), Vec<u8>>
-    ensures ok { OnOk result (TakesCall caller.old line.now caller.new) }
-    ensures err { OnErr result (RefusesCall caller.old line.now caller.new) }
+    ensures ok { OnOk result (TakesCall (S.seen session.old) line.now (S.seen session.new)) }
+    ensures err { OnErr result (RefusesCall (S.seen session.old) line.now (S.seen session.new)) }
 {
-    match caller.step(rt, alloc, line) {
-        Ok(()) => match caller.last() {
+    match session.step(rt, alloc, line, &NoGate) {
+        Ok(()) => match session.last() {
             Some(answer) => match is_taken(&answer.reply) {
                 true => Ok(()),
                 false => Err(told(alloc, &answer.reply)),
@@ -186,14 +185,13 @@ fn play<T: Wait, H: Lending, F: Read + Drop>(
     ensures { IfOk result (λ stub. (lines : List (List ℕ)) × HasLines (F.remaining file) lines × IsPlayedIn tenant lines stub
         × StandsAs tenant None) }
 {
-    let Ok(session) = host.attach(rt, alloc, tenant, 0) else {
+    let Ok(mut session) = host.attach(rt, alloc, tenant, 0) else {
         return Err(Unplayed::NoSession);
     };
-    let mut caller = SessionCaller::new(session);
-    let played = play_lines(alloc, ToSession { rt }, &mut caller, file);
+    let played = play_lines(alloc, ToSession { rt }, &mut session, file);
     let ending = ending_of(rt, host, tenant);
-    let has_ended = caller.ended();
-    let stub = caller.close(rt);
+    let has_ended = session.ended();
+    let stub = session.close(rt);
     match played {
         Ok(()) => {}
         Err(why) => return Err(why),

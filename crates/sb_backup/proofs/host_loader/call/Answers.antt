@@ -9,16 +9,16 @@ returns-in-Err-clause-err g c = (Err c.in-Err.field-0, tt, (c.in-Err.ensures.err
 
 -- the newest answer is the step's
 pub unreachable-requires : goal.unreachable-requires
-unreachable-requires g c = absurd (has_answer c.args.caller.now c.step.new.self c.args.line.now c.in-Ok.ensures.ok c.in-None.ensures)
+unreachable-requires g c = absurd (has_answer (g.S.Calling.seen c.args.session.now) (g.S.Calling.seen c.step.new.self) c.args.line.now c.in-Ok.ensures.ok c.in-None.ensures)
 
 pub returns-in-true-clause-ok : goal.returns-in-true-clause-ok
 returns-in-true-clause-ok g c =
-    (c.in-Some.answer.now, c.is_taken.ensures.0 c.in-true.is, own_call c.args.caller.now c.step.new.self c.args.line.now c.in-Some.answer.now c.in-Ok.ensures.ok c.in-Some.ensures)
+    (c.in-Some.answer.now, c.is_taken.ensures.0 c.in-true.is, own_call (g.S.Calling.seen c.args.session.now) (g.S.Calling.seen c.step.new.self) c.args.line.now c.in-Some.answer.now c.in-Ok.ensures.ok c.in-Some.ensures)
 
 -- the reply isn't one to a script's line
 pub returns-in-false-clause-err : goal.returns-in-false-clause-err
 returns-in-false-clause-err g c = (
   Ok c.in-Some.answer.now,
   λ taken. false≢true (sym c.in-false.is ∙ c.is_taken.ensures.1 taken),
-  own_call c.args.caller.now c.step.new.self c.args.line.now c.in-Some.answer.now c.in-Ok.ensures.ok c.in-Some.ensures,
+  own_call (g.S.Calling.seen c.args.session.now) (g.S.Calling.seen c.step.new.self) c.args.line.now c.in-Some.answer.now c.in-Ok.ensures.ok c.in-Some.ensures,
 )
