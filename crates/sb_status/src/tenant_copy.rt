@@ -93,7 +93,9 @@ fn view_of(alloc: Global, first_tenant: u32, tenant: &Tenant) -> Result<TenantVi
     })
 }
 
-fn copied(alloc: Global, name: &Name) -> Result<Vec<u8>, AllocError> {
+fn copied(alloc: Global, name: &Name) -> Result<Vec<u8>, AllocError>
+    ensures { IfOk result (λ bytes. bytes.items ≡ name.now) }
+{
     name.as_slice().to_vec(alloc)
 }
 
