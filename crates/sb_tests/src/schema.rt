@@ -51,12 +51,14 @@ pub fn read_rule(rt: &impl Abort, alloc: Global) -> ReadRule
         columns: columns(rt, alloc),
     };
     let line = b"create rule r on t when inserted then delete from t";
-    let command = parse(alloc, line).expect(rt, "a command");
-    let Command::Definition(Definition::CreateRule(rule)) = command else {
+    let Ok(Command::Definition(Definition::CreateRule(rule))) = parse(alloc, line) else {
         rt.panic("no rule")
     };
-    ReadRule {
-        parts: resolve_rule(alloc, &rule, &schema).expect(rt, "its parts"),
-        clauses: rule_clauses(alloc, line).expect(rt, "its clauses"),
-    }
+    let Ok(parts) = resolve_rule(alloc, &rule, &schema) else {
+        rt.panic("no parts")
+    };
+    let Ok(clauses) = rule_clauses(alloc, line) else {
+        rt.panic("no clauses")
+    };
+    ReadRule { parts, clauses }
 }
