@@ -7,14 +7,14 @@ ghost use Rattle.sb_catalog.specs.Rules.{numbered};
 ghost use Rattle.sb_priority.specs.Ranks.{HasOrder, ranked};
 ghost use Rattle.sb_process.specs.Represents.{who_in};
 ghost use Rattle.sb_process.specs.Setting as spec;
-ghost use Rattle.sb_process.specs.SharedTest.{IsSound};
+ghost use Rattle.sb_process.specs.SharedTest.{AreSound};
 ghost use Rattle.sb_process.specs.Transactions.{ArePast, OtherSessionsStay};
 ghost use Rattle.sb_process.specs.Triggered.{AreSifted, CanTest, CanTestAll, is_hit};
 ghost use Rattle.sb_process.specs.Work.{EachWork, IsAtWork, AreActive, IsWork};
 
 use crate::database::Database;
 use crate::process::Rules;
-use crate::shared_test::SharedTest;
+use crate::shared_test::SharedTests;
 use crate::witnesses::Witnesses;
 use sb_catalog::{Catalog, Rule};
 use sb_net::{is_triggered_anew, meets};
@@ -74,7 +74,7 @@ impl Database {
     {
         let now = log.now();
         let mut set = self.transactions.candidates(session).intersection(eligible);
-        let mut shared = SharedTest::new();
+        let mut shared = SharedTests::new();
         let mut next = 0;
         while let Some(rule) = set.first_from(next) {
             next = rule.index() + 1;
@@ -86,7 +86,7 @@ impl Database {
         set
     }
 
-    /// True if the session's changes since the rule's mark trigger it. The shared test answers where it can.
+    /// True if the session's changes since the rule's mark trigger it. Its table's shared test answers where it can.
     fn is_hit<L: ChangeLog>(
         &self,
         log: &L,
@@ -94,15 +94,15 @@ impl Database {
         session: SessionId,
         rule: RuleId,
         witnesses: &mut Witnesses,
-        shared: &mut SharedTest,
+        shared: &mut SharedTests,
     ) -> bool
         requires past { ArePast self.now.transactions session (L.clock log.now) }
         requires can { CanTest (who_in self.now session) self.now.transactions (L.records log.now)
             (numbered catalog.now rule) }
-        requires sound { IsSound (who_in self.now session) (L.records log.now) shared.old }
+        requires sound { AreSound (who_in self.now session) (L.records log.now) shared.old }
         ensures hit { result ≡ is_hit (who_in self.now session) self.now.transactions (L.records log.now)
             (numbered catalog.now rule) }
-        ensures sound { IsSound (who_in self.now session) (L.records log.now) shared.new }
+        ensures sound { AreSound (who_in self.now session) (L.records log.now) shared.new }
     {
         let Some(rule) = catalog.rule(rule) else {
             return false;
@@ -118,7 +118,7 @@ impl Database {
         if is_triggered_anew(log, who, rule.table, rule.triggers, since, tested, witness) {
             return true;
         }
-        shared.count_untriggered();
+        shared.count_untriggered(rule.table);
         false
     }
 }

@@ -18,7 +18,7 @@ use sb_rawlog::ChangeLog;
 use sb_value::{Refusal, SessionId, Transition};
 use std::alloc::{AllocError, Global};
 
-/// What a consideration came to, where nothing is refused.
+/// The result of a consideration in which nothing is refused.
 #[derive(Drop)]
 pub(crate) enum Consideration {
     False,

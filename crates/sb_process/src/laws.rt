@@ -3,7 +3,7 @@ ghost use Rattle.sb_process.specs.Sharing.{TablesAreShared};
 
 use sb_tables::changes_keep_places;
 
-/// Where each table is changed by one transaction at most, the transactions may be taken in any order.
+/// If each table is changed by one transaction at most, the transactions may be taken in any order.
 pub fn transactions_share_tables()
     ensures { TablesAreShared }
 {

@@ -33,7 +33,7 @@ use sb_value::{Refusal, RuleId, Verdict};
 use std::marker::Model;
 pub use transactions::Transactions;
 
-/// How rule processing ended.
+/// The end of rule processing.
 #[derive(Drop)]
 pub enum Outcome {
     Done,

@@ -67,7 +67,7 @@ fn reserve<L: ChangeLog>(
     tables.reserve(target, insert_count(changes))
 }
 
-/// How many of the changes are inserts.
+/// The number of inserts among the changes.
 fn insert_count(changes: &[Change]) -> usize
     ensures { result ≡ inserts changes.now }
 {

@@ -119,7 +119,7 @@ impl Transactions {
     }
 
     /// Takes a rule from the candidates of a session, where its changes up to the time were found not to trigger it.
-    /// Where there is no memory for that time, the rule is tested for these changes again.
+    /// If there is no memory for that time, the rule is tested for these changes again.
     pub fn leave(&mut self, session: SessionId, rule: RuleId, time: u64)
         ensures marks { (s r : ℕ) → mark_of self.new s r ≡ mark_of self.old s r }
         ensures tested { (t : ℕ) × ((t ≡ time) ⊎ (t ≡ tested_of self.old session rule))

@@ -22,7 +22,7 @@ pub(crate) struct View<'a> {
     pub(crate) who: Who,
 }
 
-/// Who sees the tables: a session, and the transition tables of its rule, or none.
+/// The viewer of the tables: a session, and the transition tables of its rule, or none.
 #[derive(Drop)]
 pub(crate) struct Viewer<'a> {
     pub(crate) session: SessionId,
@@ -30,7 +30,7 @@ pub(crate) struct Viewer<'a> {
 }
 
 impl Database {
-    /// What a statement of the viewer sees.
+    /// The tables that a statement of the viewer sees.
     pub(crate) fn view<'a>(&'a self, viewer: &Viewer<'a>) -> View<'a>
         ensures tables { result.tables.now ≡ self.now.tables }
         ensures transition { result.transition.now ≡ viewer.now.tables.now }
@@ -97,7 +97,7 @@ impl<'a> Sources for View<'a> {
     }
 }
 
-/// How many rows the table of that number has. One that isn't there has none.
+/// The number of rows of that table. A table that isn't there has none.
 fn table_len(tables: &Tables, table: TableId) -> usize
     ensures { result ≡ length (values (table_at (entries tables.now) table)) }
 {

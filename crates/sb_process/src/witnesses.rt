@@ -2,7 +2,7 @@
 
 use sb_value::RuleId;
 
-/// How many tuples are kept. Rules may share a place.
+/// The number of tuples that are kept. Rules may share a place.
 const PLACES: usize = 16;
 
 /// For the rules that are tested at an assertion point, a tuple that triggered them when they were tested last, if one is
