@@ -1,7 +1,7 @@
 //! Lists whose elements are the same.
 ghost use Rattle.std.specs.Prelude.{◌≡◌, IsTrue};
 
-/// What has a test by which two are the same.
+/// A type that has a test of equality for its model.
 pub(crate) trait Same {
     /// True if the two are the same.
     fn is_same(&self, other: &Self) -> bool

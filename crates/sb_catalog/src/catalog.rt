@@ -24,7 +24,7 @@ pub struct Catalog {
     active: RuleSet,
     /// Those of each rule, in the order of the rules.
     clauses: Vec<RuleClauses>,
-    /// How many bytes they are.
+    /// The number of bytes of both texts.
     clause_bytes: u64,
 }
 
@@ -255,7 +255,7 @@ impl Catalog {
         self.clauses.as_slice()
     }
 
-    /// How many bytes the clauses are: an estimate that nothing rests on but a tenant's limit of memory.
+    /// The number of bytes of the clauses. It is an estimate: only a tenant's limit of memory rests on it.
     pub fn clause_bytes(&self) -> u64 {
         self.clause_bytes
     }

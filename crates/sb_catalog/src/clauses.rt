@@ -12,7 +12,7 @@ use std::alloc::{AllocError, Global};
 /// The clauses of a rule, each with the spaces in front of it.
 #[derive(Drop)]
 pub struct RuleClauses {
-    /// What stands behind `on`: the table, `when` and the triggers.
+    /// The text behind `on`: the table, `when` and the triggers.
     pub event: Vec<u8>,
     /// The query behind `if`.
     pub condition: Option<Vec<u8>>,
@@ -47,7 +47,7 @@ impl RuleClauses {
         self.actions = actions;
     }
 
-    /// How many bytes they are.
+    /// The number of bytes of all clauses.
     pub fn len(&self) -> usize {
         let condition = match &self.condition {
             Some(condition) => condition.len(),
@@ -134,7 +134,7 @@ fn clause<'l>(line: &'l [u8], tokens: &[Token], word: TokenKind) -> Option<&'l [
     }
 }
 
-/// Where the first token of that kind ends, and the tokens behind it.
+/// The end of the first token of that kind, and the tokens behind it.
 #[tactic(auto, unfolding(sb_syntax::specs::Input::same_kind))]
 fn behind(tokens: &[Token], word: TokenKind) -> Option<(u32, &[Token])>
     ensures { option_map (λ b. (b.0, b.1.now)) result ≡ spec.behind word tokens.now }
@@ -149,7 +149,7 @@ fn behind(tokens: &[Token], word: TokenKind) -> Option<(u32, &[Token])>
     None
 }
 
-/// Where a clause ends that begins at that place, with these tokens behind it.
+/// The end of a clause that begins at that place, with these tokens behind it.
 fn end_of(place: u32, tokens: &[Token]) -> u32
     ensures { result ≡ spec.end_of place (spec.inside tokens.now) }
 {

@@ -138,7 +138,8 @@ impl Definitions {
         }
     }
 
-    /// Gives a rule new parts with their clauses, and new pairs. Everything that can be refused is looked at before anything changes.
+    /// Gives a rule new parts with their clauses, and new pairs. Everything that can be refused is looked at before
+    /// anything changes.
     pub fn alter_rule(
         &mut self,
         alloc: Global,

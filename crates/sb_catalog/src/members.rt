@@ -4,7 +4,7 @@ ghost use Rattle.sb_catalog.specs.Members.{changed_members, with_rules, without_
 
 use sb_value::{RuleId, RuleSet};
 
-/// What is done with the rules of a list.
+/// Adds the rules of a list to a ruleset, or takes them out of it.
 #[derive(Clone, Copy)]
 pub enum MemberChange {
     Added,

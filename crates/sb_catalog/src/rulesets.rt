@@ -11,7 +11,7 @@ use sb_value::{Name, Refusal, RuleId, RuleSet};
 use std::alloc::Global;
 use std::marker::Model;
 
-/// How many rulesets a tenant has at most.
+/// A tenant has at most this many rulesets.
 pub const RULESET_LIMIT: usize = 16;
 
 /// The rulesets in order of creation, found by name in constant time.

@@ -336,7 +336,7 @@ impl Cell {
         }
     }
 
-    /// How many changes the open transactions of its tenants have.
+    /// The number of changes of its tenants' open transactions.
     pub fn log_len(&self) -> usize
         ensures { result ≡ length self.now.records }
     {
@@ -416,7 +416,7 @@ fn opened(
     Ok(made)
 }
 
-/// How many numbers below `tenants` are `first` and a multiple of `stride`.
+/// The number of tenants below `tenants` that are `first` and a multiple of `stride`.
 fn place_count(first: u32, stride: u32, tenants: u32) -> u32
     requires { first < stride }
     ensures count { ArePlacesBelow first stride tenants result }

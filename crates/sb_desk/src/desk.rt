@@ -34,7 +34,7 @@ pub enum CallError {
     Ended,
 }
 
-/// What a renewal gives: the tenant that there was, and a part of the ledger for each entry of the new trail.
+/// The result of a renewal: the tenant that there was, and a part of the ledger for each entry of the new trail.
 pub struct Renewed<N: Naming> {
     pub old: Tenant,
     pub parts: Share<N>,
@@ -57,7 +57,7 @@ impl<N: Naming> Renewed<N> {
     }
 }
 
-/// What a renewal that wasn't done gives back.
+/// A renewal that wasn't done gives this back.
 pub struct NotRenewed<N: Naming> {
     pub refused: Unrenewed,
     pub parts: Share<N>,
@@ -73,7 +73,7 @@ impl<N: Naming> Drop for NotRenewed<N> {
 }
 
 impl<N: Naming> NotRenewed<N> {
-    /// What the cell gave back, and the parts.
+    /// The tenant that the cell gave back, and the parts.
     pub fn into_parts(self) -> (Unrenewed, Share<N>)
         ensures refused { result.0 ≡ self.refused }
         ensures parts { result.1.parts ≡ self.parts.parts }
@@ -83,7 +83,7 @@ impl<N: Naming> NotRenewed<N> {
     }
 }
 
-/// What the lock of the cell `FIRST` holds. To a contract it is the cell.
+/// The value in the lock of the cell `FIRST`. To a contract it is the cell.
 pub struct Desk<N: Naming, const FIRST: u32> {
     cell: Cell,
     share: Share<N>,
@@ -315,7 +315,7 @@ impl<N: Naming, const FIRST: u32> Desk<N, FIRST> {
     }
 }
 
-/// Where a desk has a session's seat.
+/// The place of a session's seat in a desk.
 fn seat_place(tenant: u32, session: SessionId, cells: u32) -> usize
     requires { (0 < cells) × (tenant < 256) }
     ensures { result ≡ 8 * (tenant / cells) + session }

@@ -58,11 +58,11 @@ pub trait Hosting: Copy {
     // how many cells it has
     ghost cells: { ℕ };
 
-    /// How many tenants it has.
+    /// The number of tenants.
     fn tenants(&self) -> u32
         ensures { result ≡ tenants self.now };
 
-    /// How many cells it has. A tenant's is its number modulo this one.
+    /// The number of cells. A tenant's cell is its number modulo this one.
     fn cells(&self) -> u32
         ensures is { result ≡ cells }
         ensures some { 0 < result };

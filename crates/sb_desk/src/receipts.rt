@@ -25,7 +25,7 @@ impl Drop for Receipt {
     }
 }
 
-/// Where the answer of the newest call is.
+/// The place of the newest call's answer.
 #[derive(Drop)]
 pub(crate) enum Newest {
     Nothing,
@@ -33,7 +33,7 @@ pub(crate) enum Newest {
     Beside(Answer),
 }
 
-/// What an open session holds: its seat, and the line of its end.
+/// An open session holds its seat and the line of its end.
 #[derive(Drop)]
 pub(crate) struct Opening {
     pub(crate) seat: SessionSeat,

@@ -7,7 +7,7 @@ use atomic_table::{Join, Play, Seat, Shared, Split, Table, TableRule};
 use std::alloc::{AllocError, Global};
 use std::collections::LinkedList;
 
-/// What a seat knows: numbers of sessions. No value of it is made.
+/// The knowledge of a seat: numbers of sessions. No value of it is made.
 pub type Numbers = LinkedList<u64>;
 
 /// No number stands twice.
@@ -56,7 +56,7 @@ impl Play<(), Numbers> for Looks {
 /// The seat of a session, or of several.
 pub type SessionSeat = Seat<(), Numbers>;
 
-/// What all that have a seat share.
+/// The value that all seats share.
 pub type SeatTable = Shared<(), Numbers, usize, OnceEach>;
 
 /// The table with its word.

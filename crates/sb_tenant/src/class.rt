@@ -34,7 +34,7 @@ pub(crate) fn class_of(command: &Command) -> Class
 }
 
 impl Phases {
-    /// What a session refuses a command of this class for.
+    /// The reason for which a session refuses a command of this class.
     pub(crate) fn refusal(&self, class: Class, session: SessionId) -> Option<Refusal>
         ensures { result ≡ phase_refusal (class_seen class) self.now session }
     {

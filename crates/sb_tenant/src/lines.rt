@@ -7,7 +7,7 @@ use std::alloc::{AllocError, Global};
 /// The longest line that is kept.
 const SHORT: usize = 12;
 
-/// How many lines are kept.
+/// The number of lines that are kept.
 const KEPT: usize = 4;
 
 /// The first short lines that came: such as `begin` and `commit`, of at most 12 bytes.

@@ -24,12 +24,12 @@ use sb_rawlog::ChangeLog;
 use sb_value::{RuleSet, SessionId};
 use std::alloc::{AllocError, Global};
 
-/// What becomes of a transaction in which no rule is left.
+/// The fate of a transaction in which no rule is left.
 #[derive(Clone, Copy)]
 pub(crate) enum Finish {
     /// It goes on.
     GoOn,
-    /// What it has changed is kept.
+    /// Its changes are kept.
     Commit,
 }
 

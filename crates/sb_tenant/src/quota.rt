@@ -20,7 +20,7 @@ const CONSIDERED_BYTES: usize = 40;
 /// The name of the rule that ended a transaction takes so many bytes apart from its reply, and so does its refusal.
 const APART_BYTES: usize = 48;
 
-/// What a tenant's trail, its open transactions and the texts of its rules take, and how much that may be, in bytes.
+/// The bytes that a tenant's trail, its open transactions and the texts of its rules take, and the limit of them.
 #[derive(Clone, Copy)]
 pub(crate) struct Quota {
     limit: Option<u64>,
@@ -54,14 +54,14 @@ impl Quota {
         self.limit = other.limit;
     }
 
-    /// What is taken, in bytes.
+    /// The bytes that are taken.
     pub(crate) fn taken(&self) -> u64
         ensures { result ≡ self.now.taken }
     {
         self.taken
     }
 
-    /// How many changes the open transactions have.
+    /// The number of changes of the open transactions.
     pub(crate) fn changes(&self) -> u64
         ensures { result ≡ self.now.changes }
     {
@@ -105,7 +105,7 @@ impl Quota {
     }
 }
 
-/// What a reply takes beside its entry.
+/// The bytes that a reply takes beside its entry.
 fn reply_bytes(reply: &Reply) -> usize {
     match reply {
         Reply::Rows(rows) => text_bytes(rows),

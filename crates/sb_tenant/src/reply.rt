@@ -200,7 +200,7 @@ impl RuleError {
     }
 }
 
-/// What a command is answered.
+/// The answer to a command.
 pub enum Reply {
     Ok,
     /// The number of changes.
@@ -255,7 +255,7 @@ impl Reply {
 
 /// A reply with the number of its step, if it was one.
 pub struct Answer {
-    /// Which step of the tenant it was, from 1.
+    /// The number of this step among the tenant's steps, from 1.
     pub number: Option<u32>,
     pub reply: Reply,
 }

@@ -40,10 +40,10 @@ impl Drop for Store {
     }
 }
 
-/// How a session's transaction ends.
+/// The end of a session's transaction.
 #[derive(Clone, Copy)]
 pub(crate) enum Ending {
-    /// What it has changed is kept.
+    /// Its changes are kept.
     Keep,
     /// All of it is taken back.
     TakeBack,

@@ -122,13 +122,13 @@ impl Tenant {
         self.quota.set_limit(bytes);
     }
 
-    /// What its trail, its open transactions and the texts of its rules take, in bytes, as its limit counts them: an estimate that nothing rests
+    /// The bytes that its trail, its open transactions and the texts of its rules take, as its limit counts them: an estimate that nothing rests
     /// on but the limit.
     pub fn bytes_taken(&self) -> u64 {
         self.quota.taken()
     }
 
-    /// How many changes its open transactions have in the log: a count for people, that nothing rests on.
+    /// The number of changes that its open transactions have in the log: a count for people, that nothing rests on.
     pub fn changes_kept(&self) -> u64 {
         self.quota.changes()
     }
@@ -147,7 +147,7 @@ impl Tenant {
         self.bound
     }
 
-    /// Which volume of its life its trail is.
+    /// The volume of its life that its trail is.
     pub fn volume(&self) -> Volume
         ensures { result ≡ self.now.volume }
     {

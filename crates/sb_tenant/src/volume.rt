@@ -2,12 +2,12 @@
 ghost use Rattle.std.specs.Prelude.{◌≡◌, SomeIff};
 ghost use Rattle.sb_tenant.specs.Volumes.{HasFollowing, first_volume, following};
 
-/// Which part of its tenant's life a trail is.
+/// The place of a trail in its tenant's life.
 #[derive(Clone, Copy, Debug, PartialEq, Eq)]
 pub struct Volume {
-    /// How many volumes ended before it.
+    /// The number of volumes that ended before it.
     pub number: u64,
-    /// How many entries the tenant's sessions made in those.
+    /// The number of entries that the tenant's sessions made in those.
     pub before: u64,
     /// With how many entries its own trail began, which none of the tenant's sessions made.
     pub opening: u64,
