@@ -4,13 +4,14 @@ ghost use Rattle.sb_dump.specs.Dumps.{Dumps, is_busy};
 ghost use Rattle.sb_dump.specs.declared.dumps.DumpError.TheVariants.{Busy};
 ghost use Rattle.sb_tenant.specs.Tenant.{state};
 
+use crate::copy::draft_of;
 use crate::draft::Draft;
 use crate::order::{write_order, write_rulesets};
 use crate::play::{SendFault, only_tenant, play};
 use crate::rules::{write_inactive, write_rules};
 use crate::script::Script;
 use crate::tables::write_tables;
-use sb_alike::{are_alike, is_busy};
+use sb_alike::are_alike;
 use sb_tenant::Tenant;
 use std::alloc::{AllocError, Global};
 
@@ -32,12 +33,7 @@ pub fn dump(alloc: Global, tenant: &Tenant, bound: u32) -> Result<Script, DumpEr
     ensures ok { IfOk result (Dumps bound tenant.now) }
     ensures busy { (result ≡ Err Busy) ↔ (is_busy (state tenant.now) ≡ true) }
 {
-    if is_busy(tenant) {
-        return Err(DumpError::Busy);
-    }
-    let Ok(script) = write(alloc, tenant) else {
-        return Err(DumpError::NoMemory);
-    };
+    let script = draft_of(alloc, tenant)?;
     match play(alloc, tenant.id(), bound, script.lines()) {
         Ok(cell) => match only_tenant(&cell, tenant.id()) {
             Some(copy) if are_alike(copy, tenant) => Ok(script),
@@ -49,7 +45,7 @@ pub fn dump(alloc: Global, tenant: &Tenant, bound: u32) -> Result<Script, DumpEr
 }
 
 /// The lines that are meant to make the tenant.
-fn write(alloc: Global, tenant: &Tenant) -> Result<Script, AllocError> {
+pub(crate) fn write(alloc: Global, tenant: &Tenant) -> Result<Script, AllocError> {
     let mut draft = Draft::new(alloc);
     let definitions = tenant.definitions();
     write_tables(alloc, &mut draft, tenant.tables())?;
