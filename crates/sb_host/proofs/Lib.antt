@@ -1,9 +1,12 @@
 pub mod Dealing
 pub mod Numbers
 pub mod Rising
-pub mod Receipts
+pub mod Wanted
 pub mod Rows
 pub mod Trails
 pub mod Refusals
 pub mod Closing
 pub mod Sending
+pub mod Counting
+pub mod VolumeRows
+pub mod Renewals

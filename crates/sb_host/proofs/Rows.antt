@@ -1,7 +1,9 @@
 -- The receipts of stubs, gathered in rows.
 use Rattle.std.proofs.Common.{◌≡◌, ℕ, zero, suc, ◌+◌, ◌<◌, ◌≤◌, ◌==◌, ◌&&◌, Bool, true, false, cond, nat_le, MatchOption, List, [], ◌∷◌, ◌++◌, length, set, Option, Some, None, Vec, refl, sym, ap, ◌∙◌, subst, inl, inr, ◌⊎◌, append_assoc, append-nil, length-append, eq-eqb, eqb-true, arith}
 use Rattle.std.specs.Global.{Global}
-use Rattle.std.proofs.lemmas.Bool.{and_parts, cases_eq, leb-false, leb-true, true≢false}
+use Rattle.std.specs.List.Sorted.{IsPermutation}
+use Rattle.std.proofs.lemmas.Bool.{and_parts, cases_eq, leb-false, leb-true, ne_eqb, true≢false}
+use Rattle.std.proofs.lemmas.List.Sorted.{IsPermutation-refl}
 use Rattle.sb_tenant.specs.Limits.{session_count}
 use Rattle.sb_desk.specs.declared.receipts.Receipt.{Receipt}
 use Rattle.sb_host.specs.declared.gathering.SessionPlace.{SessionPlace}
@@ -45,14 +47,26 @@ module _ {A : Type 0} where
   kept_by_set P (w ∷ ws) (suc n) v all one zero = all zero
   kept_by_set P (w ∷ ws) (suc n) v all one (suc k) = kept_by_set (λ j. P (suc j)) ws n v (λ j. all (suc j)) one k
 
+  -- the rows of other places are as they were, and this one is another order of what it was
+  pub reordered_by_set : (rows : List (Vec A Global)) (n : ℕ) (v : Vec A Global) → IsPermutation (row_at rows n) v.items → (k : ℕ) → IsPermutation (row_at rows k) (row_at (set rows n v) k)
+  reordered_by_set rows n v same = kept_by_set (λ k l. IsPermutation (row_at rows k) l) rows n v (λ k. IsPermutation-refl (row_at rows k)) same
+
+  -- a row that is laid at a place
+  pub row_laid : (rows : List (Vec A Global)) (at : ℕ) (v : Vec A Global) (n : ℕ) → at < length rows → row_at (set rows at v) n ≡ cond (at == n) v.items (row_at rows n)
+  row_laid rows at v n within = by (cases_eq at n)
+    where
+      by : (at ≡ n) ⊎ (at ≡ n → ⊥) → row_at (set rows at v) n ≡ cond (at == n) v.items (row_at rows n)
+      by (inl same) = ap (row_at (set rows at v)) (sym same) ∙ row_set rows at v within ∙ sym (ap (λ b. cond b v.items (row_at rows n)) (eq-eqb at n same))
+      by (inr other) = row_stays rows at n v (λ e. other (sym e)) ∙ sym (ap (λ b. cond b v.items (row_at rows n)) (ne_eqb at n other))
+
 -- ---- stubs
 
 pub gathered-more : (t s : ℕ) (xs : List Stub) (x : Stub) → gathered t s (xs ++ x ∷ []) ≡ gathered t s xs ++ receipts_in t s x
 gathered-more t s [] x = append-nil (receipts_in t s x)
 gathered-more t s (y ∷ ys) x = ap (λ l. receipts_in t s y ++ l) (gathered-more t s ys x) ∙ sym (append_assoc (receipts_in t s y) (gathered t s ys) (receipts_in t s x))
 
-own : (t s : ℕ) (x : Stub) → x.tenant ≡ t → x.session ≡ s → receipts_in t s x ≡ x.receipts.items
-own t s x e f = by (x.tenant == t) (x.session == s) (eq-eqb x.tenant t e) (eq-eqb x.session s f)
+pub own_in : (t s : ℕ) (x : Stub) → x.tenant ≡ t → x.session ≡ s → receipts_in t s x ≡ x.receipts.items
+own_in t s x e f = by (x.tenant == t) (x.session == s) (eq-eqb x.tenant t e) (eq-eqb x.session s f)
   where
     by : (a b : Bool) → a ≡ true → b ≡ true → cond (a && b) x.receipts.items [] ≡ x.receipts.items
     by true true h k = refl
@@ -60,8 +74,8 @@ own t s x e f = by (x.tenant == t) (x.session == s) (eq-eqb x.tenant t e) (eq-eq
     by false b h k = absurd (true≢false (sym h))
 
 -- a stub of another session, or without receipts, has none
-pub others : (t s : ℕ) (x : Stub) → ((x.tenant ≡ t) × (x.session ≡ s) → ⊥) → receipts_in t s x ≡ []
-others t s x h = by ((x.tenant == t) && (x.session == s)) (λ e. let p = and_parts (x.tenant == t) (x.session == s) e in h (eqb-true _ _ p.0, eqb-true _ _ p.1))
+pub others_in : (t s : ℕ) (x : Stub) → ((x.tenant ≡ t) × (x.session ≡ s) → ⊥) → receipts_in t s x ≡ []
+others_in t s x h = by ((x.tenant == t) && (x.session == s)) (λ e. let p = and_parts (x.tenant == t) (x.session == s) e in h (eqb-true _ _ p.0, eqb-true _ _ p.1))
   where
     by : (b : Bool) → (b ≡ true → ⊥) → cond b x.receipts.items [] ≡ []
     by true k = absurd (k refl)
@@ -86,15 +100,15 @@ deals rows x v own_small within is t s small = by (cases_eq (rank t s) (rank x.t
         ∙ row_set rows (rank x.tenant x.session) v within
         ∙ is
         ∙ ap (λ (k : ℕ). row_at rows k ++ x.receipts.items) (sym e)
-        ∙ ap (λ l. row_at rows (rank t s) ++ l) (sym (own t s x (omega (arith, e)) (omega (arith, e))))
+        ∙ ap (λ l. row_at rows (rank t s) ++ l) (sym (own_in t s x (omega (arith, e)) (omega (arith, e))))
     by (inr other) =
         row_stays rows (rank x.tenant x.session) (rank t s) v other
         ∙ sym (append-nil (row_at rows (rank t s)))
-        ∙ ap (λ l. row_at rows (rank t s) ++ l) (sym (others t s x (λ e. other (omega (arith, e.0, e.1)))))
+        ∙ ap (λ l. row_at rows (rank t s) ++ l) (sym (others_in t s x (λ e. other (omega (arith, e.0, e.1)))))
 
 pub deals_none : (rows : List (Vec Receipt Global)) (x : Stub) (t s : ℕ) → t < x.tenant → row_at rows (rank t s) ≡ row_at rows (rank t s) ++ receipts_in t s x
 deals_none rows x t s far =
-    sym (append-nil (row_at rows (rank t s))) ∙ ap (λ l. row_at rows (rank t s) ++ l) (sym (others t s x (λ e. omega (arith, e.0))))
+    sym (append-nil (row_at rows (rank t s))) ∙ ap (λ l. row_at rows (rank t s) ++ l) (sym (others_in t s x (λ e. omega (arith, e.0))))
 
 -- ---- the first stray
 
@@ -116,7 +130,7 @@ module _ (tenants : ℕ) (xs : List Stub) (x : Stub) where
   stays_first (Some p) quiet h = (h.0, h.1, λ e. h.2 (sym (more p.tenant p.session (quiet p.tenant p.session h.0)) ∙ e), λ t s far small before. more t s (quiet t s far) ∙ h.3 t s far small before)
 
   pub quiet_within : x.tenant < tenants → (t s : ℕ) → tenants ≤ t → receipts_in t s x ≡ []
-  quiet_within h t s far = others t s x (λ e. omega (arith, e.0))
+  quiet_within h t s far = others_in t s x (λ e. omega (arith, e.0))
 
   pub quiet_empty : x.receipts.items ≡ [] → (t s : ℕ) → tenants ≤ t → receipts_in t s x ≡ []
   quiet_empty h t s far = none_in t s x h
@@ -127,7 +141,7 @@ module _ (tenants : ℕ) (xs : List Stub) (x : Stub) where
     h.0,
     h.1,
     λ e. h.2 (append_empty (gathered p.tenant p.session xs) (receipts_in p.tenant p.session x) (sym (gathered-more p.tenant p.session xs x) ∙ e)),
-    λ t s far small before. more t s (others t s x (λ e. omega (arith, e.0, e.1))) ∙ h.3 t s far small before,
+    λ t s far small before. more t s (others_in t s x (λ e. omega (arith, e.0, e.1))) ∙ h.3 t s far small before,
   )
 
   -- a stub of the first session so far
@@ -136,8 +150,8 @@ module _ (tenants : ℕ) (xs : List Stub) (x : Stub) where
   comes_first far small some before = (
     far,
     small,
-    λ e. some (sym (own x.tenant x.session x refl refl) ∙ right (gathered x.tenant x.session xs) (receipts_in x.tenant x.session x) (sym (gathered-more x.tenant x.session xs x) ∙ e)),
-    λ t s far' small' h. more t s (others t s x (λ e. omega (arith, e.0, e.1))) ∙ before t s far' small' h,
+    λ e. some (sym (own_in x.tenant x.session x refl refl) ∙ right (gathered x.tenant x.session xs) (receipts_in x.tenant x.session x) (sym (gathered-more x.tenant x.session xs x) ∙ e)),
+    λ t s far' small' h. more t s (others_in t s x (λ e. omega (arith, e.0, e.1))) ∙ before t s far' small' h,
   )
     where
       right : (xs ys : List Receipt) → xs ++ ys ≡ [] → ys ≡ []

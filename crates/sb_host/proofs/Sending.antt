@@ -57,6 +57,7 @@ use Rattle.sb_desk.specs.contracts.desk.Desk.TheInside as desk
 use Rattle.sb_desk.proofs.receipts.Receipts.TheSendSync as receipts
 use Rattle.sb_host.specs.contracts.lock_group.LockGroup as LockGroup
 use Rattle.sb_host.specs.contracts.lock_group.LockGroup.TheInside as lock_group
+use Rattle.sb_host.proofs.closed_parts.ClosedParts.TheSendSync as closed_parts
 use Rattle.sb_host.specs.contracts.host.Host as Host
 use Rattle.sb_host.specs.contracts.host.Host.TheInside as host
 use Rattle.sb_host.specs.contracts.session.Session as Session
@@ -126,7 +127,7 @@ module _ (N : RattleType) (n : naming.Ghosts N.Denot) (l : ledger.Ghosts N.Denot
   lock_group_sync A B C D = view_sync (lock_group.the_row N A B C D n l) _ _ _ _ (search (sendable, crosses, frees, held_sync) depth 40)
 
   pub host_sync : IsSync (Host.the_row N n l)
-  host_sync = view_sync (host.the_row N n l) _ _ _ _ (search (sendable, crosses, frees, send, sync, lock_group_sync, seats.the_field_sync) depth 40)
+  host_sync = view_sync (host.the_row N n l) _ _ _ _ (search (sendable, crosses, frees, send, sync, lock_group_sync, seats.the_field_sync, closed_parts.the_field_sync) depth 40)
 
   pub session_send : (κ : NamedLft) → IsSend (Session.the_row κ N n l)
   session_send κ = view_send (session.the_row κ N n l) _ _ _ _ (search (sendable, crosses, host_sync, receipts.the_send) depth 40)

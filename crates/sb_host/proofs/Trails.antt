@@ -1,5 +1,5 @@
 -- The trails of a host's cells, at the places of their tenants.
-use Rattle.std.proofs.Common.{◌≡◌, ℕ, zero, suc, ◌+◌, ◌%◌, ◌<◌, ◌≤◌, ◌==◌, ◌&&◌, true, cond, nat_lt, All, List, [], ◌∷◌, length, get_or, set, Some, Vec, refl, sym, ap, ◌∙◌, subst, inl, inr, ◌⊎◌, arith}
+use Rattle.std.proofs.Common.{◌≡◌, ℕ, zero, suc, ◌+◌, ◌%◌, ◌<◌, ◌≤◌, ◌==◌, ◌&&◌, true, cond, nat_lt, All, List, [], ◌∷◌, length, get_or, Some, Vec, refl, sym, ap, ◌∙◌, subst, inl, inr, ◌⊎◌, arith}
 use Rattle.std.specs.Global.{Global}
 use Rattle.std.specs.List.{Contains}
 use Rattle.std.proofs.lemmas.Bool.{and_from, and_parts, cases_eq, eq-eqb, eqb-true, lt-ltb, ne_eqb}
@@ -9,15 +9,6 @@ use Rattle.sb_tenant.specs.Tenant.{Tenant}
 use Rattle.sb_cell.specs.Tenants.{Cell, hosts, tenant_at, trail_of, trails as trail_in}
 use Rattle.sb_host.specs.Comparing.{AreTrailsOf, trail_by}
 use Rattle.sb_host.specs.Finish.{IsKept, row_at}
-use Rattle.sb_host.proofs.Rows.{row_set, row_stays}
-
--- a row that is laid at a place
-pub row_laid : (rows : List (Vec Entry Global)) (at : ℕ) (v : Vec Entry Global) (n : ℕ) → at < length rows → row_at (set rows at v) n ≡ cond (at == n) v.items (row_at rows n)
-row_laid rows at v n within = by (cases_eq at n)
-  where
-    by : (at ≡ n) ⊎ (at ≡ n → ⊥) → row_at (set rows at v) n ≡ cond (at == n) v.items (row_at rows n)
-    by (inl same) = ap (row_at (set rows at v)) (sym same) ∙ row_set rows at v within ∙ sym (ap (λ b. cond b v.items (row_at rows n)) (eq-eqb at n same))
-    by (inr other) = row_stays rows at n v (λ e. other (sym e)) ∙ sym (ap (λ b. cond b v.items (row_at rows n)) (ne_eqb at n other))
 
 module _ (n : ℕ) (own : List Entry) where
   step : (t : Tenant) (held : List Entry) → (t.id ≡ n → t.trail ≡ own) → ((t.id ≡ n → ⊥) → held ≡ own) → cond (t.id == n) t.trail held ≡ own

@@ -8,3 +8,5 @@ pub mod Parts
 pub mod Fields
 pub mod LockGroups
 pub mod Desk
+pub mod Renewal
+pub mod Renewing

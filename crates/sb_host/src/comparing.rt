@@ -1,16 +1,20 @@
 //! The receipts of a session against its entries.
 ghost use Rattle.std.specs.Prelude.{ℕ, ◌≡◌, ◌*◌, ◌<◌, ◌≤◌, length, IfErr, OnOk};
+ghost use Rattle.std.specs.List.Sorted.{IsPermutation};
 ghost use Rattle.sb_desk.specs.Receipts.{receipts_of};
 ghost use Rattle.sb_host.specs.Comparing.{Compares, Lists, RowAgrees, RowFails, SeesMore, Tells, TellsAt, due_at, due_of, wanted_of};
 ghost use Rattle.sb_host.specs.Finish.{row_at, step_of};
+ghost use Rattle.sb_host.specs.Renewal.{AllAreEntries};
+ghost use Rattle.sb_host.specs.Renewing.{DiffersFirst};
 
 use crate::equal::{same_bytes, same_reply};
 use crate::finish::FinishError;
+use crate::renewal::RenewError;
 use sb_desk::Receipt;
 use sb_tenant::Entry;
 use sb_value::{SESSION_LIMIT, SessionId};
 
-/// How receipts compare with entries.
+/// The result of comparing receipts with entries.
 #[derive(Clone, Copy)]
 pub(crate) enum ReceiptComparison {
     Equal,
@@ -18,7 +22,7 @@ pub(crate) enum ReceiptComparison {
     Different,
 }
 
-/// How many entries of a session were seen, and whether the receipts are the same so far.
+/// The number of entries of a session that were seen, and whether the receipts are the same so far.
 #[derive(Clone, Copy)]
 pub(crate) struct SeenEntries {
     pub(crate) count: usize,
@@ -47,7 +51,7 @@ pub(crate) fn check_all(
     Ok(())
 }
 
-/// How the row of that rank compares with the entries of its session.
+/// Compares the row of that rank with the entries of its session.
 fn check_row(trails: &[Vec<Entry>], rows: &mut Vec<Vec<Receipt>>, at: usize) -> ReceiptComparison
     requires there { at < length rows.old.items }
     requires rows { length rows.old.items ≡ 8 * length trails.now }
@@ -57,13 +61,49 @@ fn check_row(trails: &[Vec<Entry>], rows: &mut Vec<Vec<Receipt>>, at: usize) -> 
 {
     let trail = trails[at / SESSION_LIMIT].as_slice();
     let session = SessionId::new((at % SESSION_LIMIT) as u8);
+    check_at(trail, session, rows, at)
+}
+
+/// Checks the rows of a tenant's sessions against its trail. Each is sorted then.
+pub(crate) fn check_rows(trail: &[Entry], rows: &mut Vec<Vec<Receipt>>) -> Result<(), RenewError>
+    requires { length rows.old.items ≡ 8 }
+    ensures ok { OnOk result (AllAreEntries trail.now (row_at rows.old.items)) }
+    ensures err { IfErr result (λ e. DiffersFirst trail.now (row_at rows.old.items) e) }
+    ensures count { length rows.new.items ≡ length rows.old.items }
+    ensures same { (k : ℕ) → IsPermutation (row_at rows.old.items k) (row_at rows.new.items k) }
+{
+    for at in 0..SESSION_LIMIT {
+        let session = SessionId::new(at as u8);
+        match check_at(trail, session, rows, at) {
+            ReceiptComparison::Equal => {}
+            ReceiptComparison::Fewer => return Err(RenewError::Missing(session)),
+            ReceiptComparison::Different => return Err(RenewError::Mismatch(session)),
+        }
+    }
+    Ok(())
+}
+
+/// Compares the row at that place with the entries of a session. It is sorted.
+fn check_at(
+    trail: &[Entry],
+    session: SessionId,
+    rows: &mut Vec<Vec<Receipt>>,
+    at: usize,
+) -> ReceiptComparison
+    requires { at < length rows.old.items }
+    ensures found { Compares (row_at rows.old.items at) (receipts_of session 1 trail.now) result }
+    ensures count { length rows.new.items ≡ length rows.old.items }
+    ensures others { (k : ℕ) → (k ≡ at → ⊥) → row_at rows.new.items k ≡ row_at rows.old.items k }
+    ensures same { (k : ℕ) → IsPermutation (row_at rows.old.items k) (row_at rows.new.items k) }
+{
     let row = &mut rows[at];
     check(trail, session, row)
 }
 
-/// How the receipts, in whatever order, compare with the entries of their session.
+/// Compares the receipts, in whatever order, with the entries of their session. They are sorted.
 fn check(trail: &[Entry], session: SessionId, receipts: &mut Vec<Receipt>) -> ReceiptComparison
-    ensures { Compares receipts.old.items (receipts_of session 1 trail.now) result }
+    ensures found { Compares receipts.old.items (receipts_of session 1 trail.now) result }
+    ensures same { IsPermutation receipts.old.items receipts.new.items }
 {
     receipts.sort_unstable_by_key(|receipt| step_number(receipt));
     compare(trail, session, receipts.as_slice())
@@ -79,7 +119,7 @@ pub fn step_number(receipt: &Receipt) -> u32
     }
 }
 
-/// How the receipts, in this order, compare with the entries of their session.
+/// Compares the receipts, in this order, with the entries of their session.
 fn compare(trail: &[Entry], session: SessionId, receipts: &[Receipt]) -> ReceiptComparison
     ensures { Lists receipts.now (receipts_of session 1 trail.now) result }
 {

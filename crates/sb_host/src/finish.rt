@@ -25,7 +25,7 @@ impl Drop for Report {
 }
 
 impl Report {
-    /// How many entries all trails have, if that is a number.
+    /// The number of entries of all trails, if that is a number.
     pub fn steps(&self) -> Option<u64>
         ensures { IfSome result (λ steps. steps ≡ steps_in self.now.trails.items) }
     {
@@ -33,7 +33,7 @@ impl Report {
     }
 }
 
-/// How many entries these trails have.
+/// The number of entries of these trails.
 fn steps_of(trails: &[Vec<Entry>]) -> Option<u64>
     ensures { IfSome result (λ steps. steps ≡ steps_in trails.now) }
 {

@@ -4,6 +4,7 @@ ghost use Rattle.sb_desk.specs.Calls.{Attached, Called, IsRefused, IsNewcomer, L
 ghost use Rattle.sb_host.specs.Finish.{AreTrails};
 ghost use Rattle.sb_host.specs.Lending.{Lends};
 
+use crate::closed_parts::ClosedParts;
 use crate::gathering::blank;
 use crate::lock_group::LockGroup;
 use crate::locks::Reach;
@@ -22,6 +23,7 @@ pub struct Host<N: Naming> {
     pub(crate) tenants: u32,
     pub(crate) cells: u32,
     pub(crate) seats: Seats,
+    pub(crate) closed_parts: ClosedParts<N>,
     /// The locks of the cells 0 to 3, 4 to 7 and so on.
     pub(crate) first: LockGroup<N, 0, 1, 2, 3>,
     pub(crate) second: LockGroup<N, 4, 5, 6, 7>,
@@ -35,6 +37,7 @@ impl<N: Naming> Drop for Host<N> {
             tenants: _,
             cells: _,
             seats: _,
+            closed_parts: _,
             first: _,
             second: _,
             third: _,
@@ -214,6 +217,7 @@ impl<N: Naming> Host<N> {
             tenants: _,
             cells: _,
             seats: _,
+            closed_parts: _,
             first,
             second,
             third,

@@ -1,6 +1,7 @@
 //! Cells behind locks, sessions that call them from any thread, and the closing check.
 #![tactic(auto)]
 
+mod closed_parts;
 mod comparing;
 mod equal;
 mod finish;
@@ -13,7 +14,10 @@ mod lock_group;
 mod locks;
 mod opening;
 mod reading;
+mod renewal;
 mod session;
+mod tenant_renewal;
+mod volume_stubs;
 
 pub use comparing::step_number;
 pub use finish::{FinishError, Report};
@@ -21,6 +25,11 @@ pub use host::Host;
 pub use lending::Lending;
 pub use opening::Opened;
 pub use reading::{Reading, Tried};
-pub use sb_desk::{AttachError, CallError, Calling, Gate, Hosting, Naming, NoGate, Receipt, Stub};
+pub use renewal::RenewError;
+pub use sb_cell::RenewalError;
+pub use sb_desk::{
+    AttachError, CallError, Calling, Gate, Hosting, Naming, NoGate, Receipt, Receipts, Stub,
+};
 pub use sb_value::{SESSION_LIMIT, SessionId};
 pub use session::Session;
+pub use tenant_renewal::{NotRenewed, Renewal, Renewing};

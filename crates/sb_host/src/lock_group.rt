@@ -5,14 +5,17 @@ ghost use Rattle.sb_host.specs.Comparing.{AreTrailsOf};
 ghost use Rattle.sb_host.specs.Lending.{Lends};
 ghost use Rattle.sb_host.specs.Opening.{IsSeatOf, MayBe, left_at};
 ghost use Rattle.sb_host.specs.LockGroups.{AreInRow};
+ghost use Rattle.sb_host.specs.Renewing.{IsOpening, KeepsRows, VolumeIsRenewed, VolumeIsUnrenewed};
 
 use crate::finish::put;
-use crate::locks::{Lock, Reach, admit_in, enter_in, leave_in, read_in, try_read_in};
+use crate::locks::{Lock, Reach, admit_in, enter_in, leave_in, read_in, renew_in, try_read_in};
 use crate::opening::{HostSize, open_desk};
 use crate::reading::Reading;
+use crate::renewal::{NotRenewedVolume, VolumeRenewal};
+use crate::volume_stubs::VolumeStubs;
 use sb_desk::seats::{SeatTable, SessionSeat};
-use sb_desk::{AttachError, CallError, Gate, Naming, Receipts};
-use sb_tenant::Entry;
+use sb_desk::{AttachError, CallError, Gate, Naming, Receipt, Receipts};
+use sb_tenant::{Entry, Tenant};
 use sb_value::SessionId;
 use std::alloc::{AllocError, Global};
 use std::marker::Model;
@@ -193,6 +196,35 @@ impl<N: Naming, const A: u32, const B: u32, const C: u32, const D: u32> LockGrou
             leave_in(rt, &self.third, r, reach)
         } else {
             leave_in(rt, &self.fourth, r, reach)
+        }
+    }
+
+    /// Renews a tenant, on this cell.
+    pub(crate) fn renew<R: Wait>(
+        &self,
+        rt: &R,
+        alloc: Global,
+        cell: u32,
+        fresh: Tenant,
+        stubs: VolumeStubs<N>,
+        opening: Vec<Vec<Receipt>>,
+    ) -> Result<VolumeRenewal<N>, NotRenewedVolume<N>>
+        requires hosts { (stubs.tenant < N.tenants) × (stubs.tenant % N.cells ≡ cell) }
+        requires cell { (A ≤ cell) × (cell ≤ D) × (cell < N.cells) }
+        requires own { stubs.tenant ≡ fresh.id }
+        requires opening { IsOpening fresh.trail opening.items }
+        ensures ok { IfOk result (λ r. VolumeIsRenewed N.bound stubs fresh r.old r.stubs) }
+        ensures err { IfErr result (λ e. VolumeIsUnrenewed N.bound stubs fresh e.error) }
+        ensures back { IfErr result (λ e. (e.fresh ≡ fresh) × KeepsRows stubs e.stubs) }
+    {
+        if cell == A {
+            renew_in(rt, alloc, &self.first, fresh, stubs, opening)
+        } else if cell == B {
+            renew_in(rt, alloc, &self.second, fresh, stubs, opening)
+        } else if cell == C {
+            renew_in(rt, alloc, &self.third, fresh, stubs, opening)
+        } else {
+            renew_in(rt, alloc, &self.fourth, fresh, stubs, opening)
         }
     }
 

@@ -1,12 +1,16 @@
-//! The three calls of a desk, behind its lock.
+//! The calls of a desk, behind its lock.
 ghost use Rattle.std.specs.Prelude.{◌≡◌, ◌<◌, ◌%◌, false, IsFalse, IsSome, IsTrue, IfOk, IfErr, OnOk};
 ghost use Rattle.sb_desk.specs.Calls.{Called, IsNewcomer, IsRefused, Left, Refused};
 ghost use Rattle.sb_host.specs.Lending.{Lends};
+ghost use Rattle.sb_host.specs.Renewing.{IsOpening, KeepsRows, VolumeIsRenewed, VolumeIsUnrenewed};
 
 use crate::reading::Reading;
+use crate::renewal::{NotRenewedVolume, VolumeRenewal, renew_on};
+use crate::volume_stubs::VolumeStubs;
 use crossbeam_utils::CachePadded;
 use sb_desk::seats::SeatTable;
-use sb_desk::{AttachError, CallError, Desk, Gate, Naming, Receipts};
+use sb_desk::{AttachError, CallError, Desk, Gate, Naming, Receipt, Receipts};
+use sb_tenant::Tenant;
 use sb_tenant::laws::answers_are_numbered;
 use sb_value::SessionId;
 use std::alloc::Global;
@@ -125,4 +129,26 @@ pub(crate) fn admit_in<N: Naming, const F: u32, R: Wait>(
     let Some(lock) = lock else { unreachable!() };
     let mut desk = lock.lock(rt);
     desk.admit(alloc, tenant, session, cells)
+}
+
+/// Renews a tenant of the cell.
+pub(crate) fn renew_in<N: Naming, const F: u32, R: Wait>(
+    rt: &R,
+    alloc: Global,
+    lock: &Lock<N, F>,
+    fresh: Tenant,
+    stubs: VolumeStubs<N>,
+    opening: Vec<Vec<Receipt>>,
+) -> Result<VolumeRenewal<N>, NotRenewedVolume<N>>
+    requires there { IsSome lock.now }
+    requires hosts { (stubs.tenant < N.tenants) × (stubs.tenant % N.cells ≡ F) }
+    requires own { stubs.tenant ≡ fresh.id }
+    requires opening { IsOpening fresh.trail opening.items }
+    ensures ok { IfOk result (λ r. VolumeIsRenewed N.bound stubs fresh r.old r.stubs) }
+    ensures err { IfErr result (λ e. VolumeIsUnrenewed N.bound stubs fresh e.error) }
+    ensures back { IfErr result (λ e. (e.fresh ≡ fresh) × KeepsRows stubs e.stubs) }
+{
+    let Some(lock) = lock else { unreachable!() };
+    let mut desk = lock.lock(rt);
+    renew_on(&mut desk, alloc, fresh, stubs, opening)
 }

@@ -4,6 +4,7 @@ ghost use Rattle.std.specs.Prelude.{◌≡◌, ◌+◌, ◌-◌, ◌*◌, ◌/�
 ghost use Rattle.sb_desk.specs.Kept.{AreDealt};
 ghost use Rattle.sb_host.specs.Opening.{AreNames, IsSeatOf, MayBe, left_at, left_in};
 
+use crate::closed_parts::ClosedParts;
 use crate::host::Host;
 use crate::lock_group::LockGroup;
 use crate::locks::Lock;
@@ -215,10 +216,12 @@ impl<N: Naming> Host<N> {
         let fourth = LockGroup::<N, 12, 13, 14, 15>::open(
             alloc, table, &mut all, &mut rest, numbers,
         )?;
+        let closed_parts = ClosedParts::new(alloc, numbers.tenants, &mut rest)?;
         Ok(Host {
             tenants: numbers.tenants,
             cells: numbers.cells,
             seats,
+            closed_parts,
             first,
             second,
             third,

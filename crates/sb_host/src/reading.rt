@@ -13,7 +13,7 @@ pub trait Reading {
         ensures { Self.reads self.old tenant.now self.new };
 }
 
-/// What became of a read that doesn't wait.
+/// The outcome of a read that doesn't wait.
 #[derive(Clone, Copy, Debug, PartialEq, Eq)]
 pub enum Tried {
     Read,

@@ -1,7 +1,7 @@
 //! A session: it borrows its host, and each of its calls is one step.
 ghost use Rattle.std.specs.Prelude.{◌≡◌, false, None, Some, IfErr, IfOk, MatchOption, OnOk};
 ghost use Rattle.sb_desk.specs.Calls.{AnswersOnce, IsNumbered, is_ended};
-ghost use Rattle.sb_desk.specs.Stubs.{LeavesStub};
+ghost use Rattle.sb_desk.specs.Stubs.{LeavesReceipts, LeavesStub};
 
 use crate::host::Host;
 use sb_desk::{CallError, Gate, Naming, NoGate, Receipt, Receipts, Stub};
@@ -123,18 +123,31 @@ impl<'h, N: Naming> Session<'h, N> {
         self.call_with(rt, alloc, line, &NoGate)
     }
 
-    /// Makes the step `end`, unless the session has ended, and leaves its receipts.
+    /// Makes the step `end`, unless the session has ended, and leaves its receipts. The host keeps their parts of the
+    /// ledger.
     pub fn close<R: Wait>(self, rt: &R) -> Stub
         ensures { LeavesStub self.entry result }
     {
-        let Session { host, mut receipts } = self;
-        host.leave(rt, &mut receipts);
+        let host = self.host;
+        let receipts = self.leave(rt);
         let tenant = receipts.tenant();
         let session = receipts.session();
+        let (receipts, share) = receipts.into_parts();
+        host.closed_parts
+            .put(rt, tenant, receipts.len() as u64, share);
         Stub {
             tenant,
             session,
-            receipts: receipts.into_list(),
+            receipts,
         }
+    }
+
+    /// Makes the step `end`, unless the session has ended, and leaves its receipts with their parts of the ledger.
+    fn leave<R: Wait>(self, rt: &R) -> Receipts<N>
+        ensures { LeavesReceipts self.entry result }
+    {
+        let Session { host, mut receipts } = self;
+        host.leave(rt, &mut receipts);
+        receipts
     }
 }

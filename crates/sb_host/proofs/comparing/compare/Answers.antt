@@ -4,7 +4,7 @@ use Rattle.sb_tenant.specs.declared.reply.Entry.{Entry}
 use Rattle.sb_desk.specs.declared.receipts.Receipt.{Receipt}
 use Rattle.sb_desk.specs.Receipts.{receipts_of}
 use Rattle.sb_host.specs.Comparing.{IsSeen, wanted_of}
-use Rattle.sb_host.proofs.Receipts.{wants_more}
+use Rattle.sb_host.proofs.Wanted.{wants_more}
 use Rattle.sb_host.proofs.comparing.compare.Goals as goal
 
 pub loop-place-preserved : goal.loop-place-preserved

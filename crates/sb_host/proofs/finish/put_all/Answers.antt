@@ -6,8 +6,7 @@ use Rattle.sb_tenant.specs.Tenant.{Tenant}
 use Rattle.sb_tenant.specs.Trail.{IsTrail}
 use Rattle.sb_host.specs.Comparing.{trail_by}
 use Rattle.sb_host.specs.Finish.{row_at}
-use Rattle.sb_host.proofs.Rows.{kept_by_set}
-use Rattle.sb_host.proofs.Trails.{row_laid}
+use Rattle.sb_host.proofs.Rows.{kept_by_set, row_laid}
 use Rattle.sb_host.proofs.finish.put_all.Goals as goal
 
 pub loop-tenant-preserved : goal.loop-tenant-preserved

@@ -1,7 +1,7 @@
 use Rattle.sb_desk.specs.Receipts.{receipts_of}
 use Rattle.sb_host.specs.Finish.{step_of}
 use Rattle.sb_host.proofs.Rising.{only_rising}
-use Rattle.sb_host.proofs.Receipts.{wants_rise}
+use Rattle.sb_host.proofs.Wanted.{wants_rise}
 use Rattle.sb_host.proofs.laws.steps_fix_the_order.Goals as goal
 
 pub returns : goal.returns
