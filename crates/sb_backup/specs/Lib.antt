@@ -6,3 +6,4 @@ pub mod HostDumps
 pub mod NewerNotes
 pub mod LoadedCells
 pub mod Errors
+pub mod Renewals
